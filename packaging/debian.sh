@@ -101,7 +101,7 @@ the transport classes 0 and 2 of X.224 in TPKT packets (RFC 1006), opens no sock
     control osi amd64 "libc6 (>= $(libc_of "$room/osi/usr/bin/osi")), python3 (>= 3.9)" net "Recommends: tshark" \
         "lister of captures of the OSI session protocol" \
         "It lists captures of X.225 version 2 over the transport classes 0 and 2 of X.224 in TPKT packets (RFC 1006), also those that tshark
-reads, runs scripts of two ends, and draws what they did. It wants a processor of x86-64-v2 (SSE4.2)."
+reads. It says which side of a capture first broke the protocol, runs scripts of two ends, and draws what they did. It wants a processor of x86-64-v2 (SSE4.2)."
     control "libosi-session$abi" amd64 "libc6 (>= $(libc_of "$room/libosi-session$abi$libdir/libosi-session.so.$version"))" libs \
         "Multi-Arch: same" "OSI session layer, one end (shared library)" "$long"
     control libosi-session-dev amd64 "libosi-session$abi (= $debian)" libdevel "Multi-Arch: same" \

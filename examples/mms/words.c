@@ -54,7 +54,7 @@ static bool read_value(const char *program, const struct word *w, const char *va
         return false;
     }
     if (w->selector != NULL && !read_selector(value, w)) {
-        fprintf(stderr, "%s: %s wants hexadecimal digits, or text behind a colon, of at most %lu octets, and not %s\n", program,
+        fprintf(stderr, "%s: %s wants hexadecimal digits, or text after a colon, of at most %lu octets, and not %s\n", program,
                 w->name, w->most, value);
         return false;
     }

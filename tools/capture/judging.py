@@ -1,12 +1,12 @@
 """Judges each TCP stream of a capture that carries TPKT: which side first broke the protocol, by `osi judge`."""
-import argparse
 import os
 import sys
 
 from ladders import drawing, judged, transcript, verdicts
 from ladders.program import Progress
 
-from . import listing, program, streams, texts, tshark
+from . import listing, streams, texts
+from .asking import PORT, Words, found_in, named, write_all
 from .streams import SIDES
 from .tshark import BadInput
 
@@ -17,23 +17,21 @@ FILE is a pcap or pcapng, which tshark reads; or a text of hexadecimal digits wi
 """
 
 
-class Words(argparse.ArgumentParser):
-    """A wrong option is one line on standard error."""
-
-    def error(self, message):
-        raise BadInput(f"{message} (judge --help)")
-
-
 def words():
-    """The options of the program."""
+    """The options of scripts/judge."""
     made = Words(prog="judge", description=__doc__, epilog=TEXT)
+    add_words(made)
+    return made
+
+
+def add_words(made):
+    """Adds the options: those of scripts/judge and of `osi-capture judge`."""
     made.add_argument("file", metavar="FILE")
-    made.add_argument("--port", type=int, default=program.PORT, help="the port of TPKT, for streams without a CR (102)")
+    made.add_argument("--port", type=int, default=PORT, help="the port of TPKT, for streams without a CR (102)")
     made.add_argument("--stream", type=int, metavar="N", help="judge this stream alone, by its number in tshark")
     made.add_argument("--show", action="store_true", help="list both directions first, with frames and times")
     made.add_argument("--pictures", metavar="DIR", help="draw a ladder of each stream that is judged: DIR/stream-N.svg")
     made.add_argument("--osi", help="the program osi")
-    return made
 
 
 def streams_of(asked):
@@ -41,7 +39,7 @@ def streams_of(asked):
     text = texts.read(asked.file)
     if text is not None:
         return [by_first(text)]
-    found = program.found_in(asked)
+    found = found_in(asked)
     if asked.stream is not None:
         found = [stream for stream in found if stream.number == asked.stream]
         if not found:
@@ -62,7 +60,7 @@ def name_of(stream):
         return "text"
     caller = stream.caller() or stream.ends[0]
     far = next(end for end in stream.ends if end != caller)
-    return f"stream {stream.number} {program.named(caller)} {program.named(far)}"
+    return f"stream {stream.number} {named(caller)} {named(far)}"
 
 
 def why_not(stream):
@@ -155,21 +153,29 @@ def write_pictures(folder, drawn):
         os.makedirs(folder, exist_ok=True)
     except OSError as error:
         raise BadInput(f"{folder}: {error.strerror}") from None
-    program.write_all({os.path.join(folder, name): text for name, text in drawn.items()})
+    write_all({os.path.join(folder, name): text for name, text in drawn.items()})
+
+
+def judge(asked):
+    """Does what the words ask for, and shows on a terminal how far it is; the status. `BadInput` if nothing was judged."""
+    progress = Progress(sys.stderr, "judge")
+    try:
+        return run(asked, progress)
+    except transcript.BadInput as error:
+        raise BadInput(" ".join(str(error).split())) from None
+    finally:
+        progress.end()
 
 
 def main(given=None):
-    """Runs the program; its status."""
-    progress = Progress(sys.stderr, "judge")
+    """Runs scripts/judge; its status."""
     try:
-        return run(words().parse_args(given), progress)
-    except (BadInput, transcript.BadInput) as error:
-        progress.end()
-        print(f"judge: {' '.join(str(error).split())}", file=sys.stderr)
+        return judge(words().parse_args(given))
+    except BadInput as error:
+        print(f"judge: {error}", file=sys.stderr)
         return 2
     except BrokenPipeError:
         os.dup2(os.open(os.devnull, os.O_WRONLY), sys.stdout.fileno())
         return 2
     except KeyboardInterrupt:
-        progress.end()
         return 130

@@ -1,36 +1,30 @@
-"""The program osi-capture: it makes captures that `osi` reads from captures of a network, lists both, and goes the other way."""
+"""The program osi-capture: it turns a capture of a network into captures that `osi` reads, lists both directions, says which side broke
+the protocol, and writes a pcap again."""
 import argparse
 import json
 import os
 import shutil
 import sys
-import tempfile
 
-from . import columns, listing, pcap, streams, texts, tshark
+from . import columns, judging, listing, pcap, streams, texts
+from .asking import PORT, Words, chosen, found_in, named, write_all
 from .streams import SIDES
 from .tshark import BadInput
 
-PORT = 102
 TEXT = """\
   osi-capture list FILE                 the TCP streams of a pcap or pcapng that carry TPKT
   osi-capture show FILE [--stream N]    both directions as `osi show` lists them, in their order, with times; also of a
                                         file of hexadecimal digits, or of NAME, of which split wrote files
+  osi-capture judge FILE                which side of each stream first broke the protocol, if one did; FILE as for show
   osi-capture split FILE -o NAME        NAME.left and NAME.right, what each side sent, and NAME.follow, both in their order
   osi-capture join NAME -o FILE         the way back: a pcap with a TCP segment for each TPKT packet
 """
 
 
-class Words(argparse.ArgumentParser):
-    """A wrong option is one line on standard error."""
-
-    def error(self, message):
-        raise BadInput(f"{message} (osi-capture --help)")
-
-
 def words():
     """The options of the program."""
     made = Words(prog="osi-capture", description=__doc__, epilog=TEXT, formatter_class=argparse.RawDescriptionHelpFormatter)
-    jobs = made.add_subparsers(dest="job", required=True, metavar="list|show|split|join")
+    jobs = made.add_subparsers(dest="job", required=True, metavar="list|show|judge|split|join")
     for job in ("list", "show", "split"):
         one = jobs.add_parser(job)
         one.add_argument("file")
@@ -46,22 +40,11 @@ def words():
             one.add_argument("--osi", help="the program osi")
         if job == "split":
             one.add_argument("-o", "--output", required=True, metavar="NAME")
+    judging.add_words(jobs.add_parser("judge", description=judging.__doc__, epilog=judging.TEXT))
     join = jobs.add_parser("join")
     join.add_argument("file", metavar="NAME")
     join.add_argument("-o", "--output", required=True, metavar="FILE")
     return made
-
-
-def found_in(asked):
-    """The streams with TPKT of the capture that was asked for."""
-    found = streams.with_packets(streams.joined(tshark.segments(asked.file)), asked.port)
-    if not found:
-        raise BadInput(f"{asked.file}: no TCP stream carries TPKT (--port N names another port than {asked.port})")
-    return found
-
-
-def named(end):
-    return f"{end[0]}:{end[1]}" if "." in end[0] else f"[{end[0]}]:{end[1]}"
 
 
 def list_streams(asked):
@@ -72,21 +55,6 @@ def list_streams(asked):
         why = stream.why_not()
         counts = f"left {len(stream.octets(caller))} octets right {len(stream.octets(far))} octets"
         print(f"stream {stream.number} {named(caller)} {named(far)} {'left out: ' + why if why else counts}")
-
-
-def chosen(asked):
-    """The stream that the options name, or the only one that can be read whole."""
-    found = found_in(asked)
-    if asked.stream is not None:
-        found = [stream for stream in found if stream.number == asked.stream]
-        if not found:
-            raise BadInput(f"{asked.file}: stream {asked.stream} carries no TPKT")
-    whole = [stream for stream in found if not stream.why_not()]
-    if not whole:
-        raise BadInput(f"{asked.file}: stream {found[0].number}: {found[0].why_not()}")
-    if len(whole) > 1:
-        raise BadInput(f"{asked.file}: name one of the streams {', '.join(str(it.number) for it in whole)} by --stream")
-    return whole[0]
 
 
 def show(asked):
@@ -144,25 +112,6 @@ def split(asked):
     write_all({f"{asked.output}.{name}": "\n".join([*rows, ""]) for name, rows in texts.items()})
 
 
-def write_all(files):
-    """Writes files, all of them or none."""
-    made = {}
-    try:
-        for name, content in files.items():
-            whole = content.encode() if isinstance(content, str) else content
-            room, made[name] = tempfile.mkstemp(prefix=".osi-capture-", dir=os.path.dirname(name) or ".")
-            with os.fdopen(room, "wb") as file:
-                file.write(whole)
-            os.chmod(made[name], 0o644)
-        for name, written in made.items():
-            os.replace(written, name)
-    except OSError as error:
-        for written in made.values():
-            if os.path.exists(written):
-                os.remove(written)
-        raise BadInput(f"{error.filename or name}: {error.strerror}") from None
-
-
 def join(asked):
     """Writes a pcap of NAME.follow, or of NAME.left and NAME.right if there is none."""
     pieces = [(time or 0.0, side, octets) for _, time, side, octets in texts.of_sides(asked.file)]
@@ -171,19 +120,21 @@ def join(asked):
     write_all({asked.output: pcap.written(pieces)})
 
 
-JOBS = {"list": list_streams, "show": show, "split": split, "join": join}
+JOBS = {"list": list_streams, "show": show, "judge": judging.judge, "split": split, "join": join}
 
 
 def main(given=None):
-    """Runs the program; the status is 0, or 2 with one line on standard error."""
+    """Runs the program; the status is 0, of `judge` also 1, or 2 with one line on standard error."""
     try:
         asked = words().parse_args(given)
-        JOBS[asked.job](asked)
+        status = JOBS[asked.job](asked) or 0
         sys.stdout.flush()
+        return status
     except BadInput as error:
         print(f"osi-capture: {error}", file=sys.stderr)
         return 2
     except BrokenPipeError:
         os.dup2(os.open(os.devnull, os.O_WRONLY), sys.stdout.fileno())
         return 2
-    return 0
+    except KeyboardInterrupt:
+        return 130

@@ -11,7 +11,7 @@ import tempfile
 import unittest
 from unittest import mock
 
-from . import columns, listing, program, streams, texts
+from . import columns, listing, program, streams, texts, tshark
 
 TOP = os.path.dirname(os.path.dirname(os.path.dirname(os.path.abspath(__file__))))
 TUTORIAL = os.path.join(TOP, "examples", "tutorial")
@@ -156,7 +156,7 @@ class Captures(unittest.TestCase):
     def test_the_way_back_has_a_segment_for_each_packet(self):
         self.sides(self.capture())
         self.assertEqual(call("join", self.path("out"), "-o", self.path("back.pcap")), (0, "", ""))
-        found = list(streams.joined(program.tshark.segments(self.path("back.pcap"))).values())
+        found = list(streams.joined(tshark.segments(self.path("back.pcap"))).values())
         self.assertEqual([len(found), len(found[0].pieces)], [1, 8])
         self.assertEqual(self.sides(self.path("back.pcap")), self.wanted())
 
@@ -166,7 +166,7 @@ class Captures(unittest.TestCase):
         with open(self.path("many.right"), "w", encoding="ascii") as file:
             file.write(self.wanted()[1][:18].hex() + "\n")
         self.assertEqual(call("join", self.path("many"), "-o", self.path("many.pcap"))[0], 0)
-        stream = streams.joined(program.tshark.segments(self.path("many.pcap")))[0]
+        stream = streams.joined(tshark.segments(self.path("many.pcap")))[0]
         self.assertEqual(len(stream.pieces), 5002)
 
     def test_what_can_not_be_read_is_refused(self):
@@ -278,7 +278,7 @@ class Streams(unittest.TestCase):
     """A stream as tshark prints it, without tshark: a segment for each packet, an eighth of a second apart."""
 
     def setUp(self):
-        patched = mock.patch.object(program.tshark, "segments", self.segments)
+        patched = mock.patch.object(tshark, "segments", self.segments)
         patched.start()
         self.addCleanup(patched.stop)
 
@@ -287,7 +287,7 @@ class Streams(unittest.TestCase):
         left, right = ("192.0.2.1", 40000), ("192.0.2.2", 102)
         sequences = {"O": 1, "I": 1}
         for number, (direction, octets) in enumerate(association()):
-            made = object.__new__(program.tshark.Segment)
+            made = object.__new__(tshark.Segment)
             made.frame, made.time, made.stream, made.is_first = number + 1, 1000 + number / 8, 3, False
             made.source, made.target = (left, right) if direction == "O" else (right, left)
             made.sequence, made.octets = sequences[direction], octets
@@ -311,7 +311,7 @@ class Joining(unittest.TestCase):
     """Sequence numbers."""
 
     def segment(self, sequence, octets, is_first=False):
-        made = object.__new__(program.tshark.Segment)
+        made = object.__new__(tshark.Segment)
         made.frame, made.time, made.stream, made.source, made.target = 1, 0.0, 0, ("a", 1), ("b", 2)
         made.sequence, made.is_first, made.octets = sequence % 2 ** 32, is_first, octets
         return made

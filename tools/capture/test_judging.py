@@ -1,4 +1,4 @@
-"""Tests of scripts/judge, over what `osi` printed of examples/disputes; with captures if tshark is installed."""
+"""Tests of scripts/judge and of `osi-capture judge`, over what `osi` printed of examples/disputes; with captures if tshark is installed."""
 import contextlib
 import io
 import os
@@ -9,18 +9,18 @@ from unittest import mock
 
 from ladders import judged, script, test_judged, verdicts
 
-from . import judging, listing, program, streams
+from . import judging, listing, program, streams, tshark
 
 DISPUTES = test_judged.DISPUTES
 LAST = ("frame 16, 0.005600 seconds: left broke the protocol first, in its packet 143. It sent data (DT); it did not hold the data token.")
 
 
-def call(*words):
-    """The status of the program, and what it wrote; `osi` is not run."""
+def call(*words, main=judging.main):
+    """The status of a program, and what it wrote; `osi` is not run."""
     out, err = io.StringIO(), io.StringIO()
     shown = mock.patch.object(listing, "shown", lambda osi, octets: test_judged.answer(osi, "show", octets.hex()).splitlines())
     with contextlib.redirect_stdout(out), contextlib.redirect_stderr(err), shown, mock.patch.object(script, "run", test_judged.answer):
-        status = judging.main(list(words))
+        status = main(list(words))
     return status, out.getvalue(), err.getvalue()
 
 
@@ -40,10 +40,12 @@ class Room(unittest.TestCase):
         return os.path.join(self.room.name, name)
 
     def refused(self, *words):
-        """What is said of words that are refused: one line, and nothing is written."""
+        """What is said of words that are refused: one line, of both programs the same, and nothing is written."""
         before = sorted(os.listdir(self.room.name))
         status, out, err = call(*words, "--pictures", self.path("pictures"))
         self.assertEqual((status, out, err.count("\n"), err.startswith("judge: ")), (2, "", 1, True), err)
+        also = call("judge", *words, "--pictures", self.path("pictures"), main=program.main)
+        self.assertEqual(also, (2, "", f"osi-capture: {err[len('judge: '):]}".replace("(judge --help)", "(osi-capture --help)")))
         self.assertEqual(sorted(os.listdir(self.room.name)), before)
         return err
 
@@ -59,6 +61,13 @@ class Texts(Room):
 
     def test_the_status_is_0_if_both_kept_the_protocol(self):
         self.assertEqual(call(self.follow("restart_cured")), (0, "\n".join(["text", *verdict_of("restart_cured"), ""]), ""))
+
+    def test_osi_capture_judges_as_scripts_judge_does(self):
+        for words in ([self.follow()], [self.follow("restart_cured")], [self.follow(), "--show", "--port", "4102"]):
+            self.assertEqual(call("judge", *words, main=program.main), call(*words))
+
+    def test_osi_capture_takes_the_name_of_the_files_that_split_wrote(self):
+        self.assertEqual(call("judge", os.path.join(DISPUTES, "restart"), main=program.main), call(self.follow()))
 
     def test_both_directions_are_listed_with_frames_and_times(self):
         rows = call(self.follow(), "--show")[1].splitlines()
@@ -85,10 +94,18 @@ class Texts(Room):
         self.refused(self.follow(), "--wrong")
         self.refused()
 
+    def test_a_program_osi_that_is_not_there_is_named(self):
+        for main, *words in ((judging.main,), (program.main, "judge")):
+            err = io.StringIO()
+            with contextlib.redirect_stderr(err):
+                status = main([*words, self.follow(), "--osi", self.path("osi")])
+            self.assertEqual((status, err.getvalue().count("\n")), (2, 1))
+            self.assertIn("osi can't be run: No such file or directory", err.getvalue())
+
     def test_a_missing_tshark_is_named(self):
         with open(self.path("run.pcap"), "wb") as file:
             file.write(bytes.fromhex("d4c3b2a102000400"))
-        with mock.patch.object(program.tshark.shutil, "which", lambda name: None):
+        with mock.patch.object(tshark.shutil, "which", lambda name: None):
             self.assertIn("there is no tshark", self.refused(self.path("run.pcap")))
 
 
@@ -101,13 +118,13 @@ class Streams(Room):
         super().setUp()
         self.sequences = {}
         self.found = [self.segment(*each) for each in enumerate(judged.read(test_judged.stored("restart")[0]))]
-        patched = mock.patch.object(program.tshark, "segments", lambda path: iter(self.found))
+        patched = mock.patch.object(tshark, "segments", lambda path: iter(self.found))
         patched.start()
         self.addCleanup(patched.stop)
 
     def segment(self, place, piece, stream=4):
         """A segment of a stream; the sequence numbers of a side count its octets."""
-        made = object.__new__(program.tshark.Segment)
+        made = object.__new__(tshark.Segment)
         made.frame, made.time, made.stream, made.is_first = place + 1, 1000 + place / 8, stream, False
         made.source, made.target = (self.LEFT, self.RIGHT) if piece.side == "left" else (self.RIGHT, self.LEFT)
         made.sequence = self.sequences.get((stream, piece.side), 1)
@@ -169,6 +186,7 @@ class Captures(Room):
 
     def test_it_is_judged(self):
         status, out, err = call(self.path("run.pcap"))
+        self.assertEqual(call("judge", self.path("run.pcap"), main=program.main), (status, out, err))
         self.assertEqual((status, out.splitlines()[1:-1], err), (1, verdict_of("restart"), ""))
         self.assertEqual(out.splitlines()[-1], LAST)
 

@@ -6,7 +6,7 @@ S7_SETUP = bytes.fromhex("0300001902f08032010000040000080000f0000001000101e0")
 
 
 class Wire:
-    """A connection to a server."""
+    """A TCP connection to a server."""
 
     def __init__(self, host, port):
         self.made = socket.create_connection((host, port), 10)
@@ -18,7 +18,7 @@ class Wire:
         self.made.close()
 
     def packet(self):
-        """The next packet, or none where the peer closes."""
+        """The next packet, or no octets if the peer closes."""
         octets = b""
         while len(octets) < 4 or len(octets) < int.from_bytes(octets[2:4], "big"):
             length = int.from_bytes(octets[2:4], "big") if len(octets) >= 4 else 4
@@ -29,6 +29,6 @@ class Wire:
         return octets
 
     def asked(self, octets):
-        """What is answered to these octets."""
+        """Sends these octets, and gives the packet that comes in answer."""
         self.made.sendall(octets)
         return self.packet()

@@ -4,7 +4,7 @@ ghost use Rattle.std.specs.Prelude.{◌≡◌, true};
 ghost use Rattle.osi_session.specs.Points.{may_advance};
 
 use bitflags::Flags;
-use osi_message::Sent;
+use osi_message::{LentTsdus, Sent};
 use osi_session::{Opening, PlannedPoint, Request, Session, Sides};
 use osi_spdu::{Requirements, Serial, Side, TokenSetting, TsduSizes, Wish};
 use std::alloc::Global;
@@ -46,7 +46,7 @@ fn pass(tsdu: &[u8], to: &mut Session) -> bool {
 /// Hands what was sent to the other side, and returns the length of the TSDU.
 fn hand(sent: &Sent, to: &mut Session) -> Option<usize> {
     match sent.tsdus() {
-        [tsdu] if pass(tsdu.as_slice(), to) => Some(tsdu.len()),
+        LentTsdus::One(tsdu) if pass(tsdu, to) => Some(tsdu.len()),
         _ => None,
     }
 }
@@ -60,7 +60,7 @@ fn tell(from: &mut Session, request: Request, to: &mut Session) -> Option<usize>
 /// The length of the TSDU, which is not delivered.
 fn length_of(sent: &Sent) -> Option<usize> {
     match sent.tsdus() {
-        [tsdu] => Some(tsdu.len()),
+        LentTsdus::One(tsdu) => Some(tsdu.len()),
         _ => None,
     }
 }

@@ -8,7 +8,6 @@ ghost use Rattle.osi_c.specs.Lent.{KeepsSlot};
 
 use crate::codes::{BAD_ARGUMENT, CLOSED, OK, end_code};
 use crate::slots::OsiEnd;
-use crate::traces::pass;
 use osi_carrier::Ref;
 use std::alloc::Global;
 
@@ -38,8 +37,13 @@ pub extern "C" fn osi_feed(alloc: Global, end: &mut OsiEnd, piece: &[u8], fed: &
     let did = contents.stack.feed(piece);
     fed.used = did.used;
     fed.waits = did.whole;
-    pass(alloc, &mut contents.traces.received, &piece[..did.used]);
-    OK
+    match &mut contents.traces.received {
+        None => OK,
+        Some(trace) => {
+            trace.feed(alloc, &piece[..did.used]);
+            OK
+        }
+    }
 }
 
 /// The octets to send; none for an empty slot.
@@ -75,9 +79,17 @@ pub extern "C" fn osi_taken(alloc: Global, end: &mut OsiEnd, octets: usize) -> u
     if octets > outgoing.len() {
         return BAD_ARGUMENT;
     }
-    pass(alloc, &mut contents.traces.sent, &outgoing[..octets]);
-    contents.stack.taken(octets);
-    OK
+    match &mut contents.traces.sent {
+        None => {
+            contents.stack.taken(octets);
+            OK
+        }
+        Some(trace) => {
+            trace.feed(alloc, &outgoing[..octets]);
+            contents.stack.taken(octets);
+            OK
+        }
+    }
 }
 
 /// Says that the byte connection broke.

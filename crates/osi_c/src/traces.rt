@@ -1,7 +1,7 @@
 //! The traces of an end: one of the octets that it was fed, and one of those that it sent.
 
 ghost use Rattle.std.specs.Prelude.{◌≡◌, Some};
-ghost use Rattle.osi_c.specs.Traced.{Takes, HandsOut, IsNew, IsUntraced, kind_of, line_answer, tally, Means};
+ghost use Rattle.osi_c.specs.Traced.{HandsOut, IsNew, IsUntraced, kind_of, line_answer, tally, Means};
 
 use crate::codes::{NO_MEMORY, NOTHING, OK};
 use osi_listing::Trace;
@@ -72,15 +72,6 @@ pub(crate) fn begun(alloc: Global, kind: Kind) -> Option<Trace>
         Kind::Off => None,
         Kind::Counters => Some(Trace::counters(alloc)),
         Kind::Lines => Some(Trace::lines(alloc)),
-    }
-}
-
-/// Octets pass a trace, if there is one.
-pub(crate) fn pass(alloc: Global, trace: &mut Option<Trace>, octets: &[u8])
-    ensures { Takes octets.now trace.old trace.new }
-{
-    if let Some(trace) = trace {
-        trace.feed(alloc, octets);
     }
 }
 

@@ -186,9 +186,8 @@ pub fn send_all_on(
     Ok(())
 }
 
-/// Writes the units of a TSDU that go now, part after part, straight from its octets. There is room for them in
-/// `out`, and at least one goes where the TSDU has octets that are not `kept`: those that may not go yet, which the link
-/// then keeps.
+/// Writes the units of a TSDU that go now, part after part, straight from its octets, and lets the link keep `kept`: the
+/// octets that may not go yet. There is room for the units in `out`.
 fn write_parts(link: &mut AnyLink, peer: u16, tsdu: &[u8], kept: Vec<u8>, out: &mut BytesMut)
     requires quiet { next (any_standing link.old) ≡ None }
     requires alone { (any_standing link.old).ends.unsent ≡ [] }
@@ -253,8 +252,7 @@ fn write_headed(
 }
 
 /// What is left of a TSDU, which is given as its first octets and the others, behind so many octets: a copy. No memory
-/// is needed where nothing is left.
-#[tactic(auto, using(crate::proofs::Parts::left_behind))]
+/// is needed if nothing is left.
 fn rest_behind(
     alloc: Global,
     head: &[u8],

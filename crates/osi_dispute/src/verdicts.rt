@@ -113,7 +113,16 @@ fn is_left(judge: &Judge, direction: Direction) -> bool {
     matches!(judge.finding(direction), Finding::Left(_))
 }
 
-/// What is told of the connection of a side, which gave it this reference.
+/// Whether the session of a side broke the protocol or left the profile.
+fn is_blamed(judge: &Judge, direction: Direction) -> bool {
+    matches!(
+        judge.finding(direction),
+        Finding::Broke(_) | Finding::Left(_)
+    )
+}
+
+/// What is told of the connection of a side, which gave it this reference. If the side is to blame, that is told also of
+/// a connection that was refused or not answered.
 fn connection_by(
     judge: &Judge,
     direction: Direction,
@@ -121,11 +130,13 @@ fn connection_by(
 ) -> Result<Connection, AllocError>
     ensures { IfOk result (λ c. (capture : Capture) → Knows judge.now capture → IsTrueOf direction capture c) }
 {
-    if is_refused(judge) {
-        return Ok(Connection::Refused(reference));
-    }
-    if judge.reference(Direction::Right).is_none() {
-        return Ok(Connection::Unanswered(reference));
+    if !is_blamed(judge, direction) {
+        if is_refused(judge) {
+            return Ok(Connection::Refused(reference));
+        }
+        if judge.reference(Direction::Right).is_none() {
+            return Ok(Connection::Unanswered(reference));
+        }
     }
     let told = told_of(judge, direction)?;
     Ok(Connection::Session(reference, told))

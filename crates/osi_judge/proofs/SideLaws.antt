@@ -1,5 +1,5 @@
 -- What is known of a side, as it hears and tells.
-use Rattle.std.proofs.Common.{◌≡◌, ◌∙◌, refl, sym, ap, subst, ℕ, suc, zero, ◌+◌, ◌<◌, ◌≤◌, ◌↔◌, ◌==◌, true, false, inl, inr, List, [], ◌∷◌, ◌++◌, length, map, take, get_or, Result, Ok, Err, OnOk, arith}
+use Rattle.std.proofs.Common.{◌≡◌, ◌∙◌, refl, sym, ap, subst, ℕ, suc, zero, ◌+◌, ◌<◌, ◌≤◌, ◌↔◌, ◌⊎◌, ◌==◌, true, false, inl, inr, List, [], ◌∷◌, ◌++◌, length, map, take, get_or, Result, Ok, Err, OnOk, arith}
 use Rattle.std.proofs.lemmas.List.{append-nil, append_assoc, length-append}
 use Rattle.osi_spdu.specs.declared.faults.SpduFault.{SpduFault}
 use Rattle.osi_message.specs.Reading.{said_at}
@@ -13,7 +13,8 @@ use Rattle.osi_judge.specs.Explaining.{Remark, remark, Told, read_as, remarks_of
 use Rattle.osi_judge.specs.Members.{SomeExplains, Extends, IsBehind}
 use Rattle.osi_judge.specs.Walking.{Ever}
 use Rattle.osi_judge.specs.Sides.{EndsAt}
-use Rattle.osi_judge.specs.Judging.{Watched, is_empty, BrokeFor, LeftFor, AreAll, Keeps, WatchesBy, Watches, IsFound}
+use Rattle.osi_judge.specs.Profiles.{selects_outside}
+use Rattle.osi_judge.specs.Judging.{Watched, is_empty, SelectsOutside, BrokeFor, LeftFor, AreAll, Keeps, WatchesBy, Watches, IsFound}
 
 -- ---- what was heard goes on
 
@@ -25,10 +26,18 @@ get_front (x ∷ xs) ys (suc i) l = get_front xs ys i (omega arith)
 extends_less : (us heard : List (List ℕ)) (x : List ℕ) → Extends us (heard ++ x ∷ []) → Extends us heard
 extends_less us heard x h = λ i l. let n = length-append heard (x ∷ []) in h i (omega arith) ∙ get_front heard (x ∷ []) i l
 
+selects_more : (heard : List (List ℕ)) (x tsdu : List ℕ) → selects_outside heard tsdu ≡ true → selects_outside (heard ++ x ∷ []) tsdu ≡ true
+selects_more [] x tsdu h = absurd (cc)
+selects_more (first ∷ heard) x tsdu h = h
+
+leaves_more : {A : Type 0} → (heard : List (List ℕ)) (x : List ℕ) (told : List Told) (i : ℕ) → (A ⊎ SelectsOutside heard told i) → (A ⊎ SelectsOutside (heard ++ x ∷ []) told i)
+leaves_more heard x told i (inl n) = inl n
+leaves_more heard x told i (inr s) = inr (record { tsdu = s.tsdu; at = s.at; outside = selects_more heard x s.tsdu.octets s.outside })
+
 heard_by : (f : Finding) (w : Watched) (x : List ℕ) (told : List Told) → WatchesBy f w told → WatchesBy f (record w { heard = w.heard ++ x ∷ [] }) told
 heard_by Kept w x told k = record { count = k.count; all = λ us later e h. k.all us later (extends_less us w.heard x e) h; some = k.some }
 heard_by (Broke i) w x told k = (k.0, λ us e. k.1 us (extends_less us w.heard x e))
-heard_by (Left i) w x told k = (k.0, λ us e. k.1 us (extends_less us w.heard x e))
+heard_by (Left i) w x told k = (k.0, λ us e. let y = k.1 us (extends_less us w.heard x e) in (y.0, leaves_more w.heard x told i y.1))
 heard_by TooMany w x told k = tt
 
 pub hears : (w : Watched) (x : List ℕ) (told : List Told) → Watches w told → Watches (record w { heard = w.heard ++ x ∷ [] }) told
@@ -69,12 +78,21 @@ broke_as w n told x i f e k =
     (subst (λ (g : Finding). WatchesBy g w (told ++ x ∷ [])) (sym f) (broke_stays w.begin w.heard told x i (subst (λ (g : Finding). WatchesBy g w told) f k)))
 
 -- so does a side that left the profile
+leaves_still : (begin : Seen) (heard us : List (List ℕ)) (told : List Told) (x : Told) (i : ℕ) → take i (told ++ x ∷ []) ≡ take i told → take (i + 1) (told ++ x ∷ []) ≡ take (i + 1) told
+    → ((IsExplained begin us (take (i + 1) told) → ⊥) ⊎ SelectsOutside heard told i) → ((IsExplained begin us (take (i + 1) (told ++ x ∷ [])) → ⊥) ⊎ SelectsOutside heard (told ++ x ∷ []) i)
+leaves_still begin heard us told x i a b (inl n) = inl (λ h. n (subst (λ (z : List Told). IsExplained begin us z) b h))
+leaves_still begin heard us told x i a b (inr s) =
+    inr (record { tsdu = s.tsdu; at = b ∙ s.at ∙ ap (λ (z : List Told). z ++ s.tsdu ∷ []) (sym a); outside = s.outside })
+
 left_stays : (begin : Seen) (heard : List (List ℕ)) (told : List Told) (x : Told) (i : ℕ) → LeftFor begin heard told i → LeftFor begin heard (told ++ x ∷ []) i
 left_stays begin heard told x i k =
     let n = length-append told (x ∷ []) in
     let there = k.0 in
     let a = take_front told (x ∷ []) i (omega arith) in
-    (omega arith, λ us e. subst (λ (z : List Told). IsExplained begin us z) (sym a) (k.1 us e))
+    let b = take_front told (x ∷ []) (i + 1) (omega arith) in (
+      omega arith,
+      λ us e. let y = k.1 us e in (subst (λ (z : List Told). IsExplained begin us z) (sym a) y.0, leaves_still begin heard us told x i a b y.1),
+    )
 
 pub left_as : (w n : Watched) (told : List Told) (x : Told) (i : ℕ) → w.finding ≡ Left i → n ≡ w → Watches w told → Watches n (told ++ x ∷ [])
 left_as w n told x i f e k =
@@ -152,19 +170,31 @@ breaks_as w n told x new e l g z k = subst (λ (y : Watched). Watches y (told ++
 
 -- ---- a side that leaves the profile
 
-pub left_here : (w : Watched) (told : List Told) (x : Told) → Keeps w told → LeftFor w.begin w.heard (told ++ x ∷ []) w.told
-left_here w told x k =
+-- by what it selects
+left_here : (w : Watched) (told : List Told) (x : Told) → selects_outside w.heard x.octets ≡ true → Keeps w told → LeftFor w.begin w.heard (told ++ x ∷ []) w.told
+left_here w told x o k =
     let m = length-append told (x ∷ []) in let c = k.count in
     let front = take_front told (x ∷ []) w.told (omega arith) ∙ take_whole told w.told (omega arith) in
-    (omega arith, λ us e. subst (λ (y : List Told). IsExplained w.begin us y) (sym front) (explained_so_far w told us e k))
+    let whole = take_whole (told ++ x ∷ []) (w.told + 1) (omega arith) in (
+      omega arith,
+      λ us e. (
+        subst (λ (y : List Told). IsExplained w.begin us y) (sym front) (explained_so_far w told us e k),
+        inr (record { tsdu = x; at = whole ∙ ap (λ (y : List Told). y ++ x ∷ []) (sym front); outside = o }),
+      ),
+    )
 
-pub leaves_as : (w n : Watched) (told : List Told) (x : Told) → n ≡ record w { finding = Left w.told } → Keeps w told → Watches n (told ++ x ∷ [])
-leaves_as w n told x e k = subst (λ (y : Watched). Watches y (told ++ x ∷ [])) (sym e) (left_here w told x k)
+pub leaves_as : (w n : Watched) (told : List Told) (x : Told) → n ≡ record w { finding = Left w.told } → selects_outside w.heard x.octets ≡ true → Keeps w told → Watches n (told ++ x ∷ [])
+leaves_as w n told x e o k = subst (λ (y : Watched). Watches y (told ++ x ∷ [])) (sym e) (left_here w told x o k)
+
+-- by what no session says
+left_broken : (begin : Seen) (heard : List (List ℕ)) (told : List Told) (i : ℕ) → BrokeFor begin heard told i → LeftFor begin heard told i
+left_broken begin heard told i k = (k.0, λ us e. let y = k.1 us e in (y.0, inl y.1))
 
 pub ends_as : (w n : Watched) (told : List Told) (x : Told) (new : List Member) → EndsAt w n → w.before ≤ x.before → Gives w x new → new ≡ [] → Keeps w told
     → Watches n (told ++ x ∷ [])
 ends_as w n told x new (inl e) l g z k = breaks_as w n told x new e l g z k
-ends_as w n told x new (inr e) l g z k = leaves_as w n told x e k
+ends_as w n told x new (inr e) l g z k =
+    subst (λ (y : Watched). Watches y (told ++ x ∷ [])) (sym e) (left_broken w.begin w.heard (told ++ x ∷ []) w.told (broke_here w told x new l g z k))
 
 pub ends_ok : {A E : Type 0} (r : Result A E) (w n : Watched) (x : Told) (new : List Member) → w.before ≤ x.before → Gives w x new → new ≡ [] → OnOk r (EndsAt w n)
     → OnOk r ((told : List Told) → Keeps w told → Watches n (told ++ x ∷ []))
@@ -192,7 +222,7 @@ begins w m h s t b o f = subst (λ (y : Finding). WatchesBy y w []) (sym f) (rec
 found_by : (f : Finding) (w : Watched) (told : List Told) → WatchesBy f w told → IsFound w.begin w.heard told f
 found_by Kept w told k = explained_so_far w told w.heard (λ i l. refl) k
 found_by (Broke i) w told k = let y = k.1 w.heard (λ j l. refl) in record { there = k.0; so_far = y.0; broke = y.1 }
-found_by (Left i) w told k = (k.0, k.1 w.heard (λ j l. refl))
+found_by (Left i) w told k = let y = k.1 w.heard (λ j l. refl) in (k.0, y.0, y.1)
 found_by TooMany w told k = tt
 
 pub found_as : (w : Watched) (told : List Told) → Watches w told → IsFound w.begin w.heard told w.finding

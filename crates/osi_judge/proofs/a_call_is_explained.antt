@@ -225,10 +225,10 @@ data_said known s j octets x sound h same = elim (cases_Bool (is_whole (limit_of
     above n e = grind arith
 
 -- data leaves the state as it was
-data_sent : (s : State) (octets : List ℕ) (x : Step) → allowed s (Data octets) ≡ Ok x → (x.sent ≡ DT octets) × (x.next ≡ s)
+pub data_sent : (s : State) (octets : List ℕ) (x : Step) → allowed s (Data octets) ≡ Ok x → (x.sent ≡ DT octets) × (x.next ≡ s)
 data_sent s octets x h = let q = passed s (Data octets) x h in (ap (λ (y : Step). y.sent) q.gives, ap (λ (y : Step). y.next) q.gives)
 
-one_sent : AsSent → (s : State) (c : Call) (x : Step) → allowed s c ≡ Ok x → is_data c ≡ false → tsdus_of (limit_of s) x.sent ≡ in_one (sends s c)
+pub one_sent : AsSent → (s : State) (c : Call) (x : Step) → allowed s c ≡ Ok x → is_data c ≡ false → tsdus_of (limit_of s) x.sent ≡ in_one (sends s c)
 one_sent known s c x h d = let q = passed s c x h in sent_alone known.whole s c x h d ∙ ap (λ (y : Step). in_one y.sent) q.gives
 
 holding_same : (s : State) (j : Option ℕ) → is_ready s.phase ≡ true → goes (side_with s j None) s ≡ side_with s j None

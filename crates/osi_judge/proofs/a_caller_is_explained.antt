@@ -39,7 +39,7 @@ use Rattle.osi_judge.proofs.what_is_said_is_explained.{SaysTsdus, says_message, 
 
 -- ---- the CN
 
-fits : (o : Opening) → refusal_of o ≡ None → nat_le (length o.user_data.now) most_user_data ≡ true
+pub fits : (o : Opening) → refusal_of o ≡ None → nat_le (length o.user_data.now) most_user_data ≡ true
 fits o e = by (is_profile (unit_bits o.requirements)) (nat_le (length o.user_data.now) most_user_data) _ _ e
   where
     by : (a b : Bool) (x y : CallError) → (if not a then Some x else if not b then Some y else None) ≡ None → b ≡ true
@@ -52,7 +52,7 @@ first_number true n = refl
 first_number false n = refl
 
 -- the caller once its transport connection is open
-abbrev connecting : Opening → Listener
+abbrev pub connecting : Opening → Listener
 connecting o = (begun (opens o)).next
 
 asked_said : (o : Opening) (n : ℕ) → nat_le (length o.user_data.now) most_user_data ≡ true → CanSay seen_calling (says (asked_for o)) n (seen_of false (connecting o))
@@ -62,7 +62,7 @@ asked_said o n z =
     let first = first_number (has_points (functional_units (unit_bits o.requirements))) o.serial.number in
     rw (z, sizes) (λ i. Some (record (seen_of false (connecting o)) { state = record (without_tokens Connecting (asking o)) { proposed = first i } }))
 
-sendable : (o : Opening) → nat_le (length o.user_data.now) most_user_data ≡ true → IsSendable (asked_for o)
+pub sendable : (o : Opening) → nat_le (length o.user_data.now) most_user_data ≡ true → IsSendable (asked_for o)
 sendable o z = let few = leb-true (length o.user_data.now) most_user_data z in asked_sendable o (omega arith)
 
 asked_alone : (o : Opening) → is_second (asked_for o) ≡ true → ⊥
@@ -78,21 +78,21 @@ cn_said known o limit z =
 
 -- ---- any run of a caller
 
-opening_sound : (o : Opening) → IsSound (asking o)
+pub opening_sound : (o : Opening) → IsSound (asking o)
 opening_sound o = fresh_sound (asking o) (asking_fresh o)
 
 -- no call is accepted yet
-refuses_all : (o : Opening) (c : Call) (a : Answer) → allowed (asking o) c ≡ a → (e : CallError) × (allowed (asking o) c ≡ Err e)
+pub refuses_all : (o : Opening) (c : Call) (a : Answer) → allowed (asking o) c ≡ a → (e : CallError) × (allowed (asking o) c ≡ Err e)
 refuses_all o c (Err e) h = (e, h)
 refuses_all o c (Ok x) h = let k = accepted_callable (asking o) c x h in absurd (cc)
 
-as_opened : (l : Listener) (o : Opening) → l ≡ opens o → react l opened ≡ begun (opens o)
+pub as_opened : (l : Listener) (o : Opening) → l ≡ opens o → react l opened ≡ begun (opens o)
 as_opened l o e = ap (λ (x : Listener). react x opened) e ∙ of_opened (opens o) refl
 
-over_by : (p : Phase) → is_ended p ≡ true → is_over p ≡ true
+pub over_by : (p : Phase) → is_ended p ≡ true → is_over p ≡ true
 over_by p h = implied is_ended is_over refl p h
 
-missed_ended : (l : Listener) (reason : ℕ) → is_wait_transport l.state.phase ≡ true → is_over (after_input l (refused reason)).state.phase ≡ true
+pub missed_ended : (l : Listener) (reason : ℕ) → is_wait_transport l.state.phase ≡ true → is_over (after_input l (refused reason)).state.phase ≡ true
 missed_ended l reason w = subst (λ (m : Move). is_over m.next.state.phase ≡ true) (sym (of_refused l reason w)) refl
 
 caller_run : AsSent → (us : List (List ℕ)) (o : Opening) (closed : Bool) (l : Listener) (taken : ℕ) (told : List Told) → Runs us closed l taken told → nat_le (length o.user_data.now) most_user_data ≡ true

@@ -117,10 +117,10 @@ none_explained us told taken s e = subst (λ (x : List Told). Explains us (remar
 
 -- ---- a TSDU is taken
 
-abbrev hearing : Listener → List ℕ → Hearing
+abbrev pub hearing : Listener → List ℕ → Hearing
 hearing l tsdu = respond_came (taker_of l) (said_at tsdu)
 
-came_moves : (l : Listener) (tsdu : List ℕ) → react l (came tsdu) ≡ moved l (hearing l tsdu)
+pub came_moves : (l : Listener) (tsdu : List ℕ) → react l (came tsdu) ≡ moved l (hearing l tsdu)
 came_moves l tsdu = came_is l (said_at tsdu) (hearing l tsdu) refl
 
 abbrev seen_behind : Move → Seen
@@ -209,10 +209,10 @@ called_by known us false l taken c now later (Ok x) small p sound over e h =
 
 -- ---- any run
 
-ended_over : (p : Phase) → is_ended p ≡ true → is_over p ≡ true
+pub ended_over : (p : Phase) → is_ended p ≡ true → is_over p ≡ true
 ended_over p h = implied is_ended is_over refl p h
 
-tsdu_sound : (l : Listener) (tsdu : List ℕ) → IsSound l.state → IsSound (after_input l (came tsdu)).state
+pub tsdu_sound : (l : Listener) (tsdu : List ℕ) → IsSound l.state → IsSound (after_input l (came tsdu)).state
 tsdu_sound l tsdu h = subst (λ (m : Move). IsSound m.next.state) (sym (came_moves l tsdu)) (octets_sound (taker_of l) tsdu (hearing l tsdu) refl h)
 
 pub record IsLive (closed : Bool) (l : Listener) : Type 0 where
@@ -220,7 +220,7 @@ pub record IsLive (closed : Bool) (l : Listener) : Type 0 where
   pub open_now : is_wait_transport l.state.phase ≡ false
   pub over : closed ≡ true → is_over l.state.phase ≡ true
 
-still_open : (l : Listener) (input : Input) → is_wait_transport l.state.phase ≡ false → is_wait_transport (after_input l input).state.phase ≡ false
+pub still_open : (l : Listener) (input : Input) → is_wait_transport l.state.phase ≡ false → is_wait_transport (after_input l input).state.phase ≡ false
 still_open l input w = by (is_wait_transport (after_input l input).state.phase) refl
   where
     by : (b : Bool) → is_wait_transport (after_input l input).state.phase ≡ b → is_wait_transport (after_input l input).state.phase ≡ false

@@ -1,10 +1,11 @@
 -- What is known of a side of which so much was heard and told, and what is found of it.
-use Rattle.std.specs.Prelude.{◌≡◌, ◌<◌, ◌↔◌, ◌++◌, ◌+◌, ℕ, Bool, true, false, List, [], ◌∷◌, length, take}
+use Rattle.std.specs.Prelude.{◌≡◌, ◌<◌, ◌↔◌, ◌⊎◌, ◌++◌, ◌+◌, ℕ, Bool, true, false, List, [], ◌∷◌, length, take}
 use Rattle.osi_session.specs.Standing.{Seen}
 use Rattle.osi_judge.specs.declared.members.Member.{Member}
 use Rattle.osi_judge.specs.declared.findings.Finding.{Finding}
 use Rattle.osi_judge.specs.declared.findings.Finding.TheVariants.{Kept, Broke, Left, TooMany}
 use Rattle.osi_judge.specs.Explaining.{Told, Explains, remarks, IsExplained, IsBlamed}
+use Rattle.osi_judge.specs.Profiles.{selects_outside}
 use Rattle.osi_judge.specs.Members.{SomeExplains, Extends}
 use Rattle.osi_judge.specs.Walking.{Ever}
 
@@ -26,9 +27,17 @@ is_empty (m ∷ members) = false
 abbrev pub BrokeFor : Seen → List (List ℕ) → List Told → ℕ → Type 0
 BrokeFor begin heard told i = (i < length told) × ((us : List (List ℕ)) → Extends us heard → IsExplained begin us (take i told) × (IsExplained begin us (take (i + 1) told) → ⊥))
 
--- whatever the other side says later, the side is explained up to its i-th TSDU, at which it left the profile
+-- the i-th TSDU is an AC that selects functional units that the profile leaves out
+pub record SelectsOutside (heard : List (List ℕ)) (told : List Told) (i : ℕ) : Type 0 where
+  pub tsdu : Told
+  pub at : take (i + 1) told ≡ take i told ++ tsdu ∷ []
+  pub outside : selects_outside heard tsdu.octets ≡ true
+
+-- whatever the other side says later, the side is explained up to its i-th TSDU, at which it left the profile: it is explained no
+-- further, or selects what the profile leaves out
 abbrev pub LeftFor : Seen → List (List ℕ) → List Told → ℕ → Type 0
-LeftFor begin heard told i = (i < length told) × ((us : List (List ℕ)) → Extends us heard → IsExplained begin us (take i told))
+LeftFor begin heard told i = (i < length told) × ((us : List (List ℕ)) → Extends us heard →
+    IsExplained begin us (take i told) × ((IsExplained begin us (take (i + 1) told) → ⊥) ⊎ SelectsOutside heard told i))
 
 -- the members explain what is said from here on just where the side is explained up to there
 abbrev pub AreAll : Seen → List (List ℕ) → ℕ → List Member → List Told → Type 0
@@ -54,6 +63,8 @@ Watches w told = WatchesBy w.finding w told
 abbrev pub IsFound : Seen → List (List ℕ) → List Told → Finding → Type 0
 IsFound begin heard told Kept = IsExplained begin heard told
 IsFound begin heard told (Broke i) = IsBlamed begin heard told i
--- it left the profile at its i-th TSDU: those before it are explained
+-- it left the profile at its i-th TSDU: those before it are explained, and those up to it are not, or it selects what the
+-- profile leaves out
 IsFound begin heard told (Left i) = (i < length told) × IsExplained begin heard (take i told)
+    × ((IsExplained begin heard (take (i + 1) told) → ⊥) ⊎ SelectsOutside heard told i)
 IsFound begin heard told TooMany = Unit {0}

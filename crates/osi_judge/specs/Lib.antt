@@ -2,6 +2,7 @@ pub mod Captures
 pub mod Stops
 pub mod Transport
 pub mod Explaining
+pub mod Profiles
 pub mod Members
 pub mod Walking
 pub mod Judging

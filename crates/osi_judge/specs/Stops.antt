@@ -26,7 +26,3 @@ abbrev pub broke_session : Finding → Bool
 broke_session (Broke i) = true
 broke_session (Left i) = true
 broke_session finding = false
-
-abbrev pub is_broke : Finding → Bool
-is_broke (Broke i) = true
-is_broke finding = false

@@ -8,7 +8,7 @@ ghost use Rattle.osi_judge.specs.declared.directions.Direction.{Direction};
 ghost use Rattle.osi_judge.specs.declared.findings.Finding.{Finding};
 ghost use Rattle.osi_judge.specs.Captures.{Capture, piece};
 ghost use Rattle.osi_judge.specs.Explaining.{Told, IsExplained};
-ghost use Rattle.osi_judge.specs.Stops.{is_broke};
+ghost use Rattle.osi_judge.specs.Stops.{broke_session};
 ghost use Rattle.osi_judge.specs.Running.{IsSentFrom, IsHonestIn};
 ghost use Rattle.osi_judge.specs.Tapping.{IsFoundIn};
 ghost use Rattle.osi_judge.specs.Transport.{Sent, IsSent};
@@ -32,10 +32,14 @@ pub fn an_honest_session_is_explained()
     osi_message::laws::what_leaves_in_parts();
 }
 
-/// So an honest side is never blamed: what is found of it is no break, whatever the other side sent.
+/// So an honest side is never blamed: it is found neither to have broken the protocol nor to have left the
+/// profile, whatever the other side sent.
 pub fn an_honest_side_is_not_blamed()
-    ensures { (d : Direction) (capture : Capture) (finding : Finding) → IsHonestIn d capture → IsFoundIn d capture finding → is_broke finding ≡ false }
+    ensures { (d : Direction) (capture : Capture) (finding : Finding) → IsHonestIn d capture → IsFoundIn d capture finding → broke_session finding ≡ false }
 {
+    osi_message::laws::what_is_sent_is_read();
+    osi_message::laws::what_a_part_says();
+    osi_message::laws::what_leaves_in_parts();
     a_capture_has_one_reading();
     an_honest_session_is_explained();
 }

@@ -1,32 +1,97 @@
 //! What X.225 allows and the profile leaves out.
 
+ghost use Rattle.std.specs.Prelude.{◌≡◌, option_map};
+ghost use Rattle.osi_message.specs.Meanings.{meant_by};
+ghost use Rattle.osi_message.specs.Reading.{said_at, word};
+ghost use Rattle.osi_message.specs.Words.{as_message};
+ghost use Rattle.osi_spdu.specs.Fields.{unit_bits};
+ghost use Rattle.osi_spdu.specs.Units.{said_by};
+ghost use Rattle.osi_judge.specs.Profiles.{offered_in, accepted_in, in_first, is_outside, selects_outside};
+
 use crate::rules::{Break, Rule};
 use bitflags::Flags;
 use osi_message::{Message, Octets};
 use osi_session::{Breach, is_profile};
-use osi_spdu::{Requirements, SpduFault, read_tsdu};
+use osi_spdu::{Requirements, Spdu, SpduFault, read_tsdu};
 
-/// The functional units that the first unit of a TSDU names, where it is a CN or an AC.
-fn named(tsdu: &[u8]) -> Option<Requirements> {
-    let Ok(group) = read_tsdu(tsdu) else {
-        return None;
-    };
-    match Message::of(group.first()) {
-        Message::Connect { requirements, .. } => Some(requirements),
-        Message::Accept { requirements, .. } => Some(requirements),
+/// The functional units that a CN offers.
+fn offered_in(message: &Message) -> Option<Requirements>
+    ensures { option_map unit_bits result ≡ offered_in (meant_by message.now) }
+{
+    match message {
+        Message::Connect { requirements, .. } => Some(*requirements),
         _ => None,
+    }
+}
+
+/// The functional units that an AC accepts.
+fn accepted_in(message: &Message) -> Option<Requirements>
+    ensures { option_map unit_bits result ≡ accepted_in (meant_by message.now) }
+{
+    match message {
+        Message::Accept { requirements, .. } => Some(*requirements),
+        _ => None,
+    }
+}
+
+/// Those of a unit that is a CN.
+#[tactic(auto, using(crate::proofs::a_selection_is_read::offered_word))]
+fn offered_by(unit: &Spdu) -> Option<Requirements>
+    ensures { option_map unit_bits result ≡ offered_in (as_message (word (said_by unit.now))) }
+{
+    let message = Message::of(unit);
+    offered_in(&message)
+}
+
+/// Those of a unit that is an AC.
+#[tactic(auto, using(crate::proofs::a_selection_is_read::accepted_word))]
+fn accepted_by(unit: &Spdu) -> Option<Requirements>
+    ensures { option_map unit_bits result ≡ accepted_in (as_message (word (said_by unit.now))) }
+{
+    let message = Message::of(unit);
+    accepted_in(&message)
+}
+
+/// Those of a TSDU whose first unit is a CN.
+#[tactic(auto, unfolding(osi_message::specs::Reading::said_at))]
+fn offered(tsdu: &[u8]) -> Option<Requirements>
+    ensures { option_map unit_bits result ≡ in_first offered_in (said_at tsdu.now) }
+{
+    match read_tsdu(tsdu) {
+        Ok(group) => offered_by(group.first()),
+        Err(_) => None,
+    }
+}
+
+/// Those of a TSDU whose first unit is an AC.
+#[tactic(auto, unfolding(osi_message::specs::Reading::said_at))]
+fn accepted(tsdu: &[u8]) -> Option<Requirements>
+    ensures { option_map unit_bits result ≡ in_first accepted_in (said_at tsdu.now) }
+{
+    match read_tsdu(tsdu) {
+        Ok(group) => accepted_by(group.first()),
+        Err(_) => None,
+    }
+}
+
+/// Whether what both name is selected and outside of the profile.
+fn is_outside(offered: Option<Requirements>, accepted: Option<Requirements>) -> bool
+    ensures { result ≡ is_outside (option_map unit_bits offered) (option_map unit_bits accepted) }
+{
+    match (offered, accepted) {
+        (Some(offered), Some(accepted)) => !is_profile(offered.intersection(accepted)),
+        _ => false,
     }
 }
 
 /// Whether an AC that answers the first TSDU that was heard, a CN, selects functional units that are not
 /// selected here.
-pub(crate) fn selects_outside(heard: &[Octets], tsdu: &[u8]) -> bool {
-    if heard.is_empty() {
-        return false;
-    }
-    match (named(heard[0].as_slice()), named(tsdu)) {
-        (Some(asked), Some(answered)) => !is_profile(asked.intersection(answered)),
-        _ => false,
+pub(crate) fn selects_outside(heard: &[Octets], tsdu: &[u8]) -> bool
+    ensures { result ≡ selects_outside heard.now tsdu.now }
+{
+    match heard.first() {
+        Some(first) => is_outside(offered(first.as_slice()), accepted(tsdu)),
+        None => false,
     }
 }
 

@@ -28,11 +28,17 @@ use Rattle.osi_machine.proofs.takes.a_restart.{restart_taken, restart_yielded}
 
 -- ---- a call
 
-call_stands : (w : Core) (c : Call) → stays_in_core c ≡ true → IsGranted w c → Stands w → Stands (answered w c (Ok (granted w.own.session c)))
+call_stands : (w : Core) (c : Call) → stays_in_core c ≡ true → IsGranted w c → Stands w
+    → Stands (answered w c (Ok (granted w.own.session c)))
 call_stands w (Accept requirements serial sides sizes octets) k q s = accept_stands w requirements serial sides sizes octets q s
 call_stands w (Data octets) k q s = data_stands w octets q.phase q.needed.0 s q.kept
 call_stands w (Give tokens) k q s =
-    give_stands w tokens (record { phase = q.phase; selected = q.needed.0; held = q.needed.1.0; one = not-true (is_empty tokens) q.needed.1.1.0 }) s q.kept
+    give_stands w tokens (record {
+      phase = q.phase;
+      selected = q.needed.0;
+      held = q.needed.1.0;
+      one = not-true (is_empty tokens) q.needed.1.1.0;
+    }) s q.kept
 call_stands w (Please tokens octets) k q s = please_stands w tokens octets q.phase q.needed.0 s q.kept
 call_stands w (Minor confirm octets) k q s = minor_stands w confirm octets q s
 call_stands w (MinorConfirm n octets) k q s = minor_confirm_stands w n octets q s
@@ -44,9 +50,11 @@ call_stands w (Release octets) k q s = release_stands w octets q s
 call_stands w (ReleaseRefuse octets) k q s = refuse_stands w octets q s
 call_stands w _ k q s = absurd (cc)
 
-answer_stands : SessionLaws → (w : Core) (c : Call) (a : Answer) → HasSerial c → stays_in_core c ≡ true → allowed w.own.session c ≡ a → Stands w → Stands (answered w c a)
+answer_stands : SessionLaws → (w : Core) (c : Call) (a : Answer) → HasSerial c → stays_in_core c ≡ true → allowed w.own.session c ≡ a
+    → Stands w → Stands (answered w c a)
 answer_stands laws w c (Ok g) small k e s =
-    subst (λ (r : Granted). Stands (answered w c (Ok r))) (sym (laws.passed w.own.session c g e).gives) (call_stands w c k (is_granted laws w c g small e s.consistent) s)
+    subst (λ (r : Granted). Stands (answered w c (Ok r))) (sym (laws.passed w.own.session c g e).gives)
+    (call_stands w c k (is_granted laws w c g small e s.consistent) s)
 answer_stands laws w c (Err d) small k e s = s
 
 pub called_stands : SessionLaws → (w : Core) (c : Call) → HasSerial c → Stands w → Stands (called w c)
@@ -57,7 +65,8 @@ called_stands laws w c small s = search (arith, answer_stands)
 not_plain : (w : Core) (u : Meaning) (us : List Meaning) → w.peer.sent ≡ u ∷ us → Stands w → is_plain u ≡ true
 not_plain w u us e s = let f : AllFit w.own.session (u ∷ us) = (stands_at w (u ∷ us) e s).own.fits in f.0.plain
 
-unit_stands : SessionLaws → (w : Core) (u : Meaning) (us : List Meaning) → w.peer.sent ≡ u ∷ us → drops w.own.session u ≡ false → Stands w → Stands (taking w (u ∷ us))
+unit_stands : SessionLaws → (w : Core) (u : Meaning) (us : List Meaning) → w.peer.sent ≡ u ∷ us → drops w.own.session u ≡ false → Stands w
+    → Stands (taking w (u ∷ us))
 unit_stands laws w (CN v u n x from to z o) us e d s = connect_taken laws w v u n x from to z o us e d s
 unit_stands laws w (AC v u n sides z o) us e d s = accept_taken laws w v u n sides z o us e d s
 unit_stands laws w (RF r o) us e d s = absurd (let p = not_plain w (RF r o) us e s in cc)
@@ -108,6 +117,7 @@ pub step_stands : SessionLaws → (w : Core) (step : CoreStep) → IsNumberedSte
 step_stands laws w (call_at side c) small s = side_stands (λ v. called v c) (λ v k. called_stands laws v c small k) side w s
 step_stands laws w (take_at side) small s = side_stands takes (λ v k. taking_stands laws v v.peer.sent refl k) side w s
 
-pub run_stands : SessionLaws → (w : Core) (steps : List CoreStep) → AllByRecursion IsNumberedStep steps → Stands w → Stands (core_run w steps)
+pub run_stands : SessionLaws → (w : Core) (steps : List CoreStep) → AllByRecursion IsNumberedStep steps → Stands w
+    → Stands (core_run w steps)
 run_stands laws w [] small s = s
 run_stands laws w (step ∷ steps) small s = run_stands laws (core_step w step) steps small.1 (step_stands laws w step small.0 s)

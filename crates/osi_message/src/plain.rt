@@ -2,7 +2,7 @@
 //! synchronization point or its confirmation with no parameter but its number, behind a GT that names
 //! no token. Whole data has a reader of its own, [`PlainUnit::data`]; [`PlainUnit::read`] reads the others.
 
-ghost use Rattle.std.specs.Prelude.{ℕ, List, ◌≡◌, ◌+◌, ◌%◌, ◌≤◌, ◌++◌, true, [], ◌∷◌, length, Ok, IfOk, IfSome};
+ghost use Rattle.std.specs.Prelude.{ℕ, List, ◌≡◌, ◌+◌, ◌%◌, ◌≤◌, ◌++◌, true, [], ◌∷◌, length, Ok, IfSome};
 ghost use Rattle.osi_spdu.specs.Values.{digits_of};
 ghost use Rattle.osi_message.specs.Meanings.{DT, GT, MIP, MIA};
 ghost use Rattle.osi_message.specs.Plain.{plain_octets, plain_said, data_octets, point_octets, has_zero_in_front};
@@ -13,8 +13,8 @@ ghost use Rattle.osi_message.specs.Written.{written};
 
 use crate::laws;
 use crate::places::Place;
+use crate::short::Short;
 use osi_spdu::Serial;
-use std::alloc::{AllocError, Global};
 
 /// The SI of a MIP.
 const MINOR_POINT: u8 = 0x31;
@@ -57,76 +57,76 @@ fn digit(number: u32) -> u8
     (number % 10) as u8 + 48
 }
 
-/// The octets of a TSDU with a unit of this SI and this number.
+/// The octets of a TSDU with a unit of this SI and this number. No memory is needed.
 #[tactic(auto, using(crate::proofs::PlainLaws::digits_1, crate::proofs::PlainLaws::digits_2, crate::proofs::PlainLaws::digits_3, crate::proofs::PlainLaws::digits_4, crate::proofs::PlainLaws::digits_5, crate::proofs::PlainLaws::digits_6))]
-fn point(alloc: Global, si: u8, number: Serial) -> Result<Vec<u8>, AllocError>
-    ensures { IfOk result (λ v. v.items ≡ point_octets si (digits_of number.number)) }
+fn point(si: u8, number: Serial) -> Short
+    ensures { result ≡ point_octets si (digits_of number.number) }
 {
     let n = number.number;
     let units = digit(n);
     if n < 10 {
-        return Vec::from_slice(alloc, &[1, 0, si, 3, NUMBER, 1, units]);
+        return Short::of([1, 0, si, 3, NUMBER, 1, units, 0, 0, 0, 0, 0], 7);
     }
     let tens = digit(n / 10);
     if n < 100 {
-        return Vec::from_slice(alloc, &[1, 0, si, 4, NUMBER, 2, tens, units]);
+        return Short::of([1, 0, si, 4, NUMBER, 2, tens, units, 0, 0, 0, 0], 8);
     }
     let hundreds = digit(n / 100);
     if n < 1_000 {
-        return Vec::from_slice(alloc, &[1, 0, si, 5, NUMBER, 3, hundreds, tens, units]);
+        return Short::of([1, 0, si, 5, NUMBER, 3, hundreds, tens, units, 0, 0, 0], 9);
     }
-    long_point(alloc, si, number)
+    long_point(si, number)
 }
 
 /// The same, of a number of four to six digits.
 #[tactic(auto, using(crate::proofs::PlainLaws::digits_4, crate::proofs::PlainLaws::digits_5, crate::proofs::PlainLaws::digits_6))]
-fn long_point(alloc: Global, si: u8, number: Serial) -> Result<Vec<u8>, AllocError>
+fn long_point(si: u8, number: Serial) -> Short
     requires { 1000 ≤ number.number }
-    ensures { IfOk result (λ v. v.items ≡ point_octets si (digits_of number.number)) }
+    ensures { result ≡ point_octets si (digits_of number.number) }
 {
     let n = number.number;
     let (units, tens) = (digit(n), digit(n / 10));
     let (hundreds, thousands) = (digit(n / 100), digit(n / 1_000));
     if n < 10_000 {
-        return Vec::from_slice(
-            alloc,
-            &[1, 0, si, 6, NUMBER, 4, thousands, hundreds, tens, units],
+        return Short::of(
+            [
+                1, 0, si, 6, NUMBER, 4, thousands, hundreds, tens, units, 0, 0,
+            ],
+            10,
         );
     }
     let fifth = digit(n / 10_000);
     if n < 100_000 {
-        return Vec::from_slice(
-            alloc,
-            &[
-                1, 0, si, 7, NUMBER, 5, fifth, thousands, hundreds, tens, units,
+        return Short::of(
+            [
+                1, 0, si, 7, NUMBER, 5, fifth, thousands, hundreds, tens, units, 0,
             ],
+            11,
         );
     }
     let sixth = digit(n / 100_000);
-    Vec::from_slice(
-        alloc,
-        &[
+    Short::of(
+        [
             1, 0, si, 8, NUMBER, 6, sixth, fifth, thousands, hundreds, tens, units,
         ],
+        12,
     )
 }
 
 /// The octets of a TSDU with a MIP that asks for its confirmation.
 #[tactic(auto, using(crate::proofs::PlainLaws::point_written))]
-pub(crate) fn minor_point(alloc: Global, number: Serial) -> Result<Vec<u8>, AllocError>
-    ensures { IfOk result (λ v. v.items ≡ written (MIP true number.number [])) }
+pub(crate) fn minor_point(number: Serial) -> Short
+    ensures { result ≡ written (MIP true number.number []) }
 {
-    let octets = point(alloc, MINOR_POINT, number)?;
-    Ok(octets)
+    point(MINOR_POINT, number)
 }
 
 /// The octets of a TSDU with a MIA.
 #[tactic(auto, using(crate::proofs::PlainLaws::ack_written))]
-pub(crate) fn minor_ack(alloc: Global, number: Serial) -> Result<Vec<u8>, AllocError>
-    ensures { IfOk result (λ v. v.items ≡ written (MIA number.number [])) }
+pub(crate) fn minor_ack(number: Serial) -> Short
+    ensures { result ≡ written (MIA number.number []) }
 {
-    let octets = point(alloc, MINOR_ACK, number)?;
-    Ok(octets)
+    point(MINOR_ACK, number)
 }
 
 /// What stands in front of data in its TSDU: a GT that names no token, and the header of a DT (X.225 sections

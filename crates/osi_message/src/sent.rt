@@ -1,23 +1,24 @@
 //! The octets in which a message is sent.
 
-ghost use Rattle.std.specs.Prelude.{◌≡◌, ◌<◌, true, false, [], ◌∷◌, length, map, IfOk, IfErr, OnErr};
+ghost use Rattle.std.specs.Prelude.{◌≡◌, ◌<◌, true, false, [], ◌∷◌, length, IfOk};
 ghost use Rattle.osi_spdu.specs.Groups.{units_of};
 ghost use Rattle.osi_spdu.specs.Sizes.{size_of};
 ghost use Rattle.osi_spdu.specs.Values.{is_size};
 ghost use Rattle.osi_spdu.specs.Writing.{tsdu_octets, TsduFits};
 ghost use Rattle.osi_message.specs.Meanings.{DT, MIP, MIA, meant_by};
 ghost use Rattle.osi_message.specs.Parting.{in_one, is_whole, tsdus_of};
+ghost use Rattle.osi_message.specs.Tsdus.{octets_in, octets_lent, AreSeveral};
 ghost use Rattle.osi_message.specs.Written.{user_data_of};
 
 use crate::messages::Message;
 use crate::parts::parts;
 use crate::plain;
-use crate::tsdus::Tsdus;
+use crate::short::Short;
+use crate::tsdus::{LentTsdus, Tsdus};
 use bytes::BytesMut;
 use osi_spdu::{Group, Serial, TsduSize, write_tsdu};
 use std::alloc::{AllocError, Global};
 use std::marker::Model;
-use std::slice;
 
 /// The octets to send: one TSDU, or those of the parts of a Data, in order.
 #[derive(Drop)]
@@ -87,6 +88,16 @@ impl Sent {
         }
     }
 
+    /// One TSDU of few octets.
+    #[inline(always)]
+    fn short(octets: Short) -> Sent
+        ensures { result ≡ octets ∷ [] }
+    {
+        Sent {
+            tsdus: Tsdus::Short(octets),
+        }
+    }
+
     /// The written form of the units of a TSDU.
     pub fn written(alloc: Global, group: &Group) -> Result<Sent, AllocError>
         requires { TsduFits (units_of group.now) }
@@ -100,8 +111,8 @@ impl Sent {
         }
     }
 
-    /// The written form of a message, in one TSDU. Data, and minor points and their confirmations without user data,
-    /// are written directly into a buffer of the right length.
+    /// The written form of a message, in one TSDU. Data is written directly into a buffer of the right length. Minor points
+    /// and their confirmations without user data need no memory.
     pub fn of(alloc: Global, message: &Message) -> Result<Sent, AllocError>
         requires { length (user_data_of (meant_by message.now)) < 65000 }
         ensures { IfOk result (λ s. s ≡ in_one (meant_by message.now)) }
@@ -113,15 +124,15 @@ impl Sent {
                 number,
                 user_data: [],
             } => {
-                let octets = plain::minor_point(alloc, number)?;
-                Ok(Sent::one(octets))
+                let octets = plain::minor_point(number);
+                Ok(Sent::short(octets))
             }
             Message::MinorAck {
                 number,
                 user_data: [],
             } => {
-                let octets = plain::minor_ack(alloc, number)?;
-                Ok(Sent::one(octets))
+                let octets = plain::minor_ack(number);
+                Ok(Sent::short(octets))
             }
             _ => by_units(alloc, message),
         }
@@ -180,7 +191,8 @@ impl Sent {
         })
     }
 
-    /// A minor point (MIP), in one TSDU. If it asks for its confirmation and has no user data, it is written directly.
+    /// A minor point (MIP), in one TSDU. If it asks for its confirmation and has no user data, it is written directly, and
+    /// needs no memory.
     #[inline]
     pub fn minor_point(
         alloc: Global,
@@ -192,21 +204,22 @@ impl Sent {
         ensures { IfOk result (λ s. s ≡ in_one (MIP confirm number.number user_data.now)) }
     {
         if confirm && user_data.is_empty() {
-            let octets = plain::minor_point(alloc, number)?;
-            return Ok(Sent::one(octets));
+            let octets = plain::minor_point(number);
+            return Ok(Sent::short(octets));
         }
         point_by_units(alloc, confirm, number, user_data)
     }
 
-    /// The confirmation of a minor point (MIA), in one TSDU. It is written directly if it has no user data.
+    /// The confirmation of a minor point (MIA), in one TSDU. If it has no user data, it is written directly, and needs no
+    /// memory.
     #[inline]
     pub fn minor_ack(alloc: Global, number: Serial, user_data: &[u8]) -> Result<Sent, AllocError>
         requires { length user_data.now < 65000 }
         ensures { IfOk result (λ s. s ≡ in_one (MIA number.number user_data.now)) }
     {
         if user_data.is_empty() {
-            let octets = plain::minor_ack(alloc, number)?;
-            return Ok(Sent::one(octets));
+            let octets = plain::minor_ack(number);
+            return Ok(Sent::short(octets));
         }
         ack_by_units(alloc, number, user_data)
     }
@@ -223,25 +236,23 @@ impl Sent {
         }
     }
 
-    /// The octets of the TSDU, with their buffer; or those of each TSDU, if there are several.
-    pub fn into_one(self) -> Result<Vec<u8>, Vec<Vec<u8>>>
-        ensures one { IfOk result (λ v. self ≡ v.items ∷ []) }
-        ensures parts { IfErr result (λ v. self ≡ map (λ t. t.items) v.items) }
-        ensures several { OnErr result (1 < length self) }
+    /// The TSDUs, with the buffers that their octets are in.
+    #[inline(always)]
+    pub fn into_tsdus(self) -> Tsdus
+        ensures octets { octets_in result ≡ self }
+        ensures several { AreSeveral result }
     {
-        match self.tsdus {
-            Tsdus::One(octets) => Ok(octets),
-            Tsdus::Parts(tsdus) => Err(tsdus),
-        }
+        self.tsdus
     }
 
-    /// The octets of each TSDU, in their order.
-    pub fn tsdus(&self) -> &[Vec<u8>]
-        ensures { map (λ t. t.items) result.now ≡ self.now }
+    /// The octets of the TSDUs, in their order.
+    pub fn tsdus(&self) -> LentTsdus<'_>
+        ensures { octets_lent result ≡ self.now }
     {
         match &self.tsdus {
-            Tsdus::One(octets) => slice::from_ref(octets),
-            Tsdus::Parts(tsdus) => tsdus.as_slice(),
+            Tsdus::Short(octets) => LentTsdus::One(octets.as_slice()),
+            Tsdus::One(octets) => LentTsdus::One(octets.as_slice()),
+            Tsdus::Parts(tsdus) => LentTsdus::Parts(tsdus.as_slice()),
         }
     }
 }

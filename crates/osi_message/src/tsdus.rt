@@ -1,10 +1,23 @@
-//! One TSDU, or the TSDUs of the parts of a Data.
+//! The TSDUs in which a message is sent: one, or those of the parts of a Data.
 
-/// The TSDUs to send.
+use crate::short::Short;
+
+/// The TSDUs to send, which own their octets.
 #[derive(Drop)]
-pub(crate) enum Tsdus {
+pub enum Tsdus {
+    /// One TSDU of few octets.
+    Short(Short),
     /// One TSDU.
     One(Vec<u8>),
     /// The parts of a Data, at least two.
     Parts(Vec<Vec<u8>>),
+}
+
+/// The TSDUs to send, lent.
+#[derive(Clone, Copy)]
+pub enum LentTsdus<'a> {
+    /// The octets of one TSDU.
+    One(&'a [u8]),
+    /// The parts of a Data, at least two.
+    Parts(&'a [Vec<u8>]),
 }

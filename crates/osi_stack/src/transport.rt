@@ -3,11 +3,12 @@
 ghost use Rattle.std.specs.Prelude.{◌≡◌, [], ◌∷◌, ◌++◌, ◌||◌, map, true, None, is_some, unwrap_or, IfErr, OnOk, OnErr};
 ghost use Rattle.osi_carrier.specs.Calls.{closed_with, sent_all, send_all_error, open_link, call_error as sending_error};
 ghost use Rattle.osi_carrier.specs.Growth.{grows};
+ghost use Rattle.osi_message.specs.Tsdus.{octets_lent};
 ghost use Rattle.osi_stack.specs.Calls.{send_refusal, Refuses};
 ghost use Rattle.osi_stack.specs.Transport.{hands, answers_by};
 
 use osi_carrier::{Carrier, Ref, SendError};
-use osi_message::Sent;
+use osi_message::{LentTsdus, Sent, Tsdus};
 use osi_session::CallError;
 use std::alloc::AllocError;
 
@@ -17,15 +18,15 @@ const NORMAL: u8 = 128;
 
 /// Sends TSDUs together. Each error changes nothing.
 #[tactic(auto, using(crate::proofs::Handing::one_error))]
-fn send(carrier: &mut Carrier, reference: u16, tsdus: &[Vec<u8>]) -> Result<(), SendError>
-    ensures ok { OnOk result (carrier.new ≡ record carrier.old { state = sent_all reference (map (λ v. v.items) tsdus.now) carrier.old.state }) }
-    ensures allowed { OnOk result (send_all_error (map (λ v. v.items) tsdus.now) (open_link reference carrier.old.state) ≡ None) }
-    ensures refused { IfErr result (λ e. sending_error e ≡ send_all_error (map (λ v. v.items) tsdus.now) (open_link reference carrier.old.state)) }
+fn send(carrier: &mut Carrier, reference: u16, tsdus: LentTsdus<'_>) -> Result<(), SendError>
+    ensures ok { OnOk result (carrier.new ≡ record carrier.old { state = sent_all reference (octets_lent tsdus.entry) carrier.old.state }) }
+    ensures allowed { OnOk result (send_all_error (octets_lent tsdus.entry) (open_link reference carrier.old.state) ≡ None) }
+    ensures refused { IfErr result (λ e. sending_error e ≡ send_all_error (octets_lent tsdus.entry) (open_link reference carrier.old.state)) }
     ensures err { OnErr result (carrier.new ≡ carrier.old) }
 {
     match tsdus {
-        [tsdu] => carrier.send(Ref(reference), tsdu.as_slice()),
-        _ => carrier.send_all(Ref(reference), tsdus),
+        LentTsdus::One(tsdu) => carrier.send(Ref(reference), tsdu),
+        LentTsdus::Parts(tsdus) => carrier.send_all(Ref(reference), tsdus),
     }
 }
 
@@ -157,11 +158,12 @@ pub fn send_owned_call(carrier: &mut Carrier, reference: u16, sent: Sent) -> Res
     ensures refused { IfErr result (λ e. Refuses e None (send_refusal (send_all_error sent (open_link reference carrier.old.state)))) }
     ensures err { OnErr result (carrier.new ≡ carrier.old) }
 {
-    match sent.into_one() {
-        Ok(tsdu) => match carrier.send_owned(Ref(reference), tsdu) {
+    match sent.into_tsdus() {
+        Tsdus::Short(tsdu) => send_headed_call(carrier, reference, &[], tsdu.as_slice()),
+        Tsdus::One(tsdu) => match carrier.send_owned(Ref(reference), tsdu) {
             Ok(()) => Ok(()),
             Err(error) => Err(call_error(error)),
         },
-        Err(tsdus) => send_parts(carrier, reference, tsdus),
+        Tsdus::Parts(tsdus) => send_parts(carrier, reference, tsdus),
     }
 }

@@ -2,7 +2,7 @@
 //! is ample.
 
 use bitflags::Flags;
-use osi_message::Sent;
+use osi_message::{LentTsdus, Sent};
 use osi_session::*;
 use osi_spdu::{
     Group, Requirements, Serial, Side, SpduFault, TokenSet, TokenSetting, TsduSizes, Wish,
@@ -43,7 +43,7 @@ const ACCEPT: [u8; 20] = [
 /// What is sent is these octets, in one TSDU.
 fn is_one(sent: &Sent, wanted: &[u8]) -> Result<(), Fail> {
     match sent.tsdus() {
-        [tsdu] if tsdu.as_slice() == wanted => Ok(()),
+        LentTsdus::One(tsdu) if tsdu == wanted => Ok(()),
         _ => Err(Fail::from("other octets are sent")),
     }
 }
@@ -329,7 +329,7 @@ fn a_refusal_says_why(rt: HostRuntime) -> Result<(), Fail> {
 /// The length of the TSDU in which a request is sent, if it is one TSDU.
 fn length_of(session: &mut Session, request: Request) -> Result<usize, CallError> {
     match call(session, request)?.tsdus() {
-        [tsdu] => Ok(tsdu.len()),
+        LentTsdus::One(tsdu) => Ok(tsdu.len()),
         _ => Ok(0),
     }
 }

@@ -62,9 +62,11 @@ points_upto_least (suc k) (Point n kind octets ∷ h) = let e = points_upto_leas
 -- a restart leaves equally many points of two histories with equally many points
 pub cut_points : (a b n : ℕ) (g h : List Item) → a ≡ b → points g ≡ points h → points (cutat a g n) ≡ points (cutat b h n)
 cut_points a b n g h e q =
-    ap (λ (x : ℕ). points (cutat x g n)) e ∙ points_upto_least (n - b) g ∙ ap (λ (x : ℕ). (n - b) - ((n - b) - x)) q ∙ sym (points_upto_least (n - b) h)
+    ap (λ (x : ℕ). points (cutat x g n)) e ∙ points_upto_least (n - b) g ∙ ap (λ (x : ℕ). (n - b) - ((n - b) - x)) q
+    ∙ sym (points_upto_least (n - b) h)
 
-pub one_point_more : (m n : ℕ) (t v : List Item) (k : PointKind) (octets : List ℕ) → points t ≡ points v → points (t ++ Point m k octets ∷ []) ≡ points (v ++ Point n k octets ∷ [])
+pub one_point_more : (m n : ℕ) (t v : List Item) (k : PointKind) (octets : List ℕ) → points t ≡ points v
+    → points (t ++ Point m k octets ∷ []) ≡ points (v ++ Point n k octets ∷ [])
 one_point_more m n t v k octets e = grind (arith, points_append)
 
 pub no_point_more : (t : List Item) (octets : List ℕ) → points (t ++ Octets octets ∷ []) ≡ points t

@@ -34,11 +34,13 @@ pub every_two_is : (f : Phase → Phase → Bool) → every_two f ≡ true → (
 every_two_is f h p q = every_is (f p) (every_is (λ r. every (f r)) h p) q
 
 -- a test of two phases that another implies
-pub implied_two : (f g : Phase → Phase → Bool) → every_two (λ p q. not (f p q) || g p q) ≡ true → (p q : Phase) → f p q ≡ true → g p q ≡ true
+pub implied_two : (f g : Phase → Phase → Bool) → every_two (λ p q. not (f p q) || g p q) ≡ true → (p q : Phase) → f p q ≡ true
+    → g p q ≡ true
 implied_two f g h p q k = cut_or (f p q) (g p q) (every_two_is (λ p q. not (f p q) || g p q) h p q) k
 
 -- a test of two phases that two others imply
-pub implied_both : (m f g : Phase → Phase → Bool) → every_two (λ p q. not (m p q && f p q) || g p q) ≡ true → (p q : Phase) → m p q ≡ true → f p q ≡ true → g p q ≡ true
+pub implied_both : (m f g : Phase → Phase → Bool) → every_two (λ p q. not (m p q && f p q) || g p q) ≡ true → (p q : Phase) → m p q ≡ true
+    → f p q ≡ true → g p q ≡ true
 implied_both m f g h p q k l = implied_two (λ p q. m p q && f p q) g h p q (rw (k, l) refl)
 
 -- by whether a test holds

@@ -15,7 +15,8 @@ replaced_other (suc k) zero (w ∷ ws) v n = refl
 replaced_other zero (suc r) (w ∷ ws) v n = refl
 replaced_other (suc k) (suc r) (w ∷ ws) v n = replaced_other k r ws v (λ e. n (ap suc e))
 
-pub with_other : {C : Type 0} → (k r : ℕ) (ws : List C) (v : C) → (k ≡ r → ⊥) → connection_at k (with_connection r v ws) ≡ connection_at k ws
+pub with_other : {C : Type 0} → (k r : ℕ) (ws : List C) (v : C) → (k ≡ r → ⊥)
+    → connection_at k (with_connection r v ws) ≡ connection_at k ws
 with_other k r ws v n = grind (arith, replaced_other)
 
 replaced_same : {C : Type 0} → (r : ℕ) (ls : List C) (l x : C) → slice_get ls r ≡ Some l → slice_get (replaced r x ls) r ≡ Some x
@@ -23,7 +24,8 @@ replaced_same r [] l x e = absurd (cc)
 replaced_same zero (y ∷ ls) l x e = refl
 replaced_same (suc r) (y ∷ ls) l x e = replaced_same r ls l x e
 
-pub with_same : {C : Type 0} → (r : ℕ) (ls : List C) (l x : C) → connection_at r ls ≡ Some l → connection_at r (with_connection r x ls) ≡ Some x
+pub with_same : {C : Type 0} → (r : ℕ) (ls : List C) (l x : C) → connection_at r ls ≡ Some l
+    → connection_at r (with_connection r x ls) ≡ Some x
 with_same zero ls l x e = absurd (cc)
 with_same (suc r) ls l x e = replaced_same r ls l x e
 
@@ -126,12 +128,14 @@ pub all_more : {C : Type 0} → (P : C → Type 0) (ws : List C) (w : C) → P w
 all_more P [] w p h = (p, tt)
 all_more P (v ∷ ws) w p h = (h.0, all_more P ws w p h.1)
 
-pub all_replaced : {C : Type 0} → (P : C → Type 0) (r : ℕ) (w : C) (ws : List C) → P w → AllByRecursion P ws → AllByRecursion P (replaced r w ws)
+pub all_replaced : {C : Type 0} → (P : C → Type 0) (r : ℕ) (w : C) (ws : List C) → P w → AllByRecursion P ws
+    → AllByRecursion P (replaced r w ws)
 all_replaced P r w [] p h = tt
 all_replaced P zero w (v ∷ ws) p h = (p, h.1)
 all_replaced P (suc r) w (v ∷ ws) p h = (h.0, all_replaced P r w ws p h.1)
 
-pub all_with : {C : Type 0} → (P : C → Type 0) (r : ℕ) (w : C) (ws : List C) → P w → AllByRecursion P ws → AllByRecursion P (with_connection r w ws)
+pub all_with : {C : Type 0} → (P : C → Type 0) (r : ℕ) (w : C) (ws : List C) → P w → AllByRecursion P ws
+    → AllByRecursion P (with_connection r w ws)
 all_with P zero w ws p h = h
 all_with P (suc r) w ws p h = all_replaced P r w ws p h
 

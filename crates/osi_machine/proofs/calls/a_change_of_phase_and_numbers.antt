@@ -43,7 +43,8 @@ pub record Shift : Type 1 where
   pub holds_after : (s : State) → inv s → may_hold (to s).phase ≡ true
   pub same : (s : State) → inv s → Still s (to s)
   pub good : (s : State) (u : Meaning) → inv s → never u ≡ false → is_plain u ≡ true → has_no_effect u ≡ false → Good s u → Good (to s) u
-  pub step : (s : State) (u : Meaning) → inv s → never u ≡ false → is_plain u ≡ true → has_no_effect u ≡ false → Good s u → stops s u ≡ false
+  pub step : (s : State) (u : Meaning) → inv s → never u ≡ false → is_plain u ≡ true → has_no_effect u ≡ false → Good s u
+      → stops s u ≡ false
       → (becomes (to s) u ≡ to (becomes s u)) × inv (becomes s u)
 
 -- both owe the answer to the same restart
@@ -72,10 +73,12 @@ same_stops : (s r : State) (u : Meaning) → is_restarting s.phase ≡ false →
 same_stops s r (RS j n w o) h k = listening_stands r n k ∙ sym (listening_stands s n h)
 same_stops s r _ h k = refl
 
-same_seen : (s r : State) (u : Meaning) (v : List Item) → is_restarting s.phase ≡ false → is_restarting r.phase ≡ false → Still s r → seen r u v ≡ seen s u v
+same_seen : (s r : State) (u : Meaning) (v : List Item) → is_restarting s.phase ≡ false → is_restarting r.phase ≡ false → Still s r
+    → seen r u v ≡ seen s u v
 same_seen s r u v h k e = grind (arith, listening_stands)
 
-pub same_view : (s r : State) (u : Meaning) (v : List Item) → is_restarting s.phase ≡ false → is_restarting r.phase ≡ false → Still s r → view_next r u v ≡ view_next s u v
+pub same_view : (s r : State) (u : Meaning) (v : List Item) → is_restarting s.phase ≡ false → is_restarting r.phase ≡ false → Still s r
+    → view_next r u v ≡ view_next s u v
 same_view s r u v h k e = search (arith, same_drops, same_seen)
 
 pub due_listens : (s : State) → is_restart_due s.phase ≡ true → is_restarting s.phase ≡ false
@@ -157,7 +160,8 @@ shifts k s (u ∷ us) i n f =
     let no = or_parts (k.never u) (list_any k.never us) n in
     by no.0 (stops s u) refl (λ st.
     let p = inv_next k s u i no.0 f.0 st in
-    subst (λ (q : State). AllFit q us × Shifted k (flush (next s u) us) (flush q us) × (heard q us ≡ k.to (heard (next s u) us)) × k.inv (heard (next s u) us)) (sym p.0)
+    subst (λ (q : State). AllFit q us × Shifted k (flush (next s u) us) (flush q us) × (heard q us ≡ k.to (heard (next s u) us)) × k.inv
+    (heard (next s u) us)) (sym p.0)
     (let more = shifts k (next s u) us p.1 no.1 f.1 in (more.fits, more.flush, more.heard.0, more.heard.1)))
   where
     there : stops (k.to s) u ≡ stops s u
@@ -199,13 +203,15 @@ shift_view k s (u ∷ us) v i n f =
     seen_there : view_next (k.to s) u v ≡ view_next s u v
     seen_there = same_view s (k.to s) u v (inv_listens k s i) (after_listens k s i) (k.same s i)
 
-    first : (b : Bool) → stops s u ≡ b → heard_view (k.to s) (u ∷ us) v ≡ (if b then v else heard_view (next (k.to s) u) us (view_next (k.to s) u v))
+    first : (b : Bool) → stops s u ≡ b → heard_view (k.to s) (u ∷ us) v
+        ≡ (if b then v else heard_view (next (k.to s) u) us (view_next (k.to s) u v))
     first b e = ap (λ (c : Bool). if c then v else heard_view (next (k.to s) u) us (view_next (k.to s) u v)) (there ∙ e)
 
     last : (b : Bool) → stops s u ≡ b → heard_view s (u ∷ us) v ≡ (if b then v else heard_view (next s u) us (view_next s u v))
     last b e = ap (λ (c : Bool). if c then v else heard_view (next s u) us (view_next s u v)) e
 
-    by : (b : Bool) → stops s u ≡ b → (stops s u ≡ false → heard_view (next (k.to s) u) us (view_next s u v) ≡ heard_view (next s u) us (view_next s u v))
+    by : (b : Bool) → stops s u ≡ b → (stops s u ≡ false
+        → heard_view (next (k.to s) u) us (view_next s u v) ≡ heard_view (next s u) us (view_next s u v))
         → heard_view (k.to s) (u ∷ us) v ≡ heard_view s (u ∷ us) v
     by true e more = first true e ∙ sym (last true e)
     by false e more = first false e ∙ ap (heard_view (next (k.to s) u) us) seen_there ∙ more e ∙ sym (last false e)
@@ -250,7 +256,8 @@ pub record Sending (w : Core) (k : Shift) (m : Meaning) (more : List Item) : Typ
   pub reach : w.peer.session.numbers.answers ≡ true
       → lower w.peer.session.numbers.next (k.to (hearing w.own w.peer)).numbers.confirmed ≤ w.peer.session.numbers.confirmed
   pub other_flag : w.peer.session.numbers.answers ≡ true → (k.to (hearing w.own w.peer)).numbers.answers ≡ false
-  pub other_below : (n : ℕ) → (flushed w.peer w.own).base ≤ n → n < (next (flushed w.peer w.own) m).numbers.confirmed → n < (k.to w.own.session).numbers.next
+  pub other_below : (n : ℕ) → (flushed w.peer w.own).base ≤ n → n < (next (flushed w.peer w.own) m).numbers.confirmed
+      → n < (k.to w.own.session).numbers.next
   pub other_reach : (k.to w.own.session).numbers.answers ≡ true
       → lower (k.to w.own.session).numbers.next (next (flushed w.peer w.own) m).numbers.confirmed ≤ (k.to w.own.session).numbers.confirmed
   pub numbered : AreNumberedFrom (flushed w.own w.peer).base w.history → AreNumberedFrom (flushed w.own w.peer).base (w.history ++ more)
@@ -335,7 +342,8 @@ module _ (w : Core) (k : Shift) (m : Meaning) (more : List Item) (g : Sending w 
   other_end = flush_append w.peer.session w.own.sent m
 
   other_heard : heard w.peer.session (w.own.sent ++ m ∷ []) ≡ then_there
-  other_heard = heard_append w.peer.session w.own.sent m h.peer.fits owed ∙ ap (λ (b : Bool). if b then there else then_there) (g.unit.quiet there)
+  other_heard = heard_append w.peer.session w.own.sent m h.peer.fits owed
+      ∙ ap (λ (b : Bool). if b then there else then_there) (g.unit.quiet there)
 
   heard_end : hearing w.peer w.own ≡ there
   heard_end = heard_flush w.peer.session w.own.sent h.peer.fits owed
@@ -352,7 +360,8 @@ module _ (w : Core) (k : Shift) (m : Meaning) (more : List Item) (g : Sending w 
   own_half : Half w.owner caller w.peer
   own_half = record {
     fits = runs.fits;
-    meeting = subst (λ (q : State). Meeting w.owner (k.to w.own.session) end q (heard (k.to w.own.session) w.peer.sent) w.peer.session) (sym other_end)
+    meeting = subst (λ (q : State). Meeting w.owner (k.to w.own.session) end q (heard (k.to w.own.session) w.peer.sent) w.peer.session)
+        (sym other_end)
         (subst (λ (q : State). Meeting w.owner (k.to w.own.session) end then_there q w.peer.session) (sym runs.heard.0) (record {
           meets = meets_after;
           units = own_still.units ∙ h.own.meeting.units ∙ sym other_still.units;
@@ -360,7 +369,8 @@ module _ (w : Core) (k : Shift) (m : Meaning) (more : List Item) (g : Sending w 
           restart = λ r. absurd (let l = (shifted_listens k was end runs.flush).1 in cc);
           connect = λ r. absurd (let l = not_connecting runs.flush in cc);
           holds = λ t. ap (λ (s : Tokens). has s t) (k.same w.own.session g.now).held ∙ h.own.meeting.holds t;
-          wants = λ l t. ap (λ (s : Tokens). has s t) (k.same (hearing w.own w.peer) i).held ∙ h.own.meeting.wants (k.holds (hearing w.own w.peer) i) t;
+          wants = λ l t. ap (λ (s : Tokens). has s t) (k.same (hearing w.own w.peer) i).held
+              ∙ h.own.meeting.wants (k.holds (hearing w.own w.peer) i) t;
           absent = λ t n. h.own.meeting.absent t (ap (λ (u : FunctionalUnits). has (available u) t) (sym own_still.units) ∙ n);
           released = λ r. h.own.meeting.released (g.release (hearing w.own w.peer) i r);
         }));
@@ -370,12 +380,14 @@ module _ (w : Core) (k : Shift) (m : Meaning) (more : List Item) (g : Sending w 
       i = runs.heard.1
 
       not_connecting : Shifted k was end → is_connecting end.phase ≡ false
-      not_connecting (inl (e, j)) = ap (λ (q : State). is_connecting q.phase) e ∙ excluded may_hold is_connecting refl (k.to was).phase (k.holds_after was j)
+      not_connecting (inl (e, j)) = ap (λ (q : State). is_connecting q.phase) e
+          ∙ excluded may_hold is_connecting refl (k.to was).phase (k.holds_after was j)
       not_connecting (inr d) = excluded is_restart_due is_connecting refl end.phase d.other
 
   -- ---- the half of the other
 
-  other_wants : may_hold then_there.phase ≡ true → (t : Token) → has then_there.held t ≡ (is_own (turned_owners w.owner t) || is_to_own (turned_owners w.owner t))
+  other_wants : may_hold then_there.phase ≡ true → (t : Token)
+      → has then_there.held t ≡ (is_own (turned_owners w.owner t) || is_to_own (turned_owners w.owner t))
   other_wants may t =
       ap (λ (s : Tokens). has s t) other_still.held
       ∙ subst (λ (q : State). has q.held t ≡ (is_own (turned_owners w.owner t) || is_to_own (turned_owners w.owner t))) heard_end
@@ -385,8 +397,11 @@ module _ (w : Core) (k : Shift) (m : Meaning) (more : List Item) (g : Sending w 
 
   other_restart : is_restarting then_there.phase ≡ true → (then_there.numbers.next ≡ end.numbers.next) × (then_there.wishes ≡ end.wishes)
   other_restart r = by_either sides
-      (λ d. let old = h.peer.meeting.restart d.asked in
-      (ap (λ (q : State). q.numbers.next) d.same ∙ old.0 ∙ sym d.due.next, ap (λ (q : State). q.wishes) d.same ∙ old.1 ∙ sym d.due.same.wishes))
+      (λ d. let old = h.peer.meeting.restart d.asked in (
+        ap (λ (q : State). q.numbers.next) d.same ∙ old.0 ∙ sym d.due.next,
+        ap (λ (q : State). q.wishes) d.same ∙ old.1
+            ∙ sym d.due.same.wishes,
+      ))
       (λ a. absurd (not_both _ (next_hears there m (ap not a.listens)) r))
 
   other_released : is_release_due then_there.phase ≡ true → is_releasing (k.to w.own.session).phase ≡ true
@@ -400,8 +415,10 @@ module _ (w : Core) (k : Shift) (m : Meaning) (more : List Item) (g : Sending w 
   peer_half : Half (turned_owners w.owner) w.peer caller
   peer_half = record {
     fits = fit_append w.peer.session w.own.sent m h.peer.fits other_fits;
-    meeting = subst (λ (q : State). Meeting (turned_owners w.owner) w.peer.session q end (heard w.peer.session (w.own.sent ++ m ∷ [])) (k.to w.own.session)) (sym other_end)
-        (subst (λ (q : State). Meeting (turned_owners w.owner) w.peer.session then_there end q (k.to w.own.session)) (sym other_heard) (record {
+    meeting = subst (λ (q : State). Meeting (turned_owners w.owner) w.peer.session q end (heard w.peer.session (w.own.sent ++ m ∷ []))
+        (k.to w.own.session)) (sym other_end)
+        (subst (λ (q : State). Meeting (turned_owners w.owner) w.peer.session then_there end q (k.to w.own.session)) (sym other_heard)
+        (record {
           meets = implied_two matched (λ p q. matched q p) refl end.phase then_there.phase meets_after;
           units = other_still.units ∙ h.peer.meeting.units ∙ sym own_still.units;
           base = other_still.base ∙ h.peer.meeting.base ∙ sym own_still.base;
@@ -417,7 +434,8 @@ module _ (w : Core) (k : Shift) (m : Meaning) (more : List Item) (g : Sending w 
     where
       not_answering : Shifted k was end → is_answering end.phase ≡ true → ⊥
       not_answering (inl (e, j)) r =
-          let n = ap (λ (q : State). is_answering q.phase) e ∙ excluded may_hold is_answering refl (k.to was).phase (k.holds_after was j) in cc
+          let n = ap (λ (q : State). is_answering q.phase) e ∙ excluded may_hold is_answering refl (k.to was).phase (k.holds_after was j) in
+          cc
       not_answering (inr d) r = let n = excluded is_restart_due is_answering refl end.phase d.other in cc
 
   -- ---- what was seen
@@ -456,7 +474,8 @@ module _ (w : Core) (k : Shift) (m : Meaning) (more : List Item) (g : Sending w 
         (λ e. let r : is_restarting then_there.phase ≡ true = then_heard is_restarting r in
         absurd (not_both _ (next_hears there m (ap not e)) r)));
     due = λ r. absurd (none_due_there w.owner w.own w.peer h.own h.peer listens r);
-    stream = λ d. streams (ap (λ (u : FunctionalUnits). u.duplex) (sym other_still.units) ∙ ap (λ (q : State). q.units.duplex) (sym other_end) ∙ d);
+    stream = λ d. streams (ap (λ (u : FunctionalUnits). u.duplex) (sym other_still.units)
+        ∙ ap (λ (q : State). q.units.duplex) (sym other_end) ∙ d);
   }
     where
       cuts : is_restarting there.phase ≡ true → w.peer.view ≡ cutat w.peer.session.base (w.history ++ more) w.peer.session.numbers.next
@@ -470,7 +489,8 @@ module _ (w : Core) (k : Shift) (m : Meaning) (more : List Item) (g : Sending w 
           let e = data_append w.own.sent (m ∷ []) ∙ ap (λ (r : List (List ℕ)). data_of w.own.sent ++ (r ++ [])) g.unit.empty
           ∙ append-nil (data_of w.own.sent) in (
             ap (λ (r : List (List ℕ)). w.peer.got ++ r) e ∙ s.0 ∙ sym (append-nil w.own.said),
-            ap (λ (v : List Item). w.history ++ v) (g.duplex (ap (λ (u : FunctionalUnits). u.duplex) h.own.meeting.units ∙ d)) ∙ append-nil w.history ∙ s.1,
+            ap (λ (v : List Item). w.history ++ v) (g.duplex (ap (λ (u : FunctionalUnits). u.duplex) h.own.meeting.units ∙ d))
+                ∙ append-nil w.history ∙ s.1,
           )
 
   -- ---- the numbers

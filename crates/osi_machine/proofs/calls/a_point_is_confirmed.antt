@@ -53,7 +53,8 @@ module _ (w : Core) (a : Answers w.own.session) where
       (λ e. inl (sym (flush_open w.peer.session w.own.sent e h.peer.fits).base ∙ there_base h))
 
   heeds : Stands w → not (is_restarting (hearing w.own w.peer).phase) ≡ true
-  heeds h = kept_heard (λ (q : State). not (is_restarting q.phase) ≡ true) (λ q u p g. next_hears q u p) w.own.session w.peer.sent (ap not listens) h.own.fits
+  heeds h = kept_heard (λ (q : State). not (is_restarting q.phase) ≡ true) (λ q u p g. next_hears q u p) w.own.session w.peer.sent
+      (ap not listens) h.own.fits
 
   -- points flow one way
   there_sends : Stands w → (flushed w.peer w.own).numbers.answers ≡ false
@@ -63,7 +64,8 @@ own_count : (w : Core) → Stands w → w.own.session.numbers.next ≡ w.own.ses
 own_count w h = h.consistent.own.count
 
 seen_all : (w : Core) → Answers w.own.session → Stands w → points w.own.view ≤ points w.history
-seen_all w a h = subst (λ (v : List Item). points w.own.view ≤ points v) (h.own_views.ends (heeds w a h)) (view_grows w.own.session w.peer.sent w.own.view h.own.fits)
+seen_all w a h = subst (λ (v : List Item). points w.own.view ≤ points v) (h.own_views.ends (heeds w a h))
+    (view_grows w.own.session w.peer.sent w.own.view h.own.fits)
 
 heard_number : (w : Core) → Answers w.own.session → Stands w → (hearing w.own w.peer).numbers.next ≡ w.own.session.base + points w.history
 heard_number w a h = search (arith, heard_counted, heard_base, heeds)
@@ -72,26 +74,33 @@ heard_number w a h = search (arith, heard_counted, heard_base, heeds)
 all_above : (w : Core) (n : ℕ) → Answers w.own.session → Stands w → is_restarting (flushed w.peer w.own).phase ≡ false
     → (hearing w.own w.peer).base ≤ n → n < w.own.session.base + points w.history → n < w.peer.session.numbers.next
 all_above w n a h l from to =
-    other_above w h n (same_base w a h) (other_saw w h (ends_same w a h) l (there_sends w a h)) (subst (λ (b : ℕ). b ≤ n) (heard_base w a h) from) to
+    other_above w h n (same_base w a h) (other_saw w h (ends_same w a h) l (there_sends w a h))
+    (subst (λ (b : ℕ). b ≤ n) (heard_base w a h) from) to
 
 -- the other does not answer
 none_back : (w : Core) → Answers w.own.session → Stands w → w.peer.session.numbers.answers ≡ true → ⊥
 none_back w a h t =
     let no = h.peer_counts.flag t in
-    let yes = (heard_turned w.own.session w.peer.sent (record { phase = excluded is_confirming is_opening refl w.own.session.phase a.phase; answers = a.answers }) h.own.fits).answers in
+    let yes = (heard_turned w.own.session w.peer.sent
+    (record { phase = excluded is_confirming is_opening refl w.own.session.phase a.phase; answers = a.answers }) h.own.fits).answers in
     cc
 
 keeps_flag : (w : Core) (m : Meaning) → ((s : State) → (becomes s m).numbers.answers ≡ s.numbers.answers) → Answers w.own.session → Stands w
     → (next (flushed w.peer w.own) m).numbers.answers ≡ false
-keeps_flag w m same a h = next_cases (λ q. q.numbers.answers ≡ false) (flushed w.peer w.own) m (λ d. there_sends w a h) (λ d. same (flushed w.peer w.own) ∙ there_sends w a h)
+keeps_flag w m same a h = next_cases (λ q. q.numbers.answers ≡ false) (flushed w.peer w.own) m (λ d. there_sends w a h)
+    (λ d. same (flushed w.peer w.own) ∙ there_sends w a h)
 
-was_below : (w : Core) (n : ℕ) → Answers w.own.session → Stands w → (flushed w.peer w.own).base ≤ n → n < (flushed w.peer w.own).numbers.confirmed → n < w.own.session.numbers.next
+was_below : (w : Core) (n : ℕ) → Answers w.own.session → Stands w → (flushed w.peer w.own).base ≤ n
+    → n < (flushed w.peer w.own).numbers.confirmed → n < w.own.session.numbers.next
 was_below w n a h from to =
-    h.peer_counts.below (heeds w a h) n (subst (λ (q : State). q.base ≤ n) (sym (ends_same w a h)) from) (subst (λ (q : State). n < q.numbers.confirmed) (sym (ends_same w a h)) to)
+    h.peer_counts.below (heeds w a h) n (subst (λ (q : State). q.base ≤ n) (sym (ends_same w a h)) from)
+    (subst (λ (q : State). n < q.numbers.confirmed) (sym (ends_same w a h)) to)
 
-was_reach : (w : Core) → Answers w.own.session → Stands w → lower w.own.session.numbers.next (flushed w.peer w.own).numbers.confirmed ≤ w.own.session.numbers.confirmed
+was_reach : (w : Core) → Answers w.own.session → Stands w
+    → lower w.own.session.numbers.next (flushed w.peer w.own).numbers.confirmed ≤ w.own.session.numbers.confirmed
 was_reach w a h =
-    subst (λ (q : State). lower w.own.session.numbers.next q.numbers.confirmed ≤ w.own.session.numbers.confirmed) (ends_same w a h) (h.peer_counts.reach a.answers)
+    subst (λ (q : State). lower w.own.session.numbers.next q.numbers.confirmed ≤ w.own.session.numbers.confirmed) (ends_same w a h)
+    (h.peer_counts.reach a.answers)
 
 -- ---- the confirmation of a minor point
 
@@ -104,7 +113,12 @@ confirm_good n s u a p g = grind (arith, and_parts, not_both)
 
 taken_confirmed : (n : ℕ) (v : Numbers) → v.answers ≡ true → point_taken (minor_confirmed n v) ≡ minor_confirmed n (point_taken v)
 unfolding point_taken minor_confirmed
-taken_confirmed n v e = ap (λ (b : Bool). record { next = v.next + 1; confirmed = if b then n + 1 else v.next; lowest = v.lowest; answers = true }) e
+taken_confirmed n v e = ap (λ (b : Bool). record {
+  next = v.next + 1;
+  confirmed = if b then n + 1 else v.next;
+  lowest = v.lowest;
+  answers = true;
+}) e
 
 point_answers : (v : Numbers) → (point_taken v).answers ≡ true
 unfolding point_taken
@@ -140,13 +154,17 @@ own_answers w n k = record { phase = implied may_confirm_minor is_confirming ref
 -- nothing at or above it was confirmed
 confirmed_below : (w : Core) (n : ℕ) → Confirms w n → Stands w → (flushed w.peer w.own).numbers.confirmed ≤ n
 confirmed_below w n k h =
-    let reach : lower w.own.session.numbers.next (flushed w.peer w.own).numbers.confirmed ≤ w.own.session.numbers.confirmed = was_reach w (own_answers w n k) h in
+    let reach : lower w.own.session.numbers.next (flushed w.peer w.own).numbers.confirmed ≤ w.own.session.numbers.confirmed =
+    was_reach w (own_answers w n k) h in
     search (arith, cases_lt, lower_from)
+
+ruleset there_laws = (own_answers, other_number, there_base, ends_same, own_count)
 
 -- a major point that is still in flight is no minor one
 confirm_above : (w : Core) (n : ℕ) → Confirms w n → Stands w → is_restarting (flushed w.peer w.own).phase ≡ false
-    → (if is_major_asked (flushed w.peer w.own).phase then nat_lt (n + 1) (flushed w.peer w.own).numbers.next else nat_lt n (flushed w.peer w.own).numbers.next) ≡ true
-confirm_above w n k h l = search (arith, lt-ltb, seen_all, own_answers, other_number, there_base, ends_same, own_count, implied_two, and_from, heard_flush, heeds, major_came)
+    → (if is_major_asked (flushed w.peer w.own).phase then nat_lt (n + 1) (flushed w.peer w.own).numbers.next else nat_lt n
+    (flushed w.peer w.own).numbers.next) ≡ true
+confirm_above w n k h l = search (arith, lt-ltb, seen_all, there_laws, implied_two, and_from, heard_flush, heeds, major_came)
 
 confirm_sending : (w : Core) (n : ℕ) (octets : List ℕ) → Confirms w n → Stands w → Sending w (confirm_shift n) (MIA n octets) []
 unfolding minor_confirmed
@@ -162,10 +180,12 @@ confirm_sending w n octets k h = record {
       record {
         expected = phase_there is_confirming takes_minor_ack refl h.own i.phase;
         met = (
-          ap (λ (u : FunctionalUnits). u.minor) (sym h.own.meeting.units ∙ end_units w.owner w.own w.peer h.own (open_now w a)) ∙ k.selected,
+          ap (λ (u : FunctionalUnits). u.minor) (sym h.own.meeting.units ∙ end_units w.owner w.own w.peer h.own (open_now w a))
+              ∙ k.selected,
           (
             and_from (not (flushed w.peer w.own).numbers.answers) _ (ap not (there_sends w a h))
-                (and_from (nat_le (flushed w.peer w.own).numbers.confirmed n) _ (le-leb (flushed w.peer w.own).numbers.confirmed n (confirmed_below w n k h)) (confirm_above w n k h l)),
+                (and_from (nat_le (flushed w.peer w.own).numbers.confirmed n) _
+                (le-leb (flushed w.peer w.own).numbers.confirmed n (confirmed_below w n k h)) (confirm_above w n k h l)),
             tt,
           ),
         );
@@ -180,18 +200,22 @@ confirm_sending w n octets k h = record {
       (let x = k.to in let y = seen_all w (own_answers w n k) h in let z = own_count w h in omega arith);
   reach = λ t. absurd (none_back w (own_answers w n k) h t);
   other_flag = h.peer_counts.flag;
-  other_below = λ m from to. next_cases (λ q. m < q.numbers.confirmed → m < w.own.session.numbers.next) (flushed w.peer w.own) (MIA n octets)
+  other_below = λ m from to. next_cases (λ q. m < q.numbers.confirmed → m < w.own.session.numbers.next) (flushed w.peer w.own)
+      (MIA n octets)
       (λ d. was_below w m (own_answers w n k) h from) (λ d e. let x = k.to in omega arith) to;
   other_reach = λ f. next_cases (λ q. lower w.own.session.numbers.next q.numbers.confirmed ≤ n + 1) (flushed w.peer w.own) (MIA n octets)
-      (λ d. let x = was_reach w (own_answers w n k) h in let y = k.from in omega arith) (λ d. lower_second w.own.session.numbers.next (n + 1));
+      (λ d. let x = was_reach w (own_answers w n k) h in let y = k.from in omega arith)
+      (λ d. lower_second w.own.session.numbers.next (n + 1));
   numbered = λ p. subst (AreNumberedFrom (flushed w.own w.peer).base) (sym (append-nil w.history)) p;
-  one_way = λ d. ap (λ (b : Bool). b && list_any (needs_token data_token) w.peer.sent) (list_any_append (needs_token data_token) w.own.sent (MIA n octets) refl) ∙ h.pair.one_way d;
+  one_way = λ d. ap (λ (b : Bool). b && list_any (needs_token data_token) w.peer.sent)
+      (list_any_append (needs_token data_token) w.own.sent (MIA n octets) refl) ∙ h.pair.one_way d;
 }
 
 pub minor_confirm_stands : (w : Core) (n : ℕ) (octets : List ℕ) → IsGranted w (MinorConfirm n octets) → Stands w
     → Stands (answered w (MinorConfirm n octets) (Ok (granted w.own.session (MinorConfirm n octets))))
 minor_confirm_stands w n octets q h =
-    let a = and_parts w.own.session.numbers.answers (nat_le w.own.session.numbers.confirmed n && nat_lt n w.own.session.numbers.next) q.needed.1.0 in
+    let a = and_parts w.own.session.numbers.answers
+    (nat_le w.own.session.numbers.confirmed n && nat_lt n w.own.session.numbers.next) q.needed.1.0 in
     let b = and_parts (nat_le w.own.session.numbers.confirmed n) (nat_lt n w.own.session.numbers.next) a.1 in
     let k : Confirms w n = (assumption (leb-true w.own.session.numbers.confirmed n b.0, ltb-true n w.own.session.numbers.next b.1)) in
     sending_stands w (confirm_shift n) (MIA n octets) [] (confirm_sending w n octets k h) h q.kept
@@ -226,7 +250,8 @@ due_shift = record {
 }
 
 -- nothing is seen by a side that owes the answer
-due_seen : (s : State) (u : Meaning) (v : List Item) → Owes s → is_plain u ≡ true → Good (in_phase MajorDue s) u → stops s u ≡ false → seen s u v ≡ v
+due_seen : (s : State) (u : Meaning) (v : List Item) → Owes s → is_plain u ≡ true → Good (in_phase MajorDue s) u → stops s u ≡ false
+    → seen s u v ≡ v
 due_seen s u v i p g st = grind (arith, listening_stands)
 
 owes_nothing : (s : State) (us : List Meaning) (v : List Item) → Owes s → AllFit s us → heard_view s us v ≡ v
@@ -247,7 +272,8 @@ due_number : (w : Core) → Owes w.own.session → Stands w → is_restarting (f
     → ((w.own.session.numbers.next - 1) + 1 == (flushed w.peer w.own).numbers.next) ≡ true
 due_number w k h l = search (arith, due_answers, due_all, other_number, there_base, ends_same, eq-eqb)
 
-due_sending : (w : Core) (octets : List ℕ) → Owes w.own.session → Stands w → Sending w due_shift (MAA (w.own.session.numbers.next - 1) octets) []
+due_sending : (w : Core) (octets : List ℕ) → Owes w.own.session → Stands w
+    → Sending w due_shift (MAA (w.own.session.numbers.next - 1) octets) []
 unfolding major_confirmed
 due_sending w octets k h = record {
   now = k;
@@ -261,7 +287,8 @@ due_sending w octets k h = record {
   sees = λ l. ap (heard_view w.own.session w.peer.sent) (append-nil w.own.view) ∙ h.own_views.ends l ∙ sym (append-nil w.history);
   duplex = λ d. refl;
   flag = λ f. keeps_flag w (MAA (w.own.session.numbers.next - 1) octets) (λ s. refl) (due_answers w k) h;
-  below = λ l n from to. all_above w n (due_answers w k) h (hears_there (flushed w.peer w.own) (MAA (w.own.session.numbers.next - 1) octets) refl l) from
+  below = λ l n from to. all_above w n (due_answers w k) h
+      (hears_there (flushed w.peer w.own) (MAA (w.own.session.numbers.next - 1) octets) refl l) from
       (subst (λ (m : ℕ). n < m) (heard_number w (due_answers w k) h) to);
   reach = λ t. absurd (none_back w (due_answers w k) h t);
   other_flag = h.peer_counts.flag;
@@ -273,7 +300,8 @@ due_sending w octets k h = record {
       (λ q. let p = rw q at d in absurd (cc))
       (λ q. q)) in
       omega arith);
-  other_reach = λ f. lower_first w.own.session.numbers.next (next (flushed w.peer w.own) (MAA (w.own.session.numbers.next - 1) octets)).numbers.confirmed;
+  other_reach = λ f. lower_first w.own.session.numbers.next
+      (next (flushed w.peer w.own) (MAA (w.own.session.numbers.next - 1) octets)).numbers.confirmed;
   numbered = λ p. subst (AreNumberedFrom (flushed w.own w.peer).base) (sym (append-nil w.history)) p;
   one_way = λ d. ap (λ (b : Bool). b && list_any (needs_token data_token) w.peer.sent)
       (list_any_append (needs_token data_token) w.own.sent (MAA (w.own.session.numbers.next - 1) octets) refl) ∙ h.pair.one_way d;

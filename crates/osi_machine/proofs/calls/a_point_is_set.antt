@@ -41,21 +41,25 @@ pub record Speaks (s : State) : Type 0 where
 
 -- a number that may be acknowledged still may
 still_acks : (p : Phase) (v : Numbers) (n : ℕ) → (not v.answers && (nat_le v.confirmed n && nat_lt n v.next)) ≡ true
-    → (true && (nat_le (if v.answers then v.next else v.confirmed) n && (if is_major_asked p then nat_lt (n + 1) (v.next + 1) else nat_lt n (v.next + 1)))) ≡ true
+    → (true && (nat_le (if v.answers then v.next else v.confirmed) n
+    && (if is_major_asked p then nat_lt (n + 1) (v.next + 1) else nat_lt n (v.next + 1)))) ≡ true
 still_acks p v n h = grind (arith, and_parts, and_from, ltb-true, lt-ltb)
 
 still_below : (b n next : ℕ) → (nat_le b n && (false || nat_le n next)) ≡ true → (nat_le b n && nat_le n (next + 1)) ≡ true
 still_below b n next h = grind (arith, and_parts, leb-true, and_from, le-leb)
 
-point_good : (p : Phase) → IsOpenPhase p → (s : State) (u : Meaning) → has s.held data_token ≡ true → is_plain u ≡ true → has_no_effect u ≡ false
+point_good : (p : Phase) → IsOpenPhase p → (s : State) (u : Meaning) → has s.held data_token ≡ true → is_plain u ≡ true
+    → has_no_effect u ≡ false
     → Good (in_phase Ready s) u → Good (sent_in p s) u
 unfolding point_sent
 point_good p k s (DT o) d pl e g = absurd (not_both (has s.held data_token) g.met.0 d)
 point_good p k s (GT j) d pl e g = record { expected = k.asks; met = g.met }
 point_good p k s (PT j o) d pl e g = record { expected = k.please; met = g.met }
-point_good p k s (MIP c n o) d pl e g = absurd (not_both (has s.held data_token) (and_parts (not (has s.held data_token)) (not (has s.held minor)) g.met.1.0).0 d)
+point_good p k s (MIP c n o) d pl e g = absurd
+    (not_both (has s.held data_token) (and_parts (not (has s.held data_token)) (not (has s.held minor)) g.met.1.0).0 d)
 point_good p k s (MIA n o) d pl e g = record { expected = k.acks; met = (g.met.0, (still_acks p s.numbers n g.met.1.0, tt)) }
-point_good p k s (MAP n o) d pl e g = absurd (not_both (has s.held data_token) (and_parts (not (has s.held data_token)) (not (has s.held minor) && not (has s.held major)) g.met.1.0).0 d)
+point_good p k s (MAP n o) d pl e g = absurd (not_both (has s.held data_token)
+    (and_parts (not (has s.held data_token)) (not (has s.held minor) && not (has s.held major)) g.met.1.0).0 d)
 point_good p k s (RS j n w o) d pl e g = search (arith, excluded, still_below)
 point_good p k s (FN o) d pl e g = absurd (let a = empty_has s.held data_token g.met.0 in cc)
 point_good p k s _ d pl e g = absurd (let a = g.expected in cc)
@@ -68,13 +72,24 @@ same_numbers v n e = grind arith
 point_step : (p : Phase) (s : State) (u : Meaning) → Speaks s → is_plain u ≡ true → Good (in_phase Ready s) u → stops s u ≡ false
     → (becomes (sent_in p s) u ≡ sent_in p (becomes s u)) × Speaks (becomes s u)
 point_step p s (DT o) i pl g st = (refl, i)
-point_step p s (GT j) i pl g st = (refl, record { phase = i.phase; held = united_has s.held j data_token ∙ or_left (has s.held data_token) (has j data_token) i.held })
+point_step p s (GT j) i pl g st = (
+  refl,
+  record {
+    phase = i.phase;
+    held = united_has s.held j data_token
+        ∙ or_left (has s.held data_token) (has j data_token) i.held;
+  },
+)
 point_step p s (PT j o) i pl g st = (refl, i)
-point_step p s (MIP c n o) i pl g st = absurd (not_both (has s.held data_token) (and_parts (not (has s.held data_token)) (not (has s.held minor)) g.met.1.0).0 i.held)
+point_step p s (MIP c n o) i pl g st = absurd
+    (not_both (has s.held data_token) (and_parts (not (has s.held data_token)) (not (has s.held minor)) g.met.1.0).0 i.held)
 point_step p s (MIA n o) i pl g st =
-    let a = and_parts (not s.numbers.answers) (nat_le s.numbers.confirmed n && nat_lt n s.numbers.next) g.met.1.0 in
-    (ap (λ (v : Numbers). record s { phase = p; numbers = v }) (same_numbers s.numbers n (not-true s.numbers.answers a.0)), record { phase = i.phase; held = i.held })
-point_step p s (MAP n o) i pl g st = absurd (not_both (has s.held data_token) (and_parts (not (has s.held data_token)) (not (has s.held minor) && not (has s.held major)) g.met.1.0).0 i.held)
+    let a = and_parts (not s.numbers.answers) (nat_le s.numbers.confirmed n && nat_lt n s.numbers.next) g.met.1.0 in (
+      ap (λ (v : Numbers). record s { phase = p; numbers = v }) (same_numbers s.numbers n (not-true s.numbers.answers a.0)),
+      record { phase = i.phase; held = i.held },
+    )
+point_step p s (MAP n o) i pl g st = absurd (not_both (has s.held data_token)
+    (and_parts (not (has s.held data_token)) (not (has s.held minor) && not (has s.held major)) g.met.1.0).0 i.held)
 point_step p s (RS j n w o) i pl g st = absurd (let t = listening_stands s n (ap is_restarting i.phase) in cc)
 point_step p s (FN o) i pl g st = absurd (let a = empty_has s.held data_token g.met.0 in let b = i.held in cc)
 point_step p s _ i pl g st = absurd (let a = g.expected in cc)
@@ -108,7 +123,8 @@ unfolding available
 has_data u p d = not-false u.half_duplex (sym p.duplex ∙ d)
 
 -- a side that listens after a unit listened before
-pub hears_there : (s : State) (m : Meaning) → passes_restarting m ≡ false → not (is_restarting (next s m).phase) ≡ true → is_restarting s.phase ≡ false
+pub hears_there : (s : State) (m : Meaning) → passes_restarting m ≡ false → not (is_restarting (next s m).phase) ≡ true
+    → is_restarting s.phase ≡ false
 hears_there s m w l = grind arith
 
 -- and a unit that is not discarded arrives at a side that listens
@@ -129,7 +145,8 @@ module _ (w : Core) (h : Stands w) where
   other_saw e l n = search (arith, unseen)
 
   -- so each number up to V(M) of the history is below its own
-  pub other_above : (n : ℕ) → w.peer.session.base ≡ w.own.session.base ⊎ (is_opening w.peer.session.phase ≡ true) → points w.peer.view ≡ points w.history
+  pub other_above : (n : ℕ) → w.peer.session.base ≡ w.own.session.base ⊎ (is_opening w.peer.session.phase ≡ true)
+      → points w.peer.view ≡ points w.history
       → w.own.session.base ≤ n → n < w.own.session.base + points w.history → n < w.peer.session.numbers.next
   other_above n b e from to = search arith
 
@@ -158,7 +175,8 @@ module _ (w : Core) (a : Points w) (h : Stands w) where
   own_units = end_units w.owner w.own w.peer h.own open_now
 
   no_duplex : here.units.duplex ≡ false
-  no_duplex = is_half here.units h.pair.profile (subst (λ (u : FunctionalUnits). (u.minor ≡ true) ⊎ (u.major ≡ true)) (sym own_units) a.selected)
+  no_duplex = is_half here.units h.pair.profile
+      (subst (λ (u : FunctionalUnits). (u.minor ≡ true) ⊎ (u.major ≡ true)) (sym own_units) a.selected)
 
   holds_data : has w.own.session.held data_token ≡ true
   holds_data = search (arith, own_units, has_data, is_half)
@@ -170,14 +188,16 @@ module _ (w : Core) (a : Points w) (h : Stands w) where
   holding = record { held = holds_data; phase = implied is_ready may_hold refl w.own.session.phase a.phase }
 
   heeds : not (is_restarting heard_here.phase) ≡ true
-  heeds = ap not (excluded may_hold is_restarting refl heard_here.phase (heard_holds data_token w.own.session w.peer.sent holding h.own.fits).phase)
+  heeds = ap not (excluded may_hold is_restarting refl heard_here.phase
+      (heard_holds data_token w.own.session w.peer.sent holding h.own.fits).phase)
 
   -- this side has seen all
   all_seen : w.own.view ≡ w.history
   all_seen = sym (nothing_to_see w.own.session w.peer.sent w.own.view holding h.own.fits) ∙ h.own_views.ends heeds
 
   point_sees : (more : List Item) → heard_view w.own.session w.peer.sent (w.own.view ++ more) ≡ w.history ++ more
-  point_sees more = nothing_to_see w.own.session w.peer.sent (w.own.view ++ more) holding h.own.fits ∙ ap (λ (v : List Item). v ++ more) all_seen
+  point_sees more = nothing_to_see w.own.session w.peer.sent (w.own.view ++ more) holding h.own.fits
+      ∙ ap (λ (v : List Item). v ++ more) all_seen
 
   own_number : w.own.session.numbers.next ≡ w.own.session.base + points w.history
   own_number = h.consistent.own.count ∙ ap (λ (v : List Item). w.own.session.base + points v) all_seen
@@ -213,7 +233,8 @@ module _ (w : Core) (a : Points w) (h : Stands w) where
   point_below n l from to = by_test heard_here.numbers.answers
       (λ e. let k = rw e at to in
       other_above w h n same_base (other_saw w h ends_same l (both_answer e))
-      (subst (λ (b : ℕ). b ≤ n) (heard_open w.own.session w.peer.sent open_now h.own.fits).base from) (subst (λ (m : ℕ). n < m) heard_number k))
+      (subst (λ (b : ℕ). b ≤ n) (heard_open w.own.session w.peer.sent open_now h.own.fits).base from)
+      (subst (λ (m : ℕ). n < m) heard_number k))
       (λ e. let k = rw e at to in h.own_counts.below (ap (λ (q : State). not (is_restarting q.phase)) ends_same ∙ ap not l) n from k)
 
   point_other_below : (m : Meaning) (n : ℕ) → passes_restarting m ≡ false → ((s : State) → (becomes s m).numbers ≡ point_taken s.numbers)
@@ -276,7 +297,8 @@ module _ (w : Core) (a : Points w) (h : Stands w) where
     other_below = λ n from to. point_other_below m n q.unit.waits q.taken from to;
     other_reach = λ f. absurd (cc);
     numbered = point_numbered kind octets;
-    one_way = λ d. and_right (list_any (needs_token data_token) (w.own.sent ++ m ∷ [])) (list_any (needs_token data_token) w.peer.sent) nothing_needed;
+    one_way = λ d. and_right (list_any (needs_token data_token) (w.own.sent ++ m ∷ []))
+        (list_any (needs_token data_token) w.peer.sent) nothing_needed;
   }
     where
       ready : here.phase ≡ Ready → is_ready there.phase ≡ true
@@ -296,7 +318,8 @@ module _ (w : Core) (a : Points w) (h : Stands w) where
       met = (
         ap (λ (u : FunctionalUnits). u.minor) (sym h.own.meeting.units ∙ own_units) ∙ sel,
         (
-          and_from (not (has there.held data_token)) (not (has there.held minor)) (there_lacks data_token a.right r) (there_lacks minor right r),
+          and_from (not (has there.held data_token)) (not (has there.held minor)) (there_lacks data_token a.right r)
+              (there_lacks minor right r),
           (eq-eqb w.own.session.numbers.next there.numbers.next e, tt),
         ),
       );
@@ -318,7 +341,8 @@ module _ (w : Core) (a : Points w) (h : Stands w) where
       met = (
         ap (λ (u : FunctionalUnits). u.major) (sym h.own.meeting.units ∙ own_units) ∙ sel,
         (
-          and_from (not (has there.held data_token)) (not (has there.held minor) && not (has there.held major)) (there_lacks data_token a.right r)
+          and_from (not (has there.held data_token)) (not (has there.held minor) && not (has there.held major))
+              (there_lacks data_token a.right r)
               (and_from (not (has there.held minor)) (not (has there.held major)) (there_lacks minor right r) (there_lacks major right' r)),
           (eq-eqb w.own.session.numbers.next there.numbers.next e, tt),
         ),

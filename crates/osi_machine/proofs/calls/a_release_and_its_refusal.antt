@@ -48,7 +48,8 @@ has_it : (s : State) (t : Token) → HasRight s t → has (available s.units) t 
 has_it s t h2 a = grind arith
 
 -- no token is left to come
-none_to_come : (s : State) (k : Tokens) → ((t : Token) → HasRight s t) → is_within k (available s.units) ≡ true → is_disjoint k s.held ≡ true → is_empty k ≡ true
+none_to_come : (s : State) (k : Tokens) → ((t : Token) → HasRight s t) → is_within k (available s.units) ≡ true
+    → is_disjoint k s.held ≡ true → is_empty k ≡ true
 none_to_come s k right within apart = is_empty_of k (λ t. by t (has k t) refl)
   where
     no : (a b : Bool) → (a && b) ≡ false → a ≡ true → b ≡ true → ⊥
@@ -58,7 +59,8 @@ none_to_come s k right within apart = is_empty_of k (λ t. by t (has k t) refl)
 
     by : (t : Token) (b : Bool) → has k t ≡ b → b ≡ false
     by t false e = refl
-    by t true e = absurd (no (has k t) (has s.held t) (disjoint_has k s.held t apart) e (has_it s t (right t) (within_has k (available s.units) t within e)))
+    by t true e = absurd (no (has k t) (has s.held t) (disjoint_has k s.held t apart) e
+        (has_it s t (right t) (within_has k (available s.units) t within e)))
 
 release_good : (s : State) (u : Meaning) → ((t : Token) → HasRight s t) → is_finish u ≡ false → is_plain u ≡ true → has_no_effect u ≡ false
     → Good (in_phase Ready s) u → Good (in_phase Releasing s) u
@@ -80,7 +82,8 @@ release_good s (MAP n o) right f p e g = absurd (
 release_good s (RS j n w o) right f p e g = record { expected = refl; met = g.met }
 release_good s _ right f p e g = absurd (let a = g.expected in cc)
 
-release_step : (s : State) (u : Meaning) → Releases s → is_finish u ≡ false → is_plain u ≡ true → has_no_effect u ≡ false → Good (in_phase Ready s) u → stops s u ≡ false
+release_step : (s : State) (u : Meaning) → Releases s → is_finish u ≡ false → is_plain u ≡ true → has_no_effect u ≡ false
+    → Good (in_phase Ready s) u → stops s u ≡ false
     → (becomes (in_phase Releasing s) u ≡ in_phase Releasing (becomes s u)) × Releases (becomes s u)
 unfolding available
 release_step s (DT o) i f p e g st = (refl, i)
@@ -124,24 +127,29 @@ owed_becomes s u p g h = grind arith
 owed_flush : (s : State) (us : List Meaning) → ReleaseOwed s → AllFit s us → ReleaseOwed (flush s us)
 owed_flush = kept_all ReleaseOwed (λ s u h f. fit_cases ReleaseOwed s u f h (λ d g. owed_becomes s u f.plain g h))
 
-finish_ends : (s : State) (us : List Meaning) → is_restarting s.phase ≡ false → is_opening s.phase ≡ false → s.units.resynchronize ≡ false → AllFit s us
+finish_ends : (s : State) (us : List Meaning) → is_restarting s.phase ≡ false → is_opening s.phase ≡ false → s.units.resynchronize ≡ false
+    → AllFit s us
     → list_any is_finish us ≡ true → is_release_due (flush s us).phase ≡ true
 finish_ends s [] h o n f e = absurd (cc)
 finish_ends s (u ∷ us) h o n f e =
     let begun = flush_open s (u ∷ []) o (f.0, tt) in
-    first u f.0 f.1 e (λ m. finish_ends (next s u) us (not-true _ (next_hears s u (ap not h))) begun.phase (ap (λ (v : FunctionalUnits). v.resynchronize) begun.units ∙ n) f.1 m)
+    first u f.0 f.1 e (λ m. finish_ends (next s u) us (not-true _ (next_hears s u (ap not h))) begun.phase
+    (ap (λ (v : FunctionalUnits). v.resynchronize) begun.units ∙ n) f.1 m)
   where
-    first : (w : Meaning) → Fits s w → AllFit (next s w) us → (is_finish w || list_any is_finish us) ≡ true → (list_any is_finish us ≡ true → is_release_due (flush (next s w) us).phase ≡ true)
+    first : (w : Meaning) → Fits s w → AllFit (next s w) us → (is_finish w || list_any is_finish us) ≡ true
+        → (list_any is_finish us ≡ true → is_release_due (flush (next s w) us).phase ≡ true)
         → is_release_due (flush (next s w) us).phase ≡ true
     first (FN a) g rest m more =
-        (owed_flush (next s (FN a)) us (subst ReleaseOwed (sym (next_acted s (FN a) (rw h refl))) (record { phase = refl; none = n })) rest).phase
+        (owed_flush (next s (FN a)) us (subst ReleaseOwed (sym (next_acted s (FN a) (rw h refl))) (record { phase = refl; none = n }))
+        rest).phase
     first _ g rest m more = more m
 
 becomes_unreleased : (s : State) (u : Meaning) → is_releasing s.phase ≡ false → is_releasing (becomes s u).phase ≡ false
 becomes_unreleased s u h = grind arith
 
 unreleased : (s : State) (us : List Meaning) → is_releasing s.phase ≡ false → AllFit s us → is_releasing (flush s us).phase ≡ false
-unreleased = kept_all (λ s. is_releasing s.phase ≡ false) (λ s u h f. next_cases (λ q. is_releasing q.phase ≡ false) s u (λ d. h) (λ d. becomes_unreleased s u h))
+unreleased = kept_all (λ s. is_releasing s.phase ≡ false)
+    (λ s u h f. next_cases (λ q. is_releasing q.phase ≡ false) s u (λ d. h) (λ d. becomes_unreleased s u h))
 
 -- ---- what is known of the call
 
@@ -155,7 +163,8 @@ finish_needs : (us : List Meaning) → list_any (needs_token data_token) us ≡ 
 finish_needs [] h = refl
 finish_needs (u ∷ us) h = by u (or_parts (needs_token data_token u) (list_any (needs_token data_token) us) h) (λ e. finish_needs us e)
   where
-    by : (w : Meaning) → (needs_token data_token w ≡ false) × (list_any (needs_token data_token) us ≡ false) → (list_any (needs_token data_token) us ≡ false → list_any is_finish us ≡ false)
+    by : (w : Meaning) → (needs_token data_token w ≡ false) × (list_any (needs_token data_token) us ≡ false)
+        → (list_any (needs_token data_token) us ≡ false → list_any is_finish us ≡ false)
         → (is_finish w || list_any is_finish us) ≡ false
     by (FN o) p more = absurd (let a = p.0 in cc)
     by _ p more = more p.1
@@ -175,7 +184,8 @@ module _ (w : Core) (a : Asks w) (h : Stands w) where
   duplex_none : w.own.session.units.duplex ≡ true → list_any is_finish w.peer.sent ≡ false
   duplex_none d = by_test (list_any is_finish w.peer.sent)
       (λ e. absurd (
-      let r = finish_ends w.own.session w.peer.sent (excluded is_ready is_restarting refl w.own.session.phase a.phase) open_now (profile.alone d).2 h.own.fits e in
+      let r = finish_ends w.own.session w.peer.sent (excluded is_ready is_restarting refl w.own.session.phase a.phase) open_now
+      (profile.alone d).2 h.own.fits e in
       let m = phase_there is_release_due is_releasing refl h.own r in
       let n = unreleased w.peer.session w.own.sent there h.peer.fits in
       cc))
@@ -190,7 +200,8 @@ module _ (w : Core) (a : Asks w) (h : Stands w) where
       there : is_releasing w.peer.session.phase ≡ false
       there = by_test (is_releasing w.peer.session.phase)
           (λ e. absurd (
-          let units = sym (end_units (turned_owners w.owner) w.peer w.own h.peer (excluded is_releasing is_opening refl w.peer.session.phase e))
+          let units = sym (end_units (turned_owners w.owner) w.peer w.own h.peer
+          (excluded is_releasing is_opening refl w.peer.session.phase e))
           ∙ sym h.own.meeting.units ∙ own_units in
           let c = h.consistent.peer.asker e (ap (λ (v : FunctionalUnits). v.duplex) units ∙ d) in
           let n = h.pair.callers in
@@ -199,11 +210,14 @@ module _ (w : Core) (a : Asks w) (h : Stands w) where
           (λ e. e)
 
   held_none : has w.own.session.held data_token ≡ true → list_any (needs_token data_token) w.peer.sent ≡ false
-  held_none e = none_needs data_token w.own.session w.peer.sent (record { held = e; phase = implied is_ready may_hold refl w.own.session.phase a.phase }) h.own.fits
+  held_none e = none_needs data_token w.own.session w.peer.sent
+      (record { held = e; phase = implied is_ready may_hold refl w.own.session.phase a.phase }) h.own.fits
 
-  release_one_way : (octets : List ℕ) → (flushed w.own w.peer).units.half_duplex ≡ true → (list_any (needs_token data_token) (w.own.sent ++ FN octets ∷ []) && list_any (needs_token data_token) w.peer.sent) ≡ false
+  release_one_way : (octets : List ℕ) → (flushed w.own w.peer).units.half_duplex ≡ true
+      → (list_any (needs_token data_token) (w.own.sent ++ FN octets ∷ []) && list_any (needs_token data_token) w.peer.sent) ≡ false
   release_one_way octets d = by_either (a.right data_token)
-      (λ e. and_right (list_any (needs_token data_token) (w.own.sent ++ FN octets ∷ [])) (list_any (needs_token data_token) w.peer.sent) (held_none e))
+      (λ e. and_right (list_any (needs_token data_token) (w.own.sent ++ FN octets ∷ [])) (list_any (needs_token data_token) w.peer.sent)
+      (held_none e))
       (λ e. absurd (
       let n = no_half w.own.session.units e in
       let y = ap (λ (v : FunctionalUnits). v.half_duplex) (sym own_units) ∙ d in
@@ -222,11 +236,15 @@ same_numbers : (w : Core) (m : Meaning) → ((s : State) → (becomes s m).numbe
     → is_restarting w.own.session.phase ≡ false → is_restart_due (flushed w.peer w.own).phase ≡ false → Stands w → SameNumbers w m
 same_numbers w m same waits listens owed h = record {
   heard = end;
-  numbers = next_cases (λ q. q.numbers ≡ (flushed w.peer w.own).numbers) (flushed w.peer w.own) m (λ d. refl) (λ d. same (flushed w.peer w.own)) ∙ ap (λ (q : State). q.numbers) (sym end);
+  numbers = next_cases (λ q. q.numbers ≡ (flushed w.peer w.own).numbers) (flushed w.peer w.own) m (λ d. refl)
+      (λ d. same (flushed w.peer w.own)) ∙ ap (λ (q : State). q.numbers) (sym end);
   hears = λ l. ap (λ (q : State). not (is_restarting q.phase)) end ∙ by_test (is_restarting (flushed w.peer w.own).phase)
-      (λ e. ap (λ (q : State). not (is_restarting q.phase)) (sym (next_dropped (flushed w.peer w.own) m (dropped (is_restarting (flushed w.peer w.own).phase) (passes_restarting m) e waits))) ∙ l)
+      (λ e. ap (λ (q : State). not (is_restarting q.phase))
+      (sym (next_dropped (flushed w.peer w.own) m (dropped (is_restarting (flushed w.peer w.own).phase) (passes_restarting m) e waits)))
+      ∙ l)
       (λ e. ap not e);
-  heeds = kept_heard (λ (q : State). not (is_restarting q.phase) ≡ true) (λ q u p g. next_hears q u p) w.own.session w.peer.sent (ap not listens) h.own.fits;
+  heeds = kept_heard (λ (q : State). not (is_restarting q.phase) ≡ true) (λ q u p g. next_hears q u p) w.own.session w.peer.sent
+      (ap not listens) h.own.fits;
 }
   where
     end : hearing w.peer w.own ≡ (flushed w.peer w.own)
@@ -252,7 +270,12 @@ release_sending w octets a h =
           let ready = phase_there is_ready is_ready refl h.own (ap is_ready i.phase) in
           record {
             expected = ready;
-            met = (is_empty_of (flushed w.peer w.own).held (λ t. other_lacks w.owner w.own w.peer t h.own h.peer (open_now w a h) (a.right t) owed (implied is_ready may_hold refl (flushed w.peer w.own).phase ready)), tt);
+            met = (
+              is_empty_of (flushed w.peer w.own).held
+                  (λ t. other_lacks w.owner w.own w.peer t h.own h.peer (open_now w a h) (a.right t) owed
+                  (implied is_ready may_hold refl (flushed w.peer w.own).phase ready)),
+              tt,
+            );
           };
       meets = λ l i. refl;
       release = λ s i r. absurd (cc);
@@ -263,21 +286,26 @@ release_sending w octets a h =
       below = λ l k from to. h.own_counts.below (n.hears l) k from to;
       reach = h.own_counts.reach;
       other_flag = h.peer_counts.flag;
-      other_below = λ k from to. h.peer_counts.below n.heeds k (subst (λ (q : State). q.base ≤ k) (sym n.heard) from) (subst (λ (v : Numbers). k < v.confirmed) n.numbers to);
-      other_reach = λ f. subst (λ (v : Numbers). lower w.own.session.numbers.next v.confirmed ≤ w.own.session.numbers.confirmed) (sym n.numbers) (h.peer_counts.reach f);
+      other_below = λ k from to. h.peer_counts.below n.heeds k (subst (λ (q : State). q.base ≤ k) (sym n.heard) from)
+          (subst (λ (v : Numbers). k < v.confirmed) n.numbers to);
+      other_reach = λ f. subst (λ (v : Numbers). lower w.own.session.numbers.next v.confirmed ≤ w.own.session.numbers.confirmed)
+          (sym n.numbers) (h.peer_counts.reach f);
       numbered = λ p. subst (AreNumberedFrom (flushed w.own w.peer).base) (sym (append-nil w.history)) p;
       one_way = release_one_way w a h octets;
     }
 
-pub release_stands : (w : Core) (octets : List ℕ) → IsGranted w (Release octets) → Stands w → Stands (answered w (Release octets) (Ok (granted w.own.session (Release octets))))
+pub release_stands : (w : Core) (octets : List ℕ) → IsGranted w (Release octets) → Stands w
+    → Stands (answered w (Release octets) (Ok (granted w.own.session (Release octets))))
 release_stands w octets q h =
     let p = and_parts (each (has_right w.own.session)) (not w.own.session.units.duplex || w.own.session.is_caller) q.needed.0 in
-    let a : Asks w = record { phase = q.phase; right = λ t. right_of w.own.session t (each_has (has_right w.own.session) t p.0); caller = p.1 } in
+    let a : Asks w =
+    record { phase = q.phase; right = λ t. right_of w.own.session t (each_has (has_right w.own.session) t p.0); caller = p.1 } in
     sending_stands w release_shift (FN octets) [] (release_sending w octets a h) h q.kept
 
 -- ---- the refusal of a release
 
-refusal_good : (s : State) (u : Meaning) → is_plain u ≡ true → has_no_effect u ≡ false → Good (in_phase ReleaseDue s) u → Good (in_phase Ready s) u
+refusal_good : (s : State) (u : Meaning) → is_plain u ≡ true → has_no_effect u ≡ false → Good (in_phase ReleaseDue s) u
+    → Good (in_phase Ready s) u
 refusal_good s (RS j n w o) p e g = record { expected = refl; met = g.met }
 refusal_good s _ p e g = absurd (let a = g.expected in cc)
 
@@ -310,13 +338,17 @@ refusal_sending w octets a h =
     let listens : is_restarting w.own.session.phase ≡ false = excluded is_release_due is_restarting refl w.own.session.phase a.phase in
     let owed : is_restart_due (flushed w.peer w.own).phase ≡ false = none_owed w.owner w.own w.peer h.own listens in
     let n : SameNumbers w (NF octets) = same_numbers w (NF octets) (λ s. refl) refl listens owed h in
-    let units : (flushed w.peer w.own).units ≡ w.own.session.units = sym h.own.meeting.units ∙ end_units w.owner w.own w.peer h.own (excluded is_release_due is_opening refl w.own.session.phase a.phase) in
+    let units : (flushed w.peer w.own).units ≡ w.own.session.units = sym h.own.meeting.units
+    ∙ end_units w.owner w.own w.peer h.own (excluded is_release_due is_opening refl w.own.session.phase a.phase) in
     record {
       now = is_release_due_is w.own.session.phase a.phase;
       none = none_never w.peer.sent;
       unit = assumption;
       shows = λ s v. sym (append-nil v);
-      good = λ l i. record { expected = other_releasing w h i; met = (ap (λ (v : FunctionalUnits). v.negotiated_release) units ∙ a.selected, tt) };
+      good = λ l i. record {
+        expected = other_releasing w h i;
+        met = (ap (λ (v : FunctionalUnits). v.negotiated_release) units ∙ a.selected, tt);
+      };
       meets = λ l i. refl;
       release = λ s i r. absurd (cc);
       releasing = λ s i r. absurd (cc);
@@ -326,12 +358,16 @@ refusal_sending w octets a h =
       below = λ l k from to. h.own_counts.below (n.hears l) k from to;
       reach = h.own_counts.reach;
       other_flag = h.peer_counts.flag;
-      other_below = λ k from to. h.peer_counts.below n.heeds k (subst (λ (q : State). q.base ≤ k) (sym n.heard) from) (subst (λ (v : Numbers). k < v.confirmed) n.numbers to);
-      other_reach = λ f. subst (λ (v : Numbers). lower w.own.session.numbers.next v.confirmed ≤ w.own.session.numbers.confirmed) (sym n.numbers) (h.peer_counts.reach f);
+      other_below = λ k from to. h.peer_counts.below n.heeds k (subst (λ (q : State). q.base ≤ k) (sym n.heard) from)
+          (subst (λ (v : Numbers). k < v.confirmed) n.numbers to);
+      other_reach = λ f. subst (λ (v : Numbers). lower w.own.session.numbers.next v.confirmed ≤ w.own.session.numbers.confirmed)
+          (sym n.numbers) (h.peer_counts.reach f);
       numbered = λ p. subst (AreNumberedFrom (flushed w.own w.peer).base) (sym (append-nil w.history)) p;
-      one_way = λ d. ap (λ (b : Bool). b && list_any (needs_token data_token) w.peer.sent) (list_any_append (needs_token data_token) w.own.sent (NF octets) refl) ∙ h.pair.one_way d;
+      one_way = λ d. ap (λ (b : Bool). b && list_any (needs_token data_token) w.peer.sent)
+          (list_any_append (needs_token data_token) w.own.sent (NF octets) refl) ∙ h.pair.one_way d;
     }
 
-pub refuse_stands : (w : Core) (octets : List ℕ) → IsGranted w (ReleaseRefuse octets) → Stands w → Stands (answered w (ReleaseRefuse octets) (Ok (granted w.own.session (ReleaseRefuse octets))))
+pub refuse_stands : (w : Core) (octets : List ℕ) → IsGranted w (ReleaseRefuse octets) → Stands w
+    → Stands (answered w (ReleaseRefuse octets) (Ok (granted w.own.session (ReleaseRefuse octets))))
 refuse_stands w octets q h =
     sending_stands w refusal_shift (NF octets) [] (refusal_sending w octets (record { phase = q.phase; selected = q.needed.0 }) h) h q.kept

@@ -9,8 +9,8 @@ use Rattle.osi_machine.proofs.Vocabulary.{heard_view, data_of, Party, Core, answ
 use Rattle.osi_machine.proofs.basics.what_holds_in_each_phase.{excluded, implied_two}
 use Rattle.osi_machine.proofs.channels.a_unit_is_dropped_bad_or_acted_on.{none_due, next_acted, and_false}
 use Rattle.osi_machine.proofs.channels.what_every_unit_in_flight_keeps.{fit_append, flush_append, heard_append, view_append, data_append}
-use Rattle.osi_machine.proofs.channels.a_deaf_side_acts_on_nothing.{AllEmpty, all_empty, empty_fits, empty_end, empty_heard, empty_view}
-use Rattle.osi_machine.proofs.channels.a_deaf_side_acts_on_nothing.{deaf_end, deaf_heard, deaf_view}
+use Rattle.osi_machine.proofs.channels.a_deaf_side_acts_on_nothing.{AllEmpty, all_empty, empty_laws, empty_view, deaf_end, deaf_heard}
+use Rattle.osi_machine.proofs.channels.a_deaf_side_acts_on_nothing.{deaf_view, empty_end, empty_heard}
 use Rattle.osi_machine.proofs.channels.a_held_token_keeps_units_out.{none_held}
 use Rattle.osi_machine.proofs.invariant.what_holds_of_both_sides.{flushed, hearing, Meeting, Half, Views, Counting, Counts, IsOfProfile}
 use Rattle.osi_machine.proofs.invariant.what_holds_of_both_sides.{Pair, Stands}
@@ -30,7 +30,13 @@ abbrev answer : State → Sides → List ℕ → Meaning
 answer s a o = RA s.numbers.next (setting_of (settle s.units s.wishes a)) o
 
 abbrev answerer : Party → Sides → List ℕ → Party
-answerer x a o = record { session = confirmed x.session a; view = x.view ++ []; said = x.said ++ []; got = x.got; sent = x.sent ++ answer x.session a o ∷ [] }
+answerer x a o = record {
+  session = confirmed x.session a;
+  view = x.view ++ [];
+  said = x.said ++ [];
+  got = x.got;
+  sent = x.sent ++ answer x.session a o ∷ [];
+}
 
 -- the other, when it has taken the answer
 abbrev restarted : Core → Sides → List ℕ → State
@@ -41,7 +47,8 @@ restarted w a o = becomes (flushed w.peer w.own) (answer w.own.session a o)
 module _ (w : Core) (due : is_restart_due w.own.session.phase ≡ true) (s : Stands w) where
   none_under_way : AllEmpty w.peer.sent
   none_under_way =
-      all_empty w.own.session w.peer.sent (λ u p. none_due w.own.session.phase u due p) (excluded is_restart_due is_restarting refl w.own.session.phase due) s.own.fits
+      all_empty w.own.session w.peer.sent (λ u p. none_due w.own.session.phase u due p)
+      (excluded is_restart_due is_restarting refl w.own.session.phase due) s.own.fits
 
   own_end : flushed w.own w.peer ≡ w.own.session
   own_end = empty_end w.own.session w.peer.sent none_under_way
@@ -73,11 +80,13 @@ module _ (w : Core) (due : is_restart_due w.own.session.phase ≡ true) (s : Sta
 answer_next : (s : State) (n : ℕ) (t : TokenSetting) (o : List ℕ) → next s (RA n t o) ≡ becomes s (RA n t o)
 answer_next s n t o = next_acted s (RA n t o) (and_false (is_restarting s.phase))
 
-answer_fits : (w : Core) (a : Sides) (o : List ℕ) → is_restart_due w.own.session.phase ≡ true → Stands w → Fits (flushed w.peer w.own) (answer w.own.session a o)
+answer_fits : (w : Core) (a : Sides) (o : List ℕ) → is_restart_due w.own.session.phase ≡ true → Stands w
+    → Fits (flushed w.peer w.own) (answer w.own.session a o)
 answer_fits w a o due s = search (arith, other_waits, eq-eqb, own_end, other_units, other_wishes, settled_answers)
 
 end_after : (w : Core) (a : Sides) (o : List ℕ) → flush w.peer.session (w.own.sent ++ answer w.own.session a o ∷ []) ≡ restarted w a o
-end_after w a o = flush_append w.peer.session w.own.sent (answer w.own.session a o) ∙ answer_next (flushed w.peer w.own) w.own.session.numbers.next (setting_of (settle w.own.session.units w.own.session.wishes a)) o
+end_after w a o = flush_append w.peer.session w.own.sent (answer w.own.session a o)
+    ∙ answer_next (flushed w.peer w.own) w.own.session.numbers.next (setting_of (settle w.own.session.units w.own.session.wishes a)) o
 
 heard_after : (w : Core) (a : Sides) (o : List ℕ) → is_restart_due w.own.session.phase ≡ true → Stands w
     → heard w.peer.session (w.own.sent ++ answer w.own.session a o ∷ []) ≡ restarted w a o
@@ -96,7 +105,7 @@ will_hold w a o t due s = search (arith, other_units, asker_holds)
 
 module _ (w : Core) (a : Sides) (o : List ℕ) (due : is_restart_due w.own.session.phase ≡ true) (s : Stands w) where
   own_half : Half (settled_by (confirmed w.own.session a)) (answerer w.own a o) w.peer
-  own_half = search (arith, none_under_way, empty_fits, empty_end, empty_heard, end_after, other_units, own_end, own_held, own_wanted, own_absent, there)
+  own_half = search (arith, none_under_way, empty_laws, end_after, other_units, own_end, own_held, own_wanted, own_absent, there)
 
   peer_half : Half (turned_owners (settled_by (confirmed w.own.session a))) w.peer (answerer w.own a o)
   peer_half =
@@ -107,16 +116,21 @@ module _ (w : Core) (a : Sides) (o : List ℕ) (due : is_restart_due w.own.sessi
       let no_tokens = s.consistent.peer.sound.tokens (excluded is_restarting may_hold refl w.peer.session.phase (other_asks w due s)) in
       record {
         fits = fit_append w.peer.session w.own.sent u s.peer.fits (answer_fits w a o due s);
-        meeting = subst (λ (e : State). Meeting owners w.peer.session e (flush r w.peer.sent) (heard w.peer.session (w.own.sent ++ u ∷ [])) r) (sym (end_after w a o))
-            (subst (λ (e : State). Meeting owners w.peer.session (restarted w a o) (flush r w.peer.sent) e r) (sym (heard_after w a o due s))
-            (subst (λ (e : State). Meeting owners w.peer.session (restarted w a o) e (restarted w a o) r) (sym (empty_end r w.peer.sent none)) (record {
+        meeting = subst (λ (e : State). Meeting owners w.peer.session e (flush r w.peer.sent)
+            (heard w.peer.session (w.own.sent ++ u ∷ [])) r) (sym (end_after w a o))
+            (subst (λ (e : State). Meeting owners w.peer.session (restarted w a o) (flush r w.peer.sent) e r)
+            (sym (heard_after w a o due s))
+            (subst (λ (e : State). Meeting owners w.peer.session (restarted w a o) e (restarted w a o) r)
+            (sym (empty_end r w.peer.sent none)) (record {
               meets = refl;
               units = other_units w due s;
               base = sym s.own.meeting.base ∙ ap (λ (r : State). r.base) (own_end w due s);
               restart = λ k. absurd (cc);
               connect = λ k. absurd (cc);
-              holds = λ t. ap (λ (v : Tokens). has v t) no_tokens ∙ none_held t ∙ their_held (has (held_by w.own.session a) t) (has (available w.own.session.units) t);
-              wants = λ m t. will_hold w a o t due s ∙ their_wanted (has (held_by w.own.session a) t) (has (available w.own.session.units) t);
+              holds = λ t. ap (λ (v : Tokens). has v t) no_tokens ∙ none_held t
+                  ∙ their_held (has (held_by w.own.session a) t) (has (available w.own.session.units) t);
+              wants = λ m t. will_hold w a o t due s ∙ their_wanted (has (held_by w.own.session a) t)
+                  (has (available w.own.session.units) t);
               absent = λ t z. their_absent (has (held_by w.own.session a) t) (has (available w.own.session.units) t) (there w a t)
                   (ap (λ (v : FunctionalUnits). has (available v) t) (sym (other_units w due s)) ∙ z);
               released = λ d. absurd (cc);
@@ -131,7 +145,8 @@ module _ (w : Core) (a : Sides) (o : List ℕ) (due : is_restart_due w.own.sessi
   peer_views : Views (w.history ++ []) w.peer (answerer w.own a o)
   peer_views = record {
     ends = λ l. view_append w.peer.session w.own.sent u w.peer.view s.peer.fits (other_owes_none w due s)
-        ∙ ap (λ (b : Bool). if b then heard_view w.peer.session w.own.sent w.peer.view else heard_view w.peer.session w.own.sent w.peer.view) (and_false (is_restarting (flushed w.peer w.own).phase))
+        ∙ ap (λ (b : Bool). if b then heard_view w.peer.session w.own.sent w.peer.view else heard_view w.peer.session w.own.sent
+        w.peer.view) (and_false (is_restarting (flushed w.peer w.own).phase))
         ∙ deaf_view w.peer.session w.own.sent w.peer.view (other_waits w due s) s.peer.fits
         ∙ s.own_views.due due ∙ sym (append-nil w.history);
     cut = λ c. absurd (let e = ap (λ (q : State). is_restarting q.phase) (sym (heard_after w a o due s)) ∙ c in cc);
@@ -145,7 +160,8 @@ module _ (w : Core) (a : Sides) (o : List ℕ) (due : is_restart_due w.own.sessi
       streams : (w.peer.got ++ data_of w.own.sent ≡ w.own.said) × (w.history ≡ [])
           → (w.peer.got ++ data_of (w.own.sent ++ answer w.own.session a o ∷ []) ≡ w.own.said ++ []) × (w.history ++ [] ≡ [])
       streams old = (
-        ap (λ (d : List (List ℕ)). w.peer.got ++ d) (data_append w.own.sent (u ∷ []) ∙ append-nil (data_of w.own.sent)) ∙ old.0 ∙ sym (append-nil w.own.said),
+        ap (λ (d : List (List ℕ)). w.peer.got ++ d) (data_append w.own.sent (u ∷ []) ∙ append-nil (data_of w.own.sent)) ∙ old.0
+            ∙ sym (append-nil w.own.said),
         append-nil w.history ∙ old.1,
       )
 
@@ -157,7 +173,8 @@ module _ (w : Core) (a : Sides) (o : List ℕ) (due : is_restart_due w.own.sessi
   peer_counts : Counts w.peer (answerer w.own a o)
   peer_counts =
       let r = confirmed w.own.session a in
-      let old = subst (λ (e : State). Counting w.peer.session e (hearing w.own w.peer) w.own.session) (other_heard w due s ∙ sym (other_end w due s)) s.peer_counts in
+      let old = subst (λ (e : State). Counting w.peer.session e (hearing w.own w.peer) w.own.session)
+      (other_heard w due s ∙ sym (other_end w due s)) s.peer_counts in
       let new = subst (λ (e : State). Counting w.peer.session (flushed w.peer w.own) e w.own.session) (own_heard w due s) old in
       let listens = ap not (excluded is_restart_due is_restarting refl w.own.session.phase due) in
       subst (λ (e : State). Counting w.peer.session e (heard r w.peer.sent) r) (sym (heard_after w a o due s))
@@ -174,5 +191,7 @@ module _ (w : Core) (a : Sides) (o : List ℕ) (due : is_restart_due w.own.sessi
 
   -- ---- the call
 
-  pub restart_confirm_stands : AreConsistent (answered w (RestartConfirm a o) (Ok (record { next = confirmed w.own.session a; sent = answer w.own.session a o }))) → Stands (answered w (RestartConfirm a o) (Ok (record { next = confirmed w.own.session a; sent = answer w.own.session a o })))
+  pub restart_confirm_stands : AreConsistent (answered w (RestartConfirm a o)
+      (Ok (record { next = confirmed w.own.session a; sent = answer w.own.session a o }))) → Stands
+      (answered w (RestartConfirm a o) (Ok (record { next = confirmed w.own.session a; sent = answer w.own.session a o })))
   restart_confirm_stands c = assumption (own_half, peer_half, own_views, peer_views, own_counts, peer_counts, pair_kept)

@@ -15,9 +15,8 @@ use Rattle.osi_machine.proofs.channels.a_unit_is_dropped_bad_or_acted_on.{fit_ca
 use Rattle.osi_machine.proofs.channels.a_unit_is_dropped_bad_or_acted_on.{next_hears}
 use Rattle.osi_machine.proofs.channels.what_every_unit_in_flight_keeps.{kept_heard, heard_flush, fit_append, flush_append, due_end}
 use Rattle.osi_machine.proofs.channels.what_every_unit_in_flight_keeps.{data_append, lower_second, lower_less, lower_both, heard_turned}
-use Rattle.osi_machine.proofs.channels.a_deaf_side_acts_on_nothing.{AllEmpty, all_empty, empty_fits, empty_end, empty_heard, empty_view}
-use Rattle.osi_machine.proofs.channels.a_deaf_side_acts_on_nothing.{crossed, restart_kept, restart_next, yielded, stood, deaf_end}
-use Rattle.osi_machine.proofs.channels.a_deaf_side_acts_on_nothing.{heard_restart, view_restart}
+use Rattle.osi_machine.proofs.channels.a_deaf_side_acts_on_nothing.{AllEmpty, all_empty, empty_laws, empty_view, crossed, restart_kept}
+use Rattle.osi_machine.proofs.channels.a_deaf_side_acts_on_nothing.{restart_next, yielded, stood, deaf_end, heard_restart, view_restart}
 use Rattle.osi_machine.proofs.channels.a_held_token_keeps_units_out.{becomes_open, is_lively, Lively, becomes_lively, flush_open, none_held}
 use Rattle.osi_machine.proofs.channels.a_held_token_keeps_units_out.{heard_open}
 use Rattle.osi_machine.proofs.channels.what_a_side_will_have_seen.{begins_points, listener_count, listener_begins, Grown, heard_grown}
@@ -58,31 +57,37 @@ before s u h f st = grind (arith, not_asking, and_false)
 next_asks : (s r : State) (u : Meaning) → Asks s r → Fits s u → stops s u ≡ false → Asks (next s u) r
 next_asks s r u a f st = search (arith, excluded, fit_cases, becomes_open, becomes_lively)
 
-flow_before : (s r : State) (u : Meaning) (us : List Meaning) → Asks s r → Fits s u → stops s u ≡ false → Flow (next s u) r us → Flow s r (u ∷ us)
+flow_before : (s r : State) (u : Meaning) (us : List Meaning) → Asks s r → Fits s u → stops s u ≡ false → Flow (next s u) r us
+    → Flow s r (u ∷ us)
 flow_before s r u us a f st more = search (arith, drops_waiting, before, next_dropped, if_first)
 
 -- ---- the restart
 
-restart_kept_fits : (s r : State) (k : ResyncType) (n : ℕ) (w : TokenSetting) (o : List ℕ) → Asks s r → Fits s (RS k n w o) → Fits r (RS k n w o)
+restart_kept_fits : (s r : State) (k : ResyncType) (n : ℕ) (w : TokenSetting) (o : List ℕ) → Asks s r → Fits s (RS k n w o)
+    → Fits r (RS k n w o)
 restart_kept_fits s r k n w o a f = search (arith, restart_kept, and_parts)
 
 -- nothing comes after it
 after_due : (s : State) (us : List Meaning) → is_restart_due s.phase ≡ true → AllFit s us → AllEmpty us
 after_due s us d f = all_empty s us (λ u p. none_due s.phase u d p) (excluded is_restart_due is_restarting refl s.phase d) f
 
-flow_stop : (s r : State) (u : Meaning) (us : List Meaning) → Asks s r → Fits s u → stops s u ≡ true → AllFit (next s u) us → Flow s r (u ∷ us)
+flow_stop : (s r : State) (u : Meaning) (us : List Meaning) → Asks s r → Fits s u → stops s u ≡ true → AllFit (next s u) us
+    → Flow s r (u ∷ us)
 unfolding restarted_at
-flow_stop s r u us a f st more = search (arith, after_due, restart_due, empty_end, restart_next, stood, restart_kept_fits, empty_fits, empty_heard, empty_view, yielded, restart_kept)
+flow_stop s r u us a f st more =
+    search (arith, after_due, restart_due, empty_laws, restart_next, stood, restart_kept_fits, empty_view, yielded, restart_kept)
 
 pub restart_flow : (s r : State) (us : List Meaning) → Asks s r → AllFit s us → Flow s r us
 restart_flow s r [] a f = record { fits = tt; heard = refl; view = λ v. refl; end = inl (a.lives, refl) }
 restart_flow s r (u ∷ us) a f = by_test (stops s u)
     (λ e. flow_stop s r u us a f.0 e f.1)
-    (λ e. let more : (stops s u ≡ false → Flow (next s u) r us) = (λ e. restart_flow (next s u) r us (next_asks s r u a f.0 e) f.1) in flow_before s r u us a f.0 e (more e))
+    (λ e. let more : (stops s u ≡ false → Flow (next s u) r us) = (λ e. restart_flow (next s u) r us (next_asks s r u a f.0 e) f.1) in
+    flow_before s r u us a f.0 e (more e))
 
 -- ---- which of two restarts takes effect
 
-asked_stands : (s : State) (n : ℕ) → is_restarting s.phase ≡ true → stands s n ≡ (nat_lt n s.numbers.next || ((n == s.numbers.next) && not s.is_caller))
+asked_stands : (s : State) (n : ℕ) → is_restarting s.phase ≡ true
+    → stands s n ≡ (nat_lt n s.numbers.next || ((n == s.numbers.next) && not s.is_caller))
 unfolding stands
 asked_stands s n r = rw r refl
 
@@ -90,7 +95,8 @@ asked_stands s n r = rw r refl
 of_two : (n m : ℕ) (c : Bool) → (nat_lt m n || ((m == n) && not c)) ≡ not (nat_lt n m || ((n == m) && not (not c)))
 of_two n m c = search (arith, cases_order, le-ltb, eq-eqb, lt-ltb, ne_eqb)
 
-pub one_stands : (s r : State) (n m : ℕ) → is_restarting s.phase ≡ true → is_restarting r.phase ≡ true → s.numbers.next ≡ n → r.numbers.next ≡ m
+pub one_stands : (s r : State) (n m : ℕ) → is_restarting s.phase ≡ true → is_restarting r.phase ≡ true → s.numbers.next ≡ n
+    → r.numbers.next ≡ m
     → r.is_caller ≡ not s.is_caller → stands s m ≡ not (stands r n)
 one_stands s r n m a b e f c = grind (arith, asked_stands, of_two)
 
@@ -105,9 +111,11 @@ pub record Met (a b : State) : Type 0 where
   pub other_connect : is_connecting b.phase ≡ false
 
 turn_met : (a b : State) → Met a b → Met b a
-turn_met a b m = record { meets = m.turned; turned = m.meets; restart = m.back; back = m.restart; connect = m.other_connect; other_connect = m.connect }
+turn_met a b m =
+    record { meets = m.turned; turned = m.meets; restart = m.back; back = m.restart; connect = m.other_connect; other_connect = m.connect }
 
-meets_one : (a b : State) (n : ℕ) (w : TokenSetting) → is_restarting a.phase ≡ true → a.numbers.next ≡ n → a.wishes ≡ w → stands b n ≡ true → Met a (crossed b n w)
+meets_one : (a b : State) (n : ℕ) (w : TokenSetting) → is_restarting a.phase ≡ true → a.numbers.next ≡ n → a.wishes ≡ w → stands b n ≡ true
+    → Met a (crossed b n w)
 unfolding restarted_at
 meets_one a b n w r e f st = subst (Met a) (sym (stood b n w st)) (grind (arith, matched))
 
@@ -145,7 +153,8 @@ given_absent p h = grind arith
 pub given_theirs : (p : Owner) → is_own (turned_owner p) ≡ is_own (turned_owner (own_to_pool p))
 given_theirs p = grind arith
 
-given_wanted : (p : Owner) → (is_own (turned_owner p) || is_to_own (turned_owner p)) ≡ (is_own (turned_owner (own_to_pool p)) || is_to_own (turned_owner (own_to_pool p)))
+given_wanted : (p : Owner) → (is_own (turned_owner p) || is_to_own (turned_owner p))
+    ≡ (is_own (turned_owner (own_to_pool p)) || is_to_own (turned_owner (own_to_pool p)))
 given_wanted p = grind arith
 
 -- what the restart leaves of the history is what it leaves of what was seen
@@ -187,7 +196,8 @@ module _ (w : Core) (n : ℕ) (t : TokenSetting) (o : List ℕ) (q : Restarts w 
 
   pub flows : Flow w.own.session (asked w.own.session n t) w.peer.sent
   flows = restart_flow w.own.session (asked w.own.session n t) w.peer.sent
-      (record { lives = implied may_restart is_lively refl w.own.session.phase q.phase; asked = refl; units = refl; base = refl }) s.own.fits
+      (record { lives = implied may_restart is_lively refl w.own.session.phase q.phase; asked = refl; units = refl; base = refl })
+      s.own.fits
 
   -- the other side will owe it no answer
   pub not_due : is_restart_due fy.phase ≡ false
@@ -283,8 +293,10 @@ module _ (w : Core) (n : ℕ) (t : TokenSetting) (o : List ℕ) (q : Restarts w 
       let met : Met end (crossed fy n t) = ends_meet in
       record {
         fits = flow.fits;
-        meeting = subst (λ (e : State). Meeting (given_up w.owner) (asked w.own.session n t) end e (heard (asked w.own.session n t) w.peer.sent) w.peer.session) (sym other_end)
-            (subst (λ (e : State). Meeting (given_up w.owner) (asked w.own.session n t) end (crossed fy n t) e w.peer.session) (sym flow.heard) (record {
+        meeting = subst (λ (e : State). Meeting (given_up w.owner) (asked w.own.session n t) end e
+            (heard (asked w.own.session n t) w.peer.sent) w.peer.session) (sym other_end)
+            (subst (λ (e : State). Meeting (given_up w.owner) (asked w.own.session n t) end (crossed fy n t) e w.peer.session)
+            (sym flow.heard) (record {
               meets = met.meets;
               units = own_units ∙ sym (crossed_units fy n t ∙ other_units);
               base = own_base ∙ sym (crossed_base fy n t ∙ other_base);
@@ -308,8 +320,10 @@ module _ (w : Core) (n : ℕ) (t : TokenSetting) (o : List ℕ) (q : Restarts w 
       let met : Met end (crossed fy n t) = ends_meet in
       record {
         fits = fit_append w.peer.session w.own.sent (RS resync.Restart n t o) s.peer.fits restart_fits;
-        meeting = subst (λ (e : State). Meeting (turned_owners (given_up w.owner)) w.peer.session e end (heard w.peer.session (w.own.sent ++ RS resync.Restart n t o ∷ [])) (asked w.own.session n t)) (sym other_end)
-            (subst (λ (e : State). Meeting (turned_owners (given_up w.owner)) w.peer.session (crossed fy n t) end e (asked w.own.session n t)) (sym other_before) (record {
+        meeting = subst (λ (e : State). Meeting (turned_owners (given_up w.owner)) w.peer.session e end
+            (heard w.peer.session (w.own.sent ++ RS resync.Restart n t o ∷ [])) (asked w.own.session n t)) (sym other_end)
+            (subst (λ (e : State). Meeting (turned_owners (given_up w.owner)) w.peer.session (crossed fy n t) end e
+            (asked w.own.session n t)) (sym other_before) (record {
               meets = met.turned;
               units = sym (own_units ∙ sym (crossed_units fy n t ∙ other_units));
               base = sym (own_base ∙ sym (crossed_base fy n t ∙ other_base));
@@ -353,12 +367,14 @@ module _ (w : Core) (n : ℕ) (t : TokenSetting) (o : List ℕ) (q : Restarts w 
   }
     where
       duplex : (flush w.peer.session (w.own.sent ++ RS resync.Restart n t o ∷ [])).units.duplex ≡ true → fy.units.duplex ≡ true
-      duplex d = ap (λ (u : FunctionalUnits). u.duplex) (sym (crossed_units fy n t)) ∙ ap (λ (r : State). r.units.duplex) (sym other_end) ∙ d
+      duplex d = ap (λ (u : FunctionalUnits). u.duplex) (sym (crossed_units fy n t)) ∙ ap (λ (r : State). r.units.duplex) (sym other_end)
+          ∙ d
 
       streams : (w.peer.got ++ data_of w.own.sent ≡ w.own.said) × (w.history ≡ [])
           → (w.peer.got ++ data_of (w.own.sent ++ RS resync.Restart n t o ∷ []) ≡ w.own.said ++ []) × (w.history ++ [] ≡ [])
       streams old = (
-        ap (λ (d : List (List ℕ)). w.peer.got ++ d) (data_append w.own.sent (RS resync.Restart n t o ∷ []) ∙ append-nil (data_of w.own.sent)) ∙ old.0 ∙ sym (append-nil w.own.said),
+        ap (λ (d : List (List ℕ)). w.peer.got ++ d) (data_append w.own.sent (RS resync.Restart n t o ∷ [])
+            ∙ append-nil (data_of w.own.sent)) ∙ old.0 ∙ sym (append-nil w.own.said),
         append-nil w.history ∙ old.1,
       )
 
@@ -372,7 +388,8 @@ module _ (w : Core) (n : ℕ) (t : TokenSetting) (o : List ℕ) (q : Restarts w 
   own_counts : Counts asks w.peer
   unfolding restarted_at
   own_counts =
-      subst (λ (e : State). Counting (asked w.own.session n t) e (heard w.peer.session (w.own.sent ++ RS resync.Restart n t o ∷ [])) w.peer.session) (sym flows.heard)
+      subst (λ (e : State). Counting (asked w.own.session n t) e
+      (heard w.peer.session (w.own.sent ++ RS resync.Restart n t o ∷ [])) w.peer.session) (sym flows.heard)
       (subst (λ (e : State). Counting (asked w.own.session n t) (asked w.own.session n t) e w.peer.session) (sym other_before) (record {
         flag = s.own_counts.flag;
         below = λ l k from to.
@@ -389,10 +406,12 @@ module _ (w : Core) (n : ℕ) (t : TokenSetting) (o : List ℕ) (q : Restarts w 
   peer_counts : Counts w.peer asks
   unfolding restarted_at
   peer_counts =
-      subst (λ (e : State). Counting w.peer.session e (heard (asked w.own.session n t) w.peer.sent) (asked w.own.session n t)) (sym other_before)
+      subst (λ (e : State). Counting w.peer.session e (heard (asked w.own.session n t) w.peer.sent) (asked w.own.session n t))
+      (sym other_before)
       (subst (λ (e : State). Counting w.peer.session (hearing w.peer w.own) e (asked w.own.session n t)) (sym flows.heard) (record {
         flag = λ f. by_test (w.own.session.numbers.answers)
-            (λ e. let f : (hearing w.own w.peer).numbers.answers ≡ false = (s.peer_counts.flag f) in absurd (let k = (heard_turned w.own.session w.peer.sent (record { phase = begun; answers = e }) s.own.fits).answers in cc))
+            (λ e. let f : (hearing w.own w.peer).numbers.answers ≡ false = (s.peer_counts.flag f) in
+            absurd (let k = (heard_turned w.own.session w.peer.sent (record { phase = begun; answers = e }) s.own.fits).answers in cc))
             (λ e. e);
         below = λ l. absurd (cc);
         reach = λ f. lower_both n w.own.session.numbers.next _ w.own.session.numbers.confirmed q.top (s.peer_counts.reach f);
@@ -409,8 +428,16 @@ module _ (w : Core) (n : ℕ) (t : TokenSetting) (o : List ℕ) (q : Restarts w 
 -- ---- the call
 
 all_kept : (w : Core) (n : ℕ) (wishes : TokenSetting) (o : List ℕ) → Restarts w n → Stands w
-    → AreConsistent (answered w (Restart n wishes o) (Ok (record { next = asked w.own.session n (offered w.own.session.units wishes); sent = RS resync.Restart n (offered w.own.session.units wishes) o })))
-    → Stands (answered w (Restart n wishes o) (Ok (record { next = asked w.own.session n (offered w.own.session.units wishes); sent = RS resync.Restart n (offered w.own.session.units wishes) o })))
+    → AreConsistent (answered w (Restart n wishes o)
+    (Ok (record {
+      next = asked w.own.session n (offered w.own.session.units wishes);
+      sent = RS resync.Restart n (offered w.own.session.units wishes) o;
+    })))
+    → Stands (answered w (Restart n wishes o) (Ok
+    (record {
+      next = asked w.own.session n (offered w.own.session.units wishes);
+      sent = RS resync.Restart n (offered w.own.session.units wishes) o;
+    })))
 all_kept w n wishes o q s c = search (arith, own_half, peer_half, own_views, peer_views, own_counts, peer_counts, pair_kept)
 
 pub in_range : (s : State) (n : ℕ) → IsSound s → is_restartable s n ≡ true → (s.base ≤ n) × (n ≤ s.numbers.next)

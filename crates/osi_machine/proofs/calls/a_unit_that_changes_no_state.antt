@@ -28,7 +28,8 @@ IsIdle m = (s : State) → becomes s m ≡ s
 pub flush_idle : (m : Meaning) → IsIdle m → (s : State) (us : List Meaning) → flush s (us ++ m ∷ []) ≡ flush s us
 flush_idle m idle s us = flush_append s us m ∙ next_cases (λ r. r ≡ (flush s us)) (flush s us) m (λ d. refl) (λ d. idle (flush s us))
 
-pub heard_idle : (m : Meaning) → IsIdle m → (s : State) (us : List Meaning) → AllFit s us → AllFit s (us ++ m ∷ []) → heard s (us ++ m ∷ []) ≡ heard s us
+pub heard_idle : (m : Meaning) → IsIdle m → (s : State) (us : List Meaning) → AllFit s us → AllFit s (us ++ m ∷ [])
+    → heard s (us ++ m ∷ []) ≡ heard s us
 heard_idle m idle s us f more = search (arith, heard_append_due, heard_append, if_first, next_cases, heard_flush)
 
 -- ---- the two halves after such a call
@@ -36,17 +37,21 @@ heard_idle m idle s us f more = search (arith, heard_append_due, heard_append, i
 abbrev pub sending : Party → Meaning → List Item → List (List ℕ) → Party
 sending x m v said = record { session = x.session; view = v; said = said; got = x.got; sent = x.sent ++ m ∷ [] }
 
-pub own_half : (o : Owners) (x y : Party) (m : Meaning) (v : List Item) (said : List (List ℕ)) → IsIdle m → Half o x y → Half o (sending x m v said) y
+pub own_half : (o : Owners) (x y : Party) (m : Meaning) (v : List Item) (said : List (List ℕ)) → IsIdle m → Half o x y
+    → Half o (sending x m v said) y
 own_half o x y m v said idle h = search (arith, flush_idle)
 
-pub peer_half : (o : Owners) (x y : Party) (m : Meaning) (v : List Item) (said : List (List ℕ)) → IsIdle m → Fits (flushed y x) m → Half o y x → Half o y (sending x m v said)
+pub peer_half : (o : Owners) (x y : Party) (m : Meaning) (v : List Item) (said : List (List ℕ)) → IsIdle m → Fits (flushed y x) m
+    → Half o y x → Half o y (sending x m v said)
 peer_half o x y m v said idle f h = search (arith, fit_append, flush_idle, heard_idle)
 
-pub own_counts : (x y : Party) (m : Meaning) (v : List Item) (said : List (List ℕ)) → IsIdle m → AllFit y.session x.sent → AllFit y.session (x.sent ++ m ∷ []) → Counts x y → Counts (sending x m v said) y
+pub own_counts : (x y : Party) (m : Meaning) (v : List Item) (said : List (List ℕ)) → IsIdle m → AllFit y.session x.sent
+    → AllFit y.session (x.sent ++ m ∷ []) → Counts x y → Counts (sending x m v said) y
 own_counts x y m v said idle f more h =
     subst (λ (r : State). Counting x.session (hearing x y) r y.session) (sym (heard_idle m idle y.session x.sent f more)) h
 
-pub peer_counts : (x y : Party) (m : Meaning) (v : List Item) (said : List (List ℕ)) → IsIdle m → AllFit y.session x.sent → AllFit y.session (x.sent ++ m ∷ []) → Counts y x → Counts y (sending x m v said)
+pub peer_counts : (x y : Party) (m : Meaning) (v : List Item) (said : List (List ℕ)) → IsIdle m → AllFit y.session x.sent
+    → AllFit y.session (x.sent ++ m ∷ []) → Counts y x → Counts y (sending x m v said)
 peer_counts x y m v said idle f more h =
     subst (λ (r : State). Counting y.session r (hearing x y) x.session) (sym (heard_idle m idle y.session x.sent f more)) h
 
@@ -68,7 +73,8 @@ pub end_units : (o : Owners) (x y : Party) → Half o x y → is_opening x.sessi
 end_units o x y h p = (flush_open x.session y.sent p h.fits).units
 
 -- the other side will not hold it
-pub other_lacks : (o : Owners) (x y : Party) (t : Token) → Half o x y → Half (turned_owners o) y x → is_opening x.session.phase ≡ false → HasRight x.session t
+pub other_lacks : (o : Owners) (x y : Party) (t : Token) → Half o x y → Half (turned_owners o) y x → is_opening x.session.phase ≡ false
+    → HasRight x.session t
     → is_restart_due (flushed y x).phase ≡ false → may_hold (flushed y x).phase ≡ true → has (flushed y x).held t ≡ false
 other_lacks o x y t h k p right due hold =
     let same = heard_flush y.session x.sent k.fits due in
@@ -81,7 +87,8 @@ other_lacks o x y t h k p right due hold =
 
 -- ---- Data
 
-talks : (o : Owners) (x y : Party) → Half o x y → IsOfProfile (flushed x y).units → is_ready x.session.phase ≡ true → HasRight x.session data_token → Talks x.session
+talks : (o : Owners) (x y : Party) → Half o x y → IsOfProfile (flushed x y).units → is_ready x.session.phase ≡ true
+    → HasRight x.session data_token → Talks x.session
 unfolding available
 talks o x y h p ready right = record { phase = implied is_ready is_talking refl x.session.phase ready; right = by right }
   where
@@ -94,7 +101,8 @@ talks o x y h p ready right = record { phase = implied is_ready is_talking refl 
         let q = subst IsOfProfile same p in
         inr (q.alone (q.duplex ∙ ap not e)).1
 
-pub other_takes_data : (o : Owners) (x y : Party) → Half o x y → IsOfProfile (flushed x y).units → is_ready x.session.phase ≡ true → HasRight x.session data_token
+pub other_takes_data : (o : Owners) (x y : Party) → Half o x y → IsOfProfile (flushed x y).units → is_ready x.session.phase ≡ true
+    → HasRight x.session data_token
     → is_restarting (flushed y x).phase ≡ false → takes_data (flushed y x).phase ≡ true
 other_takes_data o x y h p ready right listens =
     elim (ends_talking x.session y.sent (talks o x y h p ready right) h.fits) [
@@ -160,14 +168,16 @@ pub own_views : (h h' : List Item) (x y : Party) (m : Meaning) (v : List Item) (
     → ((flushed x y).units.duplex ≡ true → h' ≡ []) → Views h x y → Views h' (sending x m v said) y
 own_views h h' x y m v said idle f asked due seen none k = record {
   ends = seen;
-  cut = λ r. absurd (let w = kept_heard (λ (s : State). hears s.phase ≡ true) (λ s u p q. next_hears s u p) x.session y.sent (ap not asked) f in not_both _ w r);
+  cut = λ r. absurd (let w = kept_heard (λ (s : State). hears s.phase ≡ true) (λ s u p q. next_hears s u p) x.session y.sent
+      (ap not asked) f in not_both _ w r);
   due = λ r. absurd (cc);
   stream = λ d. ((k.stream d).0, none d);
 }
 
 -- ---- a unit that shows nothing
 
-pub view_idle : (m : Meaning) → ((s : State) (v : List Item) → seen s m v ≡ v) → (s : State) (us : List Meaning) (v : List Item) → AllFit s us → AllFit s (us ++ m ∷ [])
+pub view_idle : (m : Meaning) → ((s : State) (v : List Item) → seen s m v ≡ v) → (s : State) (us : List Meaning) (v : List Item)
+    → AllFit s us → AllFit s (us ++ m ∷ [])
     → heard_view s (us ++ m ∷ []) v ≡ heard_view s us v
 view_idle m none s us v f more = search (arith, view_append_due, view_append, if_first)
 
@@ -187,7 +197,8 @@ pub said_seen : (b : Bool) (h : List Item) (i : Item) → (if b then h else h ++
 said_seen true h i = sym (append-nil h)
 said_seen false h i = refl
 
-numbered_octets : (d : Bool) (b : ℕ) (h : List Item) (octets : List ℕ) → AreNumberedFrom b h → AreNumberedFrom b (h ++ (if d then [] else Octets octets ∷ []))
+numbered_octets : (d : Bool) (b : ℕ) (h : List Item) (octets : List ℕ) → AreNumberedFrom b h
+    → AreNumberedFrom b (h ++ (if d then [] else Octets octets ∷ []))
 numbered_octets true b [] octets a = tt
 numbered_octets false b [] octets a = tt
 numbered_octets d b (Octets o ∷ h) octets a = numbered_octets d b h octets a
@@ -210,14 +221,17 @@ some_spoken b said octets e = rw e refl
 listens_of : (x : Party) → is_ready x.session.phase ≡ true → is_restarting x.session.phase ≡ false
 listens_of x ready = excluded is_ready is_restarting refl x.session.phase ready
 
-own_sees : (h : List Item) (x y : Party) (octets : List ℕ) → AllFit x.session y.sent → IsOfProfile x.session.units → is_ready x.session.phase ≡ true → HasRight x.session data_token
-    → Views h x y → hears (hearing x y).phase ≡ true → heard_view x.session y.sent (x.view ++ added x.session octets) ≡ h ++ added x.session octets
+own_sees : (h : List Item) (x y : Party) (octets : List ℕ) → AllFit x.session y.sent → IsOfProfile x.session.units
+    → is_ready x.session.phase ≡ true → HasRight x.session data_token
+    → Views h x y → hears (hearing x y).phase ≡ true
+    → heard_view x.session y.sent (x.view ++ added x.session octets) ≡ h ++ added x.session octets
 unfolding available
 own_sees h x y octets f p ready h7 k listens = search (arith, implied, nothing_to_see, append-nil)
 
 -- ---- what the other sees
 
-peer_sees : (o : Owners) (h : List Item) (x y : Party) (octets : List ℕ) → Half o x y → Half (turned_owners o) y x → is_ready x.session.phase ≡ true
+peer_sees : (o : Owners) (h : List Item) (x y : Party) (octets : List ℕ) → Half o x y → Half (turned_owners o) y x
+    → is_ready x.session.phase ≡ true
     → AllFit y.session (x.sent ++ DT octets ∷ []) → Views h y x → hears (heard y.session (x.sent ++ DT octets ∷ [])).phase ≡ true
     → heard_view y.session (x.sent ++ DT octets ∷ []) y.view ≡ h ++ added x.session octets
 peer_sees o h x y octets a b ready more k listens =
@@ -228,15 +242,21 @@ peer_sees o h x y octets a b ready more k listens =
     let heeding : is_restarting (flushed y x).phase ≡ false = not-true _ (subst (λ (r : State). hears r.phase ≡ true) end heeds) in
     let kept : drops (flushed y x) (DT octets) ≡ false = rw heeding refl in
     let one = view_append y.session x.sent (DT octets) y.view b.fits owed in
-    let two : view_next (flushed y x) (DT octets) (heard_view y.session x.sent y.view) ≡ seen (flushed y x) (DT octets) (heard_view y.session x.sent y.view) =
-    ap (λ (d : Bool). if d then heard_view y.session x.sent y.view else seen (flushed y x) (DT octets) (heard_view y.session x.sent y.view)) kept in
-    let units : (flushed y x).units ≡ x.session.units = sym a.meeting.units ∙ end_units o x y a (excluded is_ready is_opening refl x.session.phase ready) in
-    let three : seen (flushed y x) (DT octets) (heard_view y.session x.sent y.view) ≡ (if x.session.units.duplex then h else h ++ Octets octets ∷ []) =
-    ap (λ (u : FunctionalUnits). if u.duplex then heard_view y.session x.sent y.view else heard_view y.session x.sent y.view ++ Octets octets ∷ []) units
+    let two : view_next (flushed y x) (DT octets) (heard_view y.session x.sent y.view) ≡ seen (flushed y x) (DT octets)
+    (heard_view y.session x.sent y.view) =
+    ap (λ (d : Bool). if d then heard_view y.session x.sent y.view else seen (flushed y x) (DT octets) (heard_view y.session x.sent y.view))
+    kept in
+    let units : (flushed y x).units ≡ x.session.units = sym a.meeting.units
+    ∙ end_units o x y a (excluded is_ready is_opening refl x.session.phase ready) in
+    let three : seen (flushed y x) (DT octets) (heard_view y.session x.sent y.view)
+    ≡ (if x.session.units.duplex then h else h ++ Octets octets ∷ []) =
+    ap (λ (u : FunctionalUnits). if u.duplex then heard_view y.session x.sent y.view else heard_view y.session x.sent y.view ++ Octets
+    octets ∷ []) units
     ∙ ap (λ (v : List Item). if x.session.units.duplex then v else v ++ Octets octets ∷ []) (k.ends heeds) in
     one ∙ two ∙ three ∙ said_seen x.session.units.duplex h (Octets octets)
 
-peer_views : (o : Owners) (h : List Item) (x y : Party) (octets : List ℕ) → Half o x y → Half (turned_owners o) y x → is_ready x.session.phase ≡ true
+peer_views : (o : Owners) (h : List Item) (x y : Party) (octets : List ℕ) → Half o x y → Half (turned_owners o) y x
+    → is_ready x.session.phase ≡ true
     → IsConsistent y → AllFit y.session (x.sent ++ DT octets ∷ []) → Views h y x
     → Views (h ++ added x.session octets) y (sending x (DT octets) (x.view ++ added x.session octets) (x.said ++ spoken x.session octets))
 peer_views o h x y octets a b ready c more k = record {
@@ -258,7 +278,8 @@ peer_views o h x y octets a b ready c more k = record {
     was : is_restarting (hearing y x).phase ≡ true → y.view ≡ cutat y.session.base (h ++ added x.session octets) y.session.numbers.next
     was r = k.cut r ∙ sym (cut_append y.session.base y.session.numbers.next h (added x.session octets) y.view (k.cut r) c.count)
 
-    streams : x.session.units.duplex ≡ true → (y.got ++ data_of (x.sent ++ DT octets ∷ []) ≡ x.said ++ spoken x.session octets) × (h ++ added x.session octets ≡ [])
+    streams : x.session.units.duplex ≡ true → (y.got ++ data_of (x.sent ++ DT octets ∷ []) ≡ x.said ++ spoken x.session octets)
+        × (h ++ added x.session octets ≡ [])
     streams d =
         let old = k.stream (ap (λ (u : FunctionalUnits). u.duplex) units ∙ d) in
         let one : y.got ++ data_of (x.sent ++ DT octets ∷ []) ≡ y.got ++ (data_of x.sent ++ octets ∷ []) =
@@ -273,13 +294,17 @@ half_of : (u : FunctionalUnits) → has (available u) data_token ≡ false → u
 unfolding available
 half_of u e d = cc
 
-pair_kept : (o : Owners) (h : List Item) (x y : Party) (octets : List ℕ) → Half o x y → is_ready x.session.phase ≡ true → HasRight x.session data_token → Pair h x y
+pair_kept : (o : Owners) (h : List Item) (x y : Party) (octets : List ℕ) → Half o x y → is_ready x.session.phase ≡ true
+    → HasRight x.session data_token → Pair h x y
     → Pair (h ++ added x.session octets) (sending x (DT octets) (x.view ++ added x.session octets) (x.said ++ spoken x.session octets)) y
 pair_kept o h x y octets a ready right p = record {
   numbered = numbered_octets x.session.units.duplex (flushed x y).base h octets p.numbered;
   one_way = λ d. by_either right
-      (λ held. and_right _ _ (none_needs data_token x.session y.sent (record { held = held; phase = implied is_ready may_hold refl x.session.phase ready }) a.fits))
-      (λ none. absurd (half_of x.session.units none (sym (ap (λ (u : FunctionalUnits). u.half_duplex) (end_units o x y a (excluded is_ready is_opening refl x.session.phase ready))) ∙ d)));
+      (λ held. and_right _ _ (none_needs data_token x.session y.sent
+      (record { held = held; phase = implied is_ready may_hold refl x.session.phase ready }) a.fits))
+      (λ none. absurd (half_of x.session.units none
+      (sym (ap (λ (u : FunctionalUnits). u.half_duplex) (end_units o x y a (excluded is_ready is_opening refl x.session.phase ready)))
+      ∙ d)));
   callers = p.callers;
   profile = p.profile;
 }
@@ -307,7 +332,8 @@ data_stands w octets ready has h c =
       own_views = own_views w.history (w.history ++ added x.session octets) x y (DT octets) v said (idle octets) h.own.fits
           (listens_of x ready) (excluded is_ready is_restart_due refl x.session.phase ready)
           (own_sees w.history x y octets h.own.fits p ready right h.own_views)
-          (λ d. none_added x.session.units.duplex w.history (Octets octets) (sym (ap (λ (u : FunctionalUnits). u.duplex) units) ∙ d) (h.own_views.stream d).1)
+          (λ d. none_added x.session.units.duplex w.history (Octets octets) (sym (ap (λ (u : FunctionalUnits). u.duplex) units) ∙ d)
+          (h.own_views.stream d).1)
           h.own_views;
       peer_views = peer_views w.owner w.history x y octets h.own h.peer ready h.consistent.peer more h.peer_views;
       own_counts = own_counts x y (DT octets) v said (idle octets) h.peer.fits more h.own_counts;
@@ -321,25 +347,32 @@ please_idle tokens octets s = refl
 please_own_views : (h : List Item) (x y : Party) (m : Meaning) → Views h x y → Views (h ++ []) (sending x m (x.view ++ []) (x.said ++ [])) y
 please_own_views h x y m k = search append-nil
 
-please_peer_views : (h : List Item) (x y : Party) (tokens : Tokens) (octets : List ℕ) → AllFit y.session x.sent → AllFit y.session (x.sent ++ PT tokens octets ∷ [])
+please_peer_views : (h : List Item) (x y : Party) (tokens : Tokens) (octets : List ℕ) → AllFit y.session x.sent
+    → AllFit y.session (x.sent ++ PT tokens octets ∷ [])
     → Views h y x → Views (h ++ []) y (sending x (PT tokens octets) (x.view ++ []) (x.said ++ []))
 please_peer_views h x y tokens octets f more k = record {
-  ends = λ l. view_idle (PT tokens octets) (λ s v. refl) y.session x.sent y.view f more ∙ k.ends (subst (λ (q : State). hears q.phase ≡ true) same l) ∙ sym (append-nil h);
-  cut = λ r. k.cut (subst (λ (q : State). is_restarting q.phase ≡ true) same r) ∙ ap (λ (w : List Item). cutat y.session.base w y.session.numbers.next) (sym (append-nil h));
+  ends = λ l. view_idle (PT tokens octets) (λ s v. refl) y.session x.sent y.view f more
+      ∙ k.ends (subst (λ (q : State). hears q.phase ≡ true) same l) ∙ sym (append-nil h);
+  cut = λ r. k.cut (subst (λ (q : State). is_restarting q.phase ≡ true) same r)
+      ∙ ap (λ (w : List Item). cutat y.session.base w y.session.numbers.next) (sym (append-nil h));
   due = λ d. ap (λ (r : List Item). r ++ []) (k.due d);
-  stream = λ d. streams (k.stream (ap (λ (q : State). q.units.duplex) (sym (flush_idle (PT tokens octets) (please_idle tokens octets) y.session x.sent)) ∙ d));
+  stream = λ d. streams (k.stream (ap (λ (q : State). q.units.duplex)
+      (sym (flush_idle (PT tokens octets) (please_idle tokens octets) y.session x.sent)) ∙ d));
 }
   where
     same : heard y.session (x.sent ++ PT tokens octets ∷ []) ≡ heard y.session x.sent
     same = heard_idle (PT tokens octets) (please_idle tokens octets) y.session x.sent f more
 
-    streams : (y.got ++ data_of x.sent ≡ x.said) × (h ≡ []) → (y.got ++ data_of (x.sent ++ PT tokens octets ∷ []) ≡ x.said ++ []) × (h ++ [] ≡ [])
+    streams : (y.got ++ data_of x.sent ≡ x.said) × (h ≡ [])
+        → (y.got ++ data_of (x.sent ++ PT tokens octets ∷ []) ≡ x.said ++ []) × (h ++ [] ≡ [])
     streams old = (
-      ap (λ (r : List (List ℕ)). y.got ++ r) (data_append x.sent (PT tokens octets ∷ []) ∙ append-nil (data_of x.sent)) ∙ old.0 ∙ sym (append-nil x.said),
+      ap (λ (r : List (List ℕ)). y.got ++ r) (data_append x.sent (PT tokens octets ∷ []) ∙ append-nil (data_of x.sent)) ∙ old.0
+          ∙ sym (append-nil x.said),
       append-nil h ∙ old.1,
     )
 
-pub please_stands : (w : Core) (tokens : Tokens) (octets : List ℕ) → may_ask w.own.session.phase ≡ true → is_within tokens (available w.own.session.units) ≡ true → Stands w
+pub please_stands : (w : Core) (tokens : Tokens) (octets : List ℕ) → may_ask w.own.session.phase ≡ true
+    → is_within tokens (available w.own.session.units) ≡ true → Stands w
     → AreConsistent (answered w (Please tokens octets) (Ok (record { next = w.own.session; sent = PT tokens octets })))
     → Stands (answered w (Please tokens octets) (Ok (record { next = w.own.session; sent = PT tokens octets })))
 please_stands w tokens octets asks within h c =
@@ -358,7 +391,8 @@ please_stands w tokens octets asks within h c =
       peer_counts = peer_counts x y m (x.view ++ []) (x.said ++ []) (please_idle tokens octets) h.peer.fits more h.peer_counts;
       pair = record {
         numbered = subst (AreNumberedFrom (flushed x y).base) (sym (append-nil w.history)) h.pair.numbered;
-        one_way = λ d. ap (λ (b : Bool). b && list_any (needs_token data_token) y.sent) (list_any_append (needs_token data_token) x.sent (PT tokens octets) refl) ∙ h.pair.one_way d;
+        one_way = λ d. ap (λ (b : Bool). b && list_any (needs_token data_token) y.sent)
+            (list_any_append (needs_token data_token) x.sent (PT tokens octets) refl) ∙ h.pair.one_way d;
         callers = h.pair.callers;
         profile = h.pair.profile;
       };

@@ -17,8 +17,8 @@ use Rattle.osi_machine.proofs.Vocabulary.{heard, hears, heard_view, data_of, Par
 use Rattle.osi_machine.proofs.basics.what_holds_in_each_phase.{implied, excluded, implied_two, if_first}
 use Rattle.osi_machine.proofs.channels.a_unit_is_dropped_bad_or_acted_on.{next_acted}
 use Rattle.osi_machine.proofs.channels.what_every_unit_in_flight_keeps.{fit_append, flush_append, heard_append, view_append, data_append}
-use Rattle.osi_machine.proofs.channels.a_deaf_side_acts_on_nothing.{AllEmpty, all_empty, empty_fits, empty_end, empty_heard, empty_view}
-use Rattle.osi_machine.proofs.channels.a_deaf_side_acts_on_nothing.{none_answering, waiting}
+use Rattle.osi_machine.proofs.channels.a_deaf_side_acts_on_nothing.{AllEmpty, all_empty, empty_laws, empty_view, none_answering, waiting}
+use Rattle.osi_machine.proofs.channels.a_deaf_side_acts_on_nothing.{empty_end, empty_heard}
 use Rattle.osi_machine.proofs.channels.a_held_token_keeps_units_out.{has_set, none_held}
 use Rattle.osi_machine.proofs.invariant.what_holds_of_both_sides.{flushed, hearing, Meeting, Half, Views, Counts, IsOfProfile, Pair, Stands}
 use Rattle.osi_machine.proofs.invariant.what_holds_of_both_sides.{profile_of, profile_data, within_duplex, within_half, within_both}
@@ -31,7 +31,8 @@ use Rattle.osi_machine.proofs.calls.a_unit_that_changes_no_state.{list_any_appen
 side_by : (f : Token → Side) (t : Token) → side_for (sides_by f) t ≡ f t
 side_by f t = grind arith
 
-settle_side : (u : FunctionalUnits) (w : TokenSetting) (a : Sides) (t : Token) → side_for (settle u w a) t ≡ settled (has (available u) t) (wish_for w t) (side_for a t)
+settle_side : (u : FunctionalUnits) (w : TokenSetting) (a : Sides) (t : Token)
+    → side_for (settle u w a) t ≡ settled (has (available u) t) (wish_for w t) (side_for a t)
 unfolding settle
 settle_side u w a t = side_by (λ t. settled (has (available u) t) (wish_for w t) (side_for a t)) t
 
@@ -42,7 +43,8 @@ setting_wish s t = grind arith
 named : (b : Bool) (w : Wish) (s : Side) → stated_side b (wish_of (settled b w s)) ≡ settled b w s
 named b w s = grind arith
 
-stated_settled : (u : FunctionalUnits) (w : TokenSetting) (a : Sides) (t : Token) → side_for (stated u (setting_of (settle u w a))) t ≡ side_for (settle u w a) t
+stated_settled : (u : FunctionalUnits) (w : TokenSetting) (a : Sides) (t : Token)
+    → side_for (stated u (setting_of (settle u w a))) t ≡ side_for (settle u w a) t
 unfolding stated
 stated_settled u w a t = grind (arith, side_by, setting_wish, settle_side, named)
 
@@ -59,7 +61,8 @@ settled_answers u w a = search (arith, each_of, setting_wish, settle_side, one_a
 
 -- ---- the tokens of either side
 
-answerer_has : (u : FunctionalUnits) (s : Sides) (t : Token) → has (of_answerer u s) t ≡ (has (available u) t && not (is_asker (side_for s t)))
+answerer_has : (u : FunctionalUnits) (s : Sides) (t : Token)
+    → has (of_answerer u s) t ≡ (has (available u) t && not (is_asker (side_for s t)))
 unfolding of_answerer
 answerer_has u s t = has_set (λ t. has (available u) t && not (is_asker (side_for s t))) t
 
@@ -119,7 +122,8 @@ abbrev accepting : State → ℕ → ℕ → Sides → TsduMaximumSize → State
 accepting s u n a z = opened_with (functional_units u) (held_by s u a) (base_for (functional_units u) n) (answered_sizes s.sizes z) s
 
 abbrev acceptance : State → ℕ → ℕ → Sides → TsduMaximumSize → List ℕ → Meaning
-acceptance s u n a z o = AC true u (serial_for (functional_units u) n) (setting_of (settle (functional_units u) s.wishes a)) (answered_sizes s.sizes z) o
+acceptance s u n a z o = AC true u (serial_for (functional_units u) n) (setting_of (settle (functional_units u) s.wishes a))
+    (answered_sizes s.sizes z) o
 
 abbrev accepter : Party → ℕ → ℕ → Sides → TsduMaximumSize → List ℕ → Party
 accepter x u n a z o = record {
@@ -139,7 +143,8 @@ connected w u n a z o = becomes (flushed w.peer w.own) (acceptance w.own.session
 module _ (w : Core) (u : ℕ) (q : Accepts w u) where
   none_under_way : AllEmpty w.peer.sent
   none_under_way =
-      all_empty w.own.session w.peer.sent (λ m p. none_answering w.own.session.phase m q.answering p) (excluded is_answering is_restarting refl w.own.session.phase q.answering) q.all.own.fits
+      all_empty w.own.session w.peer.sent (λ m p. none_answering w.own.session.phase m q.answering p)
+      (excluded is_answering is_restarting refl w.own.session.phase q.answering) q.all.own.fits
 
   own_end : flushed w.own w.peer ≡ w.own.session
   own_end = empty_end w.own.session w.peer.sent none_under_way
@@ -173,59 +178,76 @@ module _ (w : Core) (u : ℕ) where
 
   agreed_units : Accepts w u → both_units (flushed w.peer w.own).units (functional_units u) ≡ functional_units u
   agreed_units q =
-      ap (λ (v : FunctionalUnits). both_units v (functional_units u)) (other_units w u q) ∙ within_both (functional_units u) w.own.session.units q.within
+      ap (λ (v : FunctionalUnits). both_units v (functional_units u)) (other_units w u q)
+      ∙ within_both (functional_units u) w.own.session.units q.within
 
-  agreed_first : (n : ℕ) → Accepts w u → agreed_base (both_units (flushed w.peer w.own).units (functional_units u)) (serial_for (functional_units u) n) (flushed w.peer w.own).proposed ≡ base_for (functional_units u) n
+  agreed_first : (n : ℕ) → Accepts w u → agreed_base (both_units (flushed w.peer w.own).units (functional_units u))
+      (serial_for (functional_units u) n) (flushed w.peer w.own).proposed ≡ base_for (functional_units u) n
   agreed_first n q = search (arith, agreed_units, same_first)
 
-  accept_fits : (n : ℕ) (a : Sides) (z : TsduMaximumSize) (o : List ℕ) → Accepts w u → are_sizes (answered_sizes w.own.session.sizes z) ≡ true → Fits (flushed w.peer w.own) (acceptance w.own.session u n a z o)
+  accept_fits : (n : ℕ) (a : Sides) (z : TsduMaximumSize) (o : List ℕ) → Accepts w u
+      → are_sizes (answered_sizes w.own.session.sizes z) ≡ true → Fits (flushed w.peer w.own) (acceptance w.own.session u n a z o)
   accept_fits n a z o q k = search (arith, other_waits, and_from, agreed_units, profile_data, other_wishes, settled_answers)
 
   accept_kept : Accepts w u → (is_restarting (flushed w.peer w.own).phase && true) ≡ false
   accept_kept q = ap (λ (b : Bool). b && true) (excluded is_connecting is_restarting refl (flushed w.peer w.own).phase (other_waits w u q))
 
-  accept_next : (n : ℕ) (a : Sides) (z : TsduMaximumSize) (o : List ℕ) → Accepts w u → next (flushed w.peer w.own) (acceptance w.own.session u n a z o) ≡ connected w u n a z o
+  accept_next : (n : ℕ) (a : Sides) (z : TsduMaximumSize) (o : List ℕ) → Accepts w u
+      → next (flushed w.peer w.own) (acceptance w.own.session u n a z o) ≡ connected w u n a z o
   accept_next n a z o q = next_acted (flushed w.peer w.own) (acceptance w.own.session u n a z o) (accept_kept q)
 
-  end_after : (n : ℕ) (a : Sides) (z : TsduMaximumSize) (o : List ℕ) → Accepts w u → flush w.peer.session (w.own.sent ++ acceptance w.own.session u n a z o ∷ []) ≡ connected w u n a z o
+  end_after : (n : ℕ) (a : Sides) (z : TsduMaximumSize) (o : List ℕ) → Accepts w u
+      → flush w.peer.session (w.own.sent ++ acceptance w.own.session u n a z o ∷ []) ≡ connected w u n a z o
   end_after n a z o q = flush_append w.peer.session w.own.sent (acceptance w.own.session u n a z o) ∙ accept_next n a z o q
 
-  heard_after : (n : ℕ) (a : Sides) (z : TsduMaximumSize) (o : List ℕ) → Accepts w u → heard w.peer.session (w.own.sent ++ acceptance w.own.session u n a z o ∷ []) ≡ connected w u n a z o
+  heard_after : (n : ℕ) (a : Sides) (z : TsduMaximumSize) (o : List ℕ) → Accepts w u
+      → heard w.peer.session (w.own.sent ++ acceptance w.own.session u n a z o ∷ []) ≡ connected w u n a z o
   heard_after n a z o q =
-      heard_append w.peer.session w.own.sent (acceptance w.own.session u n a z o) q.all.peer.fits (other_owes_none w u q) ∙ accept_next n a z o q
+      heard_append w.peer.session w.own.sent (acceptance w.own.session u n a z o) q.all.peer.fits (other_owes_none w u q)
+      ∙ accept_next n a z o q
 
   -- ---- tokens
 
   there : (a : Sides) (t : Token) → has (held_by w.own.session u a) t ≡ true → has (available (functional_units u)) t ≡ true
   there a t h = answerer_there (functional_units u) (settle (functional_units u) w.own.session.wishes a) t h
 
-  will_hold : (n : ℕ) (a : Sides) (z : TsduMaximumSize) (o : List ℕ) (t : Token) → Accepts w u → has (connected w u n a z o).held t ≡ (has (available (functional_units u)) t && not (has (held_by w.own.session u a) t))
+  will_hold : (n : ℕ) (a : Sides) (z : TsduMaximumSize) (o : List ℕ) (t : Token) → Accepts w u
+      → has (connected w u n a z o).held t ≡ (has (available (functional_units u)) t && not (has (held_by w.own.session u a) t))
   will_hold n a z o t q = search (arith, agreed_units, asker_holds)
 
   -- ---- the two halves
 
-  own_half : (n : ℕ) (a : Sides) (z : TsduMaximumSize) (o : List ℕ) → Accepts w u → Half (settled_by (accepting w.own.session u n a z)) (accepter w.own u n a z o) w.peer
-  own_half n a z o q = search (arith, none_under_way, empty_fits, empty_end, empty_heard, end_after, agreed_units, agreed_first, own_held, own_wanted, own_absent, there)
+  own_half : (n : ℕ) (a : Sides) (z : TsduMaximumSize) (o : List ℕ) → Accepts w u
+      → Half (settled_by (accepting w.own.session u n a z)) (accepter w.own u n a z o) w.peer
+  own_half n a z o q =
+      search (arith, none_under_way, empty_laws, end_after, agreed_units, agreed_first, own_held, own_wanted, own_absent, there)
 
-  peer_half : (n : ℕ) (a : Sides) (z : TsduMaximumSize) (o : List ℕ) → Accepts w u → are_sizes (answered_sizes w.own.session.sizes z) ≡ true → Half (turned_owners (settled_by (accepting w.own.session u n a z))) w.peer (accepter w.own u n a z o)
+  peer_half : (n : ℕ) (a : Sides) (z : TsduMaximumSize) (o : List ℕ) → Accepts w u → are_sizes (answered_sizes w.own.session.sizes z) ≡ true
+      → Half (turned_owners (settled_by (accepting w.own.session u n a z))) w.peer (accepter w.own u n a z o)
   peer_half n a z o q k =
       let r = accepting w.own.session u n a z in
       let m = acceptance w.own.session u n a z o in
       let none = none_under_way w u q in
       let owners = turned_owners (settled_by (accepting w.own.session u n a z)) in
-      let no_tokens = q.all.consistent.peer.sound.tokens (excluded is_connecting may_hold refl w.peer.session.phase (other_connects w u q)) in
+      let no_tokens = q.all.consistent.peer.sound.tokens
+      (excluded is_connecting may_hold refl w.peer.session.phase (other_connects w u q)) in
       record {
         fits = fit_append w.peer.session w.own.sent m q.all.peer.fits (accept_fits n a z o q k);
-        meeting = subst (λ (e : State). Meeting owners w.peer.session e (flush r w.peer.sent) (heard w.peer.session (w.own.sent ++ m ∷ [])) r) (sym (end_after n a z o q))
-            (subst (λ (e : State). Meeting owners w.peer.session (connected w u n a z o) (flush r w.peer.sent) e r) (sym (heard_after n a z o q))
-            (subst (λ (e : State). Meeting owners w.peer.session (connected w u n a z o) e (connected w u n a z o) r) (sym (empty_end r w.peer.sent none)) (record {
+        meeting = subst (λ (e : State). Meeting owners w.peer.session e (flush r w.peer.sent)
+            (heard w.peer.session (w.own.sent ++ m ∷ [])) r) (sym (end_after n a z o q))
+            (subst (λ (e : State). Meeting owners w.peer.session (connected w u n a z o) (flush r w.peer.sent) e r)
+            (sym (heard_after n a z o q))
+            (subst (λ (e : State). Meeting owners w.peer.session (connected w u n a z o) e (connected w u n a z o) r)
+            (sym (empty_end r w.peer.sent none)) (record {
               meets = refl;
               units = agreed_units q;
               base = agreed_first n q;
               restart = λ k. absurd (cc);
               connect = λ k. absurd (cc);
-              holds = λ t. ap (λ (v : Tokens). has v t) no_tokens ∙ none_held t ∙ their_held (has (held_by w.own.session u a) t) (has (available (functional_units u)) t);
-              wants = λ h t. will_hold n a z o t q ∙ their_wanted (has (held_by w.own.session u a) t) (has (available (functional_units u)) t);
+              holds = λ t. ap (λ (v : Tokens). has v t) no_tokens ∙ none_held t
+                  ∙ their_held (has (held_by w.own.session u a) t) (has (available (functional_units u)) t);
+              wants = λ h t. will_hold n a z o t q ∙ their_wanted (has (held_by w.own.session u a) t)
+                  (has (available (functional_units u)) t);
               absent = λ t k. their_absent (has (held_by w.own.session u a) t) (has (available (functional_units u)) t) (there a t)
                   (ap (λ (v : FunctionalUnits). has (available v) t) (sym (agreed_units q)) ∙ k);
               released = λ d. absurd (cc);
@@ -244,7 +266,8 @@ module _ (w : Core) (u n : ℕ) (a : Sides) (z : TsduMaximumSize) (o : List ℕ)
   peer_views : Views (w.history ++ []) w.peer (accepter w.own u n a z o)
   peer_views = record {
     ends = λ l. view_append w.peer.session w.own.sent m w.peer.view q.all.peer.fits (other_owes_none w u q)
-        ∙ if_first (drops (flushed w.peer w.own) m) (heard_view w.peer.session w.own.sent w.peer.view) (heard_view w.peer.session w.own.sent w.peer.view) refl
+        ∙ if_first (drops (flushed w.peer w.own) m) (heard_view w.peer.session w.own.sent w.peer.view)
+        (heard_view w.peer.session w.own.sent w.peer.view) refl
         ∙ q.all.peer_views.ends listens ∙ sym (append-nil w.history);
     cut = λ c. absurd (let e = ap (λ (s : State). is_restarting s.phase) (sym (heard_after w u n a z o q)) ∙ c in cc);
     due = λ d. absurd (let e = excluded is_connecting is_restart_due refl w.peer.session.phase (other_connects w u q) in cc);
@@ -255,17 +278,21 @@ module _ (w : Core) (u n : ℕ) (a : Sides) (z : TsduMaximumSize) (o : List ℕ)
       m = acceptance w.own.session u n a z o
 
       listens : hears (hearing w.peer w.own).phase ≡ true
-      listens = ap (λ (r : State). hears r.phase) (other_heard w u q) ∙ ap not (excluded is_connecting is_restarting refl w.peer.session.phase (other_connects w u q))
+      listens = ap (λ (r : State). hears r.phase) (other_heard w u q)
+          ∙ ap not (excluded is_connecting is_restarting refl w.peer.session.phase (other_connects w u q))
 
-      duplex : (flush w.peer.session (w.own.sent ++ acceptance w.own.session u n a z o ∷ [])).units.duplex ≡ true → (flushed w.peer w.own).units.duplex ≡ true
+      duplex : (flush w.peer.session (w.own.sent ++ acceptance w.own.session u n a z o ∷ [])).units.duplex ≡ true
+          → (flushed w.peer w.own).units.duplex ≡ true
       duplex d =
-          let now = ap (λ (v : FunctionalUnits). v.duplex) (sym (agreed_units w u q)) ∙ ap (λ (s : State). s.units.duplex) (sym (end_after w u n a z o q)) ∙ d in
+          let now = ap (λ (v : FunctionalUnits). v.duplex) (sym (agreed_units w u q))
+          ∙ ap (λ (s : State). s.units.duplex) (sym (end_after w u n a z o q)) ∙ d in
           ap (λ (v : FunctionalUnits). v.duplex) (other_units w u q) ∙ within_duplex (functional_units u) w.own.session.units q.within now
 
       streams : (w.peer.got ++ data_of w.own.sent ≡ w.own.said) × (w.history ≡ [])
           → (w.peer.got ++ data_of (w.own.sent ++ acceptance w.own.session u n a z o ∷ []) ≡ w.own.said ++ []) × (w.history ++ [] ≡ [])
       streams old = (
-        ap (λ (d : List (List ℕ)). w.peer.got ++ d) (data_append w.own.sent (m ∷ []) ∙ append-nil (data_of w.own.sent)) ∙ old.0 ∙ sym (append-nil w.own.said),
+        ap (λ (d : List (List ℕ)). w.peer.got ++ d) (data_append w.own.sent (m ∷ []) ∙ append-nil (data_of w.own.sent)) ∙ old.0
+            ∙ sym (append-nil w.own.said),
         append-nil w.history ∙ old.1,
       )
 
@@ -284,7 +311,13 @@ module _ (w : Core) (u n : ℕ) (a : Sides) (z : TsduMaximumSize) (o : List ℕ)
 
   -- ---- the call
 
-  all_kept : are_sizes (answered_sizes w.own.session.sizes z) ≡ true → AreConsistent (answered w (Accept u n a z o) (Ok (record { next = accepting w.own.session u n a z; sent = acceptance w.own.session u n a z o }))) → Stands (answered w (Accept u n a z o) (Ok (record { next = accepting w.own.session u n a z; sent = acceptance w.own.session u n a z o })))
+  all_kept : are_sizes (answered_sizes w.own.session.sizes z) ≡ true
+      → AreConsistent (answered w (Accept u n a z o)
+      (Ok (record { next = accepting w.own.session u n a z; sent = acceptance w.own.session u n a z o }))) → Stands
+      (answered w (Accept u n a z o) (Ok (record {
+        next = accepting w.own.session u n a z;
+        sent = acceptance w.own.session u n a z o;
+      })))
   all_kept k c = assumption (own_half w u n a z o q, peer_half w u n a z o q k, own_views, peer_views, own_counts, peer_counts, pair_kept)
 
 pub accept_stands : (w : Core) (u n : ℕ) (a : Sides) (z : TsduMaximumSize) (o : List ℕ) → IsGranted w (Accept u n a z o) → Stands w

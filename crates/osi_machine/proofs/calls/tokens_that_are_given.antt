@@ -57,14 +57,22 @@ still_disjoint : (k j : Tokens) (s : State) → is_disjoint j s.held ≡ true �
 still_disjoint k j s h = grind (arith, disjoint_of, disjoint_has, without_has)
 
 still_empty : (k : Tokens) (s : State) → is_empty s.held ≡ true → is_empty (without s.held k) ≡ true
-still_empty k s h = is_empty_of (without s.held k) (λ t. without_has s.held k t ∙ ap (λ (b : Bool). b && not (has k t)) (empty_has s.held t h))
+still_empty k s h = is_empty_of (without s.held k)
+    (λ t. without_has s.held k t ∙ ap (λ (b : Bool). b && not (has k t)) (empty_has s.held t h))
 
 -- a good unit stays good
 fewer_good : (k : Tokens) (s : State) (u : Meaning) → Good s u → Good (less k s) u
 fewer_good k s (DT o) g = record { expected = g.expected; met = (still_lacks k s data_token g.met.0, tt) }
 fewer_good k s (GT j) g =
     let a = and_parts (is_within j (available s.units)) (is_disjoint j s.held) g.met.0 in
-    record { expected = g.expected; met = (and_from (is_within j (available s.units)) (is_disjoint j (without s.held k)) a.0 (still_disjoint k j s a.1), tt) }
+    record {
+      expected = g.expected;
+      met = (
+        and_from (is_within j (available s.units)) (is_disjoint j (without s.held k)) a.0
+            (still_disjoint k j s a.1),
+        tt,
+      );
+    }
 fewer_good k s (MIP c n o) g = search (arith, two_lack, still_lacks)
 fewer_good k s (MAP n o) g = search (two_lack, still_lacks)
 fewer_good k s (FN o) g = record { expected = g.expected; met = (still_empty k s g.met.0, tt) }
@@ -89,14 +97,16 @@ swap : (a b c : Bool) → (b ≡ true → a ≡ true) → (c && a) ≡ false →
 swap a b c f g = grind arith
 
 -- giving and getting other tokens, in either order
-given_and_got : (k j : Tokens) (s : State) → Gives k s → is_disjoint j s.held ≡ true → united (without s.held k) j ≡ without (united s.held j) k
+given_and_got : (k j : Tokens) (s : State) → Gives k s → is_disjoint j s.held ≡ true
+    → united (without s.held k) j ≡ without (united s.held j) k
 given_and_got k j s h d = tokens_same _ _ (λ t.
     united_has (without s.held k) j t ∙ ap (λ (b : Bool). b || has j t) (without_has s.held k t)
     ∙ swap (has s.held t) (has k t) (has j t) (h.all t) (disjoint_has j s.held t d)
     ∙ sym (without_has (united s.held j) k t ∙ ap (λ (b : Bool). b && not (has k t)) (united_has s.held j t)))
 
 -- what such a unit leaves
-fewer_becomes : (k : Tokens) (s : State) (u : Meaning) → Fits s u → Good s u → stops s u ≡ false → Gives k s → (becomes (less k s) u ≡ less k (becomes s u)) × Gives k (becomes s u)
+fewer_becomes : (k : Tokens) (s : State) (u : Meaning) → Fits s u → Good s u → stops s u ≡ false → Gives k s
+    → (becomes (less k s) u ≡ less k (becomes s u)) × Gives k (becomes s u)
 unfolding stands
 fewer_becomes k s u f g st h = search (arith, excluded, and_parts, given_and_got, united_has, or_left, gives_something)
 
@@ -135,10 +145,12 @@ but_held k s r (inr (e, d)) = e ∙ ap (λ (held : Tokens). record s { held = he
 still_held : (b h : Bool) (p : Owner) → h ≡ is_own p → (h && not b) ≡ is_own (if b then ToThem else p)
 still_held b h p e = grind arith
 
-still_wanted : (b h : Bool) (p : Owner) → h ≡ (is_own p || is_to_own p) → (h && not b) ≡ (is_own (if b then ToThem else p) || is_to_own (if b then ToThem else p))
+still_wanted : (b h : Bool) (p : Owner) → h ≡ (is_own p || is_to_own p)
+    → (h && not b) ≡ (is_own (if b then ToThem else p) || is_to_own (if b then ToThem else p))
 still_wanted b h p e = grind arith
 
-not_yet_held : (b q : Bool) (p : Owner) → (b ≡ true → is_own p ≡ true) → q ≡ is_own (turned_owner p) → q ≡ is_own (turned_owner (if b then ToThem else p))
+not_yet_held : (b q : Bool) (p : Owner) → (b ≡ true → is_own p ≡ true) → q ≡ is_own (turned_owner p)
+    → q ≡ is_own (turned_owner (if b then ToThem else p))
 not_yet_held b q p f e = grind arith
 
 will_be_held : (b q : Bool) (p : Owner) → q ≡ (is_own (turned_owner p) || is_to_own (turned_owner p))
@@ -165,18 +177,26 @@ runs w k g h = alike (Fewer k) (fewer_step k) w.own.session (less k w.own.sessio
 dropped_not : (e r : Bool) → (e || (r && true)) ≡ false → r ≡ true → ⊥
 dropped_not e r h k = grind arith
 
-other_asks : (w : Core) (k : Tokens) → Giving w k → Half w.owner w.own w.peer → drops (flushed w.peer w.own) (GT k) ≡ false → may_ask (flushed w.peer w.own).phase ≡ true
+other_asks : (w : Core) (k : Tokens) → Giving w k → Half w.owner w.own w.peer → drops (flushed w.peer w.own) (GT k) ≡ false
+    → may_ask (flushed w.peer w.own).phase ≡ true
 other_asks w k g h d = by_either (runs w k g h).flush
     (λ z. phase_there may_ask may_ask refl h z.1.phase)
     (λ z. absurd (dropped_not _ _ d
     (phase_there is_restart_due is_restarting refl h z.1)))
 
-give_fits : (w : Core) (k : Tokens) → Giving w k → Half w.owner w.own w.peer → Half (turned_owners w.owner) w.peer w.own → Fits (flushed w.peer w.own) (GT k)
+give_fits : (w : Core) (k : Tokens) → Giving w k → Half w.owner w.own w.peer → Half (turned_owners w.owner) w.peer w.own
+    → Fits (flushed w.peer w.own) (GT k)
 give_fits w k g h j = record {
   plain = refl;
   good = λ d.
       let asks = other_asks w k g h d in
-      record { expected = asks; met = (and_from _ _ there (disjoint_of k (flushed w.peer w.own).held (λ t. apart asks t (has k t) refl)), tt) };
+      record {
+        expected = asks;
+        met = (
+          and_from _ _ there (disjoint_of k (flushed w.peer w.own).held (λ t. apart asks t (has k t) refl)),
+          tt,
+        );
+      };
 }
   where
     begun : is_opening w.own.session.phase ≡ false
@@ -188,16 +208,19 @@ give_fits w k g h j = record {
     there : is_within k (available (flushed w.peer w.own).units) ≡ true
     there = ap (λ (u : FunctionalUnits). is_within k (available u)) units ∙ g.selected
 
-    apart : may_ask (flushed w.peer w.own).phase ≡ true → (t : Token) (b : Bool) → has k t ≡ b → (b && has (flushed w.peer w.own).held t) ≡ false
+    apart : may_ask (flushed w.peer w.own).phase ≡ true → (t : Token) (b : Bool) → has k t ≡ b
+        → (b && has (flushed w.peer w.own).held t) ≡ false
     apart asks t false p = refl
     apart asks t true p = other_lacks w.owner w.own w.peer t h j begun (inl (within_has k w.own.session.held t g.held p))
-        (excluded may_ask is_restart_due refl (flushed w.peer w.own).phase asks) (implied may_ask may_hold refl (flushed w.peer w.own).phase asks)
+        (excluded may_ask is_restart_due refl (flushed w.peer w.own).phase asks)
+        (implied may_ask may_hold refl (flushed w.peer w.own).phase asks)
 
 -- ---- both halves
 
 -- what the other side is, once the unit is taken
 given_like : (k : Tokens) (s : State) → Like s (next s (GT k))
-given_like k s = next_cases (Like s) s (GT k) (λ d. itself s) (λ d. record { phase = refl; units = refl; wishes = refl; proposed = refl; base = refl; numbers = refl })
+given_like k s = next_cases (Like s) s (GT k) (λ d. itself s)
+    (λ d. record { phase = refl; units = refl; wishes = refl; proposed = refl; base = refl; numbers = refl })
 
 abbrev giver : Party → Tokens → Party
 giver x k = record { session = less k x.session; view = x.view ++ []; said = x.said ++ []; got = x.got; sent = x.sent ++ GT k ∷ [] }
@@ -207,36 +230,45 @@ other_end w k = flush_append w.peer.session w.own.sent (GT k)
 
 module _ (w : Core) (k : Tokens) (g : Giving w k) (h : Half w.owner w.own w.peer) where
   -- the other side listens to the giver, so it receives everything
-  other_heard : Half (turned_owners w.owner) w.peer w.own → heard w.peer.session (w.own.sent ++ GT k ∷ []) ≡ next (flushed w.peer w.own) (GT k)
-  other_heard j = heard_append w.peer.session w.own.sent (GT k) j.fits (none_owed w.owner w.own w.peer h (excluded may_give is_restarting refl w.own.session.phase g.phase))
+  other_heard : Half (turned_owners w.owner) w.peer w.own
+      → heard w.peer.session (w.own.sent ++ GT k ∷ []) ≡ next (flushed w.peer w.own) (GT k)
+  other_heard j = heard_append w.peer.session w.own.sent (GT k) j.fits
+      (none_owed w.owner w.own w.peer h (excluded may_give is_restarting refl w.own.session.phase g.phase))
 
   heard_end : Half (turned_owners w.owner) w.peer w.own → hearing w.peer w.own ≡ flushed w.peer w.own
-  heard_end j = heard_flush w.peer.session w.own.sent j.fits (none_owed w.owner w.own w.peer h (excluded may_give is_restarting refl w.own.session.phase g.phase))
+  heard_end j = heard_flush w.peer.session w.own.sent j.fits
+      (none_owed w.owner w.own w.peer h (excluded may_give is_restarting refl w.own.session.phase g.phase))
 
-  own_tokens : Tokens_of (passed_to ToThem k w.owner) (less k w.own.session) (flush (less k w.own.session) w.peer.sent) (heard (less k w.own.session) w.peer.sent)
+  own_tokens : Tokens_of (passed_to ToThem k w.owner) (less k w.own.session) (flush (less k w.own.session) w.peer.sent)
+      (heard (less k w.own.session) w.peer.sent)
   own_tokens = record {
     holds = λ t. without_has w.own.session.held k t ∙ still_held (has k t) (has w.own.session.held t) (w.owner t) (h.meeting.holds t);
     wants = by (runs w k g h).heard;
     absent = λ t n. gone t (has k t) refl n;
   }
     where
-      by : Fewer k (hearing w.own w.peer) (heard (less k w.own.session) w.peer.sent) → may_hold (heard (less k w.own.session) w.peer.sent).phase ≡ true → (t : Token)
-          → has (heard (less k w.own.session) w.peer.sent).held t ≡ (is_own (passed_to ToThem k w.owner t) || is_to_own (passed_to ToThem k w.owner t))
+      by : Fewer k (hearing w.own w.peer) (heard (less k w.own.session) w.peer.sent)
+          → may_hold (heard (less k w.own.session) w.peer.sent).phase ≡ true → (t : Token)
+          → has (heard (less k w.own.session) w.peer.sent).held t
+          ≡ (is_own (passed_to ToThem k w.owner t) || is_to_own (passed_to ToThem k w.owner t))
       by (inl (e, v)) m t =
           ap (λ (q : State). has q.held t) e ∙ without_has (hearing w.own w.peer).held k t
-          ∙ still_wanted (has k t) (has (hearing w.own w.peer).held t) (w.owner t) (h.meeting.wants (ap (λ (q : State). may_hold q.phase) (sym e) ∙ m) t)
+          ∙ still_wanted (has k t) (has (hearing w.own w.peer).held t) (w.owner t)
+          (h.meeting.wants (ap (λ (q : State). may_hold q.phase) (sym e) ∙ m) t)
       by (inr (e, due)) m t = absurd (
           let d = excluded is_restart_due may_hold refl (hearing w.own w.peer).phase due in
           let n = ap (λ (q : State). may_hold q.phase) (sym e) ∙ m in
           cc)
 
       units : (flush (less k w.own.session) w.peer.sent).units ≡ (flushed w.own w.peer).units
-      units = (like (flushed w.own w.peer) (flush (less k w.own.session) w.peer.sent) (but_held k (flushed w.own w.peer) _ (runs w k g h).flush)).units
+      units = (like (flushed w.own w.peer) (flush (less k w.own.session) w.peer.sent)
+          (but_held k (flushed w.own w.peer) _ (runs w k g h).flush)).units
 
       now : (flushed w.own w.peer).units ≡ w.own.session.units
       now = end_units w.owner w.own w.peer h (excluded may_give is_opening refl w.own.session.phase g.phase)
 
-      gone : (t : Token) (b : Bool) → has k t ≡ b → has (available (flush (less k w.own.session) w.peer.sent).units) t ≡ false → is_absent (if b then ToThem else w.owner t) ≡ true
+      gone : (t : Token) (b : Bool) → has k t ≡ b → has (available (flush (less k w.own.session) w.peer.sent).units) t ≡ false
+          → is_absent (if b then ToThem else w.owner t) ≡ true
       gone t true p n = absurd (
           let there = within_has k (available w.own.session.units) t g.selected p in
           let none = ap (λ (u : FunctionalUnits). has (available u) t) (sym now ∙ sym units) ∙ n in
@@ -246,8 +278,23 @@ module _ (w : Core) (k : Tokens) (g : Giving w k) (h : Half w.owner w.own w.peer
   owned_by : (t : Token) → has k t ≡ true → is_own (w.owner t) ≡ true
   owned_by t p = sym (h.meeting.holds t) ∙ within_has k w.own.session.held t g.held p
 
-  peer_tokens : Half (turned_owners w.owner) w.peer w.own → Tokens_of (turned_owners (passed_to ToThem k w.owner)) w.peer.session (next (flushed w.peer w.own) (GT k)) (next (flushed w.peer w.own) (GT k))
-  peer_tokens j = search (arith, not_yet_held, owned_by, heard_end, excluded, next_dropped, next_acted, united_has, will_be_held, within_has, given_like, end_units)
+  peer_tokens : Half (turned_owners w.owner) w.peer w.own
+      → Tokens_of (turned_owners (passed_to ToThem k w.owner)) w.peer.session (next (flushed w.peer w.own) (GT k))
+      (next (flushed w.peer w.own) (GT k))
+  peer_tokens j = search (
+    arith,
+    not_yet_held,
+    owned_by,
+    heard_end,
+    excluded,
+    next_dropped,
+    next_acted,
+    united_has,
+    will_be_held,
+    within_has,
+    given_like,
+    end_units,
+  )
 
   -- ---- what was seen, and the numbers
 
@@ -258,7 +305,8 @@ module _ (w : Core) (k : Tokens) (g : Giving w k) (h : Half w.owner w.own w.peer
   peer_like_heard j = search (arith, other_heard, heard_end, given_like)
 
   same_seen : (v : List Item) → heard_view (less k w.own.session) w.peer.sent v ≡ heard_view w.own.session w.peer.sent v
-  same_seen v = alike_view (Fewer k) (fewer_step k) (fewer_shows k) w.own.session (less k w.own.session) w.peer.sent v (inl (refl, gives w k g)) h.fits
+  same_seen v = alike_view (Fewer k) (fewer_step k) (fewer_shows k) w.own.session (less k w.own.session) w.peer.sent v
+      (inl (refl, gives w k g)) h.fits
 
   own_like_end : Like (flushed w.own w.peer) (flush (less k w.own.session) w.peer.sent)
   own_like_end = like _ _ (but_held k (flushed w.own w.peer) _ (runs w k g h).flush)
@@ -268,17 +316,21 @@ module _ (w : Core) (k : Tokens) (g : Giving w k) (h : Half w.owner w.own w.peer
 
   peer_views : Half (turned_owners w.owner) w.peer w.own → Views w.history w.peer w.own → Views (w.history ++ []) w.peer (giver w.own k)
   peer_views j v = record {
-    ends = λ l. view_idle (GT k) (λ s a. refl) w.peer.session w.own.sent w.peer.view j.fits (fit_append w.peer.session w.own.sent (GT k) j.fits (give_fits w k g h j))
+    ends = λ l. view_idle (GT k) (λ s a. refl) w.peer.session w.own.sent w.peer.view j.fits
+        (fit_append w.peer.session w.own.sent (GT k) j.fits (give_fits w k g h j))
         ∙ v.ends (ap hears (sym (peer_like_heard j).phase) ∙ l) ∙ sym (append-nil w.history);
     cut = λ r. v.cut (ap is_restarting (sym (peer_like_heard j).phase) ∙ r)
         ∙ ap (λ (a : List Item). cutat w.peer.session.base a w.peer.session.numbers.next) (sym (append-nil w.history));
     due = λ d. ap (λ (a : List Item). a ++ []) (v.due d);
-    stream = λ d. streams (v.stream (ap (λ (u : FunctionalUnits). u.duplex) (sym (subst (Like (flushed w.peer w.own)) (sym (other_end w k)) (given_like k (flushed w.peer w.own))).units) ∙ d));
+    stream = λ d. streams (v.stream (ap (λ (u : FunctionalUnits). u.duplex)
+        (sym (subst (Like (flushed w.peer w.own)) (sym (other_end w k)) (given_like k (flushed w.peer w.own))).units) ∙ d));
   }
     where
-      streams : (w.peer.got ++ data_of w.own.sent ≡ w.own.said) × (w.history ≡ []) → (w.peer.got ++ data_of (w.own.sent ++ GT k ∷ []) ≡ w.own.said ++ []) × (w.history ++ [] ≡ [])
+      streams : (w.peer.got ++ data_of w.own.sent ≡ w.own.said) × (w.history ≡ [])
+          → (w.peer.got ++ data_of (w.own.sent ++ GT k ∷ []) ≡ w.own.said ++ []) × (w.history ++ [] ≡ [])
       streams old = (
-        ap (λ (r : List (List ℕ)). w.peer.got ++ r) (data_append w.own.sent (GT k ∷ []) ∙ append-nil (data_of w.own.sent)) ∙ old.0 ∙ sym (append-nil w.own.said),
+        ap (λ (r : List (List ℕ)). w.peer.got ++ r) (data_append w.own.sent (GT k ∷ []) ∙ append-nil (data_of w.own.sent)) ∙ old.0
+            ∙ sym (append-nil w.own.said),
         append-nil w.history ∙ old.1,
       )
 
@@ -291,8 +343,10 @@ give_stands w k g s c = record {
   consistent = c;
   own = record {
     fits = (runs w k g s.own).fits;
-    meeting = retoken w.owner (passed_to ToThem k w.owner) w.own.session (flushed w.own w.peer) (flushed w.peer w.own) (hearing w.own w.peer) w.peer.session
-        (less k w.own.session) (flush (less k w.own.session) w.peer.sent) (flush w.peer.session (w.own.sent ++ GT k ∷ [])) (heard (less k w.own.session) w.peer.sent) w.peer.session
+    meeting = retoken w.owner (passed_to ToThem k w.owner) w.own.session (flushed w.own w.peer) (flushed w.peer w.own)
+        (hearing w.own w.peer) w.peer.session
+        (less k w.own.session) (flush (less k w.own.session) w.peer.sent) (flush w.peer.session (w.own.sent ++ GT k ∷ []))
+        (heard (less k w.own.session) w.peer.sent) w.peer.session
         s.own.meeting
         (own_like_end w k g s.own)
         (subst (Like (flushed w.peer w.own)) (sym (other_end w k)) (given_like k (flushed w.peer w.own)))
@@ -303,13 +357,19 @@ give_stands w k g s c = record {
   peer = record {
     fits = fit_append w.peer.session w.own.sent (GT k) s.peer.fits (give_fits w k g s.own s.peer);
     meeting =
-        subst (λ (q : State). Meeting (turned_owners (passed_to ToThem k w.owner)) w.peer.session q (flush (less k w.own.session) w.peer.sent) (heard w.peer.session (w.own.sent ++ GT k ∷ [])) (less k w.own.session)) (sym (other_end w k))
-        (subst (λ (q : State). Meeting (turned_owners (passed_to ToThem k w.owner)) w.peer.session (next (flushed w.peer w.own) (GT k)) (flush (less k w.own.session) w.peer.sent) q (less k w.own.session)) (sym (other_heard w k g s.own s.peer))
-        (retoken (turned_owners w.owner) (turned_owners (passed_to ToThem k w.owner)) w.peer.session (flushed w.peer w.own) (flushed w.own w.peer) (hearing w.peer w.own) w.own.session
-        w.peer.session (next (flushed w.peer w.own) (GT k)) (flush (less k w.own.session) w.peer.sent) (next (flushed w.peer w.own) (GT k)) (less k w.own.session) s.peer.meeting
+        subst (λ (q : State). Meeting (turned_owners (passed_to ToThem k w.owner)) w.peer.session q
+        (flush (less k w.own.session) w.peer.sent) (heard w.peer.session (w.own.sent ++ GT k ∷ [])) (less k w.own.session))
+        (sym (other_end w k))
+        (subst (λ (q : State). Meeting (turned_owners (passed_to ToThem k w.owner)) w.peer.session (next (flushed w.peer w.own) (GT k))
+        (flush (less k w.own.session) w.peer.sent) q (less k w.own.session)) (sym (other_heard w k g s.own s.peer))
+        (retoken (turned_owners w.owner) (turned_owners (passed_to ToThem k w.owner)) w.peer.session (flushed w.peer w.own)
+        (flushed w.own w.peer) (hearing w.peer w.own) w.own.session
+        w.peer.session (next (flushed w.peer w.own) (GT k)) (flush (less k w.own.session) w.peer.sent) (next (flushed w.peer w.own) (GT k))
+        (less k w.own.session) s.peer.meeting
         (given_like k (flushed w.peer w.own))
         (own_like_end w k g s.own)
-        (subst (λ (q : State). Like q (next (flushed w.peer w.own) (GT k))) (sym (heard_end w k g s.own s.peer)) (given_like k (flushed w.peer w.own)))
+        (subst (λ (q : State). Like q (next (flushed w.peer w.own) (GT k))) (sym (heard_end w k g s.own s.peer))
+        (given_like k (flushed w.peer w.own)))
         (like w.own.session (less k w.own.session) refl)
         (peer_tokens w k g s.own s.peer)));
   };
@@ -317,10 +377,12 @@ give_stands w k g s c = record {
   peer_views = peer_views w k g s.own s.peer s.peer_views;
   own_counts = recount w.own.session (hearing w.own w.peer) (hearing w.peer w.own) w.peer.session
       (less k w.own.session) (heard (less k w.own.session) w.peer.sent) (heard w.peer.session (w.own.sent ++ GT k ∷ [])) w.peer.session
-      s.own_counts (like w.own.session (less k w.own.session) refl) (own_like_heard w k g s.own) (peer_like_heard w k g s.own s.peer) (itself w.peer.session);
+      s.own_counts (like w.own.session (less k w.own.session) refl) (own_like_heard w k g s.own) (peer_like_heard w k g s.own s.peer)
+      (itself w.peer.session);
   peer_counts = recount w.peer.session (hearing w.peer w.own) (hearing w.own w.peer) w.own.session
       w.peer.session (heard w.peer.session (w.own.sent ++ GT k ∷ [])) (heard (less k w.own.session) w.peer.sent) (less k w.own.session)
-      s.peer_counts (itself w.peer.session) (peer_like_heard w k g s.own s.peer) (own_like_heard w k g s.own) (like w.own.session (less k w.own.session) refl);
+      s.peer_counts (itself w.peer.session) (peer_like_heard w k g s.own s.peer) (own_like_heard w k g s.own)
+      (like w.own.session (less k w.own.session) refl);
   pair =
       let e = own_like_end w k g s.own in
       grind (arith, flushed, append-nil, list_any_append, IsOfProfile);

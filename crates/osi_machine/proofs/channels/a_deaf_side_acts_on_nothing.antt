@@ -40,6 +40,9 @@ empty_heard s (u ∷ us) h =
     if_first (stops s u) s (heard (next s u) us)
     (ap (λ (r : State). heard r us) (next_dropped s u (empty_dropped s u h.0)) ∙ empty_heard s us h.1)
 
+-- what holds if only what is discarded is in flight
+pub ruleset empty_laws = (empty_fits, empty_end, empty_heard)
+
 pub empty_view : (s : State) (us : List Meaning) (v : List Item) → AllEmpty us → heard_view s us v ≡ v
 empty_view s [] v h = refl
 empty_view s (u ∷ us) v h =
@@ -55,7 +58,8 @@ dropped_empty e r p h k = grind arith
 dropped_here : (s : State) (u : Meaning) → is_expected s.phase u ≡ false → Fits s u → drops s u ≡ true
 dropped_here s u none f = by_test (drops s u) (λ d. d) (λ d. absurd (let e = (f.good d).expected in cc))
 
-pub all_empty : (s : State) (us : List Meaning) → ((u : Meaning) → is_plain u ≡ true → is_expected s.phase u ≡ false) → is_restarting s.phase ≡ false
+pub all_empty : (s : State) (us : List Meaning) → ((u : Meaning) → is_plain u ≡ true → is_expected s.phase u ≡ false)
+    → is_restarting s.phase ≡ false
     → AllFit s us → AllEmpty us
 all_empty s [] none listens f = tt
 all_empty s (u ∷ us) none listens f =
@@ -77,18 +81,22 @@ pub restart_next : (s : State) (k : ResyncType) (n : ℕ) (w : TokenSetting) (o 
 restart_next s k n w o = next_acted s (RS k n w o) (restart_kept s k n w o)
 
 pub yielded : (s : State) (n : ℕ) (w : TokenSetting) → stands s n ≡ false → crossed s n w ≡ s
-yielded s n w e = ap (λ (b : Bool). if b then record (without_tokens RestartDue s) { wishes = w; numbers = restarted_at n s.numbers } else s) e
+yielded s n w e = ap (λ (b : Bool). if b then record (without_tokens RestartDue s)
+    { wishes = w; numbers = restarted_at n s.numbers } else s) e
 
 pub stood : (s : State) (n : ℕ) (w : TokenSetting) → stands s n ≡ true
     → crossed s n w ≡ record (without_tokens RestartDue s) { wishes = w; numbers = restarted_at n s.numbers }
-stood s n w e = ap (λ (b : Bool). if b then record (without_tokens RestartDue s) { wishes = w; numbers = restarted_at n s.numbers } else s) e
+stood s n w e = ap (λ (b : Bool). if b then record (without_tokens RestartDue s) { wishes = w; numbers = restarted_at n s.numbers } else s)
+    e
 
 -- a restart that does not take effect shows nothing
-pub yielded_view : (s : State) (k : ResyncType) (n : ℕ) (w : TokenSetting) (o : List ℕ) (v : List Item) → stands s n ≡ false → view_next s (RS k n w o) v ≡ v
+pub yielded_view : (s : State) (k : ResyncType) (n : ℕ) (w : TokenSetting) (o : List ℕ) (v : List Item) → stands s n ≡ false
+    → view_next s (RS k n w o) v ≡ v
 yielded_view s k n w o v e = grind arith
 
 -- what its receiver has taken before the restart
-pub heard_restart : (s : State) (us : List Meaning) (k : ResyncType) (n : ℕ) (w : TokenSetting) (o : List ℕ) → AllFit s us → is_restart_due (flush s us).phase ≡ false
+pub heard_restart : (s : State) (us : List Meaning) (k : ResyncType) (n : ℕ) (w : TokenSetting) (o : List ℕ) → AllFit s us
+    → is_restart_due (flush s us).phase ≡ false
     → heard s (us ++ RS k n w o ∷ []) ≡ flush s us
 heard_restart s us k n w o f due = search (arith, heard_append, restart_next, yielded)
 
@@ -111,23 +119,28 @@ not_both b p q = grind arith
 
 pub deaf_end : (s : State) (us : List Meaning) → is_restarting (flush s us).phase ≡ true → AllFit s us → flush s us ≡ s
 deaf_end s [] r f = refl
-deaf_end s (u ∷ us) r f = elim (deaf_next s u (by_test (is_restarting s.phase) (λ e. e) (λ e. absurd (not_both _ (hears_kept s (u ∷ us) (ap not e) f) r))) f.0) [
-  | inl e ↦ ap (λ (q : State). flush q us) e.0
-      ∙ deaf_end s us (subst (λ (q : State). is_restarting (flush q us).phase ≡ true) e.0 r) (subst (λ (q : State). AllFit q us) e.0 f.1)
-  | inr l ↦ absurd (not_both _ (hears_kept (next s u) us l f.1) r)
-]
+deaf_end s (u ∷ us) r f = elim (deaf_next s u
+    (by_test (is_restarting s.phase) (λ e. e) (λ e. absurd (not_both _ (hears_kept s (u ∷ us) (ap not e) f) r))) f.0) [
+      | inl e ↦ ap (λ (q : State). flush q us) e.0
+          ∙ deaf_end s us (subst (λ (q : State). is_restarting (flush q us).phase ≡ true) e.0 r)
+          (subst (λ (q : State). AllFit q us) e.0 f.1)
+      | inr l ↦ absurd (not_both _ (hears_kept (next s u) us l f.1) r)
+    ]
 
 pub deaf_heard : (s : State) (us : List Meaning) → is_restarting (flush s us).phase ≡ true → AllFit s us → heard s us ≡ s
 deaf_heard s us r f = heard_flush s us f (excluded is_restarting is_restart_due refl (flush s us).phase r) ∙ deaf_end s us r f
 
-pub deaf_view : (s : State) (us : List Meaning) (v : List Item) → is_restarting (flush s us).phase ≡ true → AllFit s us → heard_view s us v ≡ v
+pub deaf_view : (s : State) (us : List Meaning) (v : List Item) → is_restarting (flush s us).phase ≡ true → AllFit s us
+    → heard_view s us v ≡ v
 deaf_view s [] v r f = refl
-deaf_view s (u ∷ us) v r f = elim (deaf_next s u (by_test (is_restarting s.phase) (λ e. e) (λ e. absurd (not_both _ (hears_kept s (u ∷ us) (ap not e) f) r))) f.0) [
-  | inl e ↦ if_first (stops s u) v (heard_view (next s u) us (view_next s u v))
-      (ap (λ (q : State). heard_view q us (view_next s u v)) e.0 ∙ ap (heard_view s us) (e.1 v)
-      ∙ deaf_view s us v (subst (λ (q : State). is_restarting (flush q us).phase ≡ true) e.0 r) (subst (λ (q : State). AllFit q us) e.0 f.1))
-  | inr l ↦ absurd (not_both _ (hears_kept (next s u) us l f.1) r)
-]
+deaf_view s (u ∷ us) v r f = elim (deaf_next s u
+    (by_test (is_restarting s.phase) (λ e. e) (λ e. absurd (not_both _ (hears_kept s (u ∷ us) (ap not e) f) r))) f.0) [
+      | inl e ↦ if_first (stops s u) v (heard_view (next s u) us (view_next s u v))
+          (ap (λ (q : State). heard_view q us (view_next s u v)) e.0 ∙ ap (heard_view s us) (e.1 v)
+          ∙ deaf_view s us v (subst (λ (q : State). is_restarting (flush q us).phase ≡ true) e.0 r)
+          (subst (λ (q : State). AllFit q us) e.0 f.1))
+      | inr l ↦ absurd (not_both _ (hears_kept (next s u) us l f.1) r)
+    ]
 
 -- a side that owes the answer to a CN expects nothing
 pub none_answering : (p : Phase) (u : Meaning) → is_answering p ≡ true → is_plain u ≡ true → is_expected p u ≡ false
@@ -146,12 +159,17 @@ waiting_drops : (s : State) (u : Meaning) → Fits s u → is_connecting (next s
 waiting_drops s u f c = search (arith, both_ways, becomes_later, next_acted)
 
 -- it has waited all the time, and nothing was in flight
-pub waiting : (s : State) (us : List Meaning) → is_connecting (flush s us).phase ≡ true → AllFit s us → AllEmpty us × (is_connecting s.phase ≡ true)
+pub waiting : (s : State) (us : List Meaning) → is_connecting (flush s us).phase ≡ true → AllFit s us
+    → AllEmpty us × (is_connecting s.phase ≡ true)
 waiting s [] c f = (tt, c)
 waiting s (u ∷ us) c f =
     let more = waiting (next s u) us c f.1 in
     let d = waiting_drops s u f.0 more.1 in
     let now = subst (λ (r : State). is_connecting r.phase ≡ true) (next_dropped s u d) more.1 in (
-      (dropped_empty (has_no_effect u) (is_restarting s.phase) (passes_restarting u) d (excluded is_connecting is_restarting refl s.phase now), more.0),
+      (
+        dropped_empty (has_no_effect u) (is_restarting s.phase) (passes_restarting u) d
+            (excluded is_connecting is_restarting refl s.phase now),
+        more.0,
+      ),
       now,
     )

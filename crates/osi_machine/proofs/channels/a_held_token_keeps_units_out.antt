@@ -39,10 +39,12 @@ without_has a b t = has_set (λ t. has a t && not (has b t)) t
 pub none_held : (t : Token) → has no_token t ≡ false
 none_held t = has_set (λ t. false) t
 
-is_data_or_minor_is : (s : State) (t : Token) → has s.held t ≡ true → lacks s data_token ≡ true → lacks s minor ≡ true → is_data_or_minor t ≡ false
+is_data_or_minor_is : (s : State) (t : Token) → has s.held t ≡ true → lacks s data_token ≡ true → lacks s minor ≡ true
+    → is_data_or_minor t ≡ false
 is_data_or_minor_is s t h l m = grind (arith, not_both)
 
-is_no_release_is : (s : State) (t : Token) → has s.held t ≡ true → lacks s data_token ≡ true → lacks s minor ≡ true → lacks s major ≡ true → is_no_release t ≡ false
+is_no_release_is : (s : State) (t : Token) → has s.held t ≡ true → lacks s data_token ≡ true → lacks s minor ≡ true → lacks s major ≡ true
+    → is_no_release t ≡ false
 is_no_release_is s t h l m j = grind (arith, not_both)
 
 -- a good unit does not need a token that its taker holds
@@ -55,7 +57,8 @@ pub record Holds (t : Token) (s : State) : Type 0 where
   pub phase : may_hold s.phase ≡ true
 
 -- it still holds it, until a restart takes effect
-pub becomes_holds : (t : Token) (s : State) (u : Meaning) → is_plain u ≡ true → Good s u → stops s u ≡ false → Holds t s → Holds t (becomes s u)
+pub becomes_holds : (t : Token) (s : State) (u : Meaning) → is_plain u ≡ true → Good s u → stops s u ≡ false → Holds t s
+    → Holds t (becomes s u)
 becomes_holds t s u p g st h = search (arith, excluded, united_has, or_left)
 
 pub next_holds : (t : Token) (s : State) (u : Meaning) → Fits s u → stops s u ≡ false → Holds t s → Holds t (next s u)
@@ -74,14 +77,16 @@ nothing_to_see s [] v h f = refl
 nothing_to_see s (u ∷ us) v h f =
     by_test (stops s u)
     (λ e. rw e)
-    (λ e. rw e (let more : (stops s u ≡ false → heard_view (next s u) us (view_next s u v) ≡ view_next s u v) = (λ e. nothing_to_see (next s u) us (view_next s u v) (next_holds data_token s u f.0 e h) f.1) in more e ∙ same_view s u v f.0 e h.held))
+    (λ e. rw e (let more : (stops s u ≡ false → heard_view (next s u) us (view_next s u v) ≡ view_next s u v) = (λ e. nothing_to_see
+    (next s u) us (view_next s u v) (next_holds data_token s u f.0 e h) f.1) in more e ∙ same_view s u v f.0 e h.held))
 
 -- it still holds the token after it has taken everything before a restart
 pub heard_holds : (t : Token) (s : State) (us : List Meaning) → Holds t s → AllFit s us → Holds t (heard s us)
 heard_holds t s [] h f = h
 heard_holds t s (u ∷ us) h f = by_test (stops s u)
     (λ e. rw e h)
-    (λ e. rw e (let more : (stops s u ≡ false → Holds t (heard (next s u) us)) = (λ e. heard_holds t (next s u) us (next_holds t s u f.0 e h) f.1) in more e))
+    (λ e. rw e (let more : (stops s u ≡ false → Holds t (heard (next s u) us)) = (λ e. heard_holds t (next s u) us
+    (next_holds t s u f.0 e h) f.1) in more e))
 
 -- ---- units and base
 
@@ -91,7 +96,8 @@ pub record Open (v : FunctionalUnits) (b : ℕ) (s : State) : Type 0 where
   pub units : s.units ≡ v
   pub base : s.base ≡ b
 
-pub becomes_open : (v : FunctionalUnits) (b : ℕ) (s : State) (u : Meaning) → is_plain u ≡ true → Good s u → Open v b s → Open v b (becomes s u)
+pub becomes_open : (v : FunctionalUnits) (b : ℕ) (s : State) (u : Meaning) → is_plain u ≡ true → Good s u → Open v b s
+    → Open v b (becomes s u)
 becomes_open v b s u p g h = grind arith
 
 next_open : (v : FunctionalUnits) (b : ℕ) (s : State) (u : Meaning) → Open v b s → Fits s u → Open v b (next s u)
@@ -123,9 +129,11 @@ until_due P step s (u ∷ us) h f =
     by_test (stops s u)
     (λ e. let d = restart_due s u e in
     inr (subst (λ (r : State). is_restart_due r.phase ≡ true) (sym (due_end (next s u) us d f.1)) d))
-    (λ e. let more : (stops s u ≡ false → P (flush (next s u) us) ⊎ (is_restart_due (flush (next s u) us).phase ≡ true)) = (λ e. until_due P step (next s u) us (step s u f.0 e h) f.1) in more e)
+    (λ e. let more : (stops s u ≡ false → P (flush (next s u) us) ⊎ (is_restart_due (flush (next s u) us).phase ≡ true)) = (λ e. until_due P
+    step (next s u) us (step s u f.0 e h) f.1) in more e)
 
-pub ends_lively : (s : State) (us : List Meaning) → Lively s → AllFit s us → Lively (flush s us) ⊎ (is_restart_due (flush s us).phase ≡ true)
+pub ends_lively : (s : State) (us : List Meaning) → Lively s → AllFit s us
+    → Lively (flush s us) ⊎ (is_restart_due (flush s us).phase ≡ true)
 ends_lively = until_due Lively (λ s u f st h. fit_cases Lively s u f h (λ d g. becomes_lively s u f.plain g st h))
 
 -- ---- a side that may send data: to it no major point comes
@@ -141,14 +149,17 @@ no_major : (s : State) (n : ℕ) (o : List ℕ) → Good s (MAP n o) → (has s.
 no_major s n o g (inl h) = let e = held_needs s data_token (MAP n o) h g in cc
 no_major s n o g (inr h) = let e = g.met.0 in cc
 
-more_right : (s : State) (k : Tokens) (held : Tokens) → ((t : Token) → has held t ≡ (has s.held t || has k t)) → (has s.held data_token ≡ true) ⊎ (s.units.major ≡ false)
+more_right : (s : State) (k : Tokens) (held : Tokens) → ((t : Token) → has held t ≡ (has s.held t || has k t))
+    → (has s.held data_token ≡ true) ⊎ (s.units.major ≡ false)
     → (has held data_token ≡ true) ⊎ (s.units.major ≡ false)
 more_right s k held e (inl h) = inl (e data_token ∙ or_left (has s.held data_token) (has k data_token) h)
 more_right s k held e (inr h) = inr h
 
 becomes_talks : (s : State) (u : Meaning) → is_plain u ≡ true → Good s u → stops s u ≡ false → Talks s → Talks (becomes s u)
-becomes_talks s (CN w r n x from to z o) p g st h = absurd (let e = excluded is_wait_cn is_talking refl s.phase g.expected in let f = h.phase in cc)
-becomes_talks s (AC w r n x z o) p g st h = absurd (let e = excluded is_connecting is_talking refl s.phase g.expected in let f = h.phase in cc)
+becomes_talks s (CN w r n x from to z o) p g st h =
+    absurd (let e = excluded is_wait_cn is_talking refl s.phase g.expected in let f = h.phase in cc)
+becomes_talks s (AC w r n x z o) p g st h = absurd
+    (let e = excluded is_connecting is_talking refl s.phase g.expected in let f = h.phase in cc)
 becomes_talks s (RF r o) p g st h = absurd (cc)
 becomes_talks s (DT o) p g st h = h
 becomes_talks s (GT k) p g st h = record { phase = h.phase; right = more_right s k _ (united_has s.held k) h.right }
@@ -177,7 +188,8 @@ empty_needs t u h = grind arith
 due_needs : (t : Token) (s : State) (u : Meaning) → is_restart_due s.phase ≡ true → Fits s u → needs_token t u ≡ false
 due_needs t s u h f = grind arith
 
-none_due_needs : (t : Token) (s : State) (us : List Meaning) → is_restart_due s.phase ≡ true → AllFit s us → list_any (needs_token t) us ≡ false
+none_due_needs : (t : Token) (s : State) (us : List Meaning) → is_restart_due s.phase ≡ true → AllFit s us
+    → list_any (needs_token t) us ≡ false
 none_due_needs t s [] h f = refl
 none_due_needs t s (u ∷ us) h f =
     let one = due_needs t s u h f.0 in
@@ -194,4 +206,5 @@ none_needs t s (u ∷ us) h f = by_test (stops s u)
     (λ e. let one = holder_needs t s u h f.0 in
     let all = none_due_needs t (next s u) us (restart_due s u e) f.1 in
     rw (one, all) refl)
-    (λ e. let more : (stops s u ≡ false → list_any (needs_token t) us ≡ false) = (λ e. none_needs t (next s u) us (next_holds t s u f.0 e h) f.1) in let one = holder_needs t s u h f.0 in let all = more e in rw (one, all) refl)
+    (λ e. let more : (stops s u ≡ false → list_any (needs_token t) us ≡ false) = (λ e. none_needs t (next s u) us
+    (next_holds t s u f.0 e h) f.1) in let one = holder_needs t s u h f.0 in let all = more e in rw (one, all) refl)

@@ -49,7 +49,8 @@ either : (P : State → Type 0) (b : Bool) (x y : Outcome) → (b ≡ true → P
 either P true x y h k = h refl
 either P false x y h k = k refl
 
-judged_cases : (P : State → Type 0) (s : State) (u : Meaning) (f : Option UnitFault) → P (without_tokens Aborting s) → (f ≡ None → P (becomes s u)) → P (judged s u f).next
+judged_cases : (P : State → Type 0) (s : State) (u : Meaning) (f : Option UnitFault) → P (without_tokens Aborting s)
+    → (f ≡ None → P (becomes s u)) → P (judged s u f).next
 judged_cases P s u None h k = k refl
 judged_cases P s u (Some f) h k = h
 
@@ -71,7 +72,8 @@ pub acts_good : (s : State) (u : Meaning) → Acted s u → respond_unit s u ≡
 unfolding respond_unit take_expected
 acts_good s u h = grind arith
 
-pub not_acted : (P : State → Type 0) (s : State) (u : Meaning) → is_acted_on s u ≡ false → P s → P (without_tokens Ended s) → P (without_tokens Aborting s)
+pub not_acted : (P : State → Type 0) (s : State) (u : Meaning) → is_acted_on s u ≡ false → P s → P (without_tokens Ended s)
+    → P (without_tokens Aborting s)
     → P (respond_unit s u).next
 unfolding respond_unit take_expected
 not_acted P s u n same ended bare = search (arith, either, aborting_cases, ended_cases, judged_cases, is_acted, over_of, not-false, all_met)
@@ -92,7 +94,8 @@ unfolding respond_unit
 drops_nothing s u o d = grind arith
 
 -- no fault: a unit that fits is discarded, or answered as the table says
-pub no_fault : (s : State) (u : Meaning) → is_over s.phase ≡ false → Fits s u → respond_unit s u ≡ (if drops s u then nothing s else good s u)
+pub no_fault : (s : State) (u : Meaning) → is_over s.phase ≡ false → Fits s u
+    → respond_unit s u ≡ (if drops s u then nothing s else good s u)
 no_fault s u o f = search (arith, drops_nothing, acts_good)
 
 pub fit_next : (s : State) (u : Meaning) → is_over s.phase ≡ false → Fits s u → (respond_unit s u).next ≡ next s u
@@ -101,11 +104,13 @@ fit_next s u o f = search (arith, drops_nothing, acts_good)
 -- ---- a unit is dropped, or acted on
 
 -- the state after a unit: the same if it is discarded, otherwise what the table says
-pub next_cases : (P : State → Type 0) (s : State) (u : Meaning) → (drops s u ≡ true → P s) → (drops s u ≡ false → P (becomes s u)) → P (next s u)
+pub next_cases : (P : State → Type 0) (s : State) (u : Meaning) → (drops s u ≡ true → P s) → (drops s u ≡ false → P (becomes s u))
+    → P (next s u)
 next_cases P s u h k = by_test (drops s u) (λ e. rw e (let h = rw e at h in h refl)) (λ e. rw e (let k = rw e at k in k refl))
 
 -- the same, of a unit that fits
-pub fit_cases : (P : State → Type 0) (s : State) (u : Meaning) → Fits s u → P s → (drops s u ≡ false → Good s u → P (becomes s u)) → P (next s u)
+pub fit_cases : (P : State → Type 0) (s : State) (u : Meaning) → Fits s u → P s → (drops s u ≡ false → Good s u → P (becomes s u))
+    → P (next s u)
 fit_cases P s u f h k = next_cases P s u (λ d. h) (λ d. k d (f.good d))
 
 pub next_dropped : (s : State) (u : Meaning) → drops s u ≡ true → next s u ≡ s
@@ -138,7 +143,8 @@ pub due_stops : (s : State) (u : Meaning) → is_restart_due s.phase ≡ true �
 due_stops s u h f = grind (arith, restart_acted, none_due)
 
 pub due_view : (s : State) (u : Meaning) (v : List Item) → is_restart_due s.phase ≡ true → Fits s u → view_next s u v ≡ v
-due_view s u v h f = by_test (drops s u) (λ d. rw d) (λ d. absurd (let n = none_due s.phase u h f.plain in let e = (f.good d).expected in cc))
+due_view s u v h f = by_test (drops s u) (λ d. rw d)
+    (λ d. absurd (let n = none_due s.phase u h f.plain in let e = (f.good d).expected in cc))
 
 -- ---- no unit leads to Restarting
 

@@ -15,16 +15,20 @@ use Rattle.osi_machine.proofs.invariant.what_holds_of_both_sides.{hearing, Views
 use Rattle.osi_machine.proofs.invariant.each_step_keeps_one_side.{one_taken, opened_count}
 
 -- what holds of each state and view up to a restart that takes effect, or of all
-pub until_heard : (P : State → List Item → Type 0) → ((s : State) (u : Meaning) (v : List Item) → Fits s u → stops s u ≡ false → P s v → P (next s u) (view_next s u v)) →
+pub until_heard : (P : State → List Item → Type 0)
+    → ((s : State) (u : Meaning) (v : List Item) → Fits s u → stops s u ≡ false → P s v → P (next s u) (view_next s u v)) →
     (s : State) (us : List Meaning) (v : List Item) → P s v → AllFit s us → P (heard s us) (heard_view s us v)
 until_heard P step s [] v h f = h
 until_heard P step s (u ∷ us) v h f =
     by_test (stops s u)
     (λ e. rw e h)
-    (λ e. rw e (let more : (stops s u ≡ false → P (heard (next s u) us) (heard_view (next s u) us (view_next s u v))) = (λ e. until_heard P step (next s u) us (view_next s u v) (step s u v f.0 e h) f.1) in more e))
+    (λ e. rw e (let more : (stops s u ≡ false → P (heard (next s u) us)
+    (heard_view (next s u) us (view_next s u v))) = (λ e. until_heard P step (next s u) us (view_next s u v)
+    (step s u v f.0 e h) f.1) in more e))
 
 -- one unit that fits: it is discarded, or acted on
-pub view_cases : (P : State → List Item → Type 0) (s : State) (u : Meaning) (v : List Item) → Fits s u → P s v → (Good s u → P (becomes s u) (seen s u v)) → P (next s u) (view_next s u v)
+pub view_cases : (P : State → List Item → Type 0) (s : State) (u : Meaning) (v : List Item) → Fits s u → P s v
+    → (Good s u → P (becomes s u) (seen s u v)) → P (next s u) (view_next s u v)
 view_cases P s u v f h k = by_test (drops s u) (λ d. rw d h) (λ d. rw d (k (f.good d)))
 
 -- ---- V(M) counts
@@ -36,14 +40,19 @@ pub record Counted (s : State) (v : List Item) : Type 0 where
 one_point : (n base : ℕ) (v : List Item) (i : Item) → points (i ∷ []) ≡ 1 → n ≡ base + points v → n + 1 ≡ base + points (v ++ i ∷ [])
 one_point n base v i one h = let e = points_append v (i ∷ []) in omega arith
 
-becomes_counted : (s : State) (u : Meaning) (v : List Item) → is_plain u ≡ true → Good s u → stops s u ≡ false → Counted s v → Counted (becomes s u) (seen s u v)
+becomes_counted : (s : State) (u : Meaning) (v : List Item) → is_plain u ≡ true → Good s u → stops s u ≡ false → Counted s v
+    → Counted (becomes s u) (seen s u v)
 unfolding point_taken minor_confirmed major_confirmed
 becomes_counted s (CN w r n x from to z o) v p g st h =
     let e = h.fresh (implied is_wait_cn is_opening refl s.phase g.expected) in
-    chosen (λ q. Counted q v) (is_acceptable w r z) _ _ (record { count = h.count; fresh = λ k. e }) (record { count = h.count; fresh = λ k. e })
+    chosen (λ q. Counted q v) (is_acceptable w r z) _ _ (record { count = h.count; fresh = λ k. e })
+    (record { count = h.count; fresh = λ k. e })
 becomes_counted s (AC w r n x z o) v p g st h =
     record { count = opened_count _ v (h.fresh (implied is_connecting is_opening refl s.phase g.expected)); fresh = λ k. absurd (cc) }
-becomes_counted s (DT o) v p g st h = record { count = one_taken _ _ s.units.duplex o v h.count; fresh = λ k. absurd (let e = excluded takes_data is_opening refl s.phase g.expected in cc) }
+becomes_counted s (DT o) v p g st h = record {
+  count = one_taken _ _ s.units.duplex o v h.count;
+  fresh = λ k. absurd (let e = excluded takes_data is_opening refl s.phase g.expected in cc);
+}
 becomes_counted s (GT k) v p g st h = record { count = h.count; fresh = h.fresh }
 becomes_counted s (PT k o) v p g st h = h
 becomes_counted s (MIP c n o) v p g st h = record {
@@ -83,13 +92,16 @@ view_grows s us v f = until_heard (λ q w. points v ≤ points w)
 abbrev DueAbove : ℕ → State → List Item → Type 0
 DueAbove k s v = (k ≤ points v) × (is_major_due s.phase ≡ true → k + 1 ≤ points v)
 
-becomes_above : (k : ℕ) (s : State) (u : Meaning) (v : List Item) → is_plain u ≡ true → Good s u → stops s u ≡ false → DueAbove k s v → DueAbove k (becomes s u) (seen s u v)
+becomes_above : (k : ℕ) (s : State) (u : Meaning) (v : List Item) → is_plain u ≡ true → Good s u → stops s u ≡ false → DueAbove k s v
+    → DueAbove k (becomes s u) (seen s u v)
 becomes_above k s u v p g st h = search (arith, chosen, more_or_same, points_append)
 
-pub major_came : (s : State) (us : List Meaning) (v : List Item) → is_major_due s.phase ≡ false → AllFit s us → is_major_due (heard s us).phase ≡ true
+pub major_came : (s : State) (us : List Meaning) (v : List Item) → is_major_due s.phase ≡ false → AllFit s us
+    → is_major_due (heard s us).phase ≡ true
     → points v + 1 ≤ points (heard_view s us v)
 major_came s us v n f d =
-    (until_heard (DueAbove (points v)) (λ q u w g st h. view_cases (DueAbove (points v)) q u w g h (λ a. becomes_above (points v) q u w g.plain a st h))
+    (until_heard (DueAbove (points v)) (λ q u w g st h. view_cases (DueAbove (points v)) q u w g h
+    (λ a. becomes_above (points v) q u w g.plain a st h))
     s us v (omega arith, λ e. absurd (cc)) f).1 d
 
 -- ---- if points are not taken last, none was seen
@@ -102,13 +114,16 @@ major_turned : (s : State) (i : ℕ) (o : List ℕ) → Turned (becomes s (MAP i
 unfolding point_taken
 major_turned s i o = record { phase = refl; answers = refl }
 
-pub unseen : (s : State) (us : List Meaning) (v : List Item) → AllFit s us → (heard s us).numbers.answers ≡ false → points (heard_view s us v) ≡ points v
+pub unseen : (s : State) (us : List Meaning) (v : List Item) → AllFit s us → (heard s us).numbers.answers ≡ false
+    → points (heard_view s us v) ≡ points v
 unseen s [] v f n = refl
 unseen s (u ∷ us) v f n = by_test (stops s u)
     (λ e. rw e)
-    (λ e. rw e (let more : ((heard (next s u) us).numbers.answers ≡ false → points (heard_view (next s u) us (view_next s u v)) ≡ points (view_next s u v)) = (λ m. unseen (next s u) us (view_next s u v) f.1 m) in let m = rw e at n in more m ∙ shown e m))
+    (λ e. rw e (let more : ((heard (next s u) us).numbers.answers ≡ false → points (heard_view (next s u) us (view_next s u v)) ≡ points
+    (view_next s u v)) = (λ m. unseen (next s u) us (view_next s u v) f.1 m) in let m = rw e at n in more m ∙ shown e m))
   where
-    none_shown : (w : Meaning) → Fits s w → AllFit (next s w) us → stops s w ≡ false → (heard (next s w) us).numbers.answers ≡ false → drops s w ≡ false → points (seen s w v) ≡ points v
+    none_shown : (w : Meaning) → Fits s w → AllFit (next s w) us → stops s w ≡ false → (heard (next s w) us).numbers.answers ≡ false
+        → drops s w ≡ false → points (seen s w v) ≡ points v
     none_shown (DT o) g more st m d = sym (one_taken (points v) 0 s.units.duplex o v (omega arith) ∙ omega arith)
     none_shown (MIP c i o) g more st m d = absurd (
         let a = (g.good d).expected in
@@ -127,10 +142,12 @@ unseen s (u ∷ us) v f n = by_test (stops s u)
 
 -- ---- one point more
 
-pub numbered_point : (b : ℕ) (h : List Item) (i : Item) → AreNumberedFrom (b + points h) (i ∷ []) → AreNumberedFrom b h → AreNumberedFrom b (h ++ i ∷ [])
+pub numbered_point : (b : ℕ) (h : List Item) (i : Item) → AreNumberedFrom (b + points h) (i ∷ []) → AreNumberedFrom b h
+    → AreNumberedFrom b (h ++ i ∷ [])
 numbered_point b [] i e a = subst (λ (n : ℕ). AreNumberedFrom n (i ∷ [])) (omega arith) e
 numbered_point b (Octets o ∷ h) i e a = numbered_point b h i e a
-numbered_point b (Point n kind o ∷ h) i e a = (a.0, numbered_point (b + 1) h i (subst (λ (n : ℕ). AreNumberedFrom n (i ∷ [])) (omega arith) e) a.1)
+numbered_point b (Point n kind o ∷ h) i e a =
+    (a.0, numbered_point (b + 1) h i (subst (λ (n : ℕ). AreNumberedFrom n (i ∷ [])) (omega arith) e) a.1)
 
 -- ---- what was seen stays
 
@@ -151,7 +168,9 @@ pub heard_more : (s : State) (us : List Meaning) (v : List Item) → Begins v (h
 heard_more s [] v = same_begins v v refl
 heard_more s (u ∷ us) v = by_test (stops s u)
     (λ e. rw e (same_begins v v refl))
-    (λ e. rw e (let more : Begins (view_next s u v) (heard_view (next s u) us (view_next s u v)) = (heard_more (next s u) us (view_next s u v)) in begins_twice v (view_next s u v) (heard_view (next s u) us (view_next s u v)) (by_test (drops s u)
+    (λ e. rw e (let more : Begins (view_next s u v)
+    (heard_view (next s u) us (view_next s u v)) = (heard_more (next s u) us (view_next s u v)) in
+    begins_twice v (view_next s u v) (heard_view (next s u) us (view_next s u v)) (by_test (drops s u)
     (λ q. rw q (same_begins v v refl))
     (λ q. rw q (let st : stops s u ≡ false = e in seen_begins s u v st))) more))
 
@@ -177,12 +196,14 @@ pub heard_grown : (a : ℕ) (s : State) (us : List Meaning) → Grown a s → Al
 heard_grown a s [] h f = h
 heard_grown a s (u ∷ us) h f = by_test (stops s u)
     (λ e. rw e h)
-    (λ e. rw e (let more : (stops s u ≡ false → Grown a (heard (next s u) us)) = (λ e. heard_grown a (next s u) us (next_grown a s u f.0 e h) f.1) in more e))
+    (λ e. rw e (let more : (stops s u ≡ false → Grown a (heard (next s u) us)) = (λ e. heard_grown a (next s u) us
+    (next_grown a s u f.0 e h) f.1) in more e))
 
 -- ---- a listener
 
 -- V(M) of a side that has received everything counts the points of the history
-pub listener_count : (h : List Item) (x y : Party) → IsConsistent x → AllFit x.session y.sent → Views h x y → hears (hearing x y).phase ≡ true
+pub listener_count : (h : List Item) (x y : Party) → IsConsistent x → AllFit x.session y.sent → Views h x y
+    → hears (hearing x y).phase ≡ true
     → (hearing x y).numbers.next ≡ (hearing x y).base + points h
 listener_count h x y c f v l = search (arith, heard_counted)
 

@@ -50,7 +50,8 @@ due_heard s (u ∷ us) h f =
 
 -- ---- if no restart takes effect, everything is received
 
-no_stop : (s : State) (u : Meaning) (us : List Meaning) → AllFit s (u ∷ us) → is_restart_due (flush s (u ∷ us)).phase ≡ false → stops s u ≡ false
+no_stop : (s : State) (u : Meaning) (us : List Meaning) → AllFit s (u ∷ us) → is_restart_due (flush s (u ∷ us)).phase ≡ false
+    → stops s u ≡ false
 no_stop s u us f n = search (arith, restart_due, due_end)
 
 pub heard_flush : (s : State) (us : List Meaning) → AllFit s us → is_restart_due (flush s us).phase ≡ false → heard s us ≡ flush s us
@@ -76,16 +77,19 @@ view_append s [] m v f n = refl
 view_append s (u ∷ us) m v f n = rw (no_stop s u us f n) (view_append (next s u) us m (view_next s u v) f.1 n)
 
 -- if one takes effect already, another unit shows nothing
-pub view_append_due : (s : State) (us : List Meaning) (m : Meaning) (v : List Item) → AllFit s (us ++ m ∷ []) → is_restart_due (flush s us).phase ≡ true →
+pub view_append_due : (s : State) (us : List Meaning) (m : Meaning) (v : List Item) → AllFit s (us ++ m ∷ [])
+    → is_restart_due (flush s us).phase ≡ true →
     heard_view s (us ++ m ∷ []) v ≡ heard_view s us v
 view_append_due s [] m v f n = rw (due_stops s m n f.0) (due_view s m v n f.0)
-view_append_due s (u ∷ us) m v f n = ap (λ (r : List Item). if stops s u then v else r) (view_append_due (next s u) us m (view_next s u v) f.1 n)
+view_append_due s (u ∷ us) m v f n = ap (λ (r : List Item). if stops s u then v else r)
+    (view_append_due (next s u) us m (view_next s u v) f.1 n)
 
 -- ---- data
 
 pub data_append : (us vs : List Meaning) → data_of (us ++ vs) ≡ data_of us ++ data_of vs
 data_append [] vs = refl
-data_append (u ∷ us) vs = ap (λ (d : List (List ℕ)). data_in u ++ d) (data_append us vs) ∙ sym (append_assoc (data_in u) (data_of us) (data_of vs))
+data_append (u ∷ us) vs = ap (λ (d : List (List ℕ)). data_in u ++ d) (data_append us vs)
+    ∙ sym (append_assoc (data_in u) (data_of us) (data_of vs))
 
 -- ---- two states that a channel runs through alike
 
@@ -163,7 +167,8 @@ becomes_sends : (s : State) (u : Meaning) → needs_token data_token u ≡ false
 unfolding point_taken minor_confirmed major_confirmed restarted_at
 becomes_sends s u p h = grind arith
 
-pub heard_sends : (s : State) (us : List Meaning) → list_any (needs_token data_token) us ≡ false → s.numbers.answers ≡ false → (heard s us).numbers.answers ≡ false
+pub heard_sends : (s : State) (us : List Meaning) → list_any (needs_token data_token) us ≡ false → s.numbers.answers ≡ false
+    → (heard s us).numbers.answers ≡ false
 heard_sends s [] n h = h
 heard_sends s (u ∷ us) n h =
     let p = or_parts (needs_token data_token u) (list_any (needs_token data_token) us) n in

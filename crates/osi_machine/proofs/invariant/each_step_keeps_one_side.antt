@@ -42,11 +42,13 @@ nothing_said n base v h = let e = points_append v [] in omega arith
 one_point : (n base k : ℕ) (v : List Item) (i : Item) → points (i ∷ []) ≡ 1 → n ≡ base + points v → n + 1 ≡ base + points (v ++ i ∷ [])
 one_point n base k v i one h = let e = points_append v (i ∷ []) in omega arith
 
-one_more : (n base : ℕ) (b : Bool) (octets : List ℕ) (v : List Item) → n ≡ base + points v → n ≡ base + points (v ++ (if b then [] else Octets octets ∷ []))
+one_more : (n base : ℕ) (b : Bool) (octets : List ℕ) (v : List Item) → n ≡ base + points v
+    → n ≡ base + points (v ++ (if b then [] else Octets octets ∷ []))
 one_more n base true octets v h = nothing_said n base v h
 one_more n base false octets v h = let e = points_append v (Octets octets ∷ []) in omega arith
 
-pub one_taken : (n base : ℕ) (b : Bool) (octets : List ℕ) (v : List Item) → n ≡ base + points v → n ≡ base + points (if b then v else v ++ Octets octets ∷ [])
+pub one_taken : (n base : ℕ) (b : Bool) (octets : List ℕ) (v : List Item) → n ≡ base + points v
+    → n ≡ base + points (if b then v else v ++ Octets octets ∷ [])
 one_taken n base true octets v h = h
 one_taken n base false octets v h = let e = points_append v (Octets octets ∷ []) in omega arith
 
@@ -62,13 +64,16 @@ quiet p = not (is_major_due p || (is_restarting p || (is_releasing p || is_openi
 or_four : (a b c d : Bool) → not (a || (b || (c || d))) ≡ true → (a ≡ false) × (b ≡ false) × (c ≡ false) × (d ≡ false)
 or_four a b c d h = grind arith
 
-calm : (s : State) (v : List Item) (said got : List (List ℕ)) → quiet s.phase ≡ true → s.numbers.next ≡ s.base + points v → Lines s v said got
+calm : (s : State) (v : List Item) (said got : List (List ℕ)) → quiet s.phase ≡ true → s.numbers.next ≡ s.base + points v
+    → Lines s v said got
 unfolding quiet
 calm s v said got q h = grind (arith, quiet, or_four)
 
 -- the phase, the units and the flag stay, and the side has begun
-same_lines : (s r : State) (v w : List Item) (said said' got got' : List (List ℕ)) → r.phase ≡ s.phase → r.units ≡ s.units → r.is_caller ≡ s.is_caller
-    → r.numbers.answers ≡ s.numbers.answers → is_opening s.phase ≡ false → r.numbers.next ≡ r.base + points w → Lines s v said got → Lines r w said' got'
+same_lines : (s r : State) (v w : List Item) (said said' got got' : List (List ℕ)) → r.phase ≡ s.phase → r.units ≡ s.units
+    → r.is_caller ≡ s.is_caller
+    → r.numbers.answers ≡ s.numbers.answers → is_opening s.phase ≡ false → r.numbers.next ≡ r.base + points w → Lines s v said got
+    → Lines r w said' got'
 same_lines s r v w said said' got got' p u i a o c h = grind arith
 
 pub below_if : (b : Bool) (n next : ℕ) → (if b then nat_lt n next else nat_le n next) ≡ true → n ≤ next
@@ -77,14 +82,16 @@ below_if false n next h = leb-true n next h
 
 -- ---- the calls
 
-pub call_lines : (s : State) (c : Call) (v : List Item) (said got : List (List ℕ)) → may_call s.phase c ≡ true → AllHold (needs s c) → IsSound s
+pub call_lines : (s : State) (c : Call) (v : List Item) (said got : List (List ℕ)) → may_call s.phase c ≡ true → AllHold (needs s c)
+    → IsSound s
     → Lines s v said got → Lines (after s c) (view_called s c v) (said ++ speaks s c) got
 unfolding quiet point_sent minor_confirmed major_confirmed restarted_at
 call_lines s (Accept requirements serial sides sizes octets) v said got p t sound h =
     let f = h.fresh (implied is_answering is_opening refl s.phase p) in
     calm _ _ _ _ refl (rw f.2 (omega arith))
 call_lines s (Data octets) v said got p t sound h =
-    same_lines s s v _ said _ got got refl refl refl refl (excluded is_ready is_opening refl s.phase p) (one_more _ _ s.units.duplex octets v h.count) h
+    same_lines s s v _ said _ got got refl refl refl refl (excluded is_ready is_opening refl s.phase p)
+    (one_more _ _ s.units.duplex octets v h.count) h
 call_lines s (Give tokens) v said got p t sound h =
     same_lines s _ v _ said _ got got refl refl refl refl (excluded may_give is_opening refl s.phase p) (nothing_said _ _ v h.count) h
 call_lines s (Please tokens octets) v said got p t sound h =
@@ -92,7 +99,8 @@ call_lines s (Please tokens octets) v said got p t sound h =
 call_lines s (Minor confirm octets) v said got p t sound h =
     calm _ _ _ _ (implied is_ready quiet refl s.phase p) (one_point _ _ 0 v (Point s.numbers.next (minor_kind confirm) octets) refl h.count)
 call_lines s (MinorConfirm n octets) v said got p t sound h =
-    same_lines s _ v _ said _ got got refl refl refl refl (excluded may_confirm_minor is_opening refl s.phase p) (nothing_said _ _ v h.count) h
+    same_lines s _ v _ said _ got got refl refl refl refl (excluded may_confirm_minor is_opening refl s.phase p)
+    (nothing_said _ _ v h.count) h
 call_lines s (Major octets) v said got p t sound h =
     calm _ _ _ _ refl (one_point _ _ 0 v (Point s.numbers.next major_point octets) refl h.count)
 call_lines s (Restart n wishes octets) v said got p t sound h = grind (arith, and_parts, leb-true, below_if, points_cut)
@@ -111,7 +119,8 @@ pub stood_below : (s : State) (n : ℕ) → (is_restarting s.phase || nat_le n s
 unfolding stands
 stood_below s n e st = grind (arith, ltb-true, leb-true, eqb-true, and_parts)
 
-chosen_lines : (P : State → List Item → Type 0) (b : Bool) (x y : State) (v w : List Item) → (b ≡ true → P x v) → (b ≡ false → P y w) → P (if b then x else y) (if b then v else w)
+chosen_lines : (P : State → List Item → Type 0) (b : Bool) (x y : State) (v w : List Item) → (b ≡ true → P x v) → (b ≡ false → P y w)
+    → P (if b then x else y) (if b then v else w)
 chosen_lines P true x y v w h k = h refl
 chosen_lines P false x y v w h k = k refl
 
@@ -127,7 +136,8 @@ unit_lines s (AC version_2 requirements serial sides sizes octets) v said got g 
     let f = h.fresh (implied is_connecting is_opening refl s.phase g.expected) in
     calm _ _ _ _ refl (opened_count _ v f.2)
 unit_lines s (DT octets) v said got g sound h =
-    same_lines s s v _ said said got _ refl refl refl refl (excluded takes_data is_opening refl s.phase g.expected) (one_taken _ _ s.units.duplex octets v h.count) h
+    same_lines s s v _ said said got _ refl refl refl refl (excluded takes_data is_opening refl s.phase g.expected)
+    (one_taken _ _ s.units.duplex octets v h.count) h
 unit_lines s (GT tokens) v said got g sound h =
     same_lines s _ v v said said got _ refl refl refl refl (excluded may_ask is_opening refl s.phase g.expected) h.count h
 unit_lines s (PT tokens octets) v said got g sound h =
@@ -148,7 +158,14 @@ unit_lines s (RS kind n wishes octets) v said got g sound h =
     let from = leb-true s.base n b.0 in
     chosen_lines (λ r w. Lines r w said (got ++ [])) (stands s n) _ s (cutat s.base v n) v
     (λ e. let to = stood_below s n b.1 e in calm _ _ _ _ refl (points_cut s.base n v from (omega arith)))
-    (λ e. record { count = h.count; major = h.major; asked = h.asked; asker = h.asker; fresh = λ k. let f = h.fresh k in (f.0, f.1, f.2, f.3, append-nil got ∙ f.4) })
+    (λ e. record {
+      count = h.count;
+      major = h.major;
+      asked = h.asked;
+      asker = h.asker;
+      fresh = λ k. let f = h.fresh k in
+          (f.0, f.1, f.2, f.3, append-nil got ∙ f.4);
+    })
 unit_lines s AA v said got g sound h = absurd (let e = g.expected in cc)
 unit_lines s _ v said got g sound h = calm _ _ _ _ refl h.count
 
@@ -157,7 +174,8 @@ pub taken_lines : (x : Party) (u : Meaning) → IsSound x.session → Lines x.se
     → Lines (party_taking x u).session (party_taking x u).view (party_taking x u).said (party_taking x u).got
 unfolding quiet
 taken_lines x u sound h =
-    unit_cases (λ b r. Lines r (if b then seen x.session u x.view else x.view) x.said (if b then x.got ++ got_in x.session u else x.got)) x.session u (record {
+    unit_cases (λ b r. Lines r (if b then seen x.session u x.view else x.view) x.said (if b then x.got ++ got_in x.session u else x.got))
+    x.session u (record {
       same = h;
       ended = calm _ _ _ _ refl h.count;
       bad = calm _ _ _ _ refl h.count;
@@ -166,7 +184,8 @@ taken_lines x u sound h =
 
 -- what is proved of one session
 pub record SessionLaws : Type 0 where
-  pub sound : (s : Standing) (inputs : List Input) → AllByRecursion HasNumbers inputs → IsSound s.state → IsSound (after_inputs s inputs).state
+  pub sound : (s : Standing) (inputs : List Input) → AllByRecursion HasNumbers inputs → IsSound s.state
+      → IsSound (after_inputs s inputs).state
   pub sendable : (s : State) (c : Call) (g : Granted) → IsSound s → HasSerial c → allowed s c ≡ Ok g → IsSendable g.sent
   pub one_unit : (s : State) (u : Meaning) → respond s (alone u) ≡ respond_unit s u
   pub passed : (s : State) (c : Call) (g : Granted) → allowed s c ≡ Ok g → Passed s c g
@@ -184,24 +203,32 @@ unfolding react
 sound_unit laws s u small h =
     subst (λ (o : Outcome). IsSound o.next) (laws.one_unit s u) (laws.sound (standing s) (taken_input (alone u) ∷ []) ((small, tt), tt) h)
 
-pub small_append : (us : List Meaning) (u : Meaning) → AllByRecursion IsNumbered us → IsNumbered u → AllByRecursion IsNumbered (us ++ u ∷ [])
+pub small_append : (us : List Meaning) (u : Meaning) → AllByRecursion IsNumbered us → IsNumbered u
+    → AllByRecursion IsNumbered (us ++ u ∷ [])
 small_append [] u h k = (k, tt)
 small_append (v ∷ us) u h k = (h.0, small_append us u h.1 k)
 
 -- ---- one side
 
-pub call_kept : SessionLaws → (x : Party) (c : Call) (g : Granted) → HasSerial c → allowed x.session c ≡ Ok g → IsConsistent x → IsConsistent (party_called x c g)
+pub call_kept : SessionLaws → (x : Party) (c : Call) (g : Granted) → HasSerial c → allowed x.session c ≡ Ok g → IsConsistent x
+    → IsConsistent (party_called x c g)
 call_kept laws x c g small e h =
     let q = laws.passed x.session c g e in
     let sound = sound_call laws x.session c g small e h.sound in
     let lines = call_lines x.session c x.view x.said x.got q.phase q.needed h.sound (lines_of x h) in
     consistent (party_called x c g) sound
-    (subst (λ (s : State). Lines s (party_called x c g).view (party_called x c g).said x.got) (subst (λ (y : Granted). after x.session c ≡ y.next) (sym q.gives) refl) lines)
+    (subst (λ (s : State). Lines s (party_called x c g).view (party_called x c g).said x.got)
+    (subst (λ (y : Granted). after x.session c ≡ y.next) (sym q.gives) refl) lines)
 
 -- ---- both sides
 
-pub answered_kept : SessionLaws → (w : Core) (c : Call) (a : Answer) → HasSerial c → allowed w.own.session c ≡ a → AreConsistent w → AreConsistent (answered w c a)
-answered_kept laws w c (Ok g) small e h = assumption (call_kept laws w.own c g small e h.own, small_append w.own.sent g.sent h.own_small (laws.sendable w.own.session c g h.own.sound small e).numbered)
+pub answered_kept : SessionLaws → (w : Core) (c : Call) (a : Answer) → HasSerial c → allowed w.own.session c ≡ a → AreConsistent w
+    → AreConsistent (answered w c a)
+answered_kept laws w c (Ok g) small e h = assumption (
+  call_kept laws w.own c g small e h.own,
+  small_append w.own.sent g.sent h.own_small
+      (laws.sendable w.own.session c g h.own.sound small e).numbered,
+)
 answered_kept laws w c (Err d) small e h = h
 
 -- the effect of a call that is granted
@@ -215,7 +242,8 @@ pub record IsGranted (w : Core) (c : Call) : Type 0 where
   pub sized : is_sized (sends w.own.session c) ≡ true
   pub kept : AreConsistent (answered w c (Ok (granted w.own.session c)))
 
-pub is_granted : SessionLaws → (w : Core) (c : Call) (g : Granted) → HasSerial c → allowed w.own.session c ≡ Ok g → AreConsistent w → IsGranted w c
+pub is_granted : SessionLaws → (w : Core) (c : Call) (g : Granted) → HasSerial c → allowed w.own.session c ≡ Ok g → AreConsistent w
+    → IsGranted w c
 is_granted laws w c g small e h =
     let q = laws.passed w.own.session c g e in
     record {
@@ -226,7 +254,8 @@ is_granted laws w c g small e h =
     }
 
 called_kept : SessionLaws → (w : Core) (c : Call) → HasSerial c → AreConsistent w → AreConsistent (called w c)
-called_kept laws w c small h = by_test (stays_in_core c) (λ e. rw e (answered_kept laws w c (allowed w.own.session c) small refl h)) (λ e. rw e h)
+called_kept laws w c small h = by_test (stays_in_core c) (λ e. rw e (answered_kept laws w c (allowed w.own.session c) small refl h))
+    (λ e. rw e h)
 
 pub taking_kept : SessionLaws → (w : Core) (us : List Meaning) → w.peer.sent ≡ us → AreConsistent w → AreConsistent (taking w us)
 taking_kept laws w us e h = search (arith, consistent, sound_unit, taken_lines, lines_of)
@@ -234,7 +263,8 @@ taking_kept laws w us e h = search (arith, consistent, sound_unit, taken_lines, 
 pub turned_kept : (w : Core) → AreConsistent w → AreConsistent (turned w)
 turned_kept w h = record { own = h.peer; peer = h.own; own_small = h.peer_small; peer_small = h.own_small }
 
-side_kept : (f : Core → Core) → ((w : Core) → AreConsistent w → AreConsistent (f w)) → (side : Side) (w : Core) → AreConsistent w → AreConsistent (at_side side f w)
+side_kept : (f : Core → Core) → ((w : Core) → AreConsistent w → AreConsistent (f w)) → (side : Side) (w : Core) → AreConsistent w
+    → AreConsistent (at_side side f w)
 side_kept f step Left w h = step w h
 side_kept f step Right w h = turned_kept (f (turned w)) (step (turned w) (turned_kept w h))
 
@@ -242,7 +272,8 @@ pub step_kept : SessionLaws → (w : Core) (step : CoreStep) → IsNumberedStep 
 step_kept laws w (call_at side c) small h = side_kept (λ v. called v c) (λ v k. called_kept laws v c small k) side w h
 step_kept laws w (take_at side) small h = side_kept takes (λ v k. taking_kept laws v v.peer.sent refl k) side w h
 
-pub run_kept : SessionLaws → (w : Core) (steps : List CoreStep) → AllByRecursion IsNumberedStep steps → AreConsistent w → AreConsistent (core_run w steps)
+pub run_kept : SessionLaws → (w : Core) (steps : List CoreStep) → AllByRecursion IsNumberedStep steps → AreConsistent w
+    → AreConsistent (core_run w steps)
 run_kept laws w [] small h = h
 run_kept laws w (step ∷ steps) small h = run_kept laws (core_step w step) steps small.1 (step_kept laws w step small.0 h)
 

@@ -19,10 +19,12 @@ answering o = record awaiting {
   sizes = o.sizes;
 }
 
-is_answered : (o : Offer) → are_sizes o.sizes ≡ true → has_data (functional_units o.requirements) ≡ true → answering o ≡ next awaiting (offer_sent o)
+is_answered : (o : Offer) → are_sizes o.sizes ≡ true → has_data (functional_units o.requirements) ≡ true
+    → answering o ≡ next awaiting (offer_sent o)
 unfolding answering
 is_answered o z h =
-    sym (ap (λ (b : Bool). if b then answering o else without_tokens Ended awaiting) (and_from (has_data (functional_units o.requirements)) (are_sizes o.sizes) h z))
+    sym (ap (λ (b : Bool). if b then answering o else without_tokens Ended awaiting)
+    (and_from (has_data (functional_units o.requirements)) (are_sizes o.sizes) h z))
 
 own_meets : (o : Offer) → Meeting no_owner (offering o) (offering o) (answering o) (offering o) awaiting
 unfolding answering
@@ -44,6 +46,7 @@ not_asked : (o : Offer) → is_restarting (answering o).phase ≡ true → ⊥
 unfolding answering
 not_asked o r = cc
 
-pub starts_stand : (o : Offer) → CanBeOffered o → IsOfProfile (functional_units o.requirements) → has_data (functional_units o.requirements) ≡ true
+pub starts_stand : (o : Offer) → CanBeOffered o → IsOfProfile (functional_units o.requirements)
+    → has_data (functional_units o.requirements) ≡ true
     → Stands (core_start o)
 starts_stand o small p h = search (arith, is_answered, starts, own_meets, peer_meets, not_asked, own_counts, peer_counts)

@@ -15,7 +15,8 @@ none_expected p u h k = grind arith
 
 pub over_kept : (s : State) (us : List Meaning) → is_over s.phase ≡ true → AllFit s us → is_over (flush s us).phase ≡ true
 over_kept = kept_all (λ s. is_over s.phase ≡ true)
-    (λ s u h f. fit_cases (λ r. is_over r.phase ≡ true) s u f h (λ d g. absurd (let n = none_expected s.phase u h f.plain in let e = g.expected in cc)))
+    (λ s u h f. fit_cases (λ r. is_over r.phase ≡ true) s u f h
+    (λ d g. absurd (let n = none_expected s.phase u h f.plain in let e = g.expected in cc)))
 
 pub alive : (o : Owners) (x y : Party) → Half o x y → is_over x.session.phase ≡ false
 alive o x y h = by_test (is_over x.session.phase)

@@ -91,7 +91,8 @@ pub record IsOfProfile (u : FunctionalUnits) : Type 0 where
 pub record Pair (h : List Item) (x y : Party) : Type 0 where
   pub numbered : AreNumberedFrom (flushed x y).base h
   -- data flows one way; what a side will discard counts too
-  pub one_way : (flushed x y).units.half_duplex ≡ true → (list_any (needs_token data_token) x.sent && list_any (needs_token data_token) y.sent) ≡ false
+  pub one_way : (flushed x y).units.half_duplex ≡ true
+      → (list_any (needs_token data_token) x.sent && list_any (needs_token data_token) y.sent) ≡ false
   pub callers : y.session.is_caller ≡ not x.session.is_caller
   pub profile : IsOfProfile (flushed x y).units
 
@@ -152,7 +153,14 @@ pub record Like (s r : State) : Type 0 where
   pub numbers : r.numbers ≡ s.numbers
 
 pub like : (s r : State) → r ≡ record s { held = r.held } → Like s r
-like s r e = assumption (ap (λ (q : State). q.phase) e, ap (λ (q : State). q.units) e, ap (λ (q : State). q.wishes) e, ap (λ (q : State). q.proposed) e, ap (λ (q : State). q.base) e, ap (λ (q : State). q.numbers) e)
+like s r e = assumption (
+  ap (λ (q : State). q.phase) e,
+  ap (λ (q : State). q.units) e,
+  ap (λ (q : State). q.wishes) e,
+  ap (λ (q : State). q.proposed) e,
+  ap (λ (q : State). q.base) e,
+  ap (λ (q : State). q.numbers) e,
+)
 
 pub itself : (s : State) → Like s s
 itself s = record { phase = refl; units = refl; wishes = refl; proposed = refl; base = refl; numbers = refl }
@@ -164,7 +172,8 @@ pub record Tokens_of (o : Owners) (now end heard : State) : Type 0 where
   pub absent : (t : Token) → has (available end.units) t ≡ false → is_absent (o t) ≡ true
 
 pub retoken : (p o : Owners) (now end other heard peer now' end' other' heard' peer' : State) → Meeting p now end other heard peer
-    → Like end end' → Like other other' → Like heard heard' → Like peer peer' → Tokens_of o now' end' heard' → Meeting o now' end' other' heard' peer'
+    → Like end end' → Like other other' → Like heard heard' → Like peer peer' → Tokens_of o now' end' heard'
+    → Meeting o now' end' other' heard' peer'
 retoken p o now end other heard peer now' end' other' heard' peer' m a b c d t = grind (arith, matched)
 
 pub recount : (now heard other_heard other now' heard' other_heard' other' : State) → Counting now heard other_heard other

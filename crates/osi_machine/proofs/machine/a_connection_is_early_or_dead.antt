@@ -27,7 +27,8 @@ pub record IsDead (w : World) : Type 0 where
 quiet_phase : (p : Phase) → not (shows_loss p) ≡ true → (is_early p || is_over p) ≡ true
 quiet_phase p h = implied (λ q. not (shows_loss q)) (λ q. is_early q || is_over q) refl p h
 
-pub put_none : (p : Message → Bool) (broken : Bool) (ms : List Message) (m : Message) → p m ≡ false → list_any p ms ≡ false → list_any p (put broken (m ∷ []) ms) ≡ false
+pub put_none : (p : Message → Bool) (broken : Bool) (ms : List Message) (m : Message) → p m ≡ false → list_any p ms ≡ false
+    → list_any p (put broken (m ∷ []) ms) ≡ false
 put_none p true ms m e h = h
 put_none p false [] m e h = rw e refl
 put_none p false (x ∷ ms) m e h = let a = or_parts (p x) (list_any p ms) h in let b = put_none p false ms m e a.1 in rw (a.0, b) refl
@@ -43,29 +44,39 @@ take_none p (suc k) (m ∷ ms) h = let a = or_parts (p m) (list_any p ms) h in l
 pub dead_call : (broken : Bool) (w : World) (x : Call) → IsDead w → IsDead (after_answer broken x w (allowed (session_of w) x))
 dead_call broken w x h = subst (λ (a : Answer). IsDead (after_answer broken x w a)) (sym (refused (session_of w) x h.over_now)) h
 
-pub dead_called : (broken : Bool) (w : World) (x : Call) → IsDead (turned w) → IsDead (turned (after_answer broken x w (allowed (session_of w) x)))
+pub dead_called : (broken : Bool) (w : World) (x : Call) → IsDead (turned w)
+    → IsDead (turned (after_answer broken x w (allowed (session_of w) x)))
 dead_called broken w x h = search (arith, refused, refused_early, quiet_phase)
 
 -- the caller takes a message
 pub dead_takes : (broken : Bool) (terms : Terms) (keep : ℕ) (w : World) (m : Message) (ms : List Message) → IsDead w
-    → ((message_taken broken terms keep w.own.transport (without_first w ms) m).closes ≡ false) × IsDead (message_taken broken terms keep w.own.transport (without_first w ms) m).world
+    → ((message_taken broken terms keep w.own.transport (without_first w ms) m).closes ≡ false)
+    × IsDead (message_taken broken terms keep w.own.transport (without_first w ms) m).world
 dead_takes broken terms keep w m ms h = search (arith, put_none)
 
 -- the called side takes a message
-pub dead_taken : (broken : Bool) (terms : Terms) (keep : ℕ) (w : World) (m : Message) (ms : List Message) → IsDead (turned w) → w.peer.channel ≡ m ∷ ms
+pub dead_taken : (broken : Bool) (terms : Terms) (keep : ℕ) (w : World) (m : Message) (ms : List Message) → IsDead (turned w)
+    → w.peer.channel ≡ m ∷ ms
     → ((message_taken broken terms keep w.own.transport (without_first w ms) m).closes ≡ false)
     × IsDead (turned (message_taken broken terms keep w.own.transport (without_first w ms) m).world)
 dead_taken broken terms keep w m ms h e = search (arith, or_parts)
 
 -- an end of either side, and a break
 pub dead_ends : (keep : ℕ) (w : World) → IsDead w → IsDead (ended_at keep w)
-dead_ends keep w h = record { left = refl; over_now = refl; quiet = h.quiet; idle = h.idle; no_unit = take_none is_unit keep w.own.channel h.no_unit }
+dead_ends keep w h =
+    record { left = refl; over_now = refl; quiet = h.quiet; idle = h.idle; no_unit = take_none is_unit keep w.own.channel h.no_unit }
 
 pub dead_ended : (keep : ℕ) (w : World) → IsDead (turned w) → IsDead (turned (ended_at keep w))
 dead_ended keep w h = record { left = h.left; over_now = h.over_now; quiet = refl; idle = refl; no_unit = h.no_unit }
 
 pub dead_cut : (left right : ℕ) (w : World) → IsDead w → IsDead (cut_to left right w)
-dead_cut left right w h = record { left = h.left; over_now = h.over_now; quiet = h.quiet; idle = h.idle; no_unit = take_none is_unit left w.own.channel h.no_unit }
+dead_cut left right w h = record {
+  left = h.left;
+  over_now = h.over_now;
+  quiet = h.quiet;
+  idle = h.idle;
+  no_unit = take_none is_unit left w.own.channel h.no_unit;
+}
 
 pub quiet_end : (w : World) → shows_loss w.own.kept.phase ≡ false → shown_at_end w ≡ []
 quiet_end w e = if_no (shows_loss w.own.kept.phase) (Lost ∷ []) [] e
@@ -97,11 +108,14 @@ opens_early w t u h = grind (arith, opens_quiet)
 waits_opens : (b : Bool) (w : World) (t u : Told) → Stage b w t u → w.own.transport ≡ waiting → Opens w t u
 waits_opens b w t u h4 e = search (arith, not_both)
 
-pub early_call : (b : Bool) (w : World) (t u : Told) (x : Call) → Stage b w t u → IsEarly w → IsEarly (after_answer b x w (allowed (session_of w) x))
-early_call b w t u x h (inl e) = subst (λ (a : Answer). IsEarly (after_answer b x w a)) (sym (caller_refuses w t u x (waits_opens b w t u h e)).refused) (inl e)
+pub early_call : (b : Bool) (w : World) (t u : Told) (x : Call) → Stage b w t u → IsEarly w
+    → IsEarly (after_answer b x w (allowed (session_of w) x))
+early_call b w t u x h (inl e) = subst (λ (a : Answer). IsEarly (after_answer b x w a))
+    (sym (caller_refuses w t u x (waits_opens b w t u h e)).refused) (inl e)
 early_call b w t u x h (inr d) = inr (dead_call b w x d)
 
-pub early_called : (b : Bool) (w : World) (t u : Told) (x : Call) → Stage b (turned w) t u → IsEarly (turned w) → IsEarly (turned (after_answer b x w (allowed (session_of w) x)))
+pub early_called : (b : Bool) (w : World) (t u : Told) (x : Call) → Stage b (turned w) t u → IsEarly (turned w)
+    → IsEarly (turned (after_answer b x w (allowed (session_of w) x)))
 early_called b w t u x h h6 = search (arith, turned_back, called_refuses, waits_opens, dead_called)
 
 -- the caller takes a message that is no agreement
@@ -109,19 +123,24 @@ abbrev pub is_agree : Message → Bool
 is_agree agree = true
 is_agree m = false
 
-pub early_takes : (b : Bool) (terms : Terms) (keep : ℕ) (w : World) (t u : Told) (m : Message) (ms : List Message) → is_agree m ≡ false → Stage b w t u → IsEarly w
-    → ((message_taken b terms keep w.own.transport (without_first w ms) m).closes ≡ false) × IsEarly (message_taken b terms keep w.own.transport (without_first w ms) m).world
+pub early_takes : (b : Bool) (terms : Terms) (keep : ℕ) (w : World) (t u : Told) (m : Message) (ms : List Message) → is_agree m ≡ false
+    → Stage b w t u → IsEarly w
+    → ((message_taken b terms keep w.own.transport (without_first w ms) m).closes ≡ false)
+    × IsEarly (message_taken b terms keep w.own.transport (without_first w ms) m).world
 early_takes b terms keep w t u m ms n h h10 = search (arith, dead_takes, opens_quiet, waits_opens)
 
-pub early_taken : (b : Bool) (terms : Terms) (keep : ℕ) (w : World) (t u : Told) (m : Message) (ms : List Message) → w.peer.channel ≡ m ∷ ms → Stage b (turned w) t u → IsEarly (turned w)
-    → ((message_taken b terms keep w.own.transport (without_first w ms) m).closes ≡ false) × IsEarly (turned (message_taken b terms keep w.own.transport (without_first w ms) m).world)
+pub early_taken : (b : Bool) (terms : Terms) (keep : ℕ) (w : World) (t u : Told) (m : Message) (ms : List Message) → w.peer.channel ≡ m ∷ ms
+    → Stage b (turned w) t u → IsEarly (turned w)
+    → ((message_taken b terms keep w.own.transport (without_first w ms) m).closes ≡ false)
+    × IsEarly (turned (message_taken b terms keep w.own.transport (without_first w ms) m).world)
 early_taken b terms keep w t u m ms f h k = grind (arith, called_takes, waits_opens, opens_early, dead_taken)
 
 pub early_ends : (b : Bool) (keep : ℕ) (w : World) (t u : Told) → Stage b w t u → IsEarly w → IsEarly (ended_at keep w)
 early_ends b keep w t u h (inl e) = opens_early _ _ _ (caller_ends keep w t u (waits_opens b w t u h e))
 early_ends b keep w t u h (inr d) = inr (dead_ends keep w d)
 
-pub early_ended : (b : Bool) (keep : ℕ) (w : World) (t u : Told) → Stage b (turned w) t u → IsEarly (turned w) → IsEarly (turned (ended_at keep w))
+pub early_ended : (b : Bool) (keep : ℕ) (w : World) (t u : Told) → Stage b (turned w) t u → IsEarly (turned w)
+    → IsEarly (turned (ended_at keep w))
 early_ended b keep w t u h (inl e) = opens_early _ _ _ (called_ends keep w t u (waits_opens b (turned w) t u h e))
 early_ended b keep w t u h (inr d) = inr (dead_ended keep w d)
 
@@ -147,13 +166,18 @@ pub none_takes : (b : Bool) (r keep : ℕ) (w : World) (m : Message) (ms : List 
 none_takes b r keep w m ms e h = search (arith, or_parts, put_none, take_none, append-nil)
 
 pub none_closed : (b : Bool) (keep : ℕ) (w : World) → NoAgree w → NoAgree (closed b keep w)
-none_closed b keep w h = record { own = put_none is_agree b (take keep w.own.channel) (bye 128) refl (take_none is_agree keep w.own.channel h.own); peer = h.peer }
+none_closed b keep w h = record {
+  own = put_none is_agree b (take keep w.own.channel) (bye 128) refl
+      (take_none is_agree keep w.own.channel h.own);
+  peer = h.peer;
+}
 
 pub none_ends : (keep : ℕ) (w : World) → NoAgree w → NoAgree (ended_at keep w)
 none_ends keep w h = record { own = take_none is_agree keep w.own.channel h.own; peer = h.peer }
 
 pub none_cut : (left right : ℕ) (w : World) → NoAgree w → NoAgree (cut_to left right w)
-none_cut left right w h = record { own = take_none is_agree left w.own.channel h.own; peer = take_none is_agree right w.peer.channel h.peer }
+none_cut left right w h =
+    record { own = take_none is_agree left w.own.channel h.own; peer = take_none is_agree right w.peer.channel h.peer }
 
 abbrev pub is_lost : Shown → Bool
 is_lost Lost = true
@@ -183,7 +207,7 @@ close_quiet b w t u r ms (inl h) e = absurd (no_bye_back h.way r ms (sym e ∙ h
 close_quiet b w t u r ms (inr (inl h)) e = absurd (no_bye_out h.way r ms (sym e ∙ h.own_channel))
 close_quiet b w t u r ms (inr (inr h)) e = by_test (stopped w.own)
     (λ o. over_quiet w.own.kept.phase o)
-    (λ l. absurd (let x = comes_unit b w h.core (bye r) ms h.projects l e in cc))
+    (λ l. absurd (let x = comes_unit b w h.core h.projects (bye r) ms l e in cc))
 
 -- what is neither a unit nor a close shows no loss
 abbrev is_heard : Transport → Message → Bool
@@ -199,7 +223,8 @@ pub message_keeps : (b : Bool) (terms : Terms) (keep : ℕ) (w : World) (t u : T
     → w.peer.channel ≡ x ∷ xs → list_any is_lost (message_taken b terms keep w.own.transport (without_first w xs) x).shown ≡ false
 message_keeps b terms keep w t u x xs h e = by w.own.transport x e
   where
-    by : (tr : Transport) (m : Message) → w.peer.channel ≡ m ∷ xs → list_any is_lost (message_taken b terms keep tr (without_first w xs) m).shown ≡ false
+    by : (tr : Transport) (m : Message) → w.peer.channel ≡ m ∷ xs
+        → list_any is_lost (message_taken b terms keep tr (without_first w xs) m).shown ≡ false
     by linked (unit v) f = unit_keeps (session_of (without_first w xs)) v
     by linked (bye r) f = ap (list_any is_lost) (quiet_end w (close_quiet b w t u r xs h f))
     by tr m f = shows_none b terms keep tr (without_first w xs) m refl

@@ -26,7 +26,7 @@ use Rattle.osi_machine.proofs.machine.a_connection_is_early_or_dead.{dead_ends, 
 use Rattle.osi_machine.proofs.machine.a_connection_is_early_or_dead.{is_agree, early_call, early_called, early_takes, early_taken}
 use Rattle.osi_machine.proofs.machine.a_connection_is_early_or_dead.{early_ends, early_ended, early_cut, none_back, none_call, none_takes}
 use Rattle.osi_machine.proofs.machine.a_connection_is_early_or_dead.{none_closed, none_ends, none_cut, is_lost, message_keeps}
-use Rattle.osi_machine.proofs.tables.the_tables_are_the_machine.{StageOf, stage_of, stage_from}
+use Rattle.osi_machine.proofs.machine.what_two_records_tell.{StageOf, stage_of, stage_from}
 use Rattle.osi_session.specs.declared.faults.CallError.TheVariants as error
 
 -- ---- all but one are dead
@@ -39,14 +39,16 @@ one_more : (ws : List World) (w : World) → AllByRecursion IsDead ws → OneAli
 one_more [] w h = inr tt
 one_more (v ∷ ws) w h = inl (h.0, one_more ws w h.1)
 
-one_replaced : (r : ℕ) (ws : List World) (w v : World) → slice_get ws r ≡ Some w → (IsDead w → IsDead v) → OneAlive ws → OneAlive (replaced r v ws)
+one_replaced : (r : ℕ) (ws : List World) (w v : World) → slice_get ws r ≡ Some w → (IsDead w → IsDead v) → OneAlive ws
+    → OneAlive (replaced r v ws)
 one_replaced r [] w v e f h = tt
 one_replaced zero (x ∷ ws) w v e f (inl h) = inl (f (subst IsDead (some_same x w e) h.0), h.1)
 one_replaced zero (x ∷ ws) w v e f (inr h) = inr h
 one_replaced (suc r) (x ∷ ws) w v e f (inl h) = inl (h.0, one_replaced r ws w v e f h.1)
 one_replaced (suc r) (x ∷ ws) w v e f (inr h) = inr (all_replaced IsDead r v ws (f (all_got IsDead r ws w e h)) h)
 
-one_with : (r : ℕ) (ws : List World) (w v : World) → connection_at r ws ≡ Some w → (IsDead w → IsDead v) → OneAlive ws → OneAlive (with_connection r v ws)
+one_with : (r : ℕ) (ws : List World) (w v : World) → connection_at r ws ≡ Some w → (IsDead w → IsDead v) → OneAlive ws
+    → OneAlive (with_connection r v ws)
 one_with zero ws w v e f h = h
 one_with (suc r) ws w v e f h = one_replaced r ws w v e f h
 
@@ -113,7 +115,8 @@ record IsCalm (m : Machine) : Type 0 where
 abbrev Denied : Terms → Claim
 Denied terms b w o s t = is_denial terms ≡ true → NoAgree w
 
-denied_takes : (terms : Terms) (b : Bool) (keep : ℕ) (w : World) (x : Message) (xs : List Message) → w.peer.channel ≡ x ∷ xs → is_denial terms ≡ true
+denied_takes : (terms : Terms) (b : Bool) (keep : ℕ) (w : World) (x : Message) (xs : List Message) → w.peer.channel ≡ x ∷ xs
+    → is_denial terms ≡ true
     → NoAgree w → (is_agree x ≡ false) × NoAgree (taking_of b terms keep w x xs).world
 denied_takes (denies r) b keep w x xs e d h = none_takes b r keep w x xs e h
 denied_takes (accepts class) b keep w x xs e d h = absurd (cc)
@@ -160,7 +163,8 @@ early_side_call b Right w x s h = early_called b (turned w) s.own s.peer x (back
 
 dead_side_takes : (b : Bool) (terms : Terms) (keep : ℕ) (side : Side) (w : World) (x : Message) (xs : List Message)
     → (seen_from side w).peer.channel ≡ x ∷ xs → IsDead w
-    → ((taking_of b terms keep (seen_from side w) x xs).closes ≡ false) × IsDead (seen_from side (taking_of b terms keep (seen_from side w) x xs).world)
+    → ((taking_of b terms keep (seen_from side w) x xs).closes ≡ false)
+    × IsDead (seen_from side (taking_of b terms keep (seen_from side w) x xs).world)
 dead_side_takes b terms keep Left w x xs e h = dead_takes b terms keep w x xs h
 dead_side_takes b terms keep Right w x xs e h = dead_taken b terms keep (turned w) x xs (back IsDead w h) e
 
@@ -175,7 +179,8 @@ none_agreed terms x known f h = grind arith
 early_side_takes : (b : Bool) (terms : Terms) (keep : ℕ) (side : Side) (w : World) (x : Message) (xs : List Message) (known : Option Class)
     → (seen_from side w).peer.channel ≡ x ∷ xs → (is_denial terms ≡ true → is_agree x ≡ false)
     → is_known (learns terms (seen_from side w).own.transport x known) ≡ false → StageOf b w → IsEarly w
-    → ((taking_of b terms keep (seen_from side w) x xs).closes ≡ false) × IsEarly (seen_from side (taking_of b terms keep (seen_from side w) x xs).world)
+    → ((taking_of b terms keep (seen_from side w) x xs).closes ≡ false)
+    × IsEarly (seen_from side (taking_of b terms keep (seen_from side w) x xs).world)
 early_side_takes b terms keep side w x xs known e f n s h = search (arith, early_taken, back, dead_takes, early_takes, none_agreed)
 
 ends_or_not : (P : World → Type 0) (side : Side) (n : ℕ) (w : World) → P (seen_from side (ended_at n (seen_from side w))) → P w
@@ -189,9 +194,11 @@ dead_ends_at Right n w h = dead_ended n (turned w) (back IsDead w h)
 dead_side_ends : (side : Side) (n : ℕ) (w : World) → IsDead w → IsDead (seen_from side (ends_there n (seen_from side w)))
 dead_side_ends side n w h = ends_or_not IsDead side n w (dead_ends_at side n w h) h
 
-early_ends_at : (b : Bool) (side : Side) (n : ℕ) (w : World) → StageOf b w × IsEarly w → IsEarly (seen_from side (ended_at n (seen_from side w)))
+early_ends_at : (b : Bool) (side : Side) (n : ℕ) (w : World) → StageOf b w × IsEarly w
+    → IsEarly (seen_from side (ended_at n (seen_from side w)))
 early_ends_at b Left n w h = early_ends b n w h.0.own h.0.peer h.0.stage h.1
-early_ends_at b Right n w h = early_ended b n (turned w) h.0.own h.0.peer (back (λ v. Stage b v h.0.own h.0.peer) w h.0.stage) (back IsEarly w h.1)
+early_ends_at b Right n w h = early_ended b n (turned w) h.0.own h.0.peer (back (λ v. Stage b v h.0.own h.0.peer) w h.0.stage)
+    (back IsEarly w h.1)
 
 stages : (b : Bool) (j : List Entry) (k : ℕ) (ws : List World) (os : List Offer) → Lines Whole b j k ws os → AllByRecursion (StageOf b) ws
 stages b j k [] [] h = tt
@@ -251,7 +258,8 @@ module _ (d side : Side) where
   order_dead k (w ∷ ws) h = and_rest k w ws (quiet_first k w (dead_quiet side w h.0)) (order_dead (k + 1) ws h.1)
 
   -- if one connection that was not dead is over now
-  order_one : (k r : ℕ) (ws : List World) (w v : World) → slice_get ws r ≡ Some w → (IsDead w → ⊥) → shows_loss (seen_from side v).own.kept.phase ≡ false
+  order_one : (k r : ℕ) (ws : List World) (w v : World) → slice_get ws r ≡ Some w → (IsDead w → ⊥)
+      → shows_loss (seen_from side v).own.kept.phase ≡ false
       → OneAlive ws → list_any (is_loss d) (shown_in_order side k (replaced r v ws)) ≡ false
   order_one k r [] w v e n q h = absurd (cc)
   order_one k zero (x ∷ ws) w v e n q (inl h) = absurd (n (subst IsDead (some_same x w e) h.0))
@@ -260,7 +268,8 @@ module _ (d side : Side) where
       and_rest k x (replaced r v ws) (quiet_first k x (dead_quiet side x h.0)) (order_one (k + 1) r ws w v e n q h.1)
   order_one k (suc r) (x ∷ ws) w v e n q (inr h) = absurd (n (all_got IsDead r ws w e h))
 
-  order_with : (r : ℕ) (ws : List World) (w v : World) → connection_at r ws ≡ Some w → (IsDead w → ⊥) → shows_loss (seen_from side v).own.kept.phase ≡ false
+  order_with : (r : ℕ) (ws : List World) (w v : World) → connection_at r ws ≡ Some w → (IsDead w → ⊥)
+      → shows_loss (seen_from side v).own.kept.phase ≡ false
       → OneAlive ws → list_any (is_loss d) (shown_in_order side 1 (with_connection r v ws)) ≡ false
   order_with zero ws w v e n q h = absurd (cc)
   order_with (suc r) ws w v e n q h = order_one 1 r ws w v e n q h
@@ -288,7 +297,12 @@ move_calm m known side r w v es e h c = record {
 -- entries alone
 note_calm : (m : Machine) (es : List Entry) → ((d : Side) → list_any (is_loss d) es ≡ false) → IsCalm m → IsCalm (noted es m)
 note_calm m es k c =
-    record { classes = c.classes; alone = c.alone; early = c.early; losses = λ d n. none_more (is_loss d) m.journal es (c.losses d n) (k d) }
+    record {
+      classes = c.classes;
+      alone = c.alone;
+      early = c.early;
+      losses = λ d n. none_more (is_loss d) m.journal es (c.losses d n) (k d);
+    }
 
 -- ---- a call
 
@@ -299,7 +313,8 @@ call_calm m side r x g (Some w) e c =
     let s : StageOf m.broken w = g w e in
     let a = allowed (session_of (seen_from side w)) x in
     by_test (is_given (seen_from side w).own.transport)
-    (λ q. rw q (move_calm m m.known side r w (after_answer m.broken x (seen_from side w) a) (call_answered side r x (error_of a) ∷ []) e (record {
+    (λ q. rw q (move_calm m m.known side r w (after_answer m.broken x (seen_from side w) a) (call_answered side r x (error_of a) ∷ []) e
+    (record {
       classes = c.classes;
       before = λ n. n;
       dead = dead_side_call m.broken side w x;
@@ -315,11 +330,13 @@ end_after : (side d : Side) (e : Ending) (m : Machine) → end_at (marked_ended 
 end_after side d e m = grind arith
 
 marked_calm : (side : Side) (e : Ending) (m : Machine)
-    → ((d : Side) → loses (if is_side d side then Some e else end_at m.left_end m.right_end d) ≡ false → list_any (is_loss d) m.journal ≡ false)
+    → ((d : Side) → loses (if is_side d side then Some e else end_at m.left_end m.right_end d) ≡ false
+    → list_any (is_loss d) m.journal ≡ false)
     → by_terms m.terms m.known ≡ true → (is_class_2 m.terms ≡ false → OneAlive m.worlds)
     → (is_known m.known ≡ false → AllByRecursion IsEarly m.worlds) → IsCalm (marked_ended side e m)
 marked_calm Left e m k c a y = record { classes = c; alone = a; early = y; losses = λ d n. k d (ap loses (sym (end_after Left d e m)) ∙ n) }
-marked_calm Right e m k c a y = record { classes = c; alone = a; early = y; losses = λ d n. k d (ap loses (sym (end_after Right d e m)) ∙ n) }
+marked_calm Right e m k c a y =
+    record { classes = c; alone = a; early = y; losses = λ d n. k d (ap loses (sym (end_after Right d e m)) ∙ n) }
 
 end_journal : (d side : Side) (e : Ending) (m : Machine) → list_any (is_loss d) m.journal ≡ false
     → list_any (is_loss d) (shown_in_order side 1 m.worlds) ≡ false
@@ -332,14 +349,16 @@ own_loses : (b : Bool) (e : Ending) (o : Option Ending) → loses (Some e) ≡ t
     → (b ≡ false) × (loses o ≡ false)
 own_loses b e o t n = grind arith
 
-lost_calm : (m : Machine) (side : Side) (e : Ending) (keep : ℕ → ℕ) → loses (Some e) ≡ true → AllByRecursion (StageOf m.broken) m.worlds → IsCalm m
+lost_calm : (m : Machine) (side : Side) (e : Ending) (keep : ℕ → ℕ) → loses (Some e) ≡ true → AllByRecursion (StageOf m.broken) m.worlds
+    → IsCalm m
     → IsCalm (after_end side e keep m)
 lost_calm m side e keep t g c = marked_calm side e _
     (λ d n. let p = own_loses (is_side d side) e (end_at m.left_end m.right_end d) t n in
     end_journal d side e m (c.losses d p.1) (order_other d side 1 m.worlds p.0))
     c.classes
     (λ a. one_ended side keep (dead_side_ends side) 1 m.worlds (c.alone a))
-    (λ n. all_from side keep (λ w. StageOf m.broken w × IsEarly w) IsEarly (λ i w h. ends_or_not IsEarly side i w (early_ends_at m.broken side i w h) h.1)
+    (λ n. all_from side keep (λ w. StageOf m.broken w × IsEarly w) IsEarly
+    (λ i w h. ends_or_not IsEarly side i w (early_ends_at m.broken side i w h) h.1)
     1 m.worlds (both_of (StageOf m.broken) IsEarly m.worlds g (c.early n)))
 
 -- a side ends that has closed: the connection is over, and all others are dead
@@ -353,7 +372,8 @@ here d side l r i e = grind arith
 not_2 : (terms : Terms) → by_terms terms (Some class_0) ≡ true → is_class_2 terms ≡ false
 not_2 terms h = grind arith
 
-quiet_back : (side : Side) (v : World) → shows_loss v.own.kept.phase ≡ false → shows_loss (seen_from side (seen_from side v)).own.kept.phase ≡ false
+quiet_back : (side : Side) (v : World) → shows_loss v.own.kept.phase ≡ false
+    → shows_loss (seen_from side (seen_from side v)).own.kept.phase ≡ false
 quiet_back side v q = grind arith
 
 -- `m` is the machine after the receiver's indications are recorded, `v` the connection after them
@@ -374,11 +394,13 @@ over_calm m side r keep w v e i known n q c =
 -- ---- a delivery
 
 -- a side that closes is over
-close_over : SessionLaws → (b : Bool) (terms : Terms) (keep : ℕ) (w : World) (t u : Told) (x : Message) (xs : List Message) → w.peer.channel ≡ x ∷ xs
+close_over : SessionLaws → (b : Bool) (terms : Terms) (keep : ℕ) (w : World) (t u : Told) (x : Message) (xs : List Message)
+    → w.peer.channel ≡ x ∷ xs
     → Stage b w t u → (taking_of b terms keep w x xs).closes ≡ true → stopped (taking_of b terms keep w x xs).world.own ≡ true
 close_over laws b terms keep w t u x xs e (inl h) c = absurd (let k = sym c ∙ (caller_takes b terms keep w t u x xs h e).stays_open in cc)
-close_over laws b terms keep w t u x xs e (inr (inl h)) c = absurd (let k = sym c ∙ (called_takes b terms keep w u t x xs h e).stays_open in cc)
-close_over laws b terms keep w t u x xs e (inr (inr h)) c = ((message_repeats laws b terms keep w t u x xs h e).over_now c).0
+close_over laws b terms keep w t u x xs e (inr (inl h)) c =
+    absurd (let k = sym c ∙ (called_takes b terms keep w u t x xs h e).stays_open in cc)
+close_over laws b terms keep w t u x xs e (inr (inr h)) c = ((message_repeats b w t u h laws terms keep x xs e).over_now c).0
 
 taking_calm : SessionLaws → (m : Machine) (side : Side) (r : ℕ) (keep : ℕ → ℕ) (w : World) (x : Message) (xs : List Message)
     → connection_at r m.worlds ≡ Some w → is_some (end_at m.left_end m.right_end side) ≡ false → (seen_from side w).peer.channel ≡ x ∷ xs
@@ -414,7 +436,8 @@ taking_calm laws m side r keep w x xs e i f s c = by_test k.closes
       before = known_before m.terms v.own.transport x m.known;
       dead = λ d. (dead_side_takes m.broken m.terms (keep r) side w x xs f d).1;
       early = λ n h. (early_takes_now n h).1;
-      kept = λ d. shown_kept d side r k.shown (message_keeps m.broken m.terms (keep r) v from.stage.own from.stage.peer x xs from.stage.stage f);
+      kept = λ d. shown_kept d side r k.shown (message_keeps m.broken m.terms
+          (keep r) v from.stage.own from.stage.peer x xs from.stage.stage f);
     }
 
     stays_dead : k.closes ≡ true → IsDead w → ⊥
@@ -429,7 +452,8 @@ taking_calm laws m side r keep w x xs e i f s c = by_test k.closes
       losses = c.losses;
     })
 
-    last : (now : Option Class) → known ≡ now → k.closes ≡ true → IsCalm (closes_by now (noted es (record m { known = known })) side r keep k)
+    last : (now : Option Class) → known ≡ now → k.closes ≡ true
+        → IsCalm (closes_by now (noted es (record m { known = known })) side r keep k)
     last (Some class_2) q d = move_calm m known side r w (closed m.broken (keep r) k.world) es e (record {
       classes = moves.classes;
       before = moves.before;
@@ -471,7 +495,8 @@ new_early : (b : Bool) (o : Offer) → IsEarly (new_line b o)
 new_early true o = inl refl
 new_early false o = inl refl
 
-none_waits : (known : Option Class) (asked : List Transport) → (not (is_known known) && list_any is_waiting asked) ≡ false → is_known known ≡ false
+none_waits : (known : Option Class) (asked : List Transport) → (not (is_known known) && list_any is_waiting asked) ≡ false
+    → is_known known ≡ false
     → list_any is_waiting asked ≡ false
 none_waits known asked h n = grind arith
 
@@ -479,7 +504,8 @@ one_asked : (m : Machine) (w : World) → IsCalm m → (not (is_known m.known) &
     → is_class_0 m.known ≡ false → is_class_2 m.terms ≡ false → (known : Option Class) → m.known ≡ known → OneAlive (m.worlds ++ w ∷ [])
 one_asked m w c a z t known e = search (arith, one_more, dead_all, none_waits)
 
-asked_calm : (m : Machine) (o : Offer) (a : Option Refusal) → refusal m o ≡ a → IsCalm m → IsCalm (noted (connect_answered o a ∷ []) (asked_in m o a))
+asked_calm : (m : Machine) (o : Offer) (a : Option Refusal) → refusal m o ≡ a → IsCalm m
+    → IsCalm (noted (connect_answered o a ∷ []) (asked_in m o a))
 asked_calm m o (Some e) q c = note_calm m (connect_answered o (Some e) ∷ []) (λ d. refl) c
 asked_calm m o None q c =
     let a = if_none (is_some m.left_end) _ _ q in
@@ -501,7 +527,8 @@ if_calm false m n h k = k refl
 told_loses : (e : Ending) (broken : Bool) → not (is_told e broken) ≡ false → loses (Some e) ≡ true
 told_loses e broken h = grind arith
 
-broken_calm : (m : Machine) (left right : ℕ → ℕ) → IsCalm m → IsCalm (record m { broken = true; worlds = cut_channels left right 1 m.worlds })
+broken_calm : (m : Machine) (left right : ℕ → ℕ) → IsCalm m
+    → IsCalm (record m { broken = true; worlds = cut_channels left right 1 m.worlds })
 broken_calm m left right c = record {
   classes = c.classes;
   alone = λ t. one_cut left right 1 m.worlds (c.alone t);

@@ -6,7 +6,8 @@ use Rattle.osi_machine.proofs.Vocabulary.{connection_at, seen_from, end_of, call
 use Rattle.osi_machine.proofs.Vocabulary.{learns, taken_in, delivered_to, AreApart}
 use Rattle.osi_machine.proofs.basics.what_stands_at_a_reference.{with_other, there_still}
 
-call_other : (m : Machine) (side : Side) (r : ℕ) (c : Call) (k : ℕ) → (k ≡ r → ⊥) → (a : Option World) → connection_at k (call_in m side r c (side_of side a)).worlds ≡ connection_at k m.worlds
+call_other : (m : Machine) (side : Side) (r : ℕ) (c : Call) (k : ℕ) → (k ≡ r → ⊥) → (a : Option World)
+    → connection_at k (call_in m side r c (side_of side a)).worlds ≡ connection_at k m.worlds
 call_other m side r c k n a = grind (arith, with_other)
 
 ended_now : (side : Side) (m : Machine) → end_of side (marked_ended side closed_here m) ≡ Some closed_here
@@ -18,19 +19,26 @@ no_end e f p q n = absurd (let z = sym (ap is_some (sym q ∙ p)) ∙ n in cc)
 same_end : (side : Side) (m : Machine) (known : Option Class) → end_of side (record m { known = known }) ≡ end_of side m
 same_end side m known = grind arith
 
-taking_other : (m : Machine) (side : Side) (r : ℕ) (keep : ℕ → ℕ) (t : Taking) (k : ℕ) → (k ≡ r → ⊥) → is_some (end_of side m) ≡ false → end_of side (after_taking m side r keep t) ≡ end_of side m
+taking_other : (m : Machine) (side : Side) (r : ℕ) (keep : ℕ → ℕ) (t : Taking) (k : ℕ) → (k ≡ r → ⊥) → is_some (end_of side m) ≡ false
+    → end_of side (after_taking m side r keep t) ≡ end_of side m
     → connection_at k (after_taking m side r keep t).worlds ≡ connection_at k m.worlds
 taking_other m side r keep t k n i e = search (arith, with_other, no_end, ended_now)
 
-taken_other : (m : Machine) (side : Side) (r : ℕ) (keep : ℕ → ℕ) (w : World) (k : ℕ) → (k ≡ r → ⊥) → is_some (end_of side m) ≡ false → (ms : List Message)
-    → end_of side (taken_in m side r keep w ms) ≡ end_of side m → connection_at k (taken_in m side r keep w ms).worlds ≡ connection_at k m.worlds
+taken_other : (m : Machine) (side : Side) (r : ℕ) (keep : ℕ → ℕ) (w : World) (k : ℕ) → (k ≡ r → ⊥) → is_some (end_of side m) ≡ false
+    → (ms : List Message)
+    → end_of side (taken_in m side r keep w ms) ≡ end_of side m
+    → connection_at k (taken_in m side r keep w ms).worlds ≡ connection_at k m.worlds
 taken_other m side r keep w k n i [] e = refl
 taken_other m side r keep w k n i (x ∷ xs) e =
-    taking_other (record m { known = learns m.terms w.own.transport x m.known }) side r keep (message_taken m.broken m.terms (keep r) w.own.transport (without_first w xs) x) k n
-    (ap is_some (same_end side m (learns m.terms w.own.transport x m.known)) ∙ i) (e ∙ sym (same_end side m (learns m.terms w.own.transport x m.known)))
+    taking_other (record m { known = learns m.terms w.own.transport x m.known }) side r keep
+    (message_taken m.broken m.terms (keep r) w.own.transport (without_first w xs) x) k n
+    (ap is_some (same_end side m (learns m.terms w.own.transport x m.known)) ∙ i)
+    (e ∙ sym (same_end side m (learns m.terms w.own.transport x m.known)))
 
-delivery_other : (m : Machine) (side : Side) (r : ℕ) (keep : ℕ → ℕ) (k : ℕ) → (k ≡ r → ⊥) → is_some (end_of side m) ≡ false → (a : Option World)
-    → end_of side (delivered_to m side r keep (side_of side a)) ≡ end_of side m → connection_at k (delivered_to m side r keep (side_of side a)).worlds ≡ connection_at k m.worlds
+delivery_other : (m : Machine) (side : Side) (r : ℕ) (keep : ℕ → ℕ) (k : ℕ) → (k ≡ r → ⊥) → is_some (end_of side m) ≡ false
+    → (a : Option World)
+    → end_of side (delivered_to m side r keep (side_of side a)) ≡ end_of side m
+    → connection_at k (delivered_to m side r keep (side_of side a)).worlds ≡ connection_at k m.worlds
 delivery_other m side r keep k n i None e = refl
 delivery_other m side r keep k n i (Some w) e = taken_other m side r keep (seen_from side w) k n i (seen_from side w).peer.channel e
 

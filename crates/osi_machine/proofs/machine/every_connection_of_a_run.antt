@@ -108,7 +108,8 @@ call_by side r c e d k n = ap (λ (b : Bool). if b then call_answered side r c e
 shown_by : (side : Side) (r : ℕ) (shown : List Shown) → IsBy side r (map (shown_at side r) shown)
 shown_by side r [] d k n = refl
 shown_by side r (i ∷ shown) d k n =
-    ap (λ (b : Bool). if b then shown_at side r i ∷ record_of d k (map (shown_at side r) shown) else record_of d k (map (shown_at side r) shown)) n
+    ap (λ (b : Bool). if b then shown_at side r i ∷ record_of d k (map (shown_at side r) shown) else record_of d k
+    (map (shown_at side r) shown)) n
     ∙ shown_by side r shown d k n
 
 self_side : (side : Side) → is_side side side ≡ true
@@ -125,7 +126,8 @@ call_own : (side : Side) (r : ℕ) (t : Told) (c : Call) (e : Option CallError)
     → told_by t (record_of side r (call_answered side r c e ∷ [])) ≡ told_of_call t c e
 call_own side r t c e = grind (arith, own_entry)
 
-shown_own : (side : Side) (r : ℕ) (t : Told) (shown : List Shown) → told_by t (record_of side r (map (shown_at side r) shown)) ≡ told_all t shown
+shown_own : (side : Side) (r : ℕ) (t : Told) (shown : List Shown)
+    → told_by t (record_of side r (map (shown_at side r) shown)) ≡ told_all t shown
 shown_own side r t [] = refl
 shown_own side r t (i ∷ shown) =
     ap (λ (b : Bool). told_by t (if b then shown_at side r i ∷ record_of side r (map (shown_at side r) shown)
@@ -144,7 +146,8 @@ order_apart side d n k [] l = refl
 order_apart side d n k (w ∷ ws) l =
     let there : (n < k + 1) ⊎ (k + 1 + length ws ≤ n) = by_either l (λ a. inl (omega arith)) (λ a. inr (omega arith)) in
     none_twice d n (map (shown_at side k) (shown_at_end (seen_from side w))) (shown_in_order side (k + 1) ws)
-    (shown_by side k (shown_at_end (seen_from side w)) d n (other_number d side k n (λ e. by_either l (λ a. omega arith) (λ a. omega arith))))
+    (shown_by side k (shown_at_end (seen_from side w)) d n
+    (other_number d side k n (λ e. by_either l (λ a. omega arith) (λ a. omega arith))))
     (order_apart side d n (k + 1) ws there)
 
 -- ---- all connections
@@ -178,7 +181,8 @@ module _ (P : Claim) (b : Bool) where
   keep_lines j es k _ _ f h = absurd h
 
   -- nor do entries that tell nothing
-  mute_lines : (j es : List Entry) (k : ℕ) (ws : List World) (os : List Offer) → IsMute es → Lines P b j k ws os → Lines P b (j ++ es) k ws os
+  mute_lines : (j es : List Entry) (k : ℕ) (ws : List World) (os : List Offer) → IsMute es → Lines P b j k ws os
+      → Lines P b (j ++ es) k ws os
   mute_lines j es k [] [] f h = tt
   mute_lines j es k (w ∷ ws) (o ∷ os) f h = (
     seen_told w o _ _ _ _ (sym (told_more Left k o j es ∙ f Left k _)) (sym (told_more Right k o j es ∙ f Right k _)) h.0,
@@ -262,7 +266,8 @@ module _ (terms : Terms) (P : Claim) (kept : IsKept terms P) where
   from_side b Right w o T h = kept.turns b w o (T Right) (T Left) h
 
   -- what is noted of a connection is of one side alone
-  one_told : (b : Bool) (side : Side) (k : ℕ) (v : World) (o : Offer) (j es : List Entry) (f : Told → Told) → record_of (other side) k es ≡ []
+  one_told : (b : Bool) (side : Side) (k : ℕ) (v : World) (o : Offer) (j es : List Entry) (f : Told → Told)
+      → record_of (other side) k es ≡ []
       → ((t : Told) → told_by t (record_of side k es) ≡ f t) → P b v o (f (told_of side k o j)) (told_of (other side) k o j)
       → At P b (j ++ es) k (seen_from side v) o
   one_told b side k v o j es f quiet tells h = from_side b side v o (λ d. told_of d k o (j ++ es))
@@ -279,7 +284,8 @@ module _ (terms : Terms) (P : Claim) (kept : IsKept terms P) where
     lines = change_line P m.broken m.journal es 1 r m.worlds g.offers w (seen_from side v)
         (λ d n q. by d n (other_number d side (suc r) n (λ y. q (omega arith)))) e (λ o h.
         at_number P m.broken (m.journal ++ es) (suc r) (1 + r) (seen_from side v) o (omega arith)
-        (one_told m.broken side (suc r) v o m.journal es f (by (other side) (suc r) (other_side side (suc r == suc r))) tells (moves o _ _ (to_side m.broken side w o (λ d. told_of d (suc r) o m.journal)
+        (one_told m.broken side (suc r) v o m.journal es f (by (other side) (suc r) (other_side side (suc r == suc r))) tells
+        (moves o _ _ (to_side m.broken side w o (λ d. told_of d (suc r) o m.journal)
         (at_number P m.broken m.journal (1 + r) (suc r) w o (omega arith) h))))) g.lines;
     fresh = λ d n o l.
         let a = get_below m.worlds r w e in
@@ -299,7 +305,8 @@ module _ (terms : Terms) (P : Claim) (kept : IsKept terms P) where
     offers = g.offers ++ o ∷ [];
     lines = mute_lines P m.broken m.journal es 1 (m.worlds ++ new ∷ []) (g.offers ++ o ∷ []) (λ d n t. refl)
         (append_line P m.broken m.journal 1 m.worlds g.offers new o (seen_told P m.broken new o _ _ _ _
-        (sym (g.fresh Left (1 + length m.worlds) o (omega arith))) (sym (g.fresh Right (1 + length m.worlds) o (omega arith))) first) g.lines);
+        (sym (g.fresh Left (1 + length m.worlds) o (omega arith))) (sym (g.fresh Right (1 + length m.worlds) o (omega arith))) first)
+        g.lines);
     fresh = λ d n p l.
         let e = length-append m.worlds (new ∷ []) in
         told_more d n p m.journal es ∙ g.fresh d n p (omega arith);
@@ -322,7 +329,8 @@ module _ (terms : Terms) (P : Claim) (kept : IsKept terms P) where
 
   -- ---- a call
 
-  call_good : (m : Machine) (side : Side) (r : ℕ) (c : Call) → HasSerial c → IsGood terms P m → (a : Option World) → connection_at r m.worlds ≡ a
+  call_good : (m : Machine) (side : Side) (r : ℕ) (c : Call) → HasSerial c → IsGood terms P m → (a : Option World)
+      → connection_at r m.worlds ≡ a
       → IsGood terms P (call_in m side r c (side_of side a))
   call_good m side r c small g None e =
       mute_good m (call_answered side r c (Some error.NoSuchConnection) ∷ []) (refused_mute side r c error.NoSuchConnection) refl g
@@ -338,7 +346,8 @@ module _ (terms : Terms) (P : Claim) (kept : IsKept terms P) where
 
   -- ---- the end of a side
 
-  ends_kept : (b : Bool) (w : World) (o : Offer) (s t : Told) (keep : ℕ) → P b w o s t → P b (ends_there keep w) o (told_all s (shown_at_end w)) t
+  ends_kept : (b : Bool) (w : World) (o : Offer) (s t : Told) (keep : ℕ) → P b w o s t
+      → P b (ends_there keep w) o (told_all s (shown_at_end w)) t
   ends_kept b w o s t keep h = grind arith
 
   end_lines : (b : Bool) (side : Side) (keep : ℕ → ℕ) (j es : List Entry) (k : ℕ) (ws : List World) (os : List Offer)
@@ -375,12 +384,14 @@ module _ (terms : Terms) (P : Claim) (kept : IsKept terms P) where
 
   marked_good : (side : Side) (e : Ending) (m : Machine) → IsGood terms P m → IsGood terms P (marked_ended side e m)
   marked_good Left e m g = record { offers = g.offers; lines = g.lines; fresh = g.fresh; none = g.none; agreed = g.agreed; asked = g.asked }
-  marked_good Right e m g = record { offers = g.offers; lines = g.lines; fresh = g.fresh; none = g.none; agreed = g.agreed; asked = g.asked }
+  marked_good Right e m g =
+      record { offers = g.offers; lines = g.lines; fresh = g.fresh; none = g.none; agreed = g.agreed; asked = g.asked }
 
   end_good : (m : Machine) (side : Side) (e : Ending) (keep : ℕ → ℕ) → IsGood terms P m → IsGood terms P (after_end side e keep m)
   end_good m side e keep g = marked_good side e _ (record {
     offers = g.offers;
-    lines = subst (λ (x : List Entry). Lines P m.broken x 1 (ended_worlds side keep 1 m.worlds) g.offers) (append_assoc m.journal shown (ended side e ∷ []))
+    lines = subst (λ (x : List Entry). Lines P m.broken x 1 (ended_worlds side keep 1 m.worlds) g.offers)
+        (append_assoc m.journal shown (ended side e ∷ []))
         (mute_lines P m.broken (m.journal ++ shown) (ended side e ∷ []) 1 (ended_worlds side keep 1 m.worlds) g.offers (ended_mute side e)
         (end_lines m.broken side keep m.journal [] 1 m.worlds g.offers (λ d n l. refl) g.lines));
     fresh = λ d n o l.
@@ -401,7 +412,8 @@ module _ (terms : Terms) (P : Claim) (kept : IsKept terms P) where
   -- ---- a delivery
 
   -- a side takes a message, with these terms
-  taking_good : (m : Machine) (side : Side) (r : ℕ) (keep : ℕ → ℕ) (w : World) (x : Message) (xs : List Message) → connection_at r m.worlds ≡ Some w
+  taking_good : (m : Machine) (side : Side) (r : ℕ) (keep : ℕ → ℕ) (w : World) (x : Message) (xs : List Message)
+      → connection_at r m.worlds ≡ Some w
       → (seen_from side w).peer.channel ≡ x ∷ xs → IsGood terms P m
       → IsGood terms P (after_taking m side r keep (taking_of m.broken terms (keep r) (seen_from side w) x xs))
   taking_good m side r keep w x xs e c g =
@@ -428,7 +440,8 @@ module _ (terms : Terms) (P : Claim) (kept : IsKept terms P) where
   taken_good m side r keep w e g [] c = g
   taken_good m side r keep w e g (x ∷ xs) c =
       let n : Machine = record m { known = learns m.terms (seen_from side w).own.transport x m.known } in
-      subst (λ (z : Terms). IsGood terms P (after_taking n side r keep (taking_of m.broken z (keep r) (seen_from side w) x xs))) (sym g.agreed)
+      subst (λ (z : Terms). IsGood terms P (after_taking n side r keep (taking_of m.broken z (keep r) (seen_from side w) x xs)))
+      (sym g.agreed)
       (taking_good n side r keep w x xs e c
       (record { offers = g.offers; lines = g.lines; fresh = g.fresh; none = g.none; agreed = g.agreed; asked = g.asked }))
 

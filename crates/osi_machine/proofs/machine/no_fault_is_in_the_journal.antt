@@ -21,7 +21,8 @@ entry_faulted t e = search (arith, call_faulted, or-false, or-true)
 
 told_faulted : (t : Told) (es : List Entry) → (told_by t es).faulted ≡ (t.faulted || list_any is_fault es)
 told_faulted t [] = sym (or-false t.faulted)
-told_faulted t (e ∷ es) = told_faulted (told_entry t e) es ∙ ap (λ (b : Bool). b || list_any is_fault es) (entry_faulted t e) ∙ or_assoc t.faulted (is_fault e) (list_any is_fault es)
+told_faulted t (e ∷ es) = told_faulted (told_entry t e) es ∙ ap (λ (b : Bool). b || list_any is_fault es) (entry_faulted t e)
+    ∙ or_assoc t.faulted (is_fault e) (list_any is_fault es)
 
 fine_record : (t : Told) (es : List Entry) → (told_by t es).faulted ≡ false → list_any is_fault es ≡ false
 fine_record t es h = (or_parts t.faulted (list_any is_fault es) (sym (told_faulted t es) ∙ h)).1
@@ -31,7 +32,8 @@ fine_record t es h = (or_parts t.faulted (list_any is_fault es) (sym (told_fault
 entry_fine : (e : Entry) (es : List Entry) → ((d : Side) (n : ℕ) → list_any is_fault (record_of d n (e ∷ es)) ≡ false) → is_fault e ≡ false
 entry_fine (shown_at side r i) es h =
     (or_parts (is_fault (shown_at side r i)) (list_any is_fault (record_of side r es))
-    (sym (ap (λ (b : Bool). list_any is_fault (if b then shown_at side r i ∷ record_of side r es else record_of side r es)) (own_entry side r)) ∙ (h side r))).0
+    (sym (ap (λ (b : Bool). list_any is_fault (if b then shown_at side r i ∷ record_of side r es else record_of side r es))
+    (own_entry side r)) ∙ (h side r))).0
 entry_fine _ es h = refl
 
 fine_behind : (e : Entry) (es : List Entry) (b : Bool) → list_any is_fault (if b then e ∷ es else es) ≡ false → list_any is_fault es ≡ false
@@ -48,7 +50,15 @@ fine_journal (e ∷ es) h =
 -- ---- the record of each reference, also of one that was not given
 
 an_offer : Offer
-an_offer = record { requirements = 0; serial = 0; wishes = for_asker; calling_selector = None; called_selector = None; sizes = no_sizes; octets = [] }
+an_offer = record {
+  requirements = 0;
+  serial = 0;
+  wishes = for_asker;
+  calling_selector = None;
+  called_selector = None;
+  sizes = no_sizes;
+  octets = [];
+}
 
 untold_fine : (d : Side) (o : Offer) → (untold d o).faulted ≡ false
 untold_fine d o = grind arith
@@ -58,13 +68,16 @@ none_from [] r e = omega arith
 none_from (w ∷ ws) zero e = absurd (cc)
 none_from (w ∷ ws) (suc r) e = let k = none_from ws r e in omega arith
 
-not_given : (m : Machine) (h : IsRun m) → IsGood h.agreed Whole m → (d : Side) (n : ℕ) (o : Offer) → connection_at n m.worlds ≡ None → told_of d n o m.journal ≡ untold d o
+not_given : (m : Machine) (h : IsRun m) → IsGood h.agreed Whole m → (d : Side) (n : ℕ) (o : Offer) → connection_at n m.worlds ≡ None
+    → told_of d n o m.journal ≡ untold d o
 not_given m h g d zero o e = g.none d o
 not_given m h g d (suc r) o e = g.fresh d (suc r) o (none_from m.worlds r e)
 
-fine_at : SessionLaws → (m : Machine) → IsRun m → (d : Side) (n : ℕ) (a : Option World) → connection_at n m.worlds ≡ a → list_any is_fault (record_of d n m.journal) ≡ false
+fine_at : SessionLaws → (m : Machine) → IsRun m → (d : Side) (n : ℕ) (a : Option World) → connection_at n m.worlds ≡ a
+    → list_any is_fault (record_of d n m.journal) ≡ false
 fine_at laws m h d n None e =
-    fine_record (untold d an_offer) (record_of d n m.journal) (ap (λ (t : Told). t.faulted) (not_given m h (good_run laws m h) d n an_offer e) ∙ untold_fine d an_offer)
+    fine_record (untold d an_offer) (record_of d n m.journal)
+    (ap (λ (t : Told). t.faulted) (not_given m h (good_run laws m h) d n an_offer e) ∙ untold_fine d an_offer)
 fine_at laws m h Left n (Some w) e = fine_record (untold Left w.offer) (record_of Left n m.journal) (no_faults laws m h n w e).0
 fine_at laws m h Right n (Some w) e = fine_record (untold Right w.offer) (record_of Right n m.journal) (no_faults laws m h n w e).1
 

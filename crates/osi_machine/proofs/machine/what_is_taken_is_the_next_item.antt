@@ -10,7 +10,7 @@ use Rattle.osi_machine.proofs.whole.a_unit_is_taken.{split_first}
 use Rattle.osi_machine.proofs.whole.every_step_is_simulated.{Repeats}
 use Rattle.osi_machine.proofs.whole.every_stage_of_a_connection.{Stage, turned_stage}
 use Rattle.osi_machine.proofs.machine.what_two_records_tell.{stage_at}
-use Rattle.osi_machine.proofs.tables.the_tables_are_the_machine.{no_unit_back, no_unit_out}
+use Rattle.osi_machine.proofs.whole.before_it_is_agreed_to.{no_unit_back, no_unit_out}
 
 acted_lives : (s : State) (u : Meaning) → is_acted_on s u ≡ true → is_over s.phase ≡ false
 acted_lives s u a = grind arith
@@ -18,13 +18,16 @@ acted_lives s u a = grind arith
 last_brings : (s r : State) (u : Meaning) → IsLast r u → brings s u ≡ []
 last_brings s r u l = grind arith
 
-next_there : SessionLaws → (b : Bool) (w : World) (t u : Told) (m : Meaning) (ms : List Message) (h : Repeats b w t u) → w.peer.channel ≡ unit m ∷ ms → stopped w.own ≡ false
+next_there : SessionLaws → (b : Bool) (w : World) (t u : Told) (m : Meaning) (ms : List Message) (h : Repeats b w t u)
+    → w.peer.channel ≡ unit m ∷ ms → stopped w.own ≡ false
     → is_acted_on h.core.own.session m ≡ true → Begins (h.core.own.view ++ brings h.core.own.session m) h.core.history
 next_there laws b w t u m ms h e l a =
-    let way = subst (λ (ch : List Message). Carried b (stopped w.peer) ch h.core.peer.sent h.core.peer.session) e (h.projects.own.carried l) in
+    let way = subst (λ (ch : List Message). Carried b (stopped w.peer) ch h.core.peer.sent h.core.peer.session) e
+    (h.projects.own.carried l) in
     elim (split_first b (stopped w.peer) m ms h.core.peer.sent h.core.peer.session way) [
       | inl f ↦ takes_the_next_item laws h.core h.stands m f.rest f.sent_is a
-      | inr z ↦ subst (λ (is : List Item). Begins (h.core.own.view ++ is) h.core.history) (sym (last_brings h.core.own.session h.core.peer.session m z.last)) (none_brought h.core h.stands)
+      | inr z ↦ subst (λ (is : List Item). Begins (h.core.own.view ++ is) h.core.history)
+          (sym (last_brings h.core.own.session h.core.peer.session m z.last)) (none_brought h.core h.stands)
     ]
 
 takes_its_item : SessionLaws → (b : Bool) (w : World) (t u : Told) → Stage b w t u → TakesItsItem w
@@ -33,7 +36,8 @@ takes_its_item laws b w t u (inr (inl h)) m ms e a = absurd (no_unit_out h.way m
 takes_its_item laws b w t u (inr (inr h)) m ms e a =
     let l : stopped w.own ≡ false = acted_lives (session_of w) m a in
     let same = session_is w h.core h.stands h.projects.history h.projects.own.counted (h.projects.own.alike l) in
-    let seen = ap (λ (k : ℕ). take k w.history) h.projects.own.counted.marked ∙ ap (take (length h.core.own.view)) h.projects.history ∙ taken_view h.core.own.view h.core.history (sees_the_history h.core h.stands) in
+    let seen = ap (λ (k : ℕ). take k w.history) h.projects.own.counted.marked ∙ ap (take (length h.core.own.view)) h.projects.history
+    ∙ taken_view h.core.own.view h.core.history (sees_the_history h.core h.stands) in
     subst (λ (v : List Item). Begins (v ++ brings (session_of w) m) w.history) (sym seen)
     (subst (λ (s : State). Begins (h.core.own.view ++ brings s m) w.history) (sym same)
     (subst (Begins (h.core.own.view ++ brings h.core.own.session m)) (sym h.projects.history)

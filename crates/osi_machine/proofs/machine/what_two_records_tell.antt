@@ -6,7 +6,7 @@ use Rattle.osi_machine.specs.Core.{turned as turned_core}
 use Rattle.osi_machine.proofs.Vocabulary.{or_comm, slice_get, is_over, FunctionalUnits, Item, Point, PointKind, points, Begins, Agree}
 use Rattle.osi_machine.proofs.Vocabulary.{Offer, Left, Right, Core, is_opening, World, turned, Machine, Entry, connection_at, Told, told_of}
 use Rattle.osi_machine.proofs.Vocabulary.{IsRun, OfEach, HasOneHolder, ShowNoFault, RecordsAgree, ShownAsAsked, ConfirmedThere}
-use Rattle.osi_machine.proofs.Vocabulary.{ConfirmedInBoth, untold, Side}
+use Rattle.osi_machine.proofs.Vocabulary.{ConfirmedInBoth, untold, Side, seen_from, Terms}
 use Rattle.osi_machine.proofs.basics.what_holds_in_each_phase.{by_test, by_either}
 use Rattle.osi_machine.proofs.basics.what_a_restart_leaves_of_a_history.{points_append}
 use Rattle.osi_machine.proofs.channels.a_held_token_keeps_units_out.{flush_open}
@@ -24,7 +24,8 @@ use Rattle.osi_machine.proofs.whole.every_step_is_simulated.{Repeats}
 
 -- ---- one connection of a run
 
-pub line_at : (b : Bool) (j : List Entry) (k r : ℕ) (ws : List World) (os : List Offer) (w : World) → slice_get ws r ≡ Some w → Lines Whole b j k ws os
+pub line_at : (b : Bool) (j : List Entry) (k r : ℕ) (ws : List World) (os : List Offer) (w : World) → slice_get ws r ≡ Some w
+    → Lines Whole b j k ws os
     → Stage b w (told_of Left (k + r) w.offer j) (told_of Right (k + r) w.offer j)
 line_at b j k r [] os w e h = absurd (cc)
 line_at b j k zero (v ∷ ws) (o ∷ os) w e h =
@@ -52,6 +53,26 @@ stage_at laws m h (suc r) w e =
     let g = good_run laws m h in
     subst (λ (n : ℕ). Stage m.broken w (told_of Left n w.offer m.journal) (told_of Right n w.offer m.journal)) (omega arith)
     (line_at m.broken m.journal 1 r m.worlds g.offers w e g.lines)
+
+-- the stage of a connection, whatever its records tell
+pub record StageOf (b : Bool) (w : World) : Type 0 where
+  pub own : Told
+  pub peer : Told
+  pub stage : Stage b w own peer
+
+pub stage_of : (terms : Terms) (m : Machine) → IsGood terms Whole m → (r : ℕ) (w : World) → connection_at r m.worlds ≡ Some w
+    → StageOf m.broken w
+stage_of terms m g zero w e = absurd (cc)
+stage_of terms m g (suc r) w e =
+    record {
+      own = told_of Left (1 + r) w.offer m.journal;
+      peer = told_of Right (1 + r) w.offer m.journal;
+      stage = line_at m.broken m.journal 1 r m.worlds g.offers w e g.lines;
+    }
+
+pub stage_from : (b : Bool) (side : Side) (w : World) → StageOf b w → StageOf b (seen_from side w)
+stage_from b Left w h = h
+stage_from b Right w h = record { own = h.peer; peer = h.own; stage = turned_stage b w h.own h.peer h.stage }
 
 -- ---- one holder
 
@@ -82,7 +103,8 @@ agreed_or_not b w s t (inr (inr h)) = inr h
 -- ---- the views
 
 -- a record without duplex tells what its side has seen
-told_view : (t : Told) (c : Core) → Stands c → Tells t c.own.session c.own.view c.own.said c.own.got → t.duplex ≡ false → t.view ≡ c.own.view
+told_view : (t : Told) (c : Core) → Stands c → Tells t c.own.session c.own.view c.own.said c.own.got → t.duplex ≡ false
+    → t.view ≡ c.own.view
 told_view t c s h d = by_test (is_opening c.own.session.phase)
     (λ e. h.fresh e ∙ sym (s.consistent.own.fresh e).view)
     (λ e. h.view (sym (h.duplex (begun (is_opening c.own.session.phase) (is_over c.own.session.phase) e lives)) ∙ d))
@@ -93,7 +115,8 @@ told_view t c s h d = by_test (is_opening c.own.session.phase)
     begun : (a e : Bool) → a ≡ false → e ≡ false → not (a || e) ≡ true
     begun a e p q = rw (p, q) refl
 
-turned_view : (t : Told) (c : Core) → Stands (turned_core c) → Tells t c.peer.session c.peer.view c.peer.said c.peer.got → t.duplex ≡ false → t.view ≡ c.peer.view
+turned_view : (t : Told) (c : Core) → Stands (turned_core c) → Tells t c.peer.session c.peer.view c.peer.said c.peer.got → t.duplex ≡ false
+    → t.view ≡ c.peer.view
 turned_view t c s h d = told_view t (turned_core c) s h d
 
 nil_agree : {A : Type 0} → (xs ys : List A) → xs ≡ [] → Agree xs ys
@@ -111,32 +134,38 @@ begins_nil : {A : Type 0} → (xs ys : List A) → xs ≡ [] → Begins xs ys
 begins_nil xs ys e = subst (λ r. Begins r ys) (sym e) (ys, refl)
 
 -- a record of a side that is open tells whether duplex is selected
-told_duplex : (t : Told) (c : Core) → Stands c → Tells t c.own.session c.own.view c.own.said c.own.got → is_opening c.own.session.phase ≡ false → t.duplex ≡ c.own.session.units.duplex
+told_duplex : (t : Told) (c : Core) → Stands c → Tells t c.own.session c.own.view c.own.said c.own.got
+    → is_opening c.own.session.phase ≡ false → t.duplex ≡ c.own.session.units.duplex
 told_duplex t c s h e = h.duplex (rw (e, alive c.owner c.own c.peer s.own) refl)
 
 -- and both sides that are open have the same units
-same_duplex : (c : Core) → Stands c → is_opening c.own.session.phase ≡ false → is_opening c.peer.session.phase ≡ false → c.peer.session.units.duplex ≡ c.own.session.units.duplex
+same_duplex : (c : Core) → Stands c → is_opening c.own.session.phase ≡ false → is_opening c.peer.session.phase ≡ false
+    → c.peer.session.units.duplex ≡ c.own.session.units.duplex
 same_duplex c s e f = ap (λ (u : FunctionalUnits). u.duplex)
-    (sym (flush_open c.peer.session c.own.sent f s.peer.fits).units ∙ sym s.own.meeting.units ∙ (flush_open c.own.session c.peer.sent e s.own.fits).units)
+    (sym (flush_open c.peer.session c.own.sent f s.peer.fits).units ∙ sym s.own.meeting.units
+    ∙ (flush_open c.own.session c.peer.sent e s.own.fits).units)
 
 -- so that duplex is selected at a side that is open, if either record tells so
 either_duplex : (a b d : Bool) → a ≡ d → (b ≡ false) ⊎ (b ≡ d) → (a || b) ≡ true → d ≡ true
 either_duplex a b d p q h = grind arith
 
 -- what the user of one side receives
-shown_there : (s t : Told) (c : Core) → Stands c → Tells s c.own.session c.own.view c.own.said c.own.got → Tells t c.peer.session c.peer.view c.peer.said c.peer.got
+shown_there : (s t : Told) (c : Core) → Stands c → Tells s c.own.session c.own.view c.own.said c.own.got
+    → Tells t c.peer.session c.peer.view c.peer.said c.peer.got
     → (s.duplex || t.duplex) ≡ true → Begins s.indicated t.requested
 shown_there s t c k h j d = by_test (is_opening c.own.session.phase)
     (λ e. begins_nil s.indicated t.requested (h.silent e).1)
     (λ e. subst (λ (x : List (List ℕ)). Begins x t.requested) (sym (h.got (own_duplex e)))
     (subst (Begins c.own.got) (sym (asked e (is_opening c.peer.session.phase) refl)) (got_what_was_said c k (own_duplex e))))
   where
-    peer_told : is_opening c.own.session.phase ≡ false → (b : Bool) → is_opening c.peer.session.phase ≡ b → (t.duplex ≡ false) ⊎ (t.duplex ≡ c.own.session.units.duplex)
+    peer_told : is_opening c.own.session.phase ≡ false → (b : Bool) → is_opening c.peer.session.phase ≡ b
+        → (t.duplex ≡ false) ⊎ (t.duplex ≡ c.own.session.units.duplex)
     peer_told e true f = inl (j.unselected f)
     peer_told e false f = inr (told_duplex t (turned_core c) (turned_stands c k) j f ∙ same_duplex c k e f)
 
     own_duplex : is_opening c.own.session.phase ≡ false → c.own.session.units.duplex ≡ true
-    own_duplex e = either_duplex s.duplex t.duplex c.own.session.units.duplex (told_duplex s c k h e) (peer_told e (is_opening c.peer.session.phase) refl) d
+    own_duplex e = either_duplex s.duplex t.duplex c.own.session.units.duplex (told_duplex s c k h e)
+        (peer_told e (is_opening c.peer.session.phase) refl) d
 
     asked : is_opening c.own.session.phase ≡ false → (b : Bool) → is_opening c.peer.session.phase ≡ b → t.requested ≡ c.peer.said
     asked e true f = (j.silent f).0 ∙ sym (k.consistent.peer.fresh f).said
@@ -161,27 +190,33 @@ nil_begins (i ∷ v) b = absurd (let e = ap length b.1 in omega arith)
 duplex_view : (c : Core) → Stands c → is_opening c.own.session.phase ≡ false → c.own.session.units.duplex ≡ true → c.own.view ≡ []
 duplex_view c s e d =
     let units = (flush_open c.own.session c.peer.sent e s.own.fits).units in
-    nil_begins c.own.view (subst (Begins c.own.view) (s.own_views.stream (ap (λ (u : FunctionalUnits). u.duplex) units ∙ d)).1 (sees_the_history c s))
+    nil_begins c.own.view (subst (Begins c.own.view) (s.own_views.stream (ap (λ (u : FunctionalUnits). u.duplex) units ∙ d)).1
+    (sees_the_history c s))
 
-pointed : (before v : List Item) (n : ℕ) (kind : PointKind) (octets : List ℕ) → Begins (before ++ Point n kind octets ∷ []) v → points v ≡ 0 → ⊥
+pointed : (before v : List Item) (n : ℕ) (kind : PointKind) (octets : List ℕ) → Begins (before ++ Point n kind octets ∷ []) v → points v ≡ 0
+    → ⊥
 pointed before v n kind octets b e = grind (arith, begins_points, points_append)
 
 -- a record that tells a point is of a side without duplex
-told_point : (t : Told) (c : Core) → Stands c → Tells t c.own.session c.own.view c.own.said c.own.got → (before : List Item) (n : ℕ) (kind : PointKind) (octets : List ℕ)
+told_point : (t : Told) (c : Core) → Stands c → Tells t c.own.session c.own.view c.own.said c.own.got
+    → (before : List Item) (n : ℕ) (kind : PointKind) (octets : List ℕ)
     → Begins (before ++ Point n kind octets ∷ []) t.view → (is_opening c.own.session.phase ≡ false) × (c.own.session.units.duplex ≡ false)
 told_point t c s h before n kind octets b = by (is_opening c.own.session.phase) (c.own.session.units.duplex) refl refl
   where
-    by : (o d : Bool) → is_opening c.own.session.phase ≡ o → c.own.session.units.duplex ≡ d → (is_opening c.own.session.phase ≡ false) × (c.own.session.units.duplex ≡ false)
+    by : (o d : Bool) → is_opening c.own.session.phase ≡ o → c.own.session.units.duplex ≡ d
+        → (is_opening c.own.session.phase ≡ false) × (c.own.session.units.duplex ≡ false)
     by true d e f = absurd (none_in_nil before (Point n kind octets) (subst (Begins (before ++ Point n kind octets ∷ [])) (h.fresh e) b))
     by false true e f = absurd (pointed before t.view n kind octets b (h.pointed ∙ ap points (duplex_view c s e f)))
     by false false e f = (e, f)
 
 -- and the record of the other then tells what the other has seen
-other_view : (t : Told) (c : Core) → Stands c → Tells t c.peer.session c.peer.view c.peer.said c.peer.got → is_opening c.own.session.phase ≡ false → c.own.session.units.duplex ≡ false
+other_view : (t : Told) (c : Core) → Stands c → Tells t c.peer.session c.peer.view c.peer.said c.peer.got
+    → is_opening c.own.session.phase ≡ false → c.own.session.units.duplex ≡ false
     → t.view ≡ c.peer.view
 other_view t c s h e d = by_test (is_opening c.peer.session.phase)
     (λ f. h.fresh f ∙ sym (s.consistent.peer.fresh f).view)
-    (λ f. let units = sym (flush_open c.peer.session c.own.sent f s.peer.fits).units ∙ sym s.own.meeting.units ∙ (flush_open c.own.session c.peer.sent e s.own.fits).units in
+    (λ f. let units = sym (flush_open c.peer.session c.own.sent f s.peer.fits).units ∙ sym s.own.meeting.units
+    ∙ (flush_open c.own.session c.peer.sent e s.own.fits).units in
     h.view (ap (λ (u : FunctionalUnits). u.duplex) units ∙ d))
 
 pub confirmed_there : (b : Bool) (w : World) (s t : Told) → Stage b w s t → ConfirmedThere w s t

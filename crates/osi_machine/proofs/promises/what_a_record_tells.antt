@@ -51,7 +51,8 @@ pub record Tells (t : Told) (s : State) (v : List Item) (spoken heard : List (Li
 -- ---- if little changes
 
 -- phase, units and base stay, and nothing is seen
-same_tells : (t : Told) (s r : State) (v w : List Item) (a a' b b' : List (List ℕ)) → r.phase ≡ s.phase → r.units ≡ s.units → r.proposed ≡ s.proposed → r.base ≡ s.base
+same_tells : (t : Told) (s r : State) (v w : List Item) (a a' b b' : List (List ℕ)) → r.phase ≡ s.phase → r.units ≡ s.units
+    → r.proposed ≡ s.proposed → r.base ≡ s.base
     → w ≡ v → a' ≡ a → b' ≡ b → Tells t s v a b → Tells t r w a' b'
 same_tells t s r v w x x' y y' p u n b e f g h = grind arith
 
@@ -63,19 +64,23 @@ calm_parts : (p : Phase) → calm p ≡ true → (is_opening p ≡ false) × (is
 unfolding calm
 calm_parts p h = grind (arith, calm)
 
-calm_tells : (t : Told) (s : State) (v : List Item) (said got : List (List ℕ)) → calm s.phase ≡ true → t.base ≡ s.base → (s.units.duplex ≡ false → t.view ≡ v) → t.asking ≡ false
-    → (is_open s.phase ≡ true → t.duplex ≡ s.units.duplex) → t.faulted ≡ false → (s.units.duplex ≡ true → t.requested ≡ said) → (s.units.duplex ≡ true → t.indicated ≡ got)
+calm_tells : (t : Told) (s : State) (v : List Item) (said got : List (List ℕ)) → calm s.phase ≡ true → t.base ≡ s.base
+    → (s.units.duplex ≡ false → t.view ≡ v) → t.asking ≡ false
+    → (is_open s.phase ≡ true → t.duplex ≡ s.units.duplex) → t.faulted ≡ false → (s.units.duplex ≡ true → t.requested ≡ said)
+    → (s.units.duplex ≡ true → t.indicated ≡ got)
     → points t.view ≡ points v → Tells t s v said got
 calm_tells t s v said got c b e a d f x y q = search (arith, calm_parts)
 
 none_more : (t : Told) (v : List Item) (b : Bool) → (b ≡ false → t.view ≡ v) → b ≡ false → t.view ≡ v ++ []
 none_more t v b f d = f d ∙ sym (append-nil v)
 
-octets_called : (b : Bool) (t v : List Item) (octets : List ℕ) → points t ≡ points v → points (t ++ Octets octets ∷ []) ≡ points (v ++ (if b then [] else Octets octets ∷ []))
+octets_called : (b : Bool) (t v : List Item) (octets : List ℕ) → points t ≡ points v
+    → points (t ++ Octets octets ∷ []) ≡ points (v ++ (if b then [] else Octets octets ∷ []))
 octets_called true t v octets e = no_point_more t octets ∙ e ∙ ap points (sym (append-nil v))
 octets_called false t v octets e = no_point_more t octets ∙ e ∙ sym (no_point_more v octets)
 
-octets_taken : (b : Bool) (t v : List Item) (octets : List ℕ) → points t ≡ points v → points (t ++ Octets octets ∷ []) ≡ points (if b then v else v ++ Octets octets ∷ [])
+octets_taken : (b : Bool) (t v : List Item) (octets : List ℕ) → points t ≡ points v
+    → points (t ++ Octets octets ∷ []) ≡ points (if b then v else v ++ Octets octets ∷ [])
 octets_taken true t v octets e = no_point_more t octets ∙ e
 octets_taken false t v octets e = no_point_more t octets ∙ e ∙ sym (no_point_more v octets)
 
@@ -84,25 +89,31 @@ same_points t s v said got h = h.pointed ∙ ap points (sym (append-nil v))
 
 -- ---- an accepted call
 
-not_asking : (t : Told) (s : State) (v : List Item) (said got : List (List ℕ)) → Tells t s v said got → is_restarting s.phase ≡ false → t.asking ≡ false
+not_asking : (t : Told) (s : State) (v : List Item) (said got : List (List ℕ)) → Tells t s v said got → is_restarting s.phase ≡ false
+    → t.asking ≡ false
 not_asking t s v said got h e = h.asking ∙ e
 
-data_added : (b : Bool) (t v : List Item) (octets : List ℕ) → t ≡ v → b ≡ false → t ++ Octets octets ∷ [] ≡ v ++ (if b then [] else Octets octets ∷ [])
+data_added : (b : Bool) (t v : List Item) (octets : List ℕ) → t ≡ v → b ≡ false
+    → t ++ Octets octets ∷ [] ≡ v ++ (if b then [] else Octets octets ∷ [])
 data_added b t v octets e d = rw (e, d) refl
 
-point_added : (n base : ℕ) (t v : List Item) (k : PointKind) (octets : List ℕ) → base + points t ≡ n → t ≡ v → t ++ Point (base + points t) k octets ∷ [] ≡ v ++ Point n k octets ∷ []
+point_added : (n base : ℕ) (t v : List Item) (k : PointKind) (octets : List ℕ) → base + points t ≡ n → t ≡ v
+    → t ++ Point (base + points t) k octets ∷ [] ≡ v ++ Point n k octets ∷ []
 point_added n base t v k octets e f = ap (λ (m : ℕ). t ++ Point m k octets ∷ []) e ∙ ap (λ (r : List Item). r ++ Point n k octets ∷ []) f
 
 -- the number of the next point
-next_point : (t : Told) (s : State) (v : List Item) (said got : List (List ℕ)) → Tells t s v said got → s.numbers.next ≡ s.base + points v → s.units.duplex ≡ false
+next_point : (t : Told) (s : State) (v : List Item) (said got : List (List ℕ)) → Tells t s v said got → s.numbers.next ≡ s.base + points v
+    → s.units.duplex ≡ false
     → t.base + points t.view ≡ s.numbers.next
 next_point t s v said got h c d = let a = h.base in let b = ap points (h.view d) in omega arith
 
-octets_said : (b : Bool) (t v : List (List ℕ)) (octets : List ℕ) → t ≡ v → b ≡ true → t ++ octets ∷ [] ≡ v ++ (if b then octets ∷ [] else [])
+octets_said : (b : Bool) (t v : List (List ℕ)) (octets : List ℕ) → t ≡ v → b ≡ true
+    → t ++ octets ∷ [] ≡ v ++ (if b then octets ∷ [] else [])
 octets_said b t v octets e d = rw (e, d) refl
 
--- from a phase (f) of an open connection, in which no restart is awaited, to one in which nothing is opened
-module _ (f : Phase → Bool) (opens : every (λ p. not (f p) || is_open p) ≡ true) (calms : every (λ p. not (f p) || not (is_restarting p)) ≡ true) where
+-- from a phase f of an open connection, in which no restart is awaited, to one in which nothing is opened
+module _ (f : Phase → Bool) (opens : every (λ p. not (f p) || is_open p) ≡ true)
+    (calms : every (λ p. not (f p) || not (is_restarting p)) ≡ true) where
   open_tells : (t r : Told) (s q : State) (v v' : List Item) (said said' got got' : List (List ℕ)) → f s.phase ≡ true → calm q.phase ≡ true
       → q.units ≡ s.units → q.base ≡ s.base → r.base ≡ t.base → r.asking ≡ t.asking → r.duplex ≡ t.duplex → r.faulted ≡ t.faulted
       → Tells t s v said got → (s.units.duplex ≡ false → r.view ≡ v') → (s.units.duplex ≡ true → r.requested ≡ said')
@@ -114,18 +125,22 @@ module _ (f : Phase → Bool) (opens : every (λ p. not (f p) || is_open p) ≡ 
       (λ o. d ∙ h.duplex (implied f is_open opens s.phase p) ∙ sym w) (e ∙ h.fine) (λ x. asked (sym w ∙ x)) (λ x. told (sym w ∙ x)) k
 
   -- a call that says nothing, and a unit that brings nothing
-  quiet_call : (t : Told) (s q : State) (v : List Item) (said got : List (List ℕ)) → f s.phase ≡ true → calm q.phase ≡ true → q.units ≡ s.units
+  quiet_call : (t : Told) (s q : State) (v : List Item) (said got : List (List ℕ)) → f s.phase ≡ true → calm q.phase ≡ true
+      → q.units ≡ s.units
       → q.base ≡ s.base → Tells t s v said got → Tells t q (v ++ []) (said ++ []) got
   quiet_call t s q v said got p c u b h =
       open_tells t t s q v (v ++ []) said (said ++ []) got got p c u b refl refl refl refl h (none_more t v s.units.duplex h.view)
       (λ d. h.said d ∙ sym (append-nil said)) h.got (same_points t s v said got h)
 
-  quiet_unit : (t : Told) (s q : State) (v : List Item) (said got : List (List ℕ)) → f s.phase ≡ true → calm q.phase ≡ true → q.units ≡ s.units
+  quiet_unit : (t : Told) (s q : State) (v : List Item) (said got : List (List ℕ)) → f s.phase ≡ true → calm q.phase ≡ true
+      → q.units ≡ s.units
       → q.base ≡ s.base → Tells t s v said got → Tells t q v said (got ++ [])
   quiet_unit t s q v said got p c u b h =
-      open_tells t t s q v v said said got (got ++ []) p c u b refl refl refl refl h h.view h.said (λ d. h.got d ∙ sym (append-nil got)) h.pointed
+      open_tells t t s q v v said said got (got ++ []) p c u b refl refl refl refl h h.view h.said
+      (λ d. h.got d ∙ sym (append-nil got)) h.pointed
 
-pub call_tells : (t : Told) (s : State) (c : Call) (v : List Item) (said got : List (List ℕ)) → stays_in_core c ≡ true → may_call s.phase c ≡ true
+pub call_tells : (t : Told) (s : State) (c : Call) (v : List Item) (said got : List (List ℕ)) → stays_in_core c ≡ true
+    → may_call s.phase c ≡ true
     → s.numbers.next ≡ s.base + points v → (is_opening s.phase ≡ true → (v ≡ []) × (said ≡ []) × (got ≡ [])) → Tells t s v said got
     → Tells (told_call t c) (after s c) (view_called s c v) (said ++ speaks s c) got
 unfolding calm
@@ -136,22 +151,26 @@ call_tells t s (Accept requirements serial sides sizes octets) v said got k p n 
     (λ d. (h.silent o).0 ∙ sym (append-nil said ∙ (f o).1)) (λ d. (h.silent o).1 ∙ sym (f o).2) (same_points t s v said got h)
 call_tells t s (Data octets) v said got k p n f h =
     open_tells is_ready refl refl t _ s _ v _ said _ got _ p (implied is_ready calm refl s.phase p) refl refl refl refl refl refl h
-    (λ d. data_added s.units.duplex t.view v octets (h.view d) d) (λ d. octets_said s.units.duplex t.requested said octets (h.said d) d) h.got
+    (λ d. data_added s.units.duplex t.view v octets (h.view d) d)
+    (λ d. octets_said s.units.duplex t.requested said octets (h.said d) d) h.got
     (octets_called s.units.duplex t.view v octets h.pointed)
 call_tells t s (Minor confirm octets) v said got k p n f h =
     open_tells is_ready refl refl t _ s _ v _ said _ got _ p (implied is_ready calm refl s.phase p) refl refl refl refl refl refl h
     (λ d. point_added s.numbers.next t.base t.view v (minor_kind confirm) octets (next_point t s v said got h n d) (h.view d))
-    (λ d. h.said d ∙ sym (append-nil said)) h.got (one_point_more (t.base + points t.view) s.numbers.next t.view v (minor_kind confirm) octets h.pointed)
+    (λ d. h.said d ∙ sym (append-nil said)) h.got
+    (one_point_more (t.base + points t.view) s.numbers.next t.view v (minor_kind confirm) octets h.pointed)
 call_tells t s (Major octets) v said got k p n f h =
     open_tells is_ready refl refl t _ s _ v _ said _ got _ p refl refl refl refl refl refl refl h
     (λ d. point_added s.numbers.next t.base t.view v major_point octets (next_point t s v said got h n d) (h.view d))
-    (λ d. h.said d ∙ sym (append-nil said)) h.got (one_point_more (t.base + points t.view) s.numbers.next t.view v major_point octets h.pointed)
+    (λ d. h.said d ∙ sym (append-nil said)) h.got
+    (one_point_more (t.base + points t.view) s.numbers.next t.view v major_point octets h.pointed)
 call_tells t s (MajorConfirm octets) v said got k p n f h = quiet_call is_major_due refl refl t s _ v said got p refl refl refl h
 call_tells t s (Restart m wishes octets) v said got k p n f h = grind (arith, append-nil, cut_points)
 call_tells t s (RestartConfirm sides octets) v said got k p n f h = quiet_call is_restart_due refl refl t s _ v said got p refl refl refl h
 call_tells t s (Release octets) v said got k p n f h = quiet_call is_ready refl refl t s _ v said got p refl refl refl h
 call_tells t s (ReleaseRefuse octets) v said got k p n f h = quiet_call is_release_due refl refl t s _ v said got p refl refl refl h
-call_tells t s (Give tokens) v said got k p n f h = same_tells t s _ v _ said _ got got refl refl refl refl (append-nil v) (append-nil said) refl h
+call_tells t s (Give tokens) v said got k p n f h =
+    same_tells t s _ v _ said _ got got refl refl refl refl (append-nil v) (append-nil said) refl h
 call_tells t s (Please tokens octets) v said got k p n f h =
     same_tells t s _ v _ said _ got got refl refl refl refl (append-nil v) (append-nil said) refl h
 call_tells t s (MinorConfirm m octets) v said got k p n f h =
@@ -164,18 +183,22 @@ abbrev pub told_all : Told → List Shown → Told
 told_all t [] = t
 told_all t (i ∷ shown) = told_all (told_shown t i) shown
 
-data_taken : (b : Bool) (t v : List Item) (octets : List ℕ) → t ≡ v → b ≡ false → t ++ Octets octets ∷ [] ≡ (if b then v else v ++ Octets octets ∷ [])
+data_taken : (b : Bool) (t v : List Item) (octets : List ℕ) → t ≡ v → b ≡ false
+    → t ++ Octets octets ∷ [] ≡ (if b then v else v ++ Octets octets ∷ [])
 data_taken b t v octets e d = rw (e, d) refl
 
-either : (P : List Shown → State → List Item → Type 0) (b : Bool) (a c : List Shown) (x y : State) (v w : List Item) → (b ≡ true → P a x v) → (b ≡ false → P c y w)
+either : (P : List Shown → State → List Item → Type 0) (b : Bool) (a c : List Shown) (x y : State) (v w : List Item) → (b ≡ true → P a x v)
+    → (b ≡ false → P c y w)
     → P (if b then a else c) (if b then x else y) (if b then v else w)
 either P true a c x y v w h k = h refl
 either P false a c x y v w h k = k refl
 
-either_state : (P : List Shown → State → Type 0) (b : Bool) (a c : List Shown) (x y : State) → P a x → P c y → P (if b then a else c) (if b then x else y)
+either_state : (P : List Shown → State → Type 0) (b : Bool) (a c : List Shown) (x y : State) → P a x → P c y
+    → P (if b then a else c) (if b then x else y)
 either_state P b a c x y h k = grind arith
 
-pub unit_tells : (t : Told) (s : State) (u : Meaning) (v : List Item) (said got : List (List ℕ)) → is_plain u ≡ true → Good s u → (is_opening s.phase ≡ true → (v ≡ []) × (said ≡ []) × (got ≡ [])) → Tells t s v said got
+pub unit_tells : (t : Told) (s : State) (u : Meaning) (v : List Item) (said got : List (List ℕ)) → is_plain u ≡ true → Good s u
+    → (is_opening s.phase ≡ true → (v ≡ []) × (said ≡ []) × (got ≡ [])) → Tells t s v said got
     → Tells (told_all t (shown_for s u)) (becomes s u) (seen s u v) said (got ++ got_in s u)
 unfolding calm
 unit_tells t s (CN w r n x from to z o) v said got p g f h =
@@ -183,18 +206,28 @@ unit_tells t s (CN w r n x from to z o) v said got p g f h =
     let fresh = h.fresh open_now in
     either_state (λ a q. Tells (told_all t a) q v said (got ++ [])) (is_acceptable w r z) _ _ _ _
     (grind (arith, not_asking, append-nil))
-    (calm_tells _ _ _ _ _ refl h.base (λ d. fresh ∙ sym (f open_now).0) (not_asking t s v said got h (excluded is_wait_cn is_restarting refl s.phase g.expected)) (λ o. absurd (cc)) h.fine (λ d. (h.silent open_now).0 ∙ sym (f open_now).1) (λ d. (h.silent open_now).1 ∙ sym (append-nil got ∙ (f open_now).2)) h.pointed)
+    (calm_tells _ _ _ _ _ refl h.base (λ d. fresh ∙ sym (f open_now).0)
+    (not_asking t s v said got h (excluded is_wait_cn is_restarting refl s.phase g.expected)) (λ o. absurd (cc)) h.fine
+    (λ d. (h.silent open_now).0 ∙ sym (f open_now).1)
+    (λ d. (h.silent open_now).1 ∙ sym (append-nil got ∙ (f open_now).2)) h.pointed)
 unit_tells t s (AC w r n x z o) v said got p g f h =
     let open_now = implied is_connecting is_opening refl s.phase g.expected in
     let k = h.asked g.expected in
-    calm_tells _ _ _ _ _ refl (ap (λ (a : FunctionalUnits). agreed_base (both_units a (functional_units r)) n t.proposed) k.0 ∙ ap (agreed_base (both_units s.units (functional_units r)) n) k.1)
-    (λ d. h.fresh open_now ∙ sym (f open_now).0) (not_asking t s v said got h (excluded is_connecting is_restarting refl s.phase g.expected)) (λ o. ap (λ (a : FunctionalUnits). (both_units a (functional_units r)).duplex) k.0) h.fine (λ d. (h.silent open_now).0 ∙ sym (f open_now).1) (λ d. (h.silent open_now).1 ∙ sym (append-nil got ∙ (f open_now).2)) h.pointed
+    calm_tells _ _ _ _ _ refl (ap (λ (a : FunctionalUnits). agreed_base (both_units a (functional_units r)) n t.proposed) k.0
+    ∙ ap (agreed_base (both_units s.units (functional_units r)) n) k.1)
+    (λ d. h.fresh open_now ∙ sym (f open_now).0) (not_asking t s v said got h
+    (excluded is_connecting is_restarting refl s.phase g.expected))
+    (λ o. ap (λ (a : FunctionalUnits). (both_units a (functional_units r)).duplex) k.0) h.fine
+    (λ d. (h.silent open_now).0 ∙ sym (f open_now).1)
+    (λ d. (h.silent open_now).1 ∙ sym (append-nil got ∙ (f open_now).2)) h.pointed
 unit_tells t s (DT o) v said got p g f h =
-    open_tells takes_data refl refl t _ s _ v _ said _ got _ g.expected (implied takes_data calm refl s.phase g.expected) refl refl refl refl refl refl h
+    open_tells takes_data refl refl t _ s _ v _ said _ got _ g.expected
+    (implied takes_data calm refl s.phase g.expected) refl refl refl refl refl refl h
     (λ d. data_taken s.units.duplex t.view v o (h.view d) d) h.said (λ d. octets_said s.units.duplex t.indicated got o (h.got d) d)
     (octets_taken s.units.duplex t.view v o h.pointed)
 unit_tells t s (MIP c n o) v said got p g f h =
-    open_tells is_ready refl refl t _ s _ v _ said _ got _ g.expected (implied is_ready calm refl s.phase g.expected) refl refl refl refl refl refl h
+    open_tells is_ready refl refl t _ s _ v _ said _ got _ g.expected
+    (implied is_ready calm refl s.phase g.expected) refl refl refl refl refl refl h
     (λ d. ap (λ (r : List Item). r ++ Point n (minor_kind c) o ∷ []) (h.view d)) h.said (λ d. h.got d ∙ sym (append-nil got))
     (one_point_more n n t.view v (minor_kind c) o h.pointed)
 unit_tells t s (MAP n o) v said got p g f h =
@@ -204,7 +237,8 @@ unit_tells t s (MAP n o) v said got p g f h =
 unit_tells t s (MAA n o) v said got p g f h = quiet_unit is_major_asked refl refl t s _ v said got g.expected refl refl refl h
 unit_tells t s (RS j n w o) v said got p g f h =
     either (λ a q z. Tells (told_all t a) q z said (got ++ [])) (stands s n) _ _ _ s (cutat s.base v n) v
-    (λ e. calm_tells _ _ _ _ _ refl h.base (λ d. ap (λ (b : ℕ). cutat b t.view n) h.base ∙ ap (λ (r : List Item). cutat s.base r n) (h.view d)) refl
+    (λ e. calm_tells _ _ _ _ _ refl h.base (λ d. ap (λ (b : ℕ). cutat b t.view n) h.base
+    ∙ ap (λ (r : List Item). cutat s.base r n) (h.view d)) refl
     (λ o. h.duplex (implied takes_restart is_open refl s.phase g.expected)) h.fine h.said (λ d. h.got d ∙ sym (append-nil got))
     (cut_points t.base s.base n t.view v h.base h.pointed))
     (λ e. same_tells t s s v v said said got _ refl refl refl refl refl refl (append-nil got) h)
@@ -225,7 +259,8 @@ record_append side r [] fs = refl
 record_append side r (e ∷ es) fs = by (is_of side r e) (record_append side r es fs)
   where
     by : (b : Bool) → record_of side r (es ++ fs) ≡ record_of side r es ++ record_of side r fs
-        → (if b then e ∷ record_of side r (es ++ fs) else record_of side r (es ++ fs)) ≡ (if b then e ∷ record_of side r es else record_of side r es) ++ record_of side r fs
+        → (if b then e ∷ record_of side r (es ++ fs) else record_of side r (es ++ fs))
+        ≡ (if b then e ∷ record_of side r es else record_of side r es) ++ record_of side r fs
     by true h = ap (λ (x : List Entry). e ∷ x) h
     by false h = h
 
@@ -233,7 +268,8 @@ pub told_append : (t : Told) (es fs : List Entry) → told_by t (es ++ fs) ≡ t
 told_append t [] fs = refl
 told_append t (e ∷ es) fs = told_append (told_entry t e) es fs
 
-told_more : (side : Side) (t : Told) (es fs : List Entry) → told_by t (record_of side 1 (es ++ fs)) ≡ told_by (told_by t (record_of side 1 es)) (record_of side 1 fs)
+told_more : (side : Side) (t : Told) (es fs : List Entry)
+    → told_by t (record_of side 1 (es ++ fs)) ≡ told_by (told_by t (record_of side 1 es)) (record_of side 1 fs)
 told_more side t es fs = ap (told_by t) (record_append side 1 es fs) ∙ told_append t (record_of side 1 es) (record_of side 1 fs)
 
 -- ---- the entries of a step
@@ -243,10 +279,12 @@ told_answer t c true None = told_call t c
 told_answer t c true (Some e) = t
 told_answer t c false e = t
 
-one_answer : (side : Side) (t : Told) (c : Call) (e : Option CallError) → told_by t (record_of side 1 (call_answered side 1 c e ∷ [])) ≡ told_answer t c true e
+one_answer : (side : Side) (t : Told) (c : Call) (e : Option CallError)
+    → told_by t (record_of side 1 (call_answered side 1 c e ∷ [])) ≡ told_answer t c true e
 one_answer side t c e = grind arith
 
-call_told : (side : Side) (t : Told) (s : State) (c : Call) → told_by t (record_of side 1 (call_entries side s c)) ≡ told_answer t c (stays_in_core c) (error_of (allowed s c))
+call_told : (side : Side) (t : Told) (s : State) (c : Call)
+    → told_by t (record_of side 1 (call_entries side s c)) ≡ told_answer t c (stays_in_core c) (error_of (allowed s c))
 call_told side t s c = grind (arith, one_answer)
 
 abbrev pub other : Side → Side
@@ -268,19 +306,26 @@ shown_untold Right t (i ∷ shown) = shown_untold Right t shown
 
 -- ---- a call
 
-pub answer_tells : SessionLaws → (w : Core) (c : Call) (a : Answer) (t : Told) → stays_in_core c ≡ true → allowed w.own.session c ≡ a → Stands w → Tells t w.own.session w.own.view w.own.said w.own.got
-    → Tells (told_answer t c true (error_of a)) (answered w c a).own.session (answered w c a).own.view (answered w c a).own.said (answered w c a).own.got
+pub answer_tells : SessionLaws → (w : Core) (c : Call) (a : Answer) (t : Told) → stays_in_core c ≡ true → allowed w.own.session c ≡ a
+    → Stands w → Tells t w.own.session w.own.view w.own.said w.own.got
+    → Tells (told_answer t c true (error_of a)) (answered w c a).own.session (answered w c a).own.view (answered w c a).own.said
+    (answered w c a).own.got
 answer_tells laws w c (Ok g) t k e s h =
     let q = laws.passed w.own.session c g e in
-    subst (λ (r : Granted). Tells (told_call t c) r.next (view_called w.own.session c w.own.view) (w.own.said ++ speaks w.own.session c) w.own.got) (sym q.gives)
-    (call_tells t w.own.session c w.own.view w.own.said w.own.got k q.phase s.consistent.own.count (λ o. let z = s.consistent.own.fresh o in (z.view, z.said, z.got)) h)
+    subst (λ (r : Granted). Tells (told_call t c) r.next (view_called w.own.session c w.own.view)
+    (w.own.said ++ speaks w.own.session c) w.own.got) (sym q.gives)
+    (call_tells t w.own.session c w.own.view w.own.said w.own.got k q.phase s.consistent.own.count
+    (λ o. let z = s.consistent.own.fresh o in (z.view, z.said, z.got)) h)
 answer_tells laws w c (Err d) t k e s h = h
 
 called_tells : SessionLaws → (w : Core) (c : Call) (t : Told) → Stands w → Tells t w.own.session w.own.view w.own.said w.own.got
-    → Tells (told_answer t c (stays_in_core c) (error_of (allowed w.own.session c))) (called w c).own.session (called w c).own.view (called w c).own.said (called w c).own.got
-called_tells laws w c t s h = by_test (stays_in_core c) (λ k. rw k (answer_tells laws w c (allowed w.own.session c) t k refl s h)) (λ k. rw k h)
+    → Tells (told_answer t c (stays_in_core c) (error_of (allowed w.own.session c))) (called w c).own.session (called w c).own.view
+    (called w c).own.said (called w c).own.got
+called_tells laws w c t s h = by_test (stays_in_core c) (λ k. rw k (answer_tells laws w c (allowed w.own.session c) t k refl s h))
+    (λ k. rw k h)
 
-called_peer : (w : Core) (c : Call) (t : Told) → Tells t w.peer.session w.peer.view w.peer.said w.peer.got → Tells t (called w c).peer.session (called w c).peer.view (called w c).peer.said (called w c).peer.got
+called_peer : (w : Core) (c : Call) (t : Told) → Tells t w.peer.session w.peer.view w.peer.said w.peer.got
+    → Tells t (called w c).peer.session (called w c).peer.view (called w c).peer.said (called w c).peer.got
 called_peer w c t h = grind (arith, Tells)
 
 -- ---- a unit that is taken
@@ -294,22 +339,30 @@ abbrev Wanted : Core → Meaning → Told → Outcome → Bool → Type 0
 Wanted w u t o a = Tells (told_all t o.shown) o.next (if a then seen w.own.session u w.own.view else w.own.view) w.own.said
     (if a then w.own.got ++ got_in w.own.session u else w.own.got)
 
-pub taken_tells : (w : Core) (us : List Meaning) (t : Told) → w.peer.sent ≡ us → Stands w → Tells t w.own.session w.own.view w.own.said w.own.got
-    → (shown : List Shown) → shown_of w us ≡ shown → Tells (told_all t shown) (taking w us).own.session (taking w us).own.view (taking w us).own.said (taking w us).own.got
+pub taken_tells : (w : Core) (us : List Meaning) (t : Told) → w.peer.sent ≡ us → Stands w
+    → Tells t w.own.session w.own.view w.own.said w.own.got
+    → (shown : List Shown) → shown_of w us ≡ shown
+    → Tells (told_all t shown) (taking w us).own.session (taking w us).own.view (taking w us).own.said (taking w us).own.got
 taken_tells w [] t e s h shown k = subst (λ (i : List Shown). Tells (told_all t i) w.own.session w.own.view w.own.said w.own.got) k h
 taken_tells w (u ∷ us) t e s h shown k =
     let f : AllFit w.own.session (u ∷ us) = (stands_at w (u ∷ us) e s).own.fits in
     let lives : is_over w.own.session.phase ≡ false = alive w.owner w.own w.peer s.own in
-    let same : respond_unit w.own.session u ≡ (if drops w.own.session u then nothing w.own.session else good w.own.session u) = no_fault w.own.session u lives f.0 in
+    let same : respond_unit w.own.session u ≡ (if drops w.own.session u then nothing w.own.session else good w.own.session u) =
+    no_fault w.own.session u lives f.0 in
     let acts : is_acted_on w.own.session u ≡ not (drops w.own.session u) = fit_acts w.own.session u lives f.0 in
-    subst (λ (i : List Shown). Tells (told_all t i) (taking w (u ∷ us)).own.session (taking w (u ∷ us)).own.view (taking w (u ∷ us)).own.said (taking w (u ∷ us)).own.got) k (by_test (drops w.own.session u)
+    subst (λ (i : List Shown). Tells (told_all t i) (taking w (u ∷ us)).own.session (taking w (u ∷ us)).own.view
+    (taking w (u ∷ us)).own.said (taking w (u ∷ us)).own.got) k (by_test (drops w.own.session u)
     (λ d. subst (Wanted w u t (respond_unit w.own.session u)) (sym (acts ∙ ap not d))
-    (subst (λ (o : Outcome). Wanted w u t o false) (sym (same ∙ ap (λ (b : Bool). if b then nothing w.own.session else good w.own.session u) d)) h))
+    (subst (λ (o : Outcome). Wanted w u t o false)
+    (sym (same ∙ ap (λ (b : Bool). if b then nothing w.own.session else good w.own.session u) d)) h))
     (λ d. subst (Wanted w u t (respond_unit w.own.session u)) (sym (acts ∙ ap not d))
-    (subst (λ (o : Outcome). Wanted w u t o true) (sym (same ∙ ap (λ (b : Bool). if b then nothing w.own.session else good w.own.session u) d))
-    (unit_tells t w.own.session u w.own.view w.own.said w.own.got f.0.plain (f.0.good d) (λ o. let z = s.consistent.own.fresh o in (z.view, z.said, z.got)) h))))
+    (subst (λ (o : Outcome). Wanted w u t o true)
+    (sym (same ∙ ap (λ (b : Bool). if b then nothing w.own.session else good w.own.session u) d))
+    (unit_tells t w.own.session u w.own.view w.own.said w.own.got f.0.plain (f.0.good d)
+    (λ o. let z = s.consistent.own.fresh o in (z.view, z.said, z.got)) h))))
 
-taken_peer : (w : Core) (us : List Meaning) (t : Told) → Tells t w.peer.session w.peer.view w.peer.said w.peer.got → Tells t (taking w us).peer.session (taking w us).peer.view (taking w us).peer.said (taking w us).peer.got
+taken_peer : (w : Core) (us : List Meaning) (t : Told) → Tells t w.peer.session w.peer.view w.peer.said w.peer.got
+    → Tells t (taking w us).peer.session (taking w us).peer.view (taking w us).peer.said (taking w us).peer.got
 taken_peer w us t h = grind arith
 
 -- ---- a step
@@ -318,7 +371,8 @@ record TellBoth (w : Core) (at_left at_right : Told) : Type 0 where
   left : Tells at_left w.own.session w.own.view w.own.said w.own.got
   right : Tells at_right w.peer.session w.peer.view w.peer.said w.peer.got
 
-take_told : (side : Side) (t : Told) (w : Core) (us : List Meaning) → told_by t (record_of side 1 (take_entries side w.own.session us)) ≡ told_all t (shown_of w us)
+take_told : (side : Side) (t : Told) (w : Core) (us : List Meaning)
+    → told_by t (record_of side 1 (take_entries side w.own.session us)) ≡ told_all t (shown_of w us)
 take_told side t w [] = refl
 take_told side t w (u ∷ us) = shown_told side t (respond_unit w.own.session u).shown
 
@@ -327,39 +381,50 @@ take_untold side t s [] = refl
 take_untold side t s (u ∷ us) = shown_untold side t (respond_unit s u).shown
 
 step_tells : SessionLaws → (w : Core) (step : CoreStep) (left right : Told) → Stands w → TellBoth w left right
-    → TellBoth (core_step w step) (told_by left (record_of Left 1 (core_entries w step))) (told_by right (record_of Right 1 (core_entries w step)))
+    → TellBoth (core_step w step) (told_by left (record_of Left 1 (core_entries w step)))
+    (told_by right (record_of Right 1 (core_entries w step)))
 step_tells laws w (call_at Left c) left right s h = record {
-  left = subst (λ (t : Told). Tells t (called w c).own.session (called w c).own.view (called w c).own.said (called w c).own.got) (sym (call_told Left left w.own.session c)) (called_tells laws w c left s h.left);
-  right = subst (λ (t : Told). Tells t (called w c).peer.session (called w c).peer.view (called w c).peer.said (called w c).peer.got) (sym (call_untold Left right w.own.session c)) (called_peer w c right h.right);
+  left = subst (λ (t : Told). Tells t (called w c).own.session (called w c).own.view (called w c).own.said (called w c).own.got)
+      (sym (call_told Left left w.own.session c)) (called_tells laws w c left s h.left);
+  right = subst (λ (t : Told). Tells t (called w c).peer.session (called w c).peer.view (called w c).peer.said (called w c).peer.got)
+      (sym (call_untold Left right w.own.session c)) (called_peer w c right h.right);
 }
 step_tells laws w (call_at Right c) left right s h =
     record {
-      left = subst (λ (t : Told). Tells t (called (turned w) c).peer.session (called (turned w) c).peer.view (called (turned w) c).peer.said (called (turned w) c).peer.got) (sym (call_untold Right left w.peer.session c)) (called_peer (turned w) c left h.left);
-      right = subst (λ (t : Told). Tells t (called (turned w) c).own.session (called (turned w) c).own.view (called (turned w) c).own.said (called (turned w) c).own.got) (sym (call_told Right right w.peer.session c))
+      left = subst (λ (t : Told). Tells t (called (turned w) c).peer.session (called (turned w) c).peer.view (called (turned w) c).peer.said
+          (called (turned w) c).peer.got) (sym (call_untold Right left w.peer.session c)) (called_peer (turned w) c left h.left);
+      right = subst (λ (t : Told). Tells t (called (turned w) c).own.session (called (turned w) c).own.view (called (turned w) c).own.said
+          (called (turned w) c).own.got) (sym (call_told Right right w.peer.session c))
           (called_tells laws (turned w) c right (turned_stands w s) h.right);
     }
 step_tells laws w (take_at Left) left right s h = search (Tells, take_told, taken_tells, take_untold, taken_peer)
 step_tells laws w (take_at Right) left right s h = record {
-  left = subst (λ (t : Told). Tells t (takes (turned w)).peer.session (takes (turned w)).peer.view (takes (turned w)).peer.said (takes (turned w)).peer.got) (sym (take_untold Right left w.peer.session w.own.sent)) (taken_peer (turned w) w.own.sent left h.left);
-  right = subst (λ (t : Told). Tells t (takes (turned w)).own.session (takes (turned w)).own.view (takes (turned w)).own.said (takes (turned w)).own.got) (sym (take_told Right right (turned w) w.own.sent))
+  left = subst (λ (t : Told). Tells t (takes (turned w)).peer.session (takes (turned w)).peer.view (takes (turned w)).peer.said
+      (takes (turned w)).peer.got) (sym (take_untold Right left w.peer.session w.own.sent)) (taken_peer (turned w) w.own.sent left h.left);
+  right = subst (λ (t : Told). Tells t (takes (turned w)).own.session (takes (turned w)).own.view (takes (turned w)).own.said
+      (takes (turned w)).own.got) (sym (take_told Right right (turned w) w.own.sent))
       (taken_tells (turned w) w.own.sent right refl (turned_stands w s) h.right (shown_of (turned w) w.own.sent) refl);
 }
 
 -- ---- a list of steps
 
-run_tells : SessionLaws → (w : Core) (steps : List CoreStep) (left right : Told) → AllByRecursion IsNumberedStep steps → Stands w → TellBoth w left right
-    → TellBoth (core_run w steps) (told_by left (record_of Left 1 (core_journal w steps))) (told_by right (record_of Right 1 (core_journal w steps)))
+run_tells : SessionLaws → (w : Core) (steps : List CoreStep) (left right : Told) → AllByRecursion IsNumberedStep steps → Stands w
+    → TellBoth w left right
+    → TellBoth (core_run w steps) (told_by left (record_of Left 1 (core_journal w steps)))
+    (told_by right (record_of Right 1 (core_journal w steps)))
 run_tells laws w [] left right small s h = h
 run_tells laws w (step ∷ steps) left right small s h =
     let one = step_tells laws w step left right s h in
-    let more = run_tells laws (core_step w step) steps (told_by left (record_of Left 1 (core_entries w step))) (told_by right (record_of Right 1 (core_entries w step)))
+    let more = run_tells laws (core_step w step) steps (told_by left (record_of Left 1 (core_entries w step)))
+    (told_by right (record_of Right 1 (core_entries w step)))
     small.1 (step_stands laws w step small.0 s) one in
     search (Tells, told_more)
 
 starts_told : (o : Offer) → TellBoth (core_start o) (untold Left o) (untold Right o)
 starts_told o = grind arith
 
-pub are_told : SessionLaws → (o : Offer) (steps : List CoreStep) → AllByRecursion IsNumberedStep steps → Stands (core_start o) → AreTold o steps
+pub are_told : SessionLaws → (o : Offer) (steps : List CoreStep) → AllByRecursion IsNumberedStep steps → Stands (core_start o)
+    → AreTold o steps
 are_told laws o steps small s =
     let h = run_tells laws (core_start o) steps (untold Left o) (untold Right o) small s (starts_told o) in
     record { left = h.left.view; right = h.right.view; left_asking = h.left.asking; right_asking = h.right.asking }

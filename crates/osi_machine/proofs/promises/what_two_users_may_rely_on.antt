@@ -25,7 +25,8 @@ pub offer_stands : (o : Offer) → CanBeOffered o → is_profile o.requirements 
 offer_stands o serial profile = search (arith, profile_of, starts_stand, profile_data)
 
 pub reached_stands : SessionLaws → (w : Core) → IsReached w → Stands w
-reached_stands laws w r = subst Stands r.reached (run_stands laws (core_start r.offer) r.steps r.numbered (offer_stands r.offer r.offered r.profile))
+reached_stands laws w r = subst Stands r.reached
+    (run_stands laws (core_start r.offer) r.steps r.numbered (offer_stands r.offer r.offered r.profile))
 
 -- ---- tokens
 
@@ -78,7 +79,8 @@ begins_agree : {A : Type 0} → (a b h : List A) → Begins a h → Begins b h �
 begins_agree a b h p q = agree_of a b p.0 q.0 (p.1 ∙ sym q.1)
 
 pub views_agree : (w : Core) → Stands w → ViewsAgree w
-views_agree w s = begins_agree w.own.view w.peer.view w.history (view_begins w.history w.own w.peer s.own_views) (view_begins w.history w.peer w.own s.peer_views)
+views_agree w s = begins_agree w.own.view w.peer.view w.history (view_begins w.history w.own w.peer s.own_views)
+    (view_begins w.history w.peer w.own s.peer_views)
 
 -- with duplex
 pub got_what_was_said : (w : Core) → Stands w → GotWhatWasSaid w
@@ -93,24 +95,28 @@ pub none_brought : (w : Core) → Stands w → Begins (w.own.view ++ []) w.histo
 none_brought w s = subst (λ (v : List Item). Begins v w.history) (sym (append-nil w.own.view)) (sees_the_history w s)
 
 -- what was seen after it
-seen_next : SessionLaws → (w : Core) (u : Meaning) (us : List Meaning) → w.peer.sent ≡ u ∷ us → is_acted_on w.own.session u ≡ true → Stands w
+seen_next : SessionLaws → (w : Core) (u : Meaning) (us : List Meaning) → w.peer.sent ≡ u ∷ us → is_acted_on w.own.session u ≡ true
+    → Stands w
     → Begins (seen w.own.session u w.own.view) (cut_by w.own.session u w.history)
 seen_next laws w u us e a s =
     let n = sees_the_history (taking w (u ∷ us)) (taking_stands laws w (u ∷ us) e s) in
-    subst (λ (v : List Item). Begins v (cut_by w.own.session u w.history)) (ap (λ (b : Bool). if b then seen w.own.session u w.own.view else w.own.view) a)
+    subst (λ (v : List Item). Begins v (cut_by w.own.session u w.history))
+    (ap (λ (b : Bool). if b then seen w.own.session u w.own.view else w.own.view) a)
     (subst (Begins (if is_acted_on w.own.session u then seen w.own.session u w.own.view else w.own.view))
     (ap (λ (b : Bool). if b then cut_by w.own.session u w.history else w.history) a) n)
 
 pub takes_the_next_item : SessionLaws → (w : Core) → Stands w → TakesTheNextItem w
 takes_the_next_item laws w s (DT o) us e a =
-    subst (λ (v : List Item). Begins v w.history) (said_seen w.own.session.units.duplex w.own.view (Octets o)) (seen_next laws w (DT o) us e a s)
+    subst (λ (v : List Item). Begins v w.history) (said_seen w.own.session.units.duplex w.own.view (Octets o))
+    (seen_next laws w (DT o) us e a s)
 takes_the_next_item laws w s (MIP c n o) us e a = seen_next laws w (MIP c n o) us e a s
 takes_the_next_item laws w s (MAP n o) us e a = seen_next laws w (MAP n o) us e a s
 takes_the_next_item laws w s _ us e a = none_brought w s
 
 -- ---- what is confirmed
 
-numbered_at : (b : ℕ) (before : List Item) (n : ℕ) (kind : PointKind) (octets : List ℕ) (more : List Item) → AreNumberedFrom b (before ++ Point n kind octets ∷ more)
+numbered_at : (b : ℕ) (before : List Item) (n : ℕ) (kind : PointKind) (octets : List ℕ) (more : List Item)
+    → AreNumberedFrom b (before ++ Point n kind octets ∷ more)
     → n ≡ b + points before
 numbered_at b [] n kind octets more a = let e = a.0 in omega arith
 numbered_at b (Octets o ∷ before) n kind octets more a = numbered_at b before n kind octets more a
@@ -133,7 +139,8 @@ fewer_points v j m before i e = elim (agree_of v before (j ∷ m) (i ∷ []) e) 
         let b = same in
         absurd (omega arith)
 
-seen_there : (b n : ℕ) (before : List Item) (kind : PointKind) (octets : List ℕ) (v h : List Item) → AreNumberedFrom b h → Begins (before ++ Point n kind octets ∷ []) h
+seen_there : (b n : ℕ) (before : List Item) (kind : PointKind) (octets : List ℕ) (v h : List Item) → AreNumberedFrom b h
+    → Begins (before ++ Point n kind octets ∷ []) h
     → Begins v h → n < b + points v → Begins (before ++ Point n kind octets ∷ []) v
 seen_there b n before kind octets v h a p q l = elim (begins_agree (before ++ Point n kind octets ∷ []) v h p q) [
   | inl r ↦ r
@@ -141,7 +148,8 @@ seen_there b n before kind octets v h a p q l = elim (begins_agree (before ++ Po
 ]
   where
     number : n ≡ b + points before
-    number = numbered_at b before n kind octets p.0 (subst (AreNumberedFrom b) (sym p.1 ∙ append_assoc before (Point n kind octets ∷ []) p.0) a)
+    number = numbered_at b before n kind octets p.0
+        (subst (AreNumberedFrom b) (sym p.1 ∙ append_assoc before (Point n kind octets ∷ []) p.0) a)
 
     by : (m : List Item) → v ++ m ≡ before ++ Point n kind octets ∷ [] → Begins (before ++ Point n kind octets ∷ []) v
     by [] e = ([], append-nil (before ++ Point n kind octets ∷ []) ∙ sym e ∙ append-nil v)
@@ -157,26 +165,32 @@ none_in_nil (j ∷ before) i b = let e = ap length b.1 in omega arith
 pub confirmed_is_seen : (w : Core) → Stands w → ConfirmedIsSeen w
 confirmed_is_seen w s before n kind octets b l r = by (is_opening w.own.session.phase) (is_opening w.peer.session.phase) refl refl
   where
-    by : (p q : Bool) → is_opening w.own.session.phase ≡ p → is_opening w.peer.session.phase ≡ q → Begins (before ++ Point n kind octets ∷ []) w.peer.view
-    by true q e f = absurd (none_in_nil before (Point n kind octets) (subst (Begins (before ++ Point n kind octets ∷ [])) (s.consistent.own.fresh e).view b))
+    by : (p q : Bool) → is_opening w.own.session.phase ≡ p → is_opening w.peer.session.phase ≡ q
+        → Begins (before ++ Point n kind octets ∷ []) w.peer.view
+    by true q e f = absurd (none_in_nil before (Point n kind octets)
+        (subst (Begins (before ++ Point n kind octets ∷ [])) (s.consistent.own.fresh e).view b))
     by false q e f =
         let begun = flush_open w.own.session w.peer.sent e s.own.fits in
         let all = begins_twice (before ++ Point n kind octets ∷ []) w.own.view w.history b (sees_the_history w s) in
         let number = numbered_at w.own.session.base before n kind octets all.0
         (subst (AreNumberedFrom w.own.session.base) (sym all.1 ∙ append_assoc before (Point n kind octets ∷ []) all.0)
         (subst (λ (k : ℕ). AreNumberedFrom k w.history) begun.base s.pair.numbered)) in
-        let grown = heard_grown w.own.session.numbers.confirmed w.own.session w.peer.sent (record { phase = e; from = omega arith; to = s.consistent.own.sound.ordered.confirmed_to }) s.own.fits in
+        let grown = heard_grown w.own.session.numbers.confirmed w.own.session w.peer.sent
+        (record { phase = e; from = omega arith; to = s.consistent.own.sound.ordered.confirmed_to }) s.own.fits in
         let from = grown.from in
         let base = (heard_open w.own.session w.peer.sent e s.own.fits).base in
-        let hears = kept_heard (λ (k : State). not (is_restarting k.phase) ≡ true) (λ k u p g. next_hears k u p) w.peer.session w.own.sent (ap not r) s.peer.fits in
+        let hears = kept_heard (λ (k : State). not (is_restarting k.phase) ≡ true) (λ k u p g. next_hears k u p) w.peer.session w.own.sent
+        (ap not r) s.peer.fits in
         let below = s.own_counts.below hears n (subst (λ (k : ℕ). k ≤ n) (sym base) (omega arith)) (omega arith) in
         there q f below all
       where
-        there : (q : Bool) → is_opening w.peer.session.phase ≡ q → n < w.peer.session.numbers.next → Begins (before ++ Point n kind octets ∷ []) w.history
+        there : (q : Bool) → is_opening w.peer.session.phase ≡ q → n < w.peer.session.numbers.next
+            → Begins (before ++ Point n kind octets ∷ []) w.history
             → Begins (before ++ Point n kind octets ∷ []) w.peer.view
         there true f k all = absurd (let z = ap (λ (v : Numbers). v.next) (s.consistent.peer.fresh f).numbers in omega arith)
         there false f k all =
             let base = sym (flush_open w.peer.session w.own.sent f s.peer.fits).base ∙ s.peer.meeting.base in
             let c = s.consistent.peer.count in
             let p = subst (λ (m : ℕ). AreNumberedFrom m w.history) (sym base) s.pair.numbered in
-            seen_there w.peer.session.base n before kind octets w.peer.view w.history p all (view_begins w.history w.peer w.own s.peer_views) (omega arith)
+            seen_there w.peer.session.base n before kind octets w.peer.view w.history p all
+            (view_begins w.history w.peer w.own s.peer_views) (omega arith)

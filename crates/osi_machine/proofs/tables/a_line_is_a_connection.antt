@@ -67,7 +67,8 @@ pub turned_tabled : (l : Line) (w : World) → Tabled l w → Tabled (tables.tur
 turned_tabled l w h = record {
   first = h.second;
   second = h.first;
-  same = ap tables.turned h.same ∙ ap (λ (v : World). record { own = seat_of (turned w) h.second; peer = seat_of v h.first }) (sym (turned_back w));
+  same = ap tables.turned h.same ∙ ap (λ (v : World). record { own = seat_of (turned w) h.second; peer = seat_of v h.first })
+      (sym (turned_back w));
   seated = record { own = h.seated.peer; peer = subst (λ (v : World). IsSeated v h.first) (sym (turned_back w)) h.seated.own };
 }
 
@@ -77,195 +78,218 @@ pub theirs_stay : (s : State) (w : World) → session_of (turned (record w { own
 theirs_stay s w = search (arith, owned_as, left_theirs)
 
 -- a side that is lost or denied
-pub gone_state : (w : World) → session_of (record w { owner = given_up w.owner; own = record w.own { kept = kept_of (without_tokens Ended (session_of w)) } }) ≡ without_tokens Ended (session_of w)
-gone_state w = ap (λ h. state_from (kept_of (without_tokens Ended (session_of w))) h (w.own.kept.base + points (take w.own.mark w.history))) (owned_none (given_up w.owner) (λ t. own_gone (w.owner t)))
+pub gone_state : (w : World) → session_of (record w
+    { owner = given_up w.owner; own = record w.own { kept = kept_of (without_tokens Ended (session_of w)) } }) ≡ without_tokens Ended
+    (session_of w)
+gone_state w = ap (λ h. state_from (kept_of (without_tokens Ended (session_of w))) h (w.own.kept.base + points (take w.own.mark w.history)))
+    (owned_none (given_up w.owner) (λ t. own_gone (w.owner t)))
 
 pub gone_seated : (w : World) (tr : Transport) (ms : List Message) (a b : Option Meaning) → is_begun tr ≡ true → AreSeated w a b
-    → AreSeated (record w { owner = given_up w.owner; own = record w.own { transport = tr; kept = kept_of (without_tokens Ended (session_of w)); channel = ms } }) a b
+    → AreSeated (record w {
+      owner = given_up w.owner;
+      own = record w.own
+          { transport = tr; kept = kept_of (without_tokens Ended (session_of w)); channel = ms };
+    }) a b
 gone_seated w tr ms a b e h = search (arith, begun_seated, own_gone, given_theirs)
 
 -- ---- a call
 
-refused_call : (broken : Bool) (c : Call) (w : World) (a b : Option Meaning) (e : CallError) → allowed (session_of w) c ≡ Err e
-    → tables.after_call broken c (line_of w a b) ≡ line_of w a b
-unfolding react
-refused_call broken c w a b e h = search (arith, put_nothing)
-
-accepted_call : (broken : Bool) (c : Call) (w : World) (a b : Option Meaning) (g : Granted) → allowed (session_of w) c ≡ Ok g → Followed w (after_call broken (session_of w) c g w) g.next
-    → tables.after_call broken c (line_of w a b) ≡ line_of (after_call broken (session_of w) c g w) a b
-unfolding react
-accepted_call broken c w a b g h f = search arith
-
-pub error_as : (s : State) (a : Option Meaning) (c : Call) → (react (record { state = s; waiting = a }) (called c)).error ≡ error_of (allowed s c)
+pub error_as : (s : State) (a : Option Meaning) (c : Call)
+    → (react (record { state = s; waiting = a }) (called c)).error ≡ error_of (allowed s c)
 unfolding react
 error_as s a c = search arith
-
-pub call_tabled : SessionLaws → (broken : Bool) (w : World) (a b : Option Meaning) (t u : Told) (c : Call) → HasSerial c → Repeats broken w t u → AreSeated w a b
-    → Tabled (tables.after_call broken c (line_of w a b)) (after_answer broken c w (allowed (session_of w) c))
-call_tabled laws broken w a b t u c small h s = by (allowed (session_of w) c) refl
-  where
-    by : (x : Answer) → allowed (session_of w) c ≡ x → Tabled (tables.after_call broken c (line_of w a b)) (after_answer broken c w x)
-    by (Ok g) e =
-        let none = called_disowned broken (session_of w) c g w s.peer.disowned in
-        record {
-          first = a;
-          second = b;
-          same = accepted_call broken c w a b g e (call_followed laws broken w t u c g small h s.peer.disowned e);
-          seated = record {
-            own = begun_seated (after_call broken (session_of w) c g w) a h.projects.own.begun none.0;
-            peer = begun_seated (turned (after_call broken (session_of w) c g w)) b h.projects.peer.begun none.1;
-          };
-        }
-    by (Err e) q = record { first = a; second = b; same = refused_call broken c w a b e q; seated = s }
-
-pub refused_tabled : (broken : Bool) (w : World) (a b : Option Meaning) (c : Call) → Refuses (session_of w) c → AreSeated w a b
-    → Tabled (tables.after_call broken c (line_of w a b)) (after_answer broken c w (allowed (session_of w) c))
-refused_tabled broken w a b c r s = search (arith, refused_call)
-
--- ---- a unit is taken
 
 -- the message of a TSDU that has one unit
 abbrev pub SaysItsUnit : Type 0
 SaysItsUnit = (s : State) (u : Meaning) → respond s (said_of u) ≡ respond_unit s u
 
-unit_turn : SaysItsUnit → (broken : Bool) (w : World) (ms : List Message) (a b : Option Meaning) (u : Meaning) → w.own.transport ≡ linked
-    → Followed w (unit_taken broken (without_first w ms) u).world (respond_unit (session_of w) u).next
-    → tables.hears broken linked (taken (said_of u)) (line_of (without_first w ms) a b) ≡ turn_of (unit_taken broken (without_first w ms) u) a b
-unfolding react
-unit_turn says broken w ms a b u e f = search arith
-
-pub unit_tabled : SessionLaws → SaysItsUnit → (broken : Bool) (w : World) (a b : Option Meaning) (t u : Told) (m : Meaning) (ms : List Message) → Repeats broken w t u → w.peer.channel ≡ unit m ∷ ms
-    → w.own.transport ≡ linked → AreSeated w a b → TurnTabled (tables.hears broken linked (taken (said_of m)) (line_of (without_first w ms) a b)) (unit_taken broken (without_first w ms) m)
-unit_tabled laws says broken w a b t u m ms h e l s =
-    let none = taken_disowned broken (session_of w) m (without_first w ms) s.peer.disowned in
-    record {
-      first = a;
-      second = b;
-      same = unit_turn says broken w ms a b m l (unit_followed laws broken w t u m ms h e s.own.disowned s.peer.disowned);
-      seated = record {
-        own = begun_seated (unit_taken broken (without_first w ms) m).world a h.projects.own.begun none.0;
-        peer = begun_seated (turned (unit_taken broken (without_first w ms) m).world) b h.projects.peer.begun none.1;
-      };
-    }
-
--- ---- what changes nothing but the transport and what is in flight
-
--- the own side, at the same session
-still_seated : (w : World) (ms : List Message) (a b : Option Meaning) → AreSeated w a b → AreSeated (record w { own = record w.own { channel = ms } }) a b
-still_seated w ms a b h = grind arith
-
-linked_seated : (w : World) (tr : Transport) (ms : List Message) (a b : Option Meaning) → is_begun tr ≡ true → AreSeated w a b → AreSeated (record w { own = record w.own { transport = tr; channel = ms } }) a b
-linked_seated w tr ms a b e h = grind (arith, begun_seated)
-
--- ---- the other has asked
-
-asked_tabled : (broken : Bool) (terms : Terms) (w : World) (a b : Option Meaning) → w.own.transport ≡ not_yet → AreSeated w a b
-    → TurnTabled (tables.unseen (tables.asked_at broken terms (line_of w a b))) (unchanged (asked_at broken terms w))
-asked_tabled broken (accepts class) w a b e h =
-    let own = ap (λ (k : Kept). state_from k (owned w.owner) (k.base + points (take w.own.mark w.history))) (h.own.idle e) in
-    search (arith, begun_seated)
-asked_tabled broken (denies reason) w a b e h = record { first = a; second = b; same = refl; seated = still_seated w (put broken (deny reason ∷ []) w.own.channel) a b h }
-
 waits_now : (w : World) → w.own.kept ≡ kept_of (without_tokens WaitTransport (offering w.offer)) → is_wait_transport w.own.kept.phase ≡ true
 waits_now w e = ap (λ (k : Kept). is_wait_transport k.phase) e
-
-agreed_tabled : (broken : Bool) (w : World) (a b : Option Meaning) → w.own.transport ≡ waiting → AreSeated w a b
-    → TurnTabled (tables.hears broken linked opened (line_of w a b)) (unchanged (moved broken linked (offering w.offer) (unit (offer_sent w.offer) ∷ []) w))
-unfolding react
-agreed_tabled broken w a b e h = grind arith
-
-denied_tabled : (broken : Bool) (reason : ℕ) (w : World) (a b : Option Meaning) → w.own.transport ≡ waiting → AreSeated w a b
-    → TurnTabled (tables.hears broken gone (refused reason) (line_of w a b)) (moves (moved broken gone (without_tokens Ended (session_of w)) [] w) (RefusedByTransport reason ∷ []))
-unfolding react
-denied_tabled broken reason w a b e h =
-    let own = sym (gone_state w) in
-    let peer = sym (theirs_stay (without_tokens Ended (session_of w)) w) in
-    let opens = if_yes (is_wait_transport w.own.kept.phase) (denied reason (record { state = session_of w; waiting = a })) (rests (record { state = session_of w; waiting = a })) (waits_now w (h.own.called e)) in
-    record {
-      first = a;
-      second = b;
-      same = search arith;
-      seated = gone_seated w gone (put broken [] w.own.channel) a b refl h;
-    }
-
--- ---- the other has closed
-
-lost_tabled : (broken : Bool) (keep : ℕ) (w : World) (a b : Option Meaning) (reason : ℕ) → AreSeated w a b
-    → TurnTabled (tables.message_taken broken (denies 0) keep linked (line_of w a b) (bye reason))
-    (moves (moved broken gone (lost (session_of w)).next (over ∷ []) (shortened keep w)) (lost (session_of w)).shown)
-unfolding react
-lost_tabled broken keep w a b reason h =
-    let own = sym (gone_state w) in
-    let peer = sym (theirs_stay (without_tokens Ended (session_of w)) w) in
-    let channel = ap (put broken (over ∷ [])) (put_nothing broken (take keep w.own.channel)) in
-    record {
-      first = a;
-      second = b;
-      same = λ i. record {
-        line = record {
-          own = record { transport = gone; session = record { state = own i; waiting = a }; channel = channel i };
-          peer = record { transport = w.peer.transport; session = record { state = peer i; waiting = b }; channel = w.peer.channel };
-        };
-        shown = (lost (session_of w)).shown;
-        closes = false;
-      };
-      seated = gone_seated w gone (put broken (over ∷ []) (take keep w.own.channel)) a b refl h;
-    }
-
--- ---- any message but a session unit
 
 -- a unit that is taken if the transport connection is open
 abbrev pub is_heard : Transport → Message → Bool
 is_heard linked (unit u) = true
 is_heard tr m = false
 
-pub message_tabled : (broken : Bool) (terms : Terms) (keep : ℕ) (tr : Transport) (w : World) (a b : Option Meaning) (m : Message) → w.own.transport ≡ tr → is_heard tr m ≡ false → AreSeated w a b
-    → TurnTabled (tables.message_taken broken terms keep tr (line_of w a b) m) (message_taken broken terms keep tr w m)
-message_tabled broken terms keep not_yet w a b ask e q h = asked_tabled broken terms w a b e h
-message_tabled broken terms keep waiting w a b agree e q h = agreed_tabled broken w a b e h
-message_tabled broken terms keep waiting w a b (deny r) e q h = denied_tabled broken r w a b e h
-message_tabled broken terms keep linked w a b (unit u) e q h = absurd (cc)
-message_tabled broken terms keep linked w a b (bye r) e q h = lost_tabled broken keep w a b r h
-message_tabled broken terms keep closing w a b (bye r) e q h = record { first = a; second = b; same = refl; seated = linked_seated w gone w.own.channel a b refl h }
-message_tabled broken terms keep closing w a b over e q h = record { first = a; second = b; same = refl; seated = linked_seated w gone w.own.channel a b refl h }
-message_tabled broken terms keep gone w a b (bye r) e q h = record { first = a; second = b; same = refl; seated = still_seated w (put broken (over ∷ []) w.own.channel) a b h }
-message_tabled broken terms keep _ w a b _ e q h = record { first = a; second = b; same = refl; seated = h }
+module _ (broken : Bool) (w : World) (a b : Option Meaning) where
+  refused_call : (c : Call) (e : CallError) → allowed (session_of w) c ≡ Err e → tables.after_call broken c (line_of w a b) ≡ line_of w a b
+  unfolding react
+  refused_call c e h = search (arith, put_nothing)
 
--- ---- a close, an end, a break
+  accepted_call : (c : Call) (g : Granted) → allowed (session_of w) c ≡ Ok g → Followed w (after_call broken (session_of w) c g w) g.next
+      → tables.after_call broken c (line_of w a b) ≡ line_of (after_call broken (session_of w) c g w) a b
+  unfolding react
+  accepted_call c g h f = search arith
 
-pub close_tabled : (broken : Bool) (keep : ℕ) (w : World) (a b : Option Meaning) → AreSeated w a b → Tabled (tables.closed broken keep (line_of w a b)) (closed broken keep w)
-close_tabled broken keep w a b h =
-    let held = owned_as w.owner (left_by (session_of w) w.owner) (λ t. sym (by_test (stopped w.own) (λ o. rw o (own_gone (w.owner t) ∙ sym (h.own.disowned o t))) (λ o. rw o))) in
-    let peer = sym (theirs_stay (session_of w) w) in
-    record {
-      first = a;
-      second = b;
-      same = λ i. record {
-        own = record {
-          transport = closing;
-          session = record { state = state_from w.own.kept (held i) (w.own.kept.base + points (take w.own.mark w.history)); waiting = a };
-          channel = put broken (bye 128 ∷ []) (take keep w.own.channel);
+  pub call_tabled : SessionLaws → (t u : Told) (c : Call) → HasSerial c → Repeats broken w t u → AreSeated w a b
+      → Tabled (tables.after_call broken c (line_of w a b)) (after_answer broken c w (allowed (session_of w) c))
+  call_tabled laws t u c small h s = by (allowed (session_of w) c) refl
+    where
+      by : (x : Answer) → allowed (session_of w) c ≡ x → Tabled (tables.after_call broken c (line_of w a b)) (after_answer broken c w x)
+      by (Ok g) e =
+          let none = called_disowned broken (session_of w) c g w s.peer.disowned in
+          record {
+            first = a;
+            second = b;
+            same = accepted_call c g e (call_followed laws broken w t u h c g small s.peer.disowned e);
+            seated = record {
+              own = begun_seated (after_call broken (session_of w) c g w) a h.projects.own.begun none.0;
+              peer = begun_seated (turned (after_call broken (session_of w) c g w)) b h.projects.peer.begun none.1;
+            };
+          }
+      by (Err e) q = record { first = a; second = b; same = refused_call c e q; seated = s }
+
+  pub refused_tabled : (c : Call) → Refuses (session_of w) c → AreSeated w a b
+      → Tabled (tables.after_call broken c (line_of w a b)) (after_answer broken c w (allowed (session_of w) c))
+  refused_tabled c r s = search (arith, refused_call)
+
+  -- ---- a unit is taken
+
+  unit_turn : SaysItsUnit → (ms : List Message) (u : Meaning) → w.own.transport ≡ linked
+      → Followed w (unit_taken broken (without_first w ms) u).world (respond_unit (session_of w) u).next
+      → tables.hears broken linked (taken (said_of u)) (line_of (without_first w ms) a b)
+      ≡ turn_of (unit_taken broken (without_first w ms) u) a b
+  unfolding react
+  unit_turn says ms u e f = search arith
+
+  pub unit_tabled : SessionLaws → SaysItsUnit → (t u : Told) (m : Meaning) (ms : List Message) → Repeats broken w t u
+      → w.peer.channel ≡ unit m ∷ ms → w.own.transport ≡ linked → AreSeated w a b
+      → TurnTabled (tables.hears broken linked (taken (said_of m)) (line_of (without_first w ms) a b))
+      (unit_taken broken (without_first w ms) m)
+  unit_tabled laws says t u m ms h e l s =
+      let none = taken_disowned broken (session_of w) m (without_first w ms) s.peer.disowned in
+      record {
+        first = a;
+        second = b;
+        same = unit_turn says ms m l (unit_followed laws broken w t u h m ms e s.own.disowned s.peer.disowned);
+        seated = record {
+          own = begun_seated (unit_taken broken (without_first w ms) m).world a h.projects.own.begun none.0;
+          peer = begun_seated (turned (unit_taken broken (without_first w ms) m).world) b h.projects.peer.begun none.1;
         };
-        peer = record { transport = w.peer.transport; session = record { state = peer i; waiting = b }; channel = w.peer.channel };
-      };
-      seated = record {
-        own = begun_seated (closed broken keep w) a refl (λ o t. by_test (stopped w.own) (λ o. rw o (own_gone (w.owner t) ∙ sym (h.own.disowned o t))) (λ o. rw o) ∙ h.own.disowned o t);
-        peer = record {
-          calls = h.peer.calls;
-          called = h.peer.called;
-          idle = h.peer.idle;
-          bare = λ q t. left_theirs (session_of w) w.owner t ∙ h.peer.bare q t;
-          disowned = λ q t. left_theirs (session_of w) w.owner t ∙ h.peer.disowned q t;
+      }
+
+  -- ---- what changes nothing but the transport and what is in flight
+
+  -- the own side, at the same session
+  still_seated : (ms : List Message) → AreSeated w a b → AreSeated (record w { own = record w.own { channel = ms } }) a b
+  still_seated ms h = grind arith
+
+  linked_seated : (tr : Transport) (ms : List Message) → is_begun tr ≡ true → AreSeated w a b
+      → AreSeated (record w { own = record w.own { transport = tr; channel = ms } }) a b
+  linked_seated tr ms e h = grind (arith, begun_seated)
+
+  -- ---- the other has asked
+
+  asked_tabled : (terms : Terms) → w.own.transport ≡ not_yet → AreSeated w a b
+      → TurnTabled (tables.unseen (tables.asked_at broken terms (line_of w a b))) (unchanged (asked_at broken terms w))
+  asked_tabled (accepts class) e h =
+      let own = ap (λ (k : Kept). state_from k (owned w.owner) (k.base + points (take w.own.mark w.history))) (h.own.idle e) in
+      search (arith, begun_seated)
+  asked_tabled (denies reason) e h =
+      record { first = a; second = b; same = refl; seated = still_seated (put broken (deny reason ∷ []) w.own.channel) h }
+
+  agreed_tabled : w.own.transport ≡ waiting → AreSeated w a b
+      → TurnTabled (tables.hears broken linked opened (line_of w a b))
+      (unchanged (moved broken linked (offering w.offer) (unit (offer_sent w.offer) ∷ []) w))
+  unfolding react
+  agreed_tabled e h = grind arith
+
+  denied_tabled : (reason : ℕ) → w.own.transport ≡ waiting → AreSeated w a b
+      → TurnTabled (tables.hears broken gone (refused reason) (line_of w a b))
+      (moves (moved broken gone (without_tokens Ended (session_of w)) [] w) (RefusedByTransport reason ∷ []))
+  unfolding react
+  denied_tabled reason e h =
+      let own = sym (gone_state w) in
+      let peer = sym (theirs_stay (without_tokens Ended (session_of w)) w) in
+      let opens = if_yes (is_wait_transport w.own.kept.phase) (denied reason (record { state = session_of w; waiting = a }))
+      (rests (record { state = session_of w; waiting = a })) (waits_now w (h.own.called e)) in
+      record {
+        first = a;
+        second = b;
+        same = search arith;
+        seated = gone_seated w gone (put broken [] w.own.channel) a b refl h;
+      }
+
+  -- ---- the other has closed
+
+  lost_tabled : (keep reason : ℕ) → AreSeated w a b
+      → TurnTabled (tables.message_taken broken (denies 0) keep linked (line_of w a b) (bye reason))
+      (moves (moved broken gone (lost (session_of w)).next (over ∷ []) (shortened keep w)) (lost (session_of w)).shown)
+  unfolding react
+  lost_tabled keep reason h =
+      let own = sym (gone_state w) in
+      let peer = sym (theirs_stay (without_tokens Ended (session_of w)) w) in
+      let channel = ap (put broken (over ∷ [])) (put_nothing broken (take keep w.own.channel)) in
+      record {
+        first = a;
+        second = b;
+        same = λ i. record {
+          line = record {
+            own = record { transport = gone; session = record { state = own i; waiting = a }; channel = channel i };
+            peer = record { transport = w.peer.transport; session = record { state = peer i; waiting = b }; channel = w.peer.channel };
+          };
+          shown = (lost (session_of w)).shown;
+          closes = false;
         };
-      };
-    }
+        seated = gone_seated w gone (put broken (over ∷ []) (take keep w.own.channel)) a b refl h;
+      }
+
+  -- ---- any message but a session unit
+
+  pub message_tabled : (terms : Terms) (keep : ℕ) (tr : Transport) (m : Message) → w.own.transport ≡ tr → is_heard tr m ≡ false
+      → AreSeated w a b → TurnTabled (tables.message_taken broken terms keep tr (line_of w a b) m) (message_taken broken terms keep tr w m)
+  message_tabled terms keep not_yet ask e q h = asked_tabled terms e h
+  message_tabled terms keep waiting agree e q h = agreed_tabled e h
+  message_tabled terms keep waiting (deny r) e q h = denied_tabled r e h
+  message_tabled terms keep linked (unit u) e q h = absurd (cc)
+  message_tabled terms keep linked (bye r) e q h = lost_tabled keep r h
+  message_tabled terms keep closing (bye r) e q h =
+      record { first = a; second = b; same = refl; seated = linked_seated gone w.own.channel refl h }
+  message_tabled terms keep closing over e q h =
+      record { first = a; second = b; same = refl; seated = linked_seated gone w.own.channel refl h }
+  message_tabled terms keep gone (bye r) e q h =
+      record { first = a; second = b; same = refl; seated = still_seated (put broken (over ∷ []) w.own.channel) h }
+  message_tabled terms keep _ _ e q h = record { first = a; second = b; same = refl; seated = h }
+
+  -- ---- a close, an end, a break
+
+  pub close_tabled : (keep : ℕ) → AreSeated w a b → Tabled (tables.closed broken keep (line_of w a b)) (closed broken keep w)
+  close_tabled keep h =
+      let held = owned_as w.owner (left_by (session_of w) w.owner)
+      (λ t. sym (by_test (stopped w.own) (λ o. rw o (own_gone (w.owner t) ∙ sym (h.own.disowned o t))) (λ o. rw o))) in
+      let peer = sym (theirs_stay (session_of w) w) in
+      record {
+        first = a;
+        second = b;
+        same = λ i. record {
+          own = record {
+            transport = closing;
+            session = record { state = state_from w.own.kept (held i) (w.own.kept.base + points (take w.own.mark w.history)); waiting = a };
+            channel = put broken (bye 128 ∷ []) (take keep w.own.channel);
+          };
+          peer = record { transport = w.peer.transport; session = record { state = peer i; waiting = b }; channel = w.peer.channel };
+        };
+        seated = record {
+          own = begun_seated (closed broken keep w) a refl
+              (λ o t. by_test (stopped w.own) (λ o. rw o (own_gone (w.owner t) ∙ sym (h.own.disowned o t))) (λ o. rw o)
+              ∙ h.own.disowned o t);
+          peer = record {
+            calls = h.peer.calls;
+            called = h.peer.called;
+            idle = h.peer.idle;
+            bare = λ q t. left_theirs (session_of w) w.owner t ∙ h.peer.bare q t;
+            disowned = λ q t. left_theirs (session_of w) w.owner t ∙ h.peer.disowned q t;
+          };
+        };
+      }
 
 -- what the end of a side shows
 pub shown_as : (w : World) (a : Option Meaning) → (react (record { state = session_of w; waiting = a }) broken_off).shown ≡ shown_at_end w
 unfolding react
 shown_as w a = refl
 
-pub end_tabled : (keep : ℕ) (w : World) (a b : Option Meaning) → AreSeated w a b → Tabled (tables.ended_at keep (line_of w a b)).line (ended_at keep w)
+pub end_tabled : (keep : ℕ) (w : World) (a b : Option Meaning) → AreSeated w a b
+    → Tabled (tables.ended_at keep (line_of w a b)).line (ended_at keep w)
 unfolding react
 end_tabled keep w a b h =
     let own = sym (gone_state w) in
@@ -285,10 +309,12 @@ break_tabled left right w a b h = grind arith
 
 -- ---- a new connection
 
-pub new_seated : (o : Offer) (ms : List Message) → AreSeated (record (asked_with o) { own = record (asked_with o).own { channel = ms } }) (Some (offer_sent o)) None
+pub new_seated : (o : Offer) (ms : List Message)
+    → AreSeated (record (asked_with o) { own = record (asked_with o).own { channel = ms } }) (Some (offer_sent o)) None
 new_seated o ms = grind arith
 
 pub new_tabled : (broken : Bool) (o : Offer)
-    → Tabled (tables.asked_with broken o) (if broken then record (asked_with o) { own = record (asked_with o).own { channel = [] } } else asked_with o)
+    → Tabled (tables.asked_with broken o) (if broken then record (asked_with o) { own = record (asked_with o).own { channel = [] } }
+    else asked_with o)
 new_tabled true o = record { first = Some (offer_sent o); second = None; same = refl; seated = new_seated o [] }
 new_tabled false o = record { first = Some (offer_sent o); second = None; same = refl; seated = new_seated o (ask ∷ []) }

@@ -48,15 +48,18 @@ unmoved s c x e = ap (λ (a : Answer). (answered_move (standing s) a).next.state
 
 pub over_calls : (s : State) (calls : List Call) → is_over s.phase ≡ true → is_over (after_calls s calls).phase ≡ true
 over_calls s [] o = o
-over_calls s (c ∷ calls) o = over_calls (left_by s (called c)) calls (ap (λ (x : State). is_over x.phase) (unmoved s c error.Ended (refused s c o)) ∙ o)
+over_calls s (c ∷ calls) o = over_calls (left_by s (called c)) calls
+    (ap (λ (x : State). is_over x.phase) (unmoved s c error.Ended (refused s c o)) ∙ o)
 
-either : (b : Bool) (x y : Outcome) → is_over x.next.phase ≡ true → is_over y.next.phase ≡ true → is_over (if b then x else y).next.phase ≡ true
+either : (b : Bool) (x y : Outcome) → is_over x.next.phase ≡ true → is_over y.next.phase ≡ true
+    → is_over (if b then x else y).next.phase ≡ true
 either b x y p q = grind arith
 
 over_all : (s : State) (us : List Meaning) → is_over s.phase ≡ true → is_over (respond_all s us).next.phase ≡ true
 unfolding respond_all
 over_all s [] o = o
-over_all s (u ∷ us) o = either (is_faulty (verdict s u)) (respond_unit s u) (and_then (respond_unit s u) (respond_all (respond_unit s u).next us)) (over_next s u o)
+over_all s (u ∷ us) o = either (is_faulty (verdict s u)) (respond_unit s u)
+    (and_then (respond_unit s u) (respond_all (respond_unit s u).next us)) (over_next s u o)
     (over_all (respond_unit s u).next us (over_next s u o))
 
 over_unit : (s : State) (u : Meaning) → is_over s.phase ≡ true → is_over (left_by s (taken (said_of u))).phase ≡ true
@@ -72,7 +75,8 @@ over_message s m o = search (arith, over_unit, not_waiting)
 
 pub over_calm : (s : State) (ms : List Message) → is_over s.phase ≡ true → StaysCalm s ms
 over_calm s [] o = λ calls small octets. unit_when_over (after_calls s calls) (DT octets) (over_calls s calls o)
-over_calm s (m ∷ ms) o = λ calls small. over_calm (after_message (after_calls s calls) m) ms (over_message (after_calls s calls) m (over_calls s calls o))
+over_calm s (m ∷ ms) o = λ calls small. over_calm (after_message (after_calls s calls) m) ms
+    (over_message (after_calls s calls) m (over_calls s calls o))
 
 -- ---- a CN that is still to be sent makes no difference
 
@@ -86,7 +90,8 @@ call_first : (s : State) (c : Call) (ms : List Message) → HasSerial c → Stay
 call_first s c [] small calm = λ calls numbered. calm (c ∷ calls) (small, numbered)
 call_first s c (m ∷ ms) small calm = λ calls numbered. calm (c ∷ calls) (small, numbered)
 
-pub called_calm : (x : Standing) (c : Call) (ms : List Message) → HasSerial c → StaysCalm x.state ms → StaysCalm (react x (called c)).next.state ms
+pub called_calm : (x : Standing) (c : Call) (ms : List Message) → HasSerial c → StaysCalm x.state ms
+    → StaysCalm (react x (called c)).next.state ms
 called_calm x c ms small calm = subst (λ (s : State). StaysCalm s ms) (left_is x (called c)) (call_first x.state c ms small calm)
 
 -- ---- a side of a connection on which nothing is lost
@@ -100,12 +105,14 @@ record HasCore (s : State) (sent : List Meaning) : Type 0 where
 abbrev Lives : State → List Meaning → Type 0
 Lives s sent = (is_over s.phase ≡ true) ⊎ HasCore s sent
 
-module _ (laws : SessionLaws) (c : Core) (call : Call) (sent : List Meaning) (small : HasSerial call) (stands : Stands c) (way : c.peer.sent ≡ sent) where
+module _ (laws : SessionLaws) (c : Core) (call : Call) (sent : List Meaning) (small : HasSerial call) (stands : Stands c)
+    (way : c.peer.sent ≡ sent) where
   granted : (g : Granted) → allowed c.own.session call ≡ Ok g → (k : Bool) → stays_in_core call ≡ k → Lives g.next sent
   granted g e true q = inr (record {
     core = answered c call (Ok g);
     stands = subst (λ (a : Answer). Stands (answered c call a)) e
-        (subst (λ (b : Bool). Stands (if b then answered c call (allowed c.own.session call) else c)) q (called_stands laws c call small stands));
+        (subst (λ (b : Bool). Stands (if b then answered c call (allowed c.own.session call) else c)) q
+        (called_stands laws c call small stands));
     is = refl;
     way = way;
   })
@@ -117,12 +124,15 @@ module _ (laws : SessionLaws) (c : Core) (call : Call) (sent : List Meaning) (sm
       subst (λ (s : State). Lives s sent) (sym (accepted c.own.session call g e)) (granted g e (stays_in_core call) refl)
   answers (Err x) e = inr (record { core = c; stands = stands; is = unmoved c.own.session call x e; way = way })
 
-one_call : SessionLaws → (s : State) (call : Call) (sent : List Meaning) → HasSerial call → Lives s sent → Lives (left_by s (called call)) sent
+one_call : SessionLaws → (s : State) (call : Call) (sent : List Meaning) → HasSerial call → Lives s sent
+    → Lives (left_by s (called call)) sent
 one_call laws s call sent small (inl o) = inl (ap (λ (x : State). is_over x.phase) (unmoved s call error.Ended (refused s call o)) ∙ o)
 one_call laws s call sent small (inr h) =
-    subst (λ (x : State). Lives (left_by x (called call)) sent) (sym h.is) (answers laws h.core call sent small h.stands h.way (allowed h.core.own.session call) refl)
+    subst (λ (x : State). Lives (left_by x (called call)) sent) (sym h.is)
+    (answers laws h.core call sent small h.stands h.way (allowed h.core.own.session call) refl)
 
-all_calls : SessionLaws → (s : State) (calls : List Call) (sent : List Meaning) → AllByRecursion HasSerial calls → Lives s sent → Lives (after_calls s calls) sent
+all_calls : SessionLaws → (s : State) (calls : List Call) (sent : List Meaning) → AllByRecursion HasSerial calls → Lives s sent
+    → Lives (after_calls s calls) sent
 all_calls laws s [] sent small h = h
 all_calls laws s (c ∷ calls) sent small h = all_calls laws (left_by s (called c)) calls sent small.1 (one_call laws s c sent small.0 h)
 
@@ -130,7 +140,8 @@ said : SaysItsUnit → (s : State) (u : Meaning) → left_by s (taken (said_of u
 unfolding react
 said says s u = ap (λ (o : Outcome). o.next) (says s u)
 
-one_unit : SessionLaws → SaysItsUnit → (s : State) (u : Meaning) (sent : List Meaning) → Lives s (u ∷ sent) → Lives (left_by s (taken (said_of u))) sent
+one_unit : SessionLaws → SaysItsUnit → (s : State) (u : Meaning) (sent : List Meaning) → Lives s (u ∷ sent)
+    → Lives (left_by s (taken (said_of u))) sent
 one_unit laws says s u sent (inl o) = inl (over_unit s u o)
 one_unit laws says s u sent (inr h) =
     subst (λ (x : State). Lives x sent) (ap (λ (x : State). (respond_unit x u).next) (sym h.is) ∙ sym (said says s u))
@@ -139,8 +150,10 @@ one_unit laws says s u sent (inr h) =
 no_fault_first : (s : State) (octets : List ℕ) (rest : List Meaning) → Lives s (DT octets ∷ rest) → IsCalm s
 no_fault_first s octets rest h3 x = grind arith
 
-calm_behind : SessionLaws → SaysItsUnit → (s : State) (us : List Meaning) (octets : List ℕ) (rest : List Meaning) → Lives s (us ++ DT octets ∷ rest) → StaysCalm s (map unit us)
-calm_behind laws says s [] octets rest h = λ calls small. no_fault_first (after_calls s calls) octets rest (all_calls laws s calls (DT octets ∷ rest) small h)
+calm_behind : SessionLaws → SaysItsUnit → (s : State) (us : List Meaning) (octets : List ℕ) (rest : List Meaning)
+    → Lives s (us ++ DT octets ∷ rest) → StaysCalm s (map unit us)
+calm_behind laws says s [] octets rest h = λ calls small. no_fault_first (after_calls s calls) octets rest
+    (all_calls laws s calls (DT octets ∷ rest) small h)
 calm_behind laws says s (u ∷ us) octets rest h = λ calls small.
     calm_behind laws says (left_by (after_calls s calls) (taken (said_of u))) us octets rest
     (one_unit laws says (after_calls s calls) u (us ++ DT octets ∷ rest) (all_calls laws s calls (u ∷ (us ++ DT octets ∷ rest)) small h))
@@ -154,7 +167,8 @@ record Ahead (ms : List Message) (octets : List ℕ) (there : List Meaning) : Ty
   ahead : ms ≡ map unit units
   splits : there ≡ units ++ DT octets ∷ rest
 
-no_data_last : (b : Bool) (s : State) (lost tail : List Meaning) (ms : List Message) (octets : List ℕ) (rest : List Message) → IsTail b s lost tail → ms ++ unit (DT octets) ∷ rest ≡ map unit tail → ⊥
+no_data_last : (b : Bool) (s : State) (lost tail : List Meaning) (ms : List Message) (octets : List ℕ) (rest : List Message)
+    → IsTail b s lost tail → ms ++ unit (DT octets) ∷ rest ≡ map unit tail → ⊥
 no_data_last b s lost [] [] octets rest t e = cc
 no_data_last b s lost [] (m ∷ ms) octets rest t e = cc
 no_data_last b s lost (DT x ∷ []) [] octets rest t e = t.2
@@ -163,7 +177,8 @@ no_data_last b s lost (u ∷ []) (m ∷ []) octets rest t e = cc
 no_data_last b s lost (u ∷ []) (m ∷ (n ∷ ms)) octets rest t e = cc
 no_data_last b s lost (u ∷ (v ∷ us)) ms octets rest t e = t
 
-one_more : (u : Meaning) (m : Message) (ms : List Message) (octets : List ℕ) (there : List Meaning) → m ≡ unit u → Ahead ms octets there → Ahead (m ∷ ms) octets (u ∷ there)
+one_more : (u : Meaning) (m : Message) (ms : List Message) (octets : List ℕ) (there : List Meaning) → m ≡ unit u → Ahead ms octets there
+    → Ahead (m ∷ ms) octets (u ∷ there)
 one_more u m ms octets there e h = record {
   units = u ∷ h.units;
   rest = h.rest;
@@ -171,7 +186,8 @@ one_more u m ms octets there e h = record {
   splits = ap (λ (l : List Meaning). u ∷ l) h.splits;
 }
 
-ahead_of : (b : Bool) (s : State) (lost there tail : List Meaning) (ms : List Message) (octets : List ℕ) (rest : List Message) → IsTail b s lost tail → ms ++ unit (DT octets) ∷ rest ≡ map unit (there ++ tail) →
+ahead_of : (b : Bool) (s : State) (lost there tail : List Meaning) (ms : List Message) (octets : List ℕ) (rest : List Message)
+    → IsTail b s lost tail → ms ++ unit (DT octets) ∷ rest ≡ map unit (there ++ tail) →
     Ahead ms octets there
 ahead_of b s lost [] tail ms octets rest t e = absurd (no_data_last b s lost tail ms octets rest t e)
 ahead_of b s lost (u ∷ there) tail [] octets rest t e =
@@ -182,7 +198,8 @@ ahead_of b s lost (u ∷ there) tail (m ∷ ms) octets rest t e =
     let more : ms ++ unit (DT octets) ∷ rest ≡ map unit (there ++ tail) = cc in
     one_more u m ms octets there one (ahead_of b s lost there tail ms octets rest t more)
 
-carried_calm : SessionLaws → SaysItsUnit → (b o : Bool) (c : Core) (ch ms : List Message) (octets : List ℕ) (rest : List Message) → Stands c → Carried b o ch c.peer.sent c.peer.session → ch ≡ ms ++ unit (DT octets) ∷ rest → StaysCalm c.own.session ms
+carried_calm : SessionLaws → SaysItsUnit → (b o : Bool) (c : Core) (ch ms : List Message) (octets : List ℕ) (rest : List Message) → Stands c
+    → Carried b o ch c.peer.sent c.peer.session → ch ≡ ms ++ unit (DT octets) ∷ rest → StaysCalm c.own.session ms
 carried_calm laws says b o c ch ms octets rest stands k e =
     let h = ahead_of o c.peer.session k.lost k.there k.tail ms octets rest k.last (sym e ∙ k.carries) in
     subst (StaysCalm c.own.session) (sym h.ahead)
@@ -210,8 +227,10 @@ has_unit _ u rest = refl
 no_unit_replied : (way : Way) → list_any is_unit (replies way) ≡ false
 no_unit_replied way = grind arith
 
-no_fault_behind : SessionLaws → SaysItsUnit → (b : Bool) (w : World) (t u : Told) → Stage b w t u → IsNoFaultBehind (session_of w) w.peer.channel
-no_fault_behind laws says b w t u h6 ms octets rest e = search (arith, not_both, has_unit, no_unit_replied, no_unit_asked, cases_Bool, over_calm, session_is, carried_calm)
+no_fault_behind : SessionLaws → SaysItsUnit → (b : Bool) (w : World) (t u : Told) → Stage b w t u
+    → IsNoFaultBehind (session_of w) w.peer.channel
+no_fault_behind laws says b w t u h6 ms octets rest e =
+    search (arith, not_both, has_unit, no_unit_replied, no_unit_asked, cases_Bool, over_calm, session_is, carried_calm)
 
 pub behind_is_no_fault : SessionLaws → SaysItsUnit → (t : Tables) → IsTableRun t → AtEachSide IsNoFaultBehind t
 behind_is_no_fault laws says = of_stages laws says IsNoFaultBehind (no_fault_behind laws says)

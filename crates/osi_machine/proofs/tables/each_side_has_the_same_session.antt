@@ -50,7 +50,8 @@ owned_as o p h = tokens_same (owned o) (owned p) (λ t. has_set (λ t. is_own (o
 abbrev unless_over : Bool → Tokens → Tokens
 unless_over over_now held = if over_now then no_token else held
 
-owned_now : (broken : Bool) (w : World) (c : Core) → Stands c → OneSide broken w c → Disowned w → owned w.owner ≡ unless_over (stopped w.own) c.own.session.held
+owned_now : (broken : Bool) (w : World) (c : Core) → Stands c → OneSide broken w c → Disowned w
+    → owned w.owner ≡ unless_over (stopped w.own) c.own.session.held
 owned_now broken w c s o d = by_test (stopped w.own) (λ e. rw e (owned_none w.owner (d e))) (λ e. rw e (owned_is w c s (o.alike e)))
 
 seat_state : (broken : Bool) (w : World) (c : Core) → Stands c → w.history ≡ c.history → OneSide broken w c → Disowned w
@@ -58,7 +59,8 @@ seat_state : (broken : Bool) (w : World) (c : Core) → Stands c → w.history �
 seat_state broken w c s h o d = search (arith, owned_now, next_is)
 
 -- a side that is left alone
-seat_same : (broken : Bool) (w v : World) (c d : Core) → Stands c → Stands d → w.history ≡ c.history → v.history ≡ d.history → OneSide broken w c → OneSide broken v d
+seat_same : (broken : Bool) (w v : World) (c d : Core) → Stands c → Stands d → w.history ≡ c.history → v.history ≡ d.history
+    → OneSide broken w c → OneSide broken v d
     → Disowned w → Disowned v → v.own.kept ≡ w.own.kept → d.own.session ≡ c.own.session → session_of v ≡ session_of w
 seat_same broken w v c d s r h k o p x y same still = search (arith, seat_state)
 
@@ -73,10 +75,12 @@ left_none s o t e = ap (λ (b : Bool). is_own ((if b then given_up o else o) t))
 not_theirs : (a b : Bool) → is_own (turned_owner (if a then Own else if b then ToThem else Absent)) ≡ false
 not_theirs a b = grind arith
 
-none_called : (s : State) (c : Call) (o : Owners) (t : Token) → is_own (turned_owner (o t)) ≡ false → is_own (turned_owner (owners_called s c o t)) ≡ false
+none_called : (s : State) (c : Call) (o : Owners) (t : Token) → is_own (turned_owner (o t)) ≡ false
+    → is_own (turned_owner (owners_called s c o t)) ≡ false
 none_called s c o t e = grind (arith, not_theirs, given_theirs)
 
-none_after : (s : State) (u : Meaning) (o : Owners) (t : Token) → is_own (turned_owner (o t)) ≡ false → is_own (turned_owner (owners_after s u o t)) ≡ false
+none_after : (s : State) (u : Meaning) (o : Owners) (t : Token) → is_own (turned_owner (o t)) ≡ false
+    → is_own (turned_owner (owners_after s u o t)) ≡ false
 none_after s u o t e = grind arith
 
 pub called_disowned : (broken : Bool) (s : State) (x : Call) (g : Granted) (w : World) → Disowned (turned_world w)
@@ -87,10 +91,12 @@ pub taken_disowned : (broken : Bool) (s : State) (u : Meaning) (w : World) → D
     → Disowned (after_unit broken s u w) × Disowned (turned_world (after_unit broken s u w))
 taken_disowned broken s u w d = (
   λ o t. left_none (respond_unit s u).next (if is_acted_on s u then owners_after s u w.owner else w.owner) t o,
-  λ o t. left_theirs (respond_unit s u).next (if is_acted_on s u then owners_after s u w.owner else w.owner) t ∙ by (is_acted_on s u) t (d o t),
+  λ o t. left_theirs (respond_unit s u).next (if is_acted_on s u then owners_after s u w.owner else w.owner) t
+      ∙ by (is_acted_on s u) t (d o t),
 )
   where
-    by : (b : Bool) (t : Token) → is_own (turned_owner (w.owner t)) ≡ false → is_own (turned_owner ((if b then owners_after s u w.owner else w.owner) t)) ≡ false
+    by : (b : Bool) (t : Token) → is_own (turned_owner (w.owner t)) ≡ false
+        → is_own (turned_owner ((if b then owners_after s u w.owner else w.owner) t)) ≡ false
     by true t e = none_after s u w.owner t e
     by false t e = e
 
@@ -105,102 +111,117 @@ stop_state : (s : State) (c : Call) → stays_in_core c ≡ false
     → state_from (kept_of (after s c)) (unless_over (is_over (after s c).phase) s.held) s.numbers.next ≡ after s c
 stop_state s c k = grind arith
 
-call_seats : SessionLaws → (broken : Bool) (w : World) (t u : Told) (x : Call) (g : Granted) → HasSerial x → (h : Repeats broken w t u) → stopped w.own ≡ false
-    → Disowned (turned_world w) → allowed h.core.own.session x ≡ Ok g → (k : Bool) → stays_in_core x ≡ k → Followed w (after_call broken h.core.own.session x g w) g.next
-call_seats laws broken w t u x g small h l d e true q =
-    let v = after_call broken h.core.own.session x g w in
-    let c = answered h.core x (Ok g) in
-    let now : Stands (answered h.core x (Ok g)) = subst (λ (a : Answer). Stands (answered h.core x a)) e
-    (subst (λ (b : Bool). Stands (if b then answered h.core x (allowed h.core.own.session x) else h.core)) q (called_stands laws h.core x small h.stands)) in
-    let p = call_projects laws broken w h.core x g q l h.projects h.stands e in
-    let none = called_disowned broken h.core.own.session x g w d in
-    record {
-      own = seat_state broken v c now p.history p.own none.0 ∙ lives_as g.next (alive c.owner c.own c.peer now.own);
-      peer = seat_same broken (turned_world w) (turned_world v) (turned h.core) (turned c) (turned_stands h.core h.stands) (turned_stands c now) h.projects.history p.history h.projects.peer p.peer
-          d none.1 refl refl;
-    }
-call_seats laws broken w t u x g small h l d e false q =
-    let v = after_call broken h.core.own.session x g w in
-    let p = stop_projects laws broken w h.core x g q l h.projects e in
-    let none = called_disowned broken h.core.own.session x g w d in
-    record {
-      own = seat_state broken v h.core h.stands p.history p.own none.0
-          ∙ subst (λ (r : Granted). state_from (kept_of r.next) (unless_over (is_over r.next.phase) h.core.own.session.held) h.core.own.session.numbers.next ≡ r.next)
-          (sym (laws.passed h.core.own.session x g e).gives) (stop_state h.core.own.session x q);
-      peer = seat_same broken (turned_world w) (turned_world v) (turned h.core) (turned h.core) (turned_stands h.core h.stands) (turned_stands h.core h.stands) h.projects.history p.history h.projects.peer p.peer
-          d none.1 refl refl;
-    }
-
-pub call_followed : SessionLaws → (broken : Bool) (w : World) (t u : Told) (x : Call) (g : Granted) → HasSerial x → Repeats broken w t u → Disowned (turned_world w)
-    → allowed (session_of w) x ≡ Ok g → Followed w (after_call broken (session_of w) x g w) g.next
-call_followed laws broken w t u x g small h d e = by_test (stopped w.own)
-    (λ o. absurd (let n = refused (session_of w) x o in cc))
-    (λ l. let same = session_is w h.core h.stands h.projects.history h.projects.own.counted (h.projects.own.alike l) in
-    subst (λ (s : State). allowed s x ≡ Ok g → Followed w (after_call broken s x g w) g.next) (sym same)
-    (λ a. call_seats laws broken w t u x g small h l d a (stays_in_core x) refl) e)
-
--- ---- a unit that is taken
-
 abbrev pub after_taking : Bool → World → Meaning → List Message → State → World
 after_taking broken w m ms s = after_unit broken s m (without_first w ms)
 
-first_seats : SessionLaws → (broken : Bool) (w : World) (t u : Told) (m : Meaning) (ms : List Message) (h : Repeats broken w t u) → stopped w.own ≡ false → w.peer.channel ≡ unit m ∷ ms
-    → Disowned (turned_world w) → First broken (stopped w.peer) m ms h.core.peer.sent h.core.peer.session
-    → Followed w (after_taking broken w m ms h.core.own.session) (respond_unit h.core.own.session m).next
-first_seats laws broken w t u m ms h l e d f =
-    let v = after_taking broken w m ms h.core.own.session in
-    let c = taking h.core (m ∷ f.rest) in
-    let all = stands_at h.core (m ∷ f.rest) f.sent_is h.stands in
-    let now = taking_stands laws h.core (m ∷ f.rest) f.sent_is h.stands in
-    let p = take_projects broken w h.core m f.rest ms h.projects all now l e f.carried in
-    let none = taken_disowned broken h.core.own.session m (without_first w ms) d in
-    record {
-      own = seat_state broken v c now p.history p.own none.0 ∙ lives_as (respond_unit h.core.own.session m).next (alive c.owner c.own c.peer now.own);
-      peer = seat_same broken (turned_world w) (turned_world v) (turned h.core) (turned c) (turned_stands h.core h.stands) (turned_stands c now) h.projects.history p.history h.projects.peer p.peer
-          d none.1 refl refl;
-    }
-
-last_state : (s r : State) (u : Meaning) → IsLast r u → state_from (kept_of (becomes s u)) (unless_over (is_over (becomes s u).phase) s.held) s.numbers.next ≡ becomes s u
+last_state : (s r : State) (u : Meaning) → IsLast r u
+    → state_from (kept_of (becomes s u)) (unless_over (is_over (becomes s u).phase) s.held) s.numbers.next ≡ becomes s u
 last_state s r u l = grind arith
 
-last_seats : (broken : Bool) (w : World) (t u : Told) (m : Meaning) (ms : List Message) (h : Repeats broken w t u)
-    → Disowned (turned_world w) → Last (stopped w.peer) m ms h.core.peer.sent h.core.peer.session
-    → Followed w (after_taking broken w m ms h.core.own.session) (respond_unit h.core.own.session m).next
-last_seats broken w t u m ms h d l =
-    let v = after_taking broken w m ms h.core.own.session in
-    let p = (last_projects broken w h.core m ms h.projects h.stands l).1 in
-    let none = taken_disowned broken h.core.own.session m (without_first w ms) d in
-    record {
-      own = seat_state broken v h.core h.stands p.history p.own none.0
-          ∙ subst (λ (o : Outcome). state_from (kept_of o.next) (unless_over (is_over o.next.phase) h.core.own.session.held) h.core.own.session.numbers.next ≡ o.next)
-          (sym (last_good h.core m h.stands l.none l.last)) (last_state h.core.own.session h.core.peer.session m l.last);
-      peer = seat_same broken (turned_world w) (turned_world v) (turned h.core) (turned h.core) (turned_stands h.core h.stands) (turned_stands h.core h.stands) h.projects.history p.history h.projects.peer p.peer
-          d none.1 refl refl;
-    }
+module _ (laws : SessionLaws) (broken : Bool) (w : World) (t u : Told) (h : Repeats broken w t u) where
+  call_seats : (x : Call) (g : Granted) → HasSerial x → stopped w.own ≡ false → Disowned (turned_world w)
+      → allowed h.core.own.session x ≡ Ok g → (k : Bool) → stays_in_core x ≡ k
+      → Followed w (after_call broken h.core.own.session x g w) g.next
+  call_seats x g small l d e true q =
+      let v = after_call broken h.core.own.session x g w in
+      let c = answered h.core x (Ok g) in
+      let now : Stands (answered h.core x (Ok g)) = subst (λ (a : Answer). Stands (answered h.core x a)) e
+      (subst (λ (b : Bool). Stands (if b then answered h.core x (allowed h.core.own.session x) else h.core)) q
+      (called_stands laws h.core x small h.stands)) in
+      let p = call_projects laws broken w h.core x g q l h.projects h.stands e in
+      let none = called_disowned broken h.core.own.session x g w d in
+      record {
+        own = seat_state broken v c now p.history p.own none.0 ∙ lives_as g.next (alive c.owner c.own c.peer now.own);
+        peer = seat_same broken (turned_world w) (turned_world v) (turned h.core) (turned c) (turned_stands h.core h.stands)
+            (turned_stands c now) h.projects.history p.history h.projects.peer p.peer
+            d none.1 refl refl;
+      }
+  call_seats x g small l d e false q =
+      let v = after_call broken h.core.own.session x g w in
+      let p = stop_projects laws broken w h.core x g q l h.projects e in
+      let none = called_disowned broken h.core.own.session x g w d in
+      record {
+        own = seat_state broken v h.core h.stands p.history p.own none.0
+            ∙ subst (λ (r : Granted). state_from (kept_of r.next)
+            (unless_over (is_over r.next.phase) h.core.own.session.held) h.core.own.session.numbers.next ≡ r.next)
+            (sym (laws.passed h.core.own.session x g e).gives) (stop_state h.core.own.session x q);
+        peer = seat_same broken (turned_world w) (turned_world v) (turned h.core) (turned h.core) (turned_stands h.core h.stands)
+            (turned_stands h.core h.stands) h.projects.history p.history h.projects.peer p.peer
+            d none.1 refl refl;
+      }
 
-over_seats : (broken : Bool) (w : World) (t u : Told) (m : Meaning) (ms : List Message) (h : Repeats broken w t u) → stopped w.own ≡ true → w.peer.channel ≡ unit m ∷ ms
-    → Disowned w → Disowned (turned_world w) → Followed w (after_taking broken w m ms (session_of w)) (respond_unit (session_of w) m).next
-over_seats broken w t u m ms h o e x d =
-    let v = after_taking broken w m ms (session_of w) in
-    let p = over_projects broken w h.core m ms h.projects o e in
-    let none = taken_disowned broken (session_of w) m (without_first w ms) d in
-    let was = seat_state broken w h.core h.stands h.projects.history h.projects.own x in
-    record {
-      own = seat_state broken v h.core h.stands p.history p.own none.0
-          ∙ over_as (λ r. state_from (kept_of r) (unless_over (is_over r.phase) h.core.own.session.held) h.core.own.session.numbers.next ≡ r) (session_of w) m o (sym was)
-          (ap (state_from (kept_of (without_tokens Ended (session_of w))) no_token) (sym (next_is w h.core h.stands h.projects.history h.projects.own.counted)));
-      peer = seat_same broken (turned_world w) (turned_world v) (turned h.core) (turned h.core) (turned_stands h.core h.stands) (turned_stands h.core h.stands) h.projects.history p.history h.projects.peer p.peer
-          d none.1 refl refl;
-    }
+  pub call_followed : (x : Call) (g : Granted) → HasSerial x → Disowned (turned_world w) → allowed (session_of w) x ≡ Ok g
+      → Followed w (after_call broken (session_of w) x g w) g.next
+  call_followed x g small d e = by_test (stopped w.own)
+      (λ o. absurd (let n = refused (session_of w) x o in cc))
+      (λ l. let same = session_is w h.core h.stands h.projects.history h.projects.own.counted (h.projects.own.alike l) in
+      subst (λ (s : State). allowed s x ≡ Ok g → Followed w (after_call broken s x g w) g.next) (sym same)
+      (λ a. call_seats x g small l d a (stays_in_core x) refl) e)
 
-pub unit_followed : SessionLaws → (broken : Bool) (w : World) (t u : Told) (m : Meaning) (ms : List Message) → Repeats broken w t u → w.peer.channel ≡ unit m ∷ ms
-    → Disowned w → Disowned (turned_world w) → Followed w (after_taking broken w m ms (session_of w)) (respond_unit (session_of w) m).next
-unit_followed laws broken w t u m ms h e x d = by_test (stopped w.own)
-    (λ o. over_seats broken w t u m ms h o e x d)
-    (λ l. let same = session_is w h.core h.stands h.projects.history h.projects.own.counted (h.projects.own.alike l) in
-    let way = subst (λ (ch : List Message). Carried broken (stopped w.peer) ch h.core.peer.sent h.core.peer.session) e (h.projects.own.carried l) in
-    subst (λ (s : State). Followed w (after_taking broken w m ms s) (respond_unit s m).next) (sym same)
-    (elim (split_first broken (stopped w.peer) m ms h.core.peer.sent h.core.peer.session way) [
-      | inl f ↦ first_seats laws broken w t u m ms h l e d f
-      | inr z ↦ last_seats broken w t u m ms h d z
-    ]))
+  -- ---- a unit that is taken
+
+  first_seats : (m : Meaning) (ms : List Message) → stopped w.own ≡ false → w.peer.channel ≡ unit m ∷ ms → Disowned (turned_world w)
+      → First broken (stopped w.peer) m ms h.core.peer.sent h.core.peer.session
+      → Followed w (after_taking broken w m ms h.core.own.session) (respond_unit h.core.own.session m).next
+  first_seats m ms l e d f =
+      let v = after_taking broken w m ms h.core.own.session in
+      let c = taking h.core (m ∷ f.rest) in
+      let all = stands_at h.core (m ∷ f.rest) f.sent_is h.stands in
+      let now = taking_stands laws h.core (m ∷ f.rest) f.sent_is h.stands in
+      let p = take_projects broken w h.core m f.rest ms h.projects all now l e f.carried in
+      let none = taken_disowned broken h.core.own.session m (without_first w ms) d in
+      record {
+        own = seat_state broken v c now p.history p.own none.0
+            ∙ lives_as (respond_unit h.core.own.session m).next (alive c.owner c.own c.peer now.own);
+        peer = seat_same broken (turned_world w) (turned_world v) (turned h.core) (turned c) (turned_stands h.core h.stands)
+            (turned_stands c now) h.projects.history p.history h.projects.peer p.peer
+            d none.1 refl refl;
+      }
+
+  last_seats : (m : Meaning) (ms : List Message) → Disowned (turned_world w)
+      → Last (stopped w.peer) m ms h.core.peer.sent h.core.peer.session
+      → Followed w (after_taking broken w m ms h.core.own.session) (respond_unit h.core.own.session m).next
+  last_seats m ms d l =
+      let v = after_taking broken w m ms h.core.own.session in
+      let p = (last_projects broken w h.core m ms h.projects h.stands l).1 in
+      let none = taken_disowned broken h.core.own.session m (without_first w ms) d in
+      record {
+        own = seat_state broken v h.core h.stands p.history p.own none.0
+            ∙ subst (λ (o : Outcome). state_from (kept_of o.next)
+            (unless_over (is_over o.next.phase) h.core.own.session.held) h.core.own.session.numbers.next ≡ o.next)
+            (sym (last_good h.core m h.stands l.none l.last)) (last_state h.core.own.session h.core.peer.session m l.last);
+        peer = seat_same broken (turned_world w) (turned_world v) (turned h.core) (turned h.core) (turned_stands h.core h.stands)
+            (turned_stands h.core h.stands) h.projects.history p.history h.projects.peer p.peer
+            d none.1 refl refl;
+      }
+
+  over_seats : (m : Meaning) (ms : List Message) → stopped w.own ≡ true → w.peer.channel ≡ unit m ∷ ms → Disowned w
+      → Disowned (turned_world w) → Followed w (after_taking broken w m ms (session_of w)) (respond_unit (session_of w) m).next
+  over_seats m ms o e x d =
+      let v = after_taking broken w m ms (session_of w) in
+      let p = over_projects broken w h.core m ms h.projects o e in
+      let none = taken_disowned broken (session_of w) m (without_first w ms) d in
+      let was = seat_state broken w h.core h.stands h.projects.history h.projects.own x in
+      record {
+        own = seat_state broken v h.core h.stands p.history p.own none.0
+            ∙ over_as (λ r. state_from (kept_of r) (unless_over (is_over r.phase) h.core.own.session.held)
+            h.core.own.session.numbers.next ≡ r) (session_of w) m o (sym was)
+            (ap (state_from (kept_of (without_tokens Ended (session_of w))) no_token)
+            (sym (next_is w h.core h.stands h.projects.history h.projects.own.counted)));
+        peer = seat_same broken (turned_world w) (turned_world v) (turned h.core) (turned h.core) (turned_stands h.core h.stands)
+            (turned_stands h.core h.stands) h.projects.history p.history h.projects.peer p.peer
+            d none.1 refl refl;
+      }
+
+  pub unit_followed : (m : Meaning) (ms : List Message) → w.peer.channel ≡ unit m ∷ ms → Disowned w → Disowned (turned_world w)
+      → Followed w (after_taking broken w m ms (session_of w)) (respond_unit (session_of w) m).next
+  unit_followed m ms e x d = by_test (stopped w.own)
+      (λ o. over_seats m ms o e x d)
+      (λ l. let same = session_is w h.core h.stands h.projects.history h.projects.own.counted (h.projects.own.alike l) in
+      let way = subst (λ (ch : List Message). Carried broken (stopped w.peer) ch h.core.peer.sent h.core.peer.session) e
+      (h.projects.own.carried l) in
+      subst (λ (s : State). Followed w (after_taking broken w m ms s) (respond_unit s m).next) (sym same)
+      (elim (split_first broken (stopped w.peer) m ms h.core.peer.sent h.core.peer.session way) [
+        | inl f ↦ first_seats m ms l e d f
+        | inr z ↦ last_seats m ms d z
+      ]))

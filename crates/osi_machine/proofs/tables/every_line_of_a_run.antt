@@ -66,12 +66,14 @@ new_there : (r : ℕ) (ls : List Line) (l : Line) → (connection_at r (ls ++ l 
 new_there zero ls l = inl refl
 new_there (suc r) ls l = new_got r ls l
 
-ended_got_none : (side : Side) (keep : ℕ → ℕ) (k r : ℕ) (ls : List Line) → slice_get ls r ≡ None → slice_get (ended_lines side keep k ls) r ≡ None
+ended_got_none : (side : Side) (keep : ℕ → ℕ) (k r : ℕ) (ls : List Line) → slice_get ls r ≡ None
+    → slice_get (ended_lines side keep k ls) r ≡ None
 ended_got_none side keep k r [] e = refl
 ended_got_none side keep k zero (x ∷ ls) e = absurd (cc)
 ended_got_none side keep k (suc r) (x ∷ ls) e = ended_got_none side keep (k + 1) r ls e
 
-ended_none : (side : Side) (keep : ℕ → ℕ) (r : ℕ) (ls : List Line) → connection_at r ls ≡ None → connection_at r (ended_lines side keep 1 ls) ≡ None
+ended_none : (side : Side) (keep : ℕ → ℕ) (r : ℕ) (ls : List Line) → connection_at r ls ≡ None
+    → connection_at r (ended_lines side keep 1 ls) ≡ None
 ended_none side keep zero ls e = refl
 ended_none side keep (suc r) ls e = ended_got_none side keep 1 r ls e
 
@@ -84,7 +86,8 @@ cut_none : (left right : ℕ → ℕ) (r : ℕ) (ls : List Line) → connection_
 cut_none left right zero ls e = refl
 cut_none left right (suc r) ls e = cut_got_none left right 1 r ls e
 
-asked_short : (past : Bool) (known : Option Class) (asked : List Transport) (o : Offer) → refusal_by past known asked o ≡ None → is_long o ≡ false
+asked_short : (past : Bool) (known : Option Class) (asked : List Transport) (o : Offer) → refusal_by past known asked o ≡ None
+    → is_long o ≡ false
 asked_short past known asked o h = grind (arith, if_none)
 
 one_by_one : (x : Words) (a b c d : List Meaning) → and_more (and_more x a b) c d ≡ and_more x (a ++ c) (b ++ d)
@@ -154,8 +157,10 @@ module _ (P : Claim) (Ok : Step → Type 0) (kept : IsKept P Ok) where
 
   -- ---- a call
 
-  call_same : (t : Tables) (side : Side) (r : ℕ) (c : Call) (x y : Words) (o : Option Line) → Ok (calls side r c) → connection_at r t.lines ≡ o
-      → HoldsAt P side t.broken x y o → KnowsAt P side r (call_in t side r c (side_of side o)) (and_more x (said_at_call c (side_of side o)) []) y
+  call_same : (t : Tables) (side : Side) (r : ℕ) (c : Call) (x y : Words) (o : Option Line) → Ok (calls side r c)
+      → connection_at r t.lines ≡ o
+      → HoldsAt P side t.broken x y o → KnowsAt P side r (call_in t side r c (side_of side o))
+      (and_more x (said_at_call c (side_of side o)) []) y
   call_same t side r c x y None small e h =
       same_holds side t.broken (and_more x [] []) y None (connection_at r t.lines) e (quiet_holds side t.broken x y None h)
   call_same t side r c x y (Some l) small e h = by_test (is_given (seen_from side l).own.transport)
@@ -177,7 +182,8 @@ module _ (P : Claim) (Ok : Step → Type 0) (kept : IsKept P Ok) where
 
   -- ---- the end of a side
 
-  marked_knows : (side at : Side) (e : Ending) (t : Tables) (r : ℕ) (x y : Words) → KnowsAt P at r t x y → KnowsAt P at r (marked_ended side e t) x y
+  marked_knows : (side at : Side) (e : Ending) (t : Tables) (r : ℕ) (x y : Words) → KnowsAt P at r t x y
+      → KnowsAt P at r (marked_ended side e t) x y
   marked_knows side at e t r x y h = grind arith
 
   ended_knows : (side : Side) (keep : ℕ → ℕ) (b : Bool) (ls : List Line) (r : ℕ) (x y : Words) (o : Option Line) → connection_at r ls ≡ o
@@ -190,7 +196,8 @@ module _ (P : Claim) (Ok : Step → Type 0) (kept : IsKept P Ok) where
   end_knows : (side : Side) (e : Ending) (keep : ℕ → ℕ) (t : Tables) (r : ℕ) (x y : Words) → KnowsAt P side r t x y
       → KnowsAt P side r (after_end side e keep t) x y
   end_knows side e keep t r x y h =
-      marked_knows side side e (noted (shown_in_order side 1 t.lines ++ ended side e ∷ []) (record t { lines = ended_lines side keep 1 t.lines })) r x y
+      marked_knows side side e (noted (shown_in_order side 1 t.lines ++ ended side e ∷ [])
+      (record t { lines = ended_lines side keep 1 t.lines })) r x y
       (ended_knows side keep t.broken t.lines r x y (connection_at r t.lines) refl h)
 
   -- ---- a delivery
@@ -198,7 +205,8 @@ module _ (P : Claim) (Ok : Step → Type 0) (kept : IsKept P Ok) where
   -- the side may close the transport connection, or end
   turn_knows : (t : Tables) (side : Side) (q r : ℕ) (keep : ℕ → ℕ) (turn : Turn) (x y : Words)
       → HoldsAt P side t.broken x y (connection_at r (with_connection q (seen_from side turn.line) t.lines))
-      → (turn.closes ≡ true → HoldsAt P side t.broken x y (connection_at r (with_connection q (seen_from side (closed t.broken (keep q) turn.line)) t.lines)))
+      → (turn.closes ≡ true → HoldsAt P side t.broken x y
+      (connection_at r (with_connection q (seen_from side (closed t.broken (keep q) turn.line)) t.lines)))
       → KnowsAt P side r (after_turn t side q keep turn) x y
   turn_knows t side q r keep turn x y stayed close = by_test turn.closes (λ c. rw c (last t.known c)) (λ c. rw c stayed)
     where
@@ -211,7 +219,8 @@ module _ (P : Claim) (Ok : Step → Type 0) (kept : IsKept P Ok) where
       → HoldsAt P side t.broken x y (Some l) → (ms : List Message) → (seen_from side l).peer.channel ≡ ms
       → KnowsAt P side r (taken_in t side r keep (seen_from side l) ms)
       (and_more x (said_to_first (seen_from side l) ms) (heard_of_first (seen_from side l) ms)) y
-  taken_same t side r keep l x y e h [] f = same_holds side t.broken (and_more x [] []) y (Some l) _ e (quiet_holds side t.broken x y (Some l) h)
+  taken_same t side r keep l x y e h [] f = same_holds side t.broken (and_more x [] []) y (Some l) _ e
+      (quiet_holds side t.broken x y (Some l) h)
   taken_same t side r keep l x y e h (m ∷ xs) f =
       turn_knows now side r r keep turn _ y (now_holds now side r l turn.line _ y e told)
       (λ c. now_holds now side r l (closed t.broken (keep r) turn.line) _ y e
@@ -244,7 +253,8 @@ module _ (P : Claim) (Ok : Step → Type 0) (kept : IsKept P Ok) where
       (message_taken t.broken t.terms (keep q) l.own.transport (without_first l xs) m) x y
       (other_holds t side q r _ x y n h) (λ c. other_holds t side q r _ x y n h)
 
-  delivery_other : (t : Tables) (side : Side) (q r : ℕ) (keep : ℕ → ℕ) (x y : Words) (o : Option Line) → (r ≡ q → ⊥) → KnowsAt P side r t x y
+  delivery_other : (t : Tables) (side : Side) (q r : ℕ) (keep : ℕ → ℕ) (x y : Words) (o : Option Line) → (r ≡ q → ⊥)
+      → KnowsAt P side r t x y
       → KnowsAt P side r (delivered_to t side q keep o) x y
   delivery_other t side q r keep x y None n h = h
   delivery_other t side q r keep x y (Some l) n h = taken_other t side q r keep l x y l.peer.channel n h
@@ -262,7 +272,8 @@ module _ (P : Claim) (Ok : Step → Type 0) (kept : IsKept P Ok) where
       by true true e = quiet_holds side t.broken x y (connection_at r t.lines) h
       by false true e = quiet_holds side t.broken x y (connection_at r t.lines) h
       by true false e = search (arith, eqb-true, delivery_same)
-      by false false e = quiet_holds side _ x y _ (delivery_other t side q r keep x y (side_of side (connection_at q t.lines)) (not_equal q r e) h)
+      by false false e = quiet_holds side _ x y _ (delivery_other t side q r keep x y (side_of side (connection_at q t.lines))
+          (not_equal q r e) h)
 
   -- ---- a break
 
@@ -270,7 +281,8 @@ module _ (P : Claim) (Ok : Step → Type 0) (kept : IsKept P Ok) where
       → Holds P b x y o → Holds P true x y (connection_at r (cut_channels left right 1 ls))
   cut_knows left right b ls r x y None e h = same_holds Left true x y None _ (cut_none left right r ls e) h
   cut_knows left right b ls r x y (Some l) e h =
-      same_holds Left true x y (Some (cut_line (left r) (right r) l)) _ (cut_there left right r ls l e) (kept.cut b (left r) (right r) l x y h)
+      same_holds Left true x y (Some (cut_line (left r) (right r) l)) _ (cut_there left right r ls l e)
+      (kept.cut b (left r) (right r) l x y h)
 
   break_knows : (t : Tables) (left right : ℕ → ℕ) (r : ℕ) (x y : Words) → Knows P r t x y → Knows P r (step t (breaks left right)) x y
   break_knows t left right r x y h = grind (arith, cut_knows)
@@ -285,7 +297,8 @@ module _ (P : Claim) (Ok : Step → Type 0) (kept : IsKept P Ok) where
   both_quiet b x y o h = quiet_holds Left b x (and_more y [] []) o (quiet_holds Right b y x o h)
 
   step_knows : (r : ℕ) (t : Tables) (s : Step) (x y : Words) → Ok s → Knows P r t x y
-      → Knows P r (step t s) (and_more x (said_at Left r t s) (heard_at Left r t s)) (and_more y (said_at Right r t s) (heard_at Right r t s))
+      → Knows P r (step t s) (and_more x (said_at Left r t s) (heard_at Left r t s))
+      (and_more y (said_at Right r t s) (heard_at Right r t s))
   step_knows r t (connects o) x y small h = both_quiet _ x y _ (asked_knows t r o (refusal t o) x y small refl h)
   step_knows r t (calls Left q c) x y small h = quiet_holds Right _ y _ _ (call_knows t Left q r c x y small h)
   step_knows r t (calls Right q c) x y small h = quiet_holds Left _ x _ _ (call_knows t Right q r c y x small h)
@@ -300,10 +313,12 @@ module _ (P : Claim) (Ok : Step → Type 0) (kept : IsKept P Ok) where
       (and_more y (said_in Right r t steps) (heard_in Right r t steps))
   run_knows r t [] x y small h = both_quiet t.broken x y (connection_at r t.lines) h
   run_knows r t (s ∷ steps) x y small h =
-      subst (λ (w : Words). Knows P r (run (step t s) steps) w (and_more y (said_in Right r t (s ∷ steps)) (heard_in Right r t (s ∷ steps))))
+      subst (λ (w : Words). Knows P r (run (step t s) steps) w
+      (and_more y (said_in Right r t (s ∷ steps)) (heard_in Right r t (s ∷ steps))))
       (one_by_one x (said_at Left r t s) (heard_at Left r t s) (said_in Left r (step t s) steps) (heard_in Left r (step t s) steps))
       (subst (λ (w : Words). Knows P r (run (step t s) steps)
-      (and_more (and_more x (said_at Left r t s) (heard_at Left r t s)) (said_in Left r (step t s) steps) (heard_in Left r (step t s) steps)) w)
+      (and_more (and_more x (said_at Left r t s) (heard_at Left r t s)) (said_in Left r (step t s) steps)
+      (heard_in Left r (step t s) steps)) w)
       (one_by_one y (said_at Right r t s) (heard_at Right r t s) (said_in Right r (step t s) steps) (heard_in Right r (step t s) steps))
       (run_knows r (step t s) steps _ _ small.1 (step_knows r t s x y small.0 h)))
 
@@ -312,6 +327,7 @@ module _ (P : Claim) (Ok : Step → Type 0) (kept : IsKept P Ok) where
   start_knows (suc r) terms = (refl, refl)
 
   pub all_know : (r : ℕ) (terms : Terms) (steps : List Step) → AllByRecursion Ok steps
-      → Knows P r (run (start terms) steps) (record { said = said_in Left r (start terms) steps; heard = heard_in Left r (start terms) steps })
+      → Knows P r (run (start terms) steps) (record
+      { said = said_in Left r (start terms) steps; heard = heard_in Left r (start terms) steps })
       (record { said = said_in Right r (start terms) steps; heard = heard_in Right r (start terms) steps })
   all_know r terms steps small = run_knows r (start terms) steps silent silent small (start_knows r terms)

@@ -10,16 +10,16 @@ use Rattle.osi_machine.proofs.Vocabulary.{connects, calls, delivers, breaks, end
 use Rattle.osi_machine.proofs.Vocabulary.{Machine, start, connection_at, replaced, with_connection, seen_from, end_of, stays, noted}
 use Rattle.osi_machine.proofs.Vocabulary.{is_given, refusal_by, transport_of, refusal, asked_in, error_of, call_in, side_of, ended_worlds}
 use Rattle.osi_machine.proofs.Vocabulary.{shown_in_order, marked_ended, after_end, closes_by, after_taking, without_first, learns, taken_in}
-use Rattle.osi_machine.proofs.Vocabulary.{delivered_to, cut_channels, is_told, step, run, HasNumber, Line, Turn, Tables, Told, told_of}
+use Rattle.osi_machine.proofs.Vocabulary.{delivered_to, cut_channels, is_told, step, run, HasNumber, Line, Turn, Tables, Told}
 use Rattle.osi_machine.proofs.basics.what_holds_in_each_phase.{by_test}
 use Rattle.osi_machine.proofs.invariant.each_step_keeps_one_side.{SessionLaws}
-use Rattle.osi_machine.proofs.whole.before_it_is_agreed_to.{Way, asks, replies, caller_refuses, called_refuses, Refuses}
-use Rattle.osi_machine.proofs.whole.every_stage_of_a_connection.{Stage, Whole, whole_kept, turned_back, turned_stage}
+use Rattle.osi_machine.proofs.whole.before_it_is_agreed_to.{caller_refuses, called_refuses, Refuses, no_unit_back, no_unit_out}
+use Rattle.osi_machine.proofs.whole.every_stage_of_a_connection.{Stage, Whole, whole_kept, turned_back}
 use Rattle.osi_machine.proofs.machine.every_connection_of_a_run.{IsGood, step_good}
-use Rattle.osi_machine.proofs.machine.what_two_records_tell.{line_at}
 use Rattle.osi_machine.proofs.tables.a_line_is_a_connection.{line_of, AreSeated, Tabled, TurnTabled, turned_tabled, call_tabled}
 use Rattle.osi_machine.proofs.tables.a_line_is_a_connection.{refused_tabled, error_as, SaysItsUnit, unit_tabled, message_tabled}
 use Rattle.osi_machine.proofs.tables.a_line_is_a_connection.{close_tabled, shown_as, end_tabled, break_tabled, new_tabled}
+use Rattle.osi_machine.proofs.machine.what_two_records_tell.{StageOf, stage_of, stage_from}
 use Rattle.osi_machine.specs.Tables as tables
 
 -- ---- all connections
@@ -32,7 +32,15 @@ AllTabled (l ∷ ls) [] = ⊥
 
 -- the tables with these connections
 abbrev pub tables_of : Machine → List Line → Tables
-tables_of m ls = record { terms = m.terms; broken = m.broken; left_end = m.left_end; right_end = m.right_end; known = m.known; lines = ls; journal = m.journal }
+tables_of m ls = record {
+  terms = m.terms;
+  broken = m.broken;
+  left_end = m.left_end;
+  right_end = m.right_end;
+  known = m.known;
+  lines = ls;
+  journal = m.journal;
+}
 
 pub record Follows (t : Tables) (m : Machine) : Type 0 where
   pub lines : List Line
@@ -56,13 +64,15 @@ pub line_there : (ls : List Line) (ws : List World) (r : ℕ) → AllTabled ls w
 line_there ls ws zero h = tt
 line_there ls ws (suc r) h = got_at ls ws r h
 
-replaced_tabled : (ls : List Line) (ws : List World) (r : ℕ) (l : Line) (w : World) → Tabled l w → AllTabled ls ws → AllTabled (replaced r l ls) (replaced r w ws)
+replaced_tabled : (ls : List Line) (ws : List World) (r : ℕ) (l : Line) (w : World) → Tabled l w → AllTabled ls ws
+    → AllTabled (replaced r l ls) (replaced r w ws)
 replaced_tabled [] [] r l w h k = tt
 replaced_tabled (x ∷ ls) (v ∷ ws) zero l w h k = (h, k.1)
 replaced_tabled (x ∷ ls) (v ∷ ws) (suc r) l w h k = (k.0, replaced_tabled ls ws r l w h k.1)
 replaced_tabled _ _ r l w h k = absurd k
 
-with_tabled : (ls : List Line) (ws : List World) (r : ℕ) (l : Line) (w : World) → Tabled l w → AllTabled ls ws → AllTabled (with_connection r l ls) (with_connection r w ws)
+with_tabled : (ls : List Line) (ws : List World) (r : ℕ) (l : Line) (w : World) → Tabled l w → AllTabled ls ws
+    → AllTabled (with_connection r l ls) (with_connection r w ws)
 with_tabled ls ws zero l w h k = k
 with_tabled ls ws (suc r) l w h k = replaced_tabled ls ws r l w h k
 
@@ -70,14 +80,16 @@ side_tabled : (side : Side) (l : Line) (w : World) → Tabled l w → Tabled (ta
 side_tabled Left l w h = h
 side_tabled Right l w h = turned_tabled l w h
 
-appended : (ls : List Line) (ws : List World) (l : Line) (w : World) → Tabled l w → AllTabled ls ws → AllTabled (ls ++ l ∷ []) (ws ++ w ∷ [])
+appended : (ls : List Line) (ws : List World) (l : Line) (w : World) → Tabled l w → AllTabled ls ws
+    → AllTabled (ls ++ l ∷ []) (ws ++ w ∷ [])
 appended [] [] l w h k = (h, tt)
 appended (x ∷ ls) (v ∷ ws) l w h k = (k.0, appended ls ws l w h k.1)
 appended _ _ l w h k = absurd k
 
 -- ---- a side as it was left
 
-stays_follows : (m : Machine) (ls : List Line) (side : Side) (r : ℕ) (l : Line) (w : World) (es : List Entry) → AllTabled ls m.worlds → Tabled l w
+stays_follows : (m : Machine) (ls : List Line) (side : Side) (r : ℕ) (l : Line) (w : World) (es : List Entry) → AllTabled ls m.worlds
+    → Tabled l w
     → Follows (tables.noted es (tables.stays (tables_of m ls) side r l)) (noted es (stays m side r w))
 stays_follows m ls side r l w es k h = grind (arith, with_tabled, side_tabled)
 
@@ -86,140 +98,149 @@ stays_follows m ls side r l w es k h = grind (arith, with_tabled, side_tabled)
 transports_as : (ls : List Line) (ws : List World) → AllTabled ls ws → map tables.transport_of ls ≡ map transport_of ws
 transports_as [] [] h = refl
 transports_as (l ∷ ls) (w ∷ ws) h =
-    ap (λ (x : Line). x.own.transport ∷ map tables.transport_of ls) h.0.same ∙ ap (λ (ts : List Transport). w.own.transport ∷ ts) (transports_as ls ws h.1)
+    ap (λ (x : Line). x.own.transport ∷ map tables.transport_of ls) h.0.same
+    ∙ ap (λ (ts : List Transport). w.own.transport ∷ ts) (transports_as ls ws h.1)
 transports_as _ _ h = absurd h
 
 asked_follows : (m : Machine) (ls : List Line) (o : Offer) (a : Option Refusal) → AllTabled ls m.worlds
-    → Follows (tables.noted (connect_answered o a ∷ []) (tables.asked_in (tables_of m ls) o a)) (noted (connect_answered o a ∷ []) (asked_in m o a))
+    → Follows (tables.noted (connect_answered o a ∷ []) (tables.asked_in (tables_of m ls) o a))
+    (noted (connect_answered o a ∷ []) (asked_in m o a))
 asked_follows m ls o (Some e) k = record { lines = ls; all = k; same = refl }
-asked_follows m ls o None k = record { lines = ls ++ tables.asked_with m.broken o ∷ []; all = appended ls m.worlds (tables.asked_with m.broken o) _ (new_tabled m.broken o) k; same = refl }
-
--- ---- the stage of a connection
-
-pub record StageOf (b : Bool) (w : World) : Type 0 where
-  pub own : Told
-  pub peer : Told
-  pub stage : Stage b w own peer
-
-pub stage_of : (terms : Terms) (m : Machine) → IsGood terms Whole m → (r : ℕ) (w : World) → connection_at r m.worlds ≡ Some w → StageOf m.broken w
-stage_of terms m g zero w e = absurd (cc)
-stage_of terms m g (suc r) w e =
-    record { own = told_of Left (1 + r) w.offer m.journal; peer = told_of Right (1 + r) w.offer m.journal; stage = line_at m.broken m.journal 1 r m.worlds g.offers w e g.lines }
-
-pub stage_from : (b : Bool) (side : Side) (w : World) → StageOf b w → StageOf b (seen_from side w)
-stage_from b Left w h = h
-stage_from b Right w h = record { own = h.peer; peer = h.own; stage = turned_stage b w h.own h.peer h.stage }
+asked_follows m ls o None k = record {
+  lines = ls ++ tables.asked_with m.broken o ∷ [];
+  all = appended ls m.worlds (tables.asked_with m.broken o) _ (new_tabled m.broken o) k;
+  same = refl;
+}
 
 -- ---- a call
 
-stage_call : SessionLaws → (b : Bool) (w : World) (t u : Told) (first second : Option Meaning) (c : Call) → HasSerial c → Stage b w t u → AreSeated w first second
+stage_call : SessionLaws → (b : Bool) (w : World) (t u : Told) (first second : Option Meaning) (c : Call) → HasSerial c → Stage b w t u
+    → AreSeated w first second
     → Tabled (tables.after_call b c (line_of w first second)) (after_answer b c w (allowed (session_of w) c))
 stage_call laws b w t u first second c small (inl h) s = refused_tabled b w first second c (caller_refuses w t u c h) s
 stage_call laws b w t u first second c small (inr (inl h)) s =
-    refused_tabled b w first second c (subst (λ (v : World). Refuses (session_of v) c) (turned_back w) (called_refuses (turned w) u t c h)) s
-stage_call laws b w t u first second c small (inr (inr h)) s = call_tabled laws b w first second t u c small h s
+    refused_tabled b w first second c (subst (λ (v : World). Refuses (session_of v) c) (turned_back w) (called_refuses (turned w) u t c h))
+    s
+stage_call laws b w t u first second c small (inr (inr h)) s = call_tabled b w first second laws t u c small h s
 
 if_follows : (b : Bool) (t t' : Tables) (m m' : Machine) → Follows t m → Follows t' m' → Follows (if b then t else t') (if b then m else m')
 if_follows b t t' m m' h k = grind arith
 
-line_call : SessionLaws → (m : Machine) (ls : List Line) (side : Side) (r : ℕ) (c : Call) → HasSerial c → AllTabled ls m.worlds → (l : Line) (w : World) → Tabled l w → StageOf m.broken w
+line_call : SessionLaws → (m : Machine) (ls : List Line) (side : Side) (r : ℕ) (c : Call) → HasSerial c → AllTabled ls m.worlds
+    → (l : Line) (w : World) → Tabled l w → StageOf m.broken w
     → Follows (tables.call_in (tables_of m ls) side r c (Some l)) (call_in m side r c (Some w))
 line_call laws m ls side r c small k l w h p =
     subst (λ (x : Line). Follows (tables.call_in (tables_of m ls) side r c (Some x)) (call_in m side r c (Some w))) (sym h.same)
     (if_follows (is_given w.own.transport) _ _ _ _
-    (subst (λ (e : Option CallError). Follows (tables.noted (call_answered side r c e ∷ []) (tables.stays (tables_of m ls) side r (tables.after_call m.broken c (line_of w h.first h.second))))
-    (noted (call_answered side r c (error_of (allowed (session_of w) c)) ∷ []) (stays m side r (after_answer m.broken c w (allowed (session_of w) c)))))
+    (subst (λ (e : Option CallError). Follows (tables.noted (call_answered side r c e ∷ [])
+    (tables.stays (tables_of m ls) side r (tables.after_call m.broken c (line_of w h.first h.second))))
+    (noted (call_answered side r c (error_of (allowed (session_of w) c)) ∷ [])
+    (stays m side r (after_answer m.broken c w (allowed (session_of w) c)))))
     (sym (error_as (session_of w) h.first c))
-    (stays_follows m ls side r _ _ (call_answered side r c (error_of (allowed (session_of w) c)) ∷ []) k (stage_call laws m.broken w p.own p.peer h.first h.second c small p.stage h.seated)))
+    (stays_follows m ls side r _ _ (call_answered side r c (error_of (allowed (session_of w) c)) ∷ []) k
+    (stage_call laws m.broken w p.own p.peer h.first h.second c small p.stage h.seated)))
     (record { lines = ls; all = k; same = refl }))
 
-call_follows : SessionLaws → (terms : Terms) (m : Machine) (ls : List Line) (side : Side) (r : ℕ) (c : Call) → HasSerial c → AllTabled ls m.worlds → IsGood terms Whole m
-    → (a : Option Line) (b : Option World) → connection_at r m.worlds ≡ b → At a b → Follows (tables.call_in (tables_of m ls) side r c (tables.side_of side a)) (call_in m side r c (side_of side b))
+call_follows : SessionLaws → (terms : Terms) (m : Machine) (ls : List Line) (side : Side) (r : ℕ) (c : Call) → HasSerial c
+    → AllTabled ls m.worlds → IsGood terms Whole m
+    → (a : Option Line) (b : Option World) → connection_at r m.worlds ≡ b → At a b
+    → Follows (tables.call_in (tables_of m ls) side r c (tables.side_of side a)) (call_in m side r c (side_of side b))
 call_follows laws terms m ls side r c small k g None None e h = record { lines = ls; all = k; same = refl }
 call_follows laws terms m ls side r c small k g (Some l) (Some w) e h =
-    line_call laws m ls side r c small k (tables.seen_from side l) (seen_from side w) (side_tabled side l w h) (stage_from m.broken side w (stage_of terms m g r w e))
+    line_call laws m ls side r c small k (tables.seen_from side l) (seen_from side w) (side_tabled side l w h)
+    (stage_from m.broken side w (stage_of terms m g r w e))
 call_follows laws terms m ls side r c small k g _ _ e h = absurd h
 
 -- ---- the end of a side
 
-ends_tabled : (keep : ℕ) (w : World) (a b : Option Meaning) → AreSeated w a b → Tabled (tables.ends_there keep (line_of w a b)) (ends_there keep w)
+ends_tabled : (keep : ℕ) (w : World) (a b : Option Meaning) → AreSeated w a b
+    → Tabled (tables.ends_there keep (line_of w a b)) (ends_there keep w)
 ends_tabled keep w a b h = by_test (is_given w.own.transport)
     (λ e. rw e (end_tabled keep w a b h))
     (λ e. rw e (record { first = a; second = b; same = refl; seated = h }))
 
-ended_tabled : (side : Side) (keep : ℕ → ℕ) (r : ℕ) (ls : List Line) (ws : List World) → AllTabled ls ws → AllTabled (tables.ended_lines side keep r ls) (ended_worlds side keep r ws)
+ended_tabled : (side : Side) (keep : ℕ → ℕ) (r : ℕ) (ls : List Line) (ws : List World) → AllTabled ls ws
+    → AllTabled (tables.ended_lines side keep r ls) (ended_worlds side keep r ws)
 ended_tabled side keep r [] [] h = tt
 ended_tabled side keep r (l ∷ ls) (w ∷ ws) h =
     let k = side_tabled side l w h.0 in (
       side_tabled side (tables.ends_there (keep r) (tables.seen_from side l)) (ends_there (keep r) (seen_from side w))
-          (subst (λ (x : Line). Tabled (tables.ends_there (keep r) x) (ends_there (keep r) (seen_from side w))) (sym k.same) (ends_tabled (keep r) (seen_from side w) k.first k.second k.seated)),
+          (subst (λ (x : Line). Tabled (tables.ends_there (keep r) x) (ends_there (keep r) (seen_from side w))) (sym k.same)
+          (ends_tabled (keep r) (seen_from side w) k.first k.second k.seated)),
       ended_tabled side keep (r + 1) ls ws h.1,
     )
 ended_tabled side keep r _ _ h = absurd h
 
-shown_tabled : (side : Side) (r : ℕ) (ls : List Line) (ws : List World) → AllTabled ls ws → tables.shown_in_order side r ls ≡ shown_in_order side r ws
+shown_tabled : (side : Side) (r : ℕ) (ls : List Line) (ws : List World) → AllTabled ls ws
+    → tables.shown_in_order side r ls ≡ shown_in_order side r ws
 shown_tabled side r [] [] h = refl
 shown_tabled side r (l ∷ ls) (w ∷ ws) h =
     let k = side_tabled side l w h.0 in
     search (arith, shown_as, shown_tabled side (r + 1) ls ws h.1)
 shown_tabled side r _ _ h = absurd h
 
-marked_follows : (side : Side) (e : Ending) (t : Tables) (m : Machine) → Follows t m → Follows (tables.marked_ended side e t) (marked_ended side e m)
+marked_follows : (side : Side) (e : Ending) (t : Tables) (m : Machine) → Follows t m
+    → Follows (tables.marked_ended side e t) (marked_ended side e m)
 marked_follows Left e t m h = record { lines = h.lines; all = h.all; same = ap (tables.marked_ended Left e) h.same }
 marked_follows Right e t m h = record { lines = h.lines; all = h.all; same = ap (tables.marked_ended Right e) h.same }
 
-end_follows : (side : Side) (e : Ending) (keep : ℕ → ℕ) (t : Tables) (m : Machine) → Follows t m → Follows (tables.after_end side e keep t) (after_end side e keep m)
+end_follows : (side : Side) (e : Ending) (keep : ℕ → ℕ) (t : Tables) (m : Machine) → Follows t m
+    → Follows (tables.after_end side e keep t) (after_end side e keep m)
 end_follows side e keep t m h = grind (arith, marked_follows, ended_tabled, shown_tabled)
 
 -- ---- a delivery
 
-still : (m : Machine) (ls : List Line) (side : Side) (r : ℕ) (k : Taking) (first second : Option Meaning) → AllTabled ls m.worlds → AreSeated k.world first second
+still : (m : Machine) (ls : List Line) (side : Side) (r : ℕ) (k : Taking) (first second : Option Meaning) → AllTabled ls m.worlds
+    → AreSeated k.world first second
     → Follows (tables.stays (tables_of m ls) side r (line_of k.world first second)) (stays m side r k.world)
 still m ls side r k first second h s = grind (arith, line_of, with_tabled, side_tabled)
 
-closes_follows : (m : Machine) (ls : List Line) (side : Side) (r : ℕ) (keep : ℕ → ℕ) (k : Taking) (first second : Option Meaning) (known : Option Class) → AllTabled ls m.worlds → AreSeated k.world first second
+closes_follows : (m : Machine) (ls : List Line) (side : Side) (r : ℕ) (keep : ℕ → ℕ) (k : Taking) (first second : Option Meaning)
+    (known : Option Class) → AllTabled ls m.worlds → AreSeated k.world first second
     → Follows (tables.closes_by known (tables_of m ls) side r keep (line_of k.world first second)) (closes_by known m side r keep k)
 closes_follows m ls side r keep k first second (Some class_2) h s = record {
   lines = with_connection r (tables.seen_from side (tables.closed m.broken (keep r) (line_of k.world first second))) ls;
-  all = with_tabled ls m.worlds r _ _ (side_tabled side _ _ (close_tabled m.broken (keep r) k.world first second s)) h;
+  all = with_tabled ls m.worlds r _ _ (side_tabled side _ _ (close_tabled m.broken k.world first second (keep r) s)) h;
   same = refl;
 }
 closes_follows m ls side r keep k first second _ h s =
-    end_follows side closed_here keep (tables.stays (tables_of m ls) side r (line_of k.world first second)) (stays m side r k.world) (still m ls side r k first second h s)
+    end_follows side closed_here keep (tables.stays (tables_of m ls) side r (line_of k.world first second)) (stays m side r k.world)
+    (still m ls side r k first second h s)
 
-turn_follows : (m : Machine) (ls : List Line) (side : Side) (r : ℕ) (keep : ℕ → ℕ) (x : Turn) (k : Taking) → AllTabled ls m.worlds → TurnTabled x k
+turn_follows : (m : Machine) (ls : List Line) (side : Side) (r : ℕ) (keep : ℕ → ℕ) (x : Turn) (k : Taking) → AllTabled ls m.worlds
+    → TurnTabled x k
     → Follows (tables.after_turn (tables_of m ls) side r keep x) (after_taking m side r keep k)
 turn_follows m ls side r keep x k h t =
     subst (λ (y : Turn). Follows (tables.after_turn (tables_of m ls) side r keep y) (after_taking m side r keep k)) (sym t.same)
     (if_follows k.closes _ _ _ _
     (closes_follows (noted (map (shown_at side r) k.shown) m) ls side r keep k t.first t.second m.known h t.seated)
-    (stays_follows m ls side r (line_of k.world t.first t.second) k.world (map (shown_at side r) k.shown) h (record { first = t.first; second = t.second; same = refl; seated = t.seated })))
-
--- before a connection is agreed to no unit is in flight
-pub no_unit_back : (way : Way) (m : Meaning) (ms : List Message) → unit m ∷ ms ≡ replies way → ⊥
-no_unit_back way m ms e = grind arith
-
-pub no_unit_out : (way : Way) (m : Meaning) (ms : List Message) → unit m ∷ ms ≡ asks way → ⊥
-no_unit_out way m ms e = grind arith
+    (stays_follows m ls side r (line_of k.world t.first t.second) k.world (map (shown_at side r) k.shown) h
+    (record { first = t.first; second = t.second; same = refl; seated = t.seated })))
 
 -- a message, at any stage
-stage_unit : SessionLaws → SaysItsUnit → (b : Bool) (w : World) (t u : Told) (first second : Option Meaning) (m : Meaning) (ms : List Message) → Stage b w t u → w.peer.channel ≡ unit m ∷ ms
-    → w.own.transport ≡ linked → AreSeated w first second → TurnTabled (tables.hears b linked (taken (said_of m)) (line_of (without_first w ms) first second)) (unit_taken b (without_first w ms) m)
+stage_unit : SessionLaws → SaysItsUnit → (b : Bool) (w : World) (t u : Told) (first second : Option Meaning) (m : Meaning)
+    (ms : List Message) → Stage b w t u → w.peer.channel ≡ unit m ∷ ms
+    → w.own.transport ≡ linked → AreSeated w first second
+    → TurnTabled (tables.hears b linked (taken (said_of m)) (line_of (without_first w ms) first second))
+    (unit_taken b (without_first w ms) m)
 stage_unit laws says b w t u first second m ms (inl h) e l s = absurd (no_unit_back h.way m ms (sym e ∙ h.peer_channel))
 stage_unit laws says b w t u first second m ms (inr (inl h)) e l s = absurd (no_unit_out h.way m ms (sym e ∙ h.own_channel))
-stage_unit laws says b w t u first second m ms (inr (inr h)) e l s = unit_tabled laws says b w first second t u m ms h e l s
+stage_unit laws says b w t u first second m ms (inr (inr h)) e l s = unit_tabled b w first second laws says t u m ms h e l s
 
 popped_seated : (w : World) (ms : List Message) (a b : Option Meaning) → AreSeated w a b → AreSeated (without_first w ms) a b
 popped_seated w ms a b h = grind arith
 
-stage_message : SessionLaws → SaysItsUnit → (b : Bool) (terms : Terms) (keep : ℕ) (w : World) (t u : Told) (first second : Option Meaning) (ms : List Message) (tr : Transport) (x : Message)
+stage_message : SessionLaws → SaysItsUnit → (b : Bool) (terms : Terms) (keep : ℕ) (w : World) (t u : Told) (first second : Option Meaning)
+    (ms : List Message) (tr : Transport) (x : Message)
     → Stage b w t u → w.peer.channel ≡ x ∷ ms → w.own.transport ≡ tr → AreSeated w first second
-    → TurnTabled (tables.message_taken b terms keep tr (line_of (without_first w ms) first second) x) (message_taken b terms keep tr (without_first w ms) x)
+    → TurnTabled (tables.message_taken b terms keep tr (line_of (without_first w ms) first second) x)
+    (message_taken b terms keep tr (without_first w ms) x)
 stage_message laws says b terms keep w t u first second ms linked (unit m) p e l s = stage_unit laws says b w t u first second m ms p e l s
 stage_message laws says b terms keep w t u first second ms tr x p e l s =
-    message_tabled b terms keep tr (without_first w ms) first second x l refl (popped_seated w ms first second s)
+    message_tabled b (without_first w ms) first second terms keep tr x l refl (popped_seated w ms first second s)
 
-taken_follows : SessionLaws → SaysItsUnit → (m : Machine) (ls : List Line) (side : Side) (r : ℕ) (keep : ℕ → ℕ) (w : World) (first second : Option Meaning) → AllTabled ls m.worlds
+taken_follows : SessionLaws → SaysItsUnit → (m : Machine) (ls : List Line) (side : Side) (r : ℕ) (keep : ℕ → ℕ) (w : World)
+    (first second : Option Meaning) → AllTabled ls m.worlds
     → StageOf m.broken w → AreSeated w first second → (ms : List Message) → w.peer.channel ≡ ms
     → Follows (tables.taken_in (tables_of m ls) side r keep (line_of w first second) ms) (taken_in m side r keep w ms)
 taken_follows laws says m ls side r keep w first second k p s [] e = record { lines = ls; all = k; same = refl }
@@ -227,20 +248,24 @@ taken_follows laws says m ls side r keep w first second k p s (x ∷ xs) e =
     turn_follows (record m { known = learns m.terms w.own.transport x m.known }) ls side r keep _ _ k
     (stage_message laws says m.broken m.terms (keep r) w p.own p.peer first second xs w.own.transport x p.stage e refl s)
 
-delivery_follows : SessionLaws → SaysItsUnit → (terms : Terms) (m : Machine) (ls : List Line) (side : Side) (r : ℕ) (keep : ℕ → ℕ) → AllTabled ls m.worlds → IsGood terms Whole m
+delivery_follows : SessionLaws → SaysItsUnit → (terms : Terms) (m : Machine) (ls : List Line) (side : Side) (r : ℕ) (keep : ℕ → ℕ)
+    → AllTabled ls m.worlds → IsGood terms Whole m
     → (a : Option Line) (b : Option World) → connection_at r m.worlds ≡ b → At a b
     → Follows (tables.delivered_to (tables_of m ls) side r keep (tables.side_of side a)) (delivered_to m side r keep (side_of side b))
 delivery_follows laws says terms m ls side r keep k g None None e h = record { lines = ls; all = k; same = refl }
 delivery_follows laws says terms m ls side r keep k g (Some l) (Some w) e h =
     let v = seen_from side w in
     let q = side_tabled side l w h in
-    subst (λ (x : Line). Follows (tables.taken_in (tables_of m ls) side r keep x x.peer.channel) (taken_in m side r keep v v.peer.channel)) (sym q.same)
-    (taken_follows laws says m ls side r keep v q.first q.second k (stage_from m.broken side w (stage_of terms m g r w e)) q.seated v.peer.channel refl)
+    subst (λ (x : Line). Follows (tables.taken_in (tables_of m ls) side r keep x x.peer.channel) (taken_in m side r keep v v.peer.channel))
+    (sym q.same)
+    (taken_follows laws says m ls side r keep v q.first q.second k
+    (stage_from m.broken side w (stage_of terms m g r w e)) q.seated v.peer.channel refl)
 delivery_follows laws says terms m ls side r keep k g _ _ e h = absurd h
 
 -- ---- a break
 
-cut_tabled : (left right : ℕ → ℕ) (r : ℕ) (ls : List Line) (ws : List World) → AllTabled ls ws → AllTabled (tables.cut_channels left right r ls) (cut_channels left right r ws)
+cut_tabled : (left right : ℕ → ℕ) (r : ℕ) (ls : List Line) (ws : List World) → AllTabled ls ws
+    → AllTabled (tables.cut_channels left right r ls) (cut_channels left right r ws)
 cut_tabled left right r [] [] h = tt
 cut_tabled left right r (l ∷ ls) (w ∷ ws) h = (
   search (arith, break_tabled),
@@ -254,34 +279,45 @@ pub end_as : (side : Side) (m : Machine) (ls : List Line) → tables.end_of side
 end_as side m ls = grind arith
 
 module _ (laws : SessionLaws) (says : SaysItsUnit) (terms : Terms) where
-  step_of : (m : Machine) (ls : List Line) (s : Step) → HasNumber s → AllTabled ls m.worlds → IsGood terms Whole m → Follows (tables.step (tables_of m ls) s) (step m s)
+  step_of : (m : Machine) (ls : List Line) (s : Step) → HasNumber s → AllTabled ls m.worlds → IsGood terms Whole m
+      → Follows (tables.step (tables_of m ls) s) (step m s)
   step_of m ls (connects o) small k g =
-      subst (λ (a : Option Refusal). Follows (tables.noted (connect_answered o a ∷ []) (tables.asked_in (tables_of m ls) o a)) (step m (connects o)))
+      subst (λ (a : Option Refusal). Follows (tables.noted (connect_answered o a ∷ []) (tables.asked_in (tables_of m ls) o a))
+      (step m (connects o)))
       (sym (ap (λ (ts : List Transport). refusal_by (is_some m.left_end) m.known ts o) (transports_as ls m.worlds k)))
       (asked_follows m ls o (refusal m o) k)
   step_of m ls (calls side r c) small k g =
       call_follows laws terms m ls side r c small k g (connection_at r ls) (connection_at r m.worlds) refl (line_there ls m.worlds r k)
   step_of m ls (delivers side r keep) small k g =
-      subst (λ (e : Option Ending). Follows (if is_some e then tables_of m ls else tables.delivered_to (tables_of m ls) side r keep (tables.side_of side (connection_at r ls))) (step m (delivers side r keep)))
+      subst (λ (e : Option Ending). Follows (if is_some e then tables_of m ls else tables.delivered_to (tables_of m ls) side r keep
+      (tables.side_of side (connection_at r ls))) (step m (delivers side r keep)))
       (sym (end_as side m ls))
       (if_follows (is_some (end_of side m)) _ _ _ _ (record { lines = ls; all = k; same = refl })
-      (delivery_follows laws says terms m ls side r keep k g (connection_at r ls) (connection_at r m.worlds) refl (line_there ls m.worlds r k)))
+      (delivery_follows laws says terms m ls side r keep k g (connection_at r ls) (connection_at r m.worlds) refl
+      (line_there ls m.worlds r k)))
   step_of m ls (breaks left right) small k g = if_follows m.broken _ _ _ _ (record { lines = ls; all = k; same = refl })
       (record { lines = tables.cut_channels left right 1 ls; all = cut_tabled left right 1 ls m.worlds k; same = refl })
   step_of m ls (ends side e keep) small k g =
-      subst (λ (x : Option Ending). Follows (if is_some x || not (is_told e m.broken) then tables_of m ls else tables.after_end side e keep (tables_of m ls)) (step m (ends side e keep)))
+      subst (λ (x : Option Ending). Follows (if is_some x || not (is_told e m.broken) then tables_of m ls else tables.after_end side e keep
+      (tables_of m ls)) (step m (ends side e keep)))
       (sym (end_as side m ls))
       (if_follows (is_some (end_of side m) || not (is_told e m.broken)) _ _ _ _ (record { lines = ls; all = k; same = refl })
       (end_follows side e keep (tables_of m ls) m (record { lines = ls; all = k; same = refl })))
 
-  step_follows : (t : Tables) (m : Machine) (s : Step) → HasNumber s → Follows t m → IsGood terms Whole m → Follows (tables.step t s) (step m s)
-  step_follows t m s small h g = subst (λ (x : Tables). Follows (tables.step x s) (step m s)) (sym h.same) (step_of m h.lines s small h.all g)
+  step_follows : (t : Tables) (m : Machine) (s : Step) → HasNumber s → Follows t m → IsGood terms Whole m
+      → Follows (tables.step t s) (step m s)
+  step_follows t m s small h g = subst (λ (x : Tables). Follows (tables.step x s) (step m s)) (sym h.same)
+      (step_of m h.lines s small h.all g)
 
-  run_follows : (t : Tables) (m : Machine) (steps : List Step) → AllByRecursion HasNumber steps → Follows t m → IsGood terms Whole m → Follows (tables.run t steps) (run m steps)
+  run_follows : (t : Tables) (m : Machine) (steps : List Step) → AllByRecursion HasNumber steps → Follows t m → IsGood terms Whole m
+      → Follows (tables.run t steps) (run m steps)
   run_follows t m [] small h g = h
   run_follows t m (s ∷ steps) small h g =
-      run_follows (tables.step t s) (step m s) steps small.1 (step_follows t m s small.0 h g) (step_good terms Whole (whole_kept laws terms) m s small.0 g)
+      run_follows (tables.step t s) (step m s) steps small.1 (step_follows t m s small.0 h g)
+      (step_good terms Whole (whole_kept laws terms) m s small.0 g)
 
-  pub all_follow : (steps : List Step) → AllByRecursion HasNumber steps → Follows (tables.run (tables.start terms) steps) (run (start terms) steps)
+  pub all_follow : (steps : List Step) → AllByRecursion HasNumber steps
+      → Follows (tables.run (tables.start terms) steps) (run (start terms) steps)
   all_follow steps small =
-      run_follows (tables.start terms) (start terms) steps small (record { lines = []; all = tt; same = refl }) (record { offers = []; lines = tt; fresh = λ d n o l. refl; none = λ d o. refl; agreed = refl; asked = refl })
+      run_follows (tables.start terms) (start terms) steps small (record { lines = []; all = tt; same = refl })
+      (record { offers = []; lines = tt; fresh = λ d n o l. refl; none = λ d o. refl; agreed = refl; asked = refl })

@@ -13,7 +13,8 @@ use Rattle.osi_machine.proofs.tables.every_line_of_a_run.{Words, silent, all_kno
 
 -- ---- what each move keeps
 
-message_closes : SayLaws → (b : Bool) (terms : Terms) (keep : ℕ) (tr : Transport) (l : Line) (m : Message) → (message_taken b terms keep tr l m).closes ≡ true
+message_closes : SayLaws → (b : Bool) (terms : Terms) (keep : ℕ) (tr : Transport) (l : Line) (m : Message)
+    → (message_taken b terms keep tr l m).closes ≡ true
     → is_ended (message_taken b terms keep tr l m).line.own.session.state.phase ≡ true
 message_closes laws b terms keep tr l m c = grind arith
 
@@ -43,7 +44,8 @@ none_at : (side : Side) (b : Bool) (x y : Words) → HoldsAt Told side b x y Non
 none_at Left b x y h = h
 none_at Right b x y h = (h.1, h.0)
 
-line_of_side : (side : Side) (b : Bool) (x y : Words) (o : Option Line) (l : Line) → HoldsAt Told side b x y o → side_of side o ≡ Some l → Told b l x y
+line_of_side : (side : Side) (b : Bool) (x y : Words) (o : Option Line) (l : Line) → HoldsAt Told side b x y o → side_of side o ≡ Some l
+    → Told b l x y
 line_of_side side b x y None l h e = absurd (cc)
 line_of_side side b x y (Some k) l h e = subst (λ (v : Line). Told b v x y) (some_same (seen_from side k) l e) (told_side side b k x y h)
 
@@ -56,7 +58,8 @@ then_under_way a ch said heard h = (h.lost, append_assoc heard (units_in ch) h.l
 or_false : (a b : Bool) → a ≡ false → b ≡ false → (a || b) ≡ true → ⊥
 or_false a b e f g = grind arith
 
-and_all : (a : Bool) (ch : List Message) (said heard : List Meaning) → (a ≡ true → ⊥) → Carried a ch said heard → heard ++ units_in ch ≡ said
+and_all : (a : Bool) (ch : List Message) (said heard : List Meaning) → (a ≡ true → ⊥) → Carried a ch said heard
+    → heard ++ units_in ch ≡ said
 and_all a ch said heard n h = search (arith, append-nil)
 
 -- one side at a time: `t` is what the tables are after all steps
@@ -67,7 +70,9 @@ heard_as_said : (side : Side) (r : ℕ) (terms : Terms) (steps : List Step) (sai
 heard_as_said side r terms steps said heard h = search (arith, heard_begins, then_under_way, line_of_side, and_all, or_false)
 
 pub heard_was_said : SayLaws → (side : Side) (r : ℕ) (terms : Terms) (steps : List Step) → IsHeardAsSaid side r terms steps
-heard_was_said laws Left r terms steps = heard_as_said Left r terms steps (said_in Left r (start terms) steps) (heard_in Right r (start terms) steps)
+heard_was_said laws Left r terms steps = heard_as_said Left r terms steps (said_in Left r (start terms) steps)
+    (heard_in Right r (start terms) steps)
     (all_know Told (λ s. Unit {0}) (told_kept laws) r terms steps (any_steps steps))
-heard_was_said laws Right r terms steps = heard_as_said Right r terms steps (said_in Right r (start terms) steps) (heard_in Left r (start terms) steps)
+heard_was_said laws Right r terms steps = heard_as_said Right r terms steps (said_in Right r (start terms) steps)
+    (heard_in Left r (start terms) steps)
     (all_know Told (λ s. Unit {0}) (told_kept laws) r terms steps (any_steps steps))

@@ -19,7 +19,8 @@ use Rattle.osi_machine.proofs.tables.every_line_of_a_run.{all_know, Knows, Holds
 
 -- what is proved of one session
 pub record SendLaws : Type 0 where
-  pub sound : (s : Standing) (inputs : List Input) → AllByRecursion HasNumbers inputs → IsSound s.state → IsSound (after_inputs s inputs).state
+  pub sound : (s : Standing) (inputs : List Input) → AllByRecursion HasNumbers inputs → IsSound s.state
+      → IsSound (after_inputs s inputs).state
   pub called : (s : State) (c : Call) (g : Granted) → IsSound s → HasSerial c → allowed s c ≡ Ok g → IsSendable g.sent
   pub replied : (s : State) (said : Said) (m : Meaning) → (respond s said).reply ≡ Some m → IsSendable m
 
@@ -61,13 +62,15 @@ well_called : SendLaws → (s : Standing) (c : Call) → HasSerial c → IsSound
 unfolding react
 well_called laws s c small h w = by (allowed s.state c) refl (sound_after laws s (called c) small h)
   where
-    by : (a : Answer) → allowed s.state c ≡ a → IsSound (answered_move s (allowed s.state c)).next.state → IsWell (answered_move s (allowed s.state c))
+    by : (a : Answer) → allowed s.state c ≡ a → IsSound (answered_move s (allowed s.state c)).next.state
+        → IsWell (answered_move s (allowed s.state c))
     by (Ok g) e k = subst (λ (a : Answer). IsSound (answered_move s a).next.state → IsWell (answered_move s a)) (sym e)
         (λ x. record { sound = x; waits = w; reply = laws.called s.state c g h small e }) k
     by (Err f) e k = subst (λ (a : Answer). IsSound (answered_move s a).next.state → IsWell (answered_move s a)) (sym e)
         (λ x. record { sound = x; waits = w; reply = tt }) k
 
-well_taken : SendLaws → (s : Standing) (said : Said) → HasNumbers (taken said) → IsSound s.state → CanBeSent s.waiting → IsWell (react s (taken said))
+well_taken : SendLaws → (s : Standing) (said : Said) → HasNumbers (taken said) → IsSound s.state → CanBeSent s.waiting
+    → IsWell (react s (taken said))
 unfolding react
 well_taken laws s said n h w = assumption (sound_after laws s (taken said) n h, by (respond s.state said).reply refl)
   where
@@ -92,14 +95,29 @@ well_refused laws s reason h w = search (arith, sound_after)
 moved_line : (b : Bool) (tr : Transport) (m : Move) (l : Line) → IsWell m → IsSoundLine l → IsSoundLine (in_transport tr (made b m l))
 moved_line b tr m l w h = grind (arith, put_sendable, replied_sendable)
 
-put_line : (b : Bool) (ms : List Message) (tr : Transport) (l : Line) → AreSendable ms → IsSoundLine l → IsSoundLine (puts b ms (in_transport tr l))
-put_line b ms tr l k h = record { own = record { sound = h.own.sound; waits = h.own.waits; under_way = put_sendable b ms l.own.channel k h.own.under_way }; peer = h.peer }
+put_line : (b : Bool) (ms : List Message) (tr : Transport) (l : Line) → AreSendable ms → IsSoundLine l
+    → IsSoundLine (puts b ms (in_transport tr l))
+put_line b ms tr l k h = record {
+  own = record {
+    sound = h.own.sound;
+    waits = h.own.waits;
+    under_way = put_sendable b ms l.own.channel k h.own.under_way;
+  };
+  peer = h.peer;
+}
 
 gone_line : (tr : Transport) (l : Line) → IsSoundLine l → IsSoundLine (in_transport tr l)
 gone_line tr l h = record { own = record { sound = h.own.sound; waits = h.own.waits; under_way = h.own.under_way }; peer = h.peer }
 
 short_line : (n : ℕ) (l : Line) → IsSoundLine l → IsSoundLine (shortened n l)
-short_line n l h = record { own = record { sound = h.own.sound; waits = h.own.waits; under_way = take_sendable n l.own.channel h.own.under_way }; peer = h.peer }
+short_line n l h = record {
+  own = record {
+    sound = h.own.sound;
+    waits = h.own.waits;
+    under_way = take_sendable n l.own.channel h.own.under_way;
+  };
+  peer = h.peer;
+}
 
 popped_line : (l : Line) (ms : List Message) → AreSendable ms → IsSoundLine l → IsSoundLine (without_first l ms)
 popped_line l ms k h = record { own = h.own; peer = record { sound = h.peer.sound; waits = h.peer.waits; under_way = k } }
@@ -107,37 +125,63 @@ popped_line l ms k h = record { own = h.own; peer = record { sound = h.peer.soun
 called_line : SendLaws → (b : Bool) (c : Call) (l : Line) → HasSerial c → IsSoundLine l → IsSoundLine (after_call b c l)
 called_line laws b c l small h = grind (arith, well_called, put_sendable, replied_sendable)
 
-message_line : SendLaws → (b : Bool) (terms : Terms) (keep : ℕ) (tr : Transport) (l : Line) (x : Message) (xs : List Message) → AreSendable (x ∷ xs) → IsSoundLine l
+message_line : SendLaws → (b : Bool) (terms : Terms) (keep : ℕ) (tr : Transport) (l : Line) (x : Message) (xs : List Message)
+    → AreSendable (x ∷ xs) → IsSoundLine l
     → IsSoundLine (message_taken b terms keep tr (without_first l xs) x).line
-message_line laws b (accepts class) keep not_yet l ask xs k h = put_line b (agree ∷ []) linked (without_first l xs) tt (popped_line l xs k h)
+message_line laws b (accepts class) keep not_yet l ask xs k h =
+    put_line b (agree ∷ []) linked (without_first l xs) tt (popped_line l xs k h)
 message_line laws b (denies reason) keep not_yet l ask xs k h =
     let p = popped_line l xs k h in
-    record { own = record { sound = p.own.sound; waits = p.own.waits; under_way = put_sendable b (deny reason ∷ []) l.own.channel tt p.own.under_way }; peer = p.peer }
+    record {
+      own = record {
+        sound = p.own.sound;
+        waits = p.own.waits;
+        under_way = put_sendable b (deny reason ∷ []) l.own.channel tt p.own.under_way;
+      };
+      peer = p.peer;
+    }
 message_line laws b terms keep waiting l agree xs k h =
-    moved_line b linked (react l.own.session opened) (without_first l xs) (well_opened laws l.own.session h.own.sound h.own.waits) (popped_line l xs k h)
+    moved_line b linked (react l.own.session opened) (without_first l xs) (well_opened laws l.own.session h.own.sound h.own.waits)
+    (popped_line l xs k h)
 message_line laws b terms keep waiting l (deny r) xs k h =
-    moved_line b gone (react l.own.session (refused r)) (without_first l xs) (well_refused laws l.own.session r h.own.sound h.own.waits) (popped_line l xs k h)
+    moved_line b gone (react l.own.session (refused r)) (without_first l xs) (well_refused laws l.own.session r h.own.sound h.own.waits)
+    (popped_line l xs k h)
 message_line laws b terms keep linked l (unit u) xs k h =
     moved_line b linked (react l.own.session (taken (said_of u))) (without_first l xs)
-    (well_taken laws l.own.session (said_of u) (by_test (is_second u) (λ e. rw e (tt, ((k.0).numbered, tt))) (λ e. rw e ((k.0).numbered, tt))) h.own.sound h.own.waits) (popped_line l xs k.1 h)
+    (well_taken laws l.own.session (said_of u) (by_test (is_second u) (λ e. rw e (tt, ((k.0).numbered, tt)))
+    (λ e. rw e ((k.0).numbered, tt))) h.own.sound h.own.waits) (popped_line l xs k.1 h)
 message_line laws b terms keep linked l (bye r) xs k h =
-    let p = moved_line b gone (react l.own.session broken_off) (shortened keep (without_first l xs)) (well_broken laws l.own.session h.own.sound h.own.waits) (short_line keep (without_first l xs) (popped_line l xs k h)) in
+    let p = moved_line b gone (react l.own.session broken_off) (shortened keep (without_first l xs))
+    (well_broken laws l.own.session h.own.sound h.own.waits) (short_line keep (without_first l xs) (popped_line l xs k h)) in
     record {
-      own = record { sound = p.own.sound; waits = p.own.waits; under_way = put_sendable b (over ∷ []) (put b (replied (react l.own.session broken_off).reply) (take keep l.own.channel)) tt p.own.under_way };
+      own = record {
+        sound = p.own.sound;
+        waits = p.own.waits;
+        under_way = put_sendable b (over ∷ []) (put b (replied (react l.own.session broken_off).reply) (take keep l.own.channel)) tt
+            p.own.under_way;
+      };
       peer = p.peer;
     }
 message_line laws b terms keep closing l (bye r) xs k h = gone_line gone (without_first l xs) (popped_line l xs k h)
 message_line laws b terms keep closing l over xs k h = gone_line gone (without_first l xs) (popped_line l xs k h)
 message_line laws b terms keep gone l (bye r) xs k h =
     let p = popped_line l xs k h in
-    record { own = record { sound = p.own.sound; waits = p.own.waits; under_way = put_sendable b (over ∷ []) l.own.channel tt p.own.under_way }; peer = p.peer }
+    record {
+      own = record {
+        sound = p.own.sound;
+        waits = p.own.waits;
+        under_way = put_sendable b (over ∷ []) l.own.channel tt p.own.under_way;
+      };
+      peer = p.peer;
+    }
 message_line laws b terms keep tr l x xs k h = popped_line l xs (rest_sendable x xs k) h
 
 closed_line : (b : Bool) (keep : ℕ) (l : Line) → IsSoundLine l → IsSoundLine (closed b keep l)
 closed_line b keep l h = put_line b (bye 128 ∷ []) closing (shortened keep l) tt (short_line keep l h)
 
 ended_line : SendLaws → (keep : ℕ) (l : Line) → IsSoundLine l → IsSoundLine (ended_at keep l).line
-ended_line laws keep l h = moved_line true gone (react l.own.session broken_off) (shortened keep l) (well_broken laws l.own.session h.own.sound h.own.waits) (short_line keep l h)
+ended_line laws keep l h = moved_line true gone (react l.own.session broken_off) (shortened keep l)
+    (well_broken laws l.own.session h.own.sound h.own.waits) (short_line keep l h)
 
 short_selector : (s : Option (List ℕ)) → is_long_selector s ≡ false → IsAddress s
 short_selector None h = tt

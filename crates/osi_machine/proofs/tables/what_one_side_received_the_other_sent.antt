@@ -66,7 +66,8 @@ no_agree_taken (suc k) [] e = refl
 no_agree_taken (suc k) (agree ∷ ch) e = absurd (cc)
 no_agree_taken (suc k) (x ∷ ch) e = no_agree_taken k ch e
 
-pub no_agree_put : (b : Bool) (reason : ℕ) (ch : List Message) → list_any is_agree ch ≡ false → list_any is_agree (put b (deny reason ∷ []) ch) ≡ false
+pub no_agree_put : (b : Bool) (reason : ℕ) (ch : List Message) → list_any is_agree ch ≡ false
+    → list_any is_agree (put b (deny reason ∷ []) ch) ≡ false
 no_agree_put true reason ch e = e
 no_agree_put false reason [] e = refl
 no_agree_put false reason (agree ∷ ch) e = absurd (cc)
@@ -81,21 +82,25 @@ pub record Carried (stopped : Bool) (ch : List Message) (said heard : List Meani
   pub whole : (lost ≡ []) ⊎ (stopped ≡ true)
 
 -- no unit is put
-pub same_units : (a b : Bool) (xs ys : List Message) (said heard : List Meaning) → units_in ys ≡ units_in xs → (a ≡ true → b ≡ true) → Carried a xs said heard → Carried b ys said heard
+pub same_units : (a b : Bool) (xs ys : List Message) (said heard : List Meaning) → units_in ys ≡ units_in xs → (a ≡ true → b ≡ true)
+    → Carried a xs said heard → Carried b ys said heard
 same_units a b xs ys said heard e f h = search arith
 
 -- what followed after this many messages is lost
-pub fewer_units : (a b : Bool) (k : ℕ) (ch : List Message) (said heard : List Meaning) → b ≡ true → Carried a ch said heard → Carried b (take k ch) said heard
+pub fewer_units : (a b : Bool) (k : ℕ) (ch : List Message) (said heard : List Meaning) → b ≡ true → Carried a ch said heard
+    → Carried b (take k ch) said heard
 fewer_units a b k ch said heard stop h = record {
   lost = units_in (drop k ch) ++ h.lost;
   splits = ap (λ (us : List Meaning). heard ++ us)
-      (sym (append_assoc (units_in (take k ch)) (units_in (drop k ch)) h.lost) ∙ ap (λ (us : List Meaning). us ++ h.lost) (units_taken k ch))
+      (sym (append_assoc (units_in (take k ch)) (units_in (drop k ch)) h.lost)
+      ∙ ap (λ (us : List Meaning). us ++ h.lost) (units_taken k ch))
       ∙ h.splits;
   whole = inr stop;
 }
 
 -- a unit is taken from the front
-pub first_heard : (a : Bool) (u : Meaning) (ms : List Message) (said heard : List Meaning) → Carried a (unit u ∷ ms) said heard → Carried a ms said (heard ++ u ∷ [])
+pub first_heard : (a : Bool) (u : Meaning) (ms : List Message) (said heard : List Meaning) → Carried a (unit u ∷ ms) said heard
+    → Carried a ms said (heard ++ u ∷ [])
 first_heard a u ms said heard h = record {
   lost = h.lost;
   splits = append_assoc heard (u ∷ []) (units_in ms ++ h.lost) ∙ h.splits;
@@ -103,7 +108,8 @@ first_heard a u ms said heard h = record {
 }
 
 -- a unit is sent: after a break it is lost, otherwise it is put into the channel
-one_said : (b parts : Bool) (ch : List Message) (said heard : List Meaning) (u : Meaning) → (parts ≡ true → ⊥) → Carried (b || parts) ch said heard
+one_said : (b parts : Bool) (ch : List Message) (said heard : List Meaning) (u : Meaning) → (parts ≡ true → ⊥)
+    → Carried (b || parts) ch said heard
     → Carried (b || parts) (put b (unit u ∷ []) ch) (said ++ u ∷ []) heard
 one_said true parts ch said heard u n h = record {
   lost = h.lost ++ u ∷ [];
@@ -118,11 +124,13 @@ one_said false parts ch said heard u n h =
       lost = [];
       splits = ap (λ (us : List Meaning). heard ++ us) (append-nil (units_in (ch ++ unit u ∷ [])) ∙ units_append ch (unit u ∷ []))
           ∙ sym (append_assoc heard (units_in ch) (u ∷ []))
-          ∙ ap (λ (us : List Meaning). us ++ u ∷ []) (ap (λ (us : List Meaning). heard ++ us) (sym (append-nil (units_in ch))) ∙ ap (λ (us : List Meaning). heard ++ (units_in ch ++ us)) (sym none) ∙ h.splits);
+          ∙ ap (λ (us : List Meaning). us ++ u ∷ []) (ap (λ (us : List Meaning). heard ++ us) (sym (append-nil (units_in ch)))
+          ∙ ap (λ (us : List Meaning). heard ++ (units_in ch ++ us)) (sym none) ∙ h.splits);
       whole = inl refl;
     }
 
-pub reply_said : (b parts : Bool) (ch : List Message) (said heard : List Meaning) (r : Option Meaning) → (parts ≡ true → ⊥) → Carried (b || parts) ch said heard
+pub reply_said : (b parts : Bool) (ch : List Message) (said heard : List Meaning) (r : Option Meaning) → (parts ≡ true → ⊥)
+    → Carried (b || parts) ch said heard
     → Carried (b || parts) (put b (replied r) ch) (said ++ one_or_none r) heard
 reply_said b parts ch said heard r n h = search (arith, one_said, append-nil, same_units, put_no_units)
 
@@ -178,22 +186,28 @@ past : (own peer peer' : Seat) → is_early peer'.transport ≡ false → Fits o
 past own peer peer' e h = grind (arith, is_early)
 
 -- the first message of its channel is taken
-rest_fits : (own peer : Seat) (m : Message) (ms : List Message) → own.channel ≡ m ∷ ms → Fits own peer → Fits (record own { channel = ms }) peer
+rest_fits : (own peer : Seat) (m : Message) (ms : List Message) → own.channel ≡ m ∷ ms → Fits own peer
+    → Fits (record own { channel = ms }) peer
 rest_fits own peer m ms e h = search arith
 
 -- its transport connection is there, or closes, and its session is another
-opened_fits : (own' peer : Seat) → is_early own'.transport ≡ false → (is_parting own'.transport ≡ true → is_over own'.session.state.phase ≡ true)
-    → (is_early peer.transport ≡ true → may_abort own'.session.state.phase ≡ false) → (is_early peer.transport ≡ true → units_in own'.channel ≡ []) → Fits own' peer
+opened_fits : (own' peer : Seat) → is_early own'.transport ≡ false
+    → (is_parting own'.transport ≡ true → is_over own'.session.state.phase ≡ true)
+    → (is_early peer.transport ≡ true → may_abort own'.session.state.phase ≡ false)
+    → (is_early peer.transport ≡ true → units_in own'.channel ≡ []) → Fits own' peer
 opened_fits own' peer e o m u = grind (arith, is_early)
 
 -- a side parts: its session is over, and of what is in flight from it units may be lost
-parts_told : (b : Bool) (l : Line) (own' : Seat) (x y : Words) → is_parting own'.transport ≡ true → is_early own'.transport ≡ false → is_over own'.session.state.phase ≡ true
-    → (is_early l.peer.transport ≡ true → units_in own'.channel ≡ []) → (is_parting l.peer.transport ≡ false → Carried true own'.channel x.said y.heard)
+parts_told : (b : Bool) (l : Line) (own' : Seat) (x y : Words) → is_parting own'.transport ≡ true → is_early own'.transport ≡ false
+    → is_over own'.session.state.phase ≡ true
+    → (is_early l.peer.transport ≡ true → units_in own'.channel ≡ [])
+    → (is_parting l.peer.transport ≡ false → Carried true own'.channel x.said y.heard)
     → Told b l x y → Told b (record l { own = own' }) x y
 parts_told b l own' x y p e o u c h = search (arith, opened_fits, over_mute, past, same_units)
 
 -- the rest of its channel is lost
-cuts_told : (b : Bool) (l : Line) (own' : Seat) (keep : ℕ) (x y : Words) → is_parting own'.transport ≡ true → is_early own'.transport ≡ false → is_over own'.session.state.phase ≡ true
+cuts_told : (b : Bool) (l : Line) (own' : Seat) (keep : ℕ) (x y : Words) → is_parting own'.transport ≡ true
+    → is_early own'.transport ≡ false → is_over own'.session.state.phase ≡ true
     → units_in own'.channel ≡ units_in (take keep l.own.channel) → Told b l x y → Told b (record l { own = own' }) x y
 cuts_told b l own' keep x y p e o u h = parts_told b l own' x y p e o
     (λ k. u ∙ no_units_taken keep l.own.channel (h.own_fits.unsaid k))
@@ -202,13 +216,16 @@ cuts_told b l own' keep x y p e o u h = parts_told b l own' x y p e o
     h
 
 -- nothing of its channel is lost
-goes_told : (b : Bool) (l : Line) (own' : Seat) (x y : Words) → is_parting own'.transport ≡ true → is_early own'.transport ≡ false → is_over own'.session.state.phase ≡ true
+goes_told : (b : Bool) (l : Line) (own' : Seat) (x y : Words) → is_parting own'.transport ≡ true → is_early own'.transport ≡ false
+    → is_over own'.session.state.phase ≡ true
     → units_in own'.channel ≡ units_in l.own.channel → Told b l x y → Told b (record l { own = own' }) x y
 goes_told b l own' x y p e o u h = search (arith, parts_told, same_units)
 
 -- a side that has a transport connection, or gets one, sends one unit or none; the other side has one too, or is closing
-says_told : (b : Bool) (l : Line) (s : Standing) (r : Option Meaning) (x y : Words) → is_parting l.own.transport ≡ false → is_early l.peer.transport ≡ false → Told b l x y
-    → Told b (record l { own = record { transport = linked; session = s; channel = put b (replied r) l.own.channel } }) (says_more x (one_or_none r)) y
+says_told : (b : Bool) (l : Line) (s : Standing) (r : Option Meaning) (x y : Words) → is_parting l.own.transport ≡ false
+    → is_early l.peer.transport ≡ false → Told b l x y
+    → Told b (record l { own = record { transport = linked; session = s; channel = put b (replied r) l.own.channel } })
+    (says_more x (one_or_none r)) y
 says_told b l s r x y p e h = search (arith, opened_fits, past, begins_more, reply_said)
 
 -- a side whose transport connection comes puts what is no unit
@@ -217,7 +234,8 @@ links_told : (b : Bool) (l : Line) (ms : List Message) (x y : Words) → is_part
 links_told b l ms x y p n h = search (arith, opened_fits, put_no_units, past, same_units)
 
 -- a side denies the connection, and stays as it is
-denies_told : (b : Bool) (l : Line) (reason : ℕ) (x y : Words) → Told b l x y → Told b (record l { own = record l.own { channel = put b (deny reason ∷ []) l.own.channel } }) x y
+denies_told : (b : Bool) (l : Line) (reason : ℕ) (x y : Words) → Told b l x y
+    → Told b (record l { own = record l.own { channel = put b (deny reason ∷ []) l.own.channel } }) x y
 denies_told b l reason x y h = search (arith, put_no_units, no_agree_put, same_units)
 
 -- ---- words that are none
@@ -231,11 +249,13 @@ none_heard b l x y h = subst (λ (us : List Meaning). Told b l (record { said = 
 -- ---- a call
 
 -- a call that is refused changes nothing, and puts nothing
-nothing_put : (b : Bool) (l : Line) (x y : Words) → Told b l x y → Told b (record l { own = record l.own { channel = put b [] l.own.channel } }) x y
+nothing_put : (b : Bool) (l : Line) (x y : Words) → Told b l x y
+    → Told b (record l { own = record l.own { channel = put b [] l.own.channel } }) x y
 nothing_put b l x y h = search (arith, append-nil)
 
 -- if a call is accepted the transport connection is there at both sides, or closes at the other
-linked_there : (tr : Transport) (p : Phase) → is_given tr ≡ true → may_abort p ≡ true → (tr ≡ waiting → is_wait_transport p ≡ true) → (is_parting tr ≡ true → is_over p ≡ true) → tr ≡ linked
+linked_there : (tr : Transport) (p : Phase) → is_given tr ≡ true → may_abort p ≡ true → (tr ≡ waiting → is_wait_transport p ≡ true)
+    → (is_parting tr ≡ true → is_over p ≡ true) → tr ≡ linked
 linked_there tr p g m w o = grind (arith, waits_mute, over_mute)
 
 not_early : (e : Bool) (p : Phase) → (e ≡ true → may_abort p ≡ false) → may_abort p ≡ true → e ≡ false
@@ -247,29 +267,41 @@ pub call_told : SayLaws → (b : Bool) (c : Call) (l : Line) (x y : Words) → i
 unfolding react
 call_told laws b c l x y g h = by (allowed l.own.session.state c) refl
   where
-    by : (a : Answer) → allowed l.own.session.state c ≡ a → Told b (made b (answered_move l.own.session a) l) (and_more x (one_or_none (answered_move l.own.session a).reply) []) y
+    by : (a : Answer) → allowed l.own.session.state c ≡ a
+        → Told b (made b (answered_move l.own.session a) l) (and_more x (one_or_none (answered_move l.own.session a).reply) []) y
     by (Err f) e = no_words b _ x y (nothing_put b l x y h)
     by (Ok step) e =
         let m = laws.accepted l.own.session.state c step e in
         let t = linked_there l.own.transport l.own.session.state.phase g m h.own_fits.waits h.own_fits.over_now in
         let d = not_early (is_early l.peer.transport) l.own.session.state.phase h.own_fits.mute m in
-        subst (λ (tr : Transport). Told b (record l { own = record { transport = tr; session = record l.own.session { state = step.next }; channel = put b (unit step.sent ∷ []) l.own.channel } }) (and_more x (step.sent ∷ []) []) y) (sym t)
-        (says_told b l (record l.own.session { state = step.next }) (Some step.sent) (hears_more x []) y (ap is_parting t) d (none_heard b l x y h))
+        subst (λ (tr : Transport). Told b (record l {
+          own = record {
+            transport = tr;
+            session = record l.own.session { state = step.next };
+            channel = put b (unit step.sent ∷ []) l.own.channel;
+          };
+        }) (and_more x (step.sent ∷ []) []) y) (sym t)
+        (says_told b l (record l.own.session { state = step.next }) (Some step.sent) (hears_more x []) y (ap is_parting t) d
+        (none_heard b l x y h))
 
 -- ---- a close, the end of a side, and a break
 
-pub close_told : (b : Bool) (keep : ℕ) (l : Line) (x y : Words) → is_ended l.own.session.state.phase ≡ true → Told b l x y → Told b (closed b keep l) x y
+pub close_told : (b : Bool) (keep : ℕ) (l : Line) (x y : Words) → is_ended l.own.session.state.phase ≡ true → Told b l x y
+    → Told b (closed b keep l) x y
 close_told b keep l x y o h =
-    cuts_told b l (closed b keep l).own keep x y refl refl (ended_over l.own.session.state.phase o) (put_no_units b (bye 128 ∷ []) (take keep l.own.channel) refl) h
+    cuts_told b l (closed b keep l).own keep x y refl refl (ended_over l.own.session.state.phase o)
+    (put_no_units b (bye 128 ∷ []) (take keep l.own.channel) refl) h
 
 end_told : SayLaws → (b : Bool) (keep : ℕ) (l : Line) (x y : Words) → Told b l x y → Told b (ended_at keep l).line x y
 end_told laws b keep l x y h =
-    cuts_told b l (ended_at keep l).line.own keep x y refl refl (ended_over (react l.own.session broken_off).next.state.phase (laws.lost l.own.session)) refl h
+    cuts_told b l (ended_at keep l).line.own keep x y refl refl
+    (ended_over (react l.own.session broken_off).next.state.phase (laws.lost l.own.session)) refl h
 
 pub ends_told : SayLaws → (b : Bool) (keep : ℕ) (l : Line) (x y : Words) → Told b l x y → Told b (ends_there keep l) x y
 ends_told laws b keep l x y h = by_test (is_given l.own.transport) (λ e. rw e (end_told laws b keep l x y h)) (λ e. rw e h)
 
-cut_fits : (keep : ℕ) (own peer : Seat) (ch : List Message) → Fits own peer → Fits (record own { channel = take keep own.channel }) (record peer { channel = ch })
+cut_fits : (keep : ℕ) (own peer : Seat) (ch : List Message) → Fits own peer
+    → Fits (record own { channel = take keep own.channel }) (record peer { channel = ch })
 cut_fits keep own peer ch h = grind (arith, no_units_taken, no_agree_taken)
 
 cut_way : (b : Bool) (keep : ℕ) (own peer : Seat) (ch : List Message) (said heard : List Meaning) → Way b own peer said heard
@@ -287,31 +319,38 @@ asked_told b o = search arith
 -- ---- a message is taken
 
 -- the first message that arrives at a side is no unit, or the side leaves and does not receive it
-popped : (b : Bool) (l : Line) (m : Message) (xs : List Message) (x y : Words) → l.peer.channel ≡ m ∷ xs → (is_parting l.own.transport ≡ false → units_in xs ≡ units_in (m ∷ xs)) → Told b l x y
+popped : (b : Bool) (l : Line) (m : Message) (xs : List Message) (x y : Words) → l.peer.channel ≡ m ∷ xs
+    → (is_parting l.own.transport ≡ false → units_in xs ≡ units_in (m ∷ xs)) → Told b l x y
     → Told b (without_first l xs) x y
 popped b l m xs x y e n h = grind (arith, rest_fits, same_units)
 
 -- the message is a unit, and is received
-heard_first : (b : Bool) (l : Line) (u : Meaning) (xs : List Message) (x y : Words) → l.peer.channel ≡ unit u ∷ xs → is_parting l.own.transport ≡ false → Told b l x y
+heard_first : (b : Bool) (l : Line) (u : Meaning) (xs : List Message) (x y : Words) → l.peer.channel ≡ unit u ∷ xs
+    → is_parting l.own.transport ≡ false → Told b l x y
     → Told b (without_first l xs) (hears_more x (u ∷ [])) y
 heard_first b l u xs x y e p h =
-    let c = first_heard (b || is_parting l.peer.transport) u xs y.said x.heard (subst (λ (ms : List Message). Carried (b || is_parting l.peer.transport) ms y.said x.heard) e (h.back.carried p)) in
+    let c = first_heard (b || is_parting l.peer.transport) u xs y.said x.heard
+    (subst (λ (ms : List Message). Carried (b || is_parting l.peer.transport) ms y.said x.heard) e (h.back.carried p)) in
     search (rest_fits, begins_so)
 
 -- the message that tells of an open transport connection comes from a side that has one
-agreed_there : (tr : Transport) (l : Line) (xs : List Message) → l.own.transport ≡ waiting → l.peer.channel ≡ agree ∷ xs → l.peer.transport ≡ tr → Fits l.own l.peer → Fits l.peer l.own → is_early tr ≡ false
+agreed_there : (tr : Transport) (l : Line) (xs : List Message) → l.own.transport ≡ waiting → l.peer.channel ≡ agree ∷ xs
+    → l.peer.transport ≡ tr → Fits l.own l.peer → Fits l.peer l.own → is_early tr ≡ false
 agreed_there tr l xs w e f h k = search arith
 
 -- a unit comes from a side with a transport connection
-unit_there : (early : Bool) (l : Line) (u : Meaning) (xs : List Message) → l.peer.channel ≡ unit u ∷ xs → is_early l.peer.transport ≡ early → Fits l.peer l.own → early ≡ false
+unit_there : (early : Bool) (l : Line) (u : Meaning) (xs : List Message) → l.peer.channel ≡ unit u ∷ xs → is_early l.peer.transport ≡ early
+    → Fits l.peer l.own → early ≡ false
 unit_there true l u xs e f k = absurd (let n = ap units_in (sym e) ∙ k.early f in cc)
 unit_there false l u xs e f k = refl
 
 -- and goes to a side with one
-no_unit_early : {A : Type 0} (l : Line) (u : Meaning) (xs : List Message) → l.peer.channel ≡ unit u ∷ xs → is_early l.own.transport ≡ true → Fits l.peer l.own → A
+no_unit_early : {A : Type 0} (l : Line) (u : Meaning) (xs : List Message) → l.peer.channel ≡ unit u ∷ xs → is_early l.own.transport ≡ true
+    → Fits l.peer l.own → A
 no_unit_early l u xs e f k = absurd (let n = ap units_in (sym e) ∙ k.unsaid f in cc)
 
-denied_over : (s : Standing) (reason : ℕ) → is_wait_transport s.state.phase ≡ true → (is_over (react s (refused reason)).next.state.phase ≡ true) × ((react s (refused reason)).reply ≡ None)
+denied_over : (s : Standing) (reason : ℕ) → is_wait_transport s.state.phase ≡ true
+    → (is_over (react s (refused reason)).next.state.phase ≡ true) × ((react s (refused reason)).reply ≡ None)
 unfolding react
 denied_over s reason w = by_test (is_wait_transport s.state.phase) (λ q. rw q (refl, refl)) (λ q. let e = rw q at w in absurd (cc))
 
@@ -323,7 +362,8 @@ lost_none s = refl
 nothing_replied : (b : Bool) (r : Option Meaning) (ch : List Message) → r ≡ None → units_in (put b (replied r) ch) ≡ units_in ch
 nothing_replied b r ch e = put_no_units b (replied r) ch (ap (λ (o : Option Meaning). units_in (replied o)) e)
 
-pub message_told : SayLaws → (b : Bool) (terms : Terms) (keep : ℕ) (tr : Transport) (l : Line) (m : Message) (xs : List Message) (x y : Words) → l.own.transport ≡ tr → l.peer.channel ≡ m ∷ xs → Told b l x y
+pub message_told : SayLaws → (b : Bool) (terms : Terms) (keep : ℕ) (tr : Transport) (l : Line) (m : Message) (xs : List Message)
+    (x y : Words) → l.own.transport ≡ tr → l.peer.channel ≡ m ∷ xs → Told b l x y
     → Told b (message_taken b terms keep tr (without_first l xs) m).line (and_more x (said_to tr l.own.session m) (heard_of tr m)) y
 message_told laws b (accepts class) keep not_yet l ask xs x y t e h =
     no_words b _ x y (links_told b (without_first l xs) (agree ∷ []) x y (ap is_parting t) refl (popped b l ask xs x y e (λ k. refl) h))
@@ -332,32 +372,45 @@ message_told laws b (denies reason) keep not_yet l ask xs x y t e h =
 message_told laws b terms keep not_yet l (unit u) xs x y t e h = no_unit_early l u xs e (ap is_early t) h.peer_fits
 message_told laws b terms keep waiting l (unit u) xs x y t e h = no_unit_early l u xs e (ap is_early t) h.peer_fits
 message_told laws b terms keep waiting l agree xs x y t e h =
-    says_told b (without_first l xs) (react l.own.session opened).next (react l.own.session opened).reply (hears_more x []) y (ap is_parting t)
+    says_told b (without_first l xs) (react l.own.session opened).next (react l.own.session opened).reply (hears_more x []) y
+    (ap is_parting t)
     (agreed_there l.peer.transport l xs t e refl h.own_fits h.peer_fits)
     (none_heard b (without_first l xs) x y (popped b l agree xs x y e (λ k. refl) h))
 message_told laws b terms keep waiting l (deny reason) xs x y t e h =
     let d = denied_over l.own.session reason (h.own_fits.waits t) in
     no_words b _ x y
-    (goes_told b (without_first l xs) (record { transport = gone; session = (react l.own.session (refused reason)).next; channel = put b (replied (react l.own.session (refused reason)).reply) l.own.channel }) x y refl refl d.0
+    (goes_told b (without_first l xs) (record {
+      transport = gone;
+      session = (react l.own.session (refused reason)).next;
+      channel = put b (replied (react l.own.session (refused reason)).reply) l.own.channel;
+    }) x y refl refl d.0
     (nothing_replied b (react l.own.session (refused reason)).reply l.own.channel d.1)
     (popped b l (deny reason) xs x y e (λ k. refl) h))
 message_told laws b terms keep linked l (unit u) xs x y t e h =
-    says_told b (without_first l xs) (react l.own.session (taken (said_of u))).next (react l.own.session (taken (said_of u))).reply (hears_more x (u ∷ [])) y (ap is_parting t)
+    says_told b (without_first l xs) (react l.own.session (taken (said_of u))).next (react l.own.session (taken (said_of u))).reply
+    (hears_more x (u ∷ [])) y (ap is_parting t)
     (unit_there (is_early l.peer.transport) l u xs e refl h.peer_fits)
     (heard_first b l u xs x y e (ap is_parting t) h)
 message_told laws b terms keep linked l (bye reason) xs x y t e h =
     no_words b _ x y
-    (cuts_told b (without_first l xs) (message_taken b terms keep linked (without_first l xs) (bye reason)).line.own keep x y refl refl (ended_over (react l.own.session broken_off).next.state.phase (laws.lost l.own.session))
-    (put_no_units b (over ∷ []) (put b (replied (react l.own.session broken_off).reply) (take keep l.own.channel)) refl ∙ nothing_replied b (react l.own.session broken_off).reply (take keep l.own.channel) (lost_none l.own.session))
+    (cuts_told b (without_first l xs) (message_taken b terms keep linked (without_first l xs) (bye reason)).line.own keep x y refl refl
+    (ended_over (react l.own.session broken_off).next.state.phase (laws.lost l.own.session))
+    (put_no_units b (over ∷ []) (put b (replied (react l.own.session broken_off).reply) (take keep l.own.channel)) refl
+    ∙ nothing_replied b (react l.own.session broken_off).reply (take keep l.own.channel) (lost_none l.own.session))
     (popped b l (bye reason) xs x y e (λ k. refl) h))
 message_told laws b terms keep closing l (bye reason) xs x y t e h =
-    no_words b _ x y (goes_told b (without_first l xs) (record l.own { transport = gone }) x y refl refl (h.own_fits.over_now (ap is_parting t)) refl (popped b l (bye reason) xs x y e (λ k. refl) h))
+    no_words b _ x y (goes_told b (without_first l xs) (record l.own { transport = gone }) x y refl refl
+    (h.own_fits.over_now (ap is_parting t)) refl (popped b l (bye reason) xs x y e (λ k. refl) h))
 message_told laws b terms keep closing l over xs x y t e h =
-    no_words b _ x y (goes_told b (without_first l xs) (record l.own { transport = gone }) x y refl refl (h.own_fits.over_now (ap is_parting t)) refl (popped b l over xs x y e (λ k. refl) h))
+    no_words b _ x y (goes_told b (without_first l xs) (record l.own { transport = gone }) x y refl refl
+    (h.own_fits.over_now (ap is_parting t)) refl (popped b l over xs x y e (λ k. refl) h))
 message_told laws b terms keep gone l (bye reason) xs x y t e h =
     no_words b _ x y
-    (goes_told b (without_first l xs) (record l.own { channel = put b (over ∷ []) l.own.channel }) x y (ap is_parting t) (ap is_early t) (h.own_fits.over_now (ap is_parting t))
+    (goes_told b (without_first l xs) (record l.own { channel = put b (over ∷ []) l.own.channel }) x y (ap is_parting t) (ap is_early t)
+    (h.own_fits.over_now (ap is_parting t))
     (put_no_units b (over ∷ []) l.own.channel refl) (popped b l (bye reason) xs x y e (λ k. refl) h))
-message_told laws b terms keep closing l (unit u) xs x y t e h = no_words b _ x y (popped b l (unit u) xs x y e (λ k. absurd (let n = sym (ap is_parting t) ∙ k in cc)) h)
-message_told laws b terms keep gone l (unit u) xs x y t e h = no_words b _ x y (popped b l (unit u) xs x y e (λ k. absurd (let n = sym (ap is_parting t) ∙ k in cc)) h)
+message_told laws b terms keep closing l (unit u) xs x y t e h =
+    no_words b _ x y (popped b l (unit u) xs x y e (λ k. absurd (let n = sym (ap is_parting t) ∙ k in cc)) h)
+message_told laws b terms keep gone l (unit u) xs x y t e h =
+    no_words b _ x y (popped b l (unit u) xs x y e (λ k. absurd (let n = sym (ap is_parting t) ∙ k in cc)) h)
 message_told laws b terms keep tr l m xs x y t e h = no_words b _ x y (popped b l m xs x y e (λ k. refl) h)

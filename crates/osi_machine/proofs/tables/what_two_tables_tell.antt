@@ -49,7 +49,15 @@ lines_as _ _ h = absurd h
 
 follows_as : (m : Machine) (t : Tables) → Follows t m → IsAsTables m t
 follows_as m t h = subst (IsAsTables m) (sym h.same)
-    (record { terms = refl; broken = refl; left_end = refl; right_end = refl; known = refl; journal = refl; lines = lines_as m.worlds h.lines h.all })
+    (record {
+      terms = refl;
+      broken = refl;
+      left_end = refl;
+      right_end = refl;
+      known = refl;
+      journal = refl;
+      lines = lines_as m.worlds h.lines h.all;
+    })
 
 -- ---- a line, and the connection that it is
 
@@ -104,7 +112,8 @@ module _ (t : Tables) (m : Machine) (h : Follows t m) where
       (sym x.tabled.same)
       (subst (λ (j : List Entry). P (session_of x.world) (session_of (turned x.world)) (told_of Left r o j) (told_of Right r o j))
       (sym same_journal)
-      (subst (λ (p : Offer). P (session_of x.world) (session_of (turned x.world)) (told_of Left r p m.journal) (told_of Right r p m.journal))
+      (subst (λ (p : Offer). P (session_of x.world) (session_of (turned x.world)) (told_of Left r p m.journal)
+      (told_of Right r p m.journal))
       offer (all r x.world x.found)))
 
   sides_lifted : (P : State → List Message → Type 0) → OfSides P m → AtEachSide P t
@@ -132,13 +141,15 @@ module _ (laws : SessionLaws) (says : SaysItsUnit) where
   follows_run : (t : Tables) (h : IsTableRun t) → Follows t (machine_of t h)
   follows_run t h = subst (λ (x : Tables). Follows x (machine_of t h)) h.reached (all_follow laws says h.agreed h.steps h.numbered)
 
-  pub of_runs : (P : State → State → Told → Told → Type 0) → ((m : Machine) → IsRun m → OfWorlds P m) → (t : Tables) → IsTableRun t → OfEachLine P t
+  pub of_runs : (P : State → State → Told → Told → Type 0) → ((m : Machine) → IsRun m → OfWorlds P m) → (t : Tables) → IsTableRun t
+      → OfEachLine P t
   of_runs P all t h =
       lifted t (machine_of t h) (follows_run t h) P (are_offered laws (machine_of t h) (run_of t h)) (all (machine_of t h) (run_of t h))
 
   -- what holds of one side at each stage holds of both
   pub of_stages : (P : State → List Message → Type 0)
-      → ((b : Bool) (w : World) (t u : Told) → Stage b w t u → P (session_of w) w.peer.channel) → (t : Tables) → IsTableRun t → AtEachSide P t
+      → ((b : Bool) (w : World) (t u : Told) → Stage b w t u → P (session_of w) w.peer.channel) → (t : Tables) → IsTableRun t
+      → AtEachSide P t
   of_stages P all t h = sides_lifted t (machine_of t h) (follows_run t h) P (λ r w e.
       let s = stage_at laws (machine_of t h) (run_of t h) r w e in
       (all _ w _ _ s, all _ (turned w) _ _ (turned_stage _ w _ _ s)))

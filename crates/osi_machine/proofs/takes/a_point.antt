@@ -16,7 +16,8 @@ use Rattle.osi_machine.proofs.takes.a_unit_that_changes_no_state.{rest_of}
 use Rattle.osi_machine.proofs.takes.a_unit_that_cuts_nothing.{at, heard_is, Calm}
 
 -- the number of points that are confirmed, once one more is taken
-reach_point : (a : Bool) (next c confirmed : ℕ) → c ≤ next → (a ≡ true → lower next c ≤ confirmed) → lower (next + 1) c ≤ (if a then confirmed else next)
+reach_point : (a : Bool) (next c confirmed : ℕ) → c ≤ next → (a ≡ true → lower next c ≤ confirmed)
+    → lower (next + 1) c ≤ (if a then confirmed else next)
 reach_point a next c confirmed le f = grind (arith, lower_from, lower_second)
 
 -- half-duplex, if points are selected
@@ -54,7 +55,8 @@ module _ (w : Core) (u : Meaning) (us : List Meaning) (r : State) where
   unfolding point_taken
   other_sends h k = false_from_ne_true w.peer.session.numbers.answers (λ a.
       let no = h.peer_counts.flag a in
-      let turned = heard_turned r us (record { phase = k.opened; answers = ap (λ (v : Numbers). v.answers) k.numbers }) (subst (λ (q : State). AllFit q us) k.next h.own.fits.1) in
+      let turned = heard_turned r us (record { phase = k.opened; answers = ap (λ (v : Numbers). v.answers) k.numbers })
+      (subst (λ (q : State). AllFit q us) k.next h.own.fits.1) in
       let yes = ap (λ (q : State). q.numbers.answers) (heard_is w.own.session r u us k.stays k.next) ∙ turned.answers in
       cc)
 
@@ -75,7 +77,8 @@ module _ (w : Core) (u : Meaning) (us : List Meaning) (r : State) where
           ∙ (flush_open w.own.session (u ∷ us) (excluded is_ready is_opening refl w.own.session.phase k.ready) h.own.fits).base
 
       heeds : hears (heard w.own.session (u ∷ us)).phase ≡ true
-      heeds = kept_heard (λ (q : State). hears q.phase ≡ true) (λ q m p g. next_hears q m p) w.own.session (u ∷ us) (ap not (listens k)) h.own.fits
+      heeds = kept_heard (λ (q : State). hears q.phase ≡ true) (λ q m p g. next_hears q m p) w.own.session (u ∷ us)
+          (ap not (listens k)) h.own.fits
 
       from : (heard w.peer.session w.own.sent).base ≤ w.own.session.numbers.next
       from = subst (λ (b : ℕ). b ≤ w.own.session.numbers.next) (sym base)
@@ -90,11 +93,13 @@ module _ (w : Core) (u : Meaning) (us : List Meaning) (r : State) where
   point_flag : Stands (at w (u ∷ us)) → Pointed w u us r → (heard w.peer.session w.own.sent).numbers.answers ≡ false
   point_flag h k = heard_sends w.peer.session w.own.sent (none_back h k) (other_sends h k)
 
-  point_below : Stands (at w (u ∷ us)) → Pointed w u us r → hears (heard w.own.session (u ∷ us)).phase ≡ true → (n : ℕ) → (heard w.peer.session w.own.sent).base ≤ n → n < (heard w.peer.session w.own.sent).numbers.confirmed → n < r.numbers.next
+  point_below : Stands (at w (u ∷ us)) → Pointed w u us r → hears (heard w.own.session (u ∷ us)).phase ≡ true → (n : ℕ)
+      → (heard w.peer.session w.own.sent).base ≤ n → n < (heard w.peer.session w.own.sent).numbers.confirmed → n < r.numbers.next
   unfolding point_taken
   point_below h k l n from to = subst (λ (v : Numbers). n < v.next) (sym k.numbers) (let a = h.peer_counts.below l n from to in omega arith)
 
-  point_reach : Stands (at w (u ∷ us)) → Pointed w u us r → lower r.numbers.next (heard w.peer.session w.own.sent).numbers.confirmed ≤ r.numbers.confirmed
+  point_reach : Stands (at w (u ∷ us)) → Pointed w u us r
+      → lower r.numbers.next (heard w.peer.session w.own.sent).numbers.confirmed ≤ r.numbers.confirmed
   unfolding point_taken
   point_reach h k = search (arith, reach_point, none_above)
 
@@ -106,12 +111,14 @@ taken_minor s = record s { numbers = point_taken s.numbers }
 pub taken_major : State → State
 taken_major s = record s { phase = MajorDue; numbers = point_taken s.numbers }
 
-minor_pointed : (w : Core) (confirm : Bool) (n : ℕ) (octets : List ℕ) (us : List Meaning) → drops w.own.session (MIP confirm n octets) ≡ false
+minor_pointed : (w : Core) (confirm : Bool) (n : ℕ) (octets : List ℕ) (us : List Meaning)
+    → drops w.own.session (MIP confirm n octets) ≡ false
     → Stands (at w (MIP confirm n octets ∷ us)) → Pointed w (MIP confirm n octets) us (taken_minor w.own.session)
 unfolding taken_minor
 minor_pointed w confirm n octets us d h = grind arith
 
-pub minor_calm : (w : Core) (confirm : Bool) (n : ℕ) (octets : List ℕ) (us : List Meaning) → drops w.own.session (MIP confirm n octets) ≡ false
+pub minor_calm : (w : Core) (confirm : Bool) (n : ℕ) (octets : List ℕ) (us : List Meaning)
+    → drops w.own.session (MIP confirm n octets) ≡ false
     → Stands (at w (MIP confirm n octets ∷ us)) → Calm w (MIP confirm n octets) us (taken_minor w.own.session)
 unfolding taken_minor
 minor_calm w confirm n octets us d h =
@@ -146,7 +153,8 @@ major_calm w n octets us d h =
       listens = listens w (MAP n octets) us (taken_major w.own.session) k;
       hears = refl;
       owes = refl;
-      released = λ r. absurd (let a = h.peer.meeting.released r in let b = excluded is_ready is_releasing refl w.own.session.phase k.ready in cc);
+      released = λ r. absurd (let a = h.peer.meeting.released r in
+          let b = excluded is_ready is_releasing refl w.own.session.phase k.ready in cc);
       flag = λ a. point_flag w (MAP n octets) us (taken_major w.own.session) h k;
       below = point_below w (MAP n octets) us (taken_major w.own.session) h k;
       reach = λ a. point_reach w (MAP n octets) us (taken_major w.own.session) h k;

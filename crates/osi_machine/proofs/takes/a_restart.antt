@@ -76,7 +76,8 @@ same_cut : (w : Core) (k : ResyncType) (n : ℕ) (t : TokenSetting) (o : List �
     → cutat w.own.session.base w.own.view n ≡ cutat w.own.session.base w.history n
 same_cut w k n t o us c = search (arith, heard_is, cut_twice, top)
 
-pub cut_seen : (w : Core) (k : ResyncType) (n : ℕ) (t : TokenSetting) (o : List ℕ) (us : List Meaning) → Stands (at w (RS k n t o ∷ us)) → stands w.own.session n ≡ true
+pub cut_seen : (w : Core) (k : ResyncType) (n : ℕ) (t : TokenSetting) (o : List ℕ) (us : List Meaning) → Stands (at w (RS k n t o ∷ us))
+    → stands w.own.session n ≡ true
     → cutat w.own.session.base w.own.view n ≡ cutat w.own.session.base w.history n
 cut_seen w k n t o us s st = same_cut w k n t o us (record { all = s; wins = st })
 
@@ -97,7 +98,8 @@ module _ (w : Core) (k : ResyncType) (n : ℕ) (t : TokenSetting) (o : List ℕ)
   was_met : Meeting w.owner w.own.session (answering w.own.session n t) (flush w.peer.session w.own.sent) w.own.session w.peer.session
   was_met = search (arith, end_is, heard_is)
 
-  was_met_there : Meeting (turned_owners w.owner) w.peer.session (flush w.peer.session w.own.sent) (answering w.own.session n t) (heard w.peer.session w.own.sent) w.own.session
+  was_met_there : Meeting (turned_owners w.owner) w.peer.session (flush w.peer.session w.own.sent) (answering w.own.session n t)
+      (heard w.peer.session w.own.sent) w.own.session
   was_met_there = search (arith, end_is)
 
   taker_half : Half (pooled w.owner) (taker w n t) (rest_of w.peer us)
@@ -116,7 +118,8 @@ none_left k h e = grind arith
 module _ (w : Core) (k : ResyncType) (n : ℕ) (t : TokenSetting) (o : List ℕ) (us : List Meaning) (c : Comes w k n t o us) where
   taker_views : Views (cutat w.own.session.base w.history n) (taker w n t) (rest_of w.peer us)
   unfolding taker
-  taker_views = search (arith, none_behind, empty_view, same_cut, empty_heard, heard_asking, same_base, same_number, end_is, empty_end, none_left)
+  taker_views =
+      search (arith, none_behind, empty_view, same_cut, empty_heard, heard_asking, same_base, same_number, end_is, empty_end, none_left)
 
   giver_views : Views (cutat w.own.session.base w.history n) (rest_of w.peer us) (taker w n t)
   unfolding taker
@@ -127,7 +130,8 @@ module _ (w : Core) (k : ResyncType) (n : ℕ) (t : TokenSetting) (o : List ℕ)
   taker_counts : Counts (taker w n t) (rest_of w.peer us)
   unfolding taker restarted_at
   taker_counts =
-      let old = subst (λ (e : State). Counting w.own.session e (heard w.peer.session w.own.sent) w.peer.session) (heard_is w k n t o us c) c.all.own_counts in
+      let old = subst (λ (e : State). Counting w.own.session e (heard w.peer.session w.own.sent) w.peer.session)
+      (heard_is w k n t o us c) c.all.own_counts in
       subst (λ (e : State). Counting (answering w.own.session n t) e (heard w.peer.session w.own.sent) w.peer.session)
       (sym (empty_heard (answering w.own.session n t) us (none_behind w k n t o us c))) (record {
         flag = old.flag;
@@ -139,12 +143,14 @@ module _ (w : Core) (k : ResyncType) (n : ℕ) (t : TokenSetting) (o : List ℕ)
   giver_counts : Counts (rest_of w.peer us) (taker w n t)
   unfolding taker restarted_at
   giver_counts =
-      let old = subst (λ (e : State). Counting w.peer.session (heard w.peer.session w.own.sent) e w.own.session) (heard_is w k n t o us c) c.all.peer_counts in
+      let old = subst (λ (e : State). Counting w.peer.session (heard w.peer.session w.own.sent) e w.own.session)
+      (heard_is w k n t o us c) c.all.peer_counts in
       subst (λ (e : State). Counting w.peer.session (heard w.peer.session w.own.sent) e (answering w.own.session n t))
       (sym (empty_heard (answering w.own.session n t) us (none_behind w k n t o us c))) (record {
         flag = old.flag;
         below = λ l a from to.
-            let high = subst (λ (v : State). a < v.numbers.confirmed) (deaf_heard w.peer.session w.own.sent (other_waits w k n t o us c) c.all.peer.fits) to in
+            let high = subst (λ (v : State). a < v.numbers.confirmed)
+            (deaf_heard w.peer.session w.own.sent (other_waits w k n t o us c) c.all.peer.fits) to in
             let order = c.all.consistent.peer.sound.ordered.confirmed_to in
             let same = same_number w k n t o us c in
             omega arith;
@@ -160,9 +166,11 @@ module _ (w : Core) (k : ResyncType) (n : ℕ) (t : TokenSetting) (o : List ℕ)
 -- ---- all that is true of both sides
 
 after_restart : Core → ℕ → TokenSetting → List Meaning → Core
-after_restart w n t us = record { history = cutat w.own.session.base w.history n; owner = pooled w.owner; own = taker w n t; peer = rest_of w.peer us }
+after_restart w n t us =
+    record { history = cutat w.own.session.base w.history n; owner = pooled w.owner; own = taker w n t; peer = rest_of w.peer us }
 
-takes_restart : (w : Core) (k : ResyncType) (n : ℕ) (t : TokenSetting) (o : List ℕ) (us : List Meaning) → Comes w k n t o us → after_restart w n t us ≡ taking w (RS k n t o ∷ us)
+takes_restart : (w : Core) (k : ResyncType) (n : ℕ) (t : TokenSetting) (o : List ℕ) (us : List Meaning) → Comes w k n t o us
+    → after_restart w n t us ≡ taking w (RS k n t o ∷ us)
 unfolding taker after_restart
 takes_restart w k n t o us c =
     let u = RS k n t o in
@@ -175,8 +183,15 @@ takes_restart w k n t o us c =
     ap (λ (b : Bool). if b then w.own.view else seen w.own.session u w.own.view) kept
     ∙ ap (λ (b : Bool). if b then cutat w.own.session.base w.own.view n else w.own.view) c.wins in
     let same : taken_party w.own u ≡ party_after w.own (answering w.own.session n t) (cutat w.own.session.base w.own.view n) w.own.got =
-    λ i. record { session = (restart_next w.own.session k n t o ∙ stood w.own.session n t c.wins) i; view = view i; said = w.own.said; got = none_got w.own u refl i; sent = w.own.sent } in
-    let history : (if is_acted_on w.own.session u then cut_by w.own.session u w.history else w.history) ≡ cutat w.own.session.base w.history n =
+    λ i. record {
+      session = (restart_next w.own.session k n t o ∙ stood w.own.session n t c.wins) i;
+      view = view i;
+      said = w.own.said;
+      got = none_got w.own u refl i;
+      sent = w.own.sent;
+    } in
+    let history : (if is_acted_on w.own.session u then cut_by w.own.session u w.history else w.history) ≡ cutat w.own.session.base w.history
+    n =
     ap (λ (b : Bool). if b then cut_by w.own.session u w.history else w.history) acts
     ∙ ap (λ (b : Bool). if b then cutat w.own.session.base w.history n else w.history) c.wins in
     let owner : (if is_acted_on w.own.session u then owners_after w.own.session u w.owner else w.owner) ≡ pooled w.owner =
@@ -184,7 +199,8 @@ takes_restart w k n t o us c =
     ∙ ap (λ (b : Bool). if b then pooled w.owner else w.owner) c.wins in
     λ i. record { history = sym history i; owner = sym owner i; own = sym (party ∙ same) i; peer = rest_of w.peer us }
 
-pub restart_taken : SessionLaws → (w : Core) (k : ResyncType) (n : ℕ) (t : TokenSetting) (o : List ℕ) (us : List Meaning) → w.peer.sent ≡ RS k n t o ∷ us
+pub restart_taken : SessionLaws → (w : Core) (k : ResyncType) (n : ℕ) (t : TokenSetting) (o : List ℕ) (us : List Meaning)
+    → w.peer.sent ≡ RS k n t o ∷ us
     → stands w.own.session n ≡ true → Stands w → Stands (taking w (RS k n t o ∷ us))
 unfolding after_restart
 restart_taken laws w k n t o us e st s =
@@ -201,7 +217,8 @@ restart_taken laws w k n t o us e st s =
       pair = pair_after w k n t o us c;
     })
 
-moves : (w : Core) (k : ResyncType) (n : ℕ) (t : TokenSetting) (o : List ℕ) (us : List Meaning) → stands w.own.session n ≡ false → Stands (at w (RS k n t o ∷ us))
+moves : (w : Core) (k : ResyncType) (n : ℕ) (t : TokenSetting) (o : List ℕ) (us : List Meaning) → stands w.own.session n ≡ false
+    → Stands (at w (RS k n t o ∷ us))
     → Moves w (RS k n t o) us w.own.session w.own.view w.own.got w.owner
 moves w k n t o us yields h = record {
   stays = yields;
@@ -212,8 +229,10 @@ moves w k n t o us yields h = record {
       (ap (λ (b : Bool). if b then cutat w.own.session.base w.history n else w.history) yields);
   owner = if_second (is_acted_on w.own.session (RS k n t o)) (owners_after w.own.session (RS k n t o) w.owner) w.owner
       (ap (λ (b : Bool). if b then pooled w.owner else w.owner) yields);
-  tokens = same_tokens w.owner w.own.session (flush w.own.session ((RS k n t o) ∷ us)) (flush w.peer.session w.own.sent) (heard w.own.session ((RS k n t o) ∷ us)) w.peer.session w.own.session h.own.meeting refl;
-  others = same_tokens (turned_owners w.owner) w.peer.session (flush w.peer.session w.own.sent) (flush w.own.session ((RS k n t o) ∷ us)) (heard w.peer.session w.own.sent) w.own.session w.peer.session h.peer.meeting refl;
+  tokens = same_tokens w.owner w.own.session (flush w.own.session ((RS k n t o) ∷ us)) (flush w.peer.session w.own.sent)
+      (heard w.own.session ((RS k n t o) ∷ us)) w.peer.session w.own.session h.own.meeting refl;
+  others = same_tokens (turned_owners w.owner) w.peer.session (flush w.peer.session w.own.sent) (flush w.own.session ((RS k n t o) ∷ us))
+      (heard w.peer.session w.own.sent) w.own.session w.peer.session h.peer.meeting refl;
   released = h.peer.meeting.released;
   cut = h.own_views.cut;
   due = h.own_views.due;
@@ -225,7 +244,9 @@ moves w k n t o us yields h = record {
   caller = refl;
 }
 
-pub restart_yielded : SessionLaws → (w : Core) (k : ResyncType) (n : ℕ) (t : TokenSetting) (o : List ℕ) (us : List Meaning) → w.peer.sent ≡ RS k n t o ∷ us
+pub restart_yielded : SessionLaws → (w : Core) (k : ResyncType) (n : ℕ) (t : TokenSetting) (o : List ℕ) (us : List Meaning)
+    → w.peer.sent ≡ RS k n t o ∷ us
     → stands w.own.session n ≡ false → Stands w → Stands (taking w (RS k n t o ∷ us))
 restart_yielded laws w k n t o us e yields s =
-    moves_stands laws w (RS k n t o) us w.own.session w.own.view w.own.got w.owner e s (moves w k n t o us yields (stands_at w (RS k n t o ∷ us) e s))
+    moves_stands laws w (RS k n t o) us w.own.session w.own.view w.own.got w.owner e s
+    (moves w k n t o us yields (stands_at w (RS k n t o ∷ us) e s))

@@ -25,15 +25,18 @@ rest_of y us = record { session = y.session; view = y.view; said = y.said; got =
 heard_rest : (s : State) (u : Meaning) (us : List Meaning) → stops s u ≡ false → heard s (u ∷ us) ≡ heard (next s u) us
 heard_rest s u us e = ap (λ (b : Bool). if b then s else heard (next s u) us) e
 
-view_rest : (s : State) (u : Meaning) (us : List Meaning) (v : List Item) → stops s u ≡ false → heard_view s (u ∷ us) v ≡ heard_view (next s u) us (view_next s u v)
+view_rest : (s : State) (u : Meaning) (us : List Meaning) (v : List Item) → stops s u ≡ false
+    → heard_view s (u ∷ us) v ≡ heard_view (next s u) us (view_next s u v)
 view_rest s u us v e = ap (λ (b : Bool). if b then v else heard_view (next s u) us (view_next s u v)) e
 
 -- ---- both at once
 
-pub one_less : (p : Meaning → Bool) (b : Bool) (u : Meaning) (us : List Meaning) → (b && list_any p (u ∷ us)) ≡ false → (b && list_any p us) ≡ false
+pub one_less : (p : Meaning → Bool) (b : Bool) (u : Meaning) (us : List Meaning) → (b && list_any p (u ∷ us)) ≡ false
+    → (b && list_any p us) ≡ false
 one_less p b u us h = grind arith
 
-pub pair_rest : (h : List Item) (x y : Party) (u : Meaning) (us : List Meaning) → next x.session u ≡ x.session → Pair h x (rest_of y (u ∷ us)) → Pair h (taken_party x u) (rest_of y us)
+pub pair_rest : (h : List Item) (x y : Party) (u : Meaning) (us : List Meaning) → next x.session u ≡ x.session
+    → Pair h x (rest_of y (u ∷ us)) → Pair h (taken_party x u) (rest_of y us)
 pair_rest h x y u us same p = search (arith, one_less)
 
 -- ---- a unit that is discarded
@@ -54,7 +57,8 @@ giver_views_dropped h x y u us d v = grind arith
 -- ---- a unit that is acted on and changes nothing: data, and a request for tokens
 
 -- what its taker sees, if it listens
-pub taker_views_acted : (h : List Item) (x y : Party) (u : Meaning) (us : List Meaning) → AllFit (next x.session u) us → is_restarting x.session.phase ≡ false
+pub taker_views_acted : (h : List Item) (x y : Party) (u : Meaning) (us : List Meaning) → AllFit (next x.session u) us
+    → is_restarting x.session.phase ≡ false
     → stops x.session u ≡ false → next x.session u ≡ x.session
     → ((flush x.session (u ∷ us)).units.duplex ≡ true → (taken_party x u).got ++ data_of us ≡ x.got ++ data_of (u ∷ us))
     → Views h x (rest_of y (u ∷ us)) → Views h (taken_party x u) (rest_of y us)
@@ -68,7 +72,8 @@ taker_views_acted h x y u us f listens st same gets v = record {
 
 -- no answer is due at the other side
 pub giver_views_acted : (o : Owners) (h : List Item) (x y : Party) (u : Meaning) (us : List Meaning) → is_restarting x.session.phase ≡ false
-    → Half o x (rest_of y (u ∷ us)) → Half (turned_owners o) (rest_of y (u ∷ us)) x → Views h (rest_of y (u ∷ us)) x → Views h (rest_of y us) (taken_party x u)
+    → Half o x (rest_of y (u ∷ us)) → Half (turned_owners o) (rest_of y (u ∷ us)) x → Views h (rest_of y (u ∷ us)) x
+    → Views h (rest_of y us) (taken_party x u)
 giver_views_acted o h x y u us listens a b v = record {
   ends = v.ends;
   cut = v.cut;
@@ -85,10 +90,12 @@ data_got : (x : Party) (octets : List ℕ) (us : List Meaning) → drops x.sessi
     → (taken_party x (DT octets)).got ++ data_of us ≡ x.got ++ data_of (DT octets ∷ us)
 data_got x octets us d e =
     ap (λ (r : List (List ℕ)). r ++ data_of us)
-    (ap (λ (b : Bool). if b then x.got else x.got ++ got_in x.session (DT octets)) d ∙ ap (λ (b : Bool). x.got ++ (if b then octets ∷ [] else [])) e)
+    (ap (λ (b : Bool). if b then x.got else x.got ++ got_in x.session (DT octets)) d
+    ∙ ap (λ (b : Bool). x.got ++ (if b then octets ∷ [] else [])) e)
     ∙ append_assoc x.got (octets ∷ []) (data_of us)
 
-please_got : (x : Party) (k : Tokens) (octets : List ℕ) (us : List Meaning) → (taken_party x (PT k octets)).got ++ data_of us ≡ x.got ++ data_of (PT k octets ∷ us)
+please_got : (x : Party) (k : Tokens) (octets : List ℕ) (us : List Meaning)
+    → (taken_party x (PT k octets)).got ++ data_of us ≡ x.got ++ data_of (PT k octets ∷ us)
 please_got x k octets us = ap (λ (r : List (List ℕ)). r ++ data_of us) (by_test (drops x.session (PT k octets))
     (λ e. rw e)
     (λ e. rw e (append-nil x.got)))
@@ -108,7 +115,8 @@ record Idles (w : Core) (u : Meaning) (us : List Meaning) : Type 0 where
   own_seen : Views w.history w.own (rest_of w.peer (u ∷ us)) → Views w.history (taken_party w.own u) (rest_of w.peer us)
   peer_seen : Views w.history (rest_of w.peer (u ∷ us)) w.own → Views w.history (rest_of w.peer us) (taken_party w.own u)
 
-idle_stands : SessionLaws → (w : Core) (u : Meaning) (us : List Meaning) → w.peer.sent ≡ u ∷ us → Stands w → Idles w u us → Stands (taking w (u ∷ us))
+idle_stands : SessionLaws → (w : Core) (u : Meaning) (us : List Meaning) → w.peer.sent ≡ u ∷ us → Stands w → Idles w u us
+    → Stands (taking w (u ∷ us))
 idle_stands laws w u us e s k =
     let own = subst (λ (vs : List Meaning). Half w.owner w.own (rest_of w.peer vs)) e s.own in
     let peer = subst (λ (vs : List Meaning). Half (turned_owners w.owner) (rest_of w.peer vs) w.own) e s.peer in
@@ -119,29 +127,36 @@ idle_stands laws w u us e s k =
       consistent = subst AreConsistent (sym path) (taking_kept laws w (u ∷ us) e s.consistent);
       own = record {
         fits = own.fits.1;
-        meeting = subst (λ (r : State). Meeting w.owner r (flush (next w.own.session u) us) (flush w.peer.session w.own.sent) (heard (next w.own.session u) us) w.peer.session) (sym k.same)
-            (subst (λ (r : State). Meeting w.owner w.own.session (flush (next w.own.session u) us) (flush w.peer.session w.own.sent) r w.peer.session) (heard_rest w.own.session u us k.stays) own.meeting);
+        meeting = subst (λ (r : State). Meeting w.owner r (flush (next w.own.session u) us) (flush w.peer.session w.own.sent)
+            (heard (next w.own.session u) us) w.peer.session) (sym k.same)
+            (subst (λ (r : State). Meeting w.owner w.own.session (flush (next w.own.session u) us)
+            (flush w.peer.session w.own.sent) r w.peer.session) (heard_rest w.own.session u us k.stays) own.meeting);
       };
       peer = record {
         fits = peer.fits;
-        meeting = subst (λ (r : State). Meeting (turned_owners w.owner) w.peer.session (flush w.peer.session w.own.sent) (flush (next w.own.session u) us) (heard w.peer.session w.own.sent) r) (sym k.same) peer.meeting;
+        meeting = subst (λ (r : State). Meeting (turned_owners w.owner) w.peer.session (flush w.peer.session w.own.sent)
+            (flush (next w.own.session u) us) (heard w.peer.session w.own.sent) r) (sym k.same) peer.meeting;
       };
       own_views = k.own_seen (subst (λ (vs : List Meaning). Views w.history w.own (rest_of w.peer vs)) e s.own_views);
       peer_views = k.peer_seen (subst (λ (vs : List Meaning). Views w.history (rest_of w.peer vs) w.own) e s.peer_views);
       own_counts =
           subst (λ (r : State). Counting r (heard (next w.own.session u) us) (heard w.peer.session w.own.sent) w.peer.session) (sym k.same)
-          (subst (λ (r : State). Counting w.own.session r (heard w.peer.session w.own.sent) w.peer.session) (heard_rest w.own.session u us k.stays) (subst (λ (vs : List Meaning). Counts w.own (rest_of w.peer vs)) e s.own_counts));
+          (subst (λ (r : State). Counting w.own.session r (heard w.peer.session w.own.sent) w.peer.session)
+          (heard_rest w.own.session u us k.stays) (subst (λ (vs : List Meaning). Counts w.own (rest_of w.peer vs)) e s.own_counts));
       peer_counts =
           subst (λ (r : State). Counting w.peer.session (heard w.peer.session w.own.sent) (heard (next w.own.session u) us) r) (sym k.same)
-          (subst (λ (r : State). Counting w.peer.session (heard w.peer.session w.own.sent) r w.own.session) (heard_rest w.own.session u us k.stays) (subst (λ (vs : List Meaning). Counts (rest_of w.peer vs) w.own) e s.peer_counts));
-      pair = pair_rest w.history w.own w.peer u us k.same (subst (λ (vs : List Meaning). Pair w.history w.own (rest_of w.peer vs)) e s.pair);
+          (subst (λ (r : State). Counting w.peer.session (heard w.peer.session w.own.sent) r w.own.session)
+          (heard_rest w.own.session u us k.stays) (subst (λ (vs : List Meaning). Counts (rest_of w.peer vs) w.own) e s.peer_counts));
+      pair = pair_rest w.history w.own w.peer u us k.same
+          (subst (λ (vs : List Meaning). Pair w.history w.own (rest_of w.peer vs)) e s.pair);
     })
 
 listening : (e r p : Bool) → (e || (r && not p)) ≡ false → p ≡ false → r ≡ false
 listening e r p h k = grind arith
 
 -- data is taken
-pub data_taken : SessionLaws → (w : Core) (octets : List ℕ) (us : List Meaning) → w.peer.sent ≡ DT octets ∷ us → drops w.own.session (DT octets) ≡ false → Stands w
+pub data_taken : SessionLaws → (w : Core) (octets : List ℕ) (us : List Meaning) → w.peer.sent ≡ DT octets ∷ us
+    → drops w.own.session (DT octets) ≡ false → Stands w
     → Stands (taking w (DT octets ∷ us))
 data_taken laws w octets us e d s =
     let own = subst (λ (vs : List Meaning). Half w.owner w.own (rest_of w.peer vs)) e s.own in
@@ -183,7 +198,8 @@ dropped_data : (x : Party) (u : Meaning) → drops x.session u ≡ true → IsCo
     → (is_restarting x.session.phase ≡ true → IsOfProfile x.session.units × (x.session.units.duplex ≡ true)) → data_in u ≡ []
 dropped_data x u d c p = grind (arith, nothing_in)
 
-pub dropped_taken : SessionLaws → (w : Core) (u : Meaning) (us : List Meaning) → w.peer.sent ≡ u ∷ us → drops w.own.session u ≡ true → Stands w
+pub dropped_taken : SessionLaws → (w : Core) (u : Meaning) (us : List Meaning) → w.peer.sent ≡ u ∷ us → drops w.own.session u ≡ true
+    → Stands w
     → Stands (taking w (u ∷ us))
 dropped_taken laws w u us e d s =
     let same = next_dropped w.own.session u d in

@@ -80,13 +80,16 @@ moves_stands laws w u us r v got o e s k =
       consistent = subst AreConsistent (sym path) (taking_kept laws w (u ∷ us) e s.consistent);
       own = record {
         fits = subst (λ (q : State). AllFit q us) k.next h.own.fits.1;
-        meeting = subst (λ (q : State). Meeting o r q (flush w.peer.session w.own.sent) (heard r us) w.peer.session) (flush_is w.own.session r u us k.next)
-            (subst (λ (q : State). Meeting o r (flush w.own.session (u ∷ us)) (flush w.peer.session w.own.sent) q w.peer.session) (heard_is w.own.session r u us k.stays k.next)
+        meeting = subst (λ (q : State). Meeting o r q (flush w.peer.session w.own.sent) (heard r us) w.peer.session)
+            (flush_is w.own.session r u us k.next)
+            (subst (λ (q : State). Meeting o r (flush w.own.session (u ∷ us)) (flush w.peer.session w.own.sent) q w.peer.session)
+            (heard_is w.own.session r u us k.stays k.next)
             (assumption));
       };
       peer = record {
         fits = h.peer.fits;
-        meeting = subst (λ (q : State). Meeting (turned_owners o) w.peer.session (flush w.peer.session w.own.sent) q (heard w.peer.session w.own.sent) r) (flush_is w.own.session r u us k.next)
+        meeting = subst (λ (q : State). Meeting (turned_owners o) w.peer.session (flush w.peer.session w.own.sent) q
+            (heard w.peer.session w.own.sent) r) (flush_is w.own.session r u us k.next)
             (assumption);
       };
       own_views = record {
@@ -101,10 +104,12 @@ moves_stands laws w u us r v got o e s k =
       };
       peer_views = record { ends = h.peer_views.ends; cut = h.peer_views.cut; due = k.other_due; stream = h.peer_views.stream };
       own_counts =
-          subst (λ (q : State). Counting r q (heard w.peer.session w.own.sent) w.peer.session) (heard_is w.own.session r u us k.stays k.next)
+          subst (λ (q : State). Counting r q (heard w.peer.session w.own.sent) w.peer.session)
+          (heard_is w.own.session r u us k.stays k.next)
           (record { flag = k.flag; below = h.own_counts.below; reach = h.own_counts.reach });
       peer_counts =
-          subst (λ (q : State). Counting w.peer.session (heard w.peer.session w.own.sent) q r) (heard_is w.own.session r u us k.stays k.next)
+          subst (λ (q : State). Counting w.peer.session (heard w.peer.session w.own.sent) q r)
+          (heard_is w.own.session r u us k.stays k.next)
           (record { flag = h.peer_counts.flag; below = k.below; reach = k.reach });
       pair =
           let e = flush_is w.own.session r u us k.next in
@@ -120,19 +125,23 @@ moves_stands laws w u us r v got o e s k =
 -- ---- a unit that moves no token, at a side that listens
 
 -- if the owners stay, so do the lines on tokens
-pub same_tokens : (o : Owners) (now end other heard peer r : State) → Meeting o now end other heard peer → r.held ≡ now.held → Tokens_of o r end heard
+pub same_tokens : (o : Owners) (now end other heard peer r : State) → Meeting o now end other heard peer → r.held ≡ now.held
+    → Tokens_of o r end heard
 same_tokens o now end other heard peer r m e = search arith
 
 -- what shows no data gets none
-pub none_got : (x : Party) (u : Meaning) → got_in x.session u ≡ [] → (if drops x.session u then x.got else x.got ++ got_in x.session u) ≡ x.got
-none_got x u e = if_first (drops x.session u) x.got (x.got ++ got_in x.session u) (ap (λ (g : List (List ℕ)). x.got ++ g) e ∙ append-nil x.got)
+pub none_got : (x : Party) (u : Meaning) → got_in x.session u ≡ []
+    → (if drops x.session u then x.got else x.got ++ got_in x.session u) ≡ x.got
+none_got x u e = if_first (drops x.session u) x.got (x.got ++ got_in x.session u)
+    (ap (λ (g : List (List ℕ)). x.got ++ g) e ∙ append-nil x.got)
 
 pub same_stream : (got : List (List ℕ)) (u : Meaning) (us : List Meaning) → data_in u ≡ [] → got ++ data_of us ≡ got ++ data_of (u ∷ us)
 same_stream got u us e = ap (λ (d : List (List ℕ)). got ++ (d ++ data_of us)) (sym e)
 
 -- a side that listens never has asked for a restart
 pub no_cut : (r : State) (us : List Meaning) → is_restarting r.phase ≡ false → AllFit r us → is_restarting (heard r us).phase ≡ true → ⊥
-no_cut r us listens f c = not_both _ (kept_heard (λ (q : State). hears q.phase ≡ true) (λ q m p g. next_hears q m p) r us (ap not listens) f) c
+no_cut r us listens f c = not_both _ (kept_heard (λ (q : State). hears q.phase ≡ true) (λ q m p g. next_hears q m p) r us
+    (ap not listens) f) c
 
 -- no answer is due at the other of a side that listens
 pub none_due_there : (o : Owners) (x y : Party) → Half o x y → Half (turned_owners o) y x → is_restarting x.session.phase ≡ false
@@ -178,8 +187,10 @@ calm_moves w u us r h k =
       gets = none_got w.own u k.plain.silent;
       history = if_second (is_acted_on w.own.session u) (cut_by w.own.session u w.history) w.history k.plain.history;
       owner = if_second (is_acted_on w.own.session u) (owners_after w.own.session u w.owner) w.owner k.plain.owner;
-      tokens = same_tokens w.owner w.own.session (flush w.own.session (u ∷ us)) (flush w.peer.session w.own.sent) (heard w.own.session (u ∷ us)) w.peer.session r h.own.meeting k.plain.held;
-      others = same_tokens (turned_owners w.owner) w.peer.session (flush w.peer.session w.own.sent) (flush w.own.session (u ∷ us)) (heard w.peer.session w.own.sent) w.own.session w.peer.session h.peer.meeting refl;
+      tokens = same_tokens w.owner w.own.session (flush w.own.session (u ∷ us)) (flush w.peer.session w.own.sent)
+          (heard w.own.session (u ∷ us)) w.peer.session r h.own.meeting k.plain.held;
+      others = same_tokens (turned_owners w.owner) w.peer.session (flush w.peer.session w.own.sent) (flush w.own.session (u ∷ us))
+          (heard w.peer.session w.own.sent) w.own.session w.peer.session h.peer.meeting refl;
       released = k.released;
       cut = λ c. absurd (no_cut r us k.hears (subst (λ (q : State). AllFit q us) k.next f.1)
           (subst (λ (q : State). is_restarting q.phase ≡ true) (heard_is w.own.session r u us k.plain.stays k.next) c));
@@ -200,7 +211,8 @@ calm_stands laws w u us r e s k =
 
 -- ---- a request for release
 
-pub finish_calm : (w : Core) (octets : List ℕ) (us : List Meaning) → drops w.own.session (FN octets) ≡ false → Stands (at w (FN octets ∷ us))
+pub finish_calm : (w : Core) (octets : List ℕ) (us : List Meaning) → drops w.own.session (FN octets) ≡ false
+    → Stands (at w (FN octets ∷ us))
     → Calm w (FN octets) us (record w.own.session { phase = ReleaseDue })
 finish_calm w octets us d h = grind arith
 
@@ -213,10 +225,12 @@ after_refusal w octets us d h r =
     let listens = excluded is_releasing is_restarting refl w.own.session.phase g.expected in
     let owed = none_owed w.owner w.own (rest_of w.peer (NF octets ∷ us)) h.own listens in
     let end = heard_flush w.peer.session w.own.sent h.peer.fits owed in
-    let there : is_release_due (flush w.peer.session w.own.sent).phase ≡ true = subst (λ (q : State). is_release_due q.phase ≡ true) end r in
+    let there : is_release_due (flush w.peer.session w.own.sent).phase ≡ true =
+    subst (λ (q : State). is_release_due q.phase ≡ true) end r in
     let here = implied_two (λ p q. matched p q && is_release_due p) (λ p q. is_releasing q) refl
     (flush w.peer.session w.own.sent).phase (flush w.own.session (NF octets ∷ us)).phase
-    (and_from (matched (flush w.peer.session w.own.sent).phase (flush w.own.session (NF octets ∷ us)).phase) (is_release_due (flush w.peer.session w.own.sent).phase) h.peer.meeting.meets there) in
+    (and_from (matched (flush w.peer.session w.own.sent).phase (flush w.own.session (NF octets ∷ us)).phase)
+    (is_release_due (flush w.peer.session w.own.sent).phase) h.peer.meeting.meets there) in
     let same : next w.own.session (NF octets) ≡ becomes w.own.session (NF octets) = next_acted w.own.session (NF octets) d in
     let lives : Lively (next w.own.session (NF octets)) = subst Lively (sym same) refl in
     by here (ends_lively (next w.own.session (NF octets)) us lives h.own.fits.1)
@@ -226,7 +240,8 @@ after_refusal w octets us d h r =
     by here (inl l) = both_ways _ (excluded is_releasing is_lively refl (flush w.own.session (NF octets ∷ us)).phase here) l
     by here (inr l) = both_ways _ (excluded is_releasing is_restart_due refl (flush w.own.session (NF octets ∷ us)).phase here) l
 
-pub not_finished_calm : (w : Core) (octets : List ℕ) (us : List Meaning) → drops w.own.session (NF octets) ≡ false → Stands (at w (NF octets ∷ us))
+pub not_finished_calm : (w : Core) (octets : List ℕ) (us : List Meaning) → drops w.own.session (NF octets) ≡ false
+    → Stands (at w (NF octets ∷ us))
     → Calm w (NF octets) us (record w.own.session { phase = Ready })
 not_finished_calm w octets us d h = search (arith, next_acted, after_refusal)
 
@@ -235,7 +250,8 @@ not_finished_calm w octets us d h = search (arith, next_acted, after_refusal)
 pub confirmed : State → ℕ → State
 confirmed s n = record s { numbers = minor_confirmed n s.numbers }
 
-pub point_confirmed_calm : (w : Core) (n : ℕ) (octets : List ℕ) (us : List Meaning) → drops w.own.session (MIA n octets) ≡ false → Stands (at w (MIA n octets ∷ us))
+pub point_confirmed_calm : (w : Core) (n : ℕ) (octets : List ℕ) (us : List Meaning) → drops w.own.session (MIA n octets) ≡ false
+    → Stands (at w (MIA n octets ∷ us))
     → Calm w (MIA n octets) us (confirmed w.own.session n)
 unfolding confirmed minor_confirmed
 point_confirmed_calm w n octets us d h = grind arith
@@ -245,7 +261,8 @@ point_confirmed_calm w n octets us d h = grind arith
 pub major_done : State → State
 major_done s = record s { phase = Ready; numbers = major_confirmed s.numbers }
 
-pub major_confirmed_calm : (w : Core) (n : ℕ) (octets : List ℕ) (us : List Meaning) → drops w.own.session (MAA n octets) ≡ false → Stands (at w (MAA n octets ∷ us))
+pub major_confirmed_calm : (w : Core) (n : ℕ) (octets : List ℕ) (us : List Meaning) → drops w.own.session (MAA n octets) ≡ false
+    → Stands (at w (MAA n octets ∷ us))
     → Calm w (MAA n octets) us (major_done w.own.session)
 unfolding major_done major_confirmed
 major_confirmed_calm w n octets us d h = grind arith

@@ -57,14 +57,18 @@ module _ (w : Core) (u : Meaning) (us : List Meaning) (r : State) (k : Tokens) w
   was_to_own : (t : Token) → Stands (at w (u ∷ us)) → Gains w u us r k → has k t ≡ true → w.owner t ≡ ToOwn
   was_to_own t h g e = search (arith, will_hold, to_own_is)
 
-  own_tokens : Stands (at w (u ∷ us)) → Gains w u us r k → Tokens_of (passed_to Own k w.owner) r (flush w.own.session (u ∷ us)) (heard w.own.session (u ∷ us))
+  own_tokens : Stands (at w (u ∷ us)) → Gains w u us r k
+      → Tokens_of (passed_to Own k w.owner) r (flush w.own.session (u ∷ us)) (heard w.own.session (u ∷ us))
   own_tokens h g = search (arith, will_hold, flush_is, flush_open, excluded, rest)
 
-  other_tokens : Stands (at w (u ∷ us)) → Gains w u us r k → Tokens_of (turned_owners (passed_to Own k w.owner)) w.peer.session (flush w.peer.session w.own.sent) (heard w.peer.session w.own.sent)
+  other_tokens : Stands (at w (u ∷ us)) → Gains w u us r k
+      → Tokens_of (turned_owners (passed_to Own k w.owner)) w.peer.session (flush w.peer.session w.own.sent)
+      (heard w.peer.session w.own.sent)
   other_tokens h g = search (arith, was_to_own, flush_is, flush_open, excluded, rest)
 
   pub gains_moves : Stands (at w (u ∷ us)) → Gains w u us r k → Moves w u us r w.own.view w.own.got (passed_to Own k w.owner)
-  gains_moves h g = search (arith, fit_acts, alive, none_got, if_second, own_tokens, other_tokens, no_cut, excluded, rest, heard_is, same_stream)
+  gains_moves h g =
+      search (arith, fit_acts, alive, none_got, if_second, own_tokens, other_tokens, no_cut, excluded, rest, heard_is, same_stream)
 
 pub gains_stand : SessionLaws → (w : Core) (u : Meaning) (us : List Meaning) (r : State) (k : Tokens) → w.peer.sent ≡ u ∷ us → Stands w
     → (Stands (at w (u ∷ us)) → Gains w u us r k) → Stands (taking w (u ∷ us))
@@ -77,11 +81,13 @@ gains_stand laws w u us r k e s g =
 gained : State → Tokens → State
 gained s k = record s { held = united s.held k }
 
-give_gains : (w : Core) (k : Tokens) (us : List Meaning) → drops w.own.session (GT k) ≡ false → Stands (at w (GT k ∷ us)) → Gains w (GT k) us (gained w.own.session k) k
+give_gains : (w : Core) (k : Tokens) (us : List Meaning) → drops w.own.session (GT k) ≡ false → Stands (at w (GT k ∷ us))
+    → Gains w (GT k) us (gained w.own.session k) k
 unfolding gained
 give_gains w k us d h = search (arith, and_parts, next_acted, disjoint_has, united_has, or_right, within_has, implied)
 
-pub give_taken : SessionLaws → (w : Core) (k : Tokens) (us : List Meaning) → w.peer.sent ≡ GT k ∷ us → drops w.own.session (GT k) ≡ false → Stands w
+pub give_taken : SessionLaws → (w : Core) (k : Tokens) (us : List Meaning) → w.peer.sent ≡ GT k ∷ us → drops w.own.session (GT k) ≡ false
+    → Stands w
     → Stands (taking w (GT k ∷ us))
 give_taken laws w k us e d s = gains_stand laws w (GT k) us (gained w.own.session k) k e s (give_gains w k us d)
 
@@ -91,14 +97,17 @@ bare_lacks s t e = ap (λ (k : Tokens). has k t) e ∙ none_held t
 
 -- ---- the answer to a restart
 
-answer_gains : (w : Core) (n : ℕ) (sides : TokenSetting) (o : List ℕ) (us : List Meaning) → drops w.own.session (RA n sides o) ≡ false → Stands (at w (RA n sides o ∷ us))
+answer_gains : (w : Core) (n : ℕ) (sides : TokenSetting) (o : List ℕ) (us : List Meaning) → drops w.own.session (RA n sides o) ≡ false
+    → Stands (at w (RA n sides o ∷ us))
     → Gains w (RA n sides o) us (becomes w.own.session (RA n sides o)) (of_asker w.own.session.units (stated w.own.session.units sides))
 answer_gains w n sides o us d h = search (arith, excluded, next_acted, bare_lacks, asker_there)
 
-pub restarted_taken : SessionLaws → (w : Core) (n : ℕ) (sides : TokenSetting) (o : List ℕ) (us : List Meaning) → w.peer.sent ≡ RA n sides o ∷ us
+pub restarted_taken : SessionLaws → (w : Core) (n : ℕ) (sides : TokenSetting) (o : List ℕ) (us : List Meaning)
+    → w.peer.sent ≡ RA n sides o ∷ us
     → drops w.own.session (RA n sides o) ≡ false → Stands w → Stands (taking w (RA n sides o ∷ us))
 restarted_taken laws w n sides o us e d s =
-    gains_stand laws w (RA n sides o) us (becomes w.own.session (RA n sides o)) (of_asker w.own.session.units (stated w.own.session.units sides)) e s
+    gains_stand laws w (RA n sides o) us (becomes w.own.session (RA n sides o))
+    (of_asker w.own.session.units (stated w.own.session.units sides)) e s
     (answer_gains w n sides o us d)
 
 -- ---- AC
@@ -106,9 +115,11 @@ restarted_taken laws w n sides o us e d s =
 abbrev agreed : State → ℕ → FunctionalUnits
 agreed s requirements = both_units s.units (functional_units requirements)
 
-accept_gains : (w : Core) (v : Bool) (u : ℕ) (n : Option ℕ) (sides : TokenSetting) (z : TsduMaximumSize) (o : List ℕ) (us : List Meaning) → drops w.own.session (AC v u n sides z o) ≡ false
+accept_gains : (w : Core) (v : Bool) (u : ℕ) (n : Option ℕ) (sides : TokenSetting) (z : TsduMaximumSize) (o : List ℕ) (us : List Meaning)
+    → drops w.own.session (AC v u n sides z o) ≡ false
     → Stands (at w (AC v u n sides z o ∷ us))
-    → Gains w (AC v u n sides z o) us (becomes w.own.session (AC v u n sides z o)) (of_asker (agreed w.own.session u) (stated (agreed w.own.session u) sides))
+    → Gains w (AC v u n sides z o) us (becomes w.own.session (AC v u n sides z o))
+    (of_asker (agreed w.own.session u) (stated (agreed w.own.session u) sides))
 accept_gains w v u n sides z o us d h =
     let g = h.own.fits.0.good d in
     let bare = h.consistent.own.sound.tokens (excluded is_connecting may_hold refl w.own.session.phase g.expected) in
@@ -127,17 +138,21 @@ accept_gains w v u n sides z o us d h =
       kept = λ t e. e ∙ sym (bare_lacks w.own.session t bare);
       there = λ t e. asker_there (agreed w.own.session u) (stated (agreed w.own.session u) sides) t e;
       phase = refl;
-      released = λ r. absurd (let a = h.peer.meeting.released r in let b = excluded is_connecting is_releasing refl w.own.session.phase g.expected in cc);
+      released = λ r. absurd (let a = h.peer.meeting.released r in
+          let b = excluded is_connecting is_releasing refl w.own.session.phase g.expected in cc);
       flag = λ f. absurd (cc);
-      below = λ l k from to. absurd (let low = h.peer_counts.below l k from to in let none : w.own.session.numbers.next ≡ 0 = rw fresh.numbers refl in omega arith);
+      below = λ l k from to. absurd (let low = h.peer_counts.below l k from to in
+          let none : w.own.session.numbers.next ≡ 0 = rw fresh.numbers refl in omega arith);
       reach = λ f. absurd (cc);
       caller = refl;
     }
 
-pub accept_taken : SessionLaws → (w : Core) (v : Bool) (u : ℕ) (n : Option ℕ) (sides : TokenSetting) (z : TsduMaximumSize) (o : List ℕ) (us : List Meaning) → w.peer.sent ≡ AC v u n sides z o ∷ us
+pub accept_taken : SessionLaws → (w : Core) (v : Bool) (u : ℕ) (n : Option ℕ) (sides : TokenSetting) (z : TsduMaximumSize) (o : List ℕ)
+    (us : List Meaning) → w.peer.sent ≡ AC v u n sides z o ∷ us
     → drops w.own.session (AC v u n sides z o) ≡ false → Stands w → Stands (taking w (AC v u n sides z o ∷ us))
 accept_taken laws w v u n sides z o us e d s =
-    gains_stand laws w (AC v u n sides z o) us (becomes w.own.session (AC v u n sides z o)) (of_asker (agreed w.own.session u) (stated (agreed w.own.session u) sides)) e s
+    gains_stand laws w (AC v u n sides z o) us (becomes w.own.session (AC v u n sides z o))
+    (of_asker (agreed w.own.session u) (stated (agreed w.own.session u) sides)) e s
     (accept_gains w v u n sides z o us d)
 
 -- ---- CN
@@ -145,13 +160,15 @@ accept_taken laws w v u n sides z o us e d s =
 abbrev called : State → ℕ → Option ℕ → TokenSetting → TsduMaximumSize → State
 called s u n x z = record s { phase = Answering; units = functional_units u; wishes = x; proposed = unwrap_or n 0; sizes = z }
 
-module _ (w : Core) (v : Bool) (u : ℕ) (n : Option ℕ) (x : TokenSetting) (from to : Option (List ℕ)) (z : TsduMaximumSize) (o : List ℕ) (us : List Meaning) (d : drops w.own.session (CN v u n x from to z o) ≡ false) (h : Stands (at w (CN v u n x from to z o ∷ us))) where
+module _ (w : Core) (v : Bool) (u : ℕ) (n : Option ℕ) (x : TokenSetting) (from to : Option (List ℕ)) (z : TsduMaximumSize) (o : List ℕ)
+    (us : List Meaning) (d : drops w.own.session (CN v u n x from to z o) ≡ false) (h : Stands (at w (CN v u n x from to z o ∷ us))) where
   -- a CN that can't be accepted would end the called side, and two sides in this invariant do not meet so
   pub acceptable : is_acceptable v u z ≡ true
   acceptable = by_test (is_acceptable v u z)
       (λ e. e)
       (λ e. absurd (not_both _
-      (implied_two matched (λ p q. not (is_over p)) refl (flush w.own.session ((CN v u n x from to z o) ∷ us)).phase (flush w.peer.session w.own.sent).phase h.own.meeting.meets)
+      (implied_two matched (λ p q. not (is_over p)) refl (flush w.own.session ((CN v u n x from to z o) ∷ us)).phase
+      (flush w.peer.session w.own.sent).phase h.own.meeting.meets)
       (over_kept (next w.own.session (CN v u n x from to z o)) us (ended e) f.1)))
     where
       f : AllFit w.own.session ((CN v u n x from to z o) ∷ us)
@@ -159,12 +176,15 @@ module _ (w : Core) (v : Bool) (u : ℕ) (n : Option ℕ) (x : TokenSetting) (fr
 
       ended : is_acceptable v u z ≡ false → is_over (next w.own.session (CN v u n x from to z o)).phase ≡ true
       ended e = ap (λ (r : State). is_over r.phase)
-          (next_acted w.own.session (CN v u n x from to z o) d ∙ ap (λ (b : Bool). if b then called w.own.session u n x z else without_tokens Ended w.own.session) e)
+          (next_acted w.own.session (CN v u n x from to z o) d
+          ∙ ap (λ (b : Bool). if b then called w.own.session u n x z else without_tokens Ended w.own.session) e)
 
   connect_calm : Calm w (CN v u n x from to z o) us (called w.own.session u n x z)
   connect_calm = search (arith, next_acted, acceptable)
 
-pub connect_taken : SessionLaws → (w : Core) (v : Bool) (u : ℕ) (n : Option ℕ) (x : TokenSetting) (from to : Option (List ℕ)) (z : TsduMaximumSize) (o : List ℕ) (us : List Meaning)
-    → w.peer.sent ≡ CN v u n x from to z o ∷ us → drops w.own.session (CN v u n x from to z o) ≡ false → Stands w → Stands (taking w (CN v u n x from to z o ∷ us))
+pub connect_taken : SessionLaws → (w : Core) (v : Bool) (u : ℕ) (n : Option ℕ) (x : TokenSetting) (from to : Option (List ℕ))
+    (z : TsduMaximumSize) (o : List ℕ) (us : List Meaning)
+    → w.peer.sent ≡ CN v u n x from to z o ∷ us → drops w.own.session (CN v u n x from to z o) ≡ false → Stands w
+    → Stands (taking w (CN v u n x from to z o ∷ us))
 connect_taken laws w v u n x from to z o us e d s =
     calm_stands laws w (CN v u n x from to z o) us (called w.own.session u n x z) e s (connect_calm w v u n x from to z o us d)

@@ -24,7 +24,8 @@ pub none_last : (s : State) (lost tail : List Meaning) → IsTail false s lost t
 none_last s lost tail h = grind arith
 
 -- one unit more
-pub carried_more : (broken : Bool) (channel : List Message) (sent : List Meaning) (s r : State) (m : Meaning) → Carried broken false channel sent s
+pub carried_more : (broken : Bool) (channel : List Message) (sent : List Meaning) (s r : State) (m : Meaning)
+    → Carried broken false channel sent s
     → Carried broken false (put broken (unit m ∷ []) channel) (sent ++ m ∷ []) r
 carried_more true channel sent s r m h = record {
   there = h.there;
@@ -40,15 +41,18 @@ carried_more false channel sent s r m h = record {
   lost = [];
   tail = [];
   splits = append-nil (sent ++ m ∷ []);
-  carries = ap (λ (ms : List Message). ms ++ unit m ∷ []) (h.carries ∙ ap (λ (us : List Meaning). map unit (h.there ++ us)) (none_last s h.lost h.tail h.last)
-      ∙ ap (map unit) (append-nil h.there ∙ sym (append-nil h.there) ∙ ap (λ (r : List Meaning). h.there ++ r) (sym (by_either h.whole (λ e. e) (λ e. absurd (cc)))) ∙ h.splits))
+  carries = ap (λ (ms : List Message). ms ++ unit m ∷ [])
+      (h.carries ∙ ap (λ (us : List Meaning). map unit (h.there ++ us)) (none_last s h.lost h.tail h.last)
+      ∙ ap (map unit) (append-nil h.there ∙ sym (append-nil h.there)
+      ∙ ap (λ (r : List Meaning). h.there ++ r) (sym (by_either h.whole (λ e. e) (λ e. absurd (cc)))) ∙ h.splits))
       ∙ sym (map-append unit sent (m ∷ [])) ∙ ap (map unit) (sym (append-nil (sent ++ m ∷ [])));
   whole = inl refl;
   last = tt;
 }
 
 -- the last unit of a side
-pub carried_last : (broken : Bool) (channel : List Message) (sent : List Meaning) (s : State) (m : Meaning) → IsLast s m → Carried broken false channel sent s
+pub carried_last : (broken : Bool) (channel : List Message) (sent : List Meaning) (s : State) (m : Meaning) → IsLast s m
+    → Carried broken false channel sent s
     → Carried broken true (put broken (unit m ∷ []) channel) sent s
 carried_last true channel sent s m k h = grind (arith, none_last)
 carried_last false channel sent s m k h = record {
@@ -56,8 +60,10 @@ carried_last false channel sent s m k h = record {
   lost = [];
   tail = m ∷ [];
   splits = append-nil sent;
-  carries = ap (λ (ms : List Message). ms ++ unit m ∷ []) (h.carries ∙ ap (λ (us : List Meaning). map unit (h.there ++ us)) (none_last s h.lost h.tail h.last)
-      ∙ ap (map unit) (append-nil h.there ∙ sym (append-nil h.there) ∙ ap (λ (r : List Meaning). h.there ++ r) (sym (by_either h.whole (λ e. e) (λ e. absurd (cc)))) ∙ h.splits))
+  carries = ap (λ (ms : List Message). ms ++ unit m ∷ [])
+      (h.carries ∙ ap (λ (us : List Meaning). map unit (h.there ++ us)) (none_last s h.lost h.tail h.last)
+      ∙ ap (map unit) (append-nil h.there ∙ sym (append-nil h.there)
+      ∙ ap (λ (r : List Meaning). h.there ++ r) (sym (by_either h.whole (λ e. e) (λ e. absurd (cc)))) ∙ h.splits))
       ∙ sym (map-append unit sent (m ∷ []));
   whole = inl refl;
   last = (refl, refl, k);
@@ -74,7 +80,8 @@ left_theirs s o t = by_test (is_over s.phase) (λ e. rw e (sym (given_theirs (o 
 pub own_gone : (p : Owner) → is_own (own_to_pool p) ≡ false
 own_gone p = grind arith
 
-owns_called : (s : State) (c : Call) (o p : Owners) (t : Token) → is_own (o t) ≡ is_own (p t) → is_own (owners_called s c o t) ≡ is_own (owners_called s c p t)
+owns_called : (s : State) (c : Call) (o p : Owners) (t : Token) → is_own (o t) ≡ is_own (p t)
+    → is_own (owners_called s c o t) ≡ is_own (owners_called s c p t)
 owns_called s c o p t e = grind (arith, own_gone)
 
 theirs_called : (s : State) (c : Call) (o p : Owners) (t : Token) → is_own (turned_owner (o t)) ≡ is_own (turned_owner (p t))
@@ -89,20 +96,24 @@ call_lives s c k l = grind arith
 call_plain : (s : State) (c : Call) → stays_in_core c ≡ true → is_plain (sends s c) ≡ true
 call_plain s c k = grind arith
 
-marked : (c : Core) (x : Call) (h : List Item) (mark : ℕ) → Stands c → Passed c.own.session x (record { next = after c.own.session x; sent = sends c.own.session x })
+marked : (c : Core) (x : Call) (h : List Item) (mark : ℕ) → Stands c
+    → Passed c.own.session x (record { next = after c.own.session x; sent = sends c.own.session x })
     → h ≡ c.history → mark ≡ length c.own.view → mark_called c.own.session x h mark ≡ length (view_called c.own.session x c.own.view)
 marked c x h mark s p e m = search (arith, in_range, same_cut, sees_the_history, length-append)
 
-called_own : (broken : Bool) (w : World) (c : Core) (x : Call) → stays_in_core x ≡ true → stopped w.own ≡ false → Projects broken w c → Stands c
+called_own : (broken : Bool) (w : World) (c : Core) (x : Call) → stays_in_core x ≡ true → stopped w.own ≡ false → Projects broken w c
+    → Stands c
     → Passed c.own.session x (granted c.own.session x)
     → OneSide broken (after_call broken c.own.session x (granted c.own.session x) w) (answered c x (Ok (granted c.own.session x)))
 called_own broken w c x k lives p s q = search (arith, call_lives, marked, left_lives, owns_called, any_append, call_plain)
 
-pub call_projects : SessionLaws → (broken : Bool) (w : World) (c : Core) (x : Call) (g : Granted) → stays_in_core x ≡ true → stopped w.own ≡ false → Projects broken w c → Stands c
+pub call_projects : SessionLaws → (broken : Bool) (w : World) (c : Core) (x : Call) (g : Granted) → stays_in_core x ≡ true
+    → stopped w.own ≡ false → Projects broken w c → Stands c
     → allowed c.own.session x ≡ Ok g → Projects broken (after_call broken c.own.session x g w) (answered c x (Ok g))
 call_projects laws broken w c x g k lives p s e =
     let q = laws.passed c.own.session x g e in
-    let same : Passed c.own.session x (granted c.own.session x) = record { phase = q.phase; needed = q.needed; size = q.size; limit = q.limit; gives = refl } in
+    let same : Passed c.own.session x (granted c.own.session x) =
+    record { phase = q.phase; needed = q.needed; size = q.size; limit = q.limit; gives = refl } in
     subst (λ (r : Granted). Projects broken (after_call broken c.own.session x r w) (answered c x (Ok r))) (sym q.gives) (record {
       history = ap (λ (h : List Item). h ++ says c.own.session x) p.history;
       own = called_own broken w c x k lives p s same;
@@ -116,7 +127,8 @@ call_projects laws broken w c x g k lives p s e =
             alike = λ l.
                 let a = p.peer.alike l in
                 grind (arith, left_theirs, theirs_called);
-            carried = λ l. subst (λ (b : Bool). Carried broken b (put broken (unit (sends s' x) ∷ []) w.own.channel) (c.own.sent ++ sends s' x ∷ []) (after s' x)) (sym now)
+            carried = λ l. subst (λ (b : Bool). Carried broken b (put broken (unit (sends s' x) ∷ []) w.own.channel)
+                (c.own.sent ++ sends s' x ∷ []) (after s' x)) (sym now)
                 (carried_more broken w.own.channel c.own.sent s' (after s' x) (sends s' x)
                 (subst (λ (b : Bool). Carried broken b w.own.channel c.own.sent s') lives (p.peer.carried l)));
             parted = p.peer.parted;
@@ -143,7 +155,8 @@ stop_numbers s c k = grind arith
 stop_mark : (s : State) (c : Call) (h : List Item) (mark : ℕ) → stays_in_core c ≡ false → mark_called s c h mark ≡ mark
 stop_mark s c h mark k = grind arith
 
-pub stop_projects : SessionLaws → (broken : Bool) (w : World) (c : Core) (x : Call) (g : Granted) → stays_in_core x ≡ false → stopped w.own ≡ false → Projects broken w c
+pub stop_projects : SessionLaws → (broken : Bool) (w : World) (c : Core) (x : Call) (g : Granted) → stays_in_core x ≡ false
+    → stopped w.own ≡ false → Projects broken w c
     → allowed c.own.session x ≡ Ok g → Projects broken (after_call broken c.own.session x g w) c
 stop_projects laws broken w c x g k lives p e =
     let q = laws.passed c.own.session x g e in

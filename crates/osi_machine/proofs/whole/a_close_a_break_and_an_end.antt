@@ -26,11 +26,20 @@ cut_tail : (k : ℕ) (over_now : Bool) (s : State) (lost tail : List Meaning) �
 cut_tail zero over_now s lost tail h = record { kept = []; gone_now = lost; rest = []; splits = refl; carries = refl; last = tt }
 cut_tail (suc k) over_now s lost [] h = record { kept = []; gone_now = lost; rest = []; splits = refl; carries = refl; last = tt }
 cut_tail (suc k) over_now s lost (u ∷ []) h =
-    record { kept = []; gone_now = lost; rest = u ∷ []; splits = refl; carries = ap (λ (ms : List Message). unit u ∷ ms) (none_taken k); last = h }
+    record {
+      kept = [];
+      gone_now = lost;
+      rest = u ∷ [];
+      splits = refl;
+      carries = ap (λ (ms : List Message). unit u ∷ ms) (none_taken k);
+      last = h;
+    }
 cut_tail (suc k) over_now s lost (u ∷ v ∷ us) h = absurd (h)
 
-cut_there : (k : ℕ) (over_now : Bool) (s : State) (there lost tail : List Meaning) → IsTail over_now s lost tail → Cut k over_now s there lost tail
-cut_there zero over_now s there lost tail h = record { kept = []; gone_now = there ++ lost; rest = []; splits = refl; carries = refl; last = tt }
+cut_there : (k : ℕ) (over_now : Bool) (s : State) (there lost tail : List Meaning) → IsTail over_now s lost tail
+    → Cut k over_now s there lost tail
+cut_there zero over_now s there lost tail h =
+    record { kept = []; gone_now = there ++ lost; rest = []; splits = refl; carries = refl; last = tt }
 cut_there (suc k) over_now s [] lost tail h = cut_tail (suc k) over_now s lost tail h
 cut_there (suc k) over_now s (u ∷ there) lost tail h =
     let c = cut_there k over_now s there lost tail h in
@@ -47,7 +56,8 @@ more_over : (a b : Bool) (s : State) (lost tail : List Meaning) → (a ≡ true 
 more_over a b s lost tail f h = grind arith
 
 -- if the sender is over or the connection broken
-carried_cut : (k : ℕ) (broken broken' a b : Bool) (channel : List Message) (sent : List Meaning) (s : State) → (a ≡ true → b ≡ true) → (b || broken') ≡ true
+carried_cut : (k : ℕ) (broken broken' a b : Bool) (channel : List Message) (sent : List Meaning) (s : State) → (a ≡ true → b ≡ true)
+    → (b || broken') ≡ true
     → Carried broken a channel sent s → Carried broken' b (take k channel) sent s
 carried_cut k broken broken' a b channel sent s f w h =
     let c = cut_there k b s h.there h.lost h.tail (more_over a b s h.lost h.tail f h.last) in
@@ -59,27 +69,26 @@ none_parts (suc k) [] h = refl
 none_parts (suc k) (m ∷ ms) h = let p = or_parts (parts m) (list_any parts ms) h in let q = none_parts k ms p.1 in rw (p.0, q) refl
 
 cut_side : (k j : ℕ) (broken : Bool) (w : World) (c : Core) → OneSide broken w c
-    → OneSide true (record w { own = record w.own { channel = take k w.own.channel }; peer = record w.peer { channel = take j w.peer.channel } }) c
+    → OneSide true (record w {
+      own = record w.own { channel = take k w.own.channel };
+      peer = record w.peer
+          { channel = take j w.peer.channel };
+    }) c
 cut_side k j broken w c h = record {
   begun = h.begun;
   counted = h.counted;
-  alike = λ l. let a = h.alike l in record { transport = a.transport; kept = a.kept; mark = a.mark; said = a.said; got = a.got; owns = a.owns };
-  carried = λ l. carried_cut j broken true (stopped w.peer) (stopped w.peer) w.peer.channel c.peer.sent c.peer.session (λ e. e) (or_true (stopped w.peer)) (h.carried l);
+  alike = λ l. let a = h.alike l in record {
+    transport = a.transport;
+    kept = a.kept;
+    mark = a.mark;
+    said = a.said;
+    got = a.got;
+    owns = a.owns;
+  };
+  carried = λ l. carried_cut j broken true (stopped w.peer) (stopped w.peer) w.peer.channel c.peer.sent c.peer.session (λ e. e)
+      (or_true (stopped w.peer)) (h.carried l);
   parted = λ l. none_parts k w.own.channel (h.parted l);
 }
-
-pub break_projects : (k j : ℕ) (broken : Bool) (w : World) (c : Core) → Projects broken w c
-    → Projects true (record w { own = record w.own { channel = take k w.own.channel }; peer = record w.peer { channel = take j w.peer.channel } }) c
-break_projects k j broken w c p = assumption (cut_side k j broken w c p.own, cut_side j k broken (turned_world w) (turned c) p.peer)
-
--- ---- the end of a side
-
--- what a broken connection leaves in a channel
-ended_peer : (k : ℕ) (broken : Bool) (w : World) (c : Core) → OneSide broken (turned_world w) (turned c) → OneSide broken (turned_world (ended_at k w)) (turned c)
-ended_peer k broken w c h = search (arith, left_theirs, carried_cut)
-
-pub end_projects : (k : ℕ) (broken : Bool) (w : World) (c : Core) → Projects broken w c → Projects broken (ended_at k w) c
-end_projects k broken w c p = assumption (one_over broken (ended_at k w) c refl refl p.own.counted, ended_peer k broken w c p.peer)
 
 abbrev pub is_unit : Message → Bool
 is_unit (unit u) = true
@@ -89,39 +98,53 @@ units_alone : (m : Message) (ms : List Message) (us : List Meaning) → m ∷ ms
 units_alone m ms [] e = absurd (cc)
 units_alone m ms (u ∷ us) e = let same : m ≡ unit u = cc in ap is_unit same
 
--- only units are in flight to it
-pub comes_unit : (broken : Bool) (w : World) (c : Core) (m : Message) (ms : List Message) → Projects broken w c → stopped w.own ≡ false → w.peer.channel ≡ m ∷ ms → is_unit m ≡ true
-comes_unit broken w c m ms p l e = let k = p.own.carried l in units_alone m ms (k.there ++ k.tail) (sym e ∙ k.carries)
-
--- and whose sender is not over when a message parts
-pub parting_over : (broken : Bool) (w : World) (c : Core) (m : Message) (ms : List Message) → Projects broken w c → w.peer.channel ≡ m ∷ ms → parts m ≡ true → stopped w.peer ≡ true
-parting_over broken w c m ms p e q = grind arith
-
 abbrev pub is_linked : Transport → Bool
 is_linked linked = true
 is_linked _ = false
 
--- a side whose transport connection is not open is over
-pub unlinked_over : (broken : Bool) (w : World) (c : Core) → Projects broken w c → is_linked w.own.transport ≡ false → stopped w.own ≡ true
-unlinked_over broken w c p e = grind arith
+module _ (broken : Bool) (w : World) (c : Core) (p : Projects broken w c) where
+  pub break_projects : (k j : ℕ) → Projects true
+      (record w { own = record w.own { channel = take k w.own.channel }; peer = record w.peer { channel = take j w.peer.channel } }) c
+  break_projects k j = assumption (cut_side k j broken w c p.own, cut_side j k broken (turned_world w) (turned c) p.peer)
 
--- ---- a message that changes nothing
+  -- ---- the end of a side
 
-popped_peer : (broken : Bool) (w : World) (c : Core) (m : Message) (ms : List Message) → OneSide broken (turned_world w) (turned c) → w.peer.channel ≡ m ∷ ms
-    → OneSide broken (turned_world (without_first w ms)) (turned c)
-popped_peer broken w c m ms h e = grind (arith, or_parts, parts)
+  -- what a broken connection leaves in a channel
+  ended_peer : (k : ℕ) → OneSide broken (turned_world w) (turned c) → OneSide broken (turned_world (ended_at k w)) (turned c)
+  ended_peer k h = search (arith, left_theirs, carried_cut)
 
--- at a side that is over
-pub popped_projects : (broken : Bool) (w : World) (c : Core) (m : Message) (ms : List Message) → Projects broken w c → stopped w.own ≡ true → w.peer.channel ≡ m ∷ ms
-    → Projects broken (without_first w ms) c
-popped_projects broken w c m ms p o e = assumption (one_over broken (without_first w ms) c p.own.begun o p.own.counted, popped_peer broken w c m ms p.peer e)
+  pub end_projects : (k : ℕ) → Projects broken (ended_at k w) c
+  end_projects k = assumption (one_over broken (ended_at k w) c refl refl p.own.counted, ended_peer k p.peer)
 
--- ---- a close, at a side that is over and from a side that is over
+  -- only units are in flight to it
+  pub comes_unit : (m : Message) (ms : List Message) → stopped w.own ≡ false → w.peer.channel ≡ m ∷ ms → is_unit m ≡ true
+  comes_unit m ms l e = let k = p.own.carried l in units_alone m ms (k.there ++ k.tail) (sym e ∙ k.carries)
 
-pub closed_projects : (broken : Bool) (k : ℕ) (w : World) (c : Core) → Projects broken w c → stopped w.own ≡ true → stopped w.peer ≡ true → Projects broken (closed broken k w) c
-closed_projects broken k w c p o d = both_over broken (closed broken k w) c p.history refl o p.peer.begun d p.own.counted p.peer.counted
+  -- and whose sender is not over when a message parts
+  pub parting_over : (m : Message) (ms : List Message) → w.peer.channel ≡ m ∷ ms → parts m ≡ true → stopped w.peer ≡ true
+  parting_over m ms e q = grind arith
 
--- a bye is taken by a side whose transport connection is open
-pub bye_projects : (broken : Bool) (k : ℕ) (w : World) (c : Core) (reason : ℕ) (ms : List Message) → Projects broken w c → w.peer.channel ≡ bye reason ∷ ms
-    → Projects broken (moved broken gone (lost (session_of (without_first w ms))).next (over ∷ []) (shortened k (without_first w ms))) c
-bye_projects broken k w c reason ms p e = grind arith
+  -- a side whose transport connection is not open is over
+  pub unlinked_over : is_linked w.own.transport ≡ false → stopped w.own ≡ true
+  unlinked_over e = grind arith
+
+  -- ---- a message that changes nothing
+
+  popped_peer : (m : Message) (ms : List Message) → OneSide broken (turned_world w) (turned c) → w.peer.channel ≡ m ∷ ms
+      → OneSide broken (turned_world (without_first w ms)) (turned c)
+  popped_peer m ms h e = grind (arith, or_parts, parts)
+
+  -- at a side that is over
+  pub popped_projects : (m : Message) (ms : List Message) → stopped w.own ≡ true → w.peer.channel ≡ m ∷ ms
+      → Projects broken (without_first w ms) c
+  popped_projects m ms o e = assumption (one_over broken (without_first w ms) c p.own.begun o p.own.counted, popped_peer m ms p.peer e)
+
+  -- ---- a close, at a side that is over and from a side that is over
+
+  pub closed_projects : (k : ℕ) → stopped w.own ≡ true → stopped w.peer ≡ true → Projects broken (closed broken k w) c
+  closed_projects k o d = both_over broken (closed broken k w) c p.history refl o p.peer.begun d p.own.counted p.peer.counted
+
+  -- a bye is taken by a side whose transport connection is open
+  pub bye_projects : (k reason : ℕ) (ms : List Message) → w.peer.channel ≡ bye reason ∷ ms
+      → Projects broken (moved broken gone (lost (session_of (without_first w ms))).next (over ∷ []) (shortened k (without_first w ms))) c
+  bye_projects k reason ms e = grind arith

@@ -31,10 +31,12 @@ cuts_alike : (c : Core) (u : Meaning) (us : List Meaning) → Stands (at c (u �
 cuts_alike c (RS k n x o) us s = cut_seen c k n x o us s
 cuts_alike c _ us s = tt
 
-seen_mark : (s : State) (u : Meaning) (h v : List Item) (mark : ℕ) → CutsAlike s u h v → mark ≡ length v → mark_after s u h mark ≡ length (seen s u v)
+seen_mark : (s : State) (u : Meaning) (h v : List Item) (mark : ℕ) → CutsAlike s u h v → mark ≡ length v
+    → mark_after s u h mark ≡ length (seen s u v)
 seen_mark s u h v mark cut e = grind (arith, length-append)
 
-owns_after : (s : State) (u : Meaning) (o p : Owners) (t : Token) → is_own (o t) ≡ is_own (p t) → is_own (owners_after s u o t) ≡ is_own (owners_after s u p t)
+owns_after : (s : State) (u : Meaning) (o p : Owners) (t : Token) → is_own (o t) ≡ is_own (p t)
+    → is_own (owners_after s u o t) ≡ is_own (owners_after s u p t)
 owns_after s (GT k) o p t e = by_test (has k t) (λ q. rw q) (λ q. rw q e)
 owns_after s (AC v r n x z y) o p t e = by_test (has (becomes s (AC v r n x z y)).held t) (λ l. rw l) (λ l. rw l e)
 owns_after s (RA n x y) o p t e = by_test (has (becomes s (RA n x y)).held t) (λ c. rw c) (λ c. rw c e)
@@ -51,7 +53,8 @@ theirs_after s _ o p t e = e
 
 -- ---- a unit of the core is answered by none
 
-plain_reply : (s : State) (u : Meaning) → is_plain u ≡ true → ((v : Bool) (r : ℕ) (n : Option ℕ) (x : TokenSetting) (from to : Option (List ℕ)) (z : TsduMaximumSize) (o : List ℕ)
+plain_reply : (s : State) (u : Meaning) → is_plain u ≡ true
+    → ((v : Bool) (r : ℕ) (n : Option ℕ) (x : TokenSetting) (from to : Option (List ℕ)) (z : TsduMaximumSize) (o : List ℕ)
     → u ≡ CN v r n x from to z o → is_acceptable v r z ≡ true) → reply_for u ≡ None
 plain_reply s (CN v r n x from to z o) p k = by v (has_data (functional_units r) && are_sizes z) (k v r n x from to z o refl)
   where
@@ -96,23 +99,30 @@ module _ (broken : Bool) (w : World) (c : Core) (u : Meaning) (us : List Meaning
   was_alike : Alike w c
   was_alike = k.old.own.alike k.lives
 
-  taker_mark : (if is_acted_on c.own.session u then mark_after c.own.session u w.history w.own.mark else w.own.mark) ≡ length (if is_acted_on c.own.session u then seen c.own.session u c.own.view else c.own.view)
+  taker_mark : (if is_acted_on c.own.session u then mark_after c.own.session u w.history w.own.mark else w.own.mark)
+      ≡ length (if is_acted_on c.own.session u then seen c.own.session u c.own.view else c.own.view)
   taker_mark = search (arith, seen_mark, cuts_alike, was_alike)
 
-  taker_owns : (t : Token) → is_own (left_by (respond_unit c.own.session u).next (if is_acted_on c.own.session u then owners_after c.own.session u w.owner else w.owner) t) ≡ is_own ((if is_acted_on c.own.session u then owners_after c.own.session u c.owner else c.owner) t)
+  taker_owns : (t : Token) → is_own (left_by (respond_unit c.own.session u).next
+      (if is_acted_on c.own.session u then owners_after c.own.session u w.owner else w.owner) t) ≡ is_own
+      ((if is_acted_on c.own.session u then owners_after c.own.session u c.owner else c.owner) t)
   taker_owns t =
       ap (λ (o : Owners). is_own (o t))
-      (left_lives (respond_unit c.own.session u).next (if is_acted_on c.own.session u then owners_after c.own.session u w.owner else w.owner) lives_then)
+      (left_lives (respond_unit c.own.session u).next
+      (if is_acted_on c.own.session u then owners_after c.own.session u w.owner else w.owner) lives_then)
       ∙ by (is_acted_on c.own.session u)
     where
-      by : (b : Bool) → is_own ((if b then owners_after c.own.session u w.owner else w.owner) t) ≡ is_own ((if b then owners_after c.own.session u c.owner else c.owner) t)
+      by : (b : Bool) → is_own ((if b then owners_after c.own.session u w.owner else w.owner) t)
+          ≡ is_own ((if b then owners_after c.own.session u c.owner else c.owner) t)
       by true = owns_after c.own.session u w.owner c.owner t ((was_alike).owns t)
       by false = (was_alike).owns t
 
 -- its sender
-carried_on : (broken : Bool) (channel channel' : List Message) (sent : List Meaning) (s r : State) (b : Bool) → channel' ≡ channel → b ≡ false → Carried broken false channel sent s
+carried_on : (broken : Bool) (channel channel' : List Message) (sent : List Meaning) (s r : State) (b : Bool) → channel' ≡ channel
+    → b ≡ false → Carried broken false channel sent s
     → Carried broken b channel' sent r
-carried_on broken channel channel' sent s r b e f h = subst (λ (x : Bool). Carried broken x channel' sent r) (sym f) (grind (arith, none_last))
+carried_on broken channel channel' sent s r b e f h =
+    subst (λ (x : Bool). Carried broken x channel' sent r) (sym f) (grind (arith, none_last))
 
 giver_side : (broken : Bool) (w : World) (c : Core) (u : Meaning) (us : List Meaning) (ms : List Message) → Takes broken w c u us ms
     → OneSide broken (turned_world (took broken w c u ms)) (turned (taking c (u ∷ us)))
@@ -127,20 +137,24 @@ giver_side broken w c u us ms k = record {
         mark = a.mark;
         said = a.said;
         got = a.got;
-        owns = λ t. left_theirs (respond_unit c.own.session u).next (if is_acted_on c.own.session u then owners_after c.own.session u w.owner else w.owner) t
+        owns = λ t. left_theirs (respond_unit c.own.session u).next
+            (if is_acted_on c.own.session u then owners_after c.own.session u w.owner else w.owner) t
             ∙ theirs l t (is_acted_on c.own.session u);
       };
-  carried = λ l. carried_on broken w.own.channel _ c.own.sent c.own.session (respond_unit c.own.session u).next _ (same_channel broken w c u us ms k) (lives_then broken w c u us ms k)
+  carried = λ l. carried_on broken w.own.channel _ c.own.sent c.own.session (respond_unit c.own.session u).next _
+      (same_channel broken w c u us ms k) (lives_then broken w c u us ms k)
       (subst (λ (b : Bool). Carried broken b w.own.channel c.own.sent c.own.session) k.lives (k.old.peer.carried l));
   parted = λ l. (or_parts (parts (unit u)) (list_any parts ms) (ap (list_any parts) (sym k.channel) ∙ k.old.peer.parted l)).1;
 }
   where
     theirs : stopped w.peer ≡ false → (t : Token) (b : Bool)
-        → is_own (turned_owner ((if b then owners_after c.own.session u w.owner else w.owner) t)) ≡ is_own (turned_owner ((if b then owners_after c.own.session u c.owner else c.owner) t))
+        → is_own (turned_owner ((if b then owners_after c.own.session u w.owner else w.owner) t))
+        ≡ is_own (turned_owner ((if b then owners_after c.own.session u c.owner else c.owner) t))
     theirs l t true = theirs_after c.own.session u w.owner c.owner t ((k.old.peer.alike l).owns t)
     theirs l t false = (k.old.peer.alike l).owns t
 
-pub take_projects : (broken : Bool) (w : World) (c : Core) (u : Meaning) (us : List Meaning) (ms : List Message) → Projects broken w c → Stands (at c (u ∷ us)) → Stands (taking c (u ∷ us))
+pub take_projects : (broken : Bool) (w : World) (c : Core) (u : Meaning) (us : List Meaning) (ms : List Message) → Projects broken w c
+    → Stands (at c (u ∷ us)) → Stands (taking c (u ∷ us))
     → stopped w.own ≡ false → w.peer.channel ≡ unit u ∷ ms → Carried broken (stopped w.peer) ms us c.peer.session
     → Projects broken (took broken w c u ms) (taking c (u ∷ us))
 take_projects broken w c u us ms p all then_all lives e rest =
@@ -156,7 +170,8 @@ take_projects broken w c u us ms p all then_all lives e rest =
           mark = taker_mark broken w c u us ms k;
           said = (was_alike broken w c u us ms k).said;
           got = by_test (is_acted_on c.own.session u)
-              (λ e. rw e (ap (λ (n : ℕ). n + length (got_in c.own.session u)) (was_alike broken w c u us ms k).got ∙ sym (length-append c.own.got (got_in c.own.session u))))
+              (λ e. rw e (ap (λ (n : ℕ). n + length (got_in c.own.session u)) (was_alike broken w c u us ms k).got
+              ∙ sym (length-append c.own.got (got_in c.own.session u))))
               (λ e. rw e (was_alike broken w c u us ms k).got);
           owns = taker_owns broken w c u us ms k;
         };
@@ -179,24 +194,30 @@ pub record Last (over_now : Bool) (u : Meaning) (ms : List Message) (sent : List
   pub last : IsLast s u
 
 split_there : (broken over_now : Bool) (u : Meaning) (ms : List Message) (s : State) (v : Meaning) (vs lost tail : List Meaning)
-    → unit u ∷ ms ≡ map unit ((v ∷ vs) ++ tail) → (lost ≡ []) ⊎ ((over_now || broken) ≡ true) → IsTail over_now s lost tail → First broken over_now u ms ((v ∷ vs) ++ lost) s
+    → unit u ∷ ms ≡ map unit ((v ∷ vs) ++ tail) → (lost ≡ []) ⊎ ((over_now || broken) ≡ true) → IsTail over_now s lost tail
+    → First broken over_now u ms ((v ∷ vs) ++ lost) s
 split_there broken over_now u ms s v vs lost tail e whole last = grind arith
 
-split_tail : (over_now : Bool) (u : Meaning) (ms : List Message) (s : State) (lost tail : List Meaning) → unit u ∷ ms ≡ map unit tail → IsTail over_now s lost tail → Last over_now u ms lost s
+split_tail : (over_now : Bool) (u : Meaning) (ms : List Message) (s : State) (lost tail : List Meaning) → unit u ∷ ms ≡ map unit tail
+    → IsTail over_now s lost tail → Last over_now u ms lost s
 split_tail over_now u ms s lost tail e last = grind (arith, IsLast)
 
-pub split_first : (broken over_now : Bool) (u : Meaning) (ms : List Message) (sent : List Meaning) (s : State) → Carried broken over_now (unit u ∷ ms) sent s
+pub split_first : (broken over_now : Bool) (u : Meaning) (ms : List Message) (sent : List Meaning) (s : State)
+    → Carried broken over_now (unit u ∷ ms) sent s
     → First broken over_now u ms sent s ⊎ Last over_now u ms sent s
 split_first broken over_now u ms sent s h = by h.there h.splits h.carries
   where
-    by : (there : List Meaning) → there ++ h.lost ≡ sent → unit u ∷ ms ≡ map unit (there ++ h.tail) → First broken over_now u ms sent s ⊎ Last over_now u ms sent s
+    by : (there : List Meaning) → there ++ h.lost ≡ sent → unit u ∷ ms ≡ map unit (there ++ h.tail)
+        → First broken over_now u ms sent s ⊎ Last over_now u ms sent s
     by [] e f = inr (subst (λ (us : List Meaning). Last over_now u ms us s) e (split_tail over_now u ms s h.lost h.tail f h.last))
-    by (v ∷ vs) e f = inl (subst (λ (us : List Meaning). First broken over_now u ms us s) e (split_there broken over_now u ms s v vs h.lost h.tail f h.whole h.last))
+    by (v ∷ vs) e f = inl (subst (λ (us : List Meaning). First broken over_now u ms us s) e
+        (split_there broken over_now u ms s v vs h.lost h.tail f h.whole h.last))
 
 -- ---- DN arrives at a side that has requested release, and RF at one that has requested the connection
 
 -- a side that owes the answer to a release owes it until a restart takes effect
-none_acts : (s : State) (u : Meaning) → is_release_due s.phase ≡ true → is_plain u ≡ true → stops s u ≡ false → is_expected s.phase u ≡ false
+none_acts : (s : State) (u : Meaning) → is_release_due s.phase ≡ true → is_plain u ≡ true → stops s u ≡ false
+    → is_expected s.phase u ≡ false
 unfolding stands
 none_acts s u h k st = grind arith
 
@@ -204,15 +225,19 @@ still_owes : (s : State) (us : List Meaning) → is_release_due s.phase ≡ true
 still_owes s [] h f = h
 still_owes s (u ∷ us) h f = by_test (stops s u)
     (λ e. rw e h)
-    (λ e. rw e (let more : (stops s u ≡ false → is_release_due (heard (next s u) us).phase ≡ true) = (λ e. still_owes (next s u) us (kept e) f.1) in more e))
+    (λ e. rw e (let more : (stops s u ≡ false → is_release_due (heard (next s u) us).phase ≡ true) = (λ e. still_owes (next s u) us
+    (kept e) f.1) in more e))
   where
     kept : stops s u ≡ false → is_release_due (next s u).phase ≡ true
-    kept e = fit_cases (λ r. is_release_due r.phase ≡ true) s u f.0 h (λ d g. absurd (let n = none_acts s u h f.0.plain e in let x = g.expected in cc))
+    kept e = fit_cases (λ r. is_release_due r.phase ≡ true) s u f.0 h
+        (λ d g. absurd (let n = none_acts s u h f.0.plain e in let x = g.expected in cc))
 
-connecting_now : (c : Core) → Stands c → c.peer.sent ≡ [] → is_answering c.peer.session.phase ≡ true → is_connecting c.own.session.phase ≡ true
+connecting_now : (c : Core) → Stands c → c.peer.sent ≡ [] → is_answering c.peer.session.phase ≡ true
+    → is_connecting c.own.session.phase ≡ true
 connecting_now c s none a = search (arith, all_empty, none_answering, excluded, empty_end, implied_two, and_from)
 
-pub last_good : (c : Core) (u : Meaning) → Stands c → c.peer.sent ≡ [] → IsLast c.peer.session u → respond_unit c.own.session u ≡ good c.own.session u
+pub last_good : (c : Core) (u : Meaning) → Stands c → c.peer.sent ≡ [] → IsLast c.peer.session u
+    → respond_unit c.own.session u ≡ good c.own.session u
 last_good c u s none l = search (arith, acts_good, alive, and_false, still_owes, excluded, connecting_now)
 
 good_over : (s r : State) (u : Meaning) → IsLast r u → is_over (good s u).next.phase ≡ true
@@ -232,8 +257,10 @@ last_mark s r u h mark l = grind arith
 
 -- both sides are over after it
 pub last_projects : (broken : Bool) (w : World) (c : Core) (u : Meaning) (ms : List Message) → Projects broken w c → Stands c
-    → Last (stopped w.peer) u ms c.peer.sent c.peer.session → (stopped (took broken w c u ms).own ≡ true) × Projects broken (took broken w c u ms) c
-last_projects broken w c u ms p s l = search (arith, last_good, good_over, both_over, if_second, last_cuts, last_numbers, last_base, last_mark)
+    → Last (stopped w.peer) u ms c.peer.sent c.peer.session
+    → (stopped (took broken w c u ms).own ≡ true) × Projects broken (took broken w c u ms) c
+last_projects broken w c u ms p s l =
+    search (arith, last_good, good_over, both_over, if_second, last_cuts, last_numbers, last_base, last_mark)
 
 -- ---- a side that is over
 
@@ -249,7 +276,8 @@ unfolding respond_unit
 over_nothing s u o p = grind arith
 
 -- it stays as it is, or is ended
-pub over_as : (P : State → Type 0) (s : State) (u : Meaning) → is_over s.phase ≡ true → P s → P (without_tokens Ended s) → P (respond_unit s u).next
+pub over_as : (P : State → Type 0) (s : State) (u : Meaning) → is_over s.phase ≡ true → P s → P (without_tokens Ended s)
+    → P (respond_unit s u).next
 unfolding respond_unit
 over_as P s u o same ended_now = grind arith
 
@@ -257,27 +285,39 @@ over_as P s u o same ended_now = grind arith
 abbrev pub ignored : Bool → World → Meaning → List Message → World
 ignored broken w u ms = after_unit broken (session_of (without_first w ms)) u (without_first w ms)
 
-over_history : (broken : Bool) (w : World) (u : Meaning) (ms : List Message) → stopped w.own ≡ true → (ignored broken w u ms).history ≡ w.history
+over_history : (broken : Bool) (w : World) (u : Meaning) (ms : List Message) → stopped w.own ≡ true
+    → (ignored broken w u ms).history ≡ w.history
 over_history broken w u ms o =
-    ap (λ (b : Bool). if b then cut_by (session_of (without_first w ms)) u w.history else w.history) (over_not_acted (session_of (without_first w ms)) u o)
+    ap (λ (b : Bool). if b then cut_by (session_of (without_first w ms)) u w.history else w.history)
+    (over_not_acted (session_of (without_first w ms)) u o)
 
-over_giver : (broken : Bool) (w : World) (c : Core) (u : Meaning) (ms : List Message) → Projects broken w c → stopped w.own ≡ true → w.peer.channel ≡ unit u ∷ ms
+over_giver : (broken : Bool) (w : World) (c : Core) (u : Meaning) (ms : List Message) → Projects broken w c → stopped w.own ≡ true
+    → w.peer.channel ≡ unit u ∷ ms
     → stopped w.peer ≡ false → OneSide broken (turned_world (ignored broken w u ms)) (turned c)
 over_giver broken w c u ms p o e l = search (arith, or_parts, over_nothing, not-false, put_nothing, left_theirs, over_not_acted, over_next)
 
-pub over_projects : (broken : Bool) (w : World) (c : Core) (u : Meaning) (ms : List Message) → Projects broken w c → stopped w.own ≡ true → w.peer.channel ≡ unit u ∷ ms
+pub over_projects : (broken : Bool) (w : World) (c : Core) (u : Meaning) (ms : List Message) → Projects broken w c → stopped w.own ≡ true
+    → w.peer.channel ≡ unit u ∷ ms
     → Projects broken (ignored broken w u ms) c
 over_projects broken w c u ms p o e = by_test (stopped w.peer)
-    (λ l. both_over broken (ignored broken w u ms) c (over_history broken w u ms o ∙ p.history) p.own.begun ends p.peer.begun l counted p.peer.counted)
-    (λ l. assumption (over_history broken w u ms o ∙ p.history, one_over broken (ignored broken w u ms) c p.own.begun ends counted, over_giver broken w c u ms p o e l))
+    (λ l. both_over broken (ignored broken w u ms) c
+    (over_history broken w u ms o ∙ p.history) p.own.begun ends p.peer.begun l counted p.peer.counted)
+    (λ l. assumption (
+      over_history broken w u ms o
+          ∙ p.history,
+      one_over broken (ignored broken w u ms) c p.own.begun ends counted,
+      over_giver broken w c u ms p o e l,
+    ))
   where
     ends : stopped (ignored broken w u ms).own ≡ true
     ends = over_next (session_of (without_first w ms)) u o
 
     counted : Counted (ignored broken w u ms).own c.own
     counted = record {
-      acked = over_as (λ r. r.numbers.confirmed ≡ c.own.session.numbers.confirmed) (session_of (without_first w ms)) u o p.own.counted.acked p.own.counted.acked;
+      acked = over_as (λ r. r.numbers.confirmed ≡ c.own.session.numbers.confirmed)
+          (session_of (without_first w ms)) u o p.own.counted.acked p.own.counted.acked;
       based = over_as (λ r. r.base ≡ c.own.session.base) (session_of (without_first w ms)) u o p.own.counted.based p.own.counted.based;
-      marked = ap (λ (b : Bool). if b then mark_after (session_of (without_first w ms)) u w.history w.own.mark else w.own.mark) (over_not_acted (session_of (without_first w ms)) u o)
+      marked = ap (λ (b : Bool). if b then mark_after (session_of (without_first w ms)) u w.history w.own.mark else w.own.mark)
+          (over_not_acted (session_of (without_first w ms)) u o)
           ∙ p.own.counted.marked;
     }

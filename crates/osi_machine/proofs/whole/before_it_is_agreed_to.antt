@@ -71,6 +71,13 @@ replies agreed = agree ∷ []
 replies (denied reason) = deny reason ∷ []
 replies _ = []
 
+-- before a connection is agreed to no unit is in flight
+pub no_unit_back : (way : Way) (m : Meaning) (ms : List Message) → unit m ∷ ms ≡ replies way → ⊥
+no_unit_back way m ms e = grind arith
+
+pub no_unit_out : (way : Way) (m : Meaning) (ms : List Message) → unit m ∷ ms ≡ asks way → ⊥
+no_unit_out way m ms e = grind arith
+
 abbrev pub suits : Way → Transport → Bool
 suits agreed tr = is_begun tr
 suits _ tr = true
@@ -104,7 +111,8 @@ no_call p x h = grind arith
 pub refused_early : (s : State) (x : Call) → is_early s.phase ≡ true → allowed s x ≡ Err error.BadState
 unfolding allowed
 refused_early s x h =
-    if_no (is_over s.phase) _ _ (excluded is_early is_over refl s.phase h) ∙ if_yes (not (may_call s.phase x)) _ _ (ap not (no_call s.phase x h))
+    if_no (is_over s.phase) _ _ (excluded is_early is_over refl s.phase h)
+    ∙ if_yes (not (may_call s.phase x)) _ _ (ap not (no_call s.phase x h))
 
 -- a call that is refused changes nothing
 pub record Refuses (s : State) (x : Call) : Type 0 where
@@ -113,14 +121,19 @@ pub record Refuses (s : State) (x : Call) : Type 0 where
 
 pub caller_refuses : (w : World) (t u : Told) (x : Call) → Opens w t u → Refuses (session_of w) x
 caller_refuses w t u x h = elim h.caller [
-  | inl k ↦ record { fault = error.BadState; refused = refused_early (session_of w) x (or_left (is_wait_transport w.own.kept.phase) (is_wait_cn w.own.kept.phase) k.phase) }
+  | inl k ↦ record {
+    fault = error.BadState;
+    refused = refused_early (session_of w) x
+        (or_left (is_wait_transport w.own.kept.phase) (is_wait_cn w.own.kept.phase) k.phase);
+  }
   | inr k ↦ record { fault = error.Ended; refused = refused (session_of w) x k.over_now }
 ]
 
 waits_cn : (tr : Transport) (w : World) (x : Call) → Idle tr w.own → Refuses (session_of w) x
 waits_cn tr w x k = record {
   fault = error.BadState;
-  refused = refused_early (session_of w) x (or_right (is_wait_transport w.own.kept.phase) (is_wait_cn w.own.kept.phase) (ap (λ (y : Kept). is_wait_cn y.phase) k.kept));
+  refused = refused_early (session_of w) x (or_right (is_wait_transport w.own.kept.phase) (is_wait_cn w.own.kept.phase)
+      (ap (λ (y : Kept). is_wait_cn y.phase) k.kept));
 }
 
 pub called_refuses : (w : World) (t u : Told) (x : Call) → Opens w t u → Refuses (session_of (turned_world w)) x
@@ -167,16 +180,27 @@ asks_kept k way = grind arith
 pub caller_ends : (k : ℕ) (w : World) (t u : Told) → Opens w t u → Opens (ended_at k w) (told_all t (shown_at_end w)) u
 caller_ends k w t u h = search (arith, absent_left, caller_zero, take_asks, replies_kept, loss_told)
 
-pub called_ends : (k : ℕ) (w : World) (t u : Told) → Opens (turned_world w) t u → Opens (turned_world (ended_at k w)) t (told_all u (shown_at_end w))
+pub called_ends : (k : ℕ) (w : World) (t u : Told) → Opens (turned_world w) t u
+    → Opens (turned_world (ended_at k w)) t (told_all u (shown_at_end w))
 called_ends k w t u h = search (arith, absent_left, absent_back, called_zero, asks_kept, take_replies, loss_told)
 
 -- ---- a break
 
 abbrev pub cut_both : ℕ → ℕ → World → World
-cut_both k j w = record w { own = record w.own { channel = take k w.own.channel }; peer = record w.peer { channel = take j w.peer.channel } }
+cut_both k j w = record w {
+  own = record w.own { channel = take k w.own.channel };
+  peer = record w.peer { channel = take j w.peer.channel };
+}
 
 caller_kept : (x : End) (ch : List Message) → Waits x ⊎ Left_it x → Waits (record x { channel = ch }) ⊎ Left_it (record x { channel = ch })
-caller_kept x ch (inl h) = inl (record { transport = h.transport; phase = h.phase; mark = h.mark; said = h.said; got = h.got; zero_now = h.zero_now })
+caller_kept x ch (inl h) = inl (record {
+  transport = h.transport;
+  phase = h.phase;
+  mark = h.mark;
+  said = h.said;
+  got = h.got;
+  zero_now = h.zero_now;
+})
 caller_kept x ch (inr h) = inr (record { transport = h.transport; over_now = h.over_now; zero_now = h.zero_now })
 
 called_kept : (x : End) (ch : List Message) → Idle not_yet x ⊎ (Idle linked x ⊎ Left_it x)
@@ -205,16 +229,27 @@ break_opens k j w t u h = record {
 abbrev started : Bool → World → World
 started broken w = moved broken linked (offering w.offer) (unit (offer_sent w.offer) ∷ []) (without_first w [])
 
-first_carried : (broken : Bool) (channel : List Message) (m : Meaning) (s : State) → channel ≡ [] → Carried broken false (put broken (unit m ∷ []) channel) (m ∷ []) s
+first_carried : (broken : Bool) (channel : List Message) (m : Meaning) (s : State) → channel ≡ []
+    → Carried broken false (put broken (unit m ∷ []) channel) (m ∷ []) s
 first_carried true channel m s e = record { there = []; lost = m ∷ []; tail = []; splits = refl; carries = e; whole = inr refl; last = tt }
 first_carried false channel m s e =
-    record { there = m ∷ []; lost = []; tail = []; splits = refl; carries = ap (λ (ms : List Message). ms ++ unit m ∷ []) e; whole = inl refl; last = tt }
+    record {
+      there = m ∷ [];
+      lost = [];
+      tail = [];
+      splits = refl;
+      carries = ap (λ (ms : List Message). ms ++ unit m ∷ []) e;
+      whole = inl refl;
+      last = tt;
+    }
 
-first_parted : (broken : Bool) (o : Offer) (channel : List Message) → channel ≡ [] → list_any parts (put broken (unit (offer_sent o) ∷ []) channel) ≡ false
+first_parted : (broken : Bool) (o : Offer) (channel : List Message) → channel ≡ []
+    → list_any parts (put broken (unit (offer_sent o) ∷ []) channel) ≡ false
 first_parted true o channel e = ap (list_any parts) e
 first_parted false o channel e = ap (λ (ms : List Message). list_any parts (ms ++ unit (offer_sent o) ∷ [])) e
 
-started_own : (broken : Bool) (w : World) (t u : Told) → Opens w t u → Waits w.own → w.own.channel ≡ [] → OneSide broken (started broken w) (core_start w.offer)
+started_own : (broken : Bool) (w : World) (t u : Told) → Opens w t u → Waits w.own → w.own.channel ≡ []
+    → OneSide broken (started broken w) (core_start w.offer)
 started_own broken w t u h k e = record {
   begun = refl;
   counted = record { acked = refl; based = refl; marked = k.mark };
@@ -231,13 +266,20 @@ started_peer : (broken : Bool) (w : World) (t u : Told) → Opens w t u → is_b
     → OneSide broken (turned_world (started broken w)) (turned (core_start w.offer))
 started_peer broken w t u h b e = grind (arith, called_zero, started_alike, first_carried)
 
-start_repeats : (broken : Bool) (w : World) (t u : Told) → Opens w t u → Waits w.own → w.own.channel ≡ [] → is_begun w.peer.transport ≡ true → Repeats broken (started broken w) t u
+caller_tells : (o : Offer) → Tells (untold Left o) (offering o) [] [] []
+caller_tells o = search arith
+
+called_tells : (o : Offer) → Tells (untold Right o) awaiting [] [] []
+called_tells o = search arith
+
+start_repeats : (broken : Bool) (w : World) (t u : Told) → Opens w t u → Waits w.own → w.own.channel ≡ [] → is_begun w.peer.transport ≡ true
+    → Repeats broken (started broken w) t u
 start_repeats broken w t u h k e b = record {
   core = core_start w.offer;
   stands = offer_stands w.offer h.small h.profile;
   projects = record { history = h.history; own = started_own broken w t u h k e; peer = started_peer broken w t u h b e };
-  own = subst (λ (d : Told). Tells d (offering w.offer) [] [] []) (sym h.own_told) (record { asked = λ c. (refl, refl); fresh = λ o. refl; base = refl; view = λ d. refl; asking = refl; duplex = λ o. absurd (cc); fine = refl; unselected = λ k. refl; silent = λ k. (refl, refl); said = λ k. refl; got = λ k. refl; pointed = refl });
-  peer = subst (λ (d : Told). Tells d awaiting [] [] []) (sym h.peer_told) (record { asked = λ c. absurd (cc); fresh = λ o. refl; base = refl; view = λ d. refl; asking = refl; duplex = λ o. absurd (cc); fine = refl; unselected = λ k. refl; silent = λ k. (refl, refl); said = λ k. refl; got = λ k. refl; pointed = refl });
+  own = subst (λ (d : Told). Tells d (offering w.offer) [] [] []) (sym h.own_told) (caller_tells w.offer);
+  peer = subst (λ (d : Told). Tells d awaiting [] [] []) (sym h.peer_told) (called_tells w.offer);
 }
 
 -- ---- what the caller takes
@@ -259,27 +301,33 @@ asks_none : (way : Way) (m : Message) (ms : List Message) → m ∷ ms ≡ repli
 asks_none way m ms e = grind arith
 
 module _ (broken : Bool) (terms : Terms) (k : ℕ) (w : World) (t u : Told) where
-  caller_agreed : Opens w t u → w.own.channel ≡ [] → is_begun w.peer.transport ≡ true → OpenTaken broken t u (message_taken broken terms k w.own.transport (without_first w []) agree)
+  caller_agreed : Opens w t u → w.own.channel ≡ [] → is_begun w.peer.transport ≡ true
+      → OpenTaken broken t u (message_taken broken terms k w.own.transport (without_first w []) agree)
   caller_agreed h e b = search (arith, start_repeats, answered)
 
-  caller_denied : (reason : ℕ) → Opens w t u → w.own.channel ≡ [] → OpenTaken broken t u (message_taken broken terms k w.own.transport (without_first w []) (deny reason))
+  caller_denied : (reason : ℕ) → Opens w t u → w.own.channel ≡ []
+      → OpenTaken broken t u (message_taken broken terms k w.own.transport (without_first w []) (deny reason))
   caller_denied reason h e = search (arith, refused_now, answered)
 
-  by_way : (m : Message) (ms : List Message) → Opens w t u → w.own.channel ≡ [] → (way : Way) → m ∷ ms ≡ replies way → suits way w.peer.transport ≡ true → OpenTaken broken t u (message_taken broken terms k w.own.transport (without_first w ms) m)
+  by_way : (m : Message) (ms : List Message) → Opens w t u → w.own.channel ≡ [] → (way : Way) → m ∷ ms ≡ replies way
+      → suits way w.peer.transport ≡ true → OpenTaken broken t u (message_taken broken terms k w.own.transport (without_first w ms) m)
   by_way m ms h e nothing_sent f b = absurd (cc)
   by_way m ms h e asked f b = absurd (cc)
   by_way m ms h e agreed f b =
       let same : agree ≡ m = cc in
       let none : [] ≡ ms = cc in
       subst (λ (x : Message). OpenTaken broken t u (message_taken broken terms k w.own.transport (without_first w ms) x)) same
-      (subst (λ (xs : List Message). OpenTaken broken t u (message_taken broken terms k w.own.transport (without_first w xs) agree)) none (caller_agreed h e b))
+      (subst (λ (xs : List Message). OpenTaken broken t u (message_taken broken terms k w.own.transport (without_first w xs) agree)) none
+      (caller_agreed h e b))
   by_way m ms h e (denied r) f b =
       let same : deny r ≡ m = cc in
       let none : [] ≡ ms = cc in
       subst (λ (x : Message). OpenTaken broken t u (message_taken broken terms k w.own.transport (without_first w ms) x)) same
-      (subst (λ (xs : List Message). OpenTaken broken t u (message_taken broken terms k w.own.transport (without_first w xs) (deny r))) none (caller_denied r h e))
+      (subst (λ (xs : List Message). OpenTaken broken t u (message_taken broken terms k w.own.transport (without_first w xs) (deny r))) none
+      (caller_denied r h e))
 
-  pub caller_takes : (m : Message) (ms : List Message) → Opens w t u → w.peer.channel ≡ m ∷ ms → OpenTaken broken t u (message_taken broken terms k w.own.transport (without_first w ms) m)
+  pub caller_takes : (m : Message) (ms : List Message) → Opens w t u → w.peer.channel ≡ m ∷ ms
+      → OpenTaken broken t u (message_taken broken terms k w.own.transport (without_first w ms) m)
   caller_takes m ms h e =
       let f = sym e ∙ h.peer_channel in
       by_way m ms h (h.own_channel ∙ asks_none h.way m ms f) h.way f h.suited
@@ -301,7 +349,8 @@ accepted_now broken w t u h e k way f none s = grind arith
 
 denied_now : (broken : Bool) (w : World) (t u : Told) (reason : ℕ) → Opens (turned_world w) t u → w.own.channel ≡ [] → Idle not_yet w.own
     → (way : Way) → put broken (deny reason ∷ []) w.own.channel ≡ replies way → asks way ≡ [] → suits way w.own.transport ≡ true
-    → Opens (turned_world (record (without_first w []) { own = record w.own { channel = put broken (deny reason ∷ []) w.own.channel } })) t u
+    → Opens (turned_world (record (without_first w [])
+    { own = record w.own { channel = put broken (deny reason ∷ []) w.own.channel } })) t u
 denied_now broken w t u reason h e k way f none s = grind arith
 
 asked_now : (broken : Bool) (terms : Terms) (w : World) (t u : Told) → Opens (turned_world w) t u → w.own.channel ≡ [] → Idle not_yet w.own
@@ -309,23 +358,31 @@ asked_now : (broken : Bool) (terms : Terms) (w : World) (t u : Told) → Opens (
 asked_now true (accepts class) w t u h e k = record { stays_open = refl; leads = accepted_now true w t u h e k nothing_sent e refl refl }
 asked_now false (accepts class) w t u h e k =
     record { stays_open = refl; leads = accepted_now false w t u h e k agreed (ap (λ (ms : List Message). ms ++ agree ∷ []) e) refl refl }
-asked_now true (denies reason) w t u h e k = record { stays_open = refl; leads = denied_now true w t u reason h e k nothing_sent e refl refl }
+asked_now true (denies reason) w t u h e k =
+    record { stays_open = refl; leads = denied_now true w t u reason h e k nothing_sent e refl refl }
 asked_now false (denies reason) w t u h e k =
-    record { stays_open = refl; leads = denied_now false w t u reason h e k (denied reason) (ap (λ (ms : List Message). ms ++ deny reason ∷ []) e) refl refl }
+    record {
+      stays_open = refl;
+      leads = denied_now false w t u reason h e k (denied reason)
+          (ap (λ (ms : List Message). ms ++ deny reason ∷ []) e) refl refl;
+    }
 
 asked_message : (broken : Bool) (terms : Terms) (k : ℕ) (w : World) (t u : Told) → Opens (turned_world w) t u → w.own.channel ≡ []
     → CalledTaken t u (message_taken broken terms k w.own.transport (without_first w []) ask)
 asked_message broken terms k w t u h e = search (arith, asked_now, asked_late)
 
 called_way : (broken : Bool) (terms : Terms) (k : ℕ) (w : World) (t u : Told) (m : Message) (ms : List Message) → Opens (turned_world w) t u
-    → (way : Way) → m ∷ ms ≡ asks way → w.own.channel ≡ replies way → CalledTaken t u (message_taken broken terms k w.own.transport (without_first w ms) m)
+    → (way : Way) → m ∷ ms ≡ asks way → w.own.channel ≡ replies way
+    → CalledTaken t u (message_taken broken terms k w.own.transport (without_first w ms) m)
 called_way broken terms k w t u m ms h asked f e =
     let same : ask ≡ m = cc in
     let none : [] ≡ ms = cc in
     subst (λ (x : Message). CalledTaken t u (message_taken broken terms k w.own.transport (without_first w ms) x)) same
-    (subst (λ (xs : List Message). CalledTaken t u (message_taken broken terms k w.own.transport (without_first w xs) ask)) none (asked_message broken terms k w t u h e))
+    (subst (λ (xs : List Message). CalledTaken t u (message_taken broken terms k w.own.transport (without_first w xs) ask)) none
+    (asked_message broken terms k w t u h e))
 called_way broken terms k w t u m ms h _ f e = absurd (cc)
 
-pub called_takes : (broken : Bool) (terms : Terms) (k : ℕ) (w : World) (t u : Told) (m : Message) (ms : List Message) → Opens (turned_world w) t u → w.peer.channel ≡ m ∷ ms
+pub called_takes : (broken : Bool) (terms : Terms) (k : ℕ) (w : World) (t u : Told) (m : Message) (ms : List Message)
+    → Opens (turned_world w) t u → w.peer.channel ≡ m ∷ ms
     → CalledTaken t u (message_taken broken terms k w.own.transport (without_first w ms) m)
 called_takes broken terms k w t u m ms h e = called_way broken terms k w t u m ms h h.way (sym e ∙ h.own_channel) h.peer_channel

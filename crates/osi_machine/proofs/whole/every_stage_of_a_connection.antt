@@ -49,42 +49,48 @@ called_stage : SessionLaws → (b : Bool) (w : World) (s t : Told) (c : Call) �
     → Stage b (after_answer b c w (allowed (session_of w) c)) (told_of_call s c (error_of (allowed (session_of w) c))) t
 called_stage laws b w s t c small (inl h) = refused_stage b w s t c (caller_refuses w s t c h) (inl h)
 called_stage laws b w s t c small (inr (inl h)) =
-    refused_stage b w s t c (subst (λ (v : World). Refuses (session_of v) c) (turned_back w) (called_refuses (turned w) t s c h)) (inr (inl h))
+    refused_stage b w s t c (subst (λ (v : World). Refuses (session_of v) c) (turned_back w) (called_refuses (turned w) t s c h))
+    (inr (inl h))
 called_stage laws b w s t c small (inr (inr h)) =
-    inr (inr (subst (λ (d : Told). Repeats b (after_answer b c w (allowed (session_of w) c)) d t) (same_told s c (allowed (session_of w) c)) (call_repeats laws b w s t c small h)))
+    inr (inr (subst (λ (d : Told). Repeats b (after_answer b c w (allowed (session_of w) c)) d t) (same_told s c (allowed (session_of w) c))
+    (call_repeats b w s t h laws c small)))
 
 -- ---- a message
 
-pub message_offer : (b : Bool) (terms : Terms) (k : ℕ) (tr : Transport) (w : World) (m : Message) → (message_taken b terms k tr w m).world.offer ≡ w.offer
+pub message_offer : (b : Bool) (terms : Terms) (k : ℕ) (tr : Transport) (w : World) (m : Message)
+    → (message_taken b terms k tr w m).world.offer ≡ w.offer
 message_offer b terms k tr w m = grind arith
 
-module _ (laws : SessionLaws) (terms : Terms) (b : Bool) (w : World) (s t : Told) (k : ℕ) (x : Message) (xs : List Message) (e : w.peer.channel ≡ x ∷ xs) where
+module _ (laws : SessionLaws) (terms : Terms) (b : Bool) (w : World) (s t : Told) (k : ℕ) (x : Message) (xs : List Message)
+    (e : w.peer.channel ≡ x ∷ xs) where
   taken_stage : Stage b w s t → Stage b (taking_of b terms k w x xs).world (told_all s (taking_of b terms k w x xs).shown) t
   taken_stage (inl h) = by_either (caller_takes b terms k w s t x xs h e).leads
       (λ y. inl y)
       (λ y. inr (inr y))
   taken_stage (inr (inl h)) = inr (inl (called_takes b terms k w t s x xs h e).leads)
-  taken_stage (inr (inr h)) = inr (inr (message_repeats laws b terms k w s t x xs h e).repeats)
+  taken_stage (inr (inr h)) = inr (inr (message_repeats b w s t h laws terms k x xs e).repeats)
 
-  closed_stage : Stage b w s t → (taking_of b terms k w x xs).closes ≡ true → Stage b (closed b k (taking_of b terms k w x xs).world) (told_all s (taking_of b terms k w x xs).shown) t
+  closed_stage : Stage b w s t → (taking_of b terms k w x xs).closes ≡ true
+      → Stage b (closed b k (taking_of b terms k w x xs).world) (told_all s (taking_of b terms k w x xs).shown) t
   closed_stage (inl h) c = not_both (taking_of b terms k w x xs).closes c (caller_takes b terms k w s t x xs h e).stays_open
   closed_stage (inr (inl h)) c = not_both (taking_of b terms k w x xs).closes c (called_takes b terms k w t s x xs h e).stays_open
   closed_stage (inr (inr h)) c =
-      let y = message_repeats laws b terms k w s t x xs h e in
+      let y = message_repeats b w s t h laws terms k x xs e in
       let both = y.over_now c in
-      inr (inr (close_repeats b k (taking_of b terms k w x xs).world (told_all s (taking_of b terms k w x xs).shown) t y.repeats both.0 both.1))
+      inr (inr (close_repeats b (taking_of b terms k w x xs).world
+      (told_all s (taking_of b terms k w x xs).shown) t y.repeats k both.0 both.1))
 
 -- ---- an end, and a break
 
 ended_stage : (b : Bool) (w : World) (s t : Told) (k : ℕ) → Stage b w s t → Stage b (ended_at k w) (told_all s (shown_at_end w)) t
 ended_stage b w s t k (inl h) = inl (caller_ends k w s t h)
 ended_stage b w s t k (inr (inl h)) = inr (inl (called_ends k w t s h))
-ended_stage b w s t k (inr (inr h)) = inr (inr (end_repeats b k w s t h))
+ended_stage b w s t k (inr (inr h)) = inr (inr (end_repeats b w s t h k))
 
 broken_stage : (w : World) (s t : Told) (k j : ℕ) → Stage false w s t → Stage true (cut_to k j w) s t
 broken_stage w s t k j (inl h) = inl (break_opens k j w s t h)
 broken_stage w s t k j (inr (inl h)) = inr (inl (break_opens j k (turned w) t s h))
-broken_stage w s t k j (inr (inr h)) = inr (inr (break_repeats k j false w s t h))
+broken_stage w s t k j (inr (inr h)) = inr (inr (break_repeats false w s t h k j))
 
 -- ---- how it begins
 

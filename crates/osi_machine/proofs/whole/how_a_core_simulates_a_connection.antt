@@ -91,12 +91,14 @@ not_both b p q = absurd (cc)
 
 pub one_over : (broken : Bool) (w : World) (c : Core) → is_begun w.own.transport ≡ true → stopped w.own ≡ true → Counted w.own c.own
     → OneSide broken w c
-one_over broken w c b o a = record { begun = b; counted = a; alike = λ l. not_both _ o l; carried = λ l. not_both _ o l; parted = λ l. not_both _ o l }
+one_over broken w c b o a =
+    record { begun = b; counted = a; alike = λ l. not_both _ o l; carried = λ l. not_both _ o l; parted = λ l. not_both _ o l }
 
 pub both_over : (broken : Bool) (w : World) (c : Core) → w.history ≡ c.history → is_begun w.own.transport ≡ true → stopped w.own ≡ true
     → is_begun w.peer.transport ≡ true → stopped w.peer ≡ true → Counted w.own c.own → Counted w.peer c.peer
     → Projects broken w c
-both_over broken w c h b o d p x y = record { history = h; own = one_over broken w c b o x; peer = one_over broken (turned_world w) (turned c) d p y }
+both_over broken w c h b o d p x y =
+    record { history = h; own = one_over broken w c b o x; peer = one_over broken (turned_world w) (turned c) d p y }
 
 -- ---- the session of a side that is not over is that of the core
 

@@ -1,5 +1,18 @@
+use Rattle.osi_session.proofs.WrittenLaws.{said_again}
+use Rattle.osi_judge.proofs.a_call_is_explained.{AsSent}
 use Rattle.osi_judge.proofs.an_honest_side_is_kept.{not_blamed}
 use Rattle.osi_judge.proofs.laws.an_honest_side_is_not_blamed.Goals as goal
 
+-- what the laws of messages say
+as_sent : (c : goal.After-an_honest_session_is_explained) → AsSent
+as_sent c = record {
+  message = λ m s. said_again m (c.what_is_sent_is_read.ensures.read m s) (c.what_is_sent_is_read.ensures.said m s);
+  part = c.what_a_part_says.ensures;
+  whole = c.what_leaves_in_parts.ensures.whole;
+  parts = c.what_leaves_in_parts.ensures.parts;
+  joined = c.what_leaves_in_parts.ensures.joined;
+  full = c.what_leaves_in_parts.ensures.full;
+}
+
 pub returns : goal.returns
-returns c = not_blamed c.an_honest_session_is_explained.ensures.caller c.an_honest_session_is_explained.ensures.called c.a_capture_has_one_reading.ensures.one
+returns c = not_blamed (as_sent c) c.what_leaves_in_parts.ensures.read c.an_honest_session_is_explained.ensures.caller c.an_honest_session_is_explained.ensures.called c.a_capture_has_one_reading.ensures.one

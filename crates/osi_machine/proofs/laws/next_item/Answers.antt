@@ -6,7 +6,8 @@ use Rattle.osi_machine.proofs.promises.what_two_users_may_rely_on.{reached_stand
 use Rattle.osi_machine.proofs.laws.next_item.Goals as goal
 
 of_both : SessionLaws → (w : Core) → IsReached w → OfBoth TakesTheNextItem w
-of_both laws w r = let s = reached_stands laws w r in (takes_the_next_item laws w s, takes_the_next_item laws (turned w) (turned_stands w s))
+of_both laws w r = let s = reached_stands laws w r in
+    (takes_the_next_item laws w s, takes_the_next_item laws (turned w) (turned_stands w s))
 
 pub returns : goal.returns
 returns c = of_both (assumption)

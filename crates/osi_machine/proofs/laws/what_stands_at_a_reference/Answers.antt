@@ -1,4 +1,5 @@
-use Rattle.osi_machine.proofs.basics.what_stands_at_a_reference.{with_same, with_other, with_count, more_still, more_last, none_there, some_there, ended_there, cut_there, ended_count, cut_count}
+use Rattle.osi_machine.proofs.basics.what_stands_at_a_reference.{with_same, with_other, with_count, more_still, more_last, none_there}
+use Rattle.osi_machine.proofs.basics.what_stands_at_a_reference.{some_there, ended_there, cut_there, ended_count, cut_count}
 use Rattle.osi_machine.proofs.laws.what_stands_at_a_reference.Goals as goal
 
 pub returns-clause-same : goal.returns-clause-same

@@ -1,6 +1,7 @@
-use Rattle.std.proofs.Common.{◌∙◌, ◌≡◌, ◌+◌, refl, sym, ap, [], false}
+use Rattle.std.proofs.Common.{◌∙◌, ◌≡◌, ◌+◌, ℕ, List, refl, sym, ap, [], false}
 use Rattle.osi_judge.specs.Explaining.{Told}
 use Rattle.osi_judge.specs.Judging.{is_empty}
+use Rattle.osi_judge.specs.Profiles.{selects_outside}
 use Rattle.osi_judge.specs.Sides.{watched}
 use Rattle.osi_judge.proofs.SideLaws.{ends_ok, leaves_as, kept_as, gives_as, nil_of}
 use Rattle.osi_judge.proofs.sides.Side.tell_kept.Goals as goal
@@ -18,7 +19,9 @@ pub returns-then-selects_outside-clause-watches : goal.returns-then-selects_outs
 returns-then-selects_outside-clause-watches c = λ told k.
     let w = watched c.args.self.now in
     let x : Told = record { octets = c.args.tsdu.now; before = c.args.before } in
-    leaves_as w (watched c.leave.new.self) told x c.leave.ensures k
+    let heard : c.deref-3.result.now ≡ w.heard = c.deref-3.ensures.value in
+    leaves_as w (watched c.leave.new.self) told x c.leave.ensures
+    (ap (λ (h : List (List ℕ)). selects_outside h c.args.tsdu.now) (sym heard) ∙ sym c.selects_outside.ensures ∙ c.if-selects_outside.true) k
 
 pub returns-clause-watches : goal.returns-clause-watches
 returns-clause-watches c = λ told k.

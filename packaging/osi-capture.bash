@@ -1,0 +1,17 @@
+# Completion of osi-capture(1) for bash.
+_osi_capture() {
+    local word=${COMP_WORDS[COMP_CWORD]} options=--help
+    case ${COMP_WORDS[1]-} in
+        list) options='--port --help' ;;
+        show) options='--stream --port --json --columns --width --data --osi --help' ;;
+        judge) options='--stream --port --show --pictures --osi --help' ;;
+        split) options='--stream --port --output --help' ;;
+        join) options='--output --help' ;;
+    esac
+    case $COMP_CWORD:$word in
+        1:*) mapfile -t COMPREPLY < <(compgen -W 'list show judge split join --help' -- "$word") ;;
+        *:-*) mapfile -t COMPREPLY < <(compgen -W "$options" -- "$word") ;;
+        *) COMPREPLY=() ;;
+    esac
+}
+complete -o bashdefault -o default -F _osi_capture osi-capture

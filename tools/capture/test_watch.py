@@ -1,0 +1,160 @@
+"""Tests of examples/watch.py, over what `osi` printed of examples/disputes; with a capture if tshark is installed."""
+import contextlib
+import importlib.util
+import io
+import os
+import shutil
+import sys
+import tempfile
+import unittest
+from unittest import mock
+
+from ladders import judged, script, test_judged
+
+from . import program
+from .test_judging import DISPUTES, LAST
+
+SOURCE = importlib.util.spec_from_file_location("watch", os.path.join(script.TOP, "examples", "watch.py"))
+watch = importlib.util.module_from_spec(SOURCE)
+SOURCE.loader.exec_module(watch)
+LEFT, RIGHT = ("192.0.2.1", "40000"), ("192.0.2.2", "102")
+NAME = "stream 4 192.0.2.1:40000 192.0.2.2:102"
+
+
+class Rows:
+    """What tshark prints of the segments of a stream; the sequence numbers of a side count its octets."""
+
+    def __init__(self, stream=4, port="102"):
+        self.stream, self.port, self.frame, self.sequences = stream, port, 0, {"left": 1, "right": 1}
+
+    def row(self, side, octets=b"", lost="", fin="0", reset="0"):
+        """A segment of a side, and what else tshark says of it."""
+        (source, target), self.frame = ((LEFT, RIGHT) if side == "left" else (RIGHT, LEFT)), self.frame + 1
+        sequence, self.sequences[side] = self.sequences[side], self.sequences[side] + len(octets)
+        ports = [end[1].replace("102", self.port) for end in (source, target)]
+        return [str(self.frame), f"{1000 + self.frame / 8:.6f}", str(self.stream), source[0], "", ports[0], target[0], "", ports[1],
+                str(sequence), "0", octets.hex(), lost, fin, reset]
+
+    def of(self, name):
+        """The segments of a dispute."""
+        return [self.row(piece.side, piece.octets) for piece in judged.read(test_judged.stored(name)[0])]
+
+
+class Watching(unittest.TestCase):
+    """Streams as tshark prints them, without tshark and without `osi`."""
+
+    def setUp(self):
+        self.watching = watch.Watch(102, lambda text: test_judged.answer(None, "judge", text))
+
+    def printed(self, *rows, is_end=False):
+        """What is printed of some more segments, each followed by a look at the streams."""
+        with contextlib.redirect_stdout(io.StringIO()) as out:
+            for row in rows:
+                self.watching.take(row)
+                self.watching.look()
+            if is_end:
+                self.watching.look(is_end=True)
+        return out.getvalue()
+
+    def test_a_break_is_told_as_soon_as_it_has_passed_and_once(self):
+        rows = Rows().of("restart")
+        self.assertEqual(self.printed(*rows[:12]), "")
+        told = self.printed(rows[12])
+        self.assertTrue(told.startswith(f"{NAME}: frame 13, 1.500000 seconds: left broke the protocol first"), told)
+        self.assertEqual(told.count("\n"), 1)
+        self.assertEqual(self.printed(*rows[13:], is_end=True), "")
+        self.assertEqual((self.watching.status(), self.watching.watched), (1, {}))
+
+    def test_that_both_kept_the_protocol_is_told_when_tcp_has_closed_the_stream(self):
+        rows = Rows()
+        self.assertEqual(self.printed(*rows.of("restart_cured"), rows.row("left", fin="1")), "")
+        self.assertEqual(self.printed(rows.row("right", fin="True")), f"{NAME}: both kept the protocol\n")
+        self.assertEqual((self.watching.status(), self.watching.watched), (0, {}))
+
+    def test_a_reset_closes_both_directions(self):
+        rows = Rows()
+        self.printed(*rows.of("restart_cured"))
+        self.assertEqual(self.printed(rows.row("right", reset="1")), f"{NAME}: both kept the protocol\n")
+
+    def test_at_the_end_all_streams_are_told(self):
+        self.assertEqual(self.printed(*Rows().of("restart_cured"), is_end=True), f"{NAME}: both kept the protocol\n")
+
+    def test_octets_that_were_acknowledged_and_not_captured_end_the_watch(self):
+        rows = Rows()
+        self.printed(*rows.of("restart")[:6])
+        self.assertEqual(self.printed(rows.row("right", lost="1")), f"{NAME}: not judged: the capture lost segments\n")
+        self.assertEqual(self.watching.status(), 1)
+
+    def test_a_gap_is_waited_for_and_named_at_the_end(self):
+        rows = Rows().of("restart")
+        del rows[5]
+        with mock.patch.object(self.watching, "judge", lambda text: "both kept the protocol\n"):
+            said = self.printed(*rows, is_end=True)
+        self.assertEqual(said, f"{NAME}: not judged: lost segments: 14 octets or more are not in the capture\n")
+
+    def test_segments_out_of_order_are_put_in_order(self):
+        rows = Rows().of("restart")
+        rows[4], rows[5] = rows[5], rows[4]
+        with mock.patch.object(self.watching, "judge", lambda text: "both kept the protocol\n"):
+            self.assertEqual(self.printed(*rows, is_end=True), f"{NAME}: both kept the protocol\n")
+
+    def test_a_stream_that_begins_in_the_middle_is_named_at_the_end(self):
+        rows = Rows().of("restart")[2:]
+        self.assertEqual(self.printed(*rows), "")
+        self.assertTrue(self.printed(is_end=True).endswith("not judged: begins in the middle\n"))
+
+    def test_a_stream_without_a_verdict_is_named_at_the_end(self):
+        for printed, why in (("not judged: the connection is not of class 0\n", "the connection is not of class 0"),
+                             ("left 1 unanswered\n", "osi judge names no verdict")):
+            self.watching = watch.Watch(102, lambda text, printed=printed: printed)
+            self.assertEqual(self.printed(*Rows().of("restart"), is_end=True), f"{NAME}: not judged: {why}\n")
+            self.assertEqual(self.watching.status(), 1)
+
+    def test_a_stream_that_is_too_long_is_watched_no_further(self):
+        with mock.patch.object(watch, "LONGEST", 100):
+            self.assertEqual(self.printed(*Rows().of("restart")), f"{NAME}: not judged: it has more than 100 octets\n")
+
+    def test_other_ports_are_left_out(self):
+        self.assertEqual(self.printed(*Rows(port="80").of("restart"), is_end=True), "")
+        self.assertEqual(self.watching.status(), 2)
+
+    def test_lines_of_a_pipe_are_given_as_they_come(self):
+        source, into = os.pipe()
+        with os.fdopen(source, "rb", buffering=0) as pipe:
+            found = watch.lines_of(pipe, 0.01)
+            self.assertIsNone(next(found))
+            os.write(into, b"1\t2\n3")
+            self.assertEqual((next(found), next(found)), (["1", "2"], None))
+            os.write(into, b"\t4\n")
+            os.close(into)
+            self.assertEqual(list(found), [["3", "4"]])
+
+
+@unittest.skipUnless(shutil.which("tshark"), "tshark is not installed")
+class Captures(unittest.TestCase):
+    """The program, over captures that tshark reads; `osi` is not run."""
+
+    def call(self, *words):
+        out, err = io.StringIO(), io.StringIO()
+        patches = (mock.patch.object(sys, "argv", ["watch.py", *words]), mock.patch.object(script, "run", test_judged.answer),
+                   mock.patch.object(watch.signal, "signal"))
+        with contextlib.redirect_stdout(out), contextlib.redirect_stderr(err), contextlib.ExitStack() as all_of:
+            for each in patches:
+                all_of.enter_context(each)
+            return watch.main(), out.getvalue(), err.getvalue()
+
+    def test_a_capture_is_watched(self):
+        with tempfile.TemporaryDirectory() as room:
+            for name, status, said in (("restart", 1, LAST), ("restart_cured", 0, "both kept the protocol")):
+                pcap = os.path.join(room, f"{name}.pcap")
+                self.assertEqual(program.main(["join", os.path.join(DISPUTES, name), "-o", pcap]), 0)
+                for every in ("0", "60"):
+                    found = self.call("-r", pcap, "--every", every)
+                    self.assertEqual(found, (status, f"stream 0 192.0.2.1:40000 192.0.2.2:102: {said}\n", ""))
+
+    def test_a_missing_file_has_status_2(self):
+        self.assertEqual(self.call("-r", os.path.join(DISPUTES, "nothing.pcap"))[:2], (2, ""))
+
+
+if __name__ == "__main__":
+    unittest.main()
