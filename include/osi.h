@@ -539,7 +539,11 @@ static inline void osi_trace_each(osi_end *end, osi_on_line *on_line, void *cont
         osi_octets lines;
         uint32_t code = osi_trace_fetch(end, direction);
         osi_trace_lines(end, &lines);
+#ifdef __cplusplus
+        const char *text = reinterpret_cast<const char *>(lines.at);
+#else
         const char *text = (const char *)lines.at;
+#endif
         for (size_t from = 0, to = 0; code == OSI_OK && to < lines.length; to++)
             if (text[to] == '\n') {
                 on_line(context, direction, text + from, to - from);
