@@ -66,7 +66,7 @@ stops want o restarts item u us h bad =
     let f = ap (heard_then o) (bad_then o.next u rest bad) in
     sym f ∙ sym e ∙ h
 
--- if memory is wanted for a word, it is for the whole
+-- if memory is needed for a word, it is needed for the whole
 pub takes : (j : Option (List ℕ)) (want o : Hearing) (restarts : Bool) (item u : Word) (us : Words) → SoFar j o → Leads want o restarts item (u ∷ us)
     → takes_room o.next.joined (respond_word o.next u) ≡ true → takes_room j want ≡ true
 takes j want o restarts item u us s h room =
