@@ -40,7 +40,7 @@ packets_alike May Like l [] x y lasts like = like
 packets_alike May Like l (unit ∷ units) x y lasts like =
     packets_alike May Like l units (with_packet x unit) (with_packet y unit) lasts (l.packet x y unit (lasts_before (unit ∷ units) x lasts) like)
 
--- two ends with the same account, after these indications were given and these octets sent
+-- two ends that are alike, after these indications were given and these octets sent
 pub record Same (Like : Account → Account → Type 0) (t : List (ℕ × Shown)) (o : List ℕ) (a : Holding) (u : List (ℕ × Shown)) (p : List ℕ) (b : Holding) : Type 0 where
   pub octets : a.held.octets ≡ b.held.octets
   pub account : Like (account_of t o a.end) (account_of u p b.end)
