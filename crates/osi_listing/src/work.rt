@@ -28,7 +28,7 @@ pub(crate) struct Work {
 /// How far a piece leads with the packet of which a part is held.
 #[derive(Clone, Copy)]
 pub(crate) enum Step {
-    /// Nothing is held now. So many octets of the piece were used.
+    /// Nothing is held now. This many octets of the piece were used.
     Next(usize),
     /// All octets of the piece are held, and the packet is not whole yet.
     All,
