@@ -1,6 +1,7 @@
-"""Finds the streams that the words of a program ask for, and writes files: what osi-capture and scripts/judge share."""
+"""Finds the streams that the words of a program ask for, writes files, and ends the program: what osi-capture and scripts/judge share."""
 import argparse
 import os
+import sys
 import tempfile
 
 from . import streams, tshark
@@ -14,6 +15,22 @@ class Words(argparse.ArgumentParser):
 
     def error(self, message):
         raise BadInput(f"{message} ({self.prog.partition(' ')[0]} --help)")
+
+
+def status_of(name, run):
+    """Runs a program, and returns its status: what `run` returns, or 2 with one line on standard error."""
+    try:
+        status = run()
+        sys.stdout.flush()
+        return status
+    except BadInput as error:
+        print(f"{name}: {error}", file=sys.stderr)
+        return 2
+    except BrokenPipeError:
+        os.dup2(os.open(os.devnull, os.O_WRONLY), sys.stdout.fileno())
+        return 2
+    except KeyboardInterrupt:
+        return 130
 
 
 def found_in(asked):

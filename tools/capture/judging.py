@@ -6,7 +6,7 @@ from ladders import drawing, judged, transcript, verdicts
 from ladders.program import Progress
 
 from . import listing, streams, texts
-from .asking import PORT, Words, found_in, named, write_all
+from .asking import PORT, Words, found_in, named, status_of, write_all
 from .streams import SIDES
 from .tshark import BadInput
 
@@ -169,13 +169,4 @@ def judge(asked):
 
 def main(given=None):
     """Runs scripts/judge; its status."""
-    try:
-        return judge(words().parse_args(given))
-    except BadInput as error:
-        print(f"judge: {error}", file=sys.stderr)
-        return 2
-    except BrokenPipeError:
-        os.dup2(os.open(os.devnull, os.O_WRONLY), sys.stdout.fileno())
-        return 2
-    except KeyboardInterrupt:
-        return 130
+    return status_of("judge", lambda: judge(words().parse_args(given)))

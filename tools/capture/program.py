@@ -2,12 +2,10 @@
 the protocol, and writes a pcap again."""
 import argparse
 import json
-import os
 import shutil
-import sys
 
 from . import columns, judging, listing, pcap, streams, texts
-from .asking import PORT, Words, chosen, found_in, named, write_all
+from .asking import PORT, Words, chosen, found_in, named, status_of, write_all
 from .streams import SIDES
 from .tshark import BadInput
 
@@ -123,18 +121,12 @@ def join(asked):
 JOBS = {"list": list_streams, "show": show, "judge": judging.judge, "split": split, "join": join}
 
 
+def run(given):
+    """Does what the words ask for; the status is 0, of `judge` also 1."""
+    asked = words().parse_args(given)
+    return JOBS[asked.job](asked) or 0
+
+
 def main(given=None):
-    """Runs the program; the status is 0, of `judge` also 1, or 2 with one line on standard error."""
-    try:
-        asked = words().parse_args(given)
-        status = JOBS[asked.job](asked) or 0
-        sys.stdout.flush()
-        return status
-    except BadInput as error:
-        print(f"osi-capture: {error}", file=sys.stderr)
-        return 2
-    except BrokenPipeError:
-        os.dup2(os.open(os.devnull, os.O_WRONLY), sys.stdout.fileno())
-        return 2
-    except KeyboardInterrupt:
-        return 130
+    """Runs the program; its status, which is 2 with one line on standard error if something was wrong."""
+    return status_of("osi-capture", lambda: run(given))

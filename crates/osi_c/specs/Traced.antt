@@ -31,7 +31,7 @@ IsUntraced t = (t.received ≡ None) × (t.sent ≡ None) × (t.lines.items ≡ 
 
 -- ---- octets pass
 
--- whatever passed before and was fetched, the trace goes on with these octets; it keeps what it kept, or has stopped
+-- whatever passed before and was fetched, the trace continues with these octets; it keeps what it kept, or has stopped
 pub record GoesOn (octets : List ℕ) (old new : Trace) : Type 0 where
   pub traced : (passed fetched : List ℕ) → IsTraced old passed fetched → IsTraced new (passed ++ octets) fetched
   pub keeping : is_stopped new ≡ false → new.keeping ≡ old.keeping

@@ -4,8 +4,8 @@
 //! numbers of C. `OsiEnd` is the slot that a C program holds. Every argument is allowed except a pointer to nothing:
 //! numbers that are out of range give `BAD_ARGUMENT`, and an empty slot gives `CLOSED`.
 //!
-//! What a C caller owes in addition (lengths that are true, one thread at a time) is in docs/GUIDE.md. Three functions
-//! of the header are written in C in front of these, in `bindings/c/edges.c`.
+//! A C caller has a few duties that no contract can check (true lengths, one thread at a time): docs/GUIDE.md lists
+//! them. Three functions of the header are small C functions around these, in `bindings/c/edges.c`.
 #![tactic(auto)]
 
 mod addresses;

@@ -287,8 +287,8 @@ fn tell_restart<'a>(reference: u16, indication: &'a Indication, shown: &mut OsiI
     }
 }
 
-/// The fields of any indication but data, a minor point and its confirmation. It is kept out of line: otherwise its
-/// fields would be built on the way of these three, too.
+/// The fields of any indication other than data, a minor point and its confirmation. It is kept out of line: otherwise
+/// its fields would be built on the path of these three, too.
 #[inline(never)]
 fn tell_other<'a>(reference: u16, indication: &'a Indication, shown: &mut OsiIndication<'a>)
     ensures { is_common (shown_by indication.now) ≡ false → Says shown.new reference (shown_by indication.now) }

@@ -16,7 +16,7 @@ pub struct Traces {
     pub lines: Vec<u8>,
 }
 
-/// What was counted in one direction, each as far as 64 bits count.
+/// What was counted in one direction. Each count stops at 2^64 - 1.
 #[repr(C)]
 #[derive(Clone, Copy)]
 pub struct OsiTally {
@@ -75,8 +75,8 @@ pub(crate) fn begun(alloc: Global, kind: Kind) -> Option<Trace>
     }
 }
 
-/// Hands out the lines of a trace that nobody has fetched. A trace that has stopped says so once it has no lines, and
-/// ends.
+/// Hands out the lines of a trace that nobody has fetched yet. A trace that has stopped says so once it has no lines,
+/// and ends.
 pub(crate) fn hand_out(alloc: Global, trace: &mut Option<Trace>, lines: &mut Vec<u8>) -> u32
     ensures { HandsOut (line_answer result) trace.old trace.new lines.new.items }
 {

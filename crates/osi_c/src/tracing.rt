@@ -39,8 +39,8 @@ pub extern "C" fn osi_trace(alloc: Global, end: &mut OsiEnd, what: u32) -> u32
     OK
 }
 
-/// Fetches the lines of a direction that nobody has fetched, which [`osi_trace_lines`] then lends: 0 is what was received, 1
-/// what was sent.
+/// Fetches the lines of a direction that nobody has fetched yet, which [`osi_trace_lines`] then lends: 0 is what was
+/// received, 1 what was sent.
 #[unsafe(no_mangle)]
 pub extern "C" fn osi_trace_fetch(alloc: Global, end: &mut OsiEnd, direction: u32) -> u32
     ensures { FetchesLines direction (line_answer result) end.old.inner.value end.new.inner.value }

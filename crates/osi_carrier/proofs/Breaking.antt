@@ -1,4 +1,4 @@
--- A unit that the link refused has changed nothing yet.
+-- When a link refuses a unit, nothing has changed yet.
 use Rattle.std.proofs.Common.{◌≡◌, ℕ, List, [], ◌∷◌, ◌++◌, map, Some, Result, Ok, Err, OnOk, sym, ap, ◌∙◌}
 use Rattle.osi_carrier.specs.declared.events.Event.{Event}
 use Rattle.osi_carrier.proofs.Vocabulary.{append-nil, map-append, disconnect, Standing, LinkFault, Two, Happening, happening, faulted, breaks, taking, Rows, value_at, put, peer_in, link_in, Connection, linked, closing, State, packets, link_after, units_after}

@@ -96,7 +96,7 @@ fault_free at r t f [] c bad = let none = short_none r t c.octets in let some = 
 whole_piece : (held outgoing : List ℕ) (n : ℕ) → (held ++ take n outgoing) ++ drop n outgoing ≡ held ++ outgoing
 whole_piece held outgoing n = append_assoc held (take n outgoing) (drop n outgoing) ∙ ap (λ l. held ++ l) (take-append-drop n outgoing)
 
--- one unit that found no memory had done nothing
+-- one unit for which memory ran out had done nothing
 pub alone_starved : (old new : State) (unit : Value) (done more : List Value) (next : Value) → unit ∷ [] ≡ done ++ (next ∷ more) → new ≡ ends NoMemory (reacts done old) → new ≡ ends NoMemory old
 alone_starved old new unit [] more next e is = is
 alone_starved old new unit (d ∷ []) more next e is = cc
@@ -108,7 +108,7 @@ starved_unit old new packet unit sendable is h =
     let us : unit ∷ [] ≡ h.0 = cc in
     alone_starved old new unit h.2.done h.2.more h.2.next (us ∙ h.2.all) h.2.ended
 
--- the packets of a part of what comes
+-- the packets of a prefix of what is in flight
 pub reads_part : (held outgoing : List ℕ) (coming : List Value) (n : ℕ) (units : List (List ℕ)) (r : List ℕ) → AreComing held outgoing coming →
     ArePackets units (held ++ take n outgoing) r → Fronts units coming r (drop n outgoing)
 reads_part held outgoing coming n units r c h = units_front units coming (held ++ take n outgoing) r (drop n outgoing) c.sendable h (whole_piece held outgoing n ∙ c.octets)

@@ -274,7 +274,7 @@ orderly_packet packet s h = orderly_acts (units_of packet) s h
 pub orderly_fresh : (is_caller : Bool) (local : Local) → IsOrderly (fresh_state is_caller local)
 orderly_fresh is_caller local = record { rise = tt; up_to = tt; given = omega arith; live = omega arith; over = λ some. refl; named = refl }
 
--- if a connection may be asked for, there is room for it
+-- if a connection may be requested, there is room for it
 pub record MayJoin (s : State) : Type 0 where
   pub lasts : is_some s.ended ≡ false
   pub room : length s.live < 64

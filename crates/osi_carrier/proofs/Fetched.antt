@@ -27,7 +27,7 @@ Refuses fault = Err fault
 pub same_fault : (f fault : TpktFault) → Refuses fault ≡ Refuses f → f ≡ fault
 same_fault f fault e = cc
 
--- what belongs to the packet is some of the octets
+-- what belongs to the packet is a part of the octets
 some_belongs : Proper → (held octets : List ℕ) (used : ℕ) (whole : Bool) → IsPartial held → 0 < length octets →
     MatchBool whole (IsOnePacket (held ++ take used octets)) (IsPartial (held ++ take used octets) × (used ≡ length octets)) → 0 < used
 some_belongs proper held octets zero true partial some h = absurd (proper held partial (subst IsOnePacket (append-nil held) h))
@@ -89,7 +89,7 @@ fetched_packet proper nothing old new octets fed held packet taken stands progre
       room = subst (λ n. old.held.room ≤ n) (sym (ap (λ (h : Held). h.room) advanced)) gains.room;
     }
 
--- ---- a packet that is passed by
+-- ---- a packet that is taken without a copy
 
 pub passed_reading : IsPartial [] → (old new : Held) (unit piece : List ℕ) → Passes old unit piece new → IsHolding new → IsReading new
 passed_reading nothing old new unit piece p holding = search (subst IsPartial (sym (ap (λ (h : Held). h.octets) p.after ∙ p.empty)) nothing, ap (λ (h : Held). h.fault) p.after ∙ p.faultless)

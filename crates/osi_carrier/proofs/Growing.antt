@@ -50,11 +50,11 @@ grown_of : (peer : ℕ) (s : Standing) (r : Result Standing LinkFault) → IfOk 
 grown_of peer s (Ok t) h ok = h
 grown_of peer s (Err fault) h ok = cc
 
--- a unit that the link would take but for memory
+-- a unit that the link would take if there were memory
 pub taken_grows : (peer : ℕ) (s : Standing) (unit : Value) → needs_memory unit ≡ true → IsOk (taken s unit) → link_grows peer s (taken s unit) ≡ true
 taken_grows peer s unit needs ok = grown_of peer s (taken s unit) (taken_by_grows peer s s.flow unit needs) ok
 
--- what a call of a link answers if there was no memory
+-- what a call of a link answers if memory ran out
 pub want_taken : {A : Type 0} (r : Result A LinkFault) (f : LinkFault) (needs : Bool) (t : Result Standing LinkFault) (old new : Standing) → r ≡ Err f → f ≡ OutOfMemory →
     TakesUnit r needs t old new → (needs ≡ true) × IsOk t
 want_taken (Err OutOfMemory) f needs t old new e g h = (h.0, h.1)
@@ -76,7 +76,7 @@ pump_grows peer s t u o r ok handed some =
     subst (λ (x : Result Standing LinkFault). link_grows peer s x ≡ true) (sym ok)
     (given_grows peer s t (subst (λ (x : Standing). nat_lt 0 (length (written_by peer x)) ≡ true) (handed_is o t u handed) some))
 
--- room is lacking only if something is to be written
+-- memory is needed only if something is to be written
 pub some_written : (us : List Value) (spare : ℕ) → (length (packets us) ≤ spare → ⊥) → nat_lt 0 (length us) ≡ true
 some_written [] spare full = absurd (full (omega arith))
 some_written (u ∷ us) spare full = lt-ltb 0 (length (u ∷ us)) (omega arith)
@@ -135,7 +135,7 @@ pub breaks_grows : (r peer : ℕ) (fault : LinkFault) (held : Option Class) (s :
 breaks_grows r peer fault held s e =
     subst (λ (h : Option Class). grows s (breaks r peer fault h s) ≡ true) (sym e) (tells_grows s (breaks r peer fault (Some Two) s) _ refl)
 
--- a unit for which there was no memory
+-- a unit for which memory ran out
 pub on_want : {A E P : Type 0} (result : Result A E) → P → OnErr result P
 on_want (Ok a) p = tt
 on_want (Err e) p = p
@@ -200,7 +200,7 @@ pub taking_grows : (r peer : ℕ) (s : State) (t : Result Standing LinkFault) �
 taking_grows r peer s t stands h =
     taking_by r peer s (link_in (value_at r s.live)) t (open_is (value_at r s.live) peer stands) (link_cases peer (link_in (value_at r s.live)) t h)
 
--- a TSDU that became whole is reported
+-- a TSDU that became complete is reported
 pub took_grows : (r peer : ℕ) (s : State) (t : Result Standing LinkFault) (whole : List ℕ) → IsOk t → whole ∷ [] ≡ whole_after t → grows s (taking r peer t s) ≡ true
 took_grows r peer s (Ok link) whole ok e =
     let one = ap length e in

@@ -17,7 +17,7 @@ pub behind_same : (b x y : List ℕ) → b ++ x ≡ b ++ y → x ≡ y
 behind_same [] x y e = e
 behind_same (n ∷ b) x y e = behind_same b x y (ap (drop 1) e)
 
--- the packets of a front are the first of all
+-- the packets of a prefix are the first of all
 pub record Parts (us vs : List (List ℕ)) (m t r : List ℕ) : Type 0 where
   pub more : List (List ℕ)
   pub all : us ≡ vs ++ more

@@ -1,4 +1,4 @@
--- The rows of a reference that has none.
+-- The rows of a reference that has no row.
 use Rattle.std.proofs.Common.{◌≡◌, ℕ, Bool, true, false, ◌==◌, [], ◌∷◌, Some, None, refl, ap}
 use Rattle.osi_carrier.specs.Rows.{Rows, value_at, place_of, without}
 use Rattle.osi_carrier.proofs.Places.{nowhere}

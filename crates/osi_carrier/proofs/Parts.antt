@@ -1,4 +1,4 @@
--- Writing a TSDU straight from its octets, part after part, and keeping what may not go yet.
+-- Writing a TSDU straight from its octets, part after part, and keeping what may not be sent yet.
 use Rattle.std.proofs.Common.{◌≡◌, ℕ, ◌+◌, ◌<◌, ◌≤◌, List, [], ◌∷◌, ◌++◌, length, drop, Option, Some, None, refl, sym, ap, ◌∙◌, subst, append_assoc, arith}
 use Rattle.std.proofs.Math.Seq.{drop-append-add}
 use Rattle.std.proofs.lemmas.List.{drop-drop}
@@ -6,13 +6,13 @@ use Rattle.osi_class.proofs.PartLaws.{goes_at_once, some_rest}
 use Rattle.osi_carrier.proofs.Vocabulary.{Drained, drained, all_given, octets_of, octets_in, GoesAtOnce, GivesPart, with_rest, Standing, Given, next, unit_of, with_tsdu, drained_none, drained_some, pumped, written_by, packets}
 use Rattle.osi_carrier.proofs.Pumping.{IsPumping, pumping_first, pumping_next, pumping_octets, pumping_link, pumping_room}
 
--- what is left of a TSDU goes now, but for what is kept
+-- what is left of a TSDU is sent now, except for what is kept
 pub record Goes (link : Standing) (rest kept : List ℕ) : Type 0 where
   pub quiet : next link ≡ None
   pub alone : link.ends.unsent ≡ []
   pub left : kept ≡ drop (octets_in (all_given (with_tsdu link rest))) rest
 
--- some parts of a TSDU were written, and there is room for the others that go
+-- some parts of a TSDU were written, and there is room for the others that may be sent
 pub record IsParting (peer : ℕ) (first : Standing) (before : List ℕ) (link : Standing) (rest kept octets : List ℕ) (spare : ℕ) : Type 0 where
   pub goes : Goes link rest kept
   pub pumping : IsPumping peer first before (with_tsdu link rest) octets
@@ -22,14 +22,14 @@ pub parting_first : (peer : ℕ) (link : Standing) (tsdu kept before : List ℕ)
     length (packets (written_by peer (with_tsdu link tsdu))) ≤ spare → IsParting peer (with_tsdu link tsdu) before link tsdu kept before spare
 parting_first peer link tsdu kept before spare goes room = record { goes = goes; pumping = pumping_first peer (with_tsdu link tsdu) before; room = room }
 
--- a part of it may be given where any goes
+-- a part of it may be given if any may
 pub part_goes : (link : Standing) (rest : List ℕ) → next link ≡ None → 0 < length (all_given (with_tsdu link rest)) → GoesAtOnce link
 part_goes link rest quiet some =
     goes_at_once link rest quiet (λ (none : next (with_tsdu link rest) ≡ None). (let given : length (all_given (with_tsdu link rest)) ≡ 0 =
     ap (λ (d : Drained). length d.units) (drained_none (with_tsdu link rest) none) in
     omega arith))
 
--- nothing goes where no part may
+-- nothing is given if no part may be
 nothing_by : (link : Standing) (rest : List ℕ) (o : Option (Given × Standing)) → next link ≡ None → (GoesAtOnce link → ⊥) →
     next (with_tsdu link rest) ≡ o → next (with_tsdu link rest) ≡ None
 nothing_by link rest None quiet never e = e
@@ -39,7 +39,7 @@ nothing_by link rest (Some p) quiet never e =
 pub nothing_goes : (link : Standing) (rest : List ℕ) → next link ≡ None → (GoesAtOnce link → ⊥) → next (with_tsdu link rest) ≡ None
 nothing_goes link rest quiet never = nothing_by link rest (next (with_tsdu link rest)) quiet never refl
 
--- what is left behind so many octets of two pieces is left of the second
+-- what is left of two pieces after this many octets is left of the second
 pub left_behind : (head body rest : List ℕ) (octets n : ℕ) → length head + n ≡ octets → rest ≡ drop n body → rest ≡ drop octets (head ++ body)
 left_behind head body rest octets n is e = e ∙ sym (drop-append-add head body n) ∙ ap (λ (m : ℕ). drop m (head ++ body)) is
 
@@ -49,7 +49,7 @@ pub parts_from : (link new : Standing) (rest : List ℕ) (unit : Given) → 0 < 
     ≡ record { units = unit ∷ (drained (with_rest new (drop (octets_of unit) rest))).units; link = (drained (with_rest new (drop (octets_of unit) rest))).link }
 parts_from link new rest unit room part = drained_some (with_tsdu link rest) (with_rest new (drop (octets_of unit) rest)) unit room part.gives
 
--- there is room for its next part where there is for all
+-- there is room for its next part if there is room for all
 pub part_room : (peer : ℕ) (link new : Standing) (rest : List ℕ) (unit : Given) → 0 < link.ends.limit → GivesPart unit rest link new →
     length (packets (unit_of peer unit ∷ [])) ≤ length (packets (written_by peer (with_tsdu link rest)))
 part_room peer link new rest unit room part =
@@ -60,7 +60,7 @@ pub empty_list : (l : List ℕ) → length l ≡ 0 → l ≡ []
 empty_list [] h = refl
 empty_list (x ∷ l) h = absurd (omega arith)
 
--- what is left of it goes now too, but for the same that is kept
+-- what is left of it may be sent now too, except for the same that is kept
 pub rest_goes : (link new : Standing) (rest kept : List ℕ) (unit : Given) → Goes link rest kept → 0 < link.ends.limit → GivesPart unit rest link new →
     new.ends.unsent ≡ [] → 0 < length (drop (octets_of unit) rest) → Goes new (drop (octets_of unit) rest) kept
 rest_goes link new rest kept unit goes room part alone some =
@@ -108,7 +108,7 @@ parting_last peer first link new before rest kept octets after unit spare h room
     let end = drained_none new part.last in
     record { link = pumping_link peer first new before after all end; written = pumping_octets peer first new before after all end }
 
--- no part goes any more, and what is left is kept
+-- no more parts may be sent, and what is left is kept
 pub record IsKept (peer : ℕ) (first : Standing) (before : List ℕ) (now : Standing) (octets : List ℕ) : Type 0 where
   pub whole : IsWhole peer first before now octets
   pub quiet : next now ≡ None
@@ -126,7 +126,7 @@ parting_kept peer first link now before rest kept octets spare h never is =
       quiet = ap next same ∙ none;
     }
 
--- the first part was written, which ends in front of these octets
+-- the first part was written, which ends before these octets
 pub parting_then : (peer : ℕ) (link new : Standing) (tsdu rest kept before after : List ℕ) (unit : Given) (spare left : ℕ) → Goes link tsdu kept →
     length (packets (written_by peer (with_tsdu link tsdu))) ≤ spare → 0 < link.ends.limit → GivesPart unit tsdu link new → new.ends.unsent ≡ [] →
     drop (octets_of unit) tsdu ≡ rest → after ≡ before ++ packets (unit_of peer unit ∷ []) → spare ≤ left + length (packets (unit_of peer unit ∷ [])) →

@@ -44,7 +44,7 @@ pub pumping_full : (peer : ℕ) (first now : Standing) (before octets after : Li
     after ≡ octets → take (length before) after ≡ before
 pumping_full peer first now before octets after h same = ap (take (length before)) (same ∙ h.is) ∙ take_at before h.more (length before) refl
 
--- the room that is left serves for the units after
+-- the room that is left is enough for the units after it
 pub pumping_room : (peer : ℕ) (now next : Standing) (unit : Given) → drained now ≡ record { units = unit ∷ (drained next).units; link = (drained next).link } →
     length (packets (written_by peer now)) ≡ length (packets (unit_of peer unit ∷ [])) + length (packets (written_by peer next))
 pumping_room peer now next unit e =
@@ -52,7 +52,7 @@ pumping_room peer now next unit e =
     ap (λ us. length (packets us)) given ∙ ap length (packets_join (unit_of peer unit ∷ []) (written_by peer next))
     ∙ length-append (packets (unit_of peer unit ∷ [])) (packets (written_by peer next))
 
--- if the next unit finds no room, there was none for all
+-- if there is no room for the next unit, there was not room for all
 pub pumping_short : (peer : ℕ) (first now then : Standing) (unit : Given) (room left : ℕ) → drained now ≡ record { units = unit ∷ (drained then).units; link = (drained then).link } →
     (length (packets (written_by peer first)) ≤ room → length (packets (written_by peer now)) ≤ left) → left < length (packets (unit_of peer unit ∷ [])) → room < length (packets (written_by peer first))
 pumping_short peer first now then unit room left e more full =
@@ -66,7 +66,7 @@ unit_most : (peer : ℕ) (unit : Given) → length (packet_of (written (unit_of 
 unit_most peer (part0 end octets) = omega arith
 unit_most peer given = omega arith
 
--- a unit takes at most 9 octets beside those of its part
+-- a unit takes at most 9 octets more than its part
 pub packets_most : (peer : ℕ) (units : List Given) → length (packets (map (unit_of peer) units)) ≤ octets_in units + 9 * length units
 packets_most peer [] = omega arith
 packets_most peer (u ∷ units) =

@@ -52,7 +52,7 @@ along_over start now after all left more unit h e acts over =
     inl (sym (ap (λ l. reacts l start) (h.parts ∙ ap (λ l. h.done ++ l) e) ∙ reacts_join h.done (unit ∷ more) start
     ∙ ap (λ s. reacts (unit ∷ more) s) (sym h.acted) ∙ ap (reacts more) (sym one) ∙ rest))
 
--- a unit for which there was no memory did nothing
+-- a unit for which memory ran out did nothing
 pub along_starved : (start now tried after : State) (all left more : List Value) (unit : Value) → IsAlong start all now left → left ≡ unit ∷ more →
     ends NoMemory tried ≡ ends NoMemory now → grows now (in_class now.class unit now) ≡ true → after ≡ ends NoMemory tried → Act start all after
 along_starved start now tried after all left more unit h e nothing needs ended = grind (arith, react_quiet)
@@ -60,7 +60,7 @@ along_starved start now tried after all left more unit h e nothing needs ended =
 pub none_of : {A : Type 0} (o : Option A) → is_some o ≡ false → o ≡ None
 none_of o e = grind arith
 
--- one unit acts, or there was no memory for it
+-- one unit acts, or memory ran out for it
 pub one_acts : (start after : State) (unit : Value) → start.ended ≡ None → after ≡ in_class start.class unit start → Act start (unit ∷ []) after
 one_acts start after unit quiet acts = inl (acts ∙ sym (react_quiet unit start quiet))
 

@@ -26,7 +26,7 @@ packets_leave (u ∷ units) s r h =
     let parts = ap length h.3 ∙ length-append h.0 h.1 in
     omega arith
 
--- what a packet did is what its units do, or one of them found no memory
+-- what a packet did is what its units do, or memory ran out for one of them
 acts_by_cases : (units : Result (List Value) TpduFault) (old new : State) → ActsBy units old new →
     (new ≡ acts_by units old) ⊎ ((us : List Value) × (units ≡ Ok us) × RunsOut old us new)
 acts_by_cases (Ok us) old new (inl h) = inl h
@@ -39,7 +39,7 @@ acts_cases old new packet h = acts_by_cases (units_of packet) old new h
 
 -- ---- the progress of reading a piece
 
--- the packets in front of `rest` have acted, and none of them stopped
+-- the packets before `rest` have acted, and none of them stopped
 pub record IsRead (old : Carrying) (piece : List ℕ) (now : Carrying) (rest : List ℕ) : Type 0 where
   pub front : List ℕ
   pub units : List (List ℕ)
@@ -49,7 +49,7 @@ pub record IsRead (old : Carrying) (piece : List ℕ) (now : Carrying) (rest : L
   pub quiet : stops now.state ≡ false
   pub reading : IsReading now.held
   pub offset : now.held.offset ≡ offset_of (old.held.offset + (length (old.held.octets ++ front) - length now.held.octets))
-  -- of the piece nothing is held
+  -- nothing of the piece is held
   pub first : (front ≡ []) ⊎ (now.held.octets ≡ [])
   pub room : old.held.room ≤ now.held.room
   -- there is a piece, and nothing had stopped
@@ -126,7 +126,7 @@ read_next old piece now rest used new read acts quiet =
       begun = read.begun;
     }
 
--- so much of the piece was looked at
+-- this much of the piece was looked at
 looked : (piece front rest : List ℕ) (used : ℕ) → piece ≡ (front ++ take used rest) ++ drop used rest →
     (take (length (front ++ take used rest)) piece ≡ front ++ take used rest) × (length (front ++ take used rest) ≤ length piece)
 looked piece front rest used cut =

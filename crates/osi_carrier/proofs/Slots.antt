@@ -1,4 +1,4 @@
--- A part of a TSDU in the data unit that a link lets go, where the TSDU is given in two pieces.
+-- A part of a TSDU in the data unit that a link lets a caller send, if the TSDU is given in two pieces.
 -- For `send_whole`, `write_parts` and `write_headed` of links.
 use Rattle.std.proofs.Common.{◌≡◌, ℕ, ◌+◌, ◌-◌, ◌<◌, ◌≤◌, Bool, true, false, leb, eqb, List, ◌++◌, length, take, drop, Option, Some, None, refl, sym, ap, ◌∙◌, arith, length-append, length-drop}
 use Rattle.std.proofs.Math.Seq.{take-append-add, drop-append-add}
@@ -8,13 +8,13 @@ pub part_octets : (number : Option ℕ) (end : Bool) (octets : List ℕ) → oct
 part_octets None end octets = refl
 part_octets (Some number) end octets = refl
 
--- a TSDU that fits a unit goes in one
+-- a TSDU that fits one unit is sent in one
 pub whole_part : (slot : Slot) (limit : ℕ) (tsdu : List ℕ) → length tsdu ≤ limit → first_in slot limit tsdu ≡ part_under (number_in slot) true tsdu
 whole_part slot limit tsdu fits =
     ap (λ (b : Bool). part_under (number_in slot) b (take (min limit (length tsdu)) tsdu)) (le-leb (length tsdu) limit fits)
     ∙ ap (part_under (number_in slot) true) (take_all (min limit (length tsdu)) tsdu (omega arith))
 
--- nothing is left exactly where all of it fits
+-- nothing is left exactly if all of it fits
 ends_by : (limit octets left : ℕ) (fits : Bool) → leb octets limit ≡ fits → left ≡ octets - min limit octets → eqb left 0 ≡ fits
 ends_by limit octets left true e is = let few = leb-true octets limit e in eq-eqb left 0 (omega arith)
 ends_by limit octets left false e is = let many = leb-false octets limit e in ne_eqb left 0 (λ none. omega arith)

@@ -1,4 +1,4 @@
-//! The carrier: its calls, and what it tells.
+//! The carrier: its calls, and what it reports.
 
 use crate::ends::EndReason;
 use crate::events::{Event, Ref};
@@ -16,8 +16,8 @@ mod feeding;
 
 use feeding::Fetched;
 
-/// The transport protocol of one end of a byte connection (X.224 classes 0 and 2 over RFC 1006):
-/// connections by reference, each with TSDUs each way.
+/// The transport protocol at one end of a byte connection (X.224 classes 0 and 2 over RFC 1006). Connections go by
+/// reference, and each carries TSDUs both ways.
 #[derive(Drop)]
 pub struct Carrier {
     alloc: Global,
@@ -60,7 +60,7 @@ impl Carrier {
         }
     }
 
-    /// The called end of a byte connection, which awaits a CR.
+    /// The called end of a byte connection, which waits for a CR.
     pub fn called(alloc: Global, local: Local) -> Self
         ensures { result ≡ record { state = fresh_state false local; held = fresh } }
     {
@@ -71,17 +71,15 @@ impl Carrier {
         }
     }
 
-    /// Whether [`Carrier::connect`] would ask for a connection now, or the first reason why not. Takes
-    /// no memory.
+    /// Whether [`Carrier::connect`] would request a connection now, or the first reason why not. Allocates nothing.
     pub fn may_connect(&self) -> Result<(), OpenError>
         ensures { MatchResult result (λ _. may_connect self.now.state ≡ None) (λ e. may_connect self.now.state ≡ Some e) }
     {
         self.switch.may_connect()
     }
 
-    /// Asks for a connection, with these transport selectors: the next reference is given, and a CR is
-    /// written. The errors are those of [`Carrier::may_connect`], and then want of memory; each changes
-    /// nothing.
+    /// Requests a connection with these transport selectors: the connection gets the next reference, and a CR is
+    /// written. The errors are those of [`Carrier::may_connect`], and then out of memory. An error changes nothing.
     pub fn connect(&mut self, calling: Option<Tsap>, called: Option<Tsap>) -> Result<Ref, OpenError>
         ensures ok { OnOk result (self.new ≡ record self.old { state = asks (option_map tsap_octets calling) (option_map tsap_octets called) self.old.state }) }
         ensures reference { IfOk result (λ r. r.0 ≡ self.old.state.given + 1) }
@@ -92,8 +90,8 @@ impl Carrier {
         self.switch.connect(calling, called)
     }
 
-    /// Sends a TSDU of at most 1,048,576 octets on an open connection: all units that may be sent now
-    /// are written, straight from its octets, and what may not is kept. Each error changes nothing.
+    /// Sends a TSDU of at most 1,048,576 octets on an open connection. All units that may be sent now are written,
+    /// straight from its octets; the rest is kept. An error changes nothing.
     pub fn send(&mut self, reference: Ref, tsdu: &[u8]) -> Result<(), SendError>
         ensures ok { OnOk result (self.new ≡ record self.old { state = sent reference.0 tsdu.now self.old.state }) }
         ensures allowed { OnOk result (send_error tsdu.now (open_link reference.0 self.old.state) ≡ None) }
@@ -103,8 +101,8 @@ impl Carrier {
         self.switch.send_headed(reference.0, &[], tsdu)
     }
 
-    /// Sends a TSDU as [`Carrier::send`] does, with the room that its octets are in: those that may not
-    /// be sent now are not copied until they may. Where none may, and nothing else waits at the connection,
+    /// Sends a TSDU as [`Carrier::send`] does, and takes over the buffer with its octets: octets that may not be sent
+    /// yet are not copied until they may. If none of it may be sent now and nothing else is queued at the connection,
     /// no memory is needed.
     pub fn send_owned(&mut self, reference: Ref, tsdu: Vec<u8>) -> Result<(), SendError>
         ensures ok { OnOk result (self.new ≡ record self.old { state = sent reference.0 tsdu.items self.old.state }) }
@@ -116,9 +114,9 @@ impl Carrier {
         self.switch.send(reference.0, CowSlice::Owned(tsdu))
     }
 
-    /// Sends a TSDU as [`Carrier::send`] does, which is given in two pieces: its first octets and the others, as
-    /// a header and what follows it. What may go now is written straight from them. Where not all of it may,
-    /// the rest is kept.
+    /// Sends a TSDU as [`Carrier::send`] does. The TSDU is given in two pieces, its first octets and the others, such
+    /// as a header and what follows it. What may be sent now is written straight from the pieces; if not all of it
+    /// may, the rest is kept.
     #[inline(always)]
     pub fn send_headed(&mut self, reference: Ref, head: &[u8], body: &[u8]) -> Result<(), SendError>
         ensures ok { OnOk result (self.new ≡ record self.old { state = sent reference.0 (head.now ++ body.now) self.old.state }) }
@@ -129,10 +127,9 @@ impl Carrier {
         self.switch.send_headed(reference.0, head, body)
     }
 
-    /// Sends TSDUs of at most 1,048,576 octets each together on an open connection, all or none: as
-    /// [`Carrier::send`] does with each, the first of them first. The errors are those of that, where one
-    /// TSDU that is too long counts for all; each changes nothing. An empty list sends none, and takes no
-    /// memory.
+    /// Sends TSDUs of at most 1,048,576 octets each together on an open connection, all or none, in order, as
+    /// [`Carrier::send`] does with each. The errors are the same; one TSDU that is too long makes the whole call fail.
+    /// An error changes nothing. An empty list sends nothing, and allocates nothing.
     pub fn send_all(&mut self, reference: Ref, tsdus: &[Vec<u8>]) -> Result<(), SendError>
         ensures ok { OnOk result (self.new ≡ record self.old { state = sent_all reference.0 (map (λ v. v.items) tsdus.now) self.old.state }) }
         ensures allowed { OnOk result (send_all_error (map (λ v. v.items) tsdus.now) (open_link reference.0 self.old.state) ≡ None) }
@@ -143,9 +140,9 @@ impl Carrier {
         self.switch.send_all(reference.0, CowSlice::Borrowed(tsdus))
     }
 
-    /// Sends TSDUs together as [`Carrier::send_all`] does, with the room that their octets are in: none of
-    /// them is copied before it is written. Where none may be sent now, nothing else waits at the connection and their
-    /// octets are fewer than 2^64, no memory is needed.
+    /// Sends TSDUs together as [`Carrier::send_all`] does, and takes over their buffers: none is copied before it is
+    /// written. If none may be sent now, nothing else is queued at the connection, and they have fewer than 2^64
+    /// octets together, no memory is needed.
     pub fn send_all_owned(&mut self, reference: Ref, tsdus: Vec<Vec<u8>>) -> Result<(), SendError>
         ensures ok { OnOk result (self.new ≡ record self.old { state = sent_all reference.0 (map (λ v. v.items) tsdus.items) self.old.state }) }
         ensures allowed { OnOk result (send_all_error (map (λ v. v.items) tsdus.items) (open_link reference.0 self.old.state) ≡ None) }
@@ -157,9 +154,9 @@ impl Carrier {
         self.switch.send_all(reference.0, CowSlice::Owned(tsdus))
     }
 
-    /// Closes an open connection, with this reason: in class 2 a DR is written, and the connection is
-    /// closing until the peer answers; in class 0 the carrier ends with [`EndReason::Closed`], for which
-    /// no memory is needed, and what is still to be carried stays.
+    /// Closes an open connection with this reason. In class 2 a DR is written, and the connection is closing until the
+    /// peer answers. In class 0 the carrier ends with [`EndReason::Closed`]; this needs no memory, and the octets in
+    /// [`Carrier::outgoing`] stay.
     pub fn close(&mut self, reference: Ref, reason: u8) -> Result<(), SendError>
         ensures ok { OnOk result (self.new ≡ record self.old { state = closed_with reference.0 reason self.old.state }) }
         ensures allowed { OnOk result (close_error (open_link reference.0 self.old.state) ≡ None) }
@@ -170,13 +167,12 @@ impl Carrier {
         self.switch.close(reference.0, reason)
     }
 
-    /// Feeds a piece of the stream that comes from the peer. Its packets act one after the other, up
-    /// to one that tells the user something or ends the carrier. The rest of the piece is to be fed
-    /// again once the events were taken.
+    /// Feeds a piece of the stream from the peer. Its packets take effect one after the other, up to one that causes
+    /// an event or ends the carrier. Take the events, and then feed the rest of the piece.
     ///
-    /// An empty piece changes nothing. While an event waits nothing is used; else some of a piece that
-    /// is not empty is. All of the piece is used after the end, and where the carrier ends now by a fault
-    /// or for want of memory.
+    /// An empty piece changes nothing. While an event is pending, nothing is used; otherwise at least one octet of a
+    /// piece that is not empty is used. All of the piece is used after the end, and also if the carrier ends now
+    /// because of a fault or because memory ran out.
     pub fn feed(&mut self, piece: &[u8]) -> Fed
         ensures feeds { Feeds self.old piece.now result self.new }
         ensures empty { piece.now ≡ [] → (result.used ≡ 0) × (self.new ≡ self.old) }
@@ -209,7 +205,7 @@ impl Carrier {
         }
     }
 
-    /// So many octets were used, and perhaps an event waits.
+    /// This many octets were used, and perhaps an event is pending.
     #[inline(always)]
     fn fed(&self, used: usize) -> Fed
         ensures used { result.used ≡ used }
@@ -221,7 +217,7 @@ impl Carrier {
         }
     }
 
-    /// The oldest event that waits; none exactly where none waits. Takes no memory.
+    /// The oldest pending event; `None` exactly if no event is pending. Allocates nothing.
     pub fn next_event(&mut self) -> Option<Event>
         ensures told { Tells (option_map happening result) self.old.state self.new.state }
         ensures held { self.new.held ≡ self.old.held }
@@ -229,15 +225,15 @@ impl Carrier {
         self.switch.events.pop()
     }
 
-    /// The octets to be carried to the peer, the first of them first.
+    /// The octets to send to the peer, in order.
     pub fn outgoing(&self) -> &[u8]
         ensures { result.now ≡ self.now.state.outgoing }
     {
         self.switch.outgoing.as_slice()
     }
 
-    /// The first octets of [`Carrier::outgoing`] were carried: at most as many as there are. Where these are
-    /// all, what is written next goes to the front of the buffer.
+    /// Says that the first octets of [`Carrier::outgoing`] were sent: at most as many as there are. If these are all,
+    /// what is written next goes to the front of the buffer.
     #[tactic(auto, using(std::proofs::lemmas::List::drop_all))]
     pub fn taken(&mut self, octets: usize)
         requires { octets ≤ length self.old.state.outgoing }
@@ -250,29 +246,29 @@ impl Carrier {
         self.switch.outgoing.advance(octets);
     }
 
-    /// The byte connection broke. Nothing changes where the carrier has ended.
+    /// The byte connection broke. Nothing changes if the carrier has ended.
     pub fn broken(&mut self)
         ensures { self.new ≡ record self.old { state = ended_by Broken self.old.state } }
     {
         self.switch.end_by(EndReason::Broken);
     }
 
-    /// There was no memory for what the carrier told. Nothing changes where it has ended.
+    /// Memory ran out for something that the carrier reported. Nothing changes if the carrier has ended.
     pub fn starved(&mut self)
         ensures { self.new ≡ record self.old { state = ended_by NoMemory self.old.state } }
     {
         self.switch.end_by(EndReason::NoMemory);
     }
 
-    /// Why the carrier ended; none before it has.
+    /// Why the carrier ended; `None` before its end.
     pub fn ended(&self) -> Option<EndReason>
         ensures { result ≡ self.now.state.ended }
     {
         self.switch.ended
     }
 
-    /// How many octets are held of what came: those of the packet under way and of the unfinished
-    /// TSDUs of open connections. At most 65,535, and 1,048,576 for each live connection.
+    /// How many octets of the input are held: those of the unfinished packet and of the unfinished TSDUs of open
+    /// connections. At most 65,535, and 1,048,576 more for each live connection.
     pub fn kept(&self) -> usize
         ensures value { result ≡ length self.now.held.octets + kept_in self.now.state.live }
         ensures at_most { result ≤ 65535 + 1048576 * length self.now.state.live }
@@ -280,24 +276,24 @@ impl Carrier {
         self.cutter.rest_len() + self.switch.kept()
     }
 
-    /// How many octets of TSDUs were handed in at a connection and are not yet in units: what credit
-    /// holds back in class 2, where [`Carrier::outgoing`] does not show it (X.224 section 6.16). 0 where
-    /// no open connection has this reference. Takes no memory.
+    /// How many octets of TSDUs were handed in at a connection and are not yet in units: in class 2 what waits for
+    /// credit, which [`Carrier::outgoing`] does not contain (X.224 section 6.16). 0 if no open connection has this
+    /// reference. Allocates nothing.
     pub fn unsent(&self, reference: Ref) -> usize
         ensures { result ≡ unsent_at (value_at reference.0 self.now.state.live) }
     {
         self.switch.live.unsent(reference.0)
     }
 
-    /// The octets of [`Carrier::unsent`] of all connections together, or `usize::MAX` where they are
-    /// more. Takes no memory.
+    /// The octets of [`Carrier::unsent`] of all connections together, or `usize::MAX` if they are more. Allocates
+    /// nothing.
     pub fn backlog(&self) -> usize
         ensures { result ≡ min (backlog_of self.now.state.live) (2 ^ 64 - 1) }
     {
         self.switch.live.backlog()
     }
 
-    /// How many connections are live: asked for, open or closing. At most 64. Takes no memory.
+    /// How many connections are live: requested, open or closing. At most 64. Allocates nothing.
     pub fn live(&self) -> usize
         ensures value { result ≡ length self.now.state.live }
         ensures at_most { result ≤ 64 }
@@ -305,23 +301,22 @@ impl Carrier {
         self.switch.live.len()
     }
 
-    /// Whether a live connection has this reference: one that is asked for, open or closing. Takes no
-    /// memory.
+    /// Whether a live connection has this reference: one that is requested, open or closing. Allocates nothing.
     pub fn is_live(&self, reference: Ref) -> bool
         ensures { result ≡ is_some (value_at reference.0 self.now.state.live) }
     {
         self.switch.live.is_live(reference.0)
     }
 
-    /// The transport selectors that the CR of a live connection names, as it came or as it was asked
-    /// for (X.224 section 13.3.4); none where no live connection has this reference. Takes no memory.
+    /// The transport selectors in the CR of a live connection, as the CR was received or requested (X.224 section
+    /// 13.3.4); `None` if no live connection has this reference. Allocates nothing.
     pub fn tsaps(&self, reference: Ref) -> Option<Tsaps>
         ensures { option_map tsap_ids result ≡ tsaps_at reference.0 self.now.state }
     {
         self.switch.names.find(reference.0)
     }
 
-    /// How many references were given: they are the numbers from 1 up to this one. Takes no memory.
+    /// How many references were given: they are the numbers from 1 to this one. Allocates nothing.
     pub fn given(&self) -> u16
         ensures { result ≡ self.now.state.given }
     {

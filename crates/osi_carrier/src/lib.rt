@@ -7,11 +7,11 @@
 //! ```text
 //! let mut carrier = Carrier::caller(alloc, local);
 //! let reference = carrier.connect(None, None)?;
-//! let fed = carrier.feed(piece);                // stops after a packet that tells something
+//! let fed = carrier.feed(piece);                // stops after a packet that causes an event
 //! while let Some(event) = carrier.next_event() {
 //!     // Event::Opened(reference): carrier.send(reference, tsdu)?
 //! }
-//! // what is to be carried: carrier.outgoing(), and carrier.taken(count)
+//! // the octets to send: carrier.outgoing(), and then carrier.taken(count)
 //! ```
 //!
 //! A connection goes by a [`Ref`], the number that this end gave it. In class 0 a byte connection has one connection;

@@ -1,4 +1,4 @@
-//! The links of open connections: units that come for them, and units that they give.
+//! The links of open connections: units that are received for them, and units that they give.
 
 ghost use Rattle.std.specs.Prelude.{◌≡◌, ◌<◌, ◌≤◌, ◌+◌, ◌^◌, ◌++◌, [], None, true, false, nat_lt, length, drop, map, IfOk, IsOk, OnOk, OnErr};
 ghost use Rattle.std.specs.Cow.{cow_slice_items, IsOwnedSlice};
@@ -26,18 +26,17 @@ const MOST_OCTETS: usize = 8189;
 /// The octets of a TSDU that each unit has room for.
 const LEAST_LIMIT: usize = 123;
 
-/// What became of a unit that came for an open connection.
+/// The result of handing a unit to the link of an open connection.
 #[derive(Drop)]
 pub enum Step {
-    /// The link took it, and perhaps a TSDU became whole.
+    /// The link took it, and perhaps a TSDU became complete.
     Took(Option<Vec<u8>>),
     /// The link refused it.
     Broke(LinkFault),
 }
 
-/// Writes all units that a link gives now, to this reference of the peer. Want of memory leaves the
-/// octets of `out` as they were, and comes only where the link gives a unit, and never where there is room
-/// for all of them.
+/// Writes all units that a link gives now, to this reference of the peer. An allocation failure leaves the octets of
+/// `out` as they were; it is possible only if the link gives a unit, and not if there is room for all of them.
 #[inline(always)]
 pub fn pump(link: &mut AnyLink, peer: u16, out: &mut BytesMut) -> Result<(), AllocError>
     ensures link { OnOk result (any_standing link.new ≡ pumped (any_standing link.old)) }
@@ -59,9 +58,8 @@ pub fn pump(link: &mut AnyLink, peer: u16, out: &mut BytesMut) -> Result<(), All
     Ok(())
 }
 
-/// Writes a TSDU, which is given as its first octets and the others, as one unit straight from these, where it
-/// fits one, the link gives it now and there is memory. `false` in all other cases, and then nothing has
-/// changed.
+/// Writes a TSDU, given as its first octets and the others, as one unit straight from these octets, if it fits one,
+/// the link gives it now and there is memory. In all other cases `false`, and then nothing has changed.
 #[inline(always)]
 pub fn send_whole(
     link: &mut AnyLink,
@@ -98,8 +96,8 @@ pub fn send_whole(
     true
 }
 
-/// Hands in a TSDU that is kept by the link: an owned one as it is, and of a borrowed one a copy. Want of
-/// memory changes nothing.
+/// Hands in a TSDU that the link keeps: an owned one itself, and a copy of a borrowed one. An allocation failure
+/// changes nothing.
 fn keep(link: &mut AnyLink, tsdu: CowSlice<'_, u8, Global>) -> Result<(), AllocError>
     ensures ok { OnOk result (any_standing link.new ≡ with_tsdu (any_standing link.old) (cow_slice_items tsdu.entry)) }
     ensures err { OnErr result (link.new ≡ link.old) }
@@ -111,9 +109,9 @@ fn keep(link: &mut AnyLink, tsdu: CowSlice<'_, u8, Global>) -> Result<(), AllocE
     }
 }
 
-/// Hands in a TSDU at a link that gives nothing now, and writes all units that it gives then, where not all may
-/// be sent now, or it takes several units. It is kept only in the first case, and copied only where it was
-/// borrowed. Want of memory changes nothing: the room for the units is made first.
+/// Hands in a TSDU at a link that gives nothing now, if it takes several units or not all of it may be sent now, and
+/// writes all units that the link then gives. It is kept only if not all of it may be sent, and copied only if it was
+/// borrowed. An allocation failure changes nothing: the room for the units is reserved first.
 pub fn send_parts(
     alloc: Global,
     link: &mut AnyLink,
@@ -143,8 +141,8 @@ pub fn send_parts(
     Ok(())
 }
 
-/// Hands in TSDUs together that are kept by the link: owned ones as they are, and of borrowed ones copies.
-/// Want of memory changes nothing.
+/// Hands in TSDUs together that the link keeps: owned ones themselves, and copies of borrowed ones. An allocation
+/// failure changes nothing.
 fn keep_all(link: &mut AnyLink, tsdus: CowSlice<'_, Vec<u8>, Global>) -> Result<(), AllocError>
     ensures ok { OnOk result (any_standing link.new ≡ with_tsdus (any_standing link.old) (map (λ v. v.items) (cow_slice_items tsdus.entry))) }
     ensures err { OnErr result (link.new ≡ link.old) }
@@ -156,8 +154,8 @@ fn keep_all(link: &mut AnyLink, tsdus: CowSlice<'_, Vec<u8>, Global>) -> Result<
     }
 }
 
-/// Hands in TSDUs together at a link that gives nothing now, and writes all units that it gives then. Want of
-/// memory changes nothing: the room for the units is made first. Owned ones that only wait need none.
+/// Hands in TSDUs together at a link that gives nothing now, and writes all units that it then gives. An allocation
+/// failure changes nothing: the room for the units is reserved first. Owned ones that only wait need no memory.
 #[tactic(auto, using(crate::proofs::NothingTakesNoRoom::nothing_takes_no_room))]
 pub fn send_all_on(
     link: &mut AnyLink,
@@ -186,8 +184,8 @@ pub fn send_all_on(
     Ok(())
 }
 
-/// Writes the units of a TSDU that go now, part after part, straight from its octets, and lets the link keep `kept`: the
-/// octets that may not go yet. There is room for the units in `out`.
+/// Writes the units of a TSDU that may be sent now, part after part, straight from its octets, and lets the link keep
+/// `kept`: the octets that may not be sent yet. There is room for the units in `out`.
 fn write_parts(link: &mut AnyLink, peer: u16, tsdu: &[u8], kept: Vec<u8>, out: &mut BytesMut)
     requires quiet { next (any_standing link.old) ≡ None }
     requires alone { (any_standing link.old).ends.unsent ≡ [] }
@@ -218,7 +216,7 @@ fn write_parts(link: &mut AnyLink, peer: u16, tsdu: &[u8], kept: Vec<u8>, out: &
     }
 }
 
-/// The same of a TSDU of which the first octets are given apart, and of which a part goes now.
+/// The same for a TSDU whose first octets are given apart, and of which a part is sent now.
 fn write_headed(
     link: &mut AnyLink,
     peer: u16,
@@ -251,8 +249,8 @@ fn write_headed(
     write_parts(link, peer, rest, kept, out);
 }
 
-/// What is left of a TSDU, which is given as its first octets and the others, behind so many octets: a copy. No memory
-/// is needed if nothing is left.
+/// A copy of what is left of a TSDU, given as its first octets and the others, after this many octets. No memory is
+/// needed if nothing is left.
 fn rest_behind(
     alloc: Global,
     head: &[u8],
@@ -271,7 +269,7 @@ fn rest_behind(
     Vec::from_slice(alloc, rest)
 }
 
-/// Both pieces in one room.
+/// Both pieces in one buffer.
 fn joined(alloc: Global, head: &[u8], body: &[u8]) -> Result<Vec<u8>, AllocError>
     requires { length head.now + length body.now ≤ 1048576 }
     ensures { IfOk result (λ v. v.items ≡ head.now ++ body.now) }
@@ -282,10 +280,10 @@ fn joined(alloc: Global, head: &[u8], body: &[u8]) -> Result<Vec<u8>, AllocError
     Ok(octets)
 }
 
-/// Hands in a TSDU, which is given as its first octets and the others, at a link that gives nothing now, and
-/// writes all units that it gives then, where not all may be sent now, or it takes several units. What goes now is
-/// written straight from these octets. Only what may not go yet is kept, by a copy of its own. Want of memory changes
-/// nothing: the room for the units and for what is kept is made first.
+/// Hands in a TSDU, given as its first octets and the others, at a link that gives nothing now, if it takes several
+/// units or not all of it may be sent now, and writes all units that the link then gives. They are written straight
+/// from these octets. Only what may not be sent yet is kept, as a copy. An allocation failure changes nothing: the
+/// room for the units and for what is kept is reserved first.
 #[inline(never)]
 pub fn send_headed_parts(
     alloc: Global,

@@ -27,19 +27,19 @@ use std::marker::Model;
 /// How many connections may be live at once.
 pub const MOST_LIVE: usize = 64;
 
-/// How far a live connection is, with its link where it is open.
+/// How far a live connection is, with its link if it is open.
 #[derive(Drop)]
 pub enum Phase {
-    /// A CR was sent, and no answer came.
+    /// A CR was sent, and no answer was received.
     Asked,
     /// Open, with the peer's reference.
     Linked(u16, AnyLink),
-    /// A DR was sent to the peer's reference, and is to be answered.
+    /// A DR was sent to the peer's reference, and is not answered yet.
     Closing(u16),
 }
 
-/// A connection for whose link there was no memory: no unit is handed to it any more. It stands out of line:
-/// else the room for a phase would be made on the way of data, too.
+/// A connection for whose link memory ran out: no more units are handed to it. The function is kept out of line:
+/// otherwise stack space for a phase would be reserved on the data path, too.
 #[inline(never)]
 fn give_up(phase: &mut Phase, peer: u16)
     ensures { phase.new ≡ Phase.Closing peer }
@@ -87,7 +87,7 @@ impl Row {
         }
     }
 
-    /// The octets of TSDUs that were handed in at it and are not yet in units.
+    /// The octets of TSDUs that were handed in here and are not yet in units.
     fn unsent(&self) -> usize
         ensures { result ≡ unsent_by self.now.1 }
     {
@@ -137,9 +137,9 @@ impl Row {
         Ok(Step::Took(whole))
     }
 
-    /// Hands in a TSDU, which is given as its first octets and the others, at the link of the connection, which
-    /// is open with this reference of the peer, and writes what the link gives then: where all of it goes now,
-    /// straight from these octets. Want of memory changes nothing.
+    /// Hands in a TSDU, given as its first octets and the others, at the link of the connection, which is open with
+    /// this reference of the peer, and writes what the link then gives: if all of it may be sent now, straight from
+    /// these octets. An allocation failure changes nothing.
     #[inline(always)]
     fn send_headed(
         &mut self,
@@ -165,9 +165,9 @@ impl Row {
         send_headed_parts(alloc, link, peer, head, body, out)
     }
 
-    /// Hands in TSDUs together at the link of the connection, which is open with this reference of the
-    /// peer, and writes what the link gives then. Want of memory changes nothing, and owned TSDUs that wait
-    /// alone need none.
+    /// Hands in TSDUs together at the link of the connection, which is open with this reference of the peer, and
+    /// writes what the link then gives. An allocation failure changes nothing; owned TSDUs that only wait need no
+    /// memory.
     fn send_all(
         &mut self,
         peer: u16,
@@ -200,8 +200,8 @@ impl Row {
 #[derive(Drop)]
 pub struct Connections {
     rows: Vec<Row>,
-    /// Each reference is above those before it. They are looked up where they must be as long as that
-    /// is so.
+    /// Whether each reference is above those before it. If so, a reference is looked up first at the place that its
+    /// number suggests.
     rises: bool,
 }
 
@@ -238,8 +238,8 @@ fn kept_of(rows: &[Row]) -> usize
     octets
 }
 
-/// The octets of TSDUs that were handed in at these connections and are not yet in units, or
-/// `usize::MAX` where they are more.
+/// The octets of TSDUs that were handed in at these connections and are not yet in units, or `usize::MAX` if they are
+/// more.
 fn backlog_of(rows: &[Row]) -> usize
     ensures { result ≡ min (backlog_of rows.now) (2 ^ 64 - 1) }
 {
@@ -251,7 +251,7 @@ fn backlog_of(rows: &[Row]) -> usize
 }
 
 impl Connections {
-    /// None is live.
+    /// No connection is live.
     pub fn new(alloc: Global) -> Self
         ensures { result ≡ [] }
     {
@@ -293,7 +293,7 @@ impl Connections {
         }
     }
 
-    /// The reference that was given first of those that are live.
+    /// The lowest live reference.
     pub fn first(&self) -> Option<u16>
         ensures { result ≡ first_of self.now }
     {
@@ -326,8 +326,8 @@ impl Connections {
         kept_of(self.rows.as_slice())
     }
 
-    /// The octets of TSDUs that were handed in at the connection of this reference and are not yet in
-    /// units; 0 where none has it.
+    /// The octets of TSDUs that were handed in at the connection with this reference and are not yet in units; 0 if no
+    /// connection has it.
     #[tactic(auto, using(crate::proofs::Places::nowhere))]
     pub fn unsent(&self, reference: u16) -> usize
         ensures { result ≡ unsent_at (value_at reference self.now) }
@@ -346,7 +346,7 @@ impl Connections {
         self.rows[place].unsent()
     }
 
-    /// Those of all connections, or `usize::MAX` where they are more.
+    /// Those of all connections, or `usize::MAX` if they are more.
     pub fn backlog(&self) -> usize
         ensures { result ≡ min (backlog_of self.now) (2 ^ 64 - 1) }
     {
@@ -362,7 +362,7 @@ impl Connections {
         &self.rows[place].phase
     }
 
-    /// Puts a new connection behind the others. Want of memory changes nothing.
+    /// Adds a new connection after the others. An allocation failure changes nothing.
     pub fn push(&mut self, reference: u16, phase: Phase) -> Result<(), AllocError>
         requires room { length self.old < 64 }
         requires pumped { IsPumped (connection phase) }
@@ -377,8 +377,8 @@ impl Connections {
         Ok(())
     }
 
-    /// Hands a unit to the link of the connection at this place, which is open with this reference
-    /// of the peer. Want of memory leaves the octets of `out` as they were.
+    /// Hands a unit to the link of the connection at this place, which is open with this reference of the peer. An
+    /// allocation failure leaves the octets of `out` as they were.
     #[inline(always)]
     pub fn step(
         &mut self,
@@ -399,9 +399,9 @@ impl Connections {
         self.rows[place].step(peer, unit, out)
     }
 
-    /// Hands in a TSDU at the link of the connection at this place, which is open with this reference
-    /// of the peer, and writes what the link gives then: where all of it goes now, straight from its octets. Want
-    /// of memory changes nothing, and an owned TSDU that waits alone needs none.
+    /// Hands in a TSDU at the link of the connection at this place, which is open with this reference of the peer, and
+    /// writes what the link then gives: if all of it may be sent now, straight from its octets. An allocation failure
+    /// changes nothing; an owned TSDU that only waits needs no memory.
     pub fn send(
         &mut self,
         alloc: Global,
@@ -427,9 +427,9 @@ impl Connections {
         send_parts(alloc, link, peer, tsdu, out)
     }
 
-    /// Hands in a TSDU, which is given as its first octets and the others, at the link of the connection at
-    /// this place, which is open with this reference of the peer, and writes what the link gives then. Want of
-    /// memory changes nothing.
+    /// Hands in a TSDU, given as its first octets and the others, at the link of the connection at this place, which
+    /// is open with this reference of the peer, and writes what the link then gives. An allocation failure changes
+    /// nothing.
     #[inline(always)]
     pub fn send_headed(
         &mut self,
@@ -451,8 +451,8 @@ impl Connections {
         self.rows[place].send_headed(alloc, peer, head, body, out)
     }
 
-    /// Hands in TSDUs together at the link of the connection at this place, which is open with this
-    /// reference of the peer. Want of memory changes nothing.
+    /// Hands in TSDUs together at the link of the connection at this place, which is open with this reference of the
+    /// peer. An allocation failure changes nothing.
     pub fn send_all(
         &mut self,
         place: usize,

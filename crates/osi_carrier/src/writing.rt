@@ -1,4 +1,4 @@
-//! Units written behind what is to be carried to the peer, each in a packet of its own.
+//! Units written after those that are still to be sent to the peer, each in a packet of its own.
 
 ghost use Rattle.std.specs.Prelude.{◌≡◌, ◌+◌, ◌≤◌, ◌<◌, ◌∷◌, ◌++◌, [], length, option_map, option_copied, IfSome, OnOk, OnErr};
 ghost use Rattle.osi_tpkt.specs.Octets.{IsOctets};
@@ -21,7 +21,7 @@ use osi_tpkt::laws::are_octets;
 use osi_tpkt::{WriteError, write_in_packet};
 use std::alloc::AllocError;
 
-/// Appends a unit in its packet. Want of memory leaves the octets of `out` as they were.
+/// Appends a unit in its packet. An allocation failure leaves the octets of `out` as they were.
 #[tactic(auto, using(crate::proofs::Units::one_packet_of, crate::proofs::Units::written_least, crate::proofs::Units::written_most))]
 pub fn put(out: &mut BytesMut, unit: &Tpdu<'_>) -> Result<(), AllocError>
     requires fits { Fits (value unit.now) }
@@ -133,7 +133,7 @@ fn check_confirm(unit: &ConnectConfirm<'_>)
     are_octets(unit.fields.user);
 }
 
-/// Appends a CR without user data (X.224 section 13.3), of which the alternative classes are few.
+/// Appends a CR without user data (X.224 section 13.3); its alternative classes are few.
 pub fn put_request(out: &mut BytesMut, unit: &ConnectRequest<'_>) -> Result<(), AllocError>
     requires few { HasFewClasses (request (request_content unit.now)) }
     requires user { unit.now.fields.user.now ≡ [] }
@@ -146,7 +146,7 @@ pub fn put_request(out: &mut BytesMut, unit: &ConnectRequest<'_>) -> Result<(), 
     put(out, &unit)
 }
 
-/// Appends a CC without user data (X.224 section 13.4), of which the alternative classes are few.
+/// Appends a CC without user data (X.224 section 13.4); its alternative classes are few.
 pub fn put_confirm(out: &mut BytesMut, unit: &ConnectConfirm<'_>) -> Result<(), AllocError>
     requires few { HasFewClasses (confirm unit.now.destination (confirm_content unit.now)) }
     requires user { unit.now.fields.user.now ≡ [] }

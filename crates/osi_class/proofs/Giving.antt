@@ -42,7 +42,7 @@ giving_leaves old new given e =
 limit_stays : (old new : Standing) (given : Given) → next old ≡ Some (given, new) → 0 < old.ends.limit → 0 < new.ends.limit
 limit_stays old new given e room = let same = (giving_leaves old new given e).limit in omega arith
 
--- with nothing left, nothing comes
+-- if nothing is left, nothing is given
 nothing_left : (s : Standing) → 0 < s.ends.limit → left_to_give s ≤ 0 → next s ≡ None
 nothing_left s room none =
     elim (next s) as (λ o. next s ≡ o → o ≡ None) [
@@ -50,7 +50,7 @@ nothing_left s room none =
       | Some p ↦ λ e. let less = giving_lowers s p.1 p.0 room e in absurd (omega arith)
     ] refl
 
--- more fuel changes nothing
+-- more fuel makes no difference
 within_enough : (n m : ℕ) (s : Standing) → 0 < s.ends.limit → left_to_give s ≤ n → left_to_give s ≤ m →
     drained_within n s ≡ drained_within m s
 within_enough zero zero s room a b = refl

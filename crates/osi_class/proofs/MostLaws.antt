@@ -14,7 +14,7 @@ less_parts : (headers limit : ℕ) (tsdu : List ℕ) (more : List (List ℕ)) �
     octets_in_parts headers limit (tsdu ∷ more) ≡ length tsdu + parts_needed limit (length tsdu) * headers + octets_in_parts headers limit more
 less_parts headers limit tsdu more = sum_by-cons (λ (t : List ℕ). length t + parts_needed limit (length t) * headers) tsdu more
 
--- the next part takes what is not left then
+-- the next part, with its headers, and what is left after it make up what was left
 abbrev Parts : ℕ → ℕ → List (List ℕ) → Part × List (List ℕ) → Type 0
 Parts headers limit unsent (p, rest) =
     (length p.1 + headers + octets_in_parts headers limit rest ≡ octets_in_parts headers limit unsent) × (length p.1 ≤ limit)
@@ -46,7 +46,7 @@ give_parts headers limit room (t ∷ more) =
     (λ b. cut_parts headers limit t more room (ltb-true limit (length t) b))
     (λ b. whole_parts headers limit t more room (ltb-false limit (length t) b))
 
--- the next unit takes what is not left then, or less
+-- the next unit, with its headers, and what may be given after it are at most what might be given
 abbrev Within : ℕ → ℕ → Given × Standing → Type 0
 Within headers most (unit, new) = octets_of unit + headers + most_given headers new ≤ most
 

@@ -3,11 +3,11 @@ use Rattle.std.proofs.Common.{◌≡◌, ℕ, Bool, List, [], ◌∷◌, ◌++�
 use Rattle.osi_class.proofs.Vocabulary.{append_assoc, Value, request, confirm, disconnect, disconnected, data0, data2, acknowledge, error, LinkFault, OutOfSequence, Ends, Flow, Sender, acknowledged, is_awaited, ack_number, after_acked, Joining, joined, Standing, Given, ack, given_part, next_by, next, with_joined, with_sender, taken_by, taken, taken_flow, sent_flow, two_standing, Move, hand_in, give_out, take_in, hand_out, Moves, MovesAlong, given_parts, unit_parts, tsdu_in, part_out, part_in, tsdu_out, tsdus_in, parts_out, parts_in, tsdus_out, Part, tsdus_after, uncut, give, MakeTheSame}
 use Rattle.osi_class.proofs.Order.{choose_some, choose_ok, at_some, at_ok, same_behind_all, Cuts, give_cuts, made, joined_makes, JoinsPart}
 
--- what a call keeps of what is sent, given these parts out and these TSDUs in
+-- what a call preserves of what is sent, with these parts given and these TSDUs handed in
 pub record Sends (old new : Ends) (ps : List Part) (ts : List (List ℕ)) : Type 0 where
   pub same : (later : List (List ℕ)) → MakeTheSame (ps ++ uncut (new.unsent ++ later)) (uncut (old.unsent ++ (ts ++ later)))
 
--- and of what is taken, given these parts in and these TSDUs out
+-- and of what is taken, with these parts taken and these TSDUs handed out
 pub record Takes (old new : Ends) (ps : List Part) (ts : List (List ℕ)) : Type 0 where
   pub same : (later : List Part) → made old.joining (ps ++ later) ≡ ts ++ made new.joining later
 

@@ -28,7 +28,7 @@ restoring_snoc window count acks =
     ap (λ (l : List ℕ). restoring window l) (numbers_snoc count acks)
     ∙ map-append (λ (number : ℕ). (number, window)) (numbers count acks) (((count + acks) % 128) ∷ [])
 
--- an AK that is in the sender's range and takes no credit back
+-- an AK that is in the sender's range and does not take credit back
 pub acknowledged_is : (s : Sender) (number credit left : ℕ) → steps_before s.next number ≡ left →
     left ≤ s.unacknowledged → s.credit + left ≤ credit →
     acknowledged s number credit ≡ Ok (record { next = s.next; unacknowledged = left; credit = credit - left })

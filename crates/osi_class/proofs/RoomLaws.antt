@@ -66,7 +66,7 @@ more_credit (suc c) limit some =
     let one : suc c * limit ≡ limit + c * limit = omega arith in
     one ∙ ap (λ (n : ℕ). limit + n * limit) (sym same)
 
--- with any credit as much goes as every unit carries
+-- with any credit, at least as many octets are given as every unit carries
 pub one_unit_carries : (credit limit octets parts : ℕ) → 123 ≤ limit → 0 < min parts credit → min 123 octets ≤ min octets (credit * limit)
 one_unit_carries credit limit octets parts least some = let more = more_credit credit limit (omega arith) in omega (arith, more)
 

@@ -7,7 +7,7 @@ use Rattle.osi_class.specs.declared.units.Slot.{Slot}
 use Rattle.osi_class.specs.declared.units.Slot.TheVariants.{Data0, Data2}
 use Rattle.osi_class.specs.Link.{Standing, Given, part0, part2, ack, part_under, next, with_tsdu}
 
--- how much is left to give: each octet and each TSDU that is to be sent, and each Ack that waits
+-- how much is left to give: each octet and each TSDU that is to be sent, and each Ack that is due
 abbrev pub left_of_tsdus : List (List ℕ) → ℕ
 left_of_tsdus [] = 0
 left_of_tsdus (tsdu ∷ more) = length tsdu + 1 + left_of_tsdus more
@@ -24,12 +24,12 @@ pub record Drained : Type 0 where
   pub units : List Given
   pub link : Standing
 
--- the next unit, and then what more of the link after it; nothing where there is none
+-- the next unit, and then what the link after it gives; nothing if there is none
 abbrev pub drained_by : Option (Given × Standing) → Standing → (Standing → Drained) → Drained
 drained_by None s more = record { units = []; link = s }
 drained_by (Some (unit, t)) s more = record { units = unit ∷ (more t).units; link = (more t).link }
 
--- at most so many units
+-- at most this many units
 abbrev pub drained_within : ℕ → Standing → Drained
 drained_within zero s = record { units = []; link = s }
 drained_within (suc n) s = drained_by (next s) s (drained_within n)
@@ -57,16 +57,16 @@ abbrev pub octets_in : List Given → ℕ
 octets_in [] = 0
 octets_in (unit ∷ units) = octets_of unit + octets_in units
 
--- in how many parts a TSDU of so many octets is cut: an empty one is one part too
+-- the number of parts into which a TSDU of this many octets is cut: an empty one is one part too
 abbrev pub parts_needed : ℕ → ℕ → ℕ
 parts_needed limit octets = (octets - 1) / limit + 1
 
--- what TSDUs take in parts, with so many octets of headers for each part
+-- the octets of TSDUs in parts, with this many octets of headers for each part
 abbrev pub octets_in_parts : ℕ → ℕ → List (List ℕ) → ℕ
 octets_in_parts headers limit tsdus = sum_by (λ tsdu. length tsdu + parts_needed limit (length tsdu) * headers) tsdus
 
--- the most that the units take which a link gives, with so many octets of headers for each: in class 2 no
--- more than the Acks that wait and the parts for which there is credit
+-- the most octets of the units that a link gives, with this many octets of headers for each: in class 2 only the Acks
+-- that are due and the parts for which there is credit
 abbrev pub most_by : ℕ → Ends → Option Flow → ℕ
 most_by headers e None = octets_in_parts headers e.limit e.unsent
 most_by headers e (Some f) =
@@ -75,8 +75,7 @@ most_by headers e (Some f) =
 abbrev pub most_given : ℕ → Standing → ℕ
 most_given headers s = most_by headers s.ends s.flow
 
--- what is given for TSDUs that are put behind what is to be sent one after the other, each behind all that is
--- given for the one before
+-- what is given for TSDUs that are queued one after the other, each after everything was given for the one before
 abbrev pub given_one_by_one : Standing → List (List ℕ) → List Given
 given_one_by_one s [] = []
 given_one_by_one s (tsdu ∷ tsdus) = all_given (with_tsdu s tsdu) ++ given_one_by_one (drained (with_tsdu s tsdu)).link tsdus
@@ -86,7 +85,7 @@ abbrev pub one_by_one : Standing → List (List ℕ) → Standing
 one_by_one s [] = s
 one_by_one s (tsdu ∷ tsdus) = one_by_one (drained (with_tsdu s tsdu)).link tsdus
 
--- In class 0 data may go at any time; in class 2 where no Ack waits and there is credit.
+-- In class 0 data may be sent at any time; in class 2 if no Ack is due and there is credit.
 abbrev pub MayGo : Option Flow → Type 0
 MayGo None = Unit {0}
 MayGo (Some f) = (f.receiver.waiting ≡ 0) × (0 < f.sender.credit)
@@ -96,13 +95,13 @@ pub record GoesAtOnce (s : Standing) : Type 0 where
   pub alone : s.ends.unsent ≡ []
   pub may : MayGo s.flow
 
--- what is left of a TSDU is put behind what is to be sent, where anything is left
+-- what is left of a TSDU is queued after what is to be sent, if anything is left
 abbrev pub with_rest : Standing → List ℕ → Standing
 with_rest s [] = s
 with_rest s (octet ∷ rest) = with_tsdu s (octet ∷ rest)
 
--- A TSDU that was put behind the others would be given next, and this unit has its first part: as much
--- as a unit carries, or all of it. The link does not keep what is left.
+-- A TSDU that was queued after the others would be given next, and this unit has its first part: as much as a unit
+-- carries, or all of it. The link does not keep what is left.
 pub record GivesPart (unit : Given) (tsdu : List ℕ) (old new : Standing) : Type 0 where
   pub gives : next (with_tsdu old tsdu) ≡ Some (unit, with_rest new (drop (octets_of unit) tsdu))
   pub last : next new ≡ None
@@ -121,6 +120,6 @@ IsNumbered (Data2 number) = number < 128
 abbrev pub first_in : Slot → (limit : ℕ) → List ℕ → Given
 first_in slot limit tsdu = part_under (number_in slot) (nat_le (length tsdu) limit) (take (min limit (length tsdu)) tsdu)
 
--- the first part of any TSDU goes so
+-- the first part of any TSDU is sent in this way
 abbrev pub GivesSlot : Slot → Standing → Standing → Type 0
 GivesSlot slot old new = (tsdu : List ℕ) → GivesPart (first_in slot old.ends.limit tsdu) tsdu old new

@@ -16,15 +16,15 @@ use std::marker::Model;
 /// The octets of a class 2 data unit before its user data (X.224 section 13.7.1).
 const HEADER: usize = 5;
 
-/// A link of class 2 with explicit flow control (X.224 section 10): data units are numbered from 0
-/// modulo 128 each way, and sent only as far as the peer gave credit. Each unit taken gives one Ack,
-/// which restores the window.
+/// A link of class 2 with explicit flow control (X.224 section 10): data units are numbered from 0 modulo 128 each
+/// way, and sent only as far as the peer gave credit. Each unit that is taken causes one Ack, which restores the
+/// window.
 #[derive(Drop)]
 pub struct Class2 {
     outgoing: Outgoing,
-    /// The TSDU whose end has not come.
+    /// The unfinished TSDU.
     begun: Begun,
-    /// Those that were taken whole, the oldest first.
+    /// The complete TSDUs that were received, the oldest first.
     pub(crate) whole: Queue<Vec<u8>>,
     /// How many octets a unit carries, 123 to 8187.
     limit: usize,
@@ -54,8 +54,8 @@ impl Class2 {
     ghost use Rattle.osi_class.specs.Limits.{credit_units};
     ghost use Rattle.osi_class.specs.Link.{fresh_two};
 
-    /// A link with nothing sent and nothing taken, for the size that was selected (header included,
-    /// 128 octets where none was), this end's window, and the peer's first credit.
+    /// A link on which nothing was sent and nothing taken, for the selected size (header included; 128 octets if none
+    /// was selected), this end's window, and the peer's first credit.
     pub fn new(alloc: Global, size: Option<SizeCode>, window: Window, credit: Credit) -> Self
         ensures { result ≡ fresh_two (unit_size size) (window_units window) (credit_units credit) }
     {

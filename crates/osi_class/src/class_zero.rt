@@ -18,12 +18,11 @@ const HEADER: usize = 3;
 #[derive(Drop)]
 pub struct Class0 {
     outgoing: Outgoing,
-    /// The TSDU whose end has not come.
+    /// The unfinished TSDU.
     begun: Begun,
-    /// Those that were taken whole, the oldest first.
+    /// The complete TSDUs that were received, the oldest first.
     pub(crate) whole: Queue<Vec<u8>>,
-    /// How many octets a unit carries, 125 to 8189. The invariant has the bound that both classes
-    /// keep.
+    /// How many octets a unit carries, 125 to 8189. The invariant states the bound that both classes share.
     limit: usize,
 }
 
@@ -43,8 +42,8 @@ impl Class0 {
     ghost use Rattle.std.specs.Prelude.{◌≡◌, ◌-◌};
     ghost use Rattle.osi_class.specs.Ends.{fresh_ends, unit_size};
 
-    /// A link with nothing to send and nothing taken, for the size that was selected: its units have
-    /// at most so many octets, header included, or 128 where none was selected.
+    /// A link with nothing to send and nothing taken, for the selected size: the most octets of a unit, header
+    /// included; 128 if none was selected.
     pub fn new(alloc: Global, size: Option<SizeCode>) -> Self
         ensures { result ≡ fresh_ends (unit_size size - 3) }
     {

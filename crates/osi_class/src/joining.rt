@@ -32,7 +32,7 @@ impl Model for Begun {
     ghost invariant = { λ b. length b.octets.items ≤ longest_tsdu };
 }
 
-/// Makes just the room that is missing for so many octets more. If memory runs out, nothing has changed; none is needed
+/// Makes just the room that is missing for this many more octets. If memory runs out, nothing has changed; none is needed
 /// if there is room enough.
 fn make_room(octets: &mut Vec<u8>, more: usize) -> Result<(), AllocError>
     ensures items { octets.new.items ≡ octets.old.items }

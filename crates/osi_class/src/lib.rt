@@ -1,13 +1,19 @@
-//! The classes of the transport protocol (X.224): which class and size a connection gets, and how a
-//! message travels on it.
+//! The classes of the transport protocol (X.224): which class and size a connection gets, and how a message (TSDU)
+//! travels on it. There is no I/O here, and no octets of headers: a link gives and takes units.
 //!
-//! [`answer`] is the negotiation of a CR against what this end supports. A [`Link`], in class 0 or in class
-//! 2, cuts a message (TSDU) into data units and joins those that come: `send_tsdu` and `next_out` on the way
-//! out, `take` and `next_tsdu` on the way in. In class 2 it gives no more than the peer's credit allows, and
-//! answers each data unit by an acknowledgement.
+//! [`answer`] is the negotiation of a CR against what this end supports. A [`Link`], of class 0 or of class 2, cuts
+//! TSDUs into data units and joins the units that it receives. In class 2 it sends no more than the peer's credit
+//! allows, and acknowledges each data unit.
 //!
-//! The laws say that what comes out of one link is a prefix of what went into the other, and all of it when
-//! nothing is owed. References, octets and packets are left to `osi_carrier`.
+//! ```text
+//! link.send_tsdu(octets)?;                       // queues a TSDU
+//! while let Some(unit) = link.next_out() { .. }  // the units that may be sent now; in class 2, Acks come first
+//! link.take(&unit)?;                             // a unit that was received; Err: the first fault, and nothing changed
+//! while let Some(tsdu) = link.next_tsdu() { .. } // the TSDUs that are complete
+//! ```
+//!
+//! The laws ([`mod@laws`]) say that what comes out of one link is a prefix of what went into the other, and all of it
+//! when nothing is in flight and no Ack is due. References, octets and packets are left to `osi_carrier`.
 #![tactic(auto)]
 
 mod class_two;

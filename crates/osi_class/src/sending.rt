@@ -17,9 +17,9 @@ pub struct Outgoing {
     current: Vec<u8>,
     /// Whether it was handed in with its buffer, which is freed once nothing is to be sent.
     is_owned: bool,
-    /// Where the last part that was given begins in it.
+    /// The offset in it at which the last part that was given begins.
     from: usize,
-    /// Where that part ends.
+    /// The offset at which that part ends.
     to: usize,
     /// Whether more of it is to be given.
     has_more: bool,

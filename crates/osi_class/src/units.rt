@@ -1,6 +1,7 @@
 //! Units that a link gives.
 
-/// A data unit that a link lets go at once, for octets that it does not see: what is written before them.
+/// A data unit that a link lets its caller send at once, with octets that the link does not see: what is written
+/// before them.
 #[derive(Clone, Copy)]
 pub enum Slot {
     /// DT of class 0 (X.224 section 13.7).
@@ -16,7 +17,7 @@ pub enum Out<'a> {
     Data0 {
         /// EOT: this part is the last of its TSDU.
         end: bool,
-        /// The octets, which lie where the TSDU is kept.
+        /// The octets, borrowed from the buffer of the TSDU.
         octets: &'a [u8],
     },
     /// DT of class 2, a numbered part of a TSDU (X.224 section 13.7).
@@ -25,23 +26,23 @@ pub enum Out<'a> {
         number: u8,
         /// EOT: this part is the last of its TSDU.
         end: bool,
-        /// The octets, which lie where the TSDU is kept.
+        /// The octets, borrowed from the buffer of the TSDU.
         octets: &'a [u8],
     },
     /// AK of class 2 (X.224 section 13.9).
     Ack {
-        /// The number of the unit that is awaited next, 0 to 127.
+        /// The number of the unit that is expected next, 0 to 127.
         number: u8,
         /// How many units may be sent from that number on, 1 to 15.
         credit: u8,
     },
 }
 
-/// What the units take that a link gives for a TSDU.
+/// The units that a link gives for a TSDU.
 #[derive(Clone, Copy, PartialEq, Eq, Debug)]
 pub struct Room {
-    /// How many units they are.
+    /// How many there are.
     pub units: usize,
-    /// How many octets of the TSDU are in them, headers not counted.
+    /// How many octets of the TSDU they carry, headers not counted.
     pub octets: usize,
 }

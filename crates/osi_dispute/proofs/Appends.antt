@@ -1,4 +1,4 @@
--- What is added to a text, one piece behind the other: for `push_leaves`.
+-- What is added to a text, one piece after the other: for `push_leaves`.
 use Rattle.std.proofs.Common.{◌≡◌, ◌∙◌, sym, ap, List, ℕ, ◌++◌, Result, Ok, Err, OnOk}
 use Rattle.std.proofs.lemmas.List.{append_assoc}
 

@@ -1,4 +1,4 @@
--- How many digits stand on a line, octet by octet: for `digits_on`.
+-- How many digits are on a line, octet by octet: for `digits_on`.
 use Rattle.std.proofs.Common.{◌≡◌, ◌∙◌, refl, sym, ap, ℕ, suc, take, Bool, true, false, cond, not, List, [], ◌∷◌, length, arith, ◌+◌}
 use Rattle.std.proofs.Common.{◌==◌, filter, inl, inr}
 use Rattle.std.specs.List.{before_first, prefix_len}
@@ -28,7 +28,7 @@ digits_in line = filter (λ c. not (is_blank c)) (before_first is_comment_sign l
 pub digits_end : (c : ℕ) (line : List ℕ) → c ≡ 35 → digits_on (c ∷ line) ≡ 0
 digits_end c line e = ap (λ (x : List ℕ). length (filter (λ c. not (is_blank c)) x)) (cut c line (same_as c 35 e))
 
--- how many digits stand on a line whose first octet is none or one
+-- how many digits are on a line, by whether its first octet is one
 abbrev with_octet : (is_digit : Bool) → ℕ → List ℕ → ℕ
 with_octet is_digit c line = length (cond is_digit (c ∷ digits_in line) (digits_in line))
 

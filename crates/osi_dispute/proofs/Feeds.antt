@@ -11,7 +11,7 @@ use Rattle.osi_judge.specs.declared.judge.Judge.{Judge}
 use Rattle.osi_dispute.specs.Verdicts.{Knows}
 use Rattle.osi_dispute.specs.Rows.{Row, side_of, passed_by}
 
--- whatever had passed, this passed behind it
+-- whatever had passed, this passed after it
 abbrev pub Passes : Judge → Judge → Capture → Type 0
 Passes old new more = (capture : Capture) → Knows old capture → Knows new (capture ++ more)
 

@@ -16,7 +16,7 @@ pub next_row : (is_within : Bool) (lines later : List (List ℕ)) (line octets :
     (drop (begun_on is_within (digits_on line)) octets)
 next_row is_within lines later line octets e = ap (λ (z : List (List ℕ)). rows_from is_within z octets) e
 
--- a row without octets says nothing of left
+-- a row without octets does not say which side is left
 pub empty_row : (rows later : List Row) (r : Row) → rows ≡ r ∷ later → r.octets ≡ [] → left_is_tabbed rows ≡ left_is_tabbed later
 empty_row rows later r e n = ap left_is_tabbed e ∙ ap (λ (z : List ℕ). left_by r.is_tabbed z (left_is_tabbed later)) n
 

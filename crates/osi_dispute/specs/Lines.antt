@@ -35,7 +35,7 @@ reading_line d r =
 abbrev pub numbers_told : Seen → Numbers
 numbers_told s = if is_over s.state.phase then record { next = 0; confirmed = 0; lowest = 0; answers = false } else s.state.numbers
 
--- how a session stands: its phase, its tokens, V(M), V(A) and V(R)
+-- the state of a session: its phase, its tokens, V(M), V(A) and V(R)
 unfoldable pub standing_text : Seen → List ℕ
 standing_text s =
     codes " phase " ++ phase_name s.state.phase ++ codes " held " ++ encode_lower (token_octet s.state.held ∷ [])
@@ -46,33 +46,33 @@ abbrev pub owes_text : Option Reply → List ℕ
 owes_text None = []
 owes_text (Some reply) = codes " owes " ++ reply_name reply
 
--- a side that said so many TSDUs and kept the protocol, and how it stands
+-- a side that sent this many TSDUs and kept the protocol, and its state
 unfoldable pub kept_line : Direction → (reference tsdus : ℕ) → Stands → List ℕ
 kept_line d reference tsdus s =
     own_text d reference ++ number_field (codes " kept ") tsdus ++ standing_text s.standing ++ owes_text s.owes ++ codes "\n"
 
--- what was said, and the rule
+-- what was sent, and the rule
 abbrev pub break_text : Break → List ℕ
 break_text by = said_name by.said ++ codes " " ++ rule_name by.rule
 
--- how much the session had taken that came nearest, of what had passed, and how it stands
+-- how many of the TSDUs that had passed the nearest session had taken, and its state
 unfoldable pub knew_line : Direction → (reference : ℕ) → Break → List ℕ
 knew_line d reference by =
     own_text d reference ++ number_field (codes " knew ") by.taken ++ number_field (codes " of ") by.before
     ++ standing_text by.standing ++ codes "\n"
 
--- the fault of a TSDU that is no session units, by its offset in the TSDU
+-- the fault of a TSDU that is not session units, by its offset in the TSDU
 abbrev pub fault_lines : Direction → (reference : ℕ) → Rule → List ℕ
 fault_lines d reference (rule.Breach found) = []
 fault_lines d reference (rule.Fault fault) =
     own_text d reference ++ number_field (codes " fault ") (session_fault_offset fault) ++ codes " " ++ session_fault_name fault
     ++ session_fault_code fault ++ codes "\n"
 
--- a side, and at which packet it did something
+-- a side, and the packet with which it did something
 unfoldable pub place_text : Direction → (reference : ℕ) → (what : List ℕ) → (offset : ℕ) → List ℕ
 place_text d reference what offset = own_text d reference ++ number_field what offset ++ codes " "
 
--- a side that broke the protocol, in the packet at this offset
+-- a side that broke the protocol, with the packet at this offset
 unfoldable pub broke_line : Direction → (reference offset : ℕ) → Break → List ℕ
 broke_line d reference offset by = place_text d reference (codes " broke packet ") offset ++ break_text by ++ codes "\n"
 

@@ -1,4 +1,5 @@
--- The words for sides, for what a side said, and for rules: a unit by the name of the call that sends it, a rule by its own.
+-- The words for sides, for what a side sent, and for rules: a unit by the name of the call that sends it, a rule by
+-- its own.
 use Rattle.std.specs.Prelude.{ℕ, List, codes, Option, Some, None}
 use Rattle.osi_judge.specs.declared.directions.Direction.{Direction}
 use Rattle.osi_judge.specs.declared.directions.Direction.TheVariants.{Left, Right}
@@ -42,7 +43,7 @@ unit_name unit.MinorSyncPoint = codes "Minor"
 unit_name unit.MinorSyncAck = codes "MinorConfirm"
 unit_name unit.Resynchronize = codes "Restart"
 
--- octets that are no session units are named as what they are
+-- octets that are not session units are named as such
 abbrev pub said_name : Option Kind → List ℕ
 said_name None = codes "TSDU"
 said_name (Some kind) = unit_name kind
@@ -65,7 +66,7 @@ reply_name reply.ImplementationRestriction = codes "Refuse"
 reply_name reply.ProtocolError = codes "Abort"
 reply_name reply.AbortAccept = codes "AbortAccept"
 
--- what the transport of a side was stopped at, and by which rule
+-- what stopped the transport of a side, and by which rule
 abbrev pub stopped_at_name : Stop → List ℕ
 stopped_at_name (BadPacket fault) = codes "TPKT"
 stopped_at_name WrongForm = codes "DR"

@@ -16,16 +16,16 @@ abbrev pub is_tabbed : List ℕ → Bool
 is_tabbed [] = false
 is_tabbed (c ∷ line) = c == 9
 
--- how many digits stand on a line
+-- how many digits are on a line
 abbrev pub digits_on : List ℕ → ℕ
 digits_on line = length (filter (λ c. not (is_blank c)) (before_first is_comment_sign line))
 
--- how many stand on what is left of a line, in a comment or outside
+-- how many are on the rest of a line, in a comment or outside
 abbrev pub digits_left : Bool → List ℕ → ℕ
 digits_left true line = 0
 digits_left false line = digits_on line
 
--- An octet belongs to the line of its first digit: how many begin on a line with so many digits, which itself begins
+-- An octet belongs to the line of its first digit: how many begin on a line with this many digits, which itself begins
 -- within an octet or not; and whether the next line does.
 abbrev pub begun_on : (is_within : Bool) → ℕ → ℕ
 begun_on true digits = digits / 2

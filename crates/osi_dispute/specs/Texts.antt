@@ -32,7 +32,7 @@ connection_lines d (Refused reference) = without_line d reference (codes " refus
 connection_lines d (Unanswered reference) = without_line d reference (codes " unanswered")
 connection_lines d (Session reference t) = told_lines d reference t
 
--- what is no break has no line of its own
+-- a stop that is no break has no line of its own
 abbrev pub break_lines : Direction → Stopped → Bool → List ℕ
 break_lines d s true = stopped_line d s
 break_lines d s false = []
@@ -65,7 +65,7 @@ unfoldable pub stopped_first : Direction → Option Stopped → List ℕ
 stopped_first d None = []
 stopped_first d (Some s) = first_text d (codes " broke the protocol") s.offset ++ stop_text s.stop ++ codes "\n"
 
--- where the session broke the protocol or left the profile, that was before its transport was stopped
+-- if the session broke the protocol or left the profile, that was before its transport was stopped
 abbrev pub told_first : Direction → Option Stopped → Told → List ℕ
 told_first d stopped (told.Broke offset by) = broke_first d offset by
 told_first d stopped (told.Left offset by) = left_first d offset by
@@ -90,7 +90,7 @@ line_by v (NotJudged why) = unjudged_line why
 abbrev pub outcome_line : Verdict → List ℕ
 outcome_line v = line_by v v.outcome
 
--- what was read, what is told of the connection, what was broken below the session, and the verdict
+-- what was read, what is reported of the connection, what was broken below the session, and the verdict
 unfoldable pub verdict_text : Verdict → List ℕ
 verdict_text v =
     reading_line Left v.left.reading ++ reading_line Right v.right.reading ++ connection_lines Left v.left.connection

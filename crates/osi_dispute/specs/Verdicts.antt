@@ -23,7 +23,7 @@ pub record Knows (j : Judge) (capture : Capture) : Type 0 where
   pub taps : Taps (judged j) capture
   pub first : FirstIs (first_in j) (judged j) capture
 
--- what is told is what was found
+-- what is reported is what was found
 abbrev pub Tells : Told → Finding → Type 0
 Tells (told.Kept tsdus stands) f = f ≡ finding.Kept
 Tells (told.Broke offset by) f = (i : ℕ) × (f ≡ finding.Broke i)
@@ -44,14 +44,14 @@ IsTrueOf d capture (Session reference t) = IsTold d capture t
 abbrev pub KeepsIn : Direction → Capture → Type 0
 KeepsIn d capture = IsFoundIn d capture finding.Kept × ((s : Option Stopped) × IsStoppedIn d capture s × (breaks s ≡ false))
 
--- where the verdict is that both kept the protocol, both did; where it is that one broke it first, some front part of the
+-- if the verdict is that both kept the protocol, both did; if it is that one broke it first, some prefix of the
 -- capture has a break of this side and none of the other
 abbrev pub IsOutcome : Capture → Outcome → Type 0
 IsOutcome capture BothKept = KeepsIn Left capture × KeepsIn Right capture
 IsOutcome capture (First d) = FirstBreak d capture
 IsOutcome capture (NotJudged why) = Unit {0}
 
--- what is told of each side was found of it
+-- what is reported of each side was found of it
 pub record IsVerdict (capture : Capture) (v : Verdict) : Type 0 where
   pub left : IsTrueOf Left capture v.left.connection
   pub right : IsTrueOf Right capture v.right.connection

@@ -1,4 +1,4 @@
-//! A text of both sides of a capture, judged.
+//! The judgement of a text with both sides of a capture.
 
 ghost use Rattle.std.specs.Prelude.{◌≡◌, ◌++◌, ◌⊎◌, ◌<◌, Err, IfOk, OnOk, List};
 ghost use Rattle.osi_judge.specs.Captures.{Capture, piece};
@@ -15,7 +15,7 @@ use osi_judge::{Direction, Judge};
 use osi_listing::{CaptureFault, octets_of};
 use std::alloc::{AllocError, Global};
 
-/// Feeds a piece whole.
+/// Feeds all of a piece.
 fn feed_all(judge: &mut Judge, direction: Direction, octets: &[u8]) -> Result<(), AllocError>
     ensures { OnOk result ((capture : Capture) → Knows judge.old capture → Knows judge.new (capture ++ piece direction octets.now)) }
 {
@@ -39,7 +39,7 @@ fn direction_of(is_tabbed: bool, left_is_tabbed: bool) -> Direction
     }
 }
 
-/// Feeds pieces, by whether those of left stand on lines that begin with a tab.
+/// Feeds pieces; `left_is_tabbed` says whether the lines of left begin with a tab.
 fn feed_pieces(
     judge: &mut Judge,
     pieces: Pieces<'_>,
@@ -68,8 +68,8 @@ fn judge_octets(alloc: Global, text: &[u8], octets: &[u8]) -> Result<Judgement, 
     Ok(judgement)
 }
 
-/// Judges the capture of both sides that a text is. [`CaptureFault::BadHex`] comes where the text has
-/// another character than digits, blanks and comments, or an odd number of digits.
+/// Judges the capture of both sides in a text. Returns [`CaptureFault::BadHex`] if the text has a character other than
+/// digits, blanks and comments, or an odd number of digits.
 pub fn judge_text(alloc: Global, text: &[u8]) -> Result<Judgement, CaptureFault>
     ensures judged { IfOk result (λ j. IsJudgement text.now j.lines.items j.status) }
     ensures status { IfOk result (λ j. j.status < 2) }

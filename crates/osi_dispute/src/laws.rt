@@ -10,8 +10,8 @@ ghost use Rattle.osi_dispute.specs.Rows.{IsCaptureOf};
 
 use osi_judge::laws::a_capture_has_one_reading;
 
-/// A text is one capture, and of a side of a capture one thing is found: that it kept the protocol, or
-/// broke it at one of its TSDUs.
+/// A text is one capture, and one thing is found of each side of a capture: that it kept the protocol, or broke it
+/// with one of its TSDUs.
 pub fn a_text_has_one_finding()
     ensures text { (text : List ℕ) (some others : Capture) → IsCaptureOf text some → IsCaptureOf text others → some ≡ others }
     ensures finding { (d : Direction) (capture : Capture) (f g : Finding) → IsDecided f → IsDecided g

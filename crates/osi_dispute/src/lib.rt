@@ -1,10 +1,16 @@
 //! The text of a dispute: what was found of the two sides of a capture, as lines.
 //!
-//! [`judge_text`] reads a text of hexadecimal digits in which each line is a piece of one side, judges it and
-//! writes what it found. [`push_verdict`] writes what `osi judge` prints: what was read of each side, how
-//! each stands or where and by which rule it broke the protocol, and which side broke it first. Numbers,
-//! offsets and names are those of the listing of that side (`osi_listing`) and of transcripts
-//! (`osi_script`).
+//! [`judge_text`] reads a text of hexadecimal digits in which each line is a piece of one side, judges it, and writes
+//! what was found. [`push_verdict`] writes what `osi judge` prints: what was read of each side; the state of its
+//! session, or where and by which rule it broke the protocol; and which side broke it first.
+//!
+//! ```text
+//! let judgement = judge_text(alloc, text)?;   // Err: the text is not a capture, or out of memory
+//! judgement.lines                             // what `osi judge` prints
+//! judgement.status                            // 0 if both sides kept the protocol, otherwise 1
+//! ```
+//!
+//! Numbers, offsets and names are those of the listing of that side (`osi_listing`) and of transcripts (`osi_script`).
 //!
 //! What it leaves to others: the judgement (`osi_judge`), and standard input and output (the program).
 #![tactic(auto)]

@@ -48,7 +48,7 @@ pub(crate) fn push_reading(
     push_words(text, "\n")
 }
 
-/// The numbers that are told of a side: none where its connection is aborted or gone.
+/// The numbers that are printed for a side: none if its connection is aborted or gone.
 fn numbers_told(standing: &Standing) -> Numbers
     ensures { result ≡ numbers_told standing.now }
 {
@@ -63,7 +63,7 @@ fn numbers_told(standing: &Standing) -> Numbers
     standing.numbers()
 }
 
-/// Adds how a session stands.
+/// Adds the state of a session.
 #[tactic(auto, unfolding(crate::specs::Lines::standing_text))]
 fn push_standing(text: &mut Vec<u8>, standing: &Standing) -> Result<(), AllocError>
     ensures { OnOk result (text.new.items ≡ text.old.items ++ standing_text standing.now) }
@@ -109,7 +109,7 @@ pub(crate) fn push_kept(
     push_words(text, "\n")
 }
 
-/// Adds what was said, and the rule.
+/// Adds what was sent, and the rule.
 pub(crate) fn push_break(text: &mut Vec<u8>, by: &Break) -> Result<(), AllocError>
     ensures { OnOk result (text.new.items ≡ text.old.items ++ break_text by.now) }
 {
@@ -118,7 +118,7 @@ pub(crate) fn push_break(text: &mut Vec<u8>, by: &Break) -> Result<(), AllocErro
     push_words(text, names::rule(by.rule))
 }
 
-/// Adds a side, its own reference, and at which packet it did something.
+/// Adds a side, its own reference, and the packet with which it did something.
 #[tactic(auto, unfolding(crate::specs::Lines::place_text))]
 fn push_place(
     text: &mut Vec<u8>,
@@ -134,7 +134,7 @@ fn push_place(
     push_words(text, " ")
 }
 
-/// Adds the line of where a side broke the protocol, and by which rule.
+/// Adds the line that says where a side broke the protocol, and by which rule.
 #[tactic(auto, unfolding(crate::specs::Lines::broke_line))]
 fn push_broke_line(
     text: &mut Vec<u8>,
@@ -150,8 +150,8 @@ fn push_broke_line(
     push_words(text, "\n")
 }
 
-/// Adds the lines of a side that broke the protocol: where and by which rule, the session that came
-/// nearest, and the fault of a TSDU that is no session units.
+/// Adds the lines of a side that broke the protocol: where and by which rule, the session that came nearest, and the
+/// fault of a TSDU that is not session units.
 #[tactic(auto, unfolding(crate::specs::Lines::broke_lines))]
 pub(crate) fn push_broke(
     text: &mut Vec<u8>,
@@ -202,7 +202,7 @@ fn push_fault(
     push_words(text, "\n")
 }
 
-/// Adds what was said that is outside of the profile.
+/// Adds what was sent outside of the profile.
 #[tactic(auto, unfolding(crate::specs::Lines::outside_text))]
 pub(crate) fn push_outside(text: &mut Vec<u8>, by: &Break) -> Result<(), AllocError>
     ensures { OnOk result (text.new.items ≡ text.old.items ++ outside_text by.now) }
@@ -226,7 +226,7 @@ pub(crate) fn push_leaves(
     push_outside(text, by)
 }
 
-/// Adds what a transport was stopped at, and the rule.
+/// Adds what stopped a transport, and the rule.
 pub(crate) fn push_stop(text: &mut Vec<u8>, stop: Stop) -> Result<(), AllocError>
     ensures { OnOk result (text.new.items ≡ text.old.items ++ stop_text stop) }
 {
@@ -251,7 +251,7 @@ pub(crate) fn push_stopped(
     push_words(text, "\n")
 }
 
-/// Adds the line of a connection on which no session is told of.
+/// Adds the line of a connection on which no session is reported.
 #[tactic(auto, unfolding(crate::specs::Lines::without_line))]
 pub(crate) fn push_without(
     text: &mut Vec<u8>,

@@ -1,4 +1,4 @@
-//! The words for sides, for what a side said, and for the rules that it broke.
+//! The words for sides, for what a side sent, and for the rules that it broke.
 
 ghost use Rattle.std.specs.Prelude.{◌≡◌};
 ghost use Rattle.osi_dispute.specs.Names.{side_name, said_name, breach_name, rule_name, reply_name, stopped_at_name, stop_name};
@@ -86,7 +86,7 @@ fn unit_fault(fault: TpduFault) -> &'static str
     }
 }
 
-/// What a transport was stopped at.
+/// What stopped a transport.
 pub(crate) fn stopped_at(stop: Stop) -> &'static str
     ensures { result.now ≡ stopped_at_name stop }
 {

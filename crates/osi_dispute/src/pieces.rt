@@ -1,4 +1,4 @@
-//! The text of a capture of both sides, read: each line is a piece of one side.
+//! Reading the text of a capture of both sides: each line is a piece of one side.
 
 ghost use Rattle.std.specs.Prelude.{◌≡◌, ◌<◌, ◌≤◌, ◌+◌, ◌∷◌, ℕ, List, take, drop};
 ghost use Rattle.osi_listing.specs.Capture.{is_blank};
@@ -7,7 +7,7 @@ ghost use Rattle.osi_dispute.specs.Reading.{rows_left};
 
 use osi_script::first_line;
 
-/// A piece: the octets of which the first digit stands on one line.
+/// A piece: the octets whose first digit is on one line.
 #[derive(Clone, Copy)]
 pub(crate) struct Piece<'a> {
     /// The line begins with a tab.
@@ -15,7 +15,7 @@ pub(crate) struct Piece<'a> {
     pub(crate) octets: &'a [u8],
 }
 
-/// The pieces of a text that were not read yet.
+/// The pieces of a text that have not been read.
 #[derive(Clone, Copy)]
 pub(crate) struct Pieces<'a> {
     lines: Option<&'a [u8]>,
@@ -40,7 +40,7 @@ impl<'a> Pieces<'a> {
         }
     }
 
-    /// The next piece, by the next line.
+    /// The next piece, from the next line.
     pub(crate) fn next_piece(&mut self) -> Option<Piece<'a>>
         ensures some { IfSome result (λ piece. rows_left self.old ≡ row piece ∷ rows_left self.new) }
         ensures none { IfNone result (rows_left self.old ≡ []) }
@@ -61,7 +61,7 @@ impl<'a> Pieces<'a> {
     }
 }
 
-/// The first so many octets, or all where there are fewer, and the others.
+/// The first `count` octets, or all if there are fewer, and the others.
 #[tactic(auto, using(std::proofs::lemmas::List::take_all, std::proofs::lemmas::List::drop_all))]
 fn parted(octets: &[u8], count: usize) -> (&[u8], &[u8])
     ensures first { result.0.now ≡ take count octets.now }
@@ -73,7 +73,7 @@ fn parted(octets: &[u8], count: usize) -> (&[u8], &[u8])
     octets.split_at(count)
 }
 
-/// How many octets begin on a line with so many digits.
+/// How many octets begin on a line with this many digits.
 fn begun_on(is_within: bool, digits: usize) -> usize
     ensures { result ≡ begun_on is_within digits }
 {
@@ -83,7 +83,7 @@ fn begun_on(is_within: bool, digits: usize) -> usize
     digits - digits / 2
 }
 
-/// Whether a line with so many digits ends within an octet.
+/// Whether a line with this many digits ends within an octet.
 fn ends_within(is_within: bool, digits: usize) -> bool
     ensures { result ≡ ends_within is_within digits }
 {
@@ -93,21 +93,21 @@ fn ends_within(is_within: bool, digits: usize) -> bool
     digits % 2 == 1
 }
 
-/// What stands between digits and means nothing.
+/// Whether an octet may occur between digits and means nothing.
 fn is_blank_octet(octet: u8) -> bool
     ensures { result ≡ is_blank octet }
 {
     octet == b' ' || octet == b'\t' || octet == b'\r'
 }
 
-/// How many digits were counted on a line, and whether a comment goes on.
+/// How many digits were counted on a line, and whether a comment continues.
 #[derive(Clone, Copy)]
 struct Counter {
     digits: usize,
     in_comment: bool,
 }
 
-/// One octet more of a line.
+/// One more octet of a line.
 #[tactic(auto, using(crate::proofs::Digits::in_comment, crate::proofs::Digits::begins_comment))]
 fn counted(counter: Counter, octet: u8) -> Counter
     requires { counter.digits < usize.MAX }
@@ -133,7 +133,7 @@ fn counted(counter: Counter, octet: u8) -> Counter
     }
 }
 
-/// How many digits stand on a line.
+/// How many digits are on a line.
 fn digits_on(line: &[u8]) -> usize
     ensures { result ≡ digits_on line.now }
 {
@@ -156,7 +156,7 @@ fn is_tabbed(line: &[u8]) -> bool
     }
 }
 
-/// Whether the first of these pieces with an octet stands on a line that begins with a tab.
+/// Whether the first of these pieces with an octet is on a line that begins with a tab.
 pub(crate) fn is_left_tabbed(pieces: Pieces<'_>) -> bool
     ensures { result ≡ left_is_tabbed (rows_left pieces.entry) }
 {

@@ -20,8 +20,7 @@ use std::alloc::AllocError;
 pub struct Judgement {
     /// Its lines.
     pub lines: Vec<u8>,
-    /// 0 where both sides kept the protocol; 1 where one broke it or left the profile, or the capture was not
-    /// judged.
+    /// 0 if both sides kept the protocol; 1 if one broke it or left the profile, or the capture was not judged.
     pub status: u8,
 }
 
@@ -79,7 +78,7 @@ fn push_who(text: &mut Vec<u8>, direction: Direction, what: &str) -> Result<(), 
     push_words(text, what)
 }
 
-/// Where it was.
+/// Where it did so.
 fn push_where(text: &mut Vec<u8>, offset: u64) -> Result<(), AllocError>
     ensures { OnOk result (text.new.items ≡ text.old.items ++ where_text offset) }
 {
@@ -178,8 +177,8 @@ fn push_outcome(text: &mut Vec<u8>, verdict: &Verdict) -> Result<(), AllocError>
     }
 }
 
-/// Adds the text of a judgement: what was read of each side, what is told of each connection, what was
-/// broken below the session, and the verdict.
+/// Adds the text of a judgement: what was read of each side, what is reported of each connection, what was broken
+/// below the session, and the verdict.
 #[tactic(auto, unfolding(crate::specs::Texts::verdict_text))]
 pub fn push_verdict(text: &mut Vec<u8>, verdict: &Verdict) -> Result<(), AllocError>
     ensures { OnOk result (text.new.items ≡ text.old.items ++ verdict_text verdict.now) }
@@ -193,8 +192,7 @@ pub fn push_verdict(text: &mut Vec<u8>, verdict: &Verdict) -> Result<(), AllocEr
     push_outcome(text, verdict)
 }
 
-/// 0 where both sides kept the protocol, and 1 where one broke it or left the profile, or the capture was
-/// not judged.
+/// 0 if both sides kept the protocol, and 1 if one broke it or left the profile, or the capture was not judged.
 pub fn status_of(verdict: &Verdict) -> u8
     ensures value { result ≡ verdict_status verdict.now.outcome }
     ensures status { result < 2 }

@@ -1,4 +1,4 @@
-//! What is told of a capture.
+//! What is reported of a capture.
 
 ghost use Rattle.std.specs.Prelude.{◌≡◌, ◌<◌, true, IfOk};
 ghost use Rattle.osi_dispute.specs.Disputes.{Judged};
@@ -11,48 +11,48 @@ use crate::texts::{Judgement, push_verdict, status_of};
 use osi_judge::{Break, Direction, Finding, Judge, Reading, Stands, Stop, Stopped};
 use std::alloc::{AllocError, Global};
 
-/// What is told of the session of one side.
+/// What is reported of the session of one side.
 #[derive(Clone, Copy)]
 pub enum Told {
-    /// It said so many TSDUs, and kept the protocol.
+    /// It sent this many TSDUs, and kept the protocol.
     Kept(usize, Stands),
-    /// It broke the protocol by the packet at this offset, in which the TSDU ends.
+    /// It broke the protocol with the packet at this offset, in which the TSDU ends.
     Broke(u64, Break),
-    /// It left the profile by the packet at this offset: it said what X.225 allows and a session here
-    /// leaves out.
+    /// It left the profile with the packet at this offset: it sent something that X.225 allows and a session of this
+    /// library never sends.
     Left(u64, Break),
     /// Too many sessions explain it.
     TooMany,
 }
 
-/// What is told of the connection of one side.
+/// What is reported of the connection of one side.
 #[derive(Clone, Copy)]
 pub enum Connection {
-    /// There is none, or it is judged no further.
+    /// There is none, or it is not judged any further.
     Silent,
-    /// It was asked for by this reference, and refused.
+    /// It was requested with this reference, and refused.
     Refused(u16),
-    /// It was asked for by this reference, and not answered.
+    /// It was requested with this reference, and not answered.
     Unanswered(u16),
     /// A session ran on it; the side gave it this reference.
     Session(u16, Told),
 }
 
-/// What is told of one side.
+/// What is reported of one side.
 #[derive(Clone, Copy)]
 pub struct Account {
     /// What was read.
     pub reading: Reading,
     /// Its connection.
     pub connection: Connection,
-    /// Why and where its transport is looked at no further.
+    /// Why and where its transport is not read any further.
     pub stopped: Option<Stopped>,
 }
 
 /// Why a capture is not judged.
 #[derive(Clone, Copy)]
 pub enum Unjudged {
-    /// The connection is none of those that are judged.
+    /// The connection is not one that is judged.
     Transport(Stop),
     /// Too many sessions explain a side.
     TooMany,
@@ -69,18 +69,18 @@ pub enum Outcome {
     NotJudged(Unjudged),
 }
 
-/// What is told of a capture.
+/// What is reported of a capture.
 #[derive(Clone, Copy)]
 pub struct Verdict {
-    /// What is told of the calling side.
+    /// What is reported of the calling side.
     pub left: Account,
-    /// What is told of the called side.
+    /// What is reported of the called side.
     pub right: Account,
     /// Who broke the protocol first.
     pub outcome: Outcome,
 }
 
-/// What is told of the session of a side.
+/// What is reported of the session of a side.
 fn told_of(judge: &Judge, direction: Direction) -> Result<Told, AllocError>
     ensures { IfOk result (λ t. (capture : Capture) → Knows judge.now capture → IsTold direction capture t) }
 {
@@ -101,7 +101,7 @@ fn is_refused(judge: &Judge) -> bool {
     }
 }
 
-/// Whether a side left the profile first: then the other is judged no further.
+/// Whether a side left the profile first: then the other is not judged any further.
 fn is_dropped(judge: &Judge, direction: Direction) -> bool {
     match judge.first() {
         None => false,
@@ -121,8 +121,8 @@ fn is_blamed(judge: &Judge, direction: Direction) -> bool {
     )
 }
 
-/// What is told of the connection of a side, which gave it this reference. If the side is to blame, that is told also of
-/// a connection that was refused or not answered.
+/// What is reported of the connection of a side, which gave it this reference. If the side is to blame, this is
+/// reported also of a connection that was refused or not answered.
 fn connection_by(
     judge: &Judge,
     direction: Direction,
@@ -202,7 +202,7 @@ fn keeps(judge: &Judge, direction: Direction) -> bool
     }
 }
 
-/// The outcome where nobody broke the protocol, by what is not judged.
+/// The outcome if nobody broke the protocol, by what was not judged.
 fn kept_outcome(judge: &Judge) -> Outcome
     ensures { (capture : Capture) → Knows judge.now capture → IsOutcome capture result }
 {
@@ -227,8 +227,7 @@ fn outcome_of(judge: &Judge) -> Outcome
     }
 }
 
-/// What is told of a capture that was fed to a judge. `Err` comes where there is no memory for what a
-/// session of a side takes.
+/// What is reported of a capture that was fed to a judge. `Err` if memory runs out for what a session of a side takes.
 pub fn verdict_of(judge: &Judge) -> Result<Verdict, AllocError>
     ensures { IfOk result (λ v. (capture : Capture) → Knows judge.now capture → IsVerdict capture v) }
 {
@@ -241,7 +240,7 @@ pub fn verdict_of(judge: &Judge) -> Result<Verdict, AllocError>
     })
 }
 
-/// The judgement of what a judge was fed.
+/// The judgement of everything that a judge was fed.
 pub(crate) fn judgement_of(alloc: Global, judge: &Judge) -> Result<Judgement, AllocError>
     ensures judged { IfOk result (λ j. (capture : Capture) → Knows judge.now capture → Judged capture j.lines.items j.status) }
     ensures small { IfOk result (λ j. j.status < 2) }

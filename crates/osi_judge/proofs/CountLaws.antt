@@ -39,13 +39,13 @@ stays_passed d c e k others l = same_passed d (c ++ e) c k others (passed_stays 
 pub not_yet_passed : (d : Direction) (c : Capture) (k : ℕ) (others : List Sent) (t : Sent) → length (stream (other d) c) < t.behind → had_passed d c k (others ++ t ∷ []) ≡ had_passed d c k others
 not_yet_passed d c k others t l = let w = passed_within d c k in ap (λ (x : List Sent). length x) (filter_beyond (passed_before d c k) others t (omega arith))
 
--- before an octet that comes now all had passed
+-- before an octet that passes now, all had passed
 pub all_had_passed : (d : Direction) (c : Capture) (octets : List ℕ) (k : ℕ) (others : List Sent) → length (stream d c) ≤ k → k < length (stream d c) + length octets
     → EndBy (length (stream (other d) c)) others → had_passed d (c ++ piece d octets) k others ≡ length others
 all_had_passed d c octets k others l m h =
     ap (λ (n : ℕ). length (filter (has_ended n) others)) (passed_by_then d c octets k l m) ∙ ap (λ (x : List Sent). length x) (filter_all (length (stream (other d) c)) others h)
 
--- what was told stays as it was told
+-- what was counted of a TSDU stays so
 pub told_stays : (d : Direction) (c e : Capture) (mine others : List Sent) → BeginBefore (length (stream d c)) mine → told d (c ++ e) mine others ≡ told d c mine others
 told_stays d c e [] others h = refl
 told_stays d c e (t ∷ mine) others h =

@@ -14,7 +14,7 @@ use Rattle.osi_judge.specs.Feeding.{Tapped, Passes, Settles, goes_on, faulty, wh
 use Rattle.osi_judge.specs.Following.{Judged, half_of, Taps, first_after, BrokeFirst, FirstIs}
 use Rattle.osi_judge.proofs.JudgeLaws.{fresh_half, is_found, is_stopped}
 
--- ---- of octets of one side nothing more is found of the other
+-- ---- octets of one side change nothing that was found of the other
 
 passes_beside : (sent : List Sent) (before : ℕ) (w w2 o o2 : Watched) → Passes sent before w w2 o o2 → o2.finding ≡ o.finding
 passes_beside [] before w w2 o o2 h = ap (λ (x : Watched). x.finding) h.1
@@ -67,7 +67,7 @@ pub first_stays : (first next : Option Direction) (d : Direction) (old new : Jud
     → has_broken (half_of (other d) new) ≡ has_broken (half_of (other d) old) → FirstIs next new (c ++ e)
 first_stays first next d old new c e n h t o = subst (λ (x : Option Direction). FirstIs x new (c ++ e)) (sym n) (first_on first d old new c e h t o)
 
--- ---- what is told of it
+-- ---- what is reported of it
 
 stands_in : (d : Direction) (c : Capture) (j : Judged) → Taps j c → StandsIn d c (has_broken (half_of d j))
 stands_in d c j t = record { finding = (half_of d j).side.finding; stop = stopped_of (half_of d j); found = is_found d c j t; is_stopped = is_stopped d c j t; broken = refl }

@@ -1,4 +1,4 @@
--- A session that says a steady remark at the first place where it may explains all that it explains with it.
+-- A session that sends a steady remark at the first point at which it may explains all that it explains with it.
 use Rattle.std.proofs.Common.{◌≡◌, ◌∙◌, refl, sym, ap, subst, ℕ, ◌+◌, ◌<◌, ◌≤◌, ◌↔◌, inl, inr, true, false, List, [], ◌∷◌, get_or, Option, Some, None, arith}
 use Rattle.osi_message.specs.Meanings.{Meaning}
 use Rattle.osi_message.specs.Words.{Word}
@@ -29,19 +29,19 @@ moves_nowhere s u v r e n h t k =
     let none : HearsTo s u None = subst (λ (x : Option Seen). HearsTo s u x) n h in
     none t (subst (λ (x : List ℕ). Hears s x t) (sym e) k)
 
--- ---- the place
+-- ---- the point
 
 same_word : (w v : Word) → Some w ≡ Some v → v ≡ w
 same_word w v e = cc
 
--- a side that can't say the remark any more can't be explained
+-- a side that can't send the remark any more can't be explained
 never : (us : List (List ℕ)) (m : Remark) (later : List Remark) (j : ℕ) (s : Seen) (w : Word) → Some w ≡ m.word → is_steady w ≡ true → is_gone w s.state.phase ≡ true → Explains us (m ∷ later) j s → ⊥
 never us m later j s w k d g (takes _ _ _ _ c l i t n e) =
     never us m later (j + 1) _ w k d (gone_stays s (after_count s c) w (get_or us j []) g (record { count = c; listening = i; taken = t; quiet = n; next = refl })) e
 never us m later j s w k d g (answers _ _ _ _ c reply v l i t r f a e) = no_answer reply w d (subst (λ (x : Word). answers_word reply x ≡ true) (same_word w v (k ∙ f)) a)
 never us m later j s w k d g (says _ _ _ _ next v f a e) = gone_said s next w m.octets g (subst (λ (x : Word). CanSay s x m.octets next) (same_word w v (k ∙ f)) a)
 
--- who has said it explains all that who has not said it explains with it
+-- a session that has sent it explains all that one that has not sent it explains with it
 ahead_explains : (us : List (List ℕ)) (m : Remark) (later : List Remark) (j : ℕ) (s y : Seen) (w : Word) → Some w ≡ m.word → is_steady w ≡ true → IsBehind m.before later → IsAhead w s y
     → Explains us (m ∷ later) j s → Explains us later j y
 ahead_explains us m later j s y w k d b h (takes _ _ _ _ c l i t n e) =
@@ -54,7 +54,7 @@ ahead_explains us m later j s y w k d b h (answers _ _ _ _ c reply v l i t r f a
 ahead_explains us m later j s y w k d b h (says _ _ _ _ next v f a e) =
     subst (λ (x : Seen). Explains us later j x) (said_alike s y next w m.octets d h (subst (λ (x : Word). CanSay s x m.octets next) (same_word w v (k ∙ f)) a)) e
 
--- who says it here explains what comes later
+-- a session that sends it here explains what is sent later
 pub said_first : (us : List (List ℕ)) (later : List Remark) (w : Word) (octets before : ℕ) (at said : Member) → is_steady w ≡ true → IsBehind before later → SaysTo at w octets (Some said)
     → Explains us (the_remark w octets before ∷ later) at.taken at.standing ↔ Explains us later said.taken said.standing
 said_first us later w octets before at said d b h = (
@@ -63,7 +63,7 @@ said_first us later w octets before at said d b h = (
   λ e. said_on us later w octets before at (said.standing, h.1, subst (λ (j : ℕ). Explains us later j said.standing) h.0 e),
 )
 
--- it is not said here
+-- it is not sent here
 later_place : (us : List (List ℕ)) (later : List Remark) (w : Word) (octets before : ℕ) (at : Member) → is_steady w ≡ true → SaysTo at w octets None
     → Explains us (the_remark w octets before ∷ later) at.taken at.standing
     → (t : Seen) × (Hears at.standing (get_or us at.taken []) t) × (at.taken < before) × (Explains us (the_remark w octets before ∷ later) (at.taken + 1) t)
@@ -78,7 +78,7 @@ later_place us later w octets before at d h e = elim (ways us later w octets bef
 heard_same : (s x y : Seen) (tsdu : List ℕ) → Hears s tsdu x → Hears s tsdu y → x ≡ y
 heard_same s x y tsdu h k = h.next ∙ ap (after_count s) (takes_one s tsdu h.count k.count h.taken k.taken) ∙ sym k.next
 
--- and the walk goes on
+-- and the walk continues
 pub moved_first : (us heard : List (List ℕ)) (later : List Remark) (w : Word) (octets before : ℕ) (at on : Member) → is_steady w ≡ true → at.taken < before
     → get_or us at.taken [] ≡ get_or heard at.taken [] → SaysTo at w octets None → MovesTo heard at (Some on)
     → Explains us (the_remark w octets before ∷ later) at.taken at.standing ↔ Explains us (the_remark w octets before ∷ later) on.taken on.standing
@@ -93,7 +93,7 @@ moved_first us heard later w octets before at on d l x h m =
           (subst (λ (j : ℕ). Explains us (the_remark w octets before ∷ later) j on.standing) m.0 e)),
     )
 
--- or there is no place
+-- or there is no such point
 pub nowhere : (us heard : List (List ℕ)) (later : List Remark) (w : Word) (octets before : ℕ) (at : Member) → is_steady w ≡ true
     → get_or us at.taken [] ≡ get_or heard at.taken [] → SaysTo at w octets None → MovesTo heard at None
     → Explains us (the_remark w octets before ∷ later) at.taken at.standing → ⊥

@@ -33,7 +33,7 @@ offset_on a n = min_twice _ a n
 less_none : (n : ℕ) → n ≡ n - 0
 less_none n = omega arith
 
--- the place of the packet under way
+-- the offset of the current packet
 place : (d : Direction) (c : Capture) (us : List (List ℕ)) (r : List ℕ) → ArePackets us (stream d c) r → offset_from 0 us + length r ≡ length (stream d c)
 place d c us r h = let e = offset_of_rest 0 us (stream d c) r h in omega arith
 
@@ -51,7 +51,7 @@ length_heard (t ∷ others) = ap (λ (n : ℕ). suc n) (length_heard others)
 held_rest : (t : Tapped) (rest : List ℕ) → t.fault ≡ None → IsRest t.fault t.held rest → (t.held ≡ rest) × IsPartial rest
 held_rest t rest e h = subst (λ (x : Option TpktFault). IsRest x t.held rest) e h
 
--- how many had passed before the packet under way, or before the one that begins
+-- how many had passed before the current packet, or before the one that begins
 since_known : (d : Direction) (c : Capture) (octets : List ℕ) (t : Tapped) (mine others : List Sent) (f : Follows d c t mine others) → EndBy (length (stream (other d) c)) others → t.fault ≡ None
     → 0 < length (f.rest ++ octets) → since_of t ≡ had_passed d (c ++ piece d octets) (length (stream d c) - length f.rest) others
 since_known d c octets t mine others f e n l =
@@ -73,7 +73,7 @@ since_stays d c e others between since l h = tt
 since_stays d c e others (within first octets) since l h = let k = h.0 in (omega arith, h.1 ∙ sym (stays_passed d c e first others h.0))
 since_stays d c e others (stopped stop at) since l h = tt
 
--- ---- no packet comes to stand
+-- ---- no packet becomes complete
 
 abbrev pub with_front : Tapped → List ℕ → Option TpktFault → ℕ → Tapped
 with_front t held fault since = record t { held = held; fault = fault; line = record t.line { since = since } }
@@ -113,7 +113,7 @@ stream_past : (d : Direction) (c : Capture) (octets : List ℕ) → stream d (c 
 stream_past Left c octets = stream_beside Right c octets
 stream_past Right c octets = stream_beside Left c octets
 
--- of octets of the other side a side hears nothing
+-- octets of the other side are no TSDU for a side
 pub beside_follows : (d : Direction) (c : Capture) (octets : List ℕ) (t : Tapped) (mine others : List Sent) → Follows d c t mine others → Follows d (c ++ piece (other d) octets) t mine others
 beside_follows d c octets t mine others f =
     let e = stream_past d c octets in
@@ -144,7 +144,7 @@ since_beside d c others u between since l h = tt
 since_beside d c others u (within first octets) since l h = (h.0, h.1 ∙ sym (not_yet_passed d c first others u l))
 since_beside d c others u (stopped stop at) since l h = tt
 
--- of one TSDU more, which ends behind all that had passed, it hears
+-- one more TSDU, which ends after all that had passed, reaches it
 pub hearing_follows : (d : Direction) (c : Capture) (t : Tapped) (mine others : List Sent) (u : Sent) → Follows d c t mine others → length (stream (other d) c) < u.behind
     → Follows d c (record t { side = hears t.side u.octets }) mine (others ++ u ∷ [])
 hearing_follows d c t mine others u f l = record {
@@ -165,7 +165,7 @@ hearing_follows d c t mine others u f l = record {
       (side.hears t.side u.octets (told d c mine others) f.watches);
 }
 
--- ---- a packet comes to stand
+-- ---- a packet becomes complete
 
 take_all : (s : List ℕ) (n : ℕ) → length s ≤ n → take n s ≡ s
 take_all [] zero l = refl
@@ -173,13 +173,13 @@ take_all [] (suc n) l = refl
 take_all (x ∷ s) zero l = absurd (omega arith)
 take_all (x ∷ s) (suc n) l = ap (λ (y : List ℕ). x ∷ y) (take_all s n (omega arith))
 
--- so many octets fit a packet that begins with those that are held
+-- this many octets fit a packet that begins with those that are held
 fits_in : (r o s n st sr : ℕ) → ((leb 4 r ≡ true) × (4 ≤ r)) ⊎ ((leb 4 r ≡ false) × (r < 4)) → s ≡ r + o → (r < 4 → r + o ≤ 4) → (4 ≤ r → r < sr → r + o ≤ sr) → (4 ≤ r → r < sr) → (4 ≤ r → st ≡ sr)
     → 4 ≤ n → n ≡ st → s ≤ n
 fits_in r o s n st sr (inl (t, l)) e h p k q f a = let x = k l in let y = p l x in let z = q l in omega arith
 fits_in r o s n st sr (inr (t, l)) e h p k q f a = let x = h l in omega arith
 
--- the octets at whose front a packet stands are this packet
+-- octets with a packet at their front that does not go beyond them are this packet
 packet_is_all : (rest octets u : List ℕ) (n : ℕ) → IsPartial rest → IsWithin rest (length octets) → n ≤ length (rest ++ octets) → IsPacket u (take n (rest ++ octets)) → length (rest ++ octets) ≤ n
 packet_is_all rest octets u n r w l p =
     let s = rest ++ octets in
@@ -275,7 +275,7 @@ heard_follows d c t mine others sent w new new_side s at before u (inr (v, e, i)
     subst (λ (x : List Sent). Follows d c (record t { side = new_side }) mine (others ++ x)) (sym e)
     (subst (λ (x : Watched). Follows d c (record t { side = x }) mine (others ++ v ∷ [])) (sym q.1) (hearing_follows d c t mine others v f n))
 
--- what is known where a packet came to stand
+-- what is known when a packet became complete
 pub record Stood (d : Direction) (c : Capture) (octets u : List ℕ) (t new : Tapped) (o new_o : Watched) (mine others : List Sent) (f : Follows d c t mine others) : Type 0 where
   pub passes : Passes (sent_by d (stage_from d opening 0 f.units) (offset_from 0 f.units) u) (since_at (stage_from d opening 0 f.units) t.line.begun_since (since_of t)) t.side new.side o new_o
   pub behind : offset_from 0 f.units + packet_length u ≡ length (stream d (c ++ piece d octets))
@@ -353,7 +353,7 @@ stood d c octets u t new o new_o mine others f e n packet p =
 
 -- ---- octets of a side
 
--- both sides behind octets of one of them
+-- both sides after octets of one of them
 pub record Fed (d e : Direction) (c : Capture) (t u : Tapped) : Type 0 where
   pub mine : List Sent
   pub others : List Sent
@@ -382,7 +382,7 @@ front_fed d e o c octets t u new new_o mine others f g held fault since n w r k 
   of_other = subst (λ (x : Watched). Follows e (c ++ piece d octets) (record u { side = x }) others mine) (sym w) (beside d e o c octets u mine others g);
 }
 
--- more octets do not make a packet of those that begin none
+-- if octets begin no packet, more octets make no packet of them
 version_on : (r more : List ℕ) → IsBadVersion r → IsBadVersion (r ++ more)
 version_on [] more h = let k = h.0 in absurd (omega arith)
 version_on (x ∷ r) more h = (omega arith, h.1)

@@ -1,4 +1,4 @@
--- What is known of a judge, and what is found of a capture.
+-- What is known of a judge, and what was found of a capture.
 use Rattle.std.proofs.Common.{◌≡◌, ◌∙◌, refl, sym, ap, subst, ℕ, ◌-◌, ◌+◌, List, [], length, Option, Some, None, arith}
 use Rattle.osi_tpkt.specs.Packet.{IsFaultOf}
 use Rattle.osi_tpkt.specs.Stream.{Ending, EndsAt, offset_of}
@@ -49,7 +49,7 @@ nothing_passed j l r e f b c h k x y = record {
   of_right = subst (λ (t : Tapped). Follows Right [] t [] []) (sym f) (nothing_follows Right r c k y);
 }
 
--- ---- what is found
+-- ---- what was found
 
 fault_at : (at : ℕ) (r : List ℕ) (f : TpktFault) → IsFaultOf 0 r f → (g : TpktFault) × IsFaultOf at r g
 fault_at at r (BadVersion o) h = (BadVersion at, (h.0, refl))
@@ -79,7 +79,7 @@ pub is_found : (d : Direction) (c : Capture) (j : Judged) → Taps j c → IsFou
 is_found Left c j h = found_of Left c j.left j.right h.left h.right h.of_left h.of_right
 is_found Right c j h = found_of Right c j.right j.left h.right h.left h.of_right h.of_left
 
--- ---- where it is looked at no further
+-- ---- where it is not read any further
 
 stops_as : (s : Stage) (fault : Option TpktFault) (held rest : List ℕ) (at : ℕ) (r : IsRest fault held rest) → stopped_by (shown s) fault at ≡ stop_in s (ending_of at fault held rest r).0
 unfolding ending_of fault_at

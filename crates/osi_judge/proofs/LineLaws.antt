@@ -13,7 +13,7 @@ use Rattle.osi_judge.specs.Judging.{Watched}
 use Rattle.osi_judge.specs.Transport.{Move, step_of, opening, between, within, is_open, moved, stage_behind, Sent, brought, sent_by}
 use Rattle.osi_judge.specs.Feeding.{stage_in, Lined, Tapped, since_at, hears, Passes, TakesUnit, Settles, whole, since_of, IsWithin, with_octets, Feeds, looked_at}
 
--- ---- a TSDU that is heard no more
+-- ---- a TSDU that is taken back
 
 take_back : (xs : List (List ℕ)) (x : List ℕ) (n : ℕ) → n ≡ length xs → take n (xs ++ x ∷ []) ≡ xs
 take_back [] x zero e = refl
@@ -79,7 +79,7 @@ pub none_here : (o : Option TpktFault) → ((f : TpktFault) → o ≡ Some f →
 none_here None n = refl
 none_here (Some f) n = absurd (n f refl)
 
--- what is wanted, or less where fewer octets came
+-- the octets that are needed, or fewer if fewer arrived
 pub within_wanted : (held piece : List ℕ) (wanted used : ℕ) → used ≡ min wanted (length piece) → (length held < 4 → length held + wanted ≤ 4)
     → (4 ≤ length held → length held < stated_length held → length held + wanted ≤ stated_length held) → IsWithin held (length (take used piece))
 within_wanted held piece wanted used e h p =

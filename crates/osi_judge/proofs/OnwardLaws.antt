@@ -1,4 +1,4 @@
--- How a session comes on, one TSDU after the other: for `take_next` and `stands_behind`.
+-- How a session continues, one TSDU after the other: for `take_next` and `stands_behind`.
 use Rattle.std.proofs.Common.{◌≡◌, refl, ◌+◌, ap, subst, true, false, List, [], ℕ, get_or, Option, Some, None, option_map, is_some}
 use Rattle.osi_session.specs.declared.reactions.Reply.{Reply}
 use Rattle.osi_session.specs.declared.standing.Taking.{Taking}

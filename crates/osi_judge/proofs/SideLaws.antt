@@ -1,4 +1,4 @@
--- What is known of a side, as it hears and tells.
+-- What is known of a side, as TSDUs of both sides pass.
 use Rattle.std.proofs.Common.{◌≡◌, ◌∙◌, refl, sym, ap, subst, ℕ, suc, zero, ◌+◌, ◌<◌, ◌≤◌, ◌↔◌, ◌⊎◌, ◌==◌, true, false, inl, inr, List, [], ◌∷◌, ◌++◌, length, map, take, get_or, Result, Ok, Err, OnOk, arith}
 use Rattle.std.proofs.lemmas.List.{append-nil, append_assoc, length-append}
 use Rattle.osi_spdu.specs.declared.faults.SpduFault.{SpduFault}
@@ -16,7 +16,7 @@ use Rattle.osi_judge.specs.Sides.{EndsAt}
 use Rattle.osi_judge.specs.Profiles.{selects_outside}
 use Rattle.osi_judge.specs.Judging.{Watched, is_empty, SelectsOutside, BrokeFor, LeftFor, AreAll, Keeps, WatchesBy, Watches, IsFound}
 
--- ---- what was heard goes on
+-- ---- the TSDUs of the other side become more
 
 get_front : (xs ys : List (List ℕ)) (i : ℕ) → i < length xs → get_or (xs ++ ys) i [] ≡ get_or xs i []
 get_front [] ys i l = absurd (omega arith)
@@ -43,11 +43,11 @@ heard_by TooMany w x told k = tt
 pub hears : (w : Watched) (x : List ℕ) (told : List Told) → Watches w told → Watches (record w { heard = w.heard ++ x ∷ [] }) told
 hears w x told k = heard_by w.finding w x told k
 
--- what was heard, by what is in memory
+-- the TSDUs of the other side, by what is in memory
 pub hears_as : (w n : Watched) (x : List ℕ) (told : List Told) → n ≡ record w { heard = w.heard ++ x ∷ [] } → Watches w told → Watches n told
 hears_as w n x told e k = subst (λ (y : Watched). Watches y told) (sym e) (hears w x told k)
 
--- ---- what was told goes on
+-- ---- its own TSDUs become more
 
 take_front : (xs ys : List Told) (n : ℕ) → n ≤ length xs → take n (xs ++ ys) ≡ take n xs
 take_front xs ys zero l = refl
@@ -120,7 +120,7 @@ behind_read : (a : ℕ) (t : Told) (came : Result Words SpduFault) (later : List
 behind_read a t (Ok words) later l h = behind_words a t (acting_words words) later l h
 behind_read a t (Err fault) later l h = l
 
--- what the members behind a TSDU explain
+-- what the members after a TSDU explain
 abbrev pub Gives : Watched → Told → List Member → Type 0
 Gives w x new = Ever w.heard x.before (λ (us : List (List ℕ)) (later : List Remark). SomeExplains us w.members (remarks_of x ++ later) ↔ SomeExplains us new later)
 
@@ -186,7 +186,7 @@ left_here w told x o k =
 pub leaves_as : (w n : Watched) (told : List Told) (x : Told) → n ≡ record w { finding = Left w.told } → selects_outside w.heard x.octets ≡ true → Keeps w told → Watches n (told ++ x ∷ [])
 leaves_as w n told x e o k = subst (λ (y : Watched). Watches y (told ++ x ∷ [])) (sym e) (left_here w told x o k)
 
--- by what no session says
+-- by something that no session sends
 left_broken : (begin : Seen) (heard : List (List ℕ)) (told : List Told) (i : ℕ) → BrokeFor begin heard told i → LeftFor begin heard told i
 left_broken begin heard told i k = (k.0, λ us e. let y = k.1 us e in (y.0, inl y.1))
 
@@ -201,7 +201,7 @@ pub ends_ok : {A E : Type 0} (r : Result A E) (w n : Watched) (x : Told) (new : 
 ends_ok (Ok u) w n x new l g z e = λ told k. ends_as w n told x new e l g z k
 ends_ok (Err f) w n x new l g z e = tt
 
--- ---- the beginning, and what is found
+-- ---- the beginning, and what was found
 
 pub begins : (w : Watched) (m : Member) → w.heard ≡ [] → w.members ≡ m ∷ [] → m.taken ≡ 0 → m.standing ≡ w.begin → w.told ≡ 0 → w.finding ≡ Kept → Watches w []
 begins w m h s t b o f = subst (λ (y : Finding). WatchesBy y w []) (sym f) (record {

@@ -69,7 +69,7 @@ pub further_behind : (octets before : ℕ) (ws : Words) (later : List Remark) �
 further_behind octets before [] later h = h
 further_behind octets before (w ∷ ws) later h = omega arith
 
--- so far the members explain the units that have not taken effect
+-- so far the members explain the units that have not taken effect yet
 abbrev pub UnitsSoFar : List (List ℕ) → ℕ → ℕ → List Member → Words → List Member → Bool → Word → Words → Type 0
 UnitsSoFar heard octets before members words now restarts item ws = Ever heard before (λ (us : List (List ℕ)) (later : List Remark).
     SomeExplains us members (further octets before (acting_words words) later) ↔ SomeExplains us now (further octets before (acting_behind restarts item ws) later))

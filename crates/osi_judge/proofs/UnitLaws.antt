@@ -1,4 +1,4 @@
--- A side of which one packet more passes: how it stands, and the TSDU that the packet ends.
+-- One more packet of a side passes: the state of its transport, and the TSDU that the packet ends.
 use Rattle.std.proofs.Common.{◌≡◌, ◌∙◌, refl, sym, ap, ℕ, ◌+◌, ◌<◌, ◌⊎◌, inl, inr, Bool, true, false, if◌then◌else◌, List, [], ◌∷◌, ◌++◌, length, arith}
 use Rattle.std.proofs.lemmas.List.{append-nil, append_assoc, length-append}
 use Rattle.osi_tpkt.specs.Packet.{IsPacket}
@@ -22,7 +22,7 @@ pub packet_on : (us : List (List ℕ)) (s r more u : List ℕ) → ArePackets us
 packet_on [] s r more u h p = (r ++ more, [], p, ap (λ (x : List ℕ). x ++ more) h ∙ sym (append-nil (r ++ more)), refl)
 packet_on (v ∷ us) s r more u (b, t, q, e, h) p = (b, t ++ more, q, ap (λ (x : List ℕ). x ++ more) e ∙ append_assoc b t more, packet_on us t r more u h p)
 
--- the offset behind packets, of which the first stands at this offset
+-- the offset after packets, of which the first is at this offset
 abbrev pub offset_from : ℕ → List (List ℕ) → ℕ
 offset_from at [] = at
 offset_from at (u ∷ us) = offset_from (at + packet_length u) us
@@ -36,7 +36,7 @@ offset_of_rest at (u ∷ us) s r (b, t, p, e, h) =
     let n = packet_octets u b p in let m = ap (λ (x : List ℕ). length x) e in let k = length-append b t in
     offset_of_rest (at + packet_length u) us t r h ∙ omega (arith, n, m, k)
 
--- ---- one unit more
+-- ---- one more unit
 
 pub stage_more : (d : Direction) (s : Stage) (at : ℕ) (us : List (List ℕ)) (u : List ℕ) → stage_from d s at (us ++ u ∷ []) ≡ stage_behind d (stage_from d s at us) (offset_from at us) u
 stage_more d s at [] u = refl
@@ -144,7 +144,7 @@ sent_one d between at u = brought_one between at u (step_of d true (units_of u))
 sent_one d (within first octets) at u = brought_one (within first octets) at u (step_of d true (units_of u))
 sent_one d (stopped stop packet) at u = inl refl
 
--- ---- how many had passed before the TSDU under way
+-- ---- how many had passed before the unfinished TSDU
 
 since_added : (d : Direction) (c : Capture) (others : List Sent) (s : Stage) (at since : ℕ) (long end : Bool) (octets : List ℕ) → first_of s at < length (stream d c)
     → since ≡ had_passed d c (first_of s at) others → IsSince d c others (if long then stopped TsduTooLong at else added s at end octets) since

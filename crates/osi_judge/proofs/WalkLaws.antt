@@ -1,4 +1,4 @@
--- A walk to the next remark loses no explanation, and finds none that is not.
+-- A walk to the next remark loses no explanation, and finds none that is not one.
 use Rattle.std.proofs.Common.{◌≡◌, ◌∙◌, refl, sym, ap, subst, ℕ, ◌+◌, ◌<◌, ◌≤◌, ◌⊎◌, ◌↔◌, inl, inr, true, false, Bool, List, [], ◌∷◌, get_or, Option, Some, None, IfSome, IfNone, option_map, arith}
 use Rattle.osi_message.specs.Meanings.{Meaning}
 use Rattle.osi_message.specs.Words.{Word}
@@ -47,13 +47,13 @@ said_on us later w octets before at h = says (the_remark w octets before) later 
 
 -- ---- the end of a walk
 
--- what is known, and what is said here, is what is known and what the session explains
+-- what is known, and what is sent here, is what is known and what the session explains
 known : (us : List (List ℕ)) (later : List Remark) (w : Word) (octets before : ℕ) (old : List Member) (at : Member) → (SomeExplains us old later ⊎ SaidHere us later w octets at)
     → (SomeExplains us old later ⊎ Explains us (the_remark w octets before ∷ later) at.taken at.standing)
 known us later w octets before old at (inl k) = inl k
 known us later w octets before old at (inr s) = inr (said_on us later w octets before at s)
 
--- where no TSDU can be taken, the remark is said here or not at all
+-- if no TSDU can be taken, the remark is sent here or not at all
 stuck_there : (us : List (List ℕ)) (later : List Remark) (w : Word) (octets before : ℕ) (old new : List Member) (at : Member)
     → ((SomeExplains us old later ⊎ SaidHere us later w octets at) → SomeExplains us new later) → (TakenOn us later (the_remark w octets before) w at.taken at.standing → ⊥)
     → (SomeExplains us old later ⊎ Explains us (the_remark w octets before ∷ later) at.taken at.standing) → SomeExplains us new later
@@ -86,7 +86,7 @@ pub record Took (us : List (List ℕ)) (at next : Member) (count : Count) : Type
   pub place : next.taken ≡ at.taken + 1
   pub standing : next.standing ≡ after_count at.standing count
 
--- the place behind it, by its count
+-- the state after it, by its count
 from_next : (us : List (List ℕ)) (ms : List Remark) (at next : Member) (c : Count) → Took us at next c → Explains us ms next.taken next.standing → Explains us ms (at.taken + 1) (after_count at.standing c)
 from_next us ms at next c k e = subst (λ (x : ℕ). Explains us ms x (after_count at.standing c)) k.place (subst (λ (x : Seen). Explains us ms next.taken x) k.standing e)
 
@@ -137,7 +137,7 @@ answered us later w octets before old mid new from to next c a h k r b x = recor
   covers = λ v. tt;
 }
 
--- nothing is sent, and the walk goes on
+-- nothing is sent, and the walk continues
 on_there : (us : List (List ℕ)) (later : List Remark) (w : Word) (octets before : ℕ) (old mid : List Member) (at next : Member) (c : Count) → Took us at next c → c.reply ≡ None
     → ((SomeExplains us old later ⊎ SaidHere us later w octets at) → SomeExplains us mid later)
     → (SomeExplains us old later ⊎ Explains us (the_remark w octets before ∷ later) at.taken at.standing)
@@ -159,7 +159,7 @@ on_back us later w octets before old mid at next c k r b g (inl h) = known us la
 on_back us later w octets before old mid at next c k r b g (inr e) =
     inr (takes (the_remark w octets before) later at.taken at.standing c b k.listening k.taken r (from_next us (the_remark w octets before ∷ later) at next c k e))
 
--- what a session explains that took a TSDU, it explains before
+-- what a session explains after it took a TSDU, it explains before
 pub before_it : (us : List (List ℕ)) (later : List Remark) (before j : ℕ) (s t : Seen) → j < before → IsBehind before later → Hears s (get_or us j []) t → Explains us later (j + 1) t → Explains us later j s
 before_it us [] before j s t b h f e = done j s
 before_it us (m ∷ ms) before j s t b h f e =

@@ -58,7 +58,7 @@ whole_within s octets w =
     let e : length (written (DT octets)) ≡ 4 + length octets = ap (λ (o : List ℕ). length o) (data_written octets) ∙ (omega arith) in
     subst (λ (n : ℕ). is_in_size s n ≡ true) (sym e) w
 
--- a call whose message stands after a GT leaves the limit as it was
+-- a call whose message follows a GT leaves the limit as it was
 settled_limit : (s : State) (n : ℕ) → is_settled s.phase ≡ true → (if s.is_caller then s.sizes.from_asker else s.sizes.from_answerer) ≡ n → n ≡ limit_of s
 settled_limit s n e f = rw e (sym f)
 
@@ -128,7 +128,7 @@ part_can : (s : State) (j sent : Option ℕ) (place : Place) (o : List ℕ) (n :
 unfolding said
 part_can s j sent place o n z p m i = rw (i, z, p, m) refl
 
--- so much may be sent
+-- this much may be sent
 may_be : (s : State) (n : ℕ) → is_ready s.phase ≡ true → has_right s data_token ≡ true → 0 < n → n ≤ most_data → may_send s n ≡ true
 may_be s n r t some few = let a : nat_lt 0 n ≡ true = lt-ltb 0 n some in let b : nat_le n most_data ≡ true = le-leb n most_data few in rw (r, t, a, b) refl
 

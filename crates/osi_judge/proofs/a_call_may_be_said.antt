@@ -1,4 +1,5 @@
--- What an accepted call sends may be said: an observer takes it for that call, and comes to the state that the call leaves.
+-- What an accepted call sends may be sent: an observer takes it for that call, and arrives at the state that the call
+-- leaves.
 -- For the law that an honest session is explained.
 use Rattle.std.proofs.Common.{◌≡◌, ◌∙◌, refl, sym, ap, subst, ℕ, ◌+◌, ◌-◌, ◌<◌, ◌==◌, Bool, true, false, not, ◌&&◌, ◌||◌, if◌then◌else◌, nat_le, List, [], ◌∷◌, length, Some, None, unwrap_or, Ok, arith}
 use Rattle.std.proofs.lemmas.Bool.{and_from, and_parts, eq-eqb}
@@ -27,7 +28,7 @@ use Rattle.osi_session.proofs.PhaseLaws.{implied}
 use Rattle.osi_session.proofs.ProfileLaws.{profile_of}
 use Rattle.osi_session.proofs.SizeLaws.{answered_are, sizes_agreed}
 
--- ---- what is settled of each token
+-- ---- the side that is settled for each token
 
 -- what is settled is stated unchanged, and settled again it stays
 named_again : (b : Bool) (w : Wish) (s : Side) → stated_side b (wish_of (settled b w s)) ≡ settled b w s

@@ -1,4 +1,4 @@
--- A caller, from before its transport connection is open, is explained; and so is the front part of whatever is explained.
+-- A caller, from before its transport connection is open, is explained; and so is a prefix of whatever is explained.
 -- For the law that an honest session is explained.
 use Rattle.std.proofs.Common.{◌≡◌, ◌∙◌, refl, sym, ap, subst, ℕ, ◌+◌, ◌<◌, Bool, true, false, not, if◌then◌else◌, nat_le, List, [], ◌∷◌, ◌++◌, length, Some, None, unwrap_or, Ok, Err, arith}
 use Rattle.std.proofs.lemmas.Bool.{leb-true}
@@ -120,7 +120,7 @@ caller_run known us o closed l taken told (running.misses _ _ reason _ w r) z f 
 caller_run known us o closed l taken told (running.loses _ _ _ r) z f e =
     none_explained us told taken seen_calling (sends_no_more us _ _ taken told r refl (over_by (after_input l broken).state.phase (lost_ended l)))
 
--- ---- the front part of what is explained
+-- ---- a prefix of what is explained
 
 remarks_parts : (a b : List Told) → remarks (a ++ b) ≡ remarks a ++ remarks b
 remarks_parts [] b = refl

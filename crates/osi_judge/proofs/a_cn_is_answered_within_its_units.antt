@@ -43,7 +43,7 @@ use Rattle.osi_session.proofs.WordCases.{ActsAs, any_tsdu_keeps, tsdu_keeps, wor
 use Rattle.osi_session.proofs.WordLaws.{word_alone, word_at}
 use Rattle.osi_judge.specs.Profiles.{accepted_in, in_first, is_outside, offered_in}
 
--- ---- what may be selected together stays so when another names it too
+-- ---- units that may be selected together stay so when another side names them too
 
 half_named : (a b c : Bool) → ((not a || b) && c) ≡ true → a ≡ true → b ≡ true
 half_named true true c h e = refl
@@ -107,7 +107,7 @@ Answers first s = is_answering s.phase ≡ true → IsUnits first s.units
 abbrev Waits : Type 0 → State → Type 0
 Waits W s = is_wait_cn s.phase ≡ true → W
 
--- after a CN that may be accepted, and after an RS that stands
+-- after a CN that may be accepted, and after an RS that takes effect
 abbrev requested : State → ℕ → Option ℕ → TokenSetting → TsduMaximumSize → State
 requested s requirements serial wishes sizes =
     record s { phase = Answering; units = functional_units requirements; wishes = wishes; proposed = unwrap_or serial 0; sizes = sizes }

@@ -154,7 +154,7 @@ answers_on known us told t taken s c m l k r o b a e =
     subst (λ (x : Result Words SpduFault). Explains us (read_as t x ++ remarks told) taken s) (sym read)
     (explained.answers (remark t (says m)) (remarks told) taken s c m (says m) (omega arith) l k r refl a.itself e)
 
--- a message that is an answer goes in one TSDU
+-- a message that is an answer is sent in one TSDU
 answer_alone : (m : Meaning) (limit : ℕ) → answers m m ≡ true → is_parted limit m ≡ false
 answer_alone (DT octets) limit e = absurd (cc)
 answer_alone _ limit e = refl

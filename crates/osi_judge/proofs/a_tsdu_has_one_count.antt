@@ -1,4 +1,5 @@
--- What a TSDU does to a session that takes it has one count, whichever octets it has joined, if there are so many.
+-- The effect of a TSDU on a session that takes it has one count, whichever octets it has joined, if there are this
+-- many.
 -- For the law that an honest session is explained: a session that takes a TSDU takes it as an observer counts it.
 use Rattle.std.proofs.Common.{◌≡◌, ◌∙◌, refl, sym, ap, ℕ, ◌+◌, Bool, true, false, not, ◌||◌, is_none, nat_le, List, [], ◌∷◌, ◌++◌, length, Option, Some, None, option_map, Result, Ok, Err, if◌then◌else◌}
 use Rattle.std.proofs.lemmas.List.{length-append}
@@ -85,7 +86,7 @@ behind_alike : (b : Bool) (h g : Hearing) (ws : Words) → counted h ≡ counted
 behind_alike true h g ws e f = e
 behind_alike false h g ws e f = λ i. count_then (e i) (f i)
 
--- the same of two sessions in one state, if it holds of the words behind
+-- the same for two sessions in one state, if it holds for the words after it
 takers_alike : (ws : Words) (t u : Taker) → ((s : State) (j k : Option (List ℕ)) → AsMany j k → counted (respond_words (taker_with s j) ws) ≡ counted (respond_words (taker_with s k) ws))
     → t.state ≡ u.state → AsMany t.joined u.joined → counted (respond_words t ws) ≡ counted (respond_words u ws)
 takers_alike ws t u more p e = ap (λ (s : State). counted (respond_words (taker_with s t.joined) ws)) p ∙ more u.state t.joined u.joined e
@@ -103,7 +104,7 @@ words_alike (w ∷ ws) s j k e =
 
 -- ---- a TSDU
 
--- it is counted as the session does that takes it
+-- it is counted as the session that takes it does
 pub as_it_does : (s : State) (j : Option (List ℕ)) (came : Result Words SpduFault) → CountsCame s (option_map length j) came (counted (respond_came (taker_with s j) came))
 as_it_does s j (Ok words) = λ k e. words_alike (acting_words words) s k j e
 as_it_does s j (Err fault) = λ k e. heard_alike k j (respond_fault s fault) e

@@ -1,5 +1,5 @@
--- What a session answers a TSDU by at once can be sent, stands alone in its TSDU, and is taken for that answer: an RF, AA, or an AB without
--- the user's bit. For the law that an honest session is explained.
+-- What a session answers a TSDU by at once can be sent, is alone in its TSDU, and is taken for that answer: an RF, AA,
+-- or an AB without the user's bit. For the law that an honest session is explained.
 use Rattle.std.proofs.Common.{◌≡◌, refl, ℕ, Bool, true, false, not, ◌&&◌, [], ◌∷◌, Option, Some, None, Result, Ok, Err, if◌then◌else◌, arith}
 use Rattle.osi_spdu.specs.declared.faults.SpduFault.{SpduFault}
 use Rattle.osi_spdu.specs.Sizes.{are_sizes}

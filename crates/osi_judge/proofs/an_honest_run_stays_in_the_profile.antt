@@ -53,7 +53,7 @@ none_outside (Some n) = refl
 no_ac : (first : Option ℕ) (tsdu : List ℕ) (read : Result Words SpduFault) → said_at tsdu ≡ read → in_first accepted_in read ≡ None → IsInside first tsdu
 no_ac first tsdu read e n = ap (λ (r : Result Words SpduFault). is_outside first (in_first accepted_in r)) e ∙ ap (is_outside first) n ∙ none_outside first
 
--- whether or not a GT stands before it
+-- whether or not a GT is before it
 first_word : (b : Bool) (m : Meaning) → accepted_in m ≡ None → in_first accepted_in (Ok (map says (if b then GT no_token ∷ m ∷ [] else m ∷ []))) ≡ None
 first_word true m n = refl
 first_word false m n = n

@@ -1,4 +1,4 @@
--- What is found of an honest side of a capture is no break, nor that it left the profile.
+-- What was found of an honest side of a capture is no break, nor that it left the profile.
 -- For the law that an honest side is not blamed.
 use Rattle.std.proofs.Common.{◌≡◌, refl, sym, subst, ℕ, ◌+◌, Bool, true, false, List, [], ◌∷◌, ◌++◌, take, drop, Option, None, inl, inr}
 use Rattle.std.proofs.lemmas.List.{take-append-drop}
@@ -36,7 +36,7 @@ honest_explained : CallerLaw → CalledLaw → (d : Direction) (us : List (List 
 honest_explained caller called left us told h = caller h.0 us told h.1 h.2
 honest_explained caller called right us told h = called us told h
 
--- the last of a front part selects nothing outside
+-- the last TSDU of a prefix selects nothing outside
 last_inside : (first : Option ℕ) (told : List Told) (t : Told) → AllInside first (told ++ t ∷ []) → is_outside first (in_first accepted_in (said_at t.octets)) ≡ false
 last_inside first [] t a = a.0
 last_inside first (u ∷ told) t a = last_inside first told t a.1
@@ -54,7 +54,7 @@ not_outside us told i a s =
     let front = front_inside (first_asked us) (take (i + 1) told) (drop (i + 1) told) (subst (AllInside (first_asked us)) (sym (take-append-drop (i + 1) told)) a) in
     selects_none us s.tsdu.octets (last_inside (first_asked us) (take i told) s.tsdu (subst (AllInside (first_asked us)) s.at front)) s.outside
 
--- the front part of a side that is explained is explained
+-- a prefix of a side that is explained is explained
 not_broken : (begin : Seen) (us : List (List ℕ)) (told : List Told) (i : ℕ) → IsExplained begin us told → (IsExplained begin us (take (i + 1) told) → ⊥) → ⊥
 not_broken begin us told i e n =
     n (front_told us (take (i + 1) told) (drop (i + 1) told) begin (subst (λ (x : List Told). IsExplained begin us x) (sym (take-append-drop (i + 1) told)) e))

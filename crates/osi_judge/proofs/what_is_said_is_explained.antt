@@ -1,4 +1,4 @@
--- A session that says the words of TSDUs, one after the other, explains these TSDUs.
+-- A session that sends the words of TSDUs, one after the other, explains these TSDUs.
 -- For the law that an honest session is explained.
 use Rattle.std.proofs.Common.{◌≡◌, ◌∙◌, refl, sym, ap, subst, ℕ, Bool, true, false, if◌then◌else◌, List, [], ◌∷◌, ◌++◌, length, map, Result, Ok}
 use Rattle.std.specs.List.{list_any}
@@ -15,7 +15,7 @@ use Rattle.osi_judge.specs.Explaining.{Told, Remark, Explains, remark, remarks, 
 use Rattle.osi_judge.specs.Explaining as explained
 use Rattle.osi_judge.specs.Running.{Pass}
 
--- ---- the words of a TSDU of so many octets
+-- ---- the words of a TSDU of this many octets
 
 abbrev pub SaysAll : Seen → Words → ℕ → Seen → Type 0
 SaysAll s [] n t = s ≡ t
@@ -50,7 +50,7 @@ tsdus_explained us (o ∷ os) [] later taken s n p e h = absurd p
 
 -- ---- a message, alone or after a GT that names no token
 
--- such a GT acts after the message, and not after an RS
+-- such a GT takes effect after the message, and not after an RS
 either_way : (s t : Seen) (w : Word) (n : ℕ) (b : Bool) → CanSay s w n t → CanSay t (says (GT no_token)) n t → SaysAll s (if b then w ∷ [] else w ∷ says (GT no_token) ∷ []) n t
 either_way s t w n true h k = (t, h, refl)
 either_way s t w n false h k = (t, h, (t, k, refl))

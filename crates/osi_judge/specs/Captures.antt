@@ -8,7 +8,7 @@ abbrev pub other : Direction → Direction
 other Left = Right
 other Right = Left
 
--- An octet that passed, and the side that sent it. The pieces in which octets came are not looked at.
+-- An octet that passed, and the side that sent it. The pieces in which octets arrived play no part.
 pub data Passed : Type 0 where
   of : Direction → ℕ → Passed
 

@@ -1,4 +1,4 @@
--- What octets of a side do to what is kept of it.
+-- The effect of octets of a side on what is kept of it.
 use Rattle.std.specs.Prelude.{◌≡◌, ◌≤◌, ◌<◌, ℕ, ◌+◌, List, [], ◌∷◌, ◌++◌, length, take, Bool, ◌||◌, Option, Some, None}
 use Rattle.osi_tpkt.specs.Packet.{IsPacket, IsPartial, IsFaultOf, stated_length}
 use Rattle.osi_tpkt.specs.Stream.{offset_of}
@@ -23,8 +23,9 @@ stage_in Between octets = between
 stage_in (Within first) octets = within first octets
 stage_in (Stopped stop at) octets = stopped stop at
 
--- the TSDUs of a side as far as they were read: the offset of the packet under way, how many of the other side's TSDUs had
--- passed before it, how the side stands, and how many had passed before the first packet of the TSDU under way
+-- the TSDUs of a side as far as they were read: the offset of the current packet, how many of the other side's TSDUs
+-- had passed before it, the state of the side's transport, and how many had passed before the first packet of the
+-- unfinished TSDU
 pub record Lined : Type 0 where
   pub at : ℕ
   pub since : ℕ
@@ -50,7 +51,7 @@ abbrev pub since_at : Stage → ℕ → ℕ → ℕ
 since_at (within first octets) begun_since since = begun_since
 since_at stage begun_since since = since
 
--- a side is told a TSDU
+-- a side is given one of its TSDUs
 pub record Tells (tsdu : List ℕ) (before : ℕ) (old new : Watched) : Type 0 where
   pub begin : new.begin ≡ old.begin
   pub heard : new.heard ≡ old.heard
@@ -60,21 +61,21 @@ pub record Tells (tsdu : List ℕ) (before : ℕ) (old new : Watched) : Type 0 w
 abbrev pub hears : Watched → List ℕ → Watched
 hears w tsdu = record w { heard = w.heard ++ tsdu ∷ [] }
 
--- a TSDU that a packet ends passes, or there is none
+-- the TSDU that a packet ends passes, if it ends one
 abbrev pub Passes : List Sent → ℕ → Watched → Watched → Watched → Watched → Type 0
 Passes [] before old new other new_other = (new ≡ old) × (new_other ≡ other)
 Passes (t ∷ sent) before old new other new_other = Tells t.octets before old new × (new_other ≡ hears other t.octets)
 
 -- ---- a packet
 
--- A packet with this transport unit, before which so many TSDUs of the other side had passed.
+-- A packet with this transport unit; `since` TSDUs of the other side had passed before it.
 pub record TakesUnit (d : Direction) (unit : List ℕ) (since : ℕ) (old new : Lined) (side new_side other new_other : Watched) : Type 0 where
   pub at : new.at ≡ old.at
   pub stage : new.stage ≡ stage_behind d old.stage old.at unit
   pub begun_since : new.begun_since ≡ since_at old.stage old.begun_since since
   pub passes : Passes (sent_by d old.stage old.at unit) (since_at old.stage old.begun_since since) side new_side other new_other
 
--- the packet under way stands whole, and passes
+-- the current packet is complete, and passes
 pub record TakesPacket (d : Direction) (unit : List ℕ) (since : ℕ) (old new : Tapped) (other new_other : Watched) : Type 0 where
   pub held : new.held ≡ []
   pub fault : new.fault ≡ old.fault
@@ -84,18 +85,18 @@ pub record TakesPacket (d : Direction) (unit : List ℕ) (since : ℕ) (old new 
   pub begun_since : new.line.begun_since ≡ since_at old.line.stage old.line.begun_since since
   pub passes : Passes (sent_by d old.line.stage old.line.at unit) (since_at old.line.stage old.line.begun_since since) old.side new.side other new_other
 
--- The octets that are held of the packet under way are looked at.
+-- The octets that are held of the current packet are looked at.
 pub data Settles (d : Direction) (since : ℕ) (old new : Tapped) (other new_other : Watched) : Type 0 where
-  -- the packet goes on
+  -- the packet continues
   goes_on : IsPartial old.held → new ≡ record old { line = record old.line { since = since } } → new_other ≡ other → Settles d since old new other new_other
-  -- no packet begins so
+  -- no packet begins with them
   faulty : (f : TpktFault) → IsFaultOf 0 old.held f → new ≡ record old { fault = Some f; line = record old.line { since = since } } → new_other ≡ other
       → Settles d since old new other new_other
-  -- a packet stands at their front
+  -- a packet is at their front
   whole : (unit : List ℕ) (n : ℕ) → n ≤ length old.held → IsPacket unit (take n old.held) → TakesPacket d unit since old new other new_other
       → Settles d since old new other new_other
 
--- how many had passed before the packet under way: all, if it is yet to begin
+-- how many had passed before the current packet: all, if it has not begun
 abbrev pub since_in : List ℕ → ℕ → ℕ → ℕ
 since_in [] heard since = heard
 since_in (octet ∷ held) heard since = since
@@ -103,7 +104,7 @@ since_in (octet ∷ held) heard since = since
 abbrev pub since_of : Tapped → ℕ
 since_of t = since_in t.held (length t.side.heard) t.line.since
 
--- so many octets go no further than the header or the packet under way
+-- this many octets do not go beyond the header or the current packet
 pub record IsWithin (held : List ℕ) (n : ℕ) : Type 0 where
   pub header : length held < 4 → length held + n ≤ 4
   pub packet : 4 ≤ length held → length held < stated_length held → length held + n ≤ stated_length held
@@ -115,10 +116,10 @@ with_octets t octets = record t { held = t.held ++ octets }
 pub data Feeds (d : Direction) (octets : List ℕ) (old new : Tapped) (other new_other : Watched) : Type 0 where
   -- they are not looked at
   ignored : (f : TpktFault) → old.fault ≡ Some f → new ≡ old → new_other ≡ other → Feeds d octets old new other new_other
-  -- they belong to the packet under way
+  -- they belong to the current packet
   looked_at : old.fault ≡ None → IsWithin old.held (length octets) → Settles d (since_of old) (with_octets old octets) new other new_other → Feeds d octets old new other new_other
 
--- ---- where it is looked at no further
+-- ---- where it is not read any further
 
 abbrev pub placed : ℕ → TpktFault → TpktFault
 placed at (BadVersion offset) = BadVersion at

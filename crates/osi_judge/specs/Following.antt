@@ -1,4 +1,4 @@
--- What is known of a judge that was fed a capture.
+-- What is known of a judge after it was fed a capture.
 use Rattle.std.specs.Prelude.{◌≡◌, ◌≤◌, ◌<◌, ◌-◌, ℕ, List, [], ◌∷◌, ◌++◌, length, Bool, true, false, Option, Some, None}
 use Rattle.osi_tpkt.specs.Packet.{IsPartial, IsFaultOf}
 use Rattle.osi_tpkt.specs.Stream.{ArePackets, offset_of}
@@ -31,7 +31,7 @@ half_of Right j = j.right
 abbrev pub first_in : Judge → Option Direction
 first_in j = j.first
 
--- the first stays; else it is the side of which octets passed, if it has broken the protocol by now
+-- the first stays; if there is none yet, it is the side of which octets passed, if it has broken the protocol by now
 abbrev pub first_after : Option Direction → Direction → Bool → Option Direction
 first_after (Some first) d has_broken = Some first
 first_after None d true = Some d
@@ -44,7 +44,7 @@ shown between = between
 shown (within first octets) = within (offset_of first) octets
 shown (stopped stop at) = stopped stop (offset_of at)
 
--- the octets behind the last whole packet of a stream: they are held, or no packet begins so
+-- the octets after the last complete packet of a stream: they are held, or no packet begins with them
 abbrev pub IsRest : Option TpktFault → List ℕ → List ℕ → Type 0
 IsRest None held rest = (held ≡ rest) × IsPartial rest
 IsRest (Some fault) held rest = IsFaultOf 0 rest fault
@@ -58,7 +58,7 @@ abbrev pub EndBy : ℕ → List Sent → Type 0
 EndBy n [] = Unit {0}
 EndBy n (t ∷ sent) = (t.behind ≤ n) × EndBy n sent
 
--- of a TSDU under way, how many of the other side's had passed before its first packet
+-- of an unfinished TSDU, how many of the other side's had passed before its first packet
 abbrev pub IsSince : Direction → Capture → List Sent → Stage → ℕ → Type 0
 IsSince d capture others (within first octets) since = (first < length (stream d capture)) × (since ≡ had_passed d capture first others)
 IsSince d capture others stage since = Unit {0}
@@ -87,7 +87,7 @@ pub record Taps (j : Judged) (capture : Capture) : Type 0 where
   pub of_left : Follows Left capture j.left left right
   pub of_right : Follows Right capture j.right right left
 
--- a side had broken the protocol behind some front part of the capture, and the other had not
+-- a side had broken the protocol after some prefix of the capture, and the other had not
 pub record BrokeFirst (d : Direction) (capture : Capture) : Type 0 where
   pub by_then : Judged
   pub front : Capture

@@ -1,4 +1,4 @@
--- What is known of a side of which so much was heard and told, and what is found of it.
+-- What is known of a side after these TSDUs of both sides passed, and what was found of it.
 use Rattle.std.specs.Prelude.{◌≡◌, ◌<◌, ◌↔◌, ◌⊎◌, ◌++◌, ◌+◌, ℕ, Bool, true, false, List, [], ◌∷◌, length, take}
 use Rattle.osi_session.specs.Standing.{Seen}
 use Rattle.osi_judge.specs.declared.members.Member.{Member}
@@ -9,8 +9,8 @@ use Rattle.osi_judge.specs.Profiles.{selects_outside}
 use Rattle.osi_judge.specs.Members.{SomeExplains, Extends}
 use Rattle.osi_judge.specs.Walking.{Ever}
 
--- a side: what it heard, the sessions that still explain it, how many TSDUs it said, how many had passed before the last,
--- and what is found
+-- a side: the TSDUs of the other side, the sessions that still explain it, how many TSDUs it sent, how many had passed
+-- before the last, and what was found
 pub record Watched : Type 0 where
   pub begin : Seen
   pub heard : List (List ℕ)
@@ -23,7 +23,7 @@ abbrev pub is_empty : List Member → Bool
 is_empty [] = true
 is_empty (m ∷ members) = false
 
--- whatever the other side says later, the side is explained up to its i-th TSDU, and no further
+-- whatever the other side sends later, the side is explained up to its i-th TSDU, and no further
 abbrev pub BrokeFor : Seen → List (List ℕ) → List Told → ℕ → Type 0
 BrokeFor begin heard told i = (i < length told) × ((us : List (List ℕ)) → Extends us heard → IsExplained begin us (take i told) × (IsExplained begin us (take (i + 1) told) → ⊥))
 
@@ -33,23 +33,23 @@ pub record SelectsOutside (heard : List (List ℕ)) (told : List Told) (i : ℕ)
   pub at : take (i + 1) told ≡ take i told ++ tsdu ∷ []
   pub outside : selects_outside heard tsdu.octets ≡ true
 
--- whatever the other side says later, the side is explained up to its i-th TSDU, at which it left the profile: it is explained no
--- further, or selects what the profile leaves out
+-- whatever the other side sends later, the side is explained up to its i-th TSDU, with which it left the profile: it
+-- is explained no further, or selects what the profile leaves out
 abbrev pub LeftFor : Seen → List (List ℕ) → List Told → ℕ → Type 0
 LeftFor begin heard told i = (i < length told) × ((us : List (List ℕ)) → Extends us heard →
     IsExplained begin us (take i told) × ((IsExplained begin us (take (i + 1) told) → ⊥) ⊎ SelectsOutside heard told i))
 
--- the members explain what is said from here on just where the side is explained up to there
+-- the members explain what is sent from here on exactly if the side is explained up to there
 abbrev pub AreAll : Seen → List (List ℕ) → ℕ → List Member → List Told → Type 0
 AreAll begin heard before members told = Ever heard before (λ us later. Explains us (remarks told ++ later) 0 begin ↔ SomeExplains us members later)
 
--- of a side that keeps the protocol: how many TSDUs it said, and sessions that explain them
+-- of a side that keeps the protocol: how many TSDUs it sent, and the sessions that explain them
 pub record Keeps (w : Watched) (told : List Told) : Type 0 where
   pub count : w.told ≡ length told
   pub all : AreAll w.begin w.heard w.before w.members told
   pub some : is_empty w.members ≡ false
 
--- This is what is known of a side that said this, by what is found.
+-- This is what is known of a side that sent this, by what was found.
 abbrev pub WatchesBy : Finding → Watched → List Told → Type 0
 WatchesBy Kept w told = Keeps w told
 WatchesBy (Broke i) w told = BrokeFor w.begin w.heard told i
@@ -59,12 +59,12 @@ WatchesBy TooMany w told = Unit {0}
 abbrev pub Watches : Watched → List Told → Type 0
 Watches w told = WatchesBy w.finding w told
 
--- what is found of a side that said this where the other side said that
+-- what was found of a side that sent this, if the other side sent that
 abbrev pub IsFound : Seen → List (List ℕ) → List Told → Finding → Type 0
 IsFound begin heard told Kept = IsExplained begin heard told
 IsFound begin heard told (Broke i) = IsBlamed begin heard told i
--- it left the profile at its i-th TSDU: those before it are explained, and those up to it are not, or it selects what the
--- profile leaves out
+-- it left the profile with its i-th TSDU: those before it are explained, and those up to it are not, or it selects
+-- what the profile leaves out
 IsFound begin heard told (Left i) = (i < length told) × IsExplained begin heard (take i told)
     × ((IsExplained begin heard (take (i + 1) told) → ⊥) ⊎ SelectsOutside heard told i)
 IsFound begin heard told TooMany = Unit {0}

@@ -8,7 +8,7 @@ abbrev pub SomeExplains : List (List ℕ) → List Member → List Remark → Ty
 SomeExplains us [] ms = ⊥
 SomeExplains us (m ∷ members) ms = Explains us ms m.taken m.standing ⊎ SomeExplains us members ms
 
--- the TSDUs of the other side continue those that were received
+-- the TSDUs of the other side are those that passed so far, and perhaps more
 abbrev pub Extends : List (List ℕ) → List (List ℕ) → Type 0
 Extends us heard = (i : ℕ) → i < length heard → get_or us i [] ≡ get_or heard i []
 

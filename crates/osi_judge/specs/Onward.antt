@@ -1,4 +1,4 @@
--- How a session goes on by what it takes of the other side, without a word of its own.
+-- How a session continues by the TSDUs of the other side that it takes, without sending anything of its own.
 use Rattle.std.specs.Prelude.{◌≡◌, ◌<◌, ◌+◌, ◌⊎◌, ℕ, true, false, List, [], length, get_or, Option, Some, None}
 use Rattle.osi_session.specs.declared.reactions.Reply.{Reply}
 use Rattle.osi_session.specs.Steps.{reply_of}
@@ -30,7 +30,7 @@ abbrev pub GoesOn : List (List ℕ) → Member → Turn → Type 0
 GoesOn us m (Goes t) = Quietly us m t
 GoesOn us m (Stops owes) = StopsBy m.standing (get_or us m.taken []) owes
 
--- it comes to stand so
+-- it arrives at this state
 pub data Comes (us : List (List ℕ)) : Member → Member → Type 0 where
   stays : (m : Member) → Comes us m m
   goes : (m n t : Member) → Quietly us m n → Comes us n t → Comes us m t
@@ -42,7 +42,7 @@ IsAtEnd us m owes = ((length us < m.taken + 1) × (owes ≡ None)) ⊎ ((m.taken
 abbrev pub standing_of : Stands → Member
 standing_of s = record { taken = s.taken; standing = s.standing }
 
--- How a session stands that took what it could of these TSDUs, and what it has still to answer.
+-- The state of a session that took what it could of these TSDUs, and the answer that it still owes.
 pub record StandsBehind (us : List (List ℕ)) (m : Member) (s : Stands) : Type 0 where
   pub comes : Comes us m (standing_of s)
   pub ends : IsAtEnd us (standing_of s) s.owes

@@ -23,12 +23,12 @@ in_first f (Ok (w ∷ words)) = f (as_message w)
 in_first f (Ok []) = None
 in_first f (Err fault) = None
 
--- what both name is selected
+-- the units that both name are selected
 abbrev pub is_outside : Option ℕ → Option ℕ → Bool
 is_outside (Some offered) (Some accepted) = not (is_profile (bit_and offered accepted))
 is_outside _ _ = false
 
--- an AC, behind a CN that was the first TSDU of the other side
+-- an AC, after a CN that was the first TSDU of the other side
 abbrev pub selects_outside : List (List ℕ) → List ℕ → Bool
 selects_outside [] tsdu = false
 selects_outside (first ∷ heard) tsdu = is_outside (in_first offered_in (said_at first)) (in_first accepted_in (said_at tsdu))

@@ -1,4 +1,4 @@
--- An honest session, as osi_session has it: everything that can happen to it, and what of it a capture shows.
+-- An honest session, as osi_session has it: everything that can happen to it, and what a capture shows of it.
 use Rattle.std.specs.Prelude.{◌≡◌, ◌≤◌, ℕ, ◌+◌, Bool, true, false, List, [], ◌∷◌, ◌++◌, get_or, None}
 use Rattle.osi_message.specs.Parting.{tsdus_sent}
 use Rattle.osi_session.specs.declared.opening.Opening.{Opening}
@@ -35,7 +35,7 @@ pub data Runs (us : List (List ℕ)) : (closed : Bool) → Listener → (taken :
   -- its user makes any call, at any time; a call that is refused sends nothing
   calls : (closed : Bool) (l : Listener) (taken : ℕ) (c : Call) (now later : List Told) → HasSerial c → Pass taken (sends l (called c)) now
       → Runs us closed (after_input l (called c)) taken later → Runs us closed l taken (now ++ later)
-  -- the transport connection that it asked for is open
+  -- the transport connection that it requested is open
   connects : (l : Listener) (taken : ℕ) (now later : List Told) → Pass taken (sends l opened) now → Runs us false (after_input l opened) taken later
       → Runs us false l taken (now ++ later)
   -- it is refused
@@ -44,8 +44,8 @@ pub data Runs (us : List (List ℕ)) : (closed : Bool) → Listener → (taken :
   -- it is lost
   loses : (l : Listener) (taken : ℕ) (later : List Told) → Runs us true (after_input l broken) taken later → Runs us false l taken later
 
--- A session that begins so sent all of this, when these TSDUs of the other side arrived. The capture may end before all that
--- it sent has passed.
+-- A session that begins in this state sent all of this, when these TSDUs of the other side arrived. The capture may
+-- end before everything that it sent has passed.
 pub record IsSentFrom (begin : Listener) (us : List (List ℕ)) (told : List Told) : Type 0 where
   pub later : List Told
   pub runs : Runs us false begin 0 (told ++ later)
@@ -55,7 +55,7 @@ abbrev pub IsHonest : Direction → List (List ℕ) → List Told → Type 0
 IsHonest Left us told = (o : Opening) × (refusal_of o ≡ None) × IsSentFrom (opens o) us told
 IsHonest Right us told = IsSentFrom awaits us told
 
--- a side of a capture whose session is such
+-- a side of a capture with such a session
 pub record IsHonestIn (d : Direction) (capture : Capture) : Type 0 where
   pub mine : List Sent
   pub others : List Sent

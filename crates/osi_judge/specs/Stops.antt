@@ -6,7 +6,7 @@ use Rattle.osi_judge.specs.declared.stops.Stop.{Stop}
 use Rattle.osi_judge.specs.declared.stops.Stop.TheVariants.{NoOpening, OtherClass, Refused, MoreConnections, BadPacket, BadUnit, UnexpectedUnit, WrongForm, TsduTooLong}
 use Rattle.osi_judge.specs.declared.stops.Stopped.{Stopped}
 
--- else the connection is one that is not judged
+-- if not, the connection is one that is not judged
 abbrev pub is_break : Stop → Bool
 is_break NoOpening = false
 is_break OtherClass = false

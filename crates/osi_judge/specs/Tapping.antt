@@ -1,4 +1,4 @@
--- What is judged of a capture: each side by its TSDUs, and by those of the other that had passed before them.
+-- What is judged of a capture: each side by its TSDUs, and by those of the other side that had passed before them.
 use Rattle.std.specs.Prelude.{◌≡◌, ℕ, List, ◌++◌, length, map, filter, nat_le, Bool, true, false, ◌||◌, Option, Some, None}
 use Rattle.osi_session.specs.Standing.{Seen, seen_calling, seen_called}
 use Rattle.osi_judge.specs.declared.directions.Direction.{Direction}
@@ -21,11 +21,11 @@ abbrev pub begin_of : Direction → Seen
 begin_of Left = seen_calling
 begin_of Right = seen_called
 
--- how many of the other side's TSDUs had passed whole before octet k of a side
+-- how many of the other side's TSDUs had passed completely before octet k of a side
 abbrev pub had_passed : Direction → Capture → ℕ → List Sent → ℕ
 had_passed d capture k others = length (filter (λ t. nat_le t.behind (passed_before d capture k)) others)
 
--- a TSDU is told with how many of the other side's had passed before its first packet began
+-- a TSDU is counted with the number of the other side's TSDUs that had passed before its first packet began
 abbrev pub tell : Direction → Capture → List Sent → Sent → Told
 tell d capture others t = record { octets = t.octets; before = had_passed d capture t.first others }
 
@@ -38,7 +38,7 @@ octets_of t = t.octets
 abbrev pub heard : List Sent → List (List ℕ)
 heard others = map octets_of others
 
--- what is found of a side of a capture
+-- what was found of a side of a capture
 pub record IsFoundIn (d : Direction) (capture : Capture) (finding : Finding) : Type 0 where
   pub mine : List Sent
   pub others : List Sent
@@ -46,8 +46,8 @@ pub record IsFoundIn (d : Direction) (capture : Capture) (finding : Finding) : T
   pub is_others : IsSent (other d) capture others
   pub found : IsFound (begin_of d) (heard others) (told d capture mine others) finding
 
--- Where the transport of a side of a capture is looked at no further: at a packet that has no place in class 0, or where no
--- packet begins.
+-- Where the transport of a side of a capture is not read any further: at a packet that has no place in class 0, or at
+-- octets with which no packet begins.
 abbrev pub fault_offset : TpktFault → ℕ
 fault_offset (BadVersion at) = at
 fault_offset (BadLength at) = at
@@ -74,7 +74,7 @@ pub record StandsIn (d : Direction) (capture : Capture) (has_broken : Bool) : Ty
   pub is_stopped : IsStoppedIn d capture stop
   pub broken : has_broken ≡ (broke_session finding || breaks stop)
 
--- some front part of a capture has the break of this side, and none of the other
+-- some prefix of a capture has the break of this side, and none of the other
 pub record FirstBreak (d : Direction) (capture : Capture) : Type 0 where
   pub front : Capture
   pub back : Capture

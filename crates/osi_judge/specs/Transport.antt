@@ -14,10 +14,10 @@ use Rattle.osi_judge.specs.declared.steps.Step.{Step}
 use Rattle.osi_judge.specs.declared.steps.Step.TheVariants.{Opens, Adds, Stops}
 use Rattle.osi_judge.specs.Captures.{Capture, stream}
 
--- ---- what a packet is
+-- ---- what a packet means
 
--- it opens the connection, with the reference of its sender; it adds to a TSDU, and ends it or not; or nothing behind it is
--- looked at
+-- it opens the connection, with the reference of its sender; it adds to a TSDU, and ends it or not; or nothing after
+-- it is looked at
 pub data Move : Type 0 where
   opens : ℕ → Move
   adds : Bool → List ℕ → Move
@@ -49,16 +49,16 @@ step_of d is_open (Ok []) = stops UnexpectedUnit
 step_of d false (Ok (v ∷ vs)) = first_step d v
 step_of d true (Ok (v ∷ vs)) = next_step v
 
--- ---- how a side stands between two packets
+-- ---- the state of a side's transport between two packets
 
 pub data Stage : Type 0 where
-  -- the CR or CC is awaited
+  -- its CR or CC has not passed yet
   opening : Stage
   -- between two TSDUs
   between : Stage
   -- within a TSDU: the offset of its first packet, and its octets so far
   within : ℕ → List ℕ → Stage
-  -- nothing behind the packet at this offset is looked at
+  -- nothing after the packet at this offset is looked at
   stopped : Stop → ℕ → Stage
 
 abbrev pub is_open : Stage → Bool
@@ -87,14 +87,14 @@ moved stage at (opens reference) = between
 moved stage at (adds end octets) = if is_too_long stage octets then stopped TsduTooLong at else added stage at end octets
 moved stage at (stops stop) = stopped stop at
 
--- how it stands behind the packet at this offset, with this transport unit
+-- the state after the packet at this offset, with this transport unit
 abbrev pub stage_behind : Direction → Stage → ℕ → List ℕ → Stage
 stage_behind d (stopped stop packet) at unit = stopped stop packet
 stage_behind d stage at unit = moved stage at (step_of d (is_open stage) (units_of unit))
 
 -- ---- its TSDUs
 
--- a TSDU: its octets, the offsets of its first packet and of its last, and the offset behind its last octet
+-- a TSDU: its octets, the offsets of its first packet and of its last, and the offset after its last octet
 pub record Sent : Type 0 where
   pub octets : List ℕ
   pub first : ℕ
@@ -113,12 +113,12 @@ brought stage at unit (opens reference) = []
 brought stage at unit (adds end octets) = if is_too_long stage octets then [] else ended stage at unit end octets
 brought stage at unit (stops stop) = []
 
--- the TSDU that a packet ends, if it does
+-- the TSDU that a packet ends, if it ends one
 abbrev pub sent_by : Direction → Stage → ℕ → List ℕ → List Sent
 sent_by d (stopped stop packet) at unit = []
 sent_by d stage at unit = brought stage at unit (step_of d (is_open stage) (units_of unit))
 
--- behind packets with these units, of which the first stands at this offset
+-- after packets with these units, of which the first is at this offset
 abbrev pub stage_from : Direction → Stage → ℕ → List (List ℕ) → Stage
 stage_from d stage at [] = stage
 stage_from d stage at (u ∷ us) = stage_from d (stage_behind d stage at u) (at + packet_length u) us

@@ -1,4 +1,4 @@
--- How a session goes on to the next remark: it says it where it stands, or takes TSDUs first.
+-- How a session continues to the next remark: it sends it now, or takes TSDUs first.
 use Rattle.std.specs.Prelude.{◌≡◌, ◌+◌, ◌↔◌, ◌⊎◌, ℕ, true, List, [], ◌∷◌, get_or, Option, Some, None}
 use Rattle.osi_message.specs.Meanings.{Meaning}
 use Rattle.osi_message.specs.Words.{Word}
@@ -17,11 +17,12 @@ the_remark w octets before = record { word = Some w; octets = octets; before = b
 abbrev pub remarked : ℕ → ℕ → Word → Remark
 remarked octets before w = the_remark w octets before
 
--- the remark is said here, and what comes later is explained from there
+-- the remark is sent here, and what is sent later is explained from there
 abbrev pub SaidHere : List (List ℕ) → List Remark → Word → ℕ → Member → Type 0
 SaidHere us later w octets at = (next : Seen) × (CanSay at.standing w octets next) × (Explains us later at.taken next)
 
--- a session that said the last remark earlier, and took all TSDUs since, explains no more than those that are known
+-- a session that sent the last remark earlier, and has taken all TSDUs since, explains no more than the members that
+-- are known
 abbrev pub Covers : List (List ℕ) → List Remark → List Member → ℕ → Option Seen → Type 0
 Covers us later members taken None = Unit {0}
 Covers us later members taken (Some s) = Explains us later taken s → SomeExplains us members later
@@ -29,7 +30,7 @@ Covers us later members taken (Some s) = Explains us later taken s → SomeExpla
 abbrev pub WalkerCovers : List (List ℕ) → List Remark → List Member → Walker → Type 0
 WalkerCovers us later members w = Covers us later members w.at.taken w.said_before
 
--- what the members that are known explain, and the session that goes on
+-- what the members that are known explain, and the session that continues
 abbrev pub Open : List (List ℕ) → List Remark → Remark → List Member → Option Walker → Type 0
 Open us later m members None = SomeExplains us members later
 Open us later m members (Some w) = SomeExplains us members later ⊎ Explains us (m ∷ later) w.at.taken w.at.standing
@@ -38,11 +39,11 @@ abbrev pub StillCovers : List (List ℕ) → List Remark → List Member → Opt
 StillCovers us later members None = Unit {0}
 StillCovers us later members (Some w) = WalkerCovers us later members w
 
--- whatever comes later, and whatever the other side says later
+-- whatever is sent later, and whatever the other side sends later
 abbrev pub Ever : List (List ℕ) → ℕ → (List (List ℕ) → List Remark → Type 0) → Type 0
 Ever heard before P = (us : List (List ℕ)) (later : List Remark) → Extends us heard → IsBehind before later → P us later
 
--- saying the remark where the walker stands
+-- the walker sends the remark now
 pub record SaysIt (us : List (List ℕ)) (later : List Remark) (w : Word) (octets : ℕ) (old new : List Member) (from to : Walker) : Type 0 where
   pub same : to.at ≡ from.at
   pub gives : WalkerCovers us later old from → ((SomeExplains us old later ⊎ SaidHere us later w octets from.at) ↔ SomeExplains us new later)
@@ -65,14 +66,14 @@ pub record Turns (us : List (List ℕ)) (later : List Remark) (m : Remark) (old 
   pub gives : WalkerCovers us later old from → (Open us later m old (Some from) ↔ Open us later m new to)
   pub covers : WalkerCovers us later old from → StillCovers us later new to
 
--- so far a walk has lost nothing, and found nothing that is not
+-- so far a walk has lost no explanation, and has found none that is not one
 pub record Walked (us : List (List ℕ)) (later : List Remark) (m : Remark) (old new : List Member) (from now : Walker) : Type 0 where
   pub gives : Open us later m old (Some from) ↔ Open us later m new (Some now)
   pub covers : WalkerCovers us later new now
 
--- ---- a steady remark is said at the first place where it may be
+-- ---- a steady remark is sent at the first point at which it may be
 
--- it is said here by this member, or not at all
+-- this member sends it here, or nobody does
 abbrev pub SaysTo : Member → Word → ℕ → Option Member → Type 0
 SaysTo at w octets None = (next : Seen) → CanSay at.standing w octets next → ⊥
 SaysTo at w octets (Some said) = (said.taken ≡ at.taken) × (CanSay at.standing w octets said.standing)
@@ -87,7 +88,7 @@ abbrev pub MovesTo : List (List ℕ) → Member → Option Member → Type 0
 MovesTo heard at None = (t : Seen) → Hears at.standing (get_or heard at.taken []) t → ⊥
 MovesTo heard at (Some on) = (on.taken ≡ at.taken + 1) × (Hears at.standing (get_or heard at.taken []) on.standing)
 
--- one step on the way to the first place
+-- one step on the way to the first point
 abbrev pub StepsTo : List (List ℕ) → Word → ℕ → Member → Step → Type 0
 StepsTo heard w octets at (Said said) = SaysTo at w octets (Some said)
 StepsTo heard w octets at (On on) = SaysTo at w octets None × MovesTo heard at (Some on)

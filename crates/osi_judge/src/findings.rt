@@ -1,16 +1,16 @@
-//! What is found of a side.
+//! What was found of a side.
 
-/// What is found of one side of a connection.
+/// What was found of one side of a connection.
 #[derive(Clone, Copy, PartialEq, Eq, Debug)]
 pub enum Finding {
-    /// Each TSDU that it said is explained.
+    /// Each TSDU that it sent is explained.
     Kept,
-    /// It broke the protocol at this one of its TSDUs, counted from 0: those before it are explained, and
-    /// those up to it are not.
+    /// It broke the protocol with this one of its TSDUs, counted from 0: the TSDUs before it are explained, but not
+    /// together with it.
     Broke(usize),
-    /// At this one of its TSDUs, counted from 0, it left the profile: it said what X.225 allows and a session
-    /// here leaves out. Those before it are explained.
+    /// With this one of its TSDUs, counted from 0, it left the profile: it sent something that X.225 allows and a
+    /// session of this library never sends. The TSDUs before it are explained.
     Left(usize),
-    /// Too many sessions explain it, so that it is not judged any more.
+    /// Too many sessions explain it, so it is not judged any further.
     TooMany,
 }

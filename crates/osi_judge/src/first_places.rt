@@ -1,4 +1,4 @@
-//! Where a session says a steady unit: at the first place where it may.
+//! A session sends a steady unit at the first point at which it may.
 
 ghost use Rattle.std.specs.Prelude.{◌≡◌, ◌<◌, ◌≤◌, ◌↔◌, ◌∷◌, IfOk, [], get_or, length, true};
 ghost use Rattle.osi_message.specs.Reading.{word};
@@ -21,7 +21,7 @@ pub(crate) fn tsdu_at(heard: &[Octets], place: usize) -> &[u8]
     heard[place].as_slice()
 }
 
-/// How a session stands that takes this TSDU and sends nothing; none where it answers it, or takes nothing.
+/// The state of a session after it took this TSDU and sent nothing; `None` if it answers it, or takes nothing.
 pub(crate) fn hears(
     alloc: Global,
     standing: Standing,
@@ -38,7 +38,7 @@ pub(crate) fn hears(
     }
 }
 
-/// The member that took the next TSDU too and sent nothing, if there is one.
+/// The member after it took the next TSDU and sent nothing, if it can.
 fn moves(alloc: Global, heard: &[Octets], at: &Member) -> Result<Option<Member>, AllocError>
     requires { at.now.taken < length heard.now }
     ensures { IfOk result (λ r. MovesTo heard.now at.now r) }
@@ -53,7 +53,7 @@ fn moves(alloc: Global, heard: &[Octets], at: &Member) -> Result<Option<Member>,
     }
 }
 
-/// The member that said the unit where it stands, if it may.
+/// The member after it sent the unit now, if it may.
 fn says(unit: &Spdu, octets: usize, at: &Member) -> Option<Member>
     ensures { SaysTo at.now (word (said_by unit.now)) octets result }
 {
@@ -66,12 +66,12 @@ fn says(unit: &Spdu, octets: usize, at: &Member) -> Option<Member>
     }
 }
 
-/// What a session does on its way to the first place of a unit.
+/// What a session does on the way to the first point at which it may send a unit.
 #[derive(Clone, Copy)]
 pub(crate) enum Step {
-    /// It says the unit, and is this member then.
+    /// It sends the unit, and is then this member.
     Said(Member),
-    /// It takes the next TSDU, and is this member then.
+    /// It takes the next TSDU, and is then this member.
     On(Member),
     /// It can do neither.
     Stuck,
@@ -98,8 +98,9 @@ fn next_step(
     }
 }
 
-/// The member behind a steady unit of a TSDU of so many octets, before which so many TSDUs had passed: it
-/// explains all that this one explains with the unit before it. None where this one can't explain the unit.
+/// The member after a steady unit of a TSDU of this many octets; `before` TSDUs of the other side had passed before
+/// it. It explains exactly what this member explains with the unit first. `None` if this member can't explain the
+/// unit.
 pub(crate) fn first_place(
     alloc: Global,
     heard: &[Octets],

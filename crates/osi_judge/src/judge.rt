@@ -1,4 +1,4 @@
-//! A capture of one connection of class 0, judged as it passes.
+//! A capture of one connection of class 0, judged while it passes.
 
 ghost use Rattle.std.specs.Prelude.{◌≡◌, ◌≤◌, ◌<◌, ◌++◌, [], None, IfOk, OnOk, OnErr, length, take};
 ghost use Rattle.osi_judge.specs.Captures.{Capture, other, piece};
@@ -17,16 +17,16 @@ use std::alloc::{AllocError, Global};
 /// What was read of a direction.
 #[derive(Clone, Copy, PartialEq, Eq, Debug)]
 pub struct Reading {
-    /// Whole packets.
+    /// Complete packets.
     pub packets: u64,
     /// All octets.
     pub octets: u64,
-    /// The octets behind the last whole packet.
+    /// The octets after the last complete packet.
     pub rest: u64,
 }
 
-/// A capture of one connection of class 0, judged as it passes (RFC 1006, X.224 class 0, X.225). It is fed
-/// pieces of both directions in the order in which they passed.
+/// A capture of one connection of class 0, judged while it passes (RFC 1006, X.224 class 0, X.225). You feed it pieces
+/// of both directions in the order in which they passed.
 #[derive(Drop)]
 pub struct Judge {
     left: Half,
@@ -34,7 +34,7 @@ pub struct Judge {
     first: Option<Direction>,
 }
 
-/// The side whose break passed first, by that of which more passed.
+/// The side whose break passed first; `direction` is the side of which more octets passed.
 fn first_after(first: Option<Direction>, direction: Direction, broke: bool) -> Option<Direction>
     ensures { result ≡ first_after first direction broke }
 {
@@ -83,8 +83,8 @@ impl Judge {
         })
     }
 
-    /// Octets of a side pass: those of the piece up to the end of the header or of the packet under way.
-    /// Says how many these are, none only of an empty piece. `Err` changes nothing.
+    /// Octets of a side pass: those of the piece up to the end of the header or of the current packet. Returns how
+    /// many these are; 0 only for an empty piece. `Err` changes nothing.
     pub fn feed(&mut self, direction: Direction, octets: &[u8]) -> Result<usize, AllocError>
         ensures used { IfOk result (λ n. n ≤ length octets.now) }
         ensures some { IfOk result (λ n. 0 < length octets.now → 0 < n) }
@@ -144,19 +144,19 @@ impl Judge {
         &self.half(direction).side
     }
 
-    /// What is found of a side, by all that was fed.
+    /// What was found of a side, from everything that was fed.
     pub fn finding(&self, direction: Direction) -> Finding
         ensures { (capture : Capture) → Taps (judged self.now) capture → IsFoundIn direction capture result }
     {
         self.side(direction).finding()
     }
 
-    /// Where the session of a side broke the protocol: the offset of the last packet of that TSDU.
+    /// The point at which the session of a side broke the protocol: the offset of the last packet of that TSDU.
     pub fn offset(&self, direction: Direction) -> u64 {
         self.half(direction).line.last
     }
 
-    /// Why and where the transport of a side is looked at no further; none where it is.
+    /// Why and where the transport of a side is not read any further; `None` if it is.
     pub fn stopped(&self, direction: Direction) -> Option<Stopped>
         ensures { (capture : Capture) → Taps (judged self.now) capture → IsStoppedIn direction capture result }
     {

@@ -13,16 +13,16 @@ ghost use Rattle.osi_judge.specs.Running.{IsSentFrom, IsHonestIn};
 ghost use Rattle.osi_judge.specs.Tapping.{IsFoundIn};
 ghost use Rattle.osi_judge.specs.Transport.{Sent, IsSent};
 
-/// A side of a capture has one list of TSDUs. And pieces of a side that pass one after the other are one
-/// piece: in which pieces a capture is fed does not matter, as long as its octets come in their order.
+/// A side of a capture has one list of TSDUs. Pieces of a side that pass one after the other are one piece: the pieces
+/// in which a capture is fed don't matter, as long as its octets keep their order.
 pub fn a_capture_has_one_reading()
     ensures one { (d : Direction) (capture : Capture) (some others : List Sent) → IsSent d capture some → IsSent d capture others → some ≡ others }
     ensures pieces { (d : Direction) (octets more : List ℕ) → piece d (octets ++ more) ≡ piece d octets ++ piece d more }
 {}
 
-/// An honest session is explained, whatever the other side sends and its own user calls, at whatever times: any
-/// octets and any calls, refusals, and a transport connection that is refused or lost at any time. It is explained
-/// up to each TSDU that it sent, by what it took of the other side until then.
+/// An honest session is explained, whatever the other side sends and its own user calls, at whatever times: any octets
+/// and any calls, refused ones too, and a transport connection that is refused or lost at any time. It is explained up
+/// to each TSDU that it sent, by what it took of the other side until then.
 pub fn an_honest_session_is_explained()
     ensures caller { (o : Opening) (us : List (List ℕ)) (told : List Told) → refusal_of o ≡ None → IsSentFrom (opens o) us told → IsExplained seen_calling us told }
     ensures called { (us : List (List ℕ)) (told : List Told) → IsSentFrom awaits us told → IsExplained seen_called us told }
@@ -32,8 +32,8 @@ pub fn an_honest_session_is_explained()
     osi_message::laws::what_leaves_in_parts();
 }
 
-/// So an honest side is never blamed: it is found neither to have broken the protocol nor to have left the
-/// profile, whatever the other side sent.
+/// So an honest side is never blamed: it is never found to have broken the protocol or to have left the profile,
+/// whatever the other side sent.
 pub fn an_honest_side_is_not_blamed()
     ensures { (d : Direction) (capture : Capture) (finding : Finding) → IsHonestIn d capture → IsFoundIn d capture finding → broke_session finding ≡ false }
 {

@@ -1,9 +1,9 @@
-//! Where a side of a session connection first broke the protocol: found by looking on, without a key, a clock
-//! or an end of its own.
+//! Which side of a session connection broke the protocol first, and where. The judge only observes: it has no key, no
+//! clock and no end of its own.
 //!
-//! Two ends don't understand each other, and each maker blames the other. A [`Judge`] is fed a capture of
-//! their connection, the octets of both directions in the order in which they passed. It says of each side
-//! whether some session explains all that it sent, and else at which of its TSDUs none does.
+//! Two ends don't understand each other, and each vendor blames the other. You feed a [`Judge`] a capture of their
+//! connection, the octets of both directions in the order in which they passed. For each side it says whether some
+//! session of X.225 explains all that the side sent, and if not, with which of its TSDUs the first break is.
 //!
 //! ```text
 //! let mut judge = Judge::new(alloc)?;
@@ -12,17 +12,22 @@
 //!     let used = judge.feed(Direction::Left, rest)?;   // up to the end of a header or a packet
 //!     rest = &rest[used..];
 //! }
-//! let finding = judge.finding(Direction::Left);        // kept, or broke at its i-th TSDU
-//! let stopped = judge.stopped(Direction::Left);        // why its packets are looked at no further
+//! let finding = judge.finding(Direction::Left);        // kept the protocol, or broke it with its i-th TSDU
+//! let stopped = judge.stopped(Direction::Left);        // why its packets are not read any further
 //! let first = judge.first();                           // whose break passed first
 //! ```
 //!
-//! It reads one connection of class 0: a CR of left, a CC of right, and then DTs. What the other side had
-//! sent counts as taken or not, as it helps the side that is judged, but only if its last octet had passed
-//! before the first octet of the packet in question. It doesn't look at references, at the size that a CC
-//! selects, nor whether a CC or a DT came too early.
+//! It reads one connection of class 0: a CR of left, a CC of right, and then DTs. A capture doesn't show when a side
+//! took what the other had sent. So a TSDU of the other side counts as taken or not, whichever helps the side that is
+//! judged; but only if its last octet had passed before the first octet of the packet in question. The judge doesn't
+//! look at references, nor at the size that a CC selects, nor whether a CC or a DT came too early.
 //!
-//! A [`Side`] is one side of a session alone: it is told its TSDUs, and hears those of the other side.
+//! A [`Side`] is one side of a session by itself: you give it the TSDUs that it sent and those of the other side, in
+//! the order in which they passed. It keeps the states of all sessions that still explain what the side sent.
+//!
+//! The laws ([`mod@laws`]) say that an honest session is always explained, so that an honest side is never blamed.
+//! What the judge leaves to others: finding the connection in a network capture (`osi-capture`), and the text of the
+//! verdict (`osi_dispute`).
 #![tactic(auto)]
 
 mod directions;

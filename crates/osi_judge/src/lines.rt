@@ -1,4 +1,4 @@
-//! What is read of one direction of a capture.
+//! What was read of one direction of a capture.
 
 ghost use Rattle.std.specs.Prelude.{◌≡◌, ◌≤◌, ◌<◌, ◌+◌, ◌++◌, ℕ, List, [], None, false, IfOk, OnOk, OnErr, length, take};
 ghost use Rattle.osi_tpkt.specs.Packet.{stated_length};
@@ -16,16 +16,16 @@ use osi_class::LONGEST_TSDU;
 use osi_tpkt::{Packet, TpktFault, Unit};
 use std::alloc::{AllocError, Global};
 
-/// How a side's transport stands between two packets.
+/// The state of a side's transport between two packets.
 #[derive(Clone, Copy)]
 pub(crate) enum Progress {
-    /// The CR or CC is awaited.
+    /// Its CR or CC has not passed yet.
     Opening,
     /// Between two TSDUs.
     Between,
-    /// Within a TSDU, whose first packet stands at this offset.
+    /// Within a TSDU, whose first packet is at this offset.
     Within(u64),
-    /// Nothing behind the packet at this offset is looked at.
+    /// Nothing after the packet at this offset is looked at.
     Stopped(Stop, u64),
 }
 
@@ -34,25 +34,25 @@ pub(crate) enum Progress {
 pub(crate) struct Line {
     /// How many packets were read.
     pub(crate) packets: u64,
-    /// The offset of the packet under way.
+    /// The offset of the current packet.
     pub(crate) at: u64,
     /// How many of the other side's TSDUs had passed before its first octet.
     pub(crate) since: usize,
     pub(crate) progress: Progress,
-    /// The octets of the TSDU under way.
+    /// The octets of the unfinished TSDU.
     pub(crate) begun: Vec<u8>,
     /// How many of the other side's TSDUs had passed before its first packet.
     pub(crate) begun_since: usize,
     /// The reference in the CR or CC.
     pub(crate) reference: Option<u16>,
-    /// The offset of the last packet of the TSDU at which the side broke the protocol.
+    /// The offset of the last packet of the TSDU with which the side broke the protocol.
     pub(crate) last: u64,
 }
 
 /// One side of a capture.
 #[derive(Drop)]
 pub(crate) struct Half {
-    /// The octets of the packet under way.
+    /// The octets of the current packet.
     pub(crate) held: Vec<u8>,
     /// How many octets passed.
     pub(crate) octets: u64,
@@ -106,7 +106,7 @@ impl Line {
         }
     }
 
-    /// Between two TSDUs no octets are begun.
+    /// Between two TSDUs there are no octets of an unfinished one.
     fn begin(&mut self)
         ensures same { lined self.new ≡ lined self.old }
         ensures begun { self.new.begun.items ≡ begun (lined self.old).stage }
@@ -117,7 +117,7 @@ impl Line {
         self.begun.clear();
     }
 
-    /// Nothing behind the packet under way is looked at.
+    /// Nothing after the current packet is looked at.
     fn stop(&mut self, stop: Stop, since: usize)
         ensures { lined self.new ≡ record (lined self.old) { stage = stopped stop (lined self.old).at; begun_since = since } }
     {
@@ -127,8 +127,8 @@ impl Line {
     }
 }
 
-/// How many octets more belong to the packet of which these are the first: up to the end of its header, or
-/// of itself.
+/// How many more octets belong to the packet whose first octets are these: up to the end of its header, or of the
+/// packet.
 fn wanted(held: &[u8]) -> usize
     ensures some { 0 < result }
     ensures header { length held.now < 4 → length held.now + result ≤ 4 }
@@ -148,7 +148,7 @@ fn since_packet(held: &[u8], heard: usize, since: usize) -> usize
     if held.is_empty() { heard } else { since }
 }
 
-/// A fault of octets that stand at an offset.
+/// A fault of octets at an offset.
 fn placed(fault: TpktFault, offset: u64) -> TpktFault
     ensures { result ≡ placed offset fault }
 {
@@ -159,7 +159,7 @@ fn placed(fault: TpktFault, offset: u64) -> TpktFault
     }
 }
 
-/// The stop where no packet begins at an offset.
+/// The stop because no packet begins at an offset.
 fn stopped_packet(fault: Option<TpktFault>, offset: u64) -> Option<Stopped>
     ensures { result ≡ stopped_packet fault offset }
 {
@@ -172,7 +172,7 @@ fn stopped_packet(fault: Option<TpktFault>, offset: u64) -> Option<Stopped>
     }
 }
 
-/// A TSDU of a side passes whole. `Err` changes nothing.
+/// A complete TSDU of a side passes. `Err` changes nothing.
 fn pass(side: &mut Side, other: &mut Side, tsdu: &[u8], before: usize) -> Result<(), AllocError>
     ensures tells { OnOk result (Tells tsdu.now before (watched side.old) (watched side.new)) }
     ensures hears { OnOk result (watched other.new ≡ hears (watched other.old) tsdu.now) }
@@ -189,7 +189,7 @@ fn pass(side: &mut Side, other: &mut Side, tsdu: &[u8], before: usize) -> Result
     }
 }
 
-/// A part of a TSDU passes, whose end has not come. `Err` changes nothing.
+/// A part of an unfinished TSDU passes. `Err` changes nothing.
 fn add_part(line: &mut Line, octets: &[u8], since: usize) -> Result<(), AllocError>
     requires { line.old.begun.items ≡ begun (lined line.old).stage }
     ensures ok { OnOk result (lined line.new ≡ record (lined line.old) { stage = added (lined line.old).stage (lined line.old).at false octets.now; begun_since = since }) }
@@ -201,7 +201,8 @@ fn add_part(line: &mut Line, octets: &[u8], since: usize) -> Result<(), AllocErr
     Ok(())
 }
 
-/// The packet that ended the TSDU at which a side broke the protocol, or the last while it keeps it.
+/// The packet that ended the TSDU with which a side broke the protocol; the last packet as long as the side keeps the
+/// protocol.
 fn last_place(finding: Finding, at: u64, last: u64) -> u64 {
     match finding {
         Finding::Kept => at,
@@ -266,8 +267,7 @@ fn add(
     end_part(line, side, other, octets, since)
 }
 
-/// A packet of a side passes whole, before which so many TSDUs of the other side had passed. `Err` changes
-/// nothing.
+/// A complete packet of a side passes; `since` TSDUs of the other side had passed before it. `Err` changes nothing.
 fn take_unit(
     direction: Direction,
     line: &mut Line,
@@ -302,8 +302,8 @@ fn take_unit(
     }
 }
 
-/// The octets that are held of a packet are looked at, before which so many TSDUs of the other side had
-/// passed. `Err` changes nothing.
+/// Looks at the octets that are held of a packet; `since` TSDUs of the other side had passed before it. `Err` changes
+/// nothing.
 fn settle(
     direction: Direction,
     half: &mut Half,
@@ -353,7 +353,7 @@ impl Half {
         }
     }
 
-    /// Why and where its transport is looked at no further.
+    /// Why and where its transport is not read any further.
     pub(crate) fn stopped(&self) -> Option<Stopped>
         ensures { result ≡ stopped_of (tapped self.now) }
     {
@@ -377,7 +377,7 @@ impl Half {
         }
     }
 
-    /// The packet that was held is behind, before which so many TSDUs of the other side had passed.
+    /// The packet that was held is done; `since` TSDUs of the other side had passed before it.
     fn advance(&mut self, since: usize)
         ensures { tapped self.new ≡ record (tapped self.old) { held = []; line = record (tapped self.old).line { at = offset_of ((tapped self.old).line.at + length (tapped self.old).held); since = since } } }
     {
@@ -388,8 +388,7 @@ impl Half {
     }
 }
 
-/// Octets of a piece pass, up to the end of the header or of the packet that they belong to. `Err` changes
-/// nothing.
+/// Octets of a piece pass, up to the end of the header or of the packet that they belong to. `Err` changes nothing.
 pub(crate) fn feed(
     direction: Direction,
     half: &mut Half,

@@ -1,4 +1,4 @@
-//! The sessions that still explain what a side sent.
+//! Members: the sessions that still explain what a side sent.
 
 ghost use Rattle.std.specs.Prelude.{◌≡◌, ◌↔◌, ◌⊎◌, true, IfOk, OnOk, List, ℕ};
 ghost use Rattle.osi_judge.specs.Explaining.{Remark, Explains};
@@ -15,7 +15,7 @@ pub(crate) struct Member {
     pub(crate) standing: Standing,
 }
 
-/// Whether it is one of these.
+/// Whether a member is in the list.
 fn is_among(members: &[Member], member: &Member) -> bool
     ensures { (us : List (List ℕ)) (later : List Remark) → result ≡ true → Explains us later member.now.taken member.now.standing → SomeExplains us members.now later }
 {
@@ -27,7 +27,7 @@ fn is_among(members: &[Member], member: &Member) -> bool
     false
 }
 
-/// Adds one, unless it is there already.
+/// Adds a member, unless it is in the list already.
 pub(crate) fn add(members: &mut Vec<Member>, member: Member) -> Result<(), AllocError>
     ensures { OnOk result ((us : List (List ℕ)) (later : List Remark) →
         (SomeExplains us members.old.items later ⊎ Explains us later member.taken member.standing) ↔ SomeExplains us members.new.items later) }
@@ -39,7 +39,7 @@ pub(crate) fn add(members: &mut Vec<Member>, member: Member) -> Result<(), Alloc
     Ok(())
 }
 
-/// Whether there is none.
+/// Whether the list is empty.
 #[tactic(auto, using(crate::proofs::SideLaws::empty_is))]
 pub(crate) fn none_is_left(members: &[Member]) -> bool
     ensures { result ≡ is_empty members.now }

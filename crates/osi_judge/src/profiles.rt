@@ -1,4 +1,4 @@
-//! What X.225 allows and the profile leaves out.
+//! What X.225 allows and the profile of this library leaves out.
 
 ghost use Rattle.std.specs.Prelude.{◌≡◌, option_map};
 ghost use Rattle.osi_message.specs.Meanings.{meant_by};
@@ -74,7 +74,7 @@ fn accepted(tsdu: &[u8]) -> Option<Requirements>
     }
 }
 
-/// Whether what both name is selected and outside of the profile.
+/// Whether the units that both name, and that are therefore selected, are outside of the profile.
 fn is_outside(offered: Option<Requirements>, accepted: Option<Requirements>) -> bool
     ensures { result ≡ is_outside (option_map unit_bits offered) (option_map unit_bits accepted) }
 {
@@ -84,8 +84,8 @@ fn is_outside(offered: Option<Requirements>, accepted: Option<Requirements>) -> 
     }
 }
 
-/// Whether an AC that answers the first TSDU that was heard, a CN, selects functional units that are not
-/// selected here.
+/// Whether an AC selects functional units that the profile leaves out. It answers the first TSDU of the other side, a
+/// CN.
 pub(crate) fn selects_outside(heard: &[Octets], tsdu: &[u8]) -> bool
     ensures { result ≡ selects_outside heard.now tsdu.now }
 {
@@ -95,8 +95,8 @@ pub(crate) fn selects_outside(heard: &[Octets], tsdu: &[u8]) -> bool
     }
 }
 
-/// Whether a TSDU begins a unit that the profile leaves out: PREPARE, or one of connect data that goes on
-/// (SI 7, 15 and 16).
+/// Whether the unit that begins here in a TSDU is one that the profile leaves out: PREPARE, or connect data that
+/// continues (SI 7, 15 and 16).
 fn is_left_out(tsdu: &[u8], at: usize) -> bool {
     match tsdu.get(at) {
         Some(si) => matches!(*si, 7 | 15 | 16),
@@ -104,7 +104,7 @@ fn is_left_out(tsdu: &[u8], at: usize) -> bool {
     }
 }
 
-/// Whether what no session says is outside of the profile, and no break.
+/// Whether something that no session sends is outside of the profile rather than a break.
 pub(crate) fn leaves(tsdu: &[u8], by: &Break) -> bool {
     match by.rule {
         Rule::Breach(Breach::Outside) => true,

@@ -1,4 +1,4 @@
-//! Which session came nearest to what its side said, and why it may not say it.
+//! Which session came nearest to what its side sent, and why it may not send it.
 
 ghost use Rattle.std.specs.Prelude.{◌≤◌, length};
 
@@ -10,33 +10,32 @@ use osi_session::{Breach, CallError, Standing};
 use osi_spdu::{Group, Kind, Spdu, SpduFault, read_tsdu};
 use std::alloc::{AllocError, Global};
 
-/// Why a side may not say what it said (X.225 sections 7 and 8).
+/// Why a side may not send what it sent (X.225 sections 7 and 8).
 #[derive(Clone, Copy, PartialEq, Eq, Debug)]
 pub enum Rule {
-    /// No session that stands so says the unit.
+    /// No session in this state sends the unit.
     Breach(Breach),
-    /// The TSDU is no session units.
+    /// The TSDU is not session units.
     Fault(SpduFault),
 }
 
-/// A break of the protocol: what the side said, by which rule it may not, and the session that came
-/// nearest to it.
+/// A break of the protocol: what the side sent, the rule that forbids it, and the session that came nearest to it.
 #[derive(Clone, Copy)]
 pub struct Break {
-    /// The unit; none where the TSDU is no session units.
+    /// The unit; `None` if the TSDU is not session units.
     pub said: Option<Kind>,
-    /// Why no session may say it: the rule of the session that came nearest.
+    /// Why no session may send it: the rule for the session that came nearest.
     pub rule: Rule,
     /// How many TSDUs of the other side had passed before it.
     pub before: usize,
     /// How many of them that session had taken.
     pub taken: usize,
-    /// How that session stood.
+    /// The state of that session.
     pub standing: Standing,
 }
 
 impl Break {
-    /// Nothing was said yet.
+    /// Nothing was sent yet.
     pub(crate) fn none(standing: Standing) -> Break {
         Break {
             said: None,
@@ -48,7 +47,7 @@ impl Break {
     }
 }
 
-/// What no session says: a unit of a TSDU of so many octets, or a TSDU that is no session units.
+/// What no session sends: a unit of a TSDU of this many octets, or a TSDU that is not session units.
 #[derive(Clone, Copy)]
 enum Question<'a> {
     Unit(Spdu<'a>, usize),
@@ -64,7 +63,7 @@ impl Question<'_> {
         }
     }
 
-    /// Why a session that stands so does not say it; none where it does.
+    /// Why a session in this state does not send it; `None` if it does.
     fn refused_by(&self, standing: &Standing) -> Option<Rule> {
         match self {
             Question::Unit(unit, octets) => match standing.say(unit, *octets) {
@@ -76,14 +75,14 @@ impl Question<'_> {
     }
 }
 
-/// A session that does not say what its side said, and why.
+/// A session that does not send what its side sent, and why.
 #[derive(Clone, Copy)]
 struct Near {
     at: Member,
     rule: Rule,
 }
 
-/// The place of a rule among those that are tried, one after the other.
+/// The place of a rule in the order in which the rules are tested.
 fn place(rule: Rule) -> u8 {
     match rule {
         Rule::Breach(Breach::Call(error)) => place_of_call(error),
@@ -112,7 +111,8 @@ fn place_of_call(error: CallError) -> u8 {
     }
 }
 
-/// Whether one came nearer than the other: by a later rule, or by the same and before it.
+/// Whether one session came nearer than the other: it fails at a later rule, or at the same rule and is before the
+/// other.
 fn is_nearer(one: &Near, other: &Near) -> bool {
     let (here, there) = (place(one.rule), place(other.rule));
     if here != there {
@@ -121,7 +121,7 @@ fn is_nearer(one: &Near, other: &Near) -> bool {
     is_before(&one.at, &other.at)
 }
 
-/// The nearer of two; the first where neither is, and where the member says what is asked.
+/// The nearer of two sessions; the first if neither is nearer, and if the member sends what is asked.
 fn nearer(question: &Question, best: Near, at: Member) -> Near {
     let Some(rule) = question.refused_by(&at.standing) else {
         return best;
@@ -134,7 +134,7 @@ fn nearer(question: &Question, best: Near, at: Member) -> Near {
     }
 }
 
-/// How far a session is that was never asked.
+/// The distance before any session was tried.
 fn far(members: &[Member]) -> Near {
     Near {
         at: first_of(members),
@@ -142,7 +142,7 @@ fn far(members: &[Member]) -> Near {
     }
 }
 
-/// The nearest of the sessions that one member comes to, and of those before.
+/// The nearest of the sessions that one member becomes as it takes TSDUs, and of those before.
 fn nearest_on(
     alloc: Global,
     heard: &[Octets],
@@ -165,7 +165,7 @@ fn nearest_on(
     Ok(nearer(question, best, at))
 }
 
-/// The nearest of the sessions that these members come to.
+/// The nearest of the sessions that these members become as they take TSDUs.
 fn nearest(
     alloc: Global,
     heard: &[Octets],
@@ -188,7 +188,7 @@ fn nearest(
     })
 }
 
-/// What is left behind a unit: members, or a break.
+/// What is left after a unit: members, or a break.
 enum Behind {
     Members(Vec<Member>),
     Break(Break),
@@ -213,7 +213,7 @@ fn behind_or_break(
     Ok(Behind::Break(found))
 }
 
-/// The break at the first unit, in the order in which they act, that no session says.
+/// The break at the first unit that no session sends, in the order in which units take effect.
 fn break_in(
     alloc: Global,
     heard: &[Octets],
@@ -237,7 +237,7 @@ fn break_in(
     nearest(alloc, heard, &question, before, &now)
 }
 
-/// The break at a TSDU that no session says that explains what the side said before.
+/// The break at a TSDU that is sent by no session that explains what the side sent before.
 pub(crate) fn break_at(
     alloc: Global,
     heard: &[Octets],
@@ -253,7 +253,7 @@ pub(crate) fn break_at(
     }
 }
 
-/// The AC of a selection that is outside of the profile, by the foremost of these members.
+/// The break of an AC whose selection is outside of the profile, by the foremost of these members.
 pub(crate) fn selection_at(before: usize, members: &[Member]) -> Break {
     let at = foremost(members);
     Break {

@@ -1,4 +1,4 @@
-//! One side of a connection, judged by what it said and by what it may have heard.
+//! One side of a connection, judged by what it sent and by what it may have taken.
 
 ghost use Rattle.std.specs.Prelude.{◌≡◌, ◌<◌, ◌≤◌, ◌⊎◌, ◌++◌, ◌∷◌, [], Err, IfOk, OnOk, OnErr, List, length, take};
 ghost use Rattle.osi_session.specs.Standing.{seen_called, seen_calling};
@@ -20,21 +20,21 @@ use thiserror::Error;
 /// The most sessions that are kept of one side.
 const MOST_MEMBERS: usize = 4096;
 
-/// Why a TSDU was not told.
+/// Why a TSDU of the side was not taken in.
 #[derive(Clone, Copy, PartialEq, Eq, Debug, Error)]
 pub enum TellError {
-    /// Fewer TSDUs of the other side are said to have passed than before the last TSDU, or more than were
-    /// heard.
+    /// The count of the other side's TSDUs that had passed is lower than for the last TSDU, or higher than the number
+    /// that passed.
     #[error("a TSDU out of its order")]
     OutOfOrder,
-    /// There was no memory.
+    /// An allocation failed.
     #[error("out of memory")]
     OutOfMemory,
 }
 
-/// One side of a connection of class 0, whose TSDUs are told as they pass, between those of the other
-/// side (X.225). It keeps the sessions that explain all that the side said so far, each with how many
-/// TSDUs of the other side it has taken.
+/// One side of a connection of class 0 (X.225). You tell it its TSDUs while they pass, between those of the other
+/// side. It keeps the sessions that explain all that the side sent so far, each with the number of the other side's
+/// TSDUs that it has taken.
 #[derive(Drop)]
 pub struct Side {
     alloc: Global,
@@ -48,7 +48,7 @@ pub struct Side {
 }
 
 impl Side {
-    /// The calling side, whose transport connection is there.
+    /// The calling side, whose transport connection is open.
     pub fn caller(alloc: Global) -> Result<Side, AllocError>
         ensures begin { IfOk result (λ s. (watched s).begin ≡ seen_calling) }
         ensures heard { IfOk result (λ s. ((watched s).heard ≡ []) × ((watched s).before ≡ 0)) }
@@ -93,7 +93,7 @@ impl Side {
         })
     }
 
-    /// A TSDU of the other side, which has passed whole. `Err` changes nothing.
+    /// A TSDU of the other side, which has passed completely. `Err` changes nothing.
     pub fn hear(&mut self, tsdu: &[u8]) -> Result<(), AllocError>
         ensures all { OnOk result (watched self.new ≡ record (watched self.old) { heard = (watched self.old).heard ++ tsdu.now ∷ [] }) }
         ensures heard { OnOk result ((watched self.new).heard ≡ (watched self.old).heard ++ tsdu.now ∷ []) }
@@ -106,15 +106,15 @@ impl Side {
         Ok(())
     }
 
-    /// Forgets the TSDUs of the other side but for the first so many.
+    /// Keeps only the first `count` TSDUs of the other side.
     pub(crate) fn unhear(&mut self, count: usize)
         ensures { watched self.new ≡ record (watched self.old) { heard = take count (watched self.old).heard } }
     {
         self.heard.truncate(count);
     }
 
-    /// A TSDU of this side, before whose first octet so many TSDUs of the other side had passed whole: as
-    /// many as before the last, or more, and no more than were heard. Else it is [`TellError::OutOfOrder`].
+    /// A TSDU of this side; `before` TSDUs of the other side had passed completely before its first octet: at least as
+    /// many as for the last TSDU, and at most the number that passed. Otherwise it returns [`TellError::OutOfOrder`].
     /// `Err` changes nothing.
     pub fn tell(&mut self, tsdu: &[u8], before: usize) -> Result<(), TellError>
         ensures others { OnOk result (((watched self.new).begin ≡ (watched self.old).begin) × ((watched self.new).heard ≡ (watched self.old).heard)) }
@@ -181,7 +181,7 @@ impl Side {
         Ok(())
     }
 
-    /// A TSDU of this side that no session says.
+    /// A TSDU of this side that no session sends.
     fn end(&mut self, tsdu: &[u8], before: usize) -> Result<(), AllocError>
         requires { before ≤ length (watched self.old).heard }
         ensures ends { OnOk result (EndsAt (watched self.old) (watched self.new)) }
@@ -198,7 +198,7 @@ impl Side {
         Ok(())
     }
 
-    /// An AC of this side that selects what is not selected here.
+    /// An AC of this side that selects what the profile leaves out.
     fn leave(&mut self, before: usize)
         ensures { watched self.new ≡ record (watched self.old) { finding = Finding.Left (watched self.old).told } }
     {
@@ -206,39 +206,39 @@ impl Side {
         self.by = selection_at(before, &self.members);
     }
 
-    /// How many TSDUs of the other side it heard.
+    /// How many TSDUs of the other side have passed.
     pub fn heard(&self) -> usize
         ensures { result ≡ length (watched self.now).heard }
     {
         self.heard.len()
     }
 
-    /// How many of them had passed before the last TSDU that it said.
+    /// How many of them had passed before the last TSDU that it sent.
     pub fn before(&self) -> usize
         ensures { result ≡ (watched self.now).before }
     {
         self.before
     }
 
-    /// By which rule the side broke the protocol, or left the profile. It says nothing of a side that did
+    /// The rule by which the side broke the protocol, or left the profile. It has no meaning for a side that did
     /// neither.
     pub fn by(&self) -> Break {
         self.by
     }
 
-    /// How many TSDUs it said before its break, or in all.
+    /// How many TSDUs it sent before its break, or in all.
     pub fn told(&self) -> usize {
         self.told
     }
 
-    /// How the side stands that kept the protocol, or kept it before its break: by the session that explains
-    /// it and has taken most, of these the one with the highest V(A), then with the flag on, which takes
-    /// what it can.
+    /// The state of a side that kept the protocol, or that it had before its break: by the session that explains it
+    /// and has taken most TSDUs; of these the one with the highest V(A), and then with the answer flag on. That
+    /// session has taken what it can.
     pub fn stands(&self) -> Result<Stands, AllocError> {
         stands_behind(self.alloc, &self.heard, foremost(&self.members))
     }
 
-    /// What is found of the side, by all that it said and by what it may have heard.
+    /// What was found of the side, from all that it sent and what it may have taken.
     pub fn finding(&self) -> Finding
         ensures value { result ≡ (watched self.now).finding }
         ensures found { (told : List Told) → Watches (watched self.now) told → IsFound (watched self.now).begin (watched self.now).heard told result }

@@ -1,4 +1,4 @@
-//! How a side stands that kept the protocol.
+//! The state of a side that kept the protocol.
 
 ghost use Rattle.std.specs.Prelude.{◌≡◌, ◌<◌, length, IfOk};
 ghost use Rattle.osi_judge.specs.Onward.{GoesOn, StandsBehind};
@@ -9,19 +9,19 @@ use osi_message::Octets;
 use osi_session::{Reply, Standing};
 use std::alloc::{AllocError, Global};
 
-/// How a side stands, by a session that explains all that it said and took what it could: up to the first
-/// TSDU that it has still to answer, or all that passed.
+/// The state of a side, by a session that explains all that it sent and took what it could: all that passed, or up to
+/// the first TSDU that it has still to answer.
 #[derive(Clone, Copy)]
 pub struct Stands {
     /// How many TSDUs of the other side it has taken.
     pub taken: usize,
-    /// How it stands.
+    /// Its state.
     pub standing: Standing,
-    /// What it has still to answer to the next TSDU, if it takes it.
+    /// The answer that it owes to the next TSDU, if it takes that.
     pub owes: Option<Reply>,
 }
 
-/// Whether a session comes before another that has taken as many: by the higher V(A), then by the flag.
+/// Whether a session comes before another that has taken as many TSDUs: by the higher V(A), then by the answer flag.
 fn is_ahead(one: &Standing, other: &Standing) -> bool {
     let one = one.numbers();
     let other = other.numbers();
@@ -31,7 +31,7 @@ fn is_ahead(one: &Standing, other: &Standing) -> bool {
     one.answers && !other.answers
 }
 
-/// Whether a member comes before another: it has taken more, or as much and is ahead.
+/// Whether a member comes before another: it has taken more TSDUs, or as many and is ahead.
 pub(crate) fn is_before(one: &Member, other: &Member) -> bool {
     if one.taken != other.taken {
         return one.taken > other.taken;
@@ -39,8 +39,8 @@ pub(crate) fn is_before(one: &Member, other: &Member) -> bool {
     is_ahead(&one.standing, &other.standing)
 }
 
-/// The member that comes before all others: it has taken most, and of these it has the highest V(A), then
-/// the flag on.
+/// The member that comes before all others: it has taken most TSDUs, and of these it has the highest V(A), and then
+/// the answer flag on.
 pub(crate) fn foremost(members: &[Member]) -> Member {
     let mut best = first_of(members);
     'members: for member in members {
@@ -51,7 +51,7 @@ pub(crate) fn foremost(members: &[Member]) -> Member {
     best
 }
 
-/// The first member; where there is none, a session that has just begun.
+/// The first member; if there is none, a session that has just begun.
 pub(crate) fn first_of(members: &[Member]) -> Member {
     match members.first() {
         Some(member) => *member,
@@ -62,7 +62,7 @@ pub(crate) fn first_of(members: &[Member]) -> Member {
     }
 }
 
-/// One more TSDU that a session takes: where it stands then, or that it stops there.
+/// One more TSDU for a session: its state afterwards, or that it stops before it.
 pub(crate) enum Turn {
     Goes(Member),
     Stops(Option<Reply>),
@@ -85,7 +85,7 @@ pub(crate) fn take_next(alloc: Global, heard: &[Octets], at: &Member) -> Result<
     }))
 }
 
-/// How a member stands behind all that was heard.
+/// The state of a member after all TSDUs that passed.
 pub(crate) fn stands_behind(
     alloc: Global,
     heard: &[Octets],

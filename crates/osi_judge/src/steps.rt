@@ -1,4 +1,4 @@
-//! What a packet of a side is to its transport in class 0.
+//! What a packet of a side means for its transport in class 0.
 
 ghost use Rattle.std.specs.Prelude.{◌≡◌, ◌==◌, ◌/◌};
 ghost use Rattle.std.specs.List.{list_any};
@@ -11,14 +11,14 @@ use crate::directions::Direction;
 use crate::stops::Stop;
 use osi_tpdu::{ConnectRequest, Tpdu, read_units};
 
-/// What a packet is to its side.
+/// What a packet means for its side.
 #[derive(Clone, Copy)]
 pub(crate) enum Step<'a> {
     /// It opens the connection: CR or CC, with the reference of its sender.
     Opens(u16),
     /// It adds to a TSDU, and ends it or not.
     Adds(bool, &'a [u8]),
-    /// Nothing behind it is looked at.
+    /// Nothing after it is looked at.
     Stops(Stop),
 }
 
@@ -78,7 +78,7 @@ fn next_unit<'a>(unit: &Tpdu<'a>) -> Step<'a>
     }
 }
 
-/// What a packet with this transport unit is to a side, whose connection was opened or not.
+/// What a packet with this transport unit means for a side, whose connection was opened or not.
 pub(crate) fn read_step(direction: Direction, is_open: bool, unit: &[u8]) -> Step<'_>
     ensures { step result ≡ step_of direction is_open (units_of unit.now) }
 {

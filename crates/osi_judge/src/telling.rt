@@ -1,4 +1,4 @@
-//! The sessions that still explain a side behind another TSDU that it said.
+//! The sessions that still explain a side after another TSDU that it sent.
 
 ghost use Rattle.std.specs.Prelude.{◌≡◌, ◌≤◌, ◌↔◌, ◌∷◌, ◌++◌, ◌||◌, IfOk, List, ℕ, length, map};
 ghost use Rattle.osi_message.specs.Reading.{word, said_by_units};
@@ -16,7 +16,7 @@ use osi_session::is_restart_unit;
 use osi_spdu::{Group, Spdu, read_tsdu};
 use std::alloc::{AllocError, Global};
 
-/// The members behind a unit of a TSDU of so many octets.
+/// The members after a unit of a TSDU of this many octets.
 pub(crate) fn behind_unit(
     alloc: Global,
     heard: &[Octets],
@@ -42,8 +42,8 @@ fn either(one: bool, other: bool) -> bool
     one || other
 }
 
-/// The members behind the units of a TSDU of so many octets, in the order in which they act: the first unit
-/// after those behind it, and not where one of these is an RS.
+/// The members after the units of a TSDU of this many octets, in the order in which these take effect: the first unit
+/// after those that follow it, and not at all if one of them is an RS.
 fn behind_units(
     alloc: Global,
     heard: &[Octets],
@@ -71,7 +71,7 @@ fn behind_units(
     Ok(last)
 }
 
-/// The members behind a TSDU; none behind one that is no session units.
+/// The members after a TSDU; none after one that is not session units.
 #[tactic(auto, unfolding(osi_message::specs::Reading::said_at))]
 pub(crate) fn behind_tsdu(
     alloc: Global,

@@ -1,5 +1,5 @@
-//! How a session goes on to the next unit that its side said: it says it where it stands, or takes TSDUs of
-//! the other side first.
+//! How a session continues to the next unit that its side sent: it sends the unit now, or takes TSDUs of the other
+//! side first.
 
 ghost use Rattle.std.specs.Prelude.{◌≡◌, ◌<◌, ◌≤◌, ◌+◌, ◌↔◌, ◌⊎◌, ◌∷◌, IfOk, OnOk, IfSome, length, true, List, ℕ, Some};
 ghost use Rattle.osi_message.specs.Reading.{word};
@@ -19,13 +19,13 @@ use std::alloc::{AllocError, Global};
 /// A session on its way to the next unit of its side.
 #[derive(Clone, Copy)]
 pub(crate) struct Walker {
-    /// Where it is.
+    /// The session, and how many TSDUs it has taken.
     pub(crate) at: Member,
-    /// How a session stands that said the unit at an earlier place, and took the TSDUs since.
+    /// The state of a session that sent the unit earlier, and has taken the TSDUs since.
     pub(crate) said_before: Option<Standing>,
 }
 
-/// Whether a session that said the unit earlier stands so by now.
+/// Whether a session that sent the unit earlier is in this state by now.
 fn is_covered(said_before: Option<Standing>, said: &Standing) -> bool
     ensures { result ≡ true → said_before ≡ Some said.now }
 {
@@ -35,7 +35,7 @@ fn is_covered(said_before: Option<Standing>, said: &Standing) -> bool
     }
 }
 
-/// Says the unit where the walker stands, if it may.
+/// Sends the unit now, if the walker may.
 fn say_it(
     unit: &Spdu,
     octets: usize,
@@ -65,7 +65,7 @@ fn say_it(
     })
 }
 
-/// Counts the answer to a TSDU that was taken, where the unit is this answer.
+/// Counts the answer to a TSDU that was taken, if the unit is this answer.
 fn answer(unit: &Spdu, reply: Reply, at: Member, next: &mut Vec<Member>) -> Result<(), AllocError>
     ensures { OnOk result ((us : List (List ℕ)) (later : List Remark) → Answers us later (word (said_by unit.now)) (reply_of reply) at next.old.items next.new.items) }
 {
@@ -75,7 +75,7 @@ fn answer(unit: &Spdu, reply: Reply, at: Member, next: &mut Vec<Member>) -> Resu
     add(next, at)
 }
 
-/// How a session stands that takes this TSDU too; none where it answers it, or takes nothing.
+/// The state of a session after it took this TSDU too; `None` if it answers it, or takes nothing.
 fn follow(
     alloc: Global,
     said_before: Option<Standing>,
@@ -89,8 +89,8 @@ fn follow(
     }
 }
 
-/// One step of a walker that has not taken all that had passed: it says the unit, if it may, and takes the
-/// next TSDU. None where it can't go on.
+/// One step of a walker that has not taken all TSDUs that had passed: it sends the unit, if it may, and takes the next
+/// TSDU. `None` if it can't continue.
 fn turn(
     alloc: Global,
     heard: &[Octets],
@@ -122,9 +122,9 @@ fn turn(
     Ok(Some(Walker { at, said_before }))
 }
 
-/// The members behind a unit that is not steady, of what one member explains: it says the unit where it
-/// stands, or takes TSDUs first, as many as had passed. A session that said the unit and then took what
-/// another took before it, and that stands as the other, stands for both.
+/// The members after a unit that is not steady, from one member: it sends the unit now, or after taking TSDUs, as many
+/// as had passed. If a session sent the unit and then took the TSDUs that another took before it, and both are in the
+/// same state, one member stands for both.
 fn walk_through(
     alloc: Global,
     heard: &[Octets],
@@ -152,7 +152,7 @@ fn walk_through(
     Ok(())
 }
 
-/// The members behind a unit, of what one member explains.
+/// The members after a unit, from one member.
 pub(crate) fn walk(
     alloc: Global,
     heard: &[Octets],

@@ -1,4 +1,4 @@
--- What is counted one entry after the other is how many entries of each kind there are.
+-- The counts, one entry after the other, are the numbers of entries of each kind.
 use Rattle.std.proofs.Common.{◌≡◌, ◌∙◌, ℕ, inl, inr, ◌+◌, ◌-◌, ◌^◌, ◌<◌, ◌≤◌, ◌==◌, ◌||◌, Bool, true, false, cond, if◌then◌else◌, List, [], ◌∷◌, ◌++◌, refl, ap, arith}
 use Rattle.std.proofs.lemmas.Bool.Decides.{eqb_tells}
 use Rattle.std.specs.List.{count_by, list_any}
@@ -125,7 +125,7 @@ some_counted p (e ∷ es) = by (p e) (count_by p es) (count_by p (e ∷ es)) (li
 pub status_of : (es : List Entry) (n : ℕ) → n ≡ capped (count_by is_refused es) → zero_if (n == 0) ≡ one_if (list_any is_refused es)
 status_of es n e = ap (λ m. zero_if (m == 0)) e ∙ some_counted is_refused es
 
--- the octets left over are no refusal
+-- the line of the octets left over says of nothing that it was refused
 pub refused_left : (es : List Entry) (n : ℕ) → list_any is_refused (es ++ Left n ∷ []) ≡ list_any is_refused es
 unfolding is_refused
 refused_left es n = list_any-append is_refused es (Left n ∷ []) ∙ or_false (list_any is_refused es)

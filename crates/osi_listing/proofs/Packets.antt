@@ -1,4 +1,4 @@
--- The packets of a stream: what one more of them adds to the listing, and what is left behind them.
+-- The packets of a stream: what one more of them adds to the listing, and what is left after them.
 use Rattle.std.proofs.Common.{◌≡◌, ◌≢◌, ◌∙◌, ℕ, ◌+◌, ◌-◌, ◌<◌, ◌≤◌, ◌^◌, Bool, true, false, MatchBool, List, [], ◌∷◌, ◌++◌, length, take, drop, refl, sym, ap, subst, arith, Option, None, Result, Ok, Err, IfOk, OnOk}
 use Rattle.std.specs.List.{flat_map}
 use Rattle.std.proofs.lemmas.List.{append_assoc, append-nil, length-append, take-append-drop, nil_from_length, take_all}
@@ -85,7 +85,7 @@ moves_both old mid new a b c r s t h k = record {
       );
 }
 
--- the place behind one more packet
+-- the offset after one more packet
 next_place : (stream rest left packet was now : ℕ) → stream < 2 ^ 64 → rest ≤ stream → rest ≡ packet + left → was ≡ offset_of (stream - rest) →
     now ≡ offset_of (was + packet) → now ≡ offset_of (stream - left)
 next_place stream rest left packet was now few within parts before after = omega arith
@@ -125,7 +125,7 @@ moves_packet old new before after rest left u b p parted says holds place = reco
 pub nothing_held : (octets piece : List ℕ) → length octets ≡ 0 → octets ++ piece ≡ piece
 nothing_held octets piece e = ap (λ o. o ++ piece) (nil_from_length octets e)
 
--- a piece that makes no packet whole is held
+-- a piece that completes no packet is held
 pub holds_all : (old new : Held) (piece : List ℕ) (used : ℕ) → IsPartial (old.octets ++ take used piece) × (used ≡ length piece) →
     Gains old (take used piece) new → IsGoing old → Leaves new (old.octets ++ piece) None
 holds_all old new piece used part gains going =
@@ -144,7 +144,7 @@ pub held_whole : (whole : Bool) (used : ℕ) (octets piece : List ℕ) → whole
 held_whole true used octets piece e part = part
 held_whole false used octets piece e part = cc
 
--- where no packet stands whole at the front, all is held
+-- if no complete packet is at the front, everything is held
 pub held_rest : (whole : Bool) (used : ℕ) (old new : Held) (rest : List ℕ) → IsReady old → IsWithoutPacket rest →
     MatchBool whole (IsOnePacket (old.octets ++ take used rest)) (IsPartial (old.octets ++ take used rest) × (used ≡ length rest)) →
     Gains old (take used rest) new → Leaves new rest None
@@ -155,7 +155,7 @@ held_rest false used old new rest ready without part gains =
     subst (λ o. Leaves new (o ++ rest) None) ready.0
     (holds_all old new rest used part gains (subst IsPartial (sym ready.0) empty_partial, ready.1))
 
--- a fault that is not want of memory is one of the stream
+-- a fault other than out of memory is one of the stream
 pub fault_told : (old new : Held) (piece : List ℕ) (f : TpktFault) → f ≢ OutOfMemory → TakesPiece old piece (Err f) new →
     (start : ℕ) × IsFaultOf start (old.octets ++ piece) f
 fault_told old new piece (BadVersion at) known h = (old.offset, h.0)
@@ -180,7 +180,7 @@ parted_at n used rest left e back =
 pub only_held : (old new : Work) (before after rest : List ℕ) → OnlyHolds old new → after ≡ before → Moves old before rest new after rest
 only_held old new before after rest same text = subst (λ t. Moves old before rest new t rest) (sym text) (moves_none old new before rest same)
 
--- the packets that stand whole in a piece, and then what is left of it
+-- the complete packets in a piece, and then what is left of it
 pub then_holds : {E : Type 0} (r : Result (Option TpktFault) E) (old mid last new : Work) (a b c piece rest left : List ℕ) →
     Moves old a (old.cutter.octets ++ piece) mid b rest → Moves mid b rest last c left → OnOk r (OnlyHolds last new) →
     IfOk r (λ f. Leaves new.cutter left f) → IfOk r (λ f. Goes old a piece f new c)

@@ -26,7 +26,7 @@ use Rattle.osi_listing.proofs.Counted.{counted_is, status_of, refused_left}
 use Rattle.osi_listing.proofs.Listings.{says_none, says_both, says_one}
 use Rattle.osi_listing.proofs.Packets.{packets_longer}
 
--- nothing has come
+-- nothing was fed
 pub nothing_fed : (work : Work) → work.cutter ≡ fresh → Holds work.streams [] → work.counts ≡ none → work.offset ≡ 0 → StandsAt stage.Going work [] []
 nothing_fed work cutter streams counts offset = (
   [],
@@ -40,7 +40,7 @@ nothing_fed work cutter streams counts offset = (
   ((subst (λ (h : Held). IsPartial h.octets) (sym cutter) empty_partial, ap (λ h. h.fault) cutter), ap (λ h. h.octets) cutter),
 )
 
--- a stream that goes on
+-- a stream that continues
 listed_longer : (streams : Streams) (counts : Counts) (offset : ℕ) (stream lines rest more : List ℕ) → Listed streams counts offset stream lines rest →
     Listed streams counts offset (stream ++ more) lines (rest ++ more)
 listed_longer streams counts offset stream lines rest more h =
@@ -91,7 +91,7 @@ gained old new before after piece fault goes octets lines few h =
     let moved = went.1.listed (octets ++ piece) lines few listed in
     (moved.0, went.0, moved.1, moved.2, went.2)
 
--- it lists on
+-- it still lists
 pub on_none : (s : Stage) (old new : Work) (before after piece : List ℕ) → s ≡ stage.Going → (IsGoing old.cutter → Goes old before piece None new after) →
     (octets lines : List ℕ) → length (octets ++ piece) < 2 ^ 64 → StandsAt s old octets lines →
     (more : List ℕ) × (after ≡ before ++ more) × StandsAt s new (octets ++ piece) (lines ++ more)
@@ -131,7 +131,7 @@ on_fault (Ok x) s old new before mid after piece f g counts is goes at told line
     )
 on_fault (Err x) s old new before mid after piece f g counts is goes at told line = tt
 
--- octets behind a fault
+-- octets after a fault
 fault_longer : (at : ℕ) (rest more : List ℕ) (f : TpktFault) → IsFaultOf at rest f → IsFaultOf at (rest ++ more) f
 fault_longer at (a ∷ rest) more (BadVersion n) h =
     let size = length-append (a ∷ rest) more in ((omega arith, h.0.1), h.1)
@@ -174,7 +174,7 @@ on_behind s work before piece is octets lines h =
       ),
     )
 
--- what a call of a lister does, with the number of octets that have come
+-- what a call of a lister does, with the number of octets that were fed
 pub feeds_by : (old new : Lister) (piece before after : List ℕ) → new.octets ≡ old.octets + length piece → new.octets < 2 ^ 64 →
     ((octets lines : List ℕ) → length (octets ++ piece) < 2 ^ 64 → StandsAt old.stage old.work octets lines →
     (more : List ℕ) × (after ≡ before ++ more) × StandsAt new.stage new.work (octets ++ piece) (lines ++ more)) → Feeds old piece before after new

@@ -85,7 +85,7 @@ fetches k lister octets fetched text lines after e none h =
     subst (λ (given : List ℕ). Stands k lister octets given)
     (sym (ap (λ (a : List ℕ). (fetched ++ lines) ++ a) none ∙ append-nil (fetched ++ lines) ∙ ap (λ (l : List ℕ). fetched ++ l) e)) h
 
--- what is listed is a part of what is listed with more
+-- if some lines are a prefix of the listing, so are the first of them
 given_less : (octets fetched more : List ℕ) → IsListedInPart octets (fetched ++ more) → IsListedInPart octets fetched
 given_less octets fetched more h = record {
   took = h.took;
@@ -101,7 +101,7 @@ given_less octets fetched more h = record {
 no_more : (octets given : List ℕ) → IsListedInPart (octets ++ []) given → IsListedInPart octets given
 no_more octets given h = subst (λ (o : List ℕ). IsListedInPart o given) (append-nil octets) h
 
--- whatever a trace keeps, what was fetched begins the listing
+-- whatever a trace keeps, what was fetched is a prefix of the listing
 pub fetched_begins : (k : Keeping) (lister : Lister) (octets fetched text : List ℕ) → Stands k lister octets (fetched ++ text) → IsListedInPart octets fetched
 fetched_begins Lines lister octets fetched text h = given_less octets fetched text (no_more octets (fetched ++ text) (stops_lines Lines lister octets [] (fetched ++ text) refl h))
 fetched_begins Counters lister octets fetched text h =

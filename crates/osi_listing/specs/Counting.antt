@@ -5,7 +5,7 @@ use Rattle.osi_listing.specs.declared.counting.Counts.{Counts}
 use Rattle.osi_listing.specs.Listing.{Entry, is_refused}
 use Rattle.osi_listing.specs.Listing.Entry.{Packet, TransportUnit, UnitFault, Tsdu, SessionUnit, SessionFault, TsduFault, PacketFault, Left}
 
--- as far as 64 bits count
+-- a count stops at 2^64 - 1
 abbrev pub capped : ℕ → ℕ
 capped n = min n (2 ^ 64 - 1)
 

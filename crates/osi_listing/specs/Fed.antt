@@ -31,15 +31,15 @@ pub record Moves (old : Work) (before rest : List ℕ) (new : Work) (after left 
   pub listed : (stream lines : List ℕ) → length stream < 2 ^ 64 → Listed old.streams old.counts old.offset stream lines rest →
       (more : List ℕ) × (after ≡ before ++ more) × Listed new.streams new.counts new.offset stream (lines ++ more) left
 
--- nothing is held, and no fault was met
+-- nothing is held, and there was no fault
 abbrev pub IsReady : Held → Type 0
 IsReady held = (held.octets ≡ []) × (held.fault ≡ None)
 
--- a proper prefix of a packet is held, and no fault was met
+-- a proper prefix of a packet is held, and there was no fault
 abbrev pub IsGoing : Held → Type 0
 IsGoing held = IsPartial held.octets × (held.fault ≡ None)
 
--- no whole packet is at the front
+-- no complete packet is at the front
 abbrev pub IsWithoutPacket : List ℕ → Type 0
 IsWithoutPacket rest = (u b more : List ℕ) → IsPacket u b → rest ≢ b ++ more
 
@@ -57,7 +57,7 @@ used_by (Next used) = used
 used_by All = 0
 used_by (Fault f) = 0
 
--- going on with what is held of a packet
+-- continuing with what is held of a packet
 abbrev pub Completes : Work → List ℕ → List ℕ → Step → Work → List ℕ → Type 0
 Completes old before piece (Next used) new after = Moves old before (old.cutter.octets ++ piece) new after (drop used piece) × IsReady new.cutter
 Completes old before piece All new after = OnlyHolds old new × (after ≡ before) × Leaves new.cutter (old.cutter.octets ++ piece) None
@@ -83,16 +83,16 @@ pub record IsFed (lister : Lister) (octets lines : List ℕ) : Type 0 where
   pub few : length octets < 2 ^ 64
   pub stands : StandsAt lister.stage lister.work octets lines
 
--- memory ran out, and it lists no more
+-- memory ran out, and it lists nothing more
 abbrev pub IsLost : Lister → Type 0
 IsLost lister = lister.stage ≡ stage.Lost
 
--- a text has gained the lines of the packets that a piece made whole
+-- a text has gained the lines of the packets that a piece completed
 abbrev pub Feeds : Lister → List ℕ → List ℕ → List ℕ → Lister → Type 0
 Feeds old piece before after new =
     (octets lines : List ℕ) → IsFed old octets lines → (more : List ℕ) × (after ≡ before ++ more) × IsFed new (octets ++ piece) (lines ++ more)
 
--- the same of pieces, one after the other
+-- the same for pieces, one after the other
 abbrev pub FeedsAll : Lister → List (List ℕ) → List ℕ → List ℕ → Lister → Type 0
 FeedsAll old [] before after new = (after ≡ before) × (new ≡ old)
 FeedsAll old (piece ∷ pieces) before after new =

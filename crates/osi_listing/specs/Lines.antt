@@ -116,7 +116,7 @@ unit_fault_line f = codes "  fault " ++ decimal (unit_fault_offset f) ++ codes "
 
 -- ---- TSDUs
 
--- a whole TSDU, by the number of its octets
+-- a complete TSDU, by the number of its octets
 unfoldable pub tsdu_line : ℕ → List ℕ
 tsdu_line n = codes "    tsdu " ++ decimal n ++ codes "\n"
 

@@ -51,7 +51,7 @@ is_refused TsduFault = true
 is_refused (PacketFault f) = true
 is_refused (Left n) = false
 
--- the session units of a TSDU; one that is no group of them has the fault alone
+-- the session units of a TSDU; if it is not a group of session units, only the fault
 abbrev pub session_entries : Result Units SpduFault → List Entry
 session_entries (Ok units) = map SessionUnit units
 session_entries (Err f) = SessionFault f ∷ []
@@ -61,7 +61,7 @@ outcome_entries Nothing = []
 outcome_entries (Whole tsdu) = Tsdu tsdu ∷ session_entries (tsdu_at tsdu)
 outcome_entries TooLong = TsduFault ∷ []
 
--- after a data unit, what it brings to its stream
+-- after a data unit, what it adds to its stream
 abbrev pub part_entries : List Part → Option Part → List Entry
 part_entries earlier None = []
 part_entries earlier (Some p) = outcome_entries (brought (join_of p.stream earlier) p.end p.octets)
@@ -72,7 +72,7 @@ unit_entries earlier [] = []
 unit_entries earlier (v ∷ vs) =
     (TransportUnit v ∷ part_entries earlier (part_of v)) ++ unit_entries (earlier ++ option_to_list (part_of v)) vs
 
--- the units of a packet; a packet with a bad unit has the fault alone, and adds to no stream
+-- the units of a packet; of a packet with a bad unit only the fault, and it adds to no stream
 abbrev pub read_entries : List Part → Result (List Value) TpduFault → List Entry
 read_entries earlier (Ok vs) = unit_entries earlier vs
 read_entries earlier (Err f) = UnitFault f ∷ []

@@ -12,11 +12,11 @@ abbrev pub fault_entries : Ending → List Entry
 fault_entries (Faulty f) = PacketFault f ∷ []
 fault_entries (Rest n) = []
 
--- the whole packets at the front of a stream, and the fault after them
+-- the complete packets at the front of a stream, and the fault after them
 abbrev pub entries_so_far : List (List ℕ) → Ending → List Entry
 entries_so_far units ending = packet_entries 0 [] units ++ fault_entries ending
 
--- their lines, and what is counted of them
+-- their lines, and their counts
 pub record IsListedSoFar (octets lines : List ℕ) (counts : Counts) : Type 0 where
   pub units : List (List ℕ)
   pub ending : Ending

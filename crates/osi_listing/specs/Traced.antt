@@ -18,7 +18,7 @@ counted_by lister = lister.work.counts
 abbrev pub octets_fed : Lister → ℕ
 octets_fed lister = lister.octets
 
--- how many streams of class 2 are within a TSDU
+-- how many streams of class 2 have an unfinished TSDU
 abbrev pub unfinished : Lister → ℕ
 unfinished lister = btree_map_len lister.work.streams.class_2
 
@@ -49,12 +49,12 @@ Stands Lines lister octets given = IsFed lister octets given
 Stands Counters lister octets given = (lines : List ℕ) × IsFed lister octets lines × (given ≡ [])
 Stands Nothing lister octets given = IsListedInPart octets given
 
--- the lines that nobody has fetched
+-- the lines that nobody has fetched yet
 abbrev pub unfetched : Trace → List ℕ
 unfetched t = t.text.items
 
--- These octets passed, and these lines were fetched. If the trace keeps lines, these and the lines that nobody has fetched are
--- the listing so far of the octets. If it has stopped, they are a prefix of it.
+-- These octets passed, and these lines were fetched. If the trace keeps lines, the fetched lines and those that nobody
+-- has fetched yet are the listing so far of the octets. If it has stopped, they are a prefix of it.
 abbrev pub IsTraced : Trace → List ℕ → List ℕ → Type 0
 IsTraced t octets fetched = Stands t.keeping t.lister octets (fetched ++ unfetched t)
 
@@ -77,14 +77,15 @@ octets_taken t = octets_fed t.lister
 abbrev pub AreCounted : List ℕ → Counts → Type 0
 AreCounted octets counts = (lines : List ℕ) × IsListedSoFar octets lines counts
 
--- at most 1,048,576 octets of lines; unless it has stopped, at most 64 streams of class 2 are within a TSDU
+-- at most 1,048,576 octets of lines; unless it has stopped, at most 64 streams of class 2 have an unfinished TSDU
 pub record IsBounded (t : Trace) : Type 0 where
   pub lines : length (unfetched t) ≤ 1048576
   pub streams : is_stopped t ≡ false → unfinished t.lister ≤ 64
 
 -- ---- what a trace keeps after a piece
 
--- a text gains lines if there is room for them and few streams are within a TSDU; otherwise the trace stops
+-- a text gains lines if there is room for them and not too many streams have an unfinished TSDU; otherwise the trace
+-- stops
 abbrev pub KeepsOn : List ℕ → List ℕ → ℕ → Keeping → List ℕ → Type 0
 KeepsOn text lines streams Lines after = (after ≡ text ++ lines) × (length after ≤ 1048576) × (streams ≤ 64)
 KeepsOn text lines streams Counters after = ⊥

@@ -10,11 +10,11 @@ use thiserror::Error;
 /// Why a text gives no octets.
 #[derive(Clone, Copy, PartialEq, Eq, Debug, Error)]
 pub enum CaptureFault {
-    /// The text is no capture: it has another character than digits, blanks and comments, or an odd
-    /// number of digits.
+    /// The text is not a capture: it has a character other than digits, blanks and comments, or an odd number of
+    /// digits.
     #[error("not the digits of octets")]
     BadHex,
-    /// There was no memory.
+    /// An allocation failed.
     #[error("out of memory")]
     OutOfMemory,
 }

@@ -3,19 +3,19 @@
 ghost use Rattle.std.specs.Prelude.{◌≡◌, ◌+◌};
 ghost use Rattle.osi_listing.specs.Counting.{capped, none};
 
-/// How many lines of each kind a listing has, each as far as 64 bits count.
+/// How many lines of each kind a listing has. Each count stops at 2^64 - 1.
 #[derive(Clone, Copy, PartialEq, Eq, Debug)]
 pub struct Counts {
     /// Packets (RFC 1006 section 6).
     pub packets: u64,
     /// Transport units (X.224 section 13), of packets in which all units can be read.
     pub units: u64,
-    /// Whole TSDUs.
+    /// Complete TSDUs.
     pub tsdus: u64,
     /// Session units (X.225 section 8), of TSDUs in which all units can be read.
     pub session_units: u64,
-    /// Lines that say that something was refused: a packet, the units of a packet or of a TSDU, or a TSDU
-    /// that is too long.
+    /// Lines that say that something was refused: a packet, the units of a packet or of a TSDU, or a TSDU that is too
+    /// long.
     pub refused: u64,
 }
 
@@ -47,7 +47,7 @@ impl Counts {
         self.units = self.units.saturating_add(1);
     }
 
-    /// One more whole TSDU.
+    /// One more complete TSDU.
     pub(crate) fn add_tsdu(&mut self)
         ensures { self.new ≡ record self.old { tsdus = capped (self.old.tsdus + 1) } }
     {

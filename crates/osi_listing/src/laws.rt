@@ -23,7 +23,7 @@ pub fn a_capture_has_one_listing()
 }
 
 /// However a stream is cut into the pieces that a lister is fed, the result is the same as if it were fed all at once.
-/// The octets that came determine the lines so far and what is counted.
+/// The octets that were fed determine the lines so far and the counts.
 pub fn the_pieces_do_not_matter()
     ensures pieces { (old new : Lister) (pieces : List (List ℕ)) (before after : List ℕ) → FeedsAll old pieces before after new →
         Feeds old (flat_map (λ piece. piece) pieces) before after new }
@@ -33,8 +33,9 @@ pub fn the_pieces_do_not_matter()
     a_stream_has_one_cut();
 }
 
-/// The lines that were fetched of a trace are always a prefix of the listing of the octets that passed, or of a prefix of
-/// these if it has stopped. As long as it keeps lines, they are with those that nobody has fetched the whole listing so far.
+/// The lines that were fetched of a trace are always a prefix of the listing of the octets that passed, or of a prefix
+/// of these octets if the trace has stopped. As long as it keeps lines, the fetched lines and those that nobody has
+/// fetched yet are the whole listing so far.
 pub fn what_is_fetched_is_the_listing()
     ensures whole { (trace : Trace) (octets fetched : List ℕ) → IsTraced trace octets fetched → trace.keeping ≡ Lines →
         IsListedSoFar octets (fetched ++ unfetched trace) (counted trace) }

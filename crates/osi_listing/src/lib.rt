@@ -1,5 +1,6 @@
-//! Lists octets for people: a line for each packet (RFC 1006), each of its transport units (X.224), each TSDU, and each of its
-//! session units (X.225). The program `osi show` prints such a listing of a capture; an end writes one of what passes into a log.
+//! Lists octets for people: a line for each packet (RFC 1006), each of its transport units (X.224), each TSDU, and
+//! each of its session units (X.225). The program `osi show` prints such a listing of a capture; an end can write one
+//! of its traffic into a log.
 //!
 //! ```text
 //! packet 0 length 16 code f0
@@ -12,10 +13,10 @@
 //! There are three ways to make one:
 //!
 //! - [`list`] lists a whole capture.
-//! - A [`Lister`] lists the octets of one direction in whatever pieces they come, and counts them by kind ([`Counts`]).
-//!   [`laws`] says that the pieces make no difference.
-//! - A [`Trace`] is a lister for a program that runs on: you fetch its lines as they come, its memory is bounded, and if
-//!   it can't go on it stops and never fails.
+//! - A [`Lister`] lists the octets of one direction, in whatever pieces they arrive, and counts them by kind
+//!   ([`Counts`]). The laws ([`laws`]) say that the pieces make no difference.
+//! - A [`Trace`] is a lister for a program that keeps running: you fetch its lines from time to time, its memory is
+//!   bounded, and if it can't continue it stops without an error.
 //!
 //! ```text
 //! let mut trace = Trace::lines(alloc);
@@ -23,8 +24,9 @@
 //! let lines = trace.fetch(alloc);
 //! ```
 //!
-//! A listing never judges: it reads the grammar of units, and not whether a session may send them. `osi_judge` does that, and
-//! `osi_dispute` makes a text of its verdict from pieces of lines that are public here ([`octets_of`], [`push_words`]).
+//! A listing never judges: it reads the grammar of units, but does not say whether a session may send them.
+//! `osi_judge` does that, and `osi_dispute` makes a text of its verdict from pieces of lines that are public here
+//! ([`octets_of`], [`push_words`]).
 #![tactic(auto)]
 
 mod capture;

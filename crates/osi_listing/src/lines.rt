@@ -169,7 +169,7 @@ pub(crate) fn push_unit_fault(text: &mut Vec<u8>, fault: TpduFault) -> Result<()
     push_words(text, "\n")
 }
 
-/// Adds the line of a whole TSDU, by the number of its octets.
+/// Adds the line of a complete TSDU, by the number of its octets.
 #[tactic(auto, unfolding(crate::specs::Lines::tsdu_line))]
 pub(crate) fn push_tsdu(text: &mut Vec<u8>, octets: u64) -> Result<(), AllocError>
     ensures { OnOk result (text.new.items ≡ text.old.items ++ tsdu_line octets) }

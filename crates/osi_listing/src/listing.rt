@@ -1,4 +1,4 @@
-//! The lines of a packet, of its transport units, and of what they bring to their streams.
+//! The lines of a packet, of its transport units, and of what they add to their streams.
 
 ghost use Rattle.std.specs.Prelude.{◌≡◌, ◌<◌, ◌+◌, ◌^◌, ◌++◌, ◌∷◌, ℕ, List, length, map, option_to_list, OnOk};
 ghost use Rattle.osi_tpdu.specs.Packet.{units_of};
@@ -84,7 +84,7 @@ fn list_each(
     Ok(())
 }
 
-/// Lists one unit, and what it brings to its stream.
+/// Lists one unit, and what it adds to its stream.
 fn list_unit(
     alloc: Global,
     text: &mut Vec<u8>,
@@ -104,7 +104,7 @@ fn list_unit(
     list_outcome(alloc, text, counts, &outcome)
 }
 
-/// Lists what a unit brought to its stream.
+/// Lists what a unit added to its stream.
 fn list_outcome(
     alloc: Global,
     text: &mut Vec<u8>,
@@ -124,7 +124,7 @@ fn list_outcome(
     }
 }
 
-/// Lists a whole TSDU, and its session units or only their fault.
+/// Lists a complete TSDU, and its session units or only their fault.
 fn list_tsdu(
     alloc: Global,
     text: &mut Vec<u8>,

@@ -1,4 +1,4 @@
-//! The listing of a stream that comes in pieces.
+//! The listing of a stream that arrives in pieces.
 
 ghost use Rattle.std.specs.Prelude.{◌≡◌, ◌++◌, ◌<◌, ◌^◌, ℕ, List, [], length, IsErr, IfOk, ◌==◌, if◌then◌else◌, IsTrue, ◌↔◌, OnOk, OnErr};
 ghost use Rattle.osi_tpkt.specs.Packet.{IsFaultOf};
@@ -13,8 +13,9 @@ use crate::work::Work;
 use osi_tpkt::TpktFault;
 use std::alloc::{AllocError, Global};
 
-/// Lists captured octets: a line for each packet, for each of its transport units, for each whole TSDU and each of its
-/// session units, and one for the fault or the rest after the packets. The status is 1 if something was refused, else 0.
+/// Lists captured octets: a line for each packet, for each of its transport units, for each complete TSDU and each of
+/// its session units, and one for the fault or the rest after the packets. The status is 1 if something was refused,
+/// otherwise 0.
 ///
 /// # Errors
 /// An allocation failed. Then the text may have gained some lines.
@@ -27,32 +28,32 @@ pub fn list(alloc: Global, text: &mut Vec<u8>, octets: &[u8]) -> Result<u8, Allo
     lister.finish(text)
 }
 
-/// Whether a lister lists on.
+/// Whether a lister still lists.
 #[derive(Clone, Copy)]
 enum Stage {
-    /// Packets are listed as they become whole.
+    /// Packets are listed when they are complete.
     Going,
-    /// The stream had a fault, which no packet follows.
+    /// The stream had a fault; no packet follows it.
     Faulty,
     /// Memory ran out.
     Lost,
 }
 
-/// Lists the octets of one direction of a byte connection, in whatever pieces they come: what it writes
-/// is what [`list`] writes of all of them.
+/// Lists the octets of one direction of a byte connection, in whatever pieces they arrive: it writes what [`list`]
+/// writes of all of them.
 ///
-/// It keeps the octets of a packet that is not whole, at most 65,535, and of each stream those of a TSDU that is not
-/// whole, at most 1,048,576. Class 0 is one stream; in class 2 each DST-REF is one.
+/// It keeps the octets of an unfinished packet, at most 65,535, and of each stream those of an unfinished TSDU, at
+/// most 1,048,576. Class 0 is one stream; in class 2 each DST-REF is one.
 #[derive(Drop)]
 pub struct Lister {
     work: Work,
-    /// How many octets came.
+    /// How many octets were fed.
     octets: u64,
     stage: Stage,
 }
 
 impl Lister {
-    /// A lister of a stream that has not begun. It takes no memory until it is fed.
+    /// A lister of a stream that has not begun. It allocates nothing until it is fed.
     pub fn new(alloc: Global) -> Self
         ensures fed { IsFed result [] [] }
         ensures none { unfinished result ≡ 0 }
@@ -65,12 +66,12 @@ impl Lister {
         }
     }
 
-    /// Takes the next octets of the stream, and adds the lines of the packets that they make whole to a
-    /// text, and the line of the fault that ends the stream. Octets after a fault add no line.
+    /// Takes the next octets of the stream. Adds to a text the lines of the packets that they complete, and the line
+    /// of the fault that ends the stream. Octets after a fault add no line.
     ///
     /// # Errors
-    /// An allocation failed, or more than 2^64 - 1 octets have come. Then the text may have gained some lines, and each
-    /// further call answers `Err` and adds nothing.
+    /// An allocation failed, or more than 2^64 - 1 octets were fed. Then the text may have gained some lines, and each
+    /// further call returns `Err` and adds nothing.
     pub fn feed(
         &mut self,
         alloc: Global,
@@ -90,7 +91,7 @@ impl Lister {
         }
     }
 
-    /// What [`Lister::feed`] does, but it doesn't remember that memory ran out.
+    /// What [`Lister::feed`] does, but without remembering that memory ran out.
     fn take(&mut self, alloc: Global, text: &mut Vec<u8>, piece: &[u8]) -> Result<(), AllocError>
         ensures fed { OnOk result (Feeds self.old piece.now text.old.items text.new.items self.new) }
         ensures again { IsLost self.old → IsErr result × (text.new.items ≡ text.old.items) }
@@ -106,7 +107,7 @@ impl Lister {
         }
     }
 
-    /// Lists on, if the stream had no fault.
+    /// Continues the listing, if the stream had no fault.
     fn list_on(&mut self, alloc: Global, text: &mut Vec<u8>, piece: &[u8]) -> Result<(), AllocError>
         ensures octets { self.new.octets ≡ self.old.octets }
         ensures listed { self.old.stage ≡ Stage.Going → OnOk result ((octets lines : List ℕ) →
@@ -125,7 +126,7 @@ impl Lister {
     }
 
     /// Ends the listing when the stream is over: adds the line of the octets left over, unless the stream had a fault.
-    /// The status is 1 if something was refused, else 0.
+    /// The status is 1 if something was refused, otherwise 0.
     ///
     /// # Errors
     /// An allocation failed, here or in an earlier [`Lister::feed`].
@@ -144,7 +145,7 @@ impl Lister {
         }
     }
 
-    /// 1 if a line says that something was refused, else 0.
+    /// 1 if a line says that something was refused, otherwise 0.
     fn status(&self) -> u8
         ensures { result ≡ (if self.now.work.counts.refused == 0 then 0 else 1) }
     {
@@ -159,7 +160,7 @@ impl Lister {
         self.work.counts
     }
 
-    /// How many octets have come.
+    /// How many octets were fed.
     pub fn octets(&self) -> u64
         ensures value { result ≡ octets_fed self.now }
         ensures fed { (octets lines : List ℕ) → IsFed self.now octets lines → result ≡ length octets }
@@ -167,7 +168,7 @@ impl Lister {
         self.octets
     }
 
-    /// How many streams of class 2 are within a TSDU: of each, the octets that came of it are kept.
+    /// How many streams of class 2 have an unfinished TSDU. The lister keeps the octets of each of these TSDUs.
     pub fn unfinished(&self) -> usize
         ensures { result ≡ unfinished self.now }
     {

@@ -11,29 +11,29 @@ use std::mem::replace;
 /// The most octets of lines that a trace keeps for its user.
 const MOST_LINES: usize = 1_048_576;
 
-/// The most streams of class 2 that may be within a TSDU.
+/// The most streams of class 2 that may have an unfinished TSDU.
 const MOST_STREAMS: usize = 64;
 
 /// What a trace keeps.
 #[derive(Clone, Copy)]
 pub enum Keeping {
-    /// Lines, and what is counted of them.
+    /// Lines, and their counts.
     Lines,
-    /// What is counted of the lines.
+    /// Only the counts of the lines.
     Counters,
     /// Nothing more: it has stopped.
     Nothing,
 }
 
-/// Lists the octets of one direction of a byte connection while they pass, in bounded memory, for a log: a
+/// Lists the octets of one direction of a byte connection while they pass, in bounded memory, for a log. It is a
 /// [`Lister`] that keeps its lines until they are fetched, or only counts them.
 ///
-/// It stops, and keeps the lines that it has, if an allocation fails, if more than 1,048,576 octets of lines
-/// are not fetched, or if more than 64 streams of class 2 are within a TSDU after a piece.
+/// It stops, and keeps the lines that it has, if an allocation fails, if more than 1,048,576 octets of lines are not
+/// fetched, or if more than 64 streams of class 2 have an unfinished TSDU after a piece.
 #[derive(Drop)]
 pub struct Trace {
     pub lister: Lister,
-    /// The lines that nobody has fetched.
+    /// The lines that nobody has fetched yet.
     pub text: Vec<u8>,
     pub keeping: Keeping,
 }
@@ -110,7 +110,7 @@ impl Trace {
         }
     }
 
-    /// Hands out the lines that nobody has fetched.
+    /// Hands out the lines that nobody has fetched yet.
     pub fn fetch(&mut self, alloc: Global) -> Vec<u8>
         ensures lines { result.items ≡ unfetched self.old }
         ensures none_left { unfetched self.new ≡ [] }
@@ -145,7 +145,7 @@ impl Trace {
     }
 }
 
-/// Adds lines to a text, if there is room for them and few streams are within a TSDU.
+/// Adds lines to a text, if there is room for them and not too many streams have an unfinished TSDU.
 fn keep(text: &mut Vec<u8>, lines: &[u8], streams: usize) -> Keeping
     ensures { KeepsOn text.old.items lines.now streams result text.new.items }
 {
@@ -161,7 +161,7 @@ fn keep(text: &mut Vec<u8>, lines: &[u8], streams: usize) -> Keeping
     }
 }
 
-/// What a trace that only counts keeps, if few streams are within a TSDU.
+/// What a trace that only counts keeps, if not too many streams have an unfinished TSDU.
 fn counting(streams: usize) -> Keeping
     ensures { CountsOn streams result }
 {

@@ -1,4 +1,4 @@
-//! The packets of a stream, listed as they become whole.
+//! The packets of a stream, listed when they are complete.
 
 ghost use Rattle.std.specs.Prelude.{◌≡◌, ◌≢◌, ◌≤◌, ◌++◌, ℕ, List, [], length, IfOk, OnOk};
 ghost use Rattle.std.specs.BTreeMap.{btree_map_len};
@@ -17,7 +17,7 @@ use std::alloc::{AllocError, Global};
 /// The state of a listing after the packets that were listed.
 #[derive(Drop)]
 pub(crate) struct Work {
-    /// The octets of the packet under way.
+    /// The octets of the unfinished packet.
     pub(crate) cutter: Cutter,
     pub(crate) streams: Streams,
     pub(crate) counts: Counts,
@@ -28,7 +28,7 @@ pub(crate) struct Work {
 /// How far a piece leads with the packet of which a part is held.
 #[derive(Clone, Copy)]
 pub(crate) enum Step {
-    /// Nothing is held now. So many octets of the piece were used.
+    /// Nothing is held now. This many octets of the piece were used.
     Next(usize),
     /// All octets of the piece are held, and the packet is not whole yet.
     All,
@@ -37,7 +37,7 @@ pub(crate) enum Step {
 }
 
 impl Work {
-    /// Of a stream that has not begun.
+    /// A stream that has not begun.
     pub(crate) fn new(alloc: Global) -> Self
         ensures cutter { result.cutter ≡ fresh }
         ensures streams { Holds result.streams [] }
@@ -53,7 +53,7 @@ impl Work {
         }
     }
 
-    /// Lists the packets that a piece makes whole, and holds what is left. Answers the fault of the stream.
+    /// Lists the packets that a piece completes, and holds what is left. Returns the fault of the stream.
     pub(crate) fn list_piece(
         &mut self,
         alloc: Global,
@@ -100,7 +100,7 @@ impl Work {
         }
     }
 
-    /// Lists the packet that is held whole, and holds it no more.
+    /// Lists the complete packet that is held, and drops it.
     fn list_held(&mut self, alloc: Global, text: &mut Vec<u8>) -> Result<(), AllocError>
         ensures moves { OnOk result ((rest : List ℕ) → IsOnePacket self.old.cutter.octets →
             Moves self.old text.old.items (self.old.cutter.octets ++ rest) self.new text.new.items rest) }
@@ -122,7 +122,7 @@ impl Work {
         Ok(())
     }
 
-    /// Lists the whole packets at the front of a piece, if nothing is held. Returns the rest.
+    /// Lists the complete packets at the front of a piece, if nothing is held. Returns the rest.
     fn list_whole<'p>(
         &mut self,
         alloc: Global,
@@ -165,7 +165,7 @@ impl Work {
     }
 }
 
-/// A fault of the stream, and no want of memory.
+/// A fault of the stream. An allocation failure is not one.
 fn of_stream(fault: TpktFault) -> Result<TpktFault, AllocError>
     ensures same { IfOk result (λ f. f ≡ fault) }
     ensures known { IfOk result (λ f. f ≢ TpktFault.OutOfMemory) }

@@ -21,7 +21,7 @@ six a b c d e f all =
     let s = split d (e ∷ f ∷ []) r.1 in let t = split e (f ∷ []) s.1 in let u = split f [] t.1 in
     (p.0, q.0, r.0, s.0, t.0, u.0)
 
--- those in front may be zeros
+-- the first digits may be zeros
 six_small : (a b c d e f : ℕ) → list_all is_digit (a ∷ b ∷ c ∷ d ∷ e ∷ f ∷ []) ≡ true → decimal (a ∷ b ∷ c ∷ d ∷ e ∷ f ∷ []) ≤ 999999
 unfolding decimal_from
 six_small a b c d e f all = let s = six a b c d e f all in omega arith

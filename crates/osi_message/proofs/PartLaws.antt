@@ -48,7 +48,7 @@ tokens_say = refl
 part_units_say : (place : Place) (octets : List ℕ) → said_by_units (behind_tokens (part_unit place octets)) ≡ says (GT no_token) ∷ part place octets ∷ []
 part_units_say place octets = λ i. tokens_say i ∷ part_says place octets i ∷ []
 
--- the octets of a part are read as it
+-- the octets of a part read back as that part
 pub part_said : HaveRoom → ((units : Units) → IsFormedTsdu units → TsduFits units → tsdu_at (tsdu_octets units) ≡ Ok units)
     → (place : Place) (octets : List ℕ) → said_at (part_octets place octets) ≡ Ok (says (GT no_token) ∷ part place octets ∷ [])
 unfolding said_at

@@ -8,7 +8,7 @@ same_if : (b : Bool) (o x : List ℕ) (xs ys : List (List ℕ)) → (b ≡ false
 same_if true o x xs ys e = refl
 same_if false o x xs ys e = ap (λ r. x ∷ r) (e refl)
 
--- more fuel than octets changes nothing
+-- fuel beyond the number of octets makes no difference
 same_pieces : (f g size : ℕ) (o : List ℕ) → 0 < size → length o ≤ f → length o ≤ g → pieces f size o ≡ pieces g size o
 same_pieces zero zero size o some a b = refl
 same_pieces zero (suc g) size o some a b = let e : nat_le (length o) size ≡ true = le-leb (length o) size (omega arith) in rw e refl

@@ -75,7 +75,7 @@ ack_written n = (points_with (digits_of n) (digits_few n)).1
 
 -- ---- reading
 
--- of six digits, some in front may be zeros
+-- of six digits, the first ones may be zeros
 six_again : (a b c d e f : ℕ) → list_all is_digit (a ∷ b ∷ c ∷ d ∷ e ∷ f ∷ []) ≡ true → six_digits (decimal (a ∷ b ∷ c ∷ d ∷ e ∷ f ∷ [])) ≡ a ∷ b ∷ c ∷ d ∷ e ∷ f ∷ []
 unfolding decimal_from
 six_again a b c d e f all =
@@ -100,7 +100,7 @@ decimal_again (a ∷ b ∷ c ∷ d ∷ e ∷ []) few all some z = ap significant
 decimal_again (a ∷ b ∷ c ∷ d ∷ e ∷ f ∷ []) few all some z = ap significant (six_again a b c d e f all) ∙ rw z refl
 decimal_again _ few all some z = absurd (omega arith)
 
--- the digits of a number that is read from digits without a zero in front are these digits
+-- if digits without a leading zero give a number, they are the digits of that number
 pub read_again : (digits : List ℕ) (n : ℕ) → numeral digits ≡ Some n → has_zero_in_front digits ≡ false → digits_of n ≡ digits
 read_again digits n h0 h1 = grind (arith, and_parts, decimal_again, leb-true, ltb-true)
 

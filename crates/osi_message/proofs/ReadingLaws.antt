@@ -1,4 +1,4 @@
--- What is written of a field is read as it.
+-- What is written of a field reads back as it.
 use Rattle.std.proofs.Common.{◌≡◌, ◌∙◌, ℕ, ◌+◌, ◌*◌, ◌/◌, ◌%◌, ◌≤◌, ◌==◌, ◌&&◌, Bool, true, false, Some, None, option_map, if◌then◌else◌, refl, sym, ap, eqb, arith}
 use Rattle.osi_message.proofs.Vocabulary.{bit_and, and_parts, eqb-true, and_assoc, TsduMaximumSize, Wish, Asker, Answerer, Choice, TokenSetting, wish_number, size_octets, setting_octets, written_sizes, named, wish_named, sizes_in, setting_named, first_in}
 

@@ -1,4 +1,4 @@
--- What is true of the TSDUs in which a message leaves.
+-- What is true of the TSDUs in which a message is sent.
 use Rattle.std.proofs.Common.{◌≡◌, ◌∙◌, refl, sym, ap, subst, ℕ, zero, suc, ◌+◌, ◌-◌, ◌<◌, ◌≤◌, ◌==◌, Bool, true, false, not, ◌||◌, ◌&&◌, if◌then◌else◌, nat_le, List, [], ◌∷◌, ◌++◌, length, take, drop, map, Result, Ok, arith}
 use Rattle.osi_message.specs.declared.messages.Message.TheVariants as message
 use Rattle.osi_message.proofs.Vocabulary.{AllByRecursion, leb-true, leb-false, and_parts, ne_eqb, append-nil, take-append-drop, length-drop, length-take, IsOctets, octets_cons, octets_take, octets_drop, is_size, tsdu_at, SpduFault, Place, First, Middle, Last, Message, Meaning, DT, GT, meant_by, no_token, IsInOctets, Word, says, part, Words, enclosure_of, part_octets, word_octets, said_by_units, said_at, IsSendable, words_of, spelled, written, pieces, later_parts, parts_of, is_whole, is_parted, words_sent, tsdus_of, in_one, AreLater, AreParts, joined, behind_no_token, AreFull}
@@ -15,7 +15,7 @@ whole_if : (b : Bool) (m : Meaning) (parts : Words) → not b ≡ false → map 
 whole_if true m parts h = refl
 whole_if false m parts h = absurd cc
 
--- what is no data, and data within the limit, leaves in one TSDU
+-- a message other than data, and data within the limit, is sent in one TSDU
 pub sent_alone : (limit : ℕ) (m : Meaning) → is_parted limit m ≡ false → tsdus_of limit m ≡ in_one m
 unfolding words_sent
 sent_alone limit (DT octets) h = whole_if (is_whole limit octets) (DT octets) (parts_of (pieces (length octets) (limit - 7) octets)) h
@@ -29,7 +29,7 @@ pub words_parted : (limit : ℕ) (octets : List ℕ) → is_parted limit (DT oct
 unfolding words_sent
 words_parted limit octets h = parts_if (is_whole limit octets) (says (DT octets) ∷ []) (parts_of (all_pieces (limit - 7) octets)) h
 
--- what is no data, in memory
+-- a message other than data, in memory
 pub message_alone : (limit : ℕ) (m : Message) → ((octets : _) → m ≡ message.Data octets → ⊥) → tsdus_of limit (meant_by m) ≡ in_one (meant_by m)
 unfolding words_sent
 message_alone limit (message.Data octets) h = absurd (h octets refl)
@@ -78,7 +78,7 @@ are_parts limit octets size h =
     subst AreParts (sym (words_parted limit octets h ∙ parts_begin (limit - 7) octets (some_octets limit octets size w) (more_octets limit octets size w)))
     (are_later (all_pieces (limit - 7) (drop (limit - 7) octets)) (some_piece (length (drop (limit - 7) octets)) (limit - 7) (drop (limit - 7) octets)))
 
--- ---- what they have together
+-- ---- the octets of all parts together
 
 flat : List (List ℕ) → List ℕ
 flat [] = []

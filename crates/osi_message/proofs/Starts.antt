@@ -1,4 +1,4 @@
--- Octets that begin behind the first ones of their room.
+-- Octets that begin after the first ones of their buffer.
 -- For `Octets`.
 use Rattle.std.proofs.Common.{◌≡◌, ℕ, ◌≤◌, List, ◌++◌, length, drop, min}
 use Rattle.std.proofs.lemmas.List.{drop-append-le, drop_min}

@@ -81,6 +81,6 @@ pub restart_ack_known : (setting : TokenSetting) (n : Serial) (octets : Bor (Lis
 unfolding known_of slots_of cells_of place_of number_of
 restart_ack_known setting n octets = grind arith
 
--- a set of tokens that has their octet is written so
+-- a set of tokens with this octet is written as this octet
 pub set_kept : (set : TokenSet) (t : Tokens) → (bits_of set) ≡ token_octet t → bit_and (bits_of set) 85 ≡ token_octet t
 set_kept set t e = ap (λ (n : ℕ). bit_and n 85) e ∙ octet_kept t

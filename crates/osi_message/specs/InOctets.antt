@@ -3,7 +3,7 @@ use Rattle.std.specs.Prelude.{◌<◌, IfSome}
 use Rattle.osi_tpkt.specs.Octets.{IsOctets}
 use Rattle.osi_message.specs.Meanings.{Meaning, CN, AC, RF, DT, GT, PT, MIP, MIA, MAP, MAA, RS, RA, FN, DN, NF, AB, AA}
 
--- what its user gave is octets, requirements and each size fit two octets, a reason fits one
+-- what its user gave consists of octets, requirements and each size fit two octets, a reason fits one
 abbrev pub IsInOctets : Meaning → Type 0
 IsInOctets (CN version_2 requirements serial wishes calling called sizes octets) = (requirements < 65536) × IfSome calling IsOctets × IfSome called IsOctets × (sizes.from_asker < 65536) × (sizes.from_answerer < 65536) × IsOctets octets
 IsInOctets (AC version_2 requirements serial sides sizes octets) = (requirements < 65536) × (sizes.from_asker < 65536) × (sizes.from_answerer < 65536) × IsOctets octets

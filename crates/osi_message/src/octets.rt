@@ -10,7 +10,7 @@ use std::marker::Model;
 #[derive(Drop)]
 pub struct Octets {
     items: Vec<u8>,
-    /// Where they begin in it. What stands before them is none of them.
+    /// The index at which they begin in it. The octets before that don't belong to them.
     start: usize,
 }
 
@@ -24,8 +24,8 @@ impl Model for Octets {
     ghost invariant = { λ o. o.start ≤ length o.items.items };
 }
 
-/// Makes just the room that is missing for so many octets more. If memory runs out, nothing has changed; none is needed
-/// if there is room enough.
+/// Makes just the room that is missing for this many more octets. If memory runs out, nothing has changed; no memory
+/// is needed if there is room enough.
 fn make_room(items: &mut Vec<u8>, more: usize) -> Result<(), AllocError>
     ensures items { items.new.items ≡ items.old.items }
     ensures exact { OnOk result (vec_capacity items.new ≡ max (vec_capacity items.old) (length items.old.items + more)) }
@@ -45,8 +45,8 @@ impl Octets {
         }
     }
 
-    /// These octets without the first `start` of them, in the same memory: none is copied. There is none if there
-    /// are no more than `start`.
+    /// These octets without the first `start` of them, in the same buffer: none is copied. The result is empty if
+    /// there are no more than `start`.
     #[inline(always)]
     #[tactic(auto, using(crate::proofs::Starts::none_beyond))]
     pub fn behind(items: Vec<u8>, start: usize) -> Octets
@@ -64,7 +64,7 @@ impl Octets {
         Ok(Octets { items, start: 0 })
     }
 
-    /// Puts more octets behind them. `Err` changes nothing, and comes only where there are some.
+    /// Adds more octets after them. `Err` changes nothing, and is possible only if there are some to add.
     #[tactic(auto, using(crate::proofs::Starts::more_behind))]
     pub fn extend(&mut self, more: &[u8]) -> Result<(), AllocError>
         ensures ok { OnOk result (self.new ≡ self.old ++ more.now) }
@@ -77,8 +77,8 @@ impl Octets {
         self.items.extend_from_slice(more)
     }
 
-    /// Puts the last octets behind them, and makes no more room than they need. `Err` changes nothing, and
-    /// comes only where there are some.
+    /// Adds the last octets after them, and makes no more room than they need. `Err` changes nothing, and is possible
+    /// only if there are some to add.
     #[tactic(auto, using(crate::proofs::Starts::more_behind))]
     pub fn complete(&mut self, last: &[u8]) -> Result<(), AllocError>
         ensures ok { OnOk result (self.new ≡ self.old ++ last.now) }

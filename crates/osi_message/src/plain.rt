@@ -1,6 +1,6 @@
-//! The TSDUs that come most often, written and read straight: data, a part of it, and a minor
-//! synchronization point or its confirmation with no parameter but its number, behind a GT that names
-//! no token. Whole data has a reader of its own, [`PlainUnit::data`]; [`PlainUnit::read`] reads the others.
+//! The fast path for the most frequent TSDUs, which are written and read directly: data, a part of it, and a minor
+//! synchronization point or its confirmation with no parameter but its number, after a GT that names no token. Whole
+//! data has a reader of its own, [`PlainUnit::data`]; [`PlainUnit::read`] reads the others.
 
 ghost use Rattle.std.specs.Prelude.{ℕ, List, ◌≡◌, ◌+◌, ◌%◌, ◌≤◌, ◌++◌, true, [], ◌∷◌, length, Ok, IfSome};
 ghost use Rattle.osi_spdu.specs.Values.{digits_of};
@@ -28,7 +28,7 @@ const NUMBER: u8 = 0x2A;
 /// The code of an enclosure.
 const ENCLOSURE: u8 = 0x19;
 
-/// The most frequent units beside whole data.
+/// The most frequent units other than whole data.
 #[derive(Clone, Copy)]
 pub enum PlainUnit<'a> {
     /// A part of one Data (DT).
@@ -78,7 +78,7 @@ fn point(si: u8, number: Serial) -> Short
     long_point(si, number)
 }
 
-/// The same, of a number of four to six digits.
+/// The same for a number of four to six digits.
 #[tactic(auto, using(crate::proofs::PlainLaws::digits_4, crate::proofs::PlainLaws::digits_5, crate::proofs::PlainLaws::digits_6))]
 fn long_point(si: u8, number: Serial) -> Short
     requires { 1000 ≤ number.number }
@@ -129,8 +129,7 @@ pub(crate) fn minor_ack(number: Serial) -> Short
     point(MINOR_ACK, number)
 }
 
-/// What stands in front of data in its TSDU: a GT that names no token, and the header of a DT (X.225 sections
-/// 6.3.7 and 8).
+/// The octets before data in its TSDU: a GT that names no token, and the header of a DT (X.225 sections 6.3.7 and 8).
 #[inline(always)]
 #[tactic(auto, using(crate::proofs::PlainLaws::data_written))]
 pub fn data_head() -> &'static [u8]
@@ -140,7 +139,7 @@ pub fn data_head() -> &'static [u8]
     &[1, 0, 1, 0]
 }
 
-/// Whether a zero stands before another digit.
+/// Whether there is a zero before another digit.
 fn has_zero_in_front(digits: &[u8]) -> bool
     ensures { result ≡ has_zero_in_front digits.now }
 {
@@ -150,7 +149,7 @@ fn has_zero_in_front(digits: &[u8]) -> bool
     }
 }
 
-/// The number of these digits, which are those that it is written in.
+/// The number of these digits, if they are the digits in which it is written.
 #[tactic(auto, using(crate::proofs::PlainLaws::read_again))]
 fn canonical(digits: &[u8]) -> Option<Serial>
     ensures { IfSome result (λ s. digits_of s.number ≡ digits.now) }
@@ -162,7 +161,7 @@ fn canonical(digits: &[u8]) -> Option<Serial>
     Some(serial)
 }
 
-/// The number of a unit of this SI, behind a GT that names no token, with no other parameter.
+/// The number of a unit of this SI with no other parameter, after a GT that names no token.
 #[tactic(auto, using(crate::proofs::PlainLaws::point_parts))]
 fn number_of(tsdu: &[u8], si: u8) -> Option<Serial>
     ensures { IfSome result (λ s. tsdu.now ≡ point_octets si (digits_of s.number)) }
@@ -185,7 +184,7 @@ fn number_of(tsdu: &[u8], si: u8) -> Option<Serial>
     Some(serial)
 }
 
-/// Which part these octets stand in front of.
+/// The part before whose data these octets are written.
 fn place_in_front(head: &[u8]) -> Option<Place>
     ensures { IfSome result (λ p. head.now ≡ part_head p) }
 {
@@ -197,7 +196,8 @@ fn place_in_front(head: &[u8]) -> Option<Place>
     }
 }
 
-/// A part of one Data, behind a GT that names no token. It stands out of line: points come more often.
+/// A part of one Data, after a GT that names no token. The function is kept out of line, because points are more
+/// frequent.
 #[inline(never)]
 #[tactic(auto, using(crate::proofs::PlainLaws::part_parts))]
 fn part_of(tsdu: &[u8]) -> Option<PlainUnit<'_>>
@@ -234,8 +234,8 @@ fn plain_unit(tsdu: &[u8]) -> Option<PlainUnit<'_>>
 }
 
 impl<'a> PlainUnit<'a> {
-    /// What the octets of a TSDU say, if they are the written form of one of these. `None` for whole data,
-    /// which [`PlainUnit::data`] reads, and for all other octets, which `read_tsdu` reads.
+    /// What the octets of a TSDU mean, if they are the written form of one of these. `None` for whole data, which
+    /// [`PlainUnit::data`] reads, and for all other octets, which `read_tsdu` reads.
     pub fn read(tsdu: &'a [u8]) -> Option<PlainUnit<'a>>
         ensures written { IfSome result (λ p. tsdu.now ≡ plain_octets p) }
         ensures said { IfSome result (λ p. said_at tsdu.now ≡ Ok (plain_said p)) }
@@ -246,8 +246,7 @@ impl<'a> PlainUnit<'a> {
         Some(unit)
     }
 
-    /// The user data of whole data, if the octets of a TSDU are its written form, behind a GT that names no
-    /// token.
+    /// The user data of whole data, if the octets of a TSDU are its written form, after a GT that names no token.
     #[inline(always)]
     #[tactic(auto, using(crate::proofs::PlainLaws::data_parts))]
     pub fn data(tsdu: &'a [u8]) -> Option<&'a [u8]>

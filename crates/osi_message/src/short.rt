@@ -1,10 +1,10 @@
-//! The octets of a TSDU that has few of them, kept in place.
+//! The octets of a short TSDU, stored inline.
 
 ghost use Rattle.std.specs.Prelude.{◌≡◌, ◌≤◌, take};
 
 use std::marker::Model;
 
-/// The octets of a TSDU, at most 12. They are kept in place, so that no memory is needed.
+/// The octets of a TSDU, at most 12. They are stored inline, so that no memory is needed.
 #[derive(Drop)]
 pub struct Short {
     octets: [u8; 12],
@@ -22,7 +22,7 @@ impl Model for Short {
 }
 
 impl Short {
-    /// The first of these octets, so many.
+    /// The first `count` of these octets.
     #[inline(always)]
     pub(crate) fn of(octets: [u8; 12], length: usize) -> Short
         requires { length ≤ 12 }

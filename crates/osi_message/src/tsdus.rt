@@ -13,7 +13,7 @@ pub enum Tsdus {
     Parts(Vec<Vec<u8>>),
 }
 
-/// The TSDUs to send, lent.
+/// The TSDUs to send, borrowed.
 #[derive(Clone, Copy)]
 pub enum LentTsdus<'a> {
     /// The octets of one TSDU.

@@ -90,7 +90,7 @@ abbrev pub CarriesAsMuch : Event → TwoEnds → Applied → Type 0
 CarriesAsMuch (Carry side most) p applied = Moves true (min most (reachable side p)) applied
 CarriesAsMuch event p applied = CarriesNothing applied
 
--- the same, if the end that is fed may have pending indications
+-- the same, but the end that is fed may have pending indications
 abbrev pub CarriesWhereQuiet : Event → TwoEnds → Applied → Type 0
 CarriesWhereQuiet (Carry side most) p applied = Moves (not (waits (end_at (other side) p).end.lines)) (min most (reachable side p)) applied
 CarriesWhereQuiet event p applied = CarriesNothing applied
@@ -99,7 +99,7 @@ CarriesWhereQuiet event p applied = CarriesNothing applied
 abbrev pub NotesIfCutShort : TwoEnds → Applied → TwoEnds → Type 0
 NotesIfCutShort old applied new = applied.is_cut_short ≡ true → length old.journal < length new.journal
 
--- the same, if the end that is fed may have pending indications
+-- the same, but the end that is fed may have pending indications
 abbrev pub NotesWhereQuiet : Event → TwoEnds → Applied → TwoEnds → Type 0
 NotesWhereQuiet (Carry side most) old applied new =
     applied.is_cut_short ≡ true →

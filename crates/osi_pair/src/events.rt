@@ -26,8 +26,8 @@ pub enum Event<'a> {
 pub struct Applied {
     /// The number of octets carried; 0 for all events but a carry.
     pub carried: usize,
-    /// Whether a carry stopped early, because memory ran out for the entries that more octets may cause; only a carry
-    /// that has noted something is. `false` for all other events.
+    /// Whether a carry stopped early, because memory ran out for the entries that more octets may cause. Only a carry
+    /// that has noted something stops early. `false` for all other events.
     pub is_cut_short: bool,
 }
 

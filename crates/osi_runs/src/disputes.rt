@@ -1,7 +1,7 @@
 //! Captures of both sides in one file, and what is found of each.
 //!
-//! A line that begins with `== ` names a capture, whose lines stand below it. The line `-- status S` ends
-//! them; behind it stands what is printed.
+//! A line that begins with `== ` names a capture, and the lines of the capture follow it. The line `-- status S` ends
+//! them; after it comes what is printed.
 
 use crate::octets::push;
 use osi_dispute::{Judgement, judge_text};
@@ -9,13 +9,13 @@ use osi_listing::CaptureFault;
 use std::alloc::{AllocError, Global};
 use std::io;
 
-/// The rows of a file, as they come out again.
+/// The lines of a file, as they are written again.
 #[derive(Drop)]
 struct Rows {
     came: Vec<u8>,
-    /// The lines of the capture under way.
+    /// The lines of the current capture.
     capture: Vec<u8>,
-    /// The capture was judged: what stands below is what was wanted.
+    /// The capture was judged: the lines that follow are the expected result.
     is_judged: bool,
 }
 
@@ -61,7 +61,7 @@ fn take_line(alloc: Global, rows: &mut Rows, line: &str) -> io::Result<()> {
     Ok(rows.keep(line)?)
 }
 
-/// The rows of a file, with what is found of each capture.
+/// The lines of a file, with what is found of each capture.
 pub(crate) fn disputed(alloc: Global, text: &str) -> io::Result<Vec<u8>> {
     let mut rows = Rows {
         came: Vec::new(alloc),

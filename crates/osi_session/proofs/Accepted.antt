@@ -11,7 +11,7 @@ pub record Accepts (limit : ℕ) (l : Listener) (c : Call) (x : Step) : Type 0 w
   pub sendable : CanBeSent (react l (called c)).reply
   pub passes : (react l (called c)).error ≡ None
 
--- by the contents of memory
+-- by what is in memory
 pub accepts : (limit : ℕ) (v l : Listener) (c : Call) (x : Step) → limit ≡ limit_of v.state → v ≡ l → IsSound v.state → HasSerial c → allowed v.state c ≡ Ok x → Accepts limit l c x
 accepts limit v l c x e view sound small h = subst (λ (s : Listener). Accepts limit s c x) view (record {
   leaves = call_leaves v c x h;

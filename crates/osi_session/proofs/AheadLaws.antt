@@ -1,4 +1,4 @@
--- A side that has said a word ahead takes what comes just as the side that has not, for the words that may be said first.
+-- A side that has already sent a word takes TSDUs just as the side that has not, for the words that may be sent first.
 use Rattle.std.proofs.Common.{◌≡◌, ◌∙◌, refl, sym, ap, subst, ℕ, Bool, true, false, not, ◌||◌, ◌⊎◌, inl, inr, if◌then◌else◌, List, [], ◌∷◌, length, Option, Some, None, option_map, Result, Ok, Err}
 use Rattle.osi_message.specs.Words.{Word, Words}
 use Rattle.osi_session.specs.Standing.{Seen, Count, counted, kept_count}
@@ -10,7 +10,7 @@ use Rattle.osi_session.proofs.PhaseLaws.{excluded}
 use Rattle.osi_session.proofs.SayingLaws.{so_many, so_many_are}
 use Rattle.osi_session.proofs.WordCases.{word_keeps}
 
--- the state is what a word leaves of it
+-- the state is that which a word leaves
 abbrev pub shifted : (State → State) → Taker → Taker
 shifted f t = record { state = f t.state; joined = t.joined }
 
@@ -19,12 +19,12 @@ pub record Shifted (f : State → State) (h k : Hearing) : Type 0 where
   pub quiet : k.reply ≡ None
   pub closes : k.closes ≡ h.closes
 
--- the word may never be said again, or both go on alike
+-- the word may never be sent again, or both continue alike
 abbrev pub Goes : (State → Type 0) → (Phase → Bool) → (State → State) → Hearing → Hearing → Type 0
 Goes P gone f h k = (gone h.next.state.phase ≡ true) ⊎ (P h.next.state × Shifted f h k)
 
--- What is shown of a word: in the states of P it may have been said, f is what it leaves, and in the phases that are
--- gone it is not said any more.
+-- The conditions on a word: in the states of P it may have been sent, f is the state that it leaves, and in the phases
+-- of `gone` it is not sent any more.
 pub record IsAheadBy (P : State → Type 0) (gone : Phase → Bool) (f : State → State) : Type 0 where
   pub holds : (s : State) → P s → may_hold s.phase ≡ true
   pub phase : (s : State) → (f s).phase ≡ s.phase
@@ -130,7 +130,7 @@ came_goes P gone f a t (Err fault) p r = absurd (fault_loud t.state fault (exclu
 
 -- ---- a side
 
--- what a word leaves of it: of its state, and of the data that it has not finished
+-- what a word leaves of a side: of its state, and of the data that it has not finished
 abbrev pub leaves : (State → State) → (Option ℕ → Option ℕ) → Seen → Seen
 leaves f g s = record s { state = f s.state; sent = g s.sent }
 
@@ -150,7 +150,7 @@ shifted_count f h k c s e r =
     let joined : option_map length k.next.joined ≡ c.joined = ap (λ (x : Taker). option_map length x.joined) next ∙ ap (λ (x : Count). x.joined) e in
     λ i. record { state = state i; joined = joined i; reply = reply i; closes = closes i }
 
--- one TSDU is taken by both, or the word is gone
+-- both take one TSDU, or the word is gone
 pub hears_ahead : (P : State → Type 0) (gone : Phase → Bool) (f : State → State) (g : Option ℕ → Option ℕ) → IsAheadBy P gone f → (s t : Seen) (tsdu : List ℕ) → P s.state → Hears s tsdu t
     → (gone t.state.phase ≡ true) ⊎ (P t.state × Hears (leaves f g s) tsdu (leaves f g t))
 hears_ahead P gone f g a s t tsdu p h = elim (cases_Bool (gone h.count.state.phase)) [

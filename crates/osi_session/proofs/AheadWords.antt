@@ -1,4 +1,4 @@
--- The words that may be said first, by what they leave: a part of Data, a minor point, and its confirmation.
+-- The words that may be sent first, by what they leave: a part of Data, a minor point, and its confirmation.
 use Rattle.std.proofs.Common.{◌≡◌, ◌∙◌, refl, sym, ap, subst, ℕ, ◌+◌, Bool, true, false, not, ◌&&◌, ◌||◌, ◌⊎◌, inl, inr, nat_le, nat_lt, if◌then◌else◌, List, [], ◌∷◌, Option, Some, None, arith}
 use Rattle.osi_message.specs.Words.{Word, says, part}
 use Rattle.osi_session.specs.declared.numbers.Numbers.{Numbers}
@@ -10,7 +10,7 @@ use Rattle.osi_session.proofs.SoundUnits.{all_met}
 use Rattle.osi_session.proofs.WordCases.{word_keeps}
 use Rattle.osi_session.proofs.WordLaws.{word_at}
 
--- ---- the phases from which a side that takes alone never comes back
+-- ---- the phases to which a side that only takes TSDUs never returns
 
 -- data and points are not sent any more
 abbrev pub past_ready : Phase → Bool
@@ -134,7 +134,7 @@ part_ahead = record {
   step = part_step;
 }
 
--- ---- what is taken quietly is dropped, or good
+-- ---- what is taken without an answer is discarded, or good
 
 abbrev verdict_by : (o d x : Bool) (n : ℕ) → Option UnitFault → Verdict
 verdict_by o d x n f = if o then over else if d then dropped else if not x then faulty (Unexpected n) else by_fault f
@@ -189,7 +189,7 @@ quietly t v o r =
     quiet_verdict (word_verdict t v) (is_over t.state.phase) (drops t.state (as_message v)) (is_expected t.state.phase (as_message v)) (si (as_message v))
     (first_fault (si (as_message v)) (word_conditions t v)) refl o (quiet_good t v r)
 
--- ---- both go on, by what each does
+-- ---- both continue, by what each does
 
 goes_as : (P : State → Type 0) (gone : Phase → Bool) (f : State → State) (h k i l : Hearing) → h ≡ i → k ≡ l → Goes P gone f i l → Goes P gone f h k
 goes_as P gone f h k i l d e g = subst (λ (x : Hearing). Goes P gone f x k) (sym d) (subst (λ (x : Hearing). Goes P gone f i x) (sym e) g)
@@ -205,7 +205,7 @@ fine_gone P gone f t v h g = inl (subst (λ (x : Hearing). gone x.next.state.pha
 loud : (t : Taker) (v : Word) (m : Meaning) → word_verdict t v ≡ fine → (respond_word t v).reply ≡ None → (enacted_word t v fine).reply ≡ Some m → ⊥
 loud t v m h r e = let x : (respond_word t v).reply ≡ Some m = ap (λ (y : Hearing). y.reply) (word_at t v fine h) ∙ e in cc
 
--- ---- numbers alone are changed
+-- ---- only the numbers change
 
 abbrev pub renumbered : (Numbers → Numbers) → State → State
 renumbered g s = record s { numbers = g s.numbers }
@@ -219,7 +219,7 @@ dropped_goes P gone g t v p h =
 
 -- ---- a minor point
 
--- the side has the right to it, so it takes none
+-- the side has the right to a point, so it takes none
 pub record MayPoint (s : State) : Type 0 where
   pub ready : is_ready s.phase ≡ true
   pub minor : s.held.minor ≡ true
@@ -246,7 +246,7 @@ acknowledges true asked c k n a h = absurd (cc)
 acknowledges false true c k n a h = absurd (cc)
 acknowledges false false c k n a h = let p = and_parts (nat_le c k) (nat_lt k n) h in (refl, p.0, p.1)
 
--- a confirmation that is taken then, is taken behind the point too
+-- a confirmation that is taken then, is also taken after the point
 abbrev with_point : State → State
 with_point s = renumbered point_sent s
 

@@ -11,7 +11,7 @@ use Rattle.osi_session.proofs.VerdictLaws.{enacts, not_over}
 use Rattle.osi_session.proofs.WordCases.{outcome_in, word_does, word_keeps, all_keep, any_word, any_tsdu_keeps}
 use Rattle.osi_session.proofs.WordLaws.{word_at, word_alone}
 
--- ---- who answers a TSDU is over
+-- ---- a session that answers a TSDU is over
 
 -- if something is sent, it is an answer, and the session is aborted or has ended
 record Answers (o : Outcome) : Type 0 where
@@ -278,7 +278,7 @@ unfolding react
 read_awaited s (Ok words) h = (words_awaited (taker_of s) words (h words refl)).awaits
 read_awaited s (Err fault) h = (left_open s.state (respond_fault s.state fault) (fault_open s.state fault)).awaits
 
--- who closes it awaited a unit that does so
+-- a session that closes it awaited a unit that does so
 pub octets_awaited : (s : Listener) (octets : List ℕ) → (react s (came octets)).closes ≡ true → awaits_close s.state.phase ≡ true
 octets_awaited s octets = read_awaited s (said_at octets) (octets_alone octets)
 
@@ -337,7 +337,7 @@ word_waits t w h = word_keeps Waits t w (λ u a. unit_waits t.state u h) (λ o. 
 first_true : (a b : Bool) → a ≡ true → (a || b) ≡ true
 first_true a b h = rw h refl
 
--- what comes before it is there leaves it awaited, or is the end
+-- what happens before it is open leaves the session waiting for it, or is the end
 pub input_waits : (s : Listener) (input : Input) → is_opened input ≡ false → is_wait_transport s.state.phase ≡ true
     → (is_wait_transport (after_input s input).state.phase || is_over (after_input s input).state.phase) ≡ true
 input_waits s (called c) n w = call_cases Waits s c (first_true _ _ w) (λ x e. absurd (let b = callable_open s.state.phase (accepted_callable s.state c x e) in let q = b.0 in cc))

@@ -56,7 +56,7 @@ allowed_named s c e h =
 pub refused : (s : Listener) (c : Call) (e : CallError) → allowed s.state c ≡ Err e → Refused e (react s (called c)).error
 refused s c e h = subst (λ (b : Bool). RefusedBy b e (react s (called c)).error) (sym (allowed_named s.state c e h)) (call_errs s c e h)
 
--- and if there is none, memory may be wanted
+-- and if it gives none, memory may run out
 pub wanting : (s : Listener) (c : Call) (x : Step) → allowed s.state c ≡ Ok x → Refused error.OutOfMemory (react s (called c)).error
 wanting s c x h = call_passes s c x h
 
@@ -80,7 +80,7 @@ sends_short s _ h = omega arith
 abbrev met_step : State → Call → Step
 met_step s c = record { next = after s c; sent = sends s c }
 
--- what a call gives whose tests hold
+-- the result of a call whose tests hold
 met_is : (s : State) (c : Call) (x : Step) → met s c ≡ Ok x → x ≡ met_step s c
 unfolding met
 met_is s c x h = let w : _ ≡ _ = (first_error_ok (needs s c) _ x h).1 in cc

@@ -1,3 +1,5 @@
+-- The words of a TSDU take effect one after the other: what a loop over its units has done so far, and what is still to act.
+-- For `take_all` of grouping and `count_all` of counting.
 use Rattle.std.proofs.Common.{◌≡◌, refl, sym, ◌∙◌, ap, subst, ℕ, Bool, true, false, ◌||◌, List, [], ◌∷◌, ◌++◌, Option, Some, None, Result, Ok, Err, if◌then◌else◌, arith}
 use Rattle.osi_spdu.specs.declared.behind.Behind.{Behind}
 use Rattle.osi_spdu.specs.declared.units.Spdu.{Spdu}
@@ -66,7 +68,7 @@ stops want o restarts item u us h bad =
     let f = ap (heard_then o) (bad_then o.next u rest bad) in
     sym f ∙ sym e ∙ h
 
--- if memory is wanted for a word, it is for the whole
+-- if memory is needed for a word, it is needed for the whole
 pub takes : (j : Option (List ℕ)) (want o : Hearing) (restarts : Bool) (item u : Word) (us : Words) → SoFar j o → Leads want o restarts item (u ∷ us)
     → takes_room o.next.joined (respond_word o.next u) ≡ true → takes_room j want ≡ true
 takes j want o restarts item u us s h room =

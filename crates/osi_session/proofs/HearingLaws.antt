@@ -19,7 +19,7 @@ enacted_says t u v = grind arith
 pub message_is : (t : Taker) (u : Meaning) → respond_word t (says u) ≡ heard t.joined (enacted t.state u (word_verdict t (says u)))
 message_is t u = word_at t (says u) (word_verdict t (says u)) refl ∙ enacted_says t u (word_verdict t (says u))
 
--- ---- what takes memory
+-- ---- what needs memory
 
 pub loud_takes : (joined : Option (List ℕ)) (h : Hearing) → (is_nil h.shown && is_none h.reply) ≡ false → takes_room joined h ≡ true
 loud_takes joined h e = rw e refl

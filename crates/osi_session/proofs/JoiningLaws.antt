@@ -36,7 +36,7 @@ pub part_verdict : (t : Taker) (place : Place) (octets : List ℕ) → word_verd
 part_verdict t place octets = part_by (si (DT octets)) (is_over t.state.phase) (is_restarting t.state.phase) (takes_data t.state.phase) t.state.held.data_token
     (is_in_place t.joined place) (nat_le (length (joined_octets t.joined ++ octets)) most_data)
 
--- ---- a message that doesn't come within an SSDU, within one
+-- ---- a message that may not occur within an SSDU, within one
 
 ends_false : (n : ℕ) (cs : List Condition) (b : Bool) (f : ℕ → UnitFault) → b ≡ false →
     by_fault (first_fault n (cs ++ (b, f) ∷ [])) ≡ (if is_faulty (by_fault (first_fault n cs)) then by_fault (first_fault n cs) else faulty (f n))

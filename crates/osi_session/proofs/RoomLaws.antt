@@ -1,4 +1,4 @@
--- If memory is wanted for one word, it is for all: a word that shows and sends nothing joins no less.
+-- If memory is needed for one word, it is needed for all: a word that indicates and sends nothing joins no less.
 use Rattle.std.proofs.Common.{◌≡◌, ◌∙◌, refl, sym, ap, subst, ℕ, ◌≤◌, ◌<◌, Bool, true, false, not, ◌&&◌, ◌||◌, if◌then◌else◌, nat_lt, List, [], ◌∷◌, ◌++◌, length, Option, Some, None, inl, inr, arith}
 use Rattle.osi_session.proofs.Vocabulary.{is_none, cases_Bool, and_parts, ltb-true, lt-ltb, length-append, are_sizes, UnitFault, Unexpected, State, is_over, may_hold, nothing, becomes, good, bad, stands, is_nil, is_silent, first_reply, Verdict, over, dropped, faulty, fine, by_fault, first_fault, is_faulty, drops, is_expected, si, Shown, functional_units, has_data, Meaning, CN, AC, RF, DT, GT, PT, MIP, MIA, MAP, MAA, RS, RA, FN, DN, NF, AB, AA, First, Middle, Last, Word, Words, says, part, as_message, Taker, Hearing, joined_octets, kept_in, word_conditions, word_verdict, heard, heard_then, respond_word, respond_words, takes_room}
 use Rattle.osi_session.proofs.HearingLaws.{fine_holds, first_is, middle_is, last_is, kept_held}
@@ -13,7 +13,7 @@ quiet h = is_nil h.shown && is_none h.reply
 abbrev pub size : Option (List ℕ) → ℕ
 size joined = length (joined_octets joined)
 
--- ---- what takes room
+-- ---- what needs memory
 
 takes_by : (q : Bool) (m n : ℕ) → (not q || nat_lt m n) ≡ true → q ≡ true → m < n
 takes_by true m n h k = ltb-true m n h

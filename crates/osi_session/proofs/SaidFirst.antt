@@ -1,4 +1,5 @@
--- A side that said a word at the first place where it may, beside one that has not said it: what both take, and what the other says.
+-- A side that has sent a word at the first point at which it may, beside one that has not sent it: what both take, and
+-- what the other sends.
 use Rattle.std.proofs.Common.{◌≡◌, ◌∙◌, refl, sym, ap, subst, ℕ, ◌+◌, Bool, true, false, not, ◌&&◌, ◌||◌, ◌==◌, ◌⊎◌, inl, inr, is_none, unwrap_or, if◌then◌else◌, List, [], ◌∷◌, length, Option, Some, None, option_map}
 use Rattle.osi_message.specs.Words.{Word, says, part}
 use Rattle.osi_session.specs.Standing.{Seen, goes, where_is, calling, may_send, stands_in_place, CanSay}
@@ -14,7 +15,7 @@ use Rattle.osi_session.proofs.SteadyLaws.{if_seen, if_state, within, CallLeaves,
 abbrev same_sent : Option ℕ → Option ℕ
 same_sent sent = sent
 
--- what is sent of an unfinished Data behind a part
+-- how much of an unfinished Data is sent after a part
 abbrev sent_by : Place → List ℕ → Option ℕ → Option ℕ
 sent_by place octets sent = if is_last place then None else Some (unwrap_or sent 0 + length octets)
 
@@ -70,14 +71,14 @@ said_part s y place o n h =
 
 -- ---- beside each other
 
--- The second has said the word, and the first has not.
+-- The second has sent the word, and the first has not.
 abbrev pub IsAhead : Word → Seen → Seen → Type 0
 IsAhead (says (MIP confirm n octets)) s y = MayPoint s.state × (y ≡ leaves (renumbered point_sent) same_sent s)
 IsAhead (says (MIA n octets)) s y = MayConfirm s.state × (y ≡ leaves (renumbered (minor_confirmed n)) same_sent s)
 IsAhead (part place octets) s y = IsReady s.state × (y ≡ leaves same_state (sent_by place octets) s)
 IsAhead _ s y = y ≡ s
 
--- it may never be said again
+-- it may never be sent again
 abbrev pub is_gone : Word → Phase → Bool
 is_gone (says (MIP confirm n octets)) p = past_ready p
 is_gone (says (MIA n octets)) p = past_confirming p
@@ -93,7 +94,7 @@ said_ahead s y (says (MIA k o)) n e h = said_conf s y k o n h
 said_ahead s y (part place o) n e h = said_part s y place o n h
 said_ahead s y _ n e h = absurd (cc)
 
--- where the first says it too, both are one
+-- if the first sends it too, both are equal
 pub said_alike : (s y z : Seen) (w : Word) (n : ℕ) → is_steady w ≡ true → IsAhead w s y → CanSay s w n z → z ≡ y
 said_alike s y z (says (DT o)) n e a h = said_ahead s z (says (DT o)) n e h ∙ sym a
 said_alike s y z (says (PT k o)) n e a h = said_ahead s z (says (PT k o)) n e h ∙ sym a
@@ -103,7 +104,8 @@ said_alike s y z (says (MIA k o)) n e a h = (said_conf s z k o n h).1 ∙ sym a.
 said_alike s y z (part place o) n e a h = (said_part s z place o n h).1 ∙ sym a.1
 said_alike s y z _ n e a h = absurd (cc)
 
--- a TSDU that the first takes and does not answer, the second takes too, and does not answer it, unless the first will never say the word
+-- a TSDU that the first takes and does not answer, the second takes too, and does not answer it, unless the first will
+-- never send the word
 abbrev pub BothHear : Word → Seen → Seen → List ℕ → Type 0
 BothHear w y t tsdu = (is_gone w t.state.phase ≡ true) ⊎ ((z : Seen) × (Hears y tsdu z) × (IsAhead w t z))
 
@@ -120,7 +122,7 @@ both_hear s t y (says (MIA k o)) tsdu a h = by_ahead MayConfirm past_confirming 
 both_hear s t y (part place o) tsdu a h = by_ahead IsReady past_ready same_state (sent_by place o) part_ahead s t y tsdu a.0 a.1 h
 both_hear s t y _ tsdu a h = inr (t, subst (λ (v : Seen). Hears v tsdu t) (sym a) h, refl)
 
--- what is gone stays gone, and is not said
+-- what is gone stays gone, and is not sent
 pub gone_stays : (s t : Seen) (w : Word) (tsdu : List ℕ) → is_gone w s.state.phase ≡ true → Hears s tsdu t → is_gone w t.state.phase ≡ true
 gone_stays s t (says (MIP c k o)) tsdu g h = hears_gone MayPoint past_ready (renumbered point_sent) point_ahead s t tsdu g h
 gone_stays s t (says (MIA k o)) tsdu g h = hears_gone MayConfirm past_confirming (renumbered (minor_confirmed k)) (conf_ahead k) s t tsdu g h
@@ -137,7 +139,7 @@ gone_said s z (says (MIA k o)) n g h = neither (may_confirm_minor s.state.phase)
 gone_said s z (part place o) n g h = neither (is_ready s.state.phase) (said_part s z place o n h).0 (excluded past_ready is_ready refl s.state.phase g)
 gone_said s z _ n g h = absurd (cc)
 
--- ---- and so over all that is taken
+-- ---- and so over all TSDUs that are taken
 
 gone_all : (s t z : Seen) (tsdus : List (List ℕ)) (w : Word) (n : ℕ) → is_gone w s.state.phase ≡ true → HearsAll s tsdus t → CanSay t w n z → ⊥
 gone_all s t z [] w n g h k = gone_said s z w n g (subst (λ (x : Seen). CanSay x w n z) h k)

@@ -14,7 +14,7 @@ use Rattle.osi_session.proofs.TsduLaws.{words_sound, words_begun, octets_sound, 
 use Rattle.osi_session.proofs.WordLaws.{kept_none, word_alone, word_behind}
 use Rattle.osi_session.proofs.MoveLaws.{came_is}
 
--- a session stays as it is where its phase keeps what is joined
+-- a session is unchanged if its phase keeps what is joined
 pub stays : (l : Listener) → kept_in l.state.phase l.joined ≡ l.joined → l ≡ in_state l l.state
 stays l k = λ i. record { state = l.state; waiting = l.waiting; joined = sym k i }
 
@@ -29,7 +29,7 @@ takes_as r m n old new e t = subst (λ (x : Move). Takes r x old new) e t
 pub takes_nothing : {E : Type 0} (e : E) (l new : Listener) (m : Move) → new ≡ l → takes_memory l m ≡ true → (let r : Result Taken E = Err e in Takes r m l new)
 takes_nothing e l new m n h = record { state = tt; shown = tt; first = tt; reply = tt; closes = tt; err = n; memory = h }
 
--- ---- what is true of a session in memory is true of what it hears
+-- ---- what is true of a session in memory is true of its hearing
 
 pub record Holds (l : Listener) : Type 0 where
   pub sound : IsSound l.state
@@ -76,7 +76,7 @@ leaves_fault l fault h = record {
 pub leaves_as : (l : Listener) (h k : Hearing) → h ≡ k → Leaves l k → Leaves l h
 leaves_as l h k e x = subst (Leaves l) (sym e) x
 
--- ---- what was heard in memory, by the session's value
+-- ---- a hearing in memory, by the session's value
 
 pub of_heard : (j : Option (List ℕ)) (r : Reactions) (h : Heard) (want : Hearing) → outcome_of_all r ≡ outcome_of h.reaction → r.joined ≡ h.joined
     → hearing_of j h.joined (outcome_of h.reaction) ≡ want → hearing_of_all j r ≡ want
@@ -94,7 +94,7 @@ room_of_value want l s j e f h =
     subst (λ (k : Option (List ℕ)). takes_room k (want (record { state = l.state; joined = k })) ≡ true) f
     (subst (λ (x : State). takes_room j (want (record { state = x; joined = j })) ≡ true) e h)
 
--- the same, by what stands in memory
+-- the same, by what is in memory
 pub heard_by : (want : Taker → Hearing) (l : Listener) (s : State) (w : Option Meaning) (j k : Option (List ℕ)) (r : Reactions) → (let v : Listener = record { state = s; waiting = w; joined = j } in v ≡ l) → k ≡ j
     → hearing_of_all k r ≡ want (record { state = s; joined = k }) → hearing_of_all l.joined r ≡ want (taker_of l)
 heard_by want l s w j k r view same heard = of_value want l s k r (ap (λ (x : Listener). x.state) view) (same ∙ ap (λ (x : Listener). x.joined) view) heard
@@ -188,7 +188,7 @@ part_room t First o e h = subst (λ (x : Hearing). takes_room t.joined x ≡ tru
 part_room t Middle o e h = subst (λ (x : Hearing). takes_room t.joined x ≡ true) (sym (middle_is t o e)) (early_takes t.state t.joined o (fine_holds t Middle o e) h)
 part_room t Last o e h = subst (λ (x : Hearing). takes_room t.joined x ≡ true) (sym (last_is t o e)) refl
 
--- a refused growth changes nothing
+-- an allocation failure changes nothing
 pub part_refused : {E : Type 0} (e : E) (place : Place) (l : Listener) (s : State) (w : Option Meaning) (j k : Option (List ℕ)) (o : List ℕ)
     → (let v : Listener = record { state = s; waiting = w; joined = j } in v ≡ l) → word_verdict (taker_of l) (part place o) ≡ fine → k ≡ j → 0 < length o
     → (let r : Result Expected E = Err e in let n : Listener = record { state = s; waiting = w; joined = k } in Tries r (moved l (respond_word (taker_of l) (part place o))) l n)
@@ -197,12 +197,12 @@ part_refused e place l s w j k o view fit same h =
     let p : n ≡ record { state = s; waiting = w; joined = j } = λ i. record { state = s; waiting = w; joined = same i } in
     record { taken = tt; err = p ∙ view; memory = part_room (taker_of l) place o fit h }
 
--- ---- a TSDU that is read straight
+-- ---- a TSDU on the fast path
 
 pub tries_as : {E : Type 0} (r : Result Expected E) (m n : Move) (old new : Listener) → m ≡ n → Tries r m old new → Tries r n old new
 tries_as r m n old new e t = subst (λ (x : Move). Tries r x old new) e t
 
--- behind a token item that names no token a unit does what it does alone
+-- after a token item that names no token a unit has the effect that it has alone
 pub came_plain : (l : Listener) (tsdu : List ℕ) (p : PlainUnit) → said_at tsdu ≡ Ok (plain_said p)
     → moved l (respond_word (taker_of l) (plain_word p)) ≡ react l (came tsdu)
 came_plain l tsdu p said =

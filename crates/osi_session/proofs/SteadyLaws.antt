@@ -1,4 +1,4 @@
--- What a side comes to that says a word that it may say: of each word, and of those that leave it as it stood.
+-- The state of a side after it sent a word that it may send: for each word, and for those that leave it unchanged.
 use Rattle.std.proofs.Common.{◌≡◌, ◌∙◌, refl, ap, ℕ, Bool, true, false, not, ◌&&◌, ◌||◌, is_none, if◌then◌else◌, nat_le, length, Option, Some, None, Ok, Err, option_map}
 use Rattle.osi_message.specs.Words.{Word, says, part}
 use Rattle.osi_session.specs.Standing.{Seen, goes, said, said_within, left_by, calling, CanSay, is_in_size, answers, answers_word}
@@ -7,7 +7,7 @@ use Rattle.osi_session.proofs.Vocabulary.{and_parts, is_ready, may_ask, may_hold
 use Rattle.osi_session.proofs.Passed.{first_error_ok}
 use Rattle.osi_session.proofs.PhaseLaws.{implied}
 
--- ---- what was passed by what may be said
+-- ---- the tests that a word passed which may be sent
 
 pub if_seen : (b : Bool) (o : Option Seen) (n : Seen) → (if b then o else None) ≡ Some n → (b ≡ true) × (o ≡ Some n)
 if_seen true o n h = (refl, h)
@@ -17,7 +17,7 @@ pub if_state : (b : Bool) (o : Option State) (n : State) → (if b then o else N
 if_state true o n h = (refl, h)
 if_state false o n h = absurd (cc)
 
--- the side has not closed, the size is kept, and the word may be said within what is unfinished
+-- the side has not closed, the size is kept, and the word may be sent within what is unfinished
 pub within : (s next : Seen) (w : Word) (n : ℕ) → CanSay s w n next → ((not s.closed && is_in_size s.state n) ≡ true) × (said_within s w ≡ Some next)
 unfolding said
 within s next w n h = if_seen (not s.closed && is_in_size s.state n) (said_within s w) next h
@@ -48,7 +48,7 @@ pub mapped : (f : State → Seen) (o : Option State) (x : Seen) → option_map f
 mapped f (Some n) x h = (n, refl, cc)
 mapped f None x h = absurd (cc)
 
--- ---- what leaves a side as it stood
+-- ---- what leaves a side unchanged
 
 pub goes_same : (s : Seen) → may_hold s.state.phase ≡ true → goes s s.state ≡ s
 goes_same s h = rw h refl
@@ -64,14 +64,14 @@ either_same : (b : Bool) (o : Option Seen) (s x : Seen) → (if b then Some s el
 either_same true o s x h k = cc
 either_same false o s x h k = k h
 
--- data, a wish for tokens, and a token item that names none
+-- data, a request for tokens, and a token item that names none
 abbrev pub is_idle : Word → Bool
 is_idle (says (DT octets)) = true
 is_idle (says (PT tokens octets)) = true
 is_idle (says (GT tokens)) = is_empty tokens
 is_idle _ = false
 
--- it may be said, and leaves the side as it stood
+-- it may be sent, and leaves the side unchanged
 pub idle_leaves : (s next : Seen) (w : Word) (n : ℕ) → is_idle w ≡ true → CanSay s w n next → next ≡ s
 idle_leaves s next (says (DT octets)) n e h =
     let a = if_seen (is_none s.sent || false) _ next (within s next (says (DT octets)) n h).1 in

@@ -3,7 +3,7 @@
 use crate::faults::CallError;
 use thiserror::Error;
 
-/// Why no side that keeps the protocol sends a unit in this place (X.225 section 7).
+/// Why no side that keeps the protocol sends this unit at this point (X.225 section 7).
 #[derive(Clone, Copy, PartialEq, Eq, Debug, Error)]
 pub enum Breach {
     /// The call that would send it is refused.
@@ -19,10 +19,10 @@ pub enum Breach {
     /// AB for a protocol error, although no unit was bad.
     #[error("no fault to abort for")]
     NoFault,
-    /// AA, although no AB was taken.
+    /// AA, although no AB was received.
     #[error("nothing to answer")]
     NothingToAnswer,
-    /// Something that X.225 allows and a session here leaves out: a size from 1 to 63, version 1, and a
+    /// Something that X.225 allows but no session of this library does: a size from 1 to 63, version 1, or a
     /// resynchronization other than a restart.
     #[error("outside of the profile")]
     Outside,

@@ -27,16 +27,16 @@ use crate::state::State;
 use osi_message::{Message, Tokens};
 use osi_spdu::{Requirements, ResyncType, Serial, TokenSet, TokenSetting, TsduSizes};
 
-/// The most octets of user data of a call other than data.
+/// The most octets of user data in a call other than data.
 pub(crate) const MOST_USER_DATA: usize = 10_240;
 
 /// The most octets of data: a TSDU has 4 more.
 pub(crate) const MOST_DATA: usize = 1_048_572;
 
-/// The number of the last point that there can be.
+/// The number of the last point that is possible.
 const LAST_NUMBER: u32 = 999_999;
 
-/// A user's abort, which releases the transport connection too.
+/// A user's abort, which also releases the transport connection.
 const USER_ABORT: u8 = 0x03;
 
 /// The state after a call, and the unit that it sends.
@@ -171,7 +171,7 @@ fn accept<'a>(
     })
 }
 
-/// Data needs the data token, if there is one, and at least one octet.
+/// Data needs the data token, if it is available, and at least one octet.
 #[tactic(auto, unfolding(crate::specs::Allowed::met))]
 fn data<'a>(state: &State, user_data: &'a [u8]) -> Result<Step<'a>, CallError>
     ensures { Answers result (met state.now (Data user_data.entry.now)) }
@@ -231,8 +231,8 @@ fn please<'a>(state: &State, tokens: TokenSet, user_data: &'a [u8]) -> Result<St
     })
 }
 
-/// The number of the next point, where its functional unit is selected, its tokens are there and there
-/// is a number for it.
+/// The number of the next point, if its functional unit is selected, each of its tokens is held or not available, and
+/// there is a number for it.
 fn next_point(state: &State, is_selected: bool, has_rights: bool) -> Result<Serial, CallError>
     ensures tests { Finds result (point_needs state.now is_selected has_rights) }
     ensures number { IfOk result (λ s. s.number ≡ state.now.numbers.next) }
@@ -278,7 +278,7 @@ fn minor<'a>(state: &State, confirm: bool, user_data: &'a [u8]) -> Result<Step<'
     })
 }
 
-/// A minor point may be confirmed where points were taken last, once, up to the last.
+/// A minor point may be confirmed once, up to the last one, if points were taken last.
 fn is_confirmable(numbers: Numbers, number: u32) -> bool
     ensures { result ≡ (numbers.answers && (nat_le numbers.confirmed number && nat_lt number numbers.next)) }
 {
@@ -411,8 +411,7 @@ fn restart_confirm<'a>(state: &State, sides: Sides, user_data: &'a [u8]) -> Step
     }
 }
 
-/// Release needs all available tokens; with duplex, where no token says who may ask for it, the
-/// caller alone may.
+/// Release needs all available tokens. With duplex no token decides who may request it, so only the caller may.
 #[tactic(auto, unfolding(crate::specs::Allowed::met))]
 fn release<'a>(state: &State, user_data: &'a [u8]) -> Result<Step<'a>, CallError>
     ensures { Answers result (met state.now (Release user_data.entry.now)) }
@@ -447,7 +446,7 @@ fn release_refuse<'a>(state: &State, user_data: &'a [u8]) -> Result<Step<'a>, Ca
     })
 }
 
-/// A call that ends the connection, or begins to.
+/// A call that ends the connection, or begins to end it.
 fn over<'a>(state: &State, phase: Phase, sent: Message<'a>) -> Step<'a>
     ensures { step_of result ≡ record { next = without_tokens phase state.now; sent = meant_by sent.entry } }
 {
@@ -485,7 +484,7 @@ fn abort<'a>(state: &State, user_data: &'a [u8]) -> Step<'a>
     over(state, Phase::Aborting, sent)
 }
 
-/// What a call gives that its phase allows.
+/// The result of a call that its phase allows.
 #[tactic(auto, unfolding(crate::specs::Allowed::met))]
 pub(crate) fn decide_row<'a>(state: &State, request: &Request<'a>) -> Result<Step<'a>, CallError>
     requires sound { IsSound state.now }
@@ -545,7 +544,7 @@ pub(crate) fn decide<'a>(state: &State, request: &Request<'a>) -> Result<Step<'a
     Ok(step)
 }
 
-/// The first error of data; else the state stays, and DT is sent.
+/// The first error of data; without an error the state is unchanged, and DT is sent.
 #[tactic(auto, unfolding(crate::specs::Allowed::allowed, crate::specs::Allowed::met))]
 pub(crate) fn allow_data(state: &State, user_data: &[u8]) -> Result<(), CallError>
     ensures ok { OnOk result (allowed state.now (Data user_data.now) ≡ Ok (record { next = state.now; sent = DT user_data.now })) }
@@ -569,7 +568,7 @@ pub(crate) fn allow_data(state: &State, user_data: &[u8]) -> Result<(), CallErro
     Ok(())
 }
 
-/// The first error of a minor point; else its number: the numbers alone change, and MIP is sent.
+/// The first error of a minor point, or its number; then only the numbers change, and MIP is sent.
 #[tactic(auto, unfolding(crate::specs::Allowed::allowed, crate::specs::Allowed::met, osi_message::specs::Written::user_data_of))]
 pub(crate) fn allow_minor(
     state: &State,
@@ -598,7 +597,7 @@ pub(crate) fn allow_minor(
     Ok(number)
 }
 
-/// The first error of a confirmation; else its number: the numbers alone change, and MIA is sent.
+/// The first error of a confirmation, or its number; then only the numbers change, and MIA is sent.
 #[tactic(auto, unfolding(crate::specs::Allowed::allowed, crate::specs::Allowed::met, osi_message::specs::Written::user_data_of))]
 pub(crate) fn allow_minor_confirm(
     state: &State,
@@ -634,8 +633,8 @@ pub(crate) fn allow_minor_confirm(
     Ok(serial)
 }
 
-/// Whether a point or a confirmation may be sent now, whatever its user data: the phase, the functional
-/// unit and the tokens allow it, and its number is still the one.
+/// Whether a point or a confirmation may be sent now, whatever its user data: the phase, the functional unit and the
+/// tokens allow it, and it still has the right number.
 #[inline(always)]
 fn may_advance(state: &State, point: SentPoint) -> bool
     ensures { result ≡ may_advance state.now point }

@@ -52,7 +52,7 @@ impl Counting {
     }
 }
 
-/// A stand-in for the joined octets, where only their presence matters.
+/// A stand-in for the joined octets, when it only matters whether there are any.
 fn placeholder(alloc: Global, joined: Option<usize>) -> Option<Octets>
     ensures { result ≡ no_octets joined }
 {
@@ -139,7 +139,7 @@ fn count_word(
 }
 
 impl Counting {
-    /// Whether the last word was bad.
+    /// Whether the last word was a bad unit.
     fn is_bad(&self) -> bool
         ensures { result ≡ replies_abort (count_of self.now).reply }
     {

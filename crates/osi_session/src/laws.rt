@@ -52,8 +52,8 @@ ghost use Rattle.osi_message.specs.Tokens.{Token, has, is_disjoint, token_octet}
 ghost use Rattle.osi_session.specs.Openings.{asked_for};
 ghost use Rattle.osi_message.specs.Sendable.{IsSendable, said_of, words_of};
 
-/// What an accepted call sends can be sent, and so can what a TSDU is answered by, of whole messages and of
-/// words, and what a caller asks for. So each is read as in [`osi_message::laws::what_is_sent_is_read`].
+/// What an accepted call sends can be written, and so can the answer to a TSDU, of whole messages and of words, and
+/// the CN that a caller asks for. So each of these reads back as [`osi_message::laws::what_is_sent_is_read`] says.
 pub fn what_is_sent_can_be_sent()
     ensures called { (s : State) (c : Call) (x : Step) → IsSound s → HasSerial c → allowed s c ≡ Ok x → IsSendable x.sent }
     ensures replied { (s : State) (said : Said) (m : Meaning) → (respond s said).reply ≡ Some m → IsSendable m }
@@ -61,9 +61,9 @@ pub fn what_is_sent_can_be_sent()
     ensures asked { (o : Opening) → length o.user_data.now < 65000 → IsSendable (asked_for o) }
 {}
 
-/// Where nothing is joined, messages do what the tables of whole messages say: one word, words one after
-/// the other, a TSDU, and each input of a session, over every list of them. All else than the words of a
-/// TSDU does the same also where something is joined, which is kept or dropped by the phase that is left.
+/// If nothing is joined, messages do what the tables of whole messages say: one word, words one after the other, a
+/// TSDU, and each input of a session, over every list of inputs. All inputs other than the words of a TSDU also do the
+/// same if something is joined; the new phase decides whether it is kept or dropped.
 #[tactic(auto, using(crate::proofs::WordLaws::plain_word, crate::proofs::WordLaws::plain_words, crate::proofs::WordLaws::plain_tsdu, crate::proofs::WordLaws::moves_as_whole, crate::proofs::WordLaws::run_as_whole, crate::proofs::WordLaws::others))]
 pub fn messages_do_what_they_did()
     ensures word { (s : State) (u : Meaning) → respond_word (record { state = s; joined = None }) (says u) ≡ heard None (respond_unit s u) }
@@ -75,9 +75,9 @@ pub fn messages_do_what_they_did()
         react l (in_words input) ≡ joins l.joined (whole.react (standing_of l) input) }
 {}
 
-/// The move of each input: what the tables give for a call, for the words of a TSDU and for one that is
-/// none; the transport connection is there, or there is none, while it is awaited, and no other time;
-/// and it is lost.
+/// The move of each input: for a call, for the words of a TSDU and for octets that are no session units, what the
+/// tables give. That the transport connection is open or was refused has an effect only while it is awaited. And the
+/// transport connection may be lost.
 #[tactic(auto, using(crate::proofs::MoveLaws::of_call, crate::proofs::MoveLaws::of_words, crate::proofs::MoveLaws::of_fault, crate::proofs::MoveLaws::of_opened, crate::proofs::MoveLaws::of_refused, crate::proofs::MoveLaws::of_broken, crate::proofs::MoveLaws::not_opened, crate::proofs::MoveLaws::not_refused))]
 pub fn what_each_input_does()
     ensures called { (l : Listener) (c : Call) → react l (called c) ≡ call_move l (allowed l.state c) }
@@ -90,9 +90,9 @@ pub fn what_each_input_does()
     ensures not_refused { (l : Listener) (reason : ℕ) → is_wait_transport l.state.phase ≡ false → react l (refused reason) ≡ rests l }
 {}
 
-/// What is sent is taken as it was meant: from the octets of a message to what it does as a word. So of
-/// what an accepted call sends, of what a TSDU is answered by, and of what a caller asks for; and the
-/// octets of a part are taken as the part.
+/// What is sent is taken as it was meant, from the octets of a message to its effect as a word. This holds of what an
+/// accepted call sends, of the answer to a TSDU, and of the CN that a caller asks for. The octets of a part are taken
+/// as that part.
 pub fn what_is_sent_is_taken()
     ensures message { (l : Listener) (m : Meaning) → IsSendable m → react l (came (written m)) ≡ moved l (respond_word (taker_of l) (says m)) }
     ensures part { (l : Listener) (place : Place) (octets : List ℕ) →
@@ -108,9 +108,9 @@ pub fn what_is_sent_is_taken()
     osi_message::laws::what_a_part_says();
 }
 
-/// What closes the transport connection sends nothing, and leaves a session that has ended, which
-/// awaited it. That is a TSDU with RF, DN, AB or AA, in which this unit stands alone: behind a DN an
-/// AB would still be answered, but no octets say that. A call leaves the transport connection open.
+/// An input that closes the transport connection sends nothing and ends the session, which was waiting for it. It is a
+/// TSDU with RF, DN, AB or AA, and this unit is alone in its TSDU. (An AB that follows a DN would still be answered,
+/// but no octets spell that.) A call leaves the transport connection open.
 #[tactic(auto, using(crate::proofs::ClosingLaws::unit_silent, crate::proofs::ClosingLaws::words_silent, crate::proofs::ClosingLaws::octets_alone, crate::proofs::ClosingLaws::octets_silent, crate::proofs::ClosingLaws::call_open, crate::proofs::ClosingLaws::whole_ends, crate::proofs::ClosingLaws::input_ends, crate::proofs::AnswerLaws::octets_awaited))]
 pub fn what_closes_sends_nothing()
     ensures unit { (s : State) (u : Meaning) → (respond_unit s u).closes ≡ true → (respond_unit s u).reply ≡ None }
@@ -123,9 +123,8 @@ pub fn what_closes_sends_nothing()
     ensures awaited { (l : Listener) (octets : List ℕ) → (react l (came octets)).closes ≡ true → awaits_close l.state.phase ≡ true }
 {}
 
-/// Who answers a TSDU is over: RF is sent and the session has ended, AB is sent and it is aborted, or
-/// AA is sent and it has ended. An aborted session answers nothing, and one that has ended answers an
-/// AB by AA, and nothing else.
+/// A session that answers a TSDU is over: it sends RF and has ended, or sends AB and is aborted, or sends AA and has
+/// ended. An aborted session answers nothing, and one that has ended answers only AB, with AA.
 pub fn what_answers_is_over()
     ensures unit { (s : State) (u m : Meaning) → (respond_unit s u).reply ≡ Some m →
         (is_answer m ≡ true) × (is_over (respond_unit s u).next.phase ≡ true) }
@@ -136,10 +135,9 @@ pub fn what_answers_is_over()
         (react l (came octets)).reply ≡ Some m → m ≡ AA }
 {}
 
-/// A call is accepted only where the user may abort: not before the transport connection is there, not
-/// while a CN is awaited, not where the session is aborted or has ended. Whatever happens, a session
-/// does not go back to awaiting the transport connection; and what happens before it is there leaves
-/// it awaited, or is the end.
+/// A call is accepted only if the user may abort: not before the transport connection is open, not while a CN is
+/// awaited, and not after an abort or the end. No input makes a session wait for the transport connection again. Any
+/// input before the transport connection is open leaves the session waiting for it, or ends the session.
 #[tactic(auto, using(crate::proofs::AnswerLaws::accepted_callable, crate::proofs::AnswerLaws::callable_open, crate::proofs::RunLaws::input_begun, crate::proofs::AnswerLaws::input_waits))]
 pub fn where_a_call_is_accepted()
     ensures phase { (s : State) (c : Call) (x : Step) → allowed s c ≡ Ok x → may_abort s.phase ≡ true }
@@ -149,9 +147,9 @@ pub fn where_a_call_is_accepted()
         (is_wait_transport (after_input l input).state.phase || is_over (after_input l input).state.phase) ≡ true }
 {}
 
-/// What the user of a called side is shown first is a `Connect`: where he would now be shown the loss of the
-/// transport connection, and would not have been before, he was. It is shown by a CN alone, which stands alone
-/// in its TSDU (X.225 section 6.3.7).
+/// The first indication at a called side is a `Connect`: an input after which the user would be told of a loss of the
+/// transport connection, and before which it would not, indicates a `Connect`. Only a CN leads to it, and a CN is
+/// alone in its TSDU (X.225 section 6.3.7).
 #[tactic(auto, using(crate::proofs::ConnectLaws::shown_first, crate::proofs::ConnectLaws::only_taken, crate::proofs::ConnectLaws::octets_ask))]
 pub fn what_a_user_is_shown_first()
     ensures first { (l : Listener) (input : Input) → shows_loss l.state.phase ≡ false → shows_loss (after_input l input).state.phase ≡ true →
@@ -160,16 +158,16 @@ pub fn what_a_user_is_shown_first()
     ensures asked { (l : Listener) (octets : List ℕ) → shows_connect (react l (came octets)).shown ≡ true → asks_for_connection (came octets) ≡ true }
 {}
 
-/// What becomes of a unit: the table of units enacts its verdict. A unit that is not discarded, that
-/// the phase expects and that meets its conditions is good.
+/// What happens to a unit: the table of units enacts its verdict. A unit that is not discarded, that the phase expects
+/// and that meets its conditions is good.
 #[tactic(auto, using(crate::proofs::VerdictLaws::enacts, crate::proofs::VerdictLaws::good_is_fine))]
 pub fn what_becomes_of_a_unit()
     ensures enacted { (s : State) (u : Meaning) → respond_unit s u ≡ enacted s u (verdict s u) }
     ensures good { (s : State) (u : Meaning) → is_over s.phase ≡ false → drops s u ≡ false → IsGood s u → verdict s u ≡ fine }
 {}
 
-/// A token item that names no token changes nothing, in a TSDU of its own or in front of units; so
-/// what is said of a unit does what the unit does.
+/// A token item that names no token changes nothing, in a TSDU of its own or before other units. So a unit after such
+/// an item has the effect of the unit alone.
 #[tactic(auto, using(crate::proofs::VerdictLaws::no_effect, crate::proofs::VerdictLaws::in_front_of_all, crate::proofs::VerdictLaws::in_front, crate::proofs::VerdictLaws::of_said))]
 pub fn an_empty_token_item_changes_nothing()
     ensures item { (s : State) (item : Meaning) → has_no_effect item ≡ true → respond_unit s item ≡ nothing s }
@@ -179,8 +177,8 @@ pub fn an_empty_token_item_changes_nothing()
     ensures said { (s : State) (u : Meaning) → respond s (said_of u) ≡ respond_unit s u }
 {}
 
-/// A TSDU of one unit does what the unit does. Of two units the token item acts after the other, and
-/// in front of an RS it does not act.
+/// A TSDU of one unit has the effect of that unit. Of two units, the token item takes effect after the other one, and
+/// not at all if the other one is an RS.
 #[tactic(auto, using(crate::proofs::VerdictLaws::said_alone, crate::proofs::VerdictLaws::item_and_unit))]
 pub fn what_two_units_do()
     ensures alone { (s : State) (u : Meaning) → respond s (alone u) ≡ respond_unit s u }
@@ -188,25 +186,24 @@ pub fn what_two_units_do()
         (if is_resynchronize u then respond_unit s u else and_then (respond_unit s u) (respond_unit (respond_unit s u).next item)) }
 {}
 
-/// A TSDU shows at most one thing for each of its words.
+/// A TSDU has at most one indication for each of its words.
 #[tactic(auto, using(crate::proofs::ShownLaws::words_show))]
 pub fn what_a_tsdu_shows()
     ensures { (t : Taker) (words : Words) → length (respond_tsdu t words).shown ≤ length words }
 {}
 
-/// An accepted call passed each test of its row, in its phase, with user data that is short enough and
-/// a TSDU within the size of its direction, and gives what the row says; and a call that passes each
-/// test is accepted.
+/// An accepted call passed each test of its row in the table: its phase, the length of its user data, and the size of
+/// its TSDU. It has the result that the row says. A call that passes each test is accepted.
 #[tactic(auto, using(crate::proofs::Passed::passed, crate::proofs::Passed::accepted))]
 pub fn what_an_accepted_call_passed()
     ensures passed { (s : State) (c : Call) (x : Step) → allowed s c ≡ Ok x → Passed s c x }
     ensures accepted { (s : State) (c : Call) (x : Step) → Passed s c x → allowed s c ≡ Ok x }
 {}
 
-/// What a CN and an AC agree on, in one direction: an AC that is sent names a size where the CN does
-/// and 0 where it has 0, at most the CN's, and at most what the answerer gives where that is not 0. Who
-/// takes it comes to what it names, so that both sides go on with the same sizes. An accepted call but
-/// data, Accept and Refuse sends a TSDU within the size of its direction, if there is one.
+/// What a CN and an AC agree, in one direction: the AC that is sent names a size if the CN names one, and 0 if the CN
+/// has 0; the size is at most the CN's, and at most the answerer's unless that is 0. The side that takes the AC
+/// arrives at the same sizes. The TSDU of an accepted call, other than data, Accept and Refuse, is within the size of
+/// its direction, if there is one.
 #[tactic(auto, using(crate::proofs::SizeLaws::answered_named, crate::proofs::SizeLaws::answered_asked, crate::proofs::SizeLaws::answered_given, crate::proofs::SizeLaws::sizes_agreed, crate::proofs::SizeLaws::sent_under))]
 pub fn what_sizes_are_agreed()
     ensures named { (a b : ℕ) → 0 < a → 0 < answered a b }
@@ -217,9 +214,9 @@ pub fn what_sizes_are_agreed()
         length (written x.sent) ≤ limit_of s }
 {}
 
-/// What an accepted call sends is one TSDU, but for data of which the TSDU is longer than the size of its
-/// direction: this leaves in several, of which all but the last have as many octets as that size, and the
-/// last no more. None has more than 1,048,576 octets.
+/// An accepted call sends one TSDU. Only data whose TSDU would exceed the size of its direction is sent in several;
+/// all of these but the last have exactly that size, and the last has at most that size. None has more than 1,048,576
+/// octets.
 pub fn what_a_call_sends()
     ensures alone { (s : State) (c : Call) (x : Step) → allowed s c ≡ Ok x → is_data c ≡ false →
         tsdus_of (limit_of s) x.sent ≡ in_one x.sent }
@@ -233,18 +230,18 @@ pub fn what_a_call_sends()
     osi_message::laws::what_leaves_in_parts();
 }
 
-/// The numbers in a call, and in the units of a TSDU, are those that a point may have, and the sizes
-/// of a call those that a user may give.
+/// The numbers in a call, and in the units of a TSDU, are numbers that a point may have, and the sizes in a call are
+/// sizes that a user may give.
 #[tactic(auto, using(crate::proofs::SessionLaws::request_small, osi_message::proofs::NumberLaws::units_numbered))]
 pub fn what_happens_has_numbers()
     ensures request { (request : Request) → HasNumbersInWords (called (called_by request)) }
     ensures units { (units : Units) → HasNumbersInWords (taken (said_by_units units)) }
 {}
 
-/// Over every list of calls, TSDUs and what befalls the transport connection, from the state of a
-/// called or of a calling side: V(A) and V(R) are between the base and V(M), which is at most
-/// 1,000,000; a major point that is outstanding has a number, and so has a restart that is to be
-/// answered; tokens are held only in Ready, MajorAsked, MajorDue, Releasing and ReleaseDue; and each
+/// Over every list of calls, TSDUs and events of the transport connection, from the first state of a called or a
+/// calling side: V(A) and V(R) are between the base and V(M), which is at most 1,000,000; an outstanding major point
+/// has a number, and so has a restart that is to be answered; tokens are held only in Ready, MajorAsked, MajorDue,
+/// Releasing and ReleaseDue; and each size is 0, or 64 to 65,535. This holds over whole messages, and over words.
 /// size is 0, or 64 to 65,535. So over whole messages, and over words.
 #[tactic(auto, using(crate::proofs::RunLaws::awaiting_fresh, crate::proofs::RunLaws::asking_fresh, crate::proofs::RunLaws::fresh_sound, crate::proofs::RunLaws::whole_sound, crate::proofs::RunLaws::inputs_sound))]
 pub fn numbers_stay_in_order()
@@ -257,8 +254,8 @@ pub fn numbers_stay_in_order()
         IsSound (after_inputs l inputs).state }
 {}
 
-/// Whatever happens, a session that is aborted or ended stays so, and one that is ended stays ended;
-/// and one whose transport connection is lost has ended.
+/// Whatever happens, a session that is aborted or ended stays so, and one that has ended stays ended. A session that
+/// loses its transport connection has ended.
 #[tactic(auto, using(crate::proofs::RunLaws::stays_over, crate::proofs::RunLaws::stays_ended, crate::proofs::RunLaws::lost_ended))]
 pub fn an_ended_session_stays_ended()
     ensures over { (l : Listener) (inputs : List Input) → is_over l.state.phase ≡ true → is_over (after_inputs l inputs).state.phase ≡ true }
@@ -266,8 +263,8 @@ pub fn an_ended_session_stays_ended()
     ensures lost { (l : Listener) → is_ended (after_input l broken).state.phase ≡ true }
 {}
 
-/// Tokens come to be held only where a connection is opened: by a call of Accept or RestartConfirm, or
-/// by a TSDU with an AC or an RA. The same over whatever happens.
+/// A session can begin to hold tokens only when a connection is opened: by a call of Accept or RestartConfirm, or by a
+/// TSDU with an AC or an RA. The same holds over every list of inputs.
 #[tactic(auto, using(crate::proofs::OpeningMoves::input_opened, crate::proofs::OpeningMoves::some_opened))]
 pub fn what_opens_a_connection()
     ensures input { (l : Listener) (input : Input) → may_hold l.state.phase ≡ false →
@@ -276,9 +273,8 @@ pub fn what_opens_a_connection()
         may_hold (after_inputs l inputs).state.phase ≡ true → list_any opens_connection inputs ≡ true }
 {}
 
-/// Tokens that are given were held, and are not held after. A token is held after a call or a unit
-/// only if it was held before, or if the call (Accept, RestartConfirm) or the unit (AC, RA, GT) gives
-/// it to this side.
+/// Tokens that are given were held, and are not held afterwards. A token is held after a call or a unit only if it was
+/// held before, or if the call (Accept, RestartConfirm) or the unit (AC, RA, GT) gives it to this side.
 pub fn a_token_is_not_given_and_kept()
     ensures given { (s : State) (tokens : Tokens) (x : Step) (t : Token) → allowed s (Give tokens) ≡ Ok x → has tokens t ≡ true →
         (has s.held t ≡ true) × (has x.next.held t ≡ false) }
@@ -298,9 +294,9 @@ pub fn what_is_held()
     ensures octets { (a b : Tokens) → is_disjoint a b ≡ true → bit_and (token_octet a) (token_octet b) ≡ 0 }
 {}
 
-/// A plan that is done in the state in which it was made leaves the move of its call and sends what that
-/// sends, so that the laws over lists of inputs hold of runs with plans; and a session that is aborted or
-/// ended has no plan.
+/// A plan that is carried out in the state in which it was made has the effect of its call, and sends what the call
+/// sends. So the laws over lists of inputs also hold of runs with plans. A session that is aborted or ended has no
+/// plan.
 pub fn a_plan_is_its_call()
     ensures step { (l : Listener) (call : Call) (plan : Planned) → IsPlanOf call plan → plan.was ≡ l.state →
         in_state l plan.next ≡ after_input l (called call) }
@@ -309,8 +305,8 @@ pub fn a_plan_is_its_call()
     ensures live { (call : Call) (plan : Planned) → IsPlanOf call plan → is_over plan.was.phase ≡ false }
 {}
 
-/// A session goes on after a planned point as after its call, whatever the call's user data; and it does so
-/// exactly where the point has its number and such a call is accepted, the lengths apart.
+/// After a planned point, a session continues as after the call for it, whatever the call's user data. It does so
+/// exactly if the point has the right number and such a call would be accepted, apart from its lengths.
 #[tactic(auto, using(crate::proofs::PointLaws::point_steps, crate::proofs::PointLaws::point_may, crate::proofs::PointLaws::point_accepted))]
 pub fn a_point_is_its_call()
     ensures step { (l : Listener) (p : SentPoint) (confirm : Bool) (octets : List ℕ) → (react l (called (call_for p confirm octets))).error ≡ None →
@@ -323,9 +319,9 @@ pub fn a_point_is_its_call()
         (react l (called (call_for p confirm octets))).error ≡ None }
 {}
 
-/// Two restarts that cross: the lower number stands at both sides, and of equal numbers the caller's.
-/// Whatever they are, both sides go on from the lower one, and one of them has a restart to answer
-/// while the other awaits the answer.
+/// Two restarts that cross: at both sides the lower number takes effect, and if they are equal, the caller's. In each
+/// case both sides continue from the lower number, and one of them has a restart to answer while the other awaits the
+/// answer.
 pub fn a_restart_that_crosses_another()
     ensures equal { (caller other : State) → AreCrossed caller other → caller.numbers.next ≡ other.numbers.next →
         (stands other caller.numbers.next ≡ true) × (stands caller other.numbers.next ≡ false) }
@@ -341,10 +337,9 @@ pub fn a_restart_that_crosses_another()
         × (is_restart_due (after_restart other caller.numbers.next wishes octets).phase ≡ true)) }
 {}
 
-/// A confirmation of a minor point raises V(A) to the number after it: a MinorConfirm that is accepted,
-/// and an MIA that is shown. V(A) does not fall over any list of inputs in which no connection is
-/// opened by Accept or AC and no restart is asked for or taken; and an RS that does not stand changes
-/// no number.
+/// A confirmation of a minor point raises V(A) to the number after it: a MinorConfirm that is accepted, or an MIA that
+/// is indicated. V(A) does not fall over any list of inputs in which no connection is opened by Accept or AC and no
+/// restart is requested or taken. An RS that does not take effect changes no number.
 #[tactic(auto, using(crate::proofs::ConfirmedLaws::call_confirms, crate::proofs::ConfirmedLaws::unit_confirms, crate::proofs::ConfirmedLaws::never_falls, crate::proofs::ConfirmedLaws::yielded))]
 pub fn what_is_confirmed_stays_confirmed()
     ensures call { (s : State) (n : ℕ) (octets : List ℕ) (x : Step) → allowed s (MinorConfirm n octets) ≡ Ok x →
@@ -358,10 +353,10 @@ pub fn what_is_confirmed_stays_confirmed()
         (respond_unit s (RS kind n wishes octets)).next.numbers ≡ s.numbers }
 {}
 
-/// What a session has joined. Whatever happens, something is joined only in a phase that keeps it, in which
-/// tokens may be held, and it has at most 1,048,572 octets. The taker of the parts of one Data has joined
-/// their octets, or nothing where it discards data: so it stays in each call of its user, and where the next
-/// part comes, if the whole data would be no fault then; and the last part does what the whole data does there.
+/// What a session has joined. Whatever happens, something is joined only in a phase that keeps it, in which tokens may
+/// be held, and it has at most 1,048,572 octets. The receiver of the parts of one Data has joined their octets, or
+/// nothing if it discards data. Each call of its user preserves this, and so does the next part, if the whole data
+/// would be no fault there; and the last part has the effect that the whole data has there.
 pub fn what_is_joined()
     ensures kept { (l : Listener) (inputs : List Input) → IsKept l → IsKept (after_inputs l inputs) }
     ensures held { (l : Listener) → IsKept l → is_some l.joined ≡ true → may_hold l.state.phase ≡ true }
@@ -376,10 +371,10 @@ pub fn what_is_joined()
         respond_word (record { state = s; joined = joined }) (part Last last) ≡ respond_word (record { state = s; joined = None }) (says (DT (front ++ last))) }
 {}
 
-/// From a session that has joined nothing, in which the whole data is no fault: over the parts of one Data,
-/// whatever calls of their taker come between, the last part gives what the whole Data gives behind the calls
-/// alone; in words, and in octets. Before it the parts show and send nothing, and the calls show and send what
-/// they do where no part comes.
+/// Take a session that has joined nothing, and data that is no fault there. Over the parts of that Data, with any
+/// calls of the receiver in between, the last part has the same effect as the whole Data after the calls alone; in
+/// words, and in octets. The parts before it indicate and send nothing, and the calls indicate and send what they do
+/// without the parts.
 pub fn parts_are_the_whole()
     ensures words { (l : Listener) (acts : List Act) (front last : List ℕ) → l.joined ≡ None → HasProfile l.state → IsNoFault l.state (front ++ last) →
         length (front ++ last) ≤ most_data → AreParts None acts front →
@@ -396,8 +391,8 @@ pub fn parts_are_the_whole()
     osi_message::laws::what_a_part_says();
 }
 
-/// The functional units that a caller asks for, and those that are agreed on, are half-duplex with any of the
-/// others, or duplex alone: over every list of inputs, of a called side and of a caller that opened.
+/// The functional units that a caller requests, and those that are agreed, are half-duplex with any of the others, or
+/// only duplex. This holds over every list of inputs, of a called side and of a caller that opened.
 #[tactic(auto, using(crate::proofs::ProfileLaws::awaiting_profile, crate::proofs::ProfileLaws::asking_profile, crate::proofs::ProfileLaws::inputs_profile))]
 pub fn units_are_a_profile()
     ensures called { HasProfile awaiting }
@@ -405,9 +400,9 @@ pub fn units_are_a_profile()
     ensures kept { (l : Listener) (inputs : List Input) → HasProfile l.state → HasProfile (after_inputs l inputs).state }
 {}
 
-/// What is refused for which reason. A CN without version 2 is answered by RF with reason 132, and one with it
-/// that names neither half-duplex nor duplex by reason 134 (X.225 section 8, refuse). A part that does not
-/// continue what is joined is a bad enclosure, also if it is too long.
+/// The reason of a refusal. A CN without version 2 is answered by RF with reason 132; one with version 2 that names
+/// neither half-duplex nor duplex, by reason 134 (X.225 section 8, refuse). A part that does not continue what is
+/// joined is a bad enclosure, even if it is also too long.
 #[tactic(auto, using(crate::proofs::FirstFaults::refused_version, crate::proofs::FirstFaults::refused_units, crate::proofs::FirstFaults::out_of_place))]
 pub fn what_is_refused_for_which_reason()
     ensures version { (s : State) (requirements : ℕ) (serial : Option ℕ) (wishes : TokenSetting) (calling called : Option (List ℕ)) (sizes : TsduMaximumSize) (octets : List ℕ) →
@@ -419,9 +414,9 @@ pub fn what_is_refused_for_which_reason()
         is_in_place t.joined place ≡ false → word_verdict t (part place octets) ≡ faulty (BadEnclosure (si (DT octets))) }
 {}
 
-/// A side that may say a steady unit now, and may say it after it took some TSDUs of its peer without an
-/// answer, comes to the same if it says it now and takes them then, and it answers none of them then
-/// either. So who looks on need not ask whether it was said before or after they were taken.
+/// Take a side that may send a steady unit now, and may also send it after it took some TSDUs of its peer without an
+/// answer. If it sends the unit now and takes the TSDUs then, it arrives at the same state, and answers none of them
+/// either. So an observer need not ask whether the unit was sent before or after the TSDUs were taken.
 #[tactic(auto, using(crate::proofs::SaidFirst::may_be_first))]
 pub fn what_may_be_said_first()
     ensures { (now later said said_later : Seen) (tsdus : List (List ℕ)) (w : Word) (n : ℕ) → is_steady w ≡ true →

@@ -3,8 +3,8 @@
 ghost use Rattle.std.specs.Prelude.{◌≡◌, ◌<◌, ◌≤◌, ◌+◌, ◌^◌};
 ghost use Rattle.osi_session.specs.Numbers.{from_base, point_sent, point_taken, minor_confirmed, major_confirmed, restarted_at, lower};
 
-/// The numbers of synchronization points (X.225 section 5.9): V(M), V(A), V(R), and whether the
-/// points were last taken, so that this end answers them.
+/// The numbers of synchronization points (X.225 section 5.9): V(M), V(A), V(R), and whether the last point was taken
+/// and not sent, so that this end confirms points.
 #[derive(Clone, Copy, PartialEq, Eq, Debug)]
 pub struct Numbers {
     /// V(M): the number of the next point.
@@ -31,7 +31,7 @@ impl Numbers {
         }
     }
 
-    /// A point is sent. Where the last was taken, those before count as confirmed.
+    /// A point is sent. If the last one was taken, those before it count as confirmed.
     pub(crate) fn point_sent(self) -> Numbers
         requires { self.next < 1000000 }
         ensures { result ≡ point_sent self }
@@ -45,7 +45,7 @@ impl Numbers {
         }
     }
 
-    /// A point is taken. Where the last was sent, those before count as confirmed.
+    /// A point is taken. If the last one was sent, those before it count as confirmed.
     pub(crate) fn point_taken(self) -> Numbers
         requires { self.next < 1000000 }
         ensures { result ≡ point_taken self }
@@ -70,7 +70,7 @@ impl Numbers {
         }
     }
 
-    /// A major point is confirmed: all before the next number is.
+    /// A major point is confirmed: all numbers before the next are confirmed.
     pub(crate) fn major_confirmed(self) -> Numbers
         ensures { result ≡ major_confirmed self }
     {
@@ -81,7 +81,7 @@ impl Numbers {
         }
     }
 
-    /// A restart: this number is the next again.
+    /// A restart: this number is the next one again.
     pub(crate) fn restarted_at(self, number: u32) -> Numbers
         ensures { result ≡ restarted_at number self }
     {

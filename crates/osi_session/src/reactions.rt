@@ -98,7 +98,7 @@ impl Reaction {
         }
     }
 
-    /// A CN that can't be accepted: RF is sent, and there is no indication.
+    /// A CN that can't be accepted: RF is sent, and nothing is indicated.
     pub(crate) fn refusing(state: &State, reply: Reply) -> Reaction
         ensures { outcome_of result ≡ record (nothing (without_tokens Ended state.now)) { reply = Some (reply_of reply) } }
     {

@@ -1,4 +1,4 @@
-//! What a side may send: what the calls send, and what a session of another make may send as well.
+//! What a side may send: what the calls of this library send, and what a session of another make may send as well.
 
 ghost use Rattle.osi_spdu.specs.Fields.{unit_bits};
 ghost use Rattle.std.specs.Prelude.{◌≡◌, ◌==◌, true, is_ok, option_map};
@@ -347,7 +347,7 @@ pub(crate) fn is_in_size(state: &State, tsdu_octets: usize) -> bool
     limit == 0 || tsdu_octets <= limit as usize
 }
 
-/// This many octets of data may be sent.
+/// Whether this many octets of data may be sent.
 pub(crate) fn may_send(state: &State, octets: usize) -> Result<(), Breach>
     ensures { is_ok result ≡ may_send state.now octets }
 {

@@ -34,14 +34,13 @@ use std::marker::Model;
 mod expecting;
 mod points;
 
-/// One side of one session connection (X.225 version 2): which call its user may make now, what
-/// each unit that comes does, who holds which token, and which number the next synchronization
-/// point has. It joins the parts of one Data.
+/// One side of one session connection (X.225 version 2): which call its user may make now, what each received unit
+/// does, who holds which token, and which number the next synchronization point has. It joins the parts of one Data.
 #[derive(Drop)]
 pub struct Session {
     alloc: Global,
     state: State,
-    /// The CN, until the transport connection is there.
+    /// The CN, until the transport connection is open.
     waiting: Option<Sent>,
     /// The octets of an unfinished SSDU, at most 1,048,572.
     joined: Option<Octets>,
@@ -67,7 +66,7 @@ impl Model for Session {
         × (length (joined_octets s.joined) ≤ 1048572) };
 }
 
-/// The octets of an answer, if there is one. Want of memory comes only where there is.
+/// The octets of an answer, if there is one. An allocation failure is possible only if there is one.
 #[inline(never)]
 fn written_reply(alloc: Global, reply: Option<Reply>) -> Result<Option<Sent>, AllocError>
     ensures ok { IfOk result (λ s. s ≡ option_map in_one (option_map reply_of reply)) }
@@ -80,7 +79,7 @@ fn written_reply(alloc: Global, reply: Option<Reply>) -> Result<Option<Sent>, Al
     Ok(Some(sent))
 }
 
-/// The octets in which a message is sent, in one TSDU.
+/// The octets of a message, in one TSDU.
 fn written_message(alloc: Global, message: &Message<'_>) -> Result<Sent, AllocError>
     requires { length (user_data_of (meant_by message.now)) < 65000 }
     ensures { IfOk result (λ s. s ≡ in_one (meant_by message.now)) }
@@ -88,7 +87,7 @@ fn written_message(alloc: Global, message: &Message<'_>) -> Result<Sent, AllocEr
     Sent::of(alloc, message)
 }
 
-/// The CN of a caller, which is read as it.
+/// The CN of a caller, which reads back as this one.
 fn written_connect(alloc: Global, opening: &Opening) -> Result<Sent, AllocError>
     requires { length opening.now.user_data.now < 65000 }
     ensures octets { IfOk result (λ s. s ≡ in_one (asked_for opening.now)) }
@@ -113,11 +112,11 @@ impl Session {
     ghost use Rattle.osi_session.specs.Steps.{shown_list, joined_after, hearing_of_all};
     ghost use Rattle.osi_session.specs.Joining.{joined_octets, kept_in};
 
-    /// The calling side: the CN is made, and is sent once the transport connection is there.
+    /// The calling side. The CN is made now, and sent once the transport connection is open.
     ///
-    /// `NotSelected` where the functional units cannot be selected together (half-duplex with any
-    /// of minor, major, resynchronize and negotiated release, or duplex alone), then `TooLong` above
-    /// 10,240 octets of user data, then `OutOfMemory`.
+    /// `NotSelected` if the functional units can't be selected together (half-duplex with any of minor, major,
+    /// resynchronize and negotiated release, or only duplex); then `TooLong` above 10,240 octets of user data; then
+    /// `OutOfMemory`.
     #[tactic(auto, using(crate::proofs::SessionLaws::asking_sound))]
     pub fn caller(alloc: Global, opening: &Opening) -> Result<Session, CallError>
         ensures begins { IfOk result (λ s. s ≡ opens opening.now) }
@@ -141,7 +140,7 @@ impl Session {
         }
     }
 
-    /// The called side, which awaits a CN.
+    /// The called side, which waits for a CN.
     #[tactic(auto, using(crate::proofs::SessionLaws::awaiting_sound))]
     pub fn called(alloc: Global) -> Session
         ensures { result ≡ awaits }
@@ -154,7 +153,7 @@ impl Session {
         }
     }
 
-    /// Goes to a state, by whose phase an unfinished SSDU is kept or dropped.
+    /// Goes to a state; its phase decides whether an unfinished SSDU is kept or dropped.
     #[inline(always)]
     fn go(&mut self, next: State)
         requires sound { IsSound next }
@@ -167,8 +166,8 @@ impl Session {
         self.state = next;
     }
 
-    /// The transport connection is there: the CN that is to be sent now. `None` in any phase but
-    /// WaitTransport, in which nothing changes.
+    /// The transport connection is open: returns the CN that is to be sent now. In any phase other than WaitTransport,
+    /// `None`, and nothing changes.
     #[tactic(auto, unfolding(crate::specs::Listening::react))]
     pub fn opened(&mut self) -> Option<Sent>
         ensures state { self.new ≡ (react self.old opened).next }
@@ -181,8 +180,8 @@ impl Session {
         self.waiting.take()
     }
 
-    /// There is no transport connection, for this reason (X.224 section 13.5.3). `None` in any
-    /// phase but WaitTransport, in which nothing changes.
+    /// There is no transport connection, for this reason (X.224 section 13.5.3). In any phase other than
+    /// WaitTransport, `None`, and nothing changes.
     #[tactic(auto, unfolding(crate::specs::Listening::react))]
     pub fn refused(&mut self, reason: u8) -> Option<Indication>
         ensures state { self.new ≡ (react self.old (refused reason)).next }
@@ -217,9 +216,9 @@ impl Session {
         }
     }
 
-    /// Does what was planned, and takes no memory: the state is the plan's, and the TSDU is to be
-    /// sent. `None` where the session is not in the state in which the plan was made: then nothing
-    /// changes, and nothing is to be sent. So no plan brings an ended session back.
+    /// Carries out a plan, and allocates nothing: the session has the state of the plan, and the TSDU is to be sent.
+    /// `None` if the session is not in the state in which the plan was made: then nothing changes, and nothing is to
+    /// be sent. So no plan brings an ended session back.
     pub fn commit(&mut self, plan: Plan) -> Option<Sent>
         ensures state { OnSome result (self.new ≡ in_state self.old plan.next) }
         ensures sent { IfSome result (λ s. s ≡ plan.sent) }
@@ -234,9 +233,8 @@ impl Session {
         Some(plan.sent)
     }
 
-    /// A call of the user (X.225 section 7), planned and done at once: the TSDUs that are to be sent, or the
-    /// first error that applies. A call that is refused changes nothing, and `OutOfMemory` comes only if no
-    /// other error does.
+    /// A call of the user (X.225 section 7), planned and carried out at once: the TSDUs to send, or the first error
+    /// that applies. A refused call changes nothing. `OutOfMemory` is possible only if no other error applies.
     pub fn call(&mut self, request: Request) -> Result<Sent, CallError>
         ensures state { OnOk result (self.new ≡ (react self.old (called (called_by request.entry))).next) }
         ensures sent { IfOk result (λ s. s ≡ tsdus_sent (limit_of self.old.state) (react self.old (called (called_by request.entry))).reply) }
@@ -252,7 +250,7 @@ impl Session {
         Ok(sent)
     }
 
-    /// A call of the user for data, which changes nothing and needs no plan: what [`Session::call`] does with
+    /// A call of the user for data, which changes nothing and needs no plan. It does what [`Session::call`] does with
     /// it.
     #[inline(always)]
     #[tactic(auto, using(crate::proofs::CallLaws::refused, crate::proofs::CallLaws::wanting), unfolding(osi_message::specs::Written::user_data_of))]
@@ -264,7 +262,7 @@ impl Session {
         ensures refused { IfErr result (λ e. Refused e (react self.now (called (Data user_data.now))).error) }
     {
         if allow_data(&self.state, user_data).is_err() || limit_of(&self.state) != 0 {
-            // A value of its own: else other data, too, would be answered in the room of this one.
+            // A value of its own: otherwise other data, too, would be answered in the stack space of this one.
             let answer = self.call_bounded_data(user_data);
             return answer;
         }
@@ -274,9 +272,9 @@ impl Session {
         }
     }
 
-    /// What stands in front of data in its TSDU, where a call of the user for it is accepted and all of it goes
-    /// in one TSDU: these octets and then the data are all that [`Session::call_data`] gives then. `None` where
-    /// the call is refused or the data leaves in parts.
+    /// The octets before data in its TSDU, if a call for this data is accepted and all of it is sent in one TSDU:
+    /// these octets and then the data are all that [`Session::call_data`] returns then. `None` if the call is refused
+    /// or the data is sent in parts.
     #[inline(always)]
     pub fn data_head(&self, user_data: &[u8]) -> Option<&'static [u8]>
         ensures state { OnSome result (self.now ≡ (react self.now (called (Data user_data.now))).next) }
@@ -293,8 +291,8 @@ impl Session {
         Some(data_head())
     }
 
-    /// Data that is refused, or for which a size was agreed. It stands out of line: other data comes more
-    /// often.
+    /// Data that is refused, or for which a size was agreed. The function is kept out of line, because other data is
+    /// more frequent.
     #[cold]
     #[inline(never)]
     #[tactic(auto, using(crate::proofs::CallLaws::refused, crate::proofs::CallLaws::wanting), unfolding(osi_message::specs::Written::user_data_of))]
@@ -312,9 +310,9 @@ impl Session {
         }
     }
 
-    /// The units of a TSDU that came: the indications, the TSDU to send, and whether the transport
-    /// connection is closed (X.225 section 7). A part of one Data is joined to those before it. `Err`
-    /// changes nothing, and comes only if something is shown or sent, or octets are joined.
+    /// The units of a TSDU that was received: the indications, the TSDU to send, and whether the transport connection
+    /// is closed (X.225 section 7). A part of one Data is joined to those before it. `Err` changes nothing, and is
+    /// possible only if something is indicated or sent, or octets are joined.
     pub fn take(&mut self, group: &Group) -> Result<Taken, AllocError>
         ensures { Takes result (react self.old (taken (said_by_units (units_of group.now)))) self.old self.new }
     {
@@ -324,9 +322,9 @@ impl Session {
         }
     }
 
-    /// A TSDU that came and whose octets are no session units, for this reason. In Aborting and Ended it is
-    /// discarded; else it is answered by AB, and the user is shown the reason (X.225 section 7). `Err`
-    /// changes nothing, and comes only if something is sent.
+    /// A received TSDU whose octets are no session units, for this reason. In Aborting and Ended it is discarded;
+    /// otherwise it is answered by AB, and the user receives the reason (X.225 section 7). `Err` changes nothing, and
+    /// is possible only if something is sent.
     pub fn take_bad(&mut self, fault: SpduFault) -> Result<Taken, AllocError>
         ensures { Takes result (react self.old (unread fault)) self.old self.new }
     {
@@ -334,8 +332,8 @@ impl Session {
         self.settle(Reactions::of(self.alloc, heard))
     }
 
-    /// A TSDU that came, as octets: what [`Session::take`] does with its units, or [`Session::take_bad`] if
-    /// they are none. What is expected ([`Session::take_expected`]) is read and shown straight.
+    /// A received TSDU, as octets: what [`Session::take`] does with its units, or [`Session::take_bad`] if they are
+    /// none. A TSDU that is expected ([`Session::take_expected`]) has a fast path.
     #[inline(always)]
     pub fn take_tsdu(&mut self, tsdu: &[u8]) -> Result<Taken, AllocError>
         ensures state { OnOk result (self.new ≡ (react self.old (came tsdu.now)).next) }
@@ -350,7 +348,7 @@ impl Session {
             Ok(Expected::Shown(indication)) => Ok(Taken::showing(self.alloc, Some(indication))),
             Ok(Expected::Joined) => Ok(Taken::showing(self.alloc, None)),
             Ok(Expected::Other) => {
-                // A value of its own: else data, too, would be answered in the room of this one.
+                // A value of its own: otherwise data, too, would be answered in the stack space of this one.
                 let answer = self.take_unexpected(tsdu);
                 answer
             }
@@ -359,8 +357,8 @@ impl Session {
     }
 
     /// A TSDU that is not expected, by the general reader: what [`Session::take_tsdu`] does after
-    /// [`Session::take_expected`] answered `Other`. It takes any other TSDU too, only later. It stands out of
-    /// line: else the room for its units would be made for each TSDU that is read straight.
+    /// [`Session::take_expected`] answered `Other`. It takes any other TSDU too, only more slowly. It is kept out of
+    /// line: otherwise stack space for its units would be reserved for each TSDU on the fast path.
     #[inline(never)]
     pub fn take_unexpected(&mut self, tsdu: &[u8]) -> Result<Taken, AllocError>
         ensures { Takes result (react self.old (came tsdu.now)) self.old self.new }
@@ -371,7 +369,7 @@ impl Session {
         }
     }
 
-    /// Sends the answer, if there is one, takes the new state, and what is then joined.
+    /// Sends the answer, if there is one, and updates the state and the joined octets.
     #[inline(always)]
     #[tactic(auto, using(crate::proofs::GroupLaws::loud_reply))]
     fn settle(&mut self, reactions: Reactions) -> Result<Taken, AllocError>
@@ -396,8 +394,8 @@ impl Session {
         })
     }
 
-    /// The transport connection was closed or broken, or had a fault. The user is shown it except
-    /// before a CN was taken and after an abort; the connection is gone.
+    /// The transport connection was closed or broken, or had a fault. The user is told, except before a CN was taken
+    /// and after an abort. The connection has ended.
     #[tactic(auto, unfolding(crate::specs::Listening::react))]
     pub fn broken(&mut self) -> Option<Indication>
         ensures state { self.new ≡ (react self.old broken).next }
@@ -424,8 +422,8 @@ impl Session {
         joined_octets(self.joined.as_ref()).len()
     }
 
-    /// Where the connection stands. Its numbers are in order and its tokens in their phases, in
-    /// WaitTransport a CN waits, and octets are joined only where tokens may be held.
+    /// The phase of the connection. The session's numbers are in order and its tokens fit its phase; in WaitTransport
+    /// a CN is waiting; and octets are joined only if tokens may be held.
     pub fn phase(&self) -> Phase
         ensures value { result ≡ self.now.state.phase }
         ensures sound { IsSound self.now.state }

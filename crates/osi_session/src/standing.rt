@@ -1,4 +1,4 @@
-//! One side of a session as what passes shows it.
+//! One side of a session as an observer sees it.
 
 ghost use Rattle.std.specs.Prelude.{◌≡◌, ◌≢◌, [], MatchBool, ◌+◌, ◌||◌, true, false, not, is_none, unwrap_or, IfOk, IfSome, IfNone};
 ghost use Rattle.osi_message.specs.Reading.{word};
@@ -33,9 +33,9 @@ use std::marker::Model;
 /// The bit of an AB of a user.
 const BY_USER: u8 = 0x02;
 
-/// One side of a session as what passes shows it (X.225 version 2), without user data: what it knows, how
-/// much it has joined of the peer's unfinished SSDU, how much it has sent of its own, and whether it has
-/// closed the transport connection by itself.
+/// One side of a session as an observer sees it (X.225 version 2), without user data: its state, how many octets of
+/// the peer's unfinished SSDU it has joined, how many of its own it has sent, and whether it has closed the transport
+/// connection by itself.
 #[derive(Clone, Copy)]
 pub struct Standing {
     state: State,
@@ -57,16 +57,16 @@ impl Model for Standing {
     ghost invariant = { λ s. IsSound s.state };
 }
 
-/// What a side that takes a TSDU comes to, and what it sends at once.
+/// The effect of a TSDU on the side that takes it: the new state, and the answer.
 #[derive(Clone, Copy)]
 pub struct Taking {
-    /// How it stands then.
+    /// The side afterwards.
     pub next: Standing,
-    /// What it sends in answer, before anything else.
+    /// The answer, which it sends before anything else.
     pub reply: Option<Reply>,
 }
 
-/// Whether two counts are one.
+/// Whether two counts are equal.
 fn is_same_count(one: Option<usize>, other: Option<usize>) -> bool
     ensures { MatchBool result (one ≡ other) (one ≢ other) }
 {
@@ -78,8 +78,8 @@ fn is_same_count(one: Option<usize>, other: Option<usize>) -> bool
 }
 
 impl Reply {
-    /// Whether a unit that was said is this answer: an RF with any reason, an AB with any bits but that of
-    /// the user, or AA (X.225 sections 8.3.5, 8.3.9, 8.3.10).
+    /// Whether a unit that was sent is this answer: an RF with any reason, an AB with any bits except that of the
+    /// user, or AA (X.225 sections 8.3.5, 8.3.9, 8.3.10).
     pub fn is_said_by(self, unit: &Spdu) -> bool
         ensures { result ≡ answers_word (reply_of self) (word (said_by unit.now)) }
     {
@@ -116,7 +116,7 @@ fn is_providers_abort(message: &Message) -> bool
 }
 
 impl Standing {
-    /// Whether this is the other standing.
+    /// Whether the two are equal.
     pub fn is_same(&self, other: &Standing) -> bool
         ensures { MatchBool result (self.now ≡ other.now) (self.now ≢ other.now) }
     {
@@ -146,15 +146,14 @@ impl Standing {
         self.state.held.set()
     }
 
-    /// V(M), V(A), V(R) and the answer flag, as they were left; 0 before the CN is accepted (X.225
-    /// section 5.9).
+    /// V(M), V(A), V(R) and the answer flag, with their last values; 0 before the CN is accepted (X.225 section 5.9).
     pub fn numbers(&self) -> Numbers
         ensures { result ≡ self.now.state.numbers }
     {
         self.state.numbers
     }
 
-    /// The called side, which awaits a CN.
+    /// The called side, which waits for a CN.
     #[tactic(auto, using(crate::proofs::SessionLaws::awaiting_sound))]
     pub fn called() -> Standing
         ensures { result ≡ seen_called }
@@ -167,7 +166,7 @@ impl Standing {
         }
     }
 
-    /// The calling side, whose transport connection is there, before its CN.
+    /// The calling side, whose transport connection is open, before its CN.
     #[tactic(auto, using(crate::proofs::SayingLaws::calling_sound))]
     pub fn calling() -> Standing
         ensures { result ≡ seen_calling }
@@ -186,9 +185,9 @@ impl Standing {
 }
 
 impl Standing {
-    /// A TSDU of the peer that is taken: what a session does that stands so, whatever octets it has joined,
-    /// as long as they are so many. `None` where it may take none ([`Standing::listens`]). Memory is wanted
-    /// for what its user would be shown. `Err` changes nothing.
+    /// Takes a TSDU of the peer: the effect on every session in this state, whichever octets it has joined, as long as
+    /// there are this many. `None` if it may take none ([`Standing::listens`]). Memory is needed for the indications
+    /// to its user. `Err` changes nothing.
     pub fn take(&self, alloc: Global, tsdu: &[u8]) -> Result<Option<Taking>, AllocError>
         ensures listens { IfOk result (λ t. IfSome t (λ _. listens self.now ≡ true)) }
         ensures deaf { IfOk result (λ t. IfNone t (listens self.now ≡ false)) }
@@ -211,15 +210,15 @@ impl Standing {
         }))
     }
 
-    /// Whether a TSDU of the peer may be taken: the CN was said or is awaited, and the transport connection
-    /// was not closed.
+    /// Whether a TSDU of the peer may be taken: the CN was sent or is awaited, and the transport connection was not
+    /// closed.
     pub fn listens(&self) -> bool
         ensures { result ≡ listens self.now }
     {
         !(self.closed || self.state.phase.is_wait_transport())
     }
 
-    /// How it stands with another state, by whose phase an unfinished SSDU is kept or dropped.
+    /// The side with another state, whose phase decides whether an unfinished SSDU is kept or dropped.
     fn goes(&self, next: State) -> Standing
         requires { IsSound next }
         ensures { result ≡ goes self.now next }
@@ -233,8 +232,8 @@ impl Standing {
         }
     }
 
-    /// A unit of a TSDU of so many octets that this side says: how it stands then, or why no session that
-    /// stands so says it.
+    /// A unit that this side sends, in a TSDU of this many octets: the side afterwards, or why no session in this
+    /// state sends it.
     #[tactic(auto, unfolding(crate::specs::Standing::said))]
     pub fn say(&self, unit: &Spdu, tsdu_octets: usize) -> Result<Standing, Breach>
         ensures { SaysAs result (said self.now (word (said_by unit.now)) tsdu_octets) }
@@ -258,7 +257,7 @@ impl Standing {
         }
     }
 
-    /// A message. Within an unfinished SSDU none that begins anew.
+    /// A message. Within an unfinished SSDU, a message that may not occur within one is a breach.
     #[tactic(auto, using(crate::proofs::SayingLaws::message_sound))]
     fn say_message(&self, message: &Message) -> Result<Standing, Breach>
         ensures { SaysAs result (said_within self.now (says (meant_by message.now))) }
@@ -273,7 +272,7 @@ impl Standing {
         Ok(self.goes(next))
     }
 
-    /// Whether a message begins anew within an unfinished SSDU of this side.
+    /// Whether a message may not occur within an unfinished SSDU, and this side has sent one in part.
     fn is_misplaced(&self, message: &Message) -> bool
         ensures { result ≡ not (is_none self.now.sent || not (begins_anew (meant_by message.now))) }
     {
@@ -283,7 +282,7 @@ impl Standing {
         }
     }
 
-    /// A part of one Data, with so many octets.
+    /// A part of one Data, with this many octets.
     fn say_part(&self, place: Place, octets: usize) -> Result<Standing, Breach>
         ensures { SaysAs result (parting self.now place (unwrap_or self.now.sent 0 + octets)) }
     {

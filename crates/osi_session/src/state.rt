@@ -33,7 +33,7 @@ pub(crate) struct State {
 }
 
 impl State {
-    /// The called side, which awaits a CN.
+    /// The called side, which waits for a CN.
     pub(crate) const AWAITING: State = State {
         phase: Phase::WaitCn,
         is_caller: false,

@@ -1,4 +1,4 @@
-//! Units that a side may say as soon as it may say them.
+//! Units that a side may send as soon as they are allowed.
 
 ghost use Rattle.std.specs.Prelude.{◌≡◌};
 ghost use Rattle.osi_message.specs.Meanings.{meant_by};
@@ -12,9 +12,9 @@ use crate::words::Word;
 use osi_message::Message;
 use osi_spdu::Spdu;
 
-/// Whether a unit is *steady*: a side that may say it now and may say it after it took some TSDUs of its peer
-/// comes to the same if it says it now and takes them then. Data and each part of it, a wish for tokens, a
-/// token item that names none, a minor point and its confirmation.
+/// Whether a unit is *steady*: if a side may send it now, and may also send it after it took some TSDUs of its peer,
+/// it arrives at the same state if it sends it now and takes them then. These are data and each part of it, a request
+/// for tokens, a token item that names none, a minor point and its confirmation.
 pub fn is_steady(unit: &Spdu) -> bool
     ensures { result ≡ is_steady (word (said_by unit.now)) }
 {

@@ -42,7 +42,7 @@ measured_bad at (n ∷ octets) f e =
       | inr q ↦ counted_bad at 1 n octets f q.1
     ]
 
--- a length that can't be read is there in no form
+-- a length that can't be read is spelled in neither form of length indicator
 pub no_value : (at : ℕ) (octets : List ℕ) (f : SpduFault) → measured_at at octets ≡ Err f → HasNoValue octets
 no_value at octets f h0 = grind (arith, indicator_len, measured_again, never)
 

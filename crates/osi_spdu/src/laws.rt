@@ -68,8 +68,8 @@ pub fn serial_digits()
     ensures { (n : ℕ) → n ≤ 999999 → numeral (digits_of n) ≡ Some n }
 {}
 
-/// If a unit can't be read, the fault returned is its first one. What precedes the fault is well formed: the SI, and
-/// parameters with distinct codes.
+/// If a unit can't be read, the fault returned is its first one. What comes before the fault is well formed: the SI,
+/// and parameters with distinct codes.
 #[tactic(auto, using(crate::proofs::FirstFault::unit_fault_found, crate::proofs::FirstFault::unit_fault_only))]
 pub fn first_fault_of_a_unit()
     ensures found { (second : Bool) (at : ℕ) (octets : List ℕ) (fault : SpduFault) → IsOctets octets →
@@ -78,8 +78,8 @@ pub fn first_fault_of_a_unit()
         IsUnitFault second at octets fault → unit_at second at octets ≡ Err fault }
 {}
 
-/// If a TSDU can't be read, the fault returned is its first one. What precedes the fault is well formed: whole units in
-/// places where they may occur, and the beginning of the faulty unit.
+/// If a TSDU can't be read, the fault returned is its first one. What comes before the fault is well formed: whole
+/// units in places where they may occur, and the beginning of the faulty unit.
 pub fn first_fault()
     ensures found { (octets : List ℕ) (fault : SpduFault) → IsOctets octets →
         tsdu_at octets ≡ Err fault → IsFirstFault octets fault }

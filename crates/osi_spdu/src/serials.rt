@@ -45,7 +45,7 @@ impl Serial {
         Short { octets, start }
     }
 
-    /// The number that one to six digits stand for.
+    /// The number that one to six digits spell.
     pub fn read(digits: &[u8]) -> Option<Serial>
         ensures { option_map (λ s. s.number) result ≡ numeral digits.now }
     {

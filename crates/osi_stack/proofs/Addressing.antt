@@ -4,7 +4,7 @@ use Rattle.osi_carrier.specs.Named.{AreNamed}
 use Rattle.osi_stack.proofs.Vocabulary.{tsap_octets, tsaps_at, asks, value_at, Connection, asked, TsapIds, push_here, put_here, beyond, put_other, known_is, none_of, Input, Listener, react, addressed, selectors_in, addresses_at, asked_addresses, calls_with, connects, Soundness, kept_at, line_by, by_line, to_session, Selectors, selectors_told, shows_connect, Line, End, session_in, fresh_line, Connect}
 use Rattle.osi_stack.proofs.Moves.{used_live}
 
--- ---- what is asked for
+-- ---- what is requested
 
 addressed_by : (r : ℕ) (e : End) (c : Connection) (ids : TsapIds) (line : Line) (s : Selectors) → value_at r e.carrier.live ≡ Some c → tsaps_at r e.carrier ≡ Some ids →
     value_at r e.lines ≡ Some line → line.selectors ≡ Some s → addresses_at r e ≡ addressed (Some ids) (Some s)
@@ -22,7 +22,7 @@ asked_known c e s named =
     addressed_by n (connects c e) asked ids line _ live (push_here n ids e.carrier.tsaps unnamed)
     (used_live n new.live (e.lines ++ (n, line) ∷ []) (ap is_some live) ∙ push_here n line e.lines (beyond n e.carrier.given e.lines s.known (omega arith))) refl
 
--- ---- what comes, and what keeps the selectors
+-- ---- what arrives, and what keeps the selectors
 
 moved_by : (r : ℕ) (input : Input) (e : End) (o : Option Line) (s : Listener) → value_at r e.lines ≡ o → session_in o ≡ Some s →
     selectors_in (value_at r (to_session r input e).lines) ≡ (if shows_connect (react s input).shown then selectors_told input else selectors_in o)

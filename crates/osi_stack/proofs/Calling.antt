@@ -2,7 +2,7 @@
 use Rattle.std.proofs.Common.{◌≡◌, ℕ, Bool, false, List, [], ◌++◌, Option, Some, None, is_none, Result, Ok, Err, OnOk, IfErr, refl, sym, ap, subst, ◌∙◌, if◌then◌else◌, arith}
 use Rattle.osi_stack.proofs.Vocabulary.{append-nil, Carrying, send_all_error, open_link, State as Carrier, Meaning, tsdus_sent, Answer, allowed, Call, CallError, Listener, Move, called, answered, react, limit_of, send_refusal, reply_refusal, move_refusal, or_else, Refuses, answers, line_by, carrier_by, Line, hands, answers_by}
 
--- a call shows nothing and closes nothing, and one that is accepted sends something
+-- a call indicates nothing and closes nothing, and one that is accepted sends something
 pub record IsCall (move : Move) : Type 0 where
   pub shown : move.shown ≡ []
   pub closes : move.closes ≡ false
@@ -16,7 +16,7 @@ pub call_is : (s : Listener) (call : Call) → IsCall (react s (called call))
 unfolding react
 call_is s call = call_by s (allowed s.state call)
 
--- what is sent decides what the carrier answers
+-- what is sent decides the answer of the carrier
 reply_by : (r limit : ℕ) (reply : Option Meaning) (c : Carrier) → is_none reply ≡ false →
     reply_refusal r limit reply c ≡ send_refusal (send_all_error (tsdus_sent limit reply) (open_link r c))
 reply_by r limit None c e = cc
@@ -35,7 +35,7 @@ call_sends s call sent r limit c none e = record {
   handed = ap (λ (b : Bool). answers_by b r (tsdus_sent limit (react s (called call)).reply) c) (call_is s call).closes ∙ ap (λ (l : List (List ℕ)). hands r l c) (sym e);
 }
 
--- ---- what the carrier answers to what a call sends
+-- ---- the carrier's answer to what a call sends
 
 pub call_handed : {A E : Type 0} (result : Result A E) (s : Listener) (call : Call) (sent tsdus : List (List ℕ)) (r limit : ℕ) (c d : Carrying) → (react s (called call)).error ≡ None →
     sent ≡ tsdus_sent limit (react s (called call)).reply → tsdus ≡ sent →

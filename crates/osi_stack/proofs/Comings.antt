@@ -30,14 +30,14 @@ units_taken (u ∷ us) s t all h =
 front_taken : (s t : End) (units : List (List ℕ)) (coming : List Value) (r behind : List ℕ) (f : Fronts units coming r behind) → TakesPackets s units t → TakesUnits s f.done t
 front_taken s t units coming r behind f h = units_taken f.done s t f.sendable (subst (λ (l : List (List ℕ)). TakesPackets s l t) f.are h)
 
--- ---- what is attended stays so along packets
+-- ---- handled events stay handled along packets
 
 no_events : (e : End) → stops e ≡ false → IsAttended e → e.carrier.events ≡ []
 no_events e quiet attended = attended (lasting_of e.carrier.ended (waits e.lines) quiet)
 
--- ---- a unit for which there was no memory
+-- ---- a unit for which memory ran out
 
--- the carrier found none: the unit did nothing
+-- memory ran out in the carrier: the unit did nothing
 ended_quiet : (e : End) (c : Carrier) → e.carrier.events ≡ [] → c ≡ states.ends NoMemory e.carrier → attends (with_carrier c e) ≡ ends NoMemory e
 ended_quiet e c none is = grind arith
 
@@ -59,7 +59,7 @@ unit_starved e new unit rest sendable none (inr h) = elim (acted_unit e.carrier 
   | inr is ↦ never_starved (with_carrier h.0 e) new (ap (λ (c : Carrier). c.events) is ∙ none) h.2
 ]
 
--- the packet that starved is the next unit that comes
+-- the packet for which memory ran out is the next unit in flight
 packet_starved : (e new : End) (packet : List ℕ) (coming : List Value) (r t : List ℕ) → e.carrier.events ≡ [] → (f : Fronts (packet ∷ []) coming r t) → Starves e packet new → Starved e coming new
 packet_starved e new packet coming r t none f h =
     elim f.done as (λ (l : List Value). packet ∷ [] ≡ map written l → coming ≡ l ++ f.left → AllByRecursion IsSendable l → Starved e coming new) [
@@ -74,7 +74,7 @@ packet_starved e new packet coming r t none f h =
 starved_over : {A : Type 0} (e : End) (left : List Value) (new : End) → Starved e left new → new.carrier.ended ≡ None → A
 starved_over e left new h3 lasts = grind arith
 
--- ---- attended along packets
+-- ---- events are handled along packets
 
 -- all events were handled
 all_heard : (l : List Happening) (e : End) → e.carrier.events ≡ l → (hears_times (length l) e).carrier.events ≡ []

@@ -70,7 +70,7 @@ module _ (K : ℕ → Bool) where
 
   -- ---- the others are still
 
-  -- a session that was given up shows nothing when it is lost
+  -- a session that was given up indicates nothing when it is lost
   lost_nothing : (o : Option Listener) → shown_at_loss (option_map (λ s. after_input s broken) o) ≡ []
   unfolding react
   lost_nothing None = refl

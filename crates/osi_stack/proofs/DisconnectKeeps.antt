@@ -112,7 +112,7 @@ disconnect_sessions P r e moves all = disconnect_lines (OfSession P) r e (λ lin
 pub disconnect_came : (r : ℕ) (e : End) → AllCameAbout e.lines → AllCameAbout (disconnects r e).lines
 disconnect_came r e all = disconnect_sessions CameAbout r e (came_moves broken tt) all
 
--- an ended session shows no loss
+-- an ended session indicates no loss
 pub named_given : (o : Option Listener) (line : Line) → line.session ≡ o → IsNamed (record line { session = option_map (λ s. after_input s broken) o; waiting = [] })
 unfolding react
 named_given None line is = tt

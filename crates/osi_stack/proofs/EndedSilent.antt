@@ -1,5 +1,5 @@
--- A session that has ended shows its user nothing, whatever happens to it: neither a unit that comes, nor a call, nor
--- that its transport connection is there, is refused or is lost.
+-- A session that has ended indicates nothing, whatever happens to it: a received unit, a call, or its transport
+-- connection being opened, refused or lost.
 use Rattle.std.proofs.Common.{◌≡◌, ℕ, ◌==◌, ◌||◌, Bool, true, false, List, [], ◌∷◌, ◌++◌, Option, Some, None, Result, Ok, Err, refl, sym, ap, ◌∙◌, if◌then◌else◌, arith}
 use Rattle.osi_session.proofs.PhaseLaws.{excluded}
 use Rattle.osi_session.proofs.RunLaws.{word_ended}

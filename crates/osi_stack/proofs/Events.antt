@@ -79,7 +79,7 @@ times_quiet (suc n) e none = ap (hears_times n) (ap (λ l. hears_first l e) none
 pub all_quiet : (e : End) → e.carrier.events ≡ [] → hears_all e ≡ e
 all_quiet e none = times_quiet (length e.carrier.events) e none
 
--- if none is pending there is memory
+-- if none is pending, no memory is needed
 pub never_starved : {A : Type 0} (old new : End) → old.carrier.events ≡ [] → RunsOut old new → A
 never_starved old new none out = grind (arith, hears_times, times_quiet)
 
@@ -134,7 +134,7 @@ fetched old octets fed told heard carrier lines b feeds so_far none held over le
       attended = concluded_attended heard.end (holding carrier lines).end is none.0;
     }
 
--- the same if there was no memory for what one of them does
+-- the same if memory ran out for the effect of one of them
 pub fetched_not : (old : Holding) (octets : List ℕ) (fed : Fed) (told : Carrying) (heard new : Holding) → carriers.Feeds (carrying_of old) octets fed told →
     LeftOff (with_carrier told.state old.end) heard.end → heard.held ≡ told.held → new ≡ record heard { end = starves heard.end } → Fetches old octets (length octets) new
 fetched_not old octets fed told heard new feeds left held is = record {

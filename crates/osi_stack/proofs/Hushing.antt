@@ -46,7 +46,7 @@ waiting_put : (r : ℕ) (x line : Line) (lines : Rows Line) → x.waiting ≡ li
 waiting_put r x line [] same here = refl
 waiting_put r x line ((q, y) ∷ lines) same here = waiting_by r q x line y lines (q == r) refl same here (waiting_put r x line lines same)
 
--- an accepted call shows nothing
+-- an accepted call indicates nothing
 call_waiting : (r : ℕ) (call : SessionCall) (e : End) → call_error r call e ≡ None → all_waiting (to_session r (called call) e).lines ≡ all_waiting e.lines
 call_waiting r call e h =
     let says = says_is r call e h in

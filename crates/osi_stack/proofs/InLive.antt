@@ -20,7 +20,7 @@ pub record IsFit (e : End) : Type 0 where
   pub sound : IsSound e
   pub asks : HasAsked e
 
--- once it has ended nothing of it is asked
+-- once it has ended, nothing is required of it
 pub fit_over : (e : End) → is_some e.carrier.ended ≡ true → IsFit e
 fit_over e over = grind arith
 
@@ -58,7 +58,7 @@ fit_back o e f = grind (arith, orderly_same, put_back, apart_quieted, up_quieted
 pub fit_packet : SessionLaws → StillWaits → (unit : List ℕ) (e : End) → e.carrier.ended ≡ None → IsFit e → IsFit (after_packet e unit)
 fit_packet laws law unit e lasts f = search (attended_then (with_carrier (carriers.after_packet e.carrier unit) e) (after_packet e unit) (packet_is e unit), packet_sound laws unit e lasts (f.attended lasts) f.sound, packet_asked law unit e lasts (f.sound lasts) f.asks)
 
--- ---- the session of a connection that is gone shows nothing when it is lost
+-- ---- the session of a connection that is gone indicates nothing when it is lost
 
 quiet_loss : (s : Listener) → shows_loss s.state.phase ≡ false → (react s broken).shown ≡ []
 unfolding react
@@ -89,7 +89,7 @@ gone_shows e r s lasts f kept none = quiet_loss s (gone_quiet e r s lasts f kept
 
 -- ---- lines of connections that are gone, if nothing is pending
 
--- what the sessions of some references show when they are lost
+-- what the sessions of some references indicate when they are lost
 abbrev ShowNothing : (ℕ → Bool) → Rows Line → Type 0
 ShowNothing K lines = (r : ℕ) (s : Listener) → kept_at r lines ≡ Some s → K r ≡ false → (react s broken).shown ≡ []
 

@@ -45,7 +45,7 @@ gone_by r call e None over settled none kept is = record { refusal = refl; error
 gone_by r call e (Some s) (Some reason) settled none kept is = let left = settled.gone (ap is_some is) r in let both = sym kept ∙ left in cc
 gone_by r call e (Some s) None settled none kept is = ended_over r s call e.carrier (gone_phase r s e settled is none kept)
 
--- ---- so none has to be looked for
+-- ---- so none has to be looked up
 
 record AreAlike (r : ℕ) (call : Call) (e : End) : Type 0 where
   refusal : session_refusal r (session_in (value_at r e.lines)) call e.carrier ≡ session_refusal r (session_at r e) call e.carrier

@@ -16,7 +16,7 @@ pub record ShownFirst : Type 0 where
 input_selectors : (input : Input) → asks_for_connection input ≡ true → IsSome (selectors_told input)
 input_selectors input h = grind arith
 
--- if this shows that a connection is requested, it tells selectors
+-- if this indicates that a connection is requested, it has selectors
 abbrev TellsThem : Input → Type 0
 TellsThem input = (s : Listener) → shows_connect (react s input).shown ≡ true → IsSome (selectors_told input)
 

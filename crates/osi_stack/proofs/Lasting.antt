@@ -39,7 +39,7 @@ still_lasts : (o : Option EndReason) → (is_some o ≡ true → ⊥) → o ≡ 
 still_lasts None h = refl
 still_lasts (Some reason) h = absurd (h refl)
 
--- what packets in front of others leave
+-- what packets before others leave
 front_parts : PacketLaws → (old : Holding) (s : List ℕ) (vs : List (List ℕ)) (r : List ℕ) (lasts : Lasts old s) → ArePackets vs s r → Parts lasts.units vs r [] lasts.rest
 front_parts laws old s vs r lasts h = parts laws lasts.units vs s r [] lasts.rest lasts.partial (subst (λ l. ArePackets lasts.units l lasts.rest) (sym (append-nil s)) lasts.packets) h
 
@@ -60,7 +60,7 @@ no_fault_ends laws old s vs r at fault lasts h is =
     let parted = front_parts laws old s vs r lasts h in
     no_fault laws at parted.more r [] lasts.rest fault is lasts.partial parted.packets
 
--- the octets of a call, and those after them, are some in front of others
+-- the octets of a call, and those after it, are a prefix of others
 pub in_front : (held used within front later : List ℕ) → used ≡ within ++ front → held ++ (used ++ later) ≡ (held ++ within) ++ (front ++ later)
 in_front held used within front later same =
     ap (λ l. held ++ (l ++ later)) same ∙ ap (λ l. held ++ l) (append_assoc within front later) ∙ sym (append_assoc held within (front ++ later))

@@ -13,7 +13,7 @@ pub record SessionLaws : Type 0 where
   pub closed : (s : Listener) (input : Input) → (react s input).closes ≡ true → is_ended (react s input).next.state.phase ≡ true
   pub ended : (s : Listener) (input : Input) → is_ended s.state.phase ≡ true → is_ended (react s input).next.state.phase ≡ true
   pub linked : (s : Listener) (input : Input) → (input ≡ opened → ⊥) → needs_link (react s input).next.state.phase ≡ true → needs_link s.state.phase ≡ true
-  -- once it is there
+  -- once it is open
   pub begun : (s : Listener) → needs_link (react s opened).next.state.phase ≡ true → needs_link s.state.phase ≡ false → is_ended s.state.phase ≡ false
   pub unneeded : (p : Phase) → is_ended p ≡ true → needs_link p ≡ false
 
@@ -170,7 +170,7 @@ here_linked laws q s input event rest c d true e a over needs l = record {
   ];
 }
 
--- ---- what hearing does to the session of a reference
+-- ---- what an event does to the session of a reference
 
 pub record HasMoved (q : ℕ) (input : Input) (old new : End) : Type 0 where
   pub session : Listener
@@ -340,7 +340,7 @@ pub broken_needs_none : (s : Listener) → needs_link (react s broken).next.stat
 unfolding react
 broken_needs_none s = refl
 
--- a session that needs its connection once it is there
+-- a session that needs its connection once it is open
 opened_needs : SessionLaws → (q : ℕ) (rest : List Happening) (e : End) (s : Listener) (b : Bool) → needs_link s.state.phase ≡ b → kept_at q e.lines ≡ Some s →
     IsLinked q (kept_at q e.lines) (told.opened q ∷ rest) e.carrier → needs_link (react s opened).next.state.phase ≡ true → open_after q true rest ≡ true → is_open q e.carrier ≡ true
 opened_needs laws q rest e s b needs is l n h = search (arith, mono, eq-eqb, both, is_ended)
@@ -397,7 +397,7 @@ times_last (suc n) e h = first_lasts e.carrier.events e (times_last n (hears_nex
 pub times_apart : (n : ℕ) (e : End) → AreApart e.lines → AreApart (hears_times n e).lines
 times_apart n e apart = events_heard (λ x. AreApart x.lines) (λ events x apart. apart) heard_apart n e apart
 
--- what a carrier has still to tell does not matter
+-- what a carrier has still to report does not matter
 untold_linked : (rest : List Happening) (r : ℕ) (o : Option Listener) (events : List Happening) (c : Carrier) → IsLinked r o events c → IsLinked r o events (record c { events = rest })
 untold_linked rest r o events c l = grind arith
 

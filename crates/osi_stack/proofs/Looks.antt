@@ -13,7 +13,7 @@ use Rattle.osi_stack.proofs.Pruning.{only_at, only_row}
 
 -- ---- what is seen of one
 
--- the lines of live connections alone are looked at
+-- only the lines of live connections are looked at
 session_by : (r : ℕ) (live : Rows Connection) (lines : Rows Line) (b : Bool) → is_some (value_at r live) ≡ b →
     (if b then session_in (value_at r (live_lines live lines)) else None) ≡ (if b then session_in (value_at r lines) else None)
 session_by r live lines false e = refl

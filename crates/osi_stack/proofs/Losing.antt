@@ -2,7 +2,7 @@
 use Rattle.std.proofs.Common.{◌≡◌, ℕ, ◌+◌, ◌<◌, ◌==◌, zero, suc, Bool, List, [], ◌∷◌, ◌++◌, length, take, drop, map, get_or, set, arith, Some, None, Result, Ok, Err, OnErr, refl, sym, ap, ◌∙◌, if◌then◌else◌}
 use Rattle.osi_stack.proofs.Vocabulary.{append-nil, map-append, placed, here_is, Rows, value_at, place_of, put, Listener, broken, react, shows_loss, Shown, Lost, shown_by, Indication, shown_at_loss, loses, all_lost, Line}
 
--- what a session shows when it is lost
+-- what a session indicates when it is lost
 lost_shown : (s : Listener) → (react s broken).shown ≡ (if shows_loss s.state.phase then Lost ∷ [] else [])
 unfolding react
 lost_shown s = refl
@@ -54,7 +54,7 @@ step_at (x ∷ xs) (suc i) d h =
     let more = step_at xs i d (omega arith) in
     record { here = more.here; next = ap (λ l. (x.0, loses x.1) ∷ l) more.next }
 
--- those in front are lost, the next is lost
+-- those before it are lost, and then the next is lost
 pub lost_step : (xs items : Rows Line) (i : ℕ) (row new : ℕ × Line) → i < length xs → items ≡ all_lost (take i xs) ++ drop i xs →
     row ≡ get_or items i row → new ≡ (row.0, loses row.1) → set items i new ≡ all_lost (take (i + 1) xs) ++ drop (i + 1) xs
 lost_step xs items i row new within before here h = grind (arith, step_at, get_or, set, all_lost, take, drop, loses)

@@ -3,7 +3,7 @@ use Rattle.std.proofs.Common.{◌≡◌, ℕ, ◌≤◌, ◌==◌, Bool, true, f
 use Rattle.osi_stack.proofs.Vocabulary.{eqb-true, eq-eqb, absent, RiseFrom, Rows, value_at, Shown, first_by, first_shown, rest_by, without_first, waiting_of, waiting_at, IsLowest, TellsLowest, Line}
 use Rattle.osi_stack.proofs.Linking.{unlike}
 
--- ---- one line in front
+-- ---- one line before others
 
 here_at : (q : ℕ) (line : Line) (lines : Rows Line) → value_at q ((q, line) ∷ lines) ≡ Some line
 here_at q line lines = let e = eq-eqb q q refl in rw e refl

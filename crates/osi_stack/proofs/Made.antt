@@ -310,7 +310,7 @@ served laws nothing old (carrying octets) new h s lasts =
     served_still old (carrying octets) new refl (ap (λ (x : Holding). x.held.octets) (sym h)) (ap (λ (x : Holding). x.end.carrier.given) (sym h))
     (λ r. ap (λ (x : Holding). kept_at r x.end.lines) (sym h))
 
--- ---- an end stays sane
+-- ---- an end keeps its invariant
 
 sane_carried : (octets : List ℕ) (e : End) → IsSane (put_back octets e) → IsSane e
 sane_carried octets e s = grind arith

@@ -1,4 +1,4 @@
--- What needs memory shows, sends or keeps something.
+-- What needs memory indicates, sends or keeps something.
 use Rattle.std.proofs.Common.{◌≡◌, ℕ, ◌||◌, ◌&&◌, Bool, true, [], ◌∷◌, get_or, Option, Some, None, Result, Ok, Err, OnErr, refl, ◌∙◌, arith}
 use Rattle.osi_carrier.proofs.Growing.{written_grows}
 use Rattle.osi_carrier.specs.Growth.{grows}
@@ -21,7 +21,7 @@ closing_on r c (Some (peer, link)) e other = closing_in r peer c c.class other
 pub closing_needs : (r : ℕ) (c : Carrier) → close_error (open_link r c) ≡ None → (c.class ≡ Some Zero → ⊥) → grows c (closed_with r 128 c) ≡ true
 closing_needs r c e other = closing_on r c (open_link r c) e other
 
--- if memory is wanted, and there is no other error
+-- if memory is needed, and there is no other error
 pub wants_memory : {A : Type 0} (result : Result A CallError) (grown : Bool) → OnErr result (grown ≡ true) → result ≡ Err OutOfMemory → grown ≡ true
 wants_memory (Ok x) grown h is = cc
 wants_memory (Err e) grown h is = h

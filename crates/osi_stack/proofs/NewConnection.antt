@@ -1,4 +1,4 @@
--- What an end is once a connection was requested, from what each step of asking did.
+-- The state of an end after a connection was requested, from the effect of each step of the request.
 use Rattle.std.proofs.Common.{◌≡◌, ◌∙◌, ℕ, ◌+◌, [], ◌∷◌, ◌++◌, option_map}
 use Rattle.osi_stack.proofs.Vocabulary.{tsap_octets, Held, asks, Rows, State as Carrier, Listener, connects, calls_with, Line, Holding, used_lines, fresh_line, Connect}
 

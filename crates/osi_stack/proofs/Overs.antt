@@ -29,7 +29,7 @@ times_over (suc n) e over =
 pub attends_over : (e : End) → is_some e.carrier.ended ≡ true → (attends e).carrier.ended ≡ e.carrier.ended
 attends_over e over = ap (λ (c : Carrier). c.ended) (concluded_carrier (hears_all e)) ∙ times_over (length e.carrier.events) e over
 
--- if all that is pending leaves the carrier as it lasts, some of it does
+-- if the carrier lasts after all pending events, it lasts after some of them
 times_within : (n : ℕ) (events : List Happening) (e : End) → e.carrier.events ≡ events → (hears_times (length events) e).carrier.ended ≡ None → (hears_times n e).carrier.ended ≡ None
 times_within zero events e is lasts = times_last (length events) e lasts
 times_within (suc n) [] e is lasts = ap (λ (x : End). x.carrier.ended) (times_quiet (suc n) e is) ∙ lasts

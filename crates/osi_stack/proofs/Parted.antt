@@ -1,4 +1,4 @@
--- The parts of one Data do to an end what the whole does, whatever calls come between.
+-- The parts of one Data have on an end the effect of the whole, whatever calls come between.
 use Rattle.std.proofs.Common.{◌≡◌, ℕ, ◌==◌, Bool, true, false, List, [], ◌∷◌, ◌++◌, map, Option, Some, None, refl, sym, ap, ◌∙◌, if◌then◌else◌, arith}
 use Rattle.osi_session.specs.Parts.{AreAlike}
 use Rattle.osi_stack.specs.Parted.{to_session_along}
@@ -16,11 +16,11 @@ put_twice : (r : ℕ) (x y : Line) (rows : Rows Line) → put r x (put r y rows)
 put_twice r x y [] = refl
 put_twice r x y ((q, z) ∷ rows) = put_twice_by r q x y z rows (q == r) refl (put_twice r x y rows)
 
--- with this waiting for its user, and with these selectors
+-- with these pending indications for its user, and with these selectors
 abbrev at : ℕ → Carrier → Listener → List Shown → Option Selectors → Rows Line → End
 at r c l waiting selectors rows = record { carrier = c; lines = put r (record { session = Some l; waiting = waiting; selectors = selectors }) rows }
 
--- its selectors after a move that shows this
+-- its selectors after a move with these indications
 abbrev names : List Shown → Option Selectors → Option Selectors → Option Selectors
 names shown told selectors = if shows_connect shown then told else selectors
 
@@ -79,7 +79,7 @@ runs r rows c waiting selectors l m (calls call ∷ acts) h silent =
     ∙ ap (λ (w : List Shown). at r (answers r (limit_of l.state) one c) two.next (waiting ++ w) (names w None selectors) rows) (sym silent.0.1.shown) in
     search (ap (to_session_along r (map act_in_octets acts)) (moves_at r (called call) c l waiting selectors rows h) ∙ more.parts, ap (to_session_along r (calls_in acts)) (moves_at r (called call) c m waiting selectors rows h ∙ same) ∙ more.whole)
 
--- ---- the end as it is
+-- ---- the end as it was
 
 line_of : (o : Option Line) (session : Listener) → session_in o ≡ Some session → (line : Line) × (o ≡ Some line) × (line.session ≡ Some session)
 line_of None session h = cc

@@ -1,4 +1,4 @@
--- A piece of the stream, read by looks that each take packets up to one that tells something.
+-- A piece of the stream, read by looks that each take packets up to one that causes an event.
 use Rattle.std.proofs.Common.{◌≡◌, ℕ, zero, suc, ◌+◌, ◌-◌, ◌<◌, ◌≤◌, ◌||◌, ◌==◌, not, true, false, Bool, List, [], ◌∷◌, ◌++◌, length, take, drop, Option, Some, None, Result, is_some, refl, sym, ap, subst, ◌∙◌, inl, inr, ◌⊎◌, arith, length-append, length-drop, append_assoc, if◌then◌else◌}
 use Rattle.std.proofs.Math.Seq.{drop-append_seam}
 use Rattle.osi_carrier.specs.Packets as carriers
@@ -11,7 +11,7 @@ use Rattle.osi_stack.proofs.Lifting.{both, or_second, IsQuiet, quiet_is, quiet_a
 
 -- ---- the progress of reading a piece
 
--- the packets in front of `rest` have acted, and none of them stopped
+-- the packets before `rest` have acted, and none of them stopped
 pub record IsRead (old : Holding) (piece : List ℕ) (now : Holding) (rest : List ℕ) : Type 0 where
   pub front : List ℕ
   pub units : List (List ℕ)
@@ -87,7 +87,7 @@ more_packets old piece now rest more read =
     subst (λ l. ArePackets read.units l (now.held.octets ++ more)) (append_assoc old.held.octets read.front more)
     (packets_more read.units (old.held.octets ++ read.front) now.held.octets more read.packets)
 
--- the place of octets of which this many are left
+-- the offset, if this many octets are left
 place_of_rest : (old : Holding) (piece : List ℕ) (now : Holding) (rest more : List ℕ) (left : ℕ) (read : IsRead old piece now rest) → left ≤ length (now.held.octets ++ more) →
     offset_of (now.held.offset + (length (now.held.octets ++ more) - left)) ≡ offset_of (old.held.offset + (length (old.held.octets ++ (read.front ++ more)) - left))
 place_of_rest old piece now rest more left read within = grind (arith, packets_leave, length-append, length, offset_of)
@@ -189,7 +189,7 @@ behind_is old piece now rest used fed told new read g held is same =
       room = room_stays old.held.room now.held.room told.held new.held read.room g.room held;
     }
 
--- for what the last packet led to there was no memory
+-- memory ran out for the effect of the last packet
 stopped_is : (old : Holding) (piece : List ℕ) (now : Holding) (rest : List ℕ) (fed : ℕ) (told : Carrying) (new : Holding) (read : IsRead old piece now rest) →
     carriers.StopsBehind (record { state = now.end.carrier; held = now.held }) rest fed told → RunsOut (with_carrier told.state now.end) new.end → new.held ≡ told.held →
     FindsNoMemory old piece (length piece) new
@@ -244,7 +244,7 @@ refuses_is old piece now rest fed told new read g held is =
       held = ap (λ h. h.octets) held ∙ g.held;
     }
 
--- there was no room, or for what the next packet does no memory
+-- there was no room, or memory ran out for the effect of the next packet
 abbrev HowStarved : (old : Holding) (piece : List ℕ) (now : Holding) (rest : List ℕ) (fed : ℕ) (told : Carrying) (new : Holding) (read : IsRead old piece now rest) →
     carriers.FindsNoMemory (record { state = now.end.carrier; held = now.held }) rest fed told → Type 0
 HowStarved old piece now rest fed told new read g =
@@ -322,7 +322,7 @@ looks old piece now rest used new read fetch =
       ]
     ]
 
--- ---- how reading goes on, and how it ends
+-- ---- how reading continues, and how it ends
 
 -- nothing is left of the piece
 all_used : (rest : List ℕ) (used : ℕ) → used ≡ length rest → length (drop used rest) ≡ 0

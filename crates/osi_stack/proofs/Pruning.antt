@@ -8,11 +8,11 @@ use Rattle.osi_stack.proofs.Linking.{rest_is, joined_lines}
 use Rattle.osi_stack.proofs.Stepwise.{concluded_end}
 use Rattle.osi_stack.proofs.Moves.{used_by, used_keep}
 
--- one line in front
+-- one line before the others
 abbrev row : ℕ → Line → Rows Line → Rows Line
 row q line lines = (q, line) ∷ lines
 
--- for which nothing is pending, and whose session shows nothing when it is lost
+-- with nothing pending, and whose session indicates nothing when it is lost
 pub record IsStill (line : Line) : Type 0 where
   pub waiting : line.waiting ≡ []
   pub lost : shown_at_loss line.session ≡ []

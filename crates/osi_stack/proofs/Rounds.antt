@@ -1,4 +1,4 @@
--- two runs in step reach the same state, whatever the pieces.
+-- Two runs in step reach the same state, whatever the pieces.
 use Rattle.std.proofs.Common.{◌≡◌, ℕ, ◌+◌, ◌-◌, ◌<◌, ◌^◌, Bool, true, false, List, ◌∷◌, ◌++◌, Option, Some, None, is_some, length, option_map, arith, refl, sym, ap, subst, ◌∙◌, append_assoc, if◌then◌else◌, []}
 use Rattle.osi_stack.proofs.Vocabulary.{append-nil, flat_map-append, flat_map, IsPartial, ArePackets, offset_of, TpktFault, tsap_octets, apart_all, OneCut, user, Rows, asked, State as Carrier, Broken, called, Shown, connects, calls_with, ends, all_waiting, UserCall, user_does, Round, WaitForLive, MayCall, IsCalled, RoundsBy, RoundsAlong, calls_of, AreInStep, connecting, calling, disconnecting, breaking, hushed, put_back, Account, account_of, with_packet, with_packets, CallsAlong, used_in, told_in, carried_in, account_along, AreAlike, Line, End, Holding, joins, waits, Connect, none_of, connects_call, EndCall as Call}
 use Rattle.osi_stack.proofs.Accounts.{made, after_more, account_quiet, account_joined, packets_apart}
@@ -26,7 +26,7 @@ pub record Likeness (May : UserCall → End → Type 0) (Like : Account → Acco
 pub alike_at : (Like : Account → Account → Type 0) (x y v w : Account) → x ≡ v → y ≡ w → Like v w → Like x y
 alike_at Like x y v w e f like = subst (λ (z : Account). Like z y) (sym e) (subst (Like v) (sym f) like)
 
--- an account of which packets make one that lasts
+-- an end that lasts after packets lasted before them
 pub lasts_before : (units : List (List ℕ)) (x : Account) → (with_packets units x).end.carrier.ended ≡ None → x.end.carrier.ended ≡ None
 lasts_before units x lasts = by (is_some x.end.carrier.ended) refl
   where
@@ -40,12 +40,12 @@ packets_alike May Like l [] x y lasts like = like
 packets_alike May Like l (unit ∷ units) x y lasts like =
     packets_alike May Like l units (with_packet x unit) (with_packet y unit) lasts (l.packet x y unit (lasts_before (unit ∷ units) x lasts) like)
 
--- two ends, of which this was reported and carried, that are alike
+-- two ends that are alike, after these indications were given and these octets sent
 pub record Same (Like : Account → Account → Type 0) (t : List (ℕ × Shown)) (o : List ℕ) (a : Holding) (u : List (ℕ × Shown)) (p : List ℕ) (b : Holding) : Type 0 where
   pub octets : a.held.octets ≡ b.held.octets
   pub account : Like (account_of t o a.end) (account_of u p b.end)
 
--- and whose unfinished packet is at the same place
+-- and whose unfinished packets are at the same offset
 pub record Are (Like : Account → Account → Type 0) (t : List (ℕ × Shown)) (o : List ℕ) (a : Holding) (u : List (ℕ × Shown)) (p : List ℕ) (b : Holding) : Type 0 where
   pub same : Same Like t o a u p b
   pub partial : IsPartial a.held.octets

@@ -1,4 +1,4 @@
--- The session selectors of what comes.
+-- The session selectors of what arrives.
 use Rattle.std.proofs.Common.{◌≡◌, ℕ, List, ◌∷◌, Option, Some, None, Result, Ok, Err, refl, sym, ap, ◌∙◌}
 use Rattle.osi_message.specs.Reading.{place_of}
 use Rattle.osi_session.proofs.PartRuns.{data_sendable}

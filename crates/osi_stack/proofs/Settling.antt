@@ -1,4 +1,4 @@
--- the invariant of every end between any two calls stays so.
+-- The invariant of every end between any two calls is kept.
 use Rattle.std.proofs.Common.{◌≡◌, ℕ, ◌≤◌, ◌<◌, Bool, true, false, ◌||◌, not, List, ◌∷◌, length, drop, Option, Some, None, Result, Ok, Err, arith, is_some, IsSome, option_map, refl, sym, ap, subst, ◌∙◌, inl, inr, ◌⊎◌, if◌then◌else◌, []}
 use Rattle.osi_carrier.specs.Packets as carriers
 use Rattle.osi_session.specs.Units.{is_profile}
@@ -102,7 +102,7 @@ pub record Profiles : Type 0 where
   pub caller : (o : Opening) → is_profile (unit_bits o.requirements) ≡ true → HasProfile (asking o)
   pub kept : (s : Listener) (inputs : List Input) → HasProfile s.state → HasProfile (after_inputs s inputs).state
 
--- what the laws of one end say
+-- what the laws of one end state
 pub record Steps : Type 0 where
   pub laws : SessionLaws
   pub profiles : Profiles

@@ -47,7 +47,7 @@ pub event_heard : (P : End → Type 0) → Hears P → (event : Happening) (e : 
 event_heard P law (told.opened r) e p = opened_heard P law r (value_at r e.lines) e refl p
 event_heard P law event e p = law.moves event e p
 
--- what the carrier has still to tell does not matter
+-- what the carrier has still to report does not matter
 abbrev pub Untold : (End → Type 0) → Type 0
 Untold P = (events : List Happening) (e : End) → P e → P (with_events events e)
 

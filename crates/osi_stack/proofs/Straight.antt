@@ -1,4 +1,4 @@
--- Data that a session shows as it came.
+-- Data that a session indicates from the buffer in which it arrived.
 -- For `hear` of a line.
 use Rattle.std.proofs.Common.{◌≡◌, ℕ, ◌||◌, Bool, true, List, [], ◌∷◌, ◌++◌, Option, Some, None, Result, Ok, Err, OnOk, OnErr, refl, sym, ap, ◌∙◌, if◌then◌else◌}
 use Rattle.osi_carrier.specs.Growth.{grows}
@@ -11,7 +11,7 @@ use Rattle.osi_stack.specs.Telling.{ShowsData}
 use Rattle.osi_stack.proofs.Vocabulary.{Carrying, State as Carrier, Input, Listener, Move, react, limit_for, answers, Shown, line_by, carrier_by, session_needs, Line}
 use Rattle.osi_stack.proofs.Handing.{hands_none}
 
--- the line behind a move
+-- the line after a move
 abbrev moved_line : Line → Input → Move → Line
 moved_line line input move = line_after (record line { selectors = if shows_connect move.shown then selectors_told input else line.selectors }) move
 
@@ -32,7 +32,7 @@ straight_needs r session s input shown c here h =
     ap (λ (o : Option Listener). session_needs r o input c) here
     ∙ ap (λ (m : Move). takes_memory s m || grows c (carrier_by r (Some s) input c)) h.shows
 
--- ---- the answers of a call that shows it
+-- ---- the answers of a call that indicates it
 
 pub heard_line : {A E : Type 0} (result : Result A E) (row new : ℕ × Line) (s : Listener) (input : Input) (shown : Shown) → row.1.session ≡ Some s → ShowsData s input shown →
     OnOk result (new ≡ (row.0, record row.1 { waiting = row.1.waiting ++ shown ∷ [] })) → OnOk result (new ≡ (row.0, line_by row.1 row.1.session input))

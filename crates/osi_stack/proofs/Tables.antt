@@ -18,7 +18,7 @@ pub record Published : Type 0 where
   pub waiting : (s : Listener) (input : Input) → (input ≡ opened → ⊥) → is_wait_transport s.state.phase ≡ true →
       (is_wait_transport (react s input).next.state.phase || is_over (react s input).next.state.phase) ≡ true
 
--- a session that needs no connection yet, or none any more
+-- a session that does not need its connection yet, or not any more
 idle : (p : Phase) → needs_link p ≡ false → (is_wait_transport p || is_over p) ≡ true
 idle p h = implied (λ q. not (needs_link q)) (λ q. is_wait_transport q || is_over q) refl p (ap not h)
 

@@ -1,4 +1,4 @@
--- What each packet keeps, and the end, feeding keeps.
+-- What each packet and the end of the carrier keep, feeding keeps.
 use Rattle.std.proofs.Common.{◌≡◌, ℕ, ◌||◌, Bool, true, List, ◌∷◌, Option, None, is_some, refl, sym, subst, ◌∙◌, inl, inr, ◌⊎◌, if◌then◌else◌, [], arith}
 use Rattle.osi_stack.proofs.Vocabulary.{ArePackets, Fed, EndReason, Broken, NoMemory, breaks, TakesPackets, Goes, Feeds, after_packet, ends, hears_times, with_carrier, with_events, Starves, End, Holding, waits}
 use Rattle.osi_stack.proofs.Rooms.{found_how}

@@ -116,7 +116,7 @@ pub heard_stays : {A E : Type 0} (result : Result A E) (row new : ℕ × Line) (
 heard_stays (Ok a) row new input ok lost h = ap (λ (x : ℕ × Line). line_waits x.1) ok ∙ line_stays row.1 row.1.session input h
 heard_stays (Err e) row new input ok lost h = ap (λ (x : ℕ × Line). line_waits x.1) lost ∙ more_wait row.1.waiting (shown_at_loss row.1.session) h
 
--- if it is not counted anew, it had pending ones and has, or had none and has none
+-- a line that has no pending indication afterwards had none before
 pub still_quiet : (before after : Bool) → (before ≡ true → after ≡ true) → after ≡ false → before ≡ false
 still_quiet true after stays none = let some = stays refl in cc
 still_quiet false after stays none = refl

@@ -1,4 +1,4 @@
--- What sessions are told in memory.
+-- The events that sessions receive, in memory.
 use Rattle.std.specs.Prelude.{◌≡◌, ℕ, List}
 use Rattle.osi_session.specs.Listening.{Input, opened, refused, broken, came, Listener, react}
 use Rattle.osi_session.specs.Points.{only_shows}
@@ -12,7 +12,7 @@ told_input (Refused reason) = refused reason
 told_input (Tsdu octets) = came octets.items
 told_input Lost = broken
 
--- data is shown, and nothing else happens
+-- data is indicated, and nothing else happens
 pub record ShowsData (session : Listener) (input : Input) (shown : Shown) : Type 0 where
   pub octets : List ℕ
   pub is : shown ≡ Data octets

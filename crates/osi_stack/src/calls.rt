@@ -1,4 +1,4 @@
-//! A call of the user: what it sends is handed to the carrier, and then the session does it.
+//! A call of the user: what it sends is handed to the carrier, and then the session changes its state.
 
 ghost use Rattle.std.specs.Prelude.{◌≡◌, true, None, IfErr, OnOk, OnErr};
 ghost use Rattle.osi_carrier.specs.Calls.{send_all_error, open_link};
@@ -14,7 +14,7 @@ use crate::transport::{send_call, send_headed_call, send_owned_call};
 use osi_carrier::Carrier;
 use osi_session::{CallError, PlannedPoint, Request, Session};
 
-/// Sends a point, and then the session goes on after it. Each error changes nothing.
+/// Sends a point, and then the session continues after it. An error changes nothing.
 #[inline(always)]
 fn send_point(
     session: &mut Session,
@@ -40,8 +40,8 @@ fn send_point(
     Ok(())
 }
 
-/// Sends a minor point, which changes the numbers of the session alone. Each error changes nothing. It
-/// stands out of line: data is sent more often.
+/// Sends a minor point, which changes only the numbers of the session. An error changes nothing. The function is kept
+/// out of line, because data is sent more often.
 #[inline(never)]
 fn make_minor_call(
     session: &mut Session,
@@ -79,8 +79,8 @@ fn make_minor_confirm_call(
     send_point(session, carrier, reference, plan)
 }
 
-/// Sends what a call of the user does, and then the session does it. Each error changes nothing. It
-/// stands out of line: else the room for its plan would be made on the way to data, too.
+/// Sends what a call of the user sends, and then the session carries the call out. An error changes nothing. The
+/// function is kept out of line: otherwise stack space for the plan would be reserved on the data path, too.
 #[inline(never)]
 fn make_planned_call(
     session: &mut Session,
@@ -105,8 +105,8 @@ fn make_planned_call(
     Ok(())
 }
 
-/// Sends data that leaves in parts, or says why data is refused. It stands out of line: else the room for the
-/// parts would be made on the way of other data, too.
+/// Sends data in parts, or returns why data is refused. The function is kept out of line: otherwise stack space for
+/// the parts would be reserved on the path of other data, too.
 #[inline(never)]
 fn make_parted_call(
     session: &Session,
@@ -124,8 +124,8 @@ fn make_parted_call(
     send_owned_call(carrier, reference, sent)
 }
 
-/// Sends what a call of the user does, and then the session does it: data leaves it as it is. Each error
-/// changes nothing.
+/// Sends what a call of the user sends, and then the session carries the call out; data leaves its state unchanged. An
+/// error changes nothing.
 pub fn make_call(
     session: &mut Session,
     carrier: &mut Carrier,

@@ -1,4 +1,4 @@
-//! A session hears what happens to it: the carrier gets what it sends, and its user what it shows.
+//! Events reach a session: the carrier gets what the session sends, and its user what it indicates.
 
 ghost use Rattle.std.specs.Prelude.{◌≡◌, [], ◌∷◌, None, Some, true, false, ◌<◌, ◌≤◌, ◌+◌, ◌++◌, map, length, IfOk, IfErr, OnOk, OnErr};
 ghost use Rattle.std.specs.Vec.{vec_len};
@@ -18,7 +18,7 @@ use osi_session::{Expected, Indication, Session, Taken};
 use std::alloc::{AllocError, Global};
 use std::collections::VecDeque;
 
-/// What is done by a session that shows at most one thing, sends nothing and closes nothing.
+/// The effect of an event for which a session has at most one indication, sends nothing and closes nothing.
 fn quiet(alloc: Global, shown: Option<Indication>) -> Taken
     ensures first { result.first ≡ shown }
     ensures more { result.more.items ≡ [] }
@@ -33,8 +33,8 @@ fn quiet(alloc: Global, shown: Option<Indication>) -> Taken
     }
 }
 
-/// What a session does; a TSDU is read by the general reader, and not tried as one that is expected. Want of
-/// memory changes nothing.
+/// The effect of an event on a session. A TSDU goes to the general reader, and is not tried as one that is expected.
+/// An allocation failure changes nothing.
 fn listen(alloc: Global, session: &mut Session, told: &Told) -> Result<Taken, AllocError>
     ensures { Takes result (react session.old (told_input told.now)) session.old session.new }
 {
@@ -49,7 +49,7 @@ fn listen(alloc: Global, session: &mut Session, told: &Told) -> Result<Taken, Al
     }
 }
 
-/// Indications wait, for which there is room, and for one more.
+/// Adds pending indications; there is room for them, and for one more.
 fn show(waiting: &mut VecDeque<Indication>, first: Indication, more: Vec<Indication>)
     requires { deque_len waiting.old + vec_len more + 1 < deque_capacity waiting.old }
     ensures items { map shown_by waiting.new.items ≡ map shown_by waiting.old.items ++ shown_by first ∷ map shown_by more.items }
@@ -62,8 +62,8 @@ fn show(waiting: &mut VecDeque<Indication>, first: Indication, more: Vec<Indicat
     };
 }
 
-/// An indication waits, and there is room for one more behind it. Memory is needed only if there is not room for both; if it
-/// runs out, what waited still waits.
+/// Adds a pending indication, and leaves room for one more after it. Memory is needed only if there is not room for
+/// both; if it runs out, the indications that were pending stay so.
 #[inline(always)]
 pub fn put(waiting: &mut VecDeque<Indication>, shown: Indication) -> Result<(), AllocError>
     ensures items { OnOk result (map shown_by waiting.new.items ≡ map shown_by waiting.old.items ++ shown_by shown ∷ []) }
@@ -78,15 +78,15 @@ pub fn put(waiting: &mut VecDeque<Indication>, shown: Indication) -> Result<(), 
     Ok(())
 }
 
-/// Whether a connection is asked for.
+/// Whether this indicates that a connection is requested.
 fn is_connect(shown: &Indication) -> bool
     ensures { result ≡ is_connect (shown_by shown.now) }
 {
     matches!(shown, Indication::Connect { .. })
 }
 
-/// A session hears anything, but a TSDU as one that is not expected ([`hear`] tried that). It stands out of
-/// line: else the room for all that it may do would be made on the way of data, too.
+/// A session handles any event; a TSDU as one that is not expected, because [`hear`] tried that. The function is kept
+/// out of line: otherwise stack space for everything that it may do would be reserved on the data path, too.
 #[inline(never)]
 fn hear_any(
     alloc: Global,
@@ -125,8 +125,8 @@ fn hear_any(
     Ok(connects)
 }
 
-/// What the user is shown by data that a session expects, in the room of its TSDU: its octets are not copied,
-/// and no memory is taken. All else comes back.
+/// The indication of data that a session expects, in the buffer of its TSDU: its octets are not copied, and nothing is
+/// allocated. Any other event is returned.
 #[inline(always)]
 pub fn data_in(session: &Session, told: Told) -> Result<Indication, Told>
     ensures shows { IfOk result (λ i. ShowsData session.now (told_input told) (shown_by i)) }
@@ -141,10 +141,10 @@ pub fn data_in(session: &Session, told: Told) -> Result<Indication, Told>
     }
 }
 
-/// A session hears what happens to it; says whether its user is shown that a connection is asked for.
-/// There is room for one indication, and behind it for one more. Memory is needed only where something is
-/// shown, sent or joined, or a DR is written; want of it leaves the indications that wait, and the carrier.
-/// A TSDU is tried once as one that it expects, which is shown straight; any other goes to the general reader.
+/// A session handles an event; returns whether it indicates that a connection is requested. There is room for one
+/// pending indication, and afterwards for one more. Memory is needed only if something is indicated, sent or joined,
+/// or a DR is written; an allocation failure leaves the pending indications and the carrier unchanged. A TSDU is tried
+/// once as one that is expected, which is the fast path; any other goes to the general reader.
 pub fn hear(
     alloc: Global,
     session: &mut Session,

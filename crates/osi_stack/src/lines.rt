@@ -1,4 +1,4 @@
-//! The sessions of one end, each with what its user is still to be shown.
+//! The sessions of one end, each with the pending indications of its user.
 
 ghost use Rattle.std.specs.Prelude.{◌≡◌, ◌+◌, ◌*◌, ◌<◌, ◌≤◌, ◌++◌, ◌∷◌, ◌==◌, [], true, false, cond, length, take, position, is_some, map, Some, None, IfOk, IfErr, IfSome, OnOk, OnErr, option_map, if◌then◌else◌};
 ghost use Rattle.std.specs.VecDeque.{deque_len, deque_capacity};
@@ -29,17 +29,17 @@ use std::alloc::{AllocError, Global};
 use std::collections::VecDeque;
 use std::marker::Model;
 
-/// Room for the first indications of a connection: one, and that it is lost.
+/// Room for the first indications of a connection: one, and that of its loss.
 const FIRST_ROOM: usize = 2;
 
-/// A connection: its session, none from the end of the carrier on, and what its user is still to be
-/// shown. While there is a session there is room for one indication more.
+/// A connection: its session, which is gone once the carrier has ended, and the pending indications of its user. While
+/// there is a session, there is room for one more indication.
 #[derive(Drop)]
 pub struct Line {
     reference: u16,
     session: Option<Session>,
     waiting: VecDeque<Indication>,
-    /// Those of its CN, once that was sent here or shown.
+    /// The selectors of its CN, once the CN was sent here or indicated.
     selectors: Option<SessionSelectors>,
 }
 
@@ -66,7 +66,7 @@ pub fn room(alloc: Global) -> Result<VecDeque<Indication>, AllocError>
     Ok(waiting)
 }
 
-/// What the user is shown when the transport connection is lost.
+/// The indication that the transport connection is lost.
 fn lost() -> Indication
     ensures { shown_by result ≡ Lost }
 {
@@ -75,8 +75,8 @@ fn lost() -> Indication
     }
 }
 
-/// The session of a line is gone, and its user is shown that or not. It stands out of line: else the
-/// room for a session would be made on the way of data, too.
+/// The session of a line is gone, and its user is told or not. The function is kept out of line: otherwise stack space
+/// for a session would be reserved on the data path, too.
 #[inline(never)]
 fn forget(session: &mut Option<Session>, waiting: &mut VecDeque<Indication>, is_shown: bool)
     requires { deque_len waiting.old < deque_capacity waiting.old }
@@ -89,8 +89,8 @@ fn forget(session: &mut Option<Session>, waiting: &mut VecDeque<Indication>, is_
     }
 }
 
-/// Keeps the session selectors of a CN. It stands out of line: else the room for them would be made on
-/// the way of data, too.
+/// Keeps the session selectors of a CN. The function is kept out of line: otherwise stack space for them would be
+/// reserved on the data path, too.
 #[inline(never)]
 fn note(selectors: &mut Option<SessionSelectors>, told: &Told)
     ensures { option_map session_selectors selectors.new ≡ selectors_told (told_input told.now) }
@@ -107,7 +107,7 @@ impl Referred for Line {
 }
 
 impl Line {
-    /// A connection with this session, for which nothing waits yet.
+    /// A connection with this session, and no pending indication.
     pub fn new(
         reference: u16,
         session: Session,
@@ -127,14 +127,14 @@ impl Line {
         }
     }
 
-    /// Whether an indication waits.
+    /// Whether an indication is pending.
     fn waits(&self) -> bool
         ensures { result ≡ line_waits self.now.1 }
     {
         !self.waiting.is_empty()
     }
 
-    /// Whether the connection is live, or an indication waits.
+    /// Whether the connection is live, or an indication is pending.
     fn is_used(&self, carrier: &Carrier) -> bool
         ensures { result ≡ is_used carrier.now.state.live self.now }
     {
@@ -155,7 +155,7 @@ impl Line {
         self.selectors
     }
 
-    /// How many octets the session has joined of an unfinished SSDU, where the connection is live.
+    /// How many octets of an unfinished SSDU the session has joined, if the connection is live.
     fn joined(&self, carrier: &Carrier) -> usize
         ensures value { result ≡ joined_live carrier.now.state.live self.now }
         ensures at_most { result ≤ 1048572 * cond (is_some (value_at self.now.0 carrier.now.state.live)) 1 0 }
@@ -166,8 +166,8 @@ impl Line {
         }
     }
 
-    /// The session hears what happens to it: data that it expects is shown as it came. For want of memory
-    /// the session is lost as it was before.
+    /// The session handles an event: data that it expects is indicated from the buffer in which it arrived. If memory
+    /// runs out, the session is lost in its previous state.
     #[inline(always)]
     fn hear(&mut self, alloc: Global, told: Told, carrier: &mut Carrier) -> Result<(), AllocError>
         ensures reference { self.new.0 ≡ self.old.0 }
@@ -186,8 +186,7 @@ impl Line {
         }
     }
 
-    /// The user is to be shown this, and there is room for one indication more. For want of memory the session is
-    /// lost.
+    /// Adds a pending indication, and leaves room for one more. If memory runs out, the session is lost.
     #[inline(always)]
     fn show(&mut self, shown: Indication) -> Result<(), AllocError>
         requires { is_some self.old.1.session ≡ true }
@@ -202,7 +201,8 @@ impl Line {
         Ok(())
     }
 
-    /// The session hears what is no data that it expects. For want of memory it is lost as it was before.
+    /// The session handles an event other than data that it expects. If memory runs out, the session is lost in its
+    /// previous state.
     fn hear_any(
         &mut self,
         alloc: Global,
@@ -248,7 +248,7 @@ impl Line {
         forget(&mut self.session, &mut self.waiting, is_shown);
     }
 
-    /// The connection is given up: its session is lost, and its user is shown nothing more.
+    /// The connection is given up: its session is lost, and its user receives no more indications.
     fn give_up(&mut self)
         ensures { self.new ≡ (self.old.0, given_up self.old.1) }
     {
@@ -259,7 +259,7 @@ impl Line {
         let _unseen = session.broken();
     }
 
-    /// A call of the user, who is shown nothing by it. Each error changes nothing.
+    /// A call of the user, which causes no indication. An error changes nothing.
     fn call(&mut self, request: Request, carrier: &mut Carrier) -> Result<(), CallError>
         ensures reference { self.new.0 ≡ self.old.0 }
         ensures waits { line_waits self.new.1 ≡ line_waits self.old.1 }
@@ -276,16 +276,17 @@ impl Line {
     }
 }
 
-/// The connections of one end, in the order in which their references were given, and for how many of
-/// them an indication waits: so a packet costs the same with few connections and with many.
+/// The connections of one end, in the order in which their references were given, and the number of those for which an
+/// indication is pending: so a packet costs the same with few connections and with many.
 #[derive(Drop)]
 pub struct Lines {
     rows: Vec<Line>,
-    /// Each reference is above those before it. They are looked up where they must be as long as that
-    /// is so.
+    /// Whether each reference is above those before it. If so, a reference is looked up first at the place that its
+    /// number suggests.
     rises: bool,
     waiting: usize,
-    /// The place of that which heard last: where an indication waits for one alone, it is mostly this.
+    /// The place of the connection that handled an event last. If an indication is pending for only one connection, it
+    /// is usually this one.
     heard: usize,
 }
 
@@ -302,8 +303,8 @@ impl Model for Lines {
     ghost invariant = { λ l. (l.waiting ≡ how_many_wait l.rows.items) × (l.rises ≡ true → RiseFrom 0 l.rows.items) };
 }
 
-/// The place of the first connection for which an indication waits, where one waits for so many, and
-/// this one heard last: where it is the only one, that is mostly it.
+/// The place of the first connection for which an indication is pending. `waiting` is the number of such connections,
+/// and `heard` the place of the one that handled an event last: if there is only one, it is usually that.
 fn first_place(rows: &[Line], waiting: usize, heard: usize) -> Option<usize>
     requires { waiting ≡ how_many_wait rows.now }
     ensures { result ≡ position (λ row. line_waits row.1) rows.now }
@@ -314,7 +315,7 @@ fn first_place(rows: &[Line], waiting: usize, heard: usize) -> Option<usize>
     rows.iter().position(|line| line.waits())
 }
 
-/// For how many connections an indication waits.
+/// For how many connections an indication is pending.
 fn count_waiting(rows: &[Line]) -> usize
     ensures { result ≡ how_many_wait rows.now }
 {
@@ -341,7 +342,7 @@ fn count_joined(rows: &[Line], carrier: &Carrier) -> usize
     octets
 }
 
-/// Drops those that are gone and for which nothing waits.
+/// Drops the connections that are gone and have no pending indication.
 fn drop_unused(rows: &mut Vec<Line>, carrier: &Carrier)
     ensures { rows.new.items ≡ used_lines carrier.now.state.live rows.old.items }
 {
@@ -370,7 +371,7 @@ impl Lines {
         }
     }
 
-    /// Whether an indication waits.
+    /// Whether an indication is pending.
     pub fn wait(&self) -> bool
         ensures { result ≡ waits self.now }
     {
@@ -446,8 +447,7 @@ impl Lines {
         Some((Ref(reference), indication))
     }
 
-    /// The session of a reference hears what happens to it. For want of memory it is lost as it was
-    /// before.
+    /// The session of a reference handles an event. If memory runs out, the session is lost in its previous state.
     #[inline(always)]
     pub fn hear(
         &mut self,
@@ -504,7 +504,7 @@ impl Lines {
         self.waiting = count_waiting(self.rows.as_slice());
     }
 
-    /// The connection of a reference is given up: its session is lost, and its user is shown nothing more.
+    /// The connection of a reference is given up: its session is lost, and its user receives no more indications.
     pub fn give_up(&mut self, reference: u16)
         ensures { self.new ≡ gives_up reference self.old }
     {
@@ -522,7 +522,7 @@ impl Lines {
         self.rows.len()
     }
 
-    /// A new connection. Want of memory changes nothing.
+    /// Adds a new connection. An allocation failure changes nothing.
     pub fn push(&mut self, line: Line) -> Result<(), AllocError>
         ensures ok { OnOk result (self.new ≡ self.old ++ line ∷ []) }
         ensures err { OnErr result (self.new ≡ self.old) }
@@ -536,7 +536,7 @@ impl Lines {
         Ok(())
     }
 
-    /// The first connections, so many.
+    /// Keeps only the first `len` connections.
     pub fn truncate(&mut self, len: usize)
         ensures { self.new ≡ take len self.old }
     {
@@ -544,7 +544,7 @@ impl Lines {
         self.waiting = count_waiting(self.rows.as_slice());
     }
 
-    /// Drops those that are gone and for which nothing waits.
+    /// Drops the connections that are gone and have no pending indication.
     pub fn sweep(&mut self, carrier: &Carrier)
         ensures { self.new ≡ used_lines carrier.now.state.live self.old }
     {

@@ -11,7 +11,7 @@ use crate::told::Told;
 use osi_message::Message;
 use osi_spdu::{Selector, read_tsdu};
 
-/// A selector that is held in place.
+/// A selector held inline.
 fn held(selector: Option<Selector<'_>>) -> Option<SessionSelector>
     ensures { option_map session_selector result ≡ selector_octets selector.entry }
 {
@@ -24,14 +24,14 @@ fn held(selector: Option<Selector<'_>>) -> Option<SessionSelector>
 /// The session selectors that a CN names.
 #[derive(Clone, Copy)]
 pub struct SessionSelectors {
-    /// The address of the user that asks.
+    /// The address of the requesting user.
     pub calling: Option<SessionSelector>,
-    /// The address of the user that is asked.
+    /// The address of the requested user.
     pub called: Option<SessionSelector>,
 }
 
 impl SessionSelectors {
-    /// These two.
+    /// The two selectors.
     pub fn of(calling: Option<Selector<'_>>, called: Option<Selector<'_>>) -> Self
         ensures calling { (session_selectors result).calling ≡ selector_octets calling.entry }
         ensures called { (session_selectors result).called ≡ selector_octets called.entry }
@@ -56,7 +56,7 @@ impl SessionSelectors {
         }
     }
 
-    /// Those of the CN that comes as a TSDU.
+    /// Those of a CN that was received as a TSDU.
     fn read(tsdu: &[u8]) -> Option<Self>
         ensures { option_map session_selectors result ≡ selectors_told (came tsdu.now) }
     {
@@ -66,7 +66,7 @@ impl SessionSelectors {
         }
     }
 
-    /// Those of what happens to a session.
+    /// Those of an event of a session.
     pub fn told(told: &Told) -> Option<Self>
         ensures { option_map session_selectors result ≡ selectors_told (told_input told.now) }
     {

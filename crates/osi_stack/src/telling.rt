@@ -1,4 +1,4 @@
-//! What the carrier tells, and what becomes of its sessions where there is no memory for that.
+//! The events that the carrier reports, and what happens to the sessions if memory runs out for an event.
 
 ghost use Rattle.std.specs.Prelude.{◌≡◌, OnOk, OnErr, true};
 ghost use Rattle.osi_carrier.specs.Happenings.{happening};
@@ -17,7 +17,7 @@ use osi_carrier::{Carrier, Event, Ref};
 use osi_session::Session;
 use std::alloc::{AllocError, Global};
 
-/// A connection that was opened and not asked for has a new session.
+/// A connection that was opened and not requested here gets a new session.
 fn join(
     alloc: Global,
     carrier: &Carrier,
@@ -34,7 +34,7 @@ fn join(
     Ok(())
 }
 
-/// The session of a reference hears what happens to it. For a TSDU [`hear`] does without this.
+/// The session of a reference handles an event. A TSDU goes straight to [`hear`] and not through this.
 fn tell(
     alloc: Global,
     carrier: &mut Carrier,
@@ -68,7 +68,7 @@ fn open(
     join(alloc, carrier, lines, reference.0)
 }
 
-/// What an event does. A TSDU goes straight to its session.
+/// The effect of an event. A TSDU goes straight to its session.
 #[inline(always)]
 pub fn hear(
     alloc: Global,
@@ -92,7 +92,7 @@ pub fn hear(
     }
 }
 
-/// The same of any event. It stands out of line: a TSDU comes more often.
+/// The same for any event. The function is kept out of line, because TSDUs are more frequent.
 #[inline(never)]
 fn hear_any(
     alloc: Global,
@@ -117,7 +117,7 @@ fn hear_any(
     }
 }
 
-/// There was no memory for what the carrier told: it ends, and all sessions are lost.
+/// Memory ran out for something that the carrier reported: the carrier ends, and all sessions are lost.
 pub fn starve(carrier: &mut Carrier, lines: &mut Lines)
     ensures { holding carrier.new lines.new ≡ record (holding carrier.old lines.old) { end = starves (holding carrier.old lines.old).end } }
 {

@@ -16,7 +16,7 @@ use std::alloc::AllocError;
 /// (X.224 section 13.5.3).
 const NORMAL: u8 = 128;
 
-/// Sends TSDUs together. Each error changes nothing.
+/// Sends TSDUs together. An error changes nothing.
 #[tactic(auto, using(crate::proofs::Handing::one_error))]
 fn send(carrier: &mut Carrier, reference: u16, tsdus: LentTsdus<'_>) -> Result<(), SendError>
     ensures ok { OnOk result (carrier.new ≡ record carrier.old { state = sent_all reference (octets_lent tsdus.entry) carrier.old.state }) }
@@ -30,7 +30,7 @@ fn send(carrier: &mut Carrier, reference: u16, tsdus: LentTsdus<'_>) -> Result<(
     }
 }
 
-/// Sends what a session sends, where the carrier takes it: on an open connection. Want of memory changes
+/// Sends what a session sends, if the carrier takes it, that is on an open connection. An allocation failure changes
 /// nothing.
 fn hand(carrier: &mut Carrier, reference: u16, sent: &Sent) -> Result<(), AllocError>
     ensures ok { OnOk result (carrier.new ≡ record carrier.old { state = hands reference sent.now carrier.old.state }) }
@@ -44,7 +44,7 @@ fn hand(carrier: &mut Carrier, reference: u16, sent: &Sent) -> Result<(), AllocE
     }
 }
 
-/// Sends what a session sends, if it does.
+/// Sends what a session sends, if it sends anything.
 #[tactic(auto, using(crate::proofs::Handing::hands_none))]
 fn hand_some(carrier: &mut Carrier, reference: u16, sent: Option<Sent>) -> Result<(), AllocError>
     ensures ok { OnOk result (carrier.new ≡ record carrier.old { state = hands reference (unwrap_or sent []) carrier.old.state }) }
@@ -57,7 +57,7 @@ fn hand_some(carrier: &mut Carrier, reference: u16, sent: Option<Sent>) -> Resul
     }
 }
 
-/// Closes an open connection. Memory is needed for a DR, and want of it changes nothing.
+/// Closes an open connection. Memory is needed for a DR; an allocation failure changes nothing.
 #[tactic(auto, using(crate::proofs::Needing::closing_needs))]
 pub fn close(carrier: &mut Carrier, reference: u16) -> Result<(), AllocError>
     ensures ok { OnOk result (carrier.new ≡ record carrier.old { state = closed_with reference 128 carrier.old.state }) }
@@ -72,8 +72,8 @@ pub fn close(carrier: &mut Carrier, reference: u16) -> Result<(), AllocError>
     }
 }
 
-/// Closes the connection of a session if it does, or sends what it sends. Memory is needed for what is
-/// sent and for a DR, and want of it changes nothing.
+/// Closes the connection of a session if the session says so, or sends what it sends. Memory is needed for what is
+/// sent and for a DR; an allocation failure changes nothing.
 pub fn answer(
     carrier: &mut Carrier,
     reference: u16,
@@ -90,7 +90,7 @@ pub fn answer(
     hand_some(carrier, reference, sent)
 }
 
-/// What a call of the user is answered where the carrier does not take what it sends.
+/// The error of a call of the user if the carrier does not take what it sends.
 fn call_error(error: SendError) -> CallError
     ensures { Refuses result None (send_refusal (sending_error error)) }
 {
@@ -101,7 +101,7 @@ fn call_error(error: SendError) -> CallError
     }
 }
 
-/// Sends what a call of the user sends. Each error changes nothing.
+/// Sends what a call of the user sends. An error changes nothing.
 pub fn send_call(carrier: &mut Carrier, reference: u16, sent: &Sent) -> Result<(), CallError>
     ensures ok { OnOk result (carrier.new ≡ record carrier.old { state = hands reference sent.now carrier.old.state }) }
     ensures allowed { OnOk result (send_refusal (send_all_error sent.now (open_link reference carrier.old.state)) ≡ None) }
@@ -114,8 +114,8 @@ pub fn send_call(carrier: &mut Carrier, reference: u16, sent: &Sent) -> Result<(
     }
 }
 
-/// The same of one TSDU, which is given as its first octets and the others: what of it may go now is written
-/// straight from these.
+/// The same for one TSDU, given as its first octets and the others: what may be sent now is written straight from
+/// these.
 #[inline(always)]
 #[tactic(auto, using(crate::proofs::Handing::one_error))]
 pub fn send_headed_call(
@@ -135,8 +135,8 @@ pub fn send_headed_call(
     }
 }
 
-/// Sends the parts of one Data, all of them or none. It stands out of line: else they would be dropped on
-/// the way of data that is whole, too.
+/// Sends the parts of one Data, all of them or none. The function is kept out of line: otherwise code that drops parts
+/// would be on the path of whole data, too.
 #[inline(never)]
 fn send_parts(carrier: &mut Carrier, reference: u16, tsdus: Vec<Vec<u8>>) -> Result<(), CallError>
     ensures ok { OnOk result (carrier.new ≡ record carrier.old { state = hands reference (map (λ v. v.items) tsdus.items) carrier.old.state }) }
@@ -150,7 +150,7 @@ fn send_parts(carrier: &mut Carrier, reference: u16, tsdus: Vec<Vec<u8>>) -> Res
     }
 }
 
-/// The same as [`send_call`] of what is given away: what of a TSDU may not go yet is not copied.
+/// The same as [`send_call`], and takes over the buffers: what may not be sent yet is not copied.
 #[tactic(auto, using(crate::proofs::Handing::one_error))]
 pub fn send_owned_call(carrier: &mut Carrier, reference: u16, sent: Sent) -> Result<(), CallError>
     ensures ok { OnOk result (carrier.new ≡ record carrier.old { state = hands reference sent carrier.old.state }) }

@@ -1,5 +1,5 @@
-//! Captures of one connection of class 0, whose outcome was worked out by hand. Each is fed in the pieces
-//! that stand here, and octet by octet.
+//! Captures of one connection of class 0, whose outcome was worked out by hand. Each is fed in the pieces given here,
+//! and octet by octet.
 
 use osi_judge::{Direction, Finding, Judge, Stop};
 use std::test::Fail;
@@ -17,7 +17,7 @@ const CN: &[u8] = &[
     0x03, 0x00, 0x00, 0x1B, 0x02, 0xF0, 0x80, 0x0D, 0x12, 0x05, 0x0C, 0x13, 0x01, 0x01, 0x16, 0x01,
     0x02, 0x17, 0x01, 0x31, 0x1A, 0x01, 0x00, 0x14, 0x02, 0x00, 0xB9,
 ];
-/// The AC that accepts it whole.
+/// The AC that accepts all of it.
 const AC: &[u8] = &[
     0x03, 0x00, 0x00, 0x1B, 0x02, 0xF0, 0x80, 0x0E, 0x12, 0x05, 0x0C, 0x13, 0x01, 0x01, 0x16, 0x01,
     0x02, 0x17, 0x01, 0x31, 0x1A, 0x01, 0x00, 0x14, 0x02, 0x00, 0xB9,
@@ -36,7 +36,7 @@ const DT_BEHIND: &[u8] = &[
 const GT: &[u8] = &[
     0x03, 0x00, 0x00, 0x0C, 0x02, 0xF0, 0x80, 0x01, 0x03, 0x10, 0x01, 0x01,
 ];
-/// GT but for its last octet.
+/// GT without its last octet.
 const GT_FRONT: &[u8] = &[
     0x03, 0x00, 0x00, 0x0C, 0x02, 0xF0, 0x80, 0x01, 0x03, 0x10, 0x01,
 ];
@@ -73,7 +73,7 @@ const CC_AND_AC: &[u8] = &[
 
 use Direction::{Left, Right};
 
-/// What passes, what is found of both sides, whose break passed first, and why left's transport is read no
+/// What passes, what is found of both sides, whose break passed first, and why the transport of left is not read any
 /// further.
 struct Capture {
     pieces: &'static [(Direction, &'static [u8])],
@@ -101,7 +101,7 @@ const CAPTURES: &[Capture] = &[
         first: None,
         stopped: None,
     },
-    // and that was still under way as the data began
+    // and that was still in flight when the data began
     Capture {
         pieces: &[
             (Left, CR_AND_CN),

@@ -1,4 +1,4 @@
-//! Listings of TSDUs that are too long for a capture of `osi_runs`, and of octets that come one by one.
+//! Listings of TSDUs that are too long for a capture of `osi_runs`, and of octets that arrive one by one.
 
 use osi_listing::{Counts, Lister, list};
 use std::alloc::{AllocError, Global};
@@ -138,7 +138,7 @@ fn is_counted(lister: &Lister) -> Result<(), Fail> {
     Ok(())
 }
 
-/// The listing of octets that come one by one, and its status.
+/// The listing of octets that arrive one by one, and its status.
 fn listed_singly(alloc: Global, text: &mut Vec<u8>, octets: &[u8]) -> Result<u8, Fail> {
     let mut lister = Lister::new(alloc);
     feed_singly(alloc, &mut lister, text, octets)?;

@@ -1,4 +1,4 @@
--- Reads one after the other, and what is known of a text that was read whole.
+-- Reads one after the other, and what is known of a text that was read as a whole.
 use Rattle.std.proofs.Common.{ℕ, ◌≡◌, ◌≤◌, Option, Some, None, List, ◌++◌, length, sym, ◌∙◌, ap, subst, inl, inr, arith}
 use Rattle.std.proofs.lemmas.List.{append_assoc, append-nil}
 use Rattle.std.specs.Option.{IfSome}
@@ -12,7 +12,7 @@ consumes-append (Some x) None c xs ys h k = absurd h
 consumes-append (Some x) (Some y) None xs ys h k = absurd k
 consumes-append (Some x) (Some y) (Some z) xs ys h k = h ∙ ap (λ t. xs ++ t) k ∙ sym (append_assoc xs ys z)
 
--- An input that is no longer than the longest is all that there was to read.
+-- An input that is no longer than the longest allowed is all that there was to read.
 all_read : (old new : Option (List ℕ)) (input : List ℕ) → Consumes old new input → IsRead new input → length input ≤ 16777216
     → IfSome old (λ text. input ≡ text)
 all_read None new input h k l = tt

@@ -19,7 +19,7 @@ BeginsToDo Show text old new = ShowsPart text old new
 BeginsToDo Pair text old new = PairsPart text old new
 BeginsToDo Judge text old new = FindsPart text old new
 
--- the job wants a capture, and the text is none; any text is a script
+-- the job needs a capture, and the text is none; any text is a script
 abbrev pub IsUnreadable : Job → (text : List ℕ) → Type 0
 IsUnreadable Show text = IsNoCapture text
 IsUnreadable Pair text = ⊥

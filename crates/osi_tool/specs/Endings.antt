@@ -25,7 +25,7 @@ abbrev pub line_of : Result ℕ ProgramFault → Option (List ℕ)
 line_of (Ok status) = None
 line_of (Err fault) = Some (fault_line fault)
 
--- the fault of words by which clap gives no job; help and the version are none
+-- the fault of arguments in which clap finds no job; a request for help or the version is no fault
 abbrev pub words_fault : ErrorKind → Option ProgramFault
 words_fault DisplayHelp = None
 words_fault DisplayVersion = None

@@ -1,4 +1,4 @@
--- What `show` does, where the reader and the writer tell their octets.
+-- The effect of `show`, for a reader and a writer that give access to their octets.
 use Rattle.std.specs.Prelude.{◌≡◌, ℕ, ◌<◌, ◌≤◌, ◌⊎◌, Bool, true, List, length, take, Option, IfSome}
 use Rattle.std.specs.Io.KnownBytes.{Appends, Consumes, IsAtEnd}
 use Rattle.osi_listing.specs.Capture.{Captures}
@@ -32,10 +32,10 @@ pub record ShowsPart (text : List ℕ) (old new : Option (List ℕ)) : Type 0 wh
 abbrev pub IsRead : Option (List ℕ) → List ℕ → Type 0
 IsRead left input = IsAtEnd left ⊎ (16777216 < length input)
 
--- a read failed, or what there was to read has more than 16,777,216 octets
+-- a read failed, or there were more than 16,777,216 octets to read
 abbrev pub FailsToRead : Bool → Option (List ℕ) → Type 0
 FailsToRead has_failed known = (has_failed ≡ true) ⊎ IfSome known (λ text. 16777216 < length text)
 
--- at most so many octets are taken from the reader
+-- at most this many octets are taken from the reader
 abbrev pub TakesAtMost : ℕ → Option (List ℕ) → Option (List ℕ) → Type 0
 TakesAtMost most old new = (taken : List ℕ) × Consumes old new taken × (length taken ≤ most)

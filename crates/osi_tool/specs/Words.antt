@@ -4,7 +4,7 @@ use Rattle.clap.specs.Words.{App, Text, new_app, subcommand_of, with_subcommand}
 use Rattle.osi_tool.specs.declared.jobs.Job.{Job}
 use Rattle.osi_tool.specs.declared.jobs.Job.TheVariants.{Show, Pair, Judge}
 
--- the command `osi`, which wants a subcommand and tells its version
+-- the command `osi`, which needs a subcommand and has a version
 abbrev pub top : App
 top = record {
   top = record (new_app (codes "osi")).top { has_version = true; subcommand_required = true };

@@ -15,8 +15,8 @@ use std::io::{Read, Write};
 
 /// Does a job with the text that a reader gives, and returns the status: 0 or 1.
 ///
-/// [`ToolFault::Input`] means that a read failed or the input is too long, [`ToolFault::BadHex`] that the text of a
-/// capture is none, and [`ToolFault::Write`] that a write failed: what was written then is a prefix of the text. After
+/// [`ToolFault::Input`] means that a read failed or the input is too long, [`ToolFault::BadHex`] that the text is not
+/// a capture, and [`ToolFault::Write`] that a write failed: what was written then is a prefix of the text. After
 /// another fault nothing was written.
 pub fn do_job<R: Read, W: Write>(
     alloc: Global,

@@ -16,8 +16,8 @@ use std::io::{Read, Write};
 
 /// The judgement of a text. Nothing is read or written.
 ///
-/// [`ToolFault::Input`] is answered exactly for a text of more than 16,777,216 octets, and
-/// [`ToolFault::BadHex`] for a shorter one that is no capture, unless memory runs out first.
+/// Returns [`ToolFault::Input`] exactly for a text of more than 16,777,216 octets, and [`ToolFault::BadHex`] for a
+/// shorter one that is not a capture, unless memory runs out first.
 fn judgement_of(alloc: Global, text: &[u8]) -> Result<Judgement, ToolFault>
     ensures judged { IfOk result (λ j. Judges text.now j.lines.items j.status) }
     ensures status { IfOk result (λ j. j.status < 2) }
@@ -38,11 +38,11 @@ fn judgement_of(alloc: Global, text: &[u8]) -> Result<Judgement, ToolFault>
     }
 }
 
-/// Judges the capture of both sides that a reader gives, and writes what it found. The whole text is made
-/// before the first write.
+/// Judges the capture of both sides that a reader gives, and writes what was found. The whole text is made before the
+/// first write.
 ///
-/// [`ToolFault::Input`] means that a read failed or the input is too long, and [`ToolFault::Write`] that
-/// a write failed: what was written then is a prefix of the text.
+/// [`ToolFault::Input`] means that a read failed or the input is too long, and [`ToolFault::Write`] that a write
+/// failed: what was written then is a prefix of the text.
 pub fn judge<R: Read, W: Write>(
     alloc: Global,
     reader: &mut WatchedReader<R>,

@@ -1,11 +1,30 @@
-//! The program `osi`, which reads captures of the OSI session protocol over TPKT, runs scripts on two
-//! ends, and says which side of a capture first broke the protocol.
+//! The program `osi`, which reads captures of the OSI session protocol over TPKT, runs scripts on two ends, and says
+//! which side of a capture first broke the protocol.
 //!
-//! `osi show` lists the capture on standard input, `osi pair` runs the script there and prints its
-//! transcript, and `osi judge` judges the capture of both sides there. The status is 0 if all of it was
-//! read, or both sides kept the protocol. It is 1 if something was refused, a side broke the protocol, or
-//! the capture was not judged, which the text shows. It is 2 if the words, the input or its digits can't
-//! be read, a write failed, or memory ran out; one line on standard error then names it.
+//! ```text
+//! osi show  < one_side.hex          a line for each packet, transport unit, TSDU and session unit
+//! osi judge < both_sides.hex        what was found of each side, and who broke the protocol first
+//! osi pair  < script                the transcript of two ends that do what the script says
+//! ```
+//!
+//! All three read standard input and write standard output. The status is 0 if everything was read, or both sides kept
+//! the protocol. It is 1 if something was refused, a side broke the protocol or left the profile, or the capture was
+//! not judged; the text says which. It is 2 if the arguments, the input or its digits can't be read, a write failed,
+//! or memory ran out; then one line on standard error names the reason.
+//!
+//! The program only joins other crates to a reader and a writer: `osi_listing` makes a listing, `osi_dispute` a
+//! judgement and `osi_transcript` a transcript, and `clap` reads the arguments. Its own part is small:
+//!
+//! - `do_job` (`doing.rt`) does one `Job`: it reads all of the input, at most 16,777,216 octets, makes the whole text,
+//!   and then writes it. So nothing is written for an input that can't be read, and a write that fails leaves a prefix
+//!   of the text.
+//! - `WatchedReader` and `WatchedWriter` (`watched.rt`) remember whether a call failed, so that the contracts can say
+//!   when a fault is reported. An interrupted call is repeated.
+//! - `Ending` (`endings.rt`) is the status and the line on standard error.
+//!
+//! The contract of `do_job` says that exactly the text of its job is written, and for each fault when it comes and
+//! what was written by then. docs/TOOL.md describes the texts, and `osi-capture`, which makes captures of pcap files,
+//! is no part of this program.
 #![tactic(auto)]
 
 mod doing;

@@ -40,7 +40,7 @@ pub(crate) fn read_input<R: Read>(
     Ok(input)
 }
 
-/// Adds a piece to the input.
+/// Adds a piece to the input that was read.
 fn keep(input: &mut Vec<u8>, piece: &[u8]) -> Result<(), ToolFault>
     ensures ok { OnOk result (input.new.items ≡ input.old.items ++ piece.now) }
     ensures memory { IfErr result (λ fault. fault ≡ ToolFault.OutOfMemory) }

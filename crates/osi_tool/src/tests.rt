@@ -215,7 +215,7 @@ fn a_write_or_a_flush_fails(rt: HostRuntime) -> Result<(), Fail> {
     Ok(())
 }
 
-/// What `judge` answers.
+/// The result of `judge`.
 fn judged(alloc: Global, source: &mut Source<'_>, out: &mut Vec<u8>) -> Result<u8, ToolFault> {
     judge(
         alloc,

@@ -8,7 +8,7 @@ use crate::faults::ToolFault;
 use osi_listing::{CaptureFault, list, octets_of};
 use std::alloc::Global;
 
-/// The greatest number of octets of a text that is listed.
+/// The most octets of a text that is listed.
 pub const LONGEST_INPUT: usize = 16_777_216;
 
 /// The listing of a text.
@@ -16,7 +16,7 @@ pub const LONGEST_INPUT: usize = 16_777_216;
 pub struct Listed {
     /// Its lines.
     pub lines: Vec<u8>,
-    /// 0 where all was read, 1 where something was refused.
+    /// 0 if everything was read, 1 if something was refused.
     pub status: u8,
 }
 
@@ -34,10 +34,10 @@ fn captured(alloc: Global, text: &[u8]) -> Result<Vec<u8>, ToolFault>
     }
 }
 
-/// Lists the capture that a text is. Nothing is read or written.
+/// Lists the capture in a text. Nothing is read or written.
 ///
-/// [`ToolFault::Input`] is answered exactly for a text of more than 16,777,216 octets, and
-/// [`ToolFault::BadHex`] for a shorter one that is no capture, unless memory runs out first.
+/// Returns [`ToolFault::Input`] exactly for a text of more than 16,777,216 octets, and [`ToolFault::BadHex`] for a
+/// shorter one that is not a capture, unless memory runs out first.
 pub fn list_text(alloc: Global, text: &[u8]) -> Result<Listed, ToolFault>
     ensures listed { IfOk result (λ listed. Lists text.now listed.lines.items listed.status) }
     ensures status { IfOk result (λ listed. listed.status < 2) }

@@ -58,11 +58,11 @@ The pieces stand in the order in which they passed, all octets of both direction
 The status is 0 if both sides kept the protocol, and 1 if one broke it or left the profile, or if the
 capture was not judged.";
 
-/// The job that the program's words ask for, of which the first is the program's name. A request for
-/// help or for the version, and words that name no job, are an error of `clap`.
+/// The job that the program's arguments name; the first of them is the program's name. A request for help or for the
+/// version, and arguments that name no job, are an error of `clap`.
 pub fn job<'a, S: AsStr>(alloc: Global, words: &'a [S]) -> Result<Job, Error>
     ensures named { IfOk result (λ job. named_by (map S.text words.entry.now) ≡ Some (name_of job)) }
-    // Where clap takes the words and names a job's subcommand, the only error is want of memory.
+    // If clap takes the arguments and they name a job's subcommand, the only possible error is out of memory.
     ensures taken { IfErr result (λ e. takes osi (map S.text words.entry.now) ≡ true →
         IsJob (named_by (map S.text words.entry.now)) →
         kind_of e ≡ ErrorKind.OutOfMemory) }

@@ -65,8 +65,8 @@ impl<'a> DataClass0<'a> {
         Ok(())
     }
 
-    /// Appends a unit as [`DataClass0::write_packet`] does, with these octets in front of its user data: of
-    /// both at most 65,528.
+    /// Appends a unit as [`DataClass0::write_packet`] does, with these octets before its user data: together at most
+    /// 65,528 octets.
     #[inline(always)]
     pub fn write_packet_behind(&self, head: &[u8], out: &mut BytesMut) -> Result<(), AllocError>
         requires { length head.now + length self.now.user.now ≤ 65528 }
@@ -134,8 +134,8 @@ impl<'a> DataClass2<'a> {
         Ok(())
     }
 
-    /// Appends a unit as [`DataClass2::write_packet`] does, with these octets in front of its user data: of
-    /// both at most 65,526.
+    /// Appends a unit as [`DataClass2::write_packet`] does, with these octets before its user data: together at most
+    /// 65,526 octets.
     #[inline(always)]
     pub fn write_packet_behind(&self, head: &[u8], out: &mut BytesMut) -> Result<(), AllocError>
         requires { length head.now + length self.now.user.now ≤ 65526 }

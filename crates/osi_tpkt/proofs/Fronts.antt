@@ -4,7 +4,7 @@ use Rattle.osi_tpkt.proofs.Vocabulary.{cases_lt, append_assoc, get_or_append_lef
 use Rattle.osi_tpkt.proofs.PacketLaws.{stated_length-append, packet_front, written_packet}
 use Rattle.osi_tpkt.proofs.OctetLaws.{octets_nil, octets_cons, octets_append, octets_left, octets_right, octets_zeros}
 
--- the front part of octets with a good header, up to the length that it states
+-- the first octets of a piece with a good header, up to the length that it states
 pub front_part : (r more : List ℕ) → IsOctets (r ++ more) → get_or (r ++ more) 0 0 ≡ 3 → 7 ≤ stated_length (r ++ more) →
     length r ≤ stated_length (r ++ more) → IsFront r
 front_part r more octets version least within =
@@ -15,7 +15,7 @@ front_part r more octets version least within =
       within = λ h. let e = stated_length-append r more h in omega arith;
     }
 
--- no more octets are held than the header states, whether it came whole or in pieces
+-- no more octets are held than the header states, whether it arrived as a whole or in pieces
 pub front_within : (held piece : List ℕ) → IsFront held → 7 ≤ stated_length (held ++ piece) → length held ≤ stated_length (held ++ piece)
 front_within held piece front least = elim (cases_lt (length held) 4) [
   | inl less ↦ omega arith
@@ -97,7 +97,7 @@ long_partial r f g h =
 pub completed_partial : (r header : List ℕ) → IsPartial (r ++ header) → IsPartial r
 completed_partial r header p = grind (arith, length-append, append_assoc)
 
--- the four octets of a header of at least 7
+-- the four octets of a header that states at least 7
 header_partial : (b c d : ℕ) → b < 256 → c < 256 → d < 256 → 7 ≤ 256 * c + d → IsPartial (3 ∷ b ∷ c ∷ d ∷ [])
 header_partial b c d hb hc hd h =
     long_partial (3 ∷ b ∷ c ∷ d ∷ [])
@@ -169,12 +169,12 @@ one_fault at s (BadLength a) (BadLength b) h k = ap BadLength (h.1 ∙ sym k.1)
 one_fault at s OutOfMemory g h k = absurd h
 one_fault at s _ OutOfMemory h k = absurd k
 
--- a statement about a prefix and its header, restated about packets
+-- a statement about a prefix and its header, as one about packets
 pub stood : (whole : Bool) (x : List ℕ) (P : Type 0) → IsFront x → MatchBool whole (IsFull x) (IsUnfinished x × P) → MatchBool whole (IsOnePacket x) (IsPartial x × P)
 stood true x P f g = (drop 4 x, full_packet x f g)
 stood false x P f g = (short_partial x f g.0, g.1)
 
--- the same if no whole packet was found
+-- the same if no complete packet was found
 pub none_partial : {A : Type 0} (o : Option A) (s : List ℕ) → IsFront s → IfNone o (IsUnfinished s) → IfNone o (IsPartial s)
 none_partial None s f h = short_partial s f h
 none_partial (Some x) s f h = h
@@ -193,7 +193,7 @@ pub where_short : (P Q : Type 0) (whole : Bool) → not whole ≡ true → Match
 where_short P Q true e h = absurd (cc)
 where_short P Q false e h = h
 
--- a piece that was used whole
+-- a piece all of which was used
 pub short_whole_piece : (octets : List ℕ) (used : ℕ) → IsFront (take used octets) → IsUnfinished (take used octets) × (used ≡ length octets) → IsPartial octets
 short_whole_piece octets used front short =
     let all : take used octets ≡ octets = ap (λ k. take k octets) short.1 ∙ take_all (length octets) octets (omega arith) in
@@ -223,7 +223,7 @@ belonging_no_fault octets piece fed at f h fault =
 abbrev pub holding : ℕ → Option TpktFault → List ℕ → ℕ → Held
 holding offset fault octets room = record { offset = offset; octets = octets; fault = fault; room = room }
 
--- what is held, by its parts
+-- what is held, in its parts
 pub same_held : (offset : ℕ) (fault : Option TpktFault) (xs ys : List ℕ) (m n : ℕ) → xs ≡ ys → m ≡ n →
     holding offset fault xs m ≡ holding offset fault ys n
 same_held offset fault xs ys m n e f = ap (λ x. holding offset fault x m) e ∙ ap (λ k. holding offset fault ys k) f
@@ -239,7 +239,7 @@ whole_part : (whole : Bool) (held piece : List ℕ) (used : ℕ) → 7 ≤ state
 whole_part true held piece used least some h = omega (arith, length-append {A = ℕ}, length-take-le {A = ℕ}, stated_taken)
 whole_part false held piece used least some h = omega (arith, length-append {A = ℕ}, length-take-le {A = ℕ}, stated_taken)
 
--- what `part_of` ensures about lengths, restated about the octets themselves
+-- what `part_of` ensures about lengths, as a statement about the octets themselves
 pub part_front : (r : Result Fed HeaderFault) (held piece : List ℕ) → IsFront held → get_or (held ++ piece) 0 0 ≡ 3 → IsOctets piece → 4 ≤ length (held ++ piece) →
     OnOk r (7 ≤ stated_length (held ++ piece)) → IfOk r (λ fed. fed.used ≤ length piece) →
     IfOk r (λ fed. MatchBool fed.whole (length held + fed.used ≡ stated_length (held ++ piece))
@@ -281,10 +281,10 @@ belonging_some octets piece fed partial h whole = elim (cases_lt 0 fed.used) [
       (whole_where (IsOnePacket (octets ++ take fed.used piece)) (IsPartial (octets ++ take fed.used piece) × (fed.used ≡ length piece)) fed.whole whole h.whole)))
 ]
 
--- of two octets lists, of which the first is a front that has the version
+-- of two lists of octets, the first of which has the version
 pub version_of : (held piece : List ℕ) → IsFront held → 0 < length held → get_or (held ++ piece) 0 0 ≡ 3
 version_of held piece front some = get_or_append_left held piece 0 0 some ∙ front.version some
 
--- nothing is a front
+-- the empty list is a prefix of a packet
 pub empty_front : IsFront []
 empty_front = (partial_front [] empty_partial).0

@@ -6,7 +6,7 @@ use Rattle.osi_tpkt.specs.declared.cutting.Stop.TheVariants.{Whole, Version, Len
 use Rattle.osi_tpkt.proofs.Vocabulary.{length-take-le, none-some, IsPacket, IsOnePacket, IsPartial, IsFaultOf, offset_of, IsFront, IsFull, IsUnfinished, Held, IsHolding, fresh, Gains, TakesPiece, Feeds, Passes, Advances, CutterRun, Feed, Advance, fault_of, FitsProgress, IsKept, TpktFault, BadVersion, BadLength, OutOfMemory, Fed}
 use Rattle.osi_tpkt.proofs.Fronts.{short_partial, full_packet, front_packet, partial_not_whole, belonging_some, belonging_no_fault, surveyed, one_fault, holding, empty_partial}
 
--- what the fields of a cutter say, said of what contracts see
+-- the fields of a cutter, in terms of what contracts see
 pub holding_sound : (offset : ℕ) (octets : List ℕ) (progress : Progress) (room : ℕ) → IsKept offset octets progress →
     IsHolding (holding offset (fault_of offset progress) octets room)
 holding_sound offset octets Awaited room h = record { offset = h.offset; octets = inl (subst IsPartial (sym h.progress) empty_partial) }
@@ -18,7 +18,7 @@ pub kept_sound : (offset : ℕ) (octets : List ℕ) (progress : Progress) (room 
     holding offset (fault_of offset progress) octets room ≡ now → IsHolding now
 kept_sound offset octets progress room now h same = subst IsHolding same (holding_sound offset octets progress room h)
 
--- a cutter that awaits a packet, or whose packet goes on, has no fault
+-- a cutter that awaits a packet, or whose packet continues, has no fault
 goes_on : (offset : ℕ) (octets : List ℕ) (progress : Progress) → (progress ≡ Awaited) ⊎ (progress ≡ Partial) → IsKept offset octets progress →
     (fault_of offset progress ≡ None) × IsPartial octets
 goes_on offset octets progress (inl is) fits =

@@ -13,7 +13,7 @@ pub octets_append : (xs ys : List ℕ) → IsOctets xs → IsOctets ys → IsOct
 octets_append [] ys h k = k
 octets_append (x ∷ xs) ys h k = octets_cons x (xs ++ ys) (h 0) (octets_append xs ys (λ i. h (suc i)) k)
 
--- a number of the front part, past whose end 0 is read
+-- an element of the first part; past its end, 0 is read
 pub octets_left : (xs ys : List ℕ) → IsOctets (xs ++ ys) → IsOctets xs
 octets_left [] ys h = octets_nil
 octets_left (x ∷ xs) ys h = octets_cons x xs (h 0) (octets_left xs ys (λ i. h (suc i)))

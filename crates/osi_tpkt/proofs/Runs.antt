@@ -51,7 +51,7 @@ unchanged start made us old new call none same k = grind (arith, used-none, Cont
 some_is : (f g : TpktFault) → Some f ≡ Some g → f ≡ g
 some_is f g e = cc
 
--- a piece of which a front part was taken
+-- a piece of which the first octets were taken
 taken : (start : Held) (made : List CutterCall) (us : List (List ℕ)) (old new : Held) (piece : List ℕ) (fed : Fed) → old.fault ≡ None →
     Feeds old piece (Ok fed) new → TakesPiece old piece (Ok fed) new → CutterReadsOn start made us old →
     CutterReadsOn start (made ++ Feed piece (Ok fed) ∷ []) us new

@@ -1,5 +1,5 @@
 -- The units for one connection among those of all, and the references that they ask for.
--- For octets on their way, joined carriers, class 0 and the invariant.
+-- For octets in flight, joined carriers, class 0 and the invariant.
 use Rattle.osi_between.proofs.Vocabulary.{◌≡◌, ◌≢◌, ℕ, zero, suc, ◌+◌, ◌==◌, Bool, true, List, [], ◌∷◌, ◌++◌, refl, sym, ap, ◌∙◌, arith}
 use Rattle.osi_between.proofs.Vocabulary.{if◌then◌else◌, eq-eqb, ne_eqb, flat_map-append, Value, reference_of, units_of, AreFor, asked_by}
 use Rattle.osi_between.proofs.Vocabulary.{requests, behind, live_behind, live_after, HasPlace, HasPlaces}

@@ -1,5 +1,5 @@
 -- The octets between two carriers: units are written at their end, and octets are handed over, taken, and lost.
--- For octets on their way and the invariant.
+-- For octets in flight and the invariant.
 use Rattle.osi_between.proofs.Vocabulary.{◌≡◌, ℕ, ◌+◌, ◌-◌, ◌<◌, ◌≤◌, Bool, true, false, List, [], ◌∷◌, ◌++◌, length, take, drop, Option}
 use Rattle.osi_between.proofs.Vocabulary.{Some, None, IfSome, nat_le, refl, sym, ap, subst, ◌∙◌, arith, append_assoc, length-append}
 use Rattle.osi_between.proofs.Vocabulary.{one_packet, AllByRecursion, leb-true, leb-false, append-nil, append_cancel_left, take-append-drop}

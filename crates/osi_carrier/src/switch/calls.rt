@@ -1,4 +1,4 @@
-//! Closing connections, the end, and what waits to be taken.
+//! Closing connections, the end, and pending events.
 
 ghost use Rattle.std.specs.Prelude.{◌≡◌, ◌≢◌, ◌<◌, ◌≤◌, ◌*◌, ◌-◌, ◌++◌, ◌∷◌, [], length, nat_lt, Err, IfErr, None, Some, IsOk, OnOk, OnErr, is_some};
 ghost use Rattle.std.specs.Cow.{cow_slice_items, IsOwnedSlice};
@@ -29,8 +29,8 @@ fn is_too_long(head: &[u8], body: &[u8]) -> bool
     body.len() > LONGEST_TSDU - head.len()
 }
 
-/// Asks the peer by a DR to close the connection at this place, which is closing then. Memory is needed only where
-/// there is no room for the DR.
+/// Asks the peer by a DR to close the connection at this place, which is then closing. Memory is needed only if there
+/// is no room for the DR.
 fn ask_to_close(
     live: &mut Connections,
     place: usize,
@@ -51,7 +51,7 @@ fn ask_to_close(
 }
 
 impl Switch {
-    /// Whether an event waits.
+    /// Whether an event is pending.
     pub fn has_event(&self) -> bool
         ensures { result ≡ waits self.now }
     {
@@ -72,7 +72,7 @@ impl Switch {
         self.has_ended() || self.has_event()
     }
 
-    /// Whether the carrier ended by a fault of its peer or for want of memory.
+    /// Whether the carrier ended because of a fault of its peer, or because memory ran out.
     pub fn is_spoilt(&self) -> bool
         ensures { result ≡ is_spoilt self.now.ended }
     {
@@ -178,8 +178,7 @@ impl Switch {
         Ok(())
     }
 
-    /// Sends a TSDU, which is given as its first octets and the others, on an open connection, as
-    /// [`Switch::send`] does.
+    /// Sends a TSDU, given as its first octets and the others, on an open connection, as [`Switch::send`] does.
     #[inline(always)]
     #[tactic(auto, using(crate::proofs::SentAll::open_here))]
     pub fn send_headed(&mut self, reference: u16, head: &[u8], body: &[u8]) -> Result<(), SendError>

@@ -39,7 +39,7 @@ pub record Speaks (s : State) : Type 0 where
   pub phase : s.phase ≡ Ready
   pub held : has s.held data_token ≡ true
 
--- a number that may be acknowledged still may
+-- a number that may be acknowledged may still be acknowledged afterwards
 still_acks : (p : Phase) (v : Numbers) (n : ℕ) → (not v.answers && (nat_le v.confirmed n && nat_lt n v.next)) ≡ true
     → (true && (nat_le (if v.answers then v.next else v.confirmed) n
     && (if is_major_asked p then nat_lt (n + 1) (v.next + 1) else nat_lt n (v.next + 1)))) ≡ true

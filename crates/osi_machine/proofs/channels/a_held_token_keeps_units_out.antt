@@ -20,7 +20,7 @@ has_set p t = grind arith
 pub each_has : (p : Token → Bool) (t : Token) → each p ≡ true → p t ≡ true
 each_has p t h = grind arith
 
--- a token makes a set that has it no empty set
+-- a set with a token is not empty
 pub some_has : (p : Token → Bool) (t : Token) → p t ≡ true → some p ≡ true
 some_has p t h = search arith
 

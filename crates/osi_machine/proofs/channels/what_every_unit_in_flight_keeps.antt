@@ -155,14 +155,14 @@ becomes_turned : (s : State) (u : Meaning) → is_plain u ≡ true → Good s u 
 unfolding point_taken minor_confirmed major_confirmed restarted_at
 becomes_turned s u p g h = grind arith
 
--- no unit turns it back
+-- no unit changes that direction
 pub heard_turned : (s : State) (us : List Meaning) → Turned s → AllFit s us → Turned (heard s us)
 heard_turned = kept_heard Turned (λ s u h f. fit_cases Turned s u f h (λ d g. becomes_turned s u f.plain g h))
 
 abbrev Sends : State → Type 0
 Sends s = s.numbers.answers ≡ false
 
--- none but a point turns it
+-- only a point changes it
 becomes_sends : (s : State) (u : Meaning) → needs_token data_token u ≡ false → Sends s → Sends (becomes s u)
 unfolding point_taken minor_confirmed major_confirmed restarted_at
 becomes_sends s u p h = grind arith

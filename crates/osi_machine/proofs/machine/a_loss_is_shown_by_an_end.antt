@@ -240,7 +240,7 @@ module _ (d side : Side) where
   shown_other r [] h = refl
   shown_other r (i ∷ shown) h = let b = one_other r i h in let c = shown_other r shown h in rw (b, c) refl
 
-  -- what an end shows of one connection, and then of those behind it
+  -- what an end shows of one connection, and then of those after it
   and_rest : (k : ℕ) (w : World) (ws : List World) → list_any (is_loss d) (map (shown_at side k) (shown_at_end (seen_from side w))) ≡ false
       → list_any (is_loss d) (shown_in_order side (k + 1) ws) ≡ false → list_any (is_loss d) (shown_in_order side k (w ∷ ws)) ≡ false
   and_rest k w ws a b = none_more (is_loss d) (map (shown_at side k) (shown_at_end (seen_from side w))) (shown_in_order side (k + 1) ws) a b

@@ -197,7 +197,7 @@ opened_fits : (own' peer : Seat) → is_early own'.transport ≡ false
     → (is_early peer.transport ≡ true → units_in own'.channel ≡ []) → Fits own' peer
 opened_fits own' peer e o m u = grind (arith, is_early)
 
--- a side parts: its session is over, and of what is in flight from it units may be lost
+-- a side leaves: its session is over, and units in flight from it may be lost
 parts_told : (b : Bool) (l : Line) (own' : Seat) (x y : Words) → is_parting own'.transport ≡ true → is_early own'.transport ≡ false
     → is_over own'.session.state.phase ≡ true
     → (is_early l.peer.transport ≡ true → units_in own'.channel ≡ [])
@@ -238,7 +238,7 @@ denies_told : (b : Bool) (l : Line) (reason : ℕ) (x y : Words) → Told b l x 
     → Told b (record l { own = record l.own { channel = put b (deny reason ∷ []) l.own.channel } }) x y
 denies_told b l reason x y h = search (arith, put_no_units, no_agree_put, same_units)
 
--- ---- words that are none
+-- ---- lists with nothing in them
 
 no_words : (b : Bool) (l : Line) (x y : Words) → Told b l x y → Told b l (and_more x [] []) y
 no_words b l x y h = search (arith, append-nil)

@@ -138,7 +138,7 @@ none_got x u e = if_first (drops x.session u) x.got (x.got ++ got_in x.session u
 pub same_stream : (got : List (List ℕ)) (u : Meaning) (us : List Meaning) → data_in u ≡ [] → got ++ data_of us ≡ got ++ data_of (u ∷ us)
 same_stream got u us e = ap (λ (d : List (List ℕ)). got ++ (d ++ data_of us)) (sym e)
 
--- a side that listens never has asked for a restart
+-- a side that listens has not requested a restart
 pub no_cut : (r : State) (us : List Meaning) → is_restarting r.phase ≡ false → AllFit r us → is_restarting (heard r us).phase ≡ true → ⊥
 no_cut r us listens f c = not_both _ (kept_heard (λ (q : State). hears q.phase ≡ true) (λ q m p g. next_hears q m p) r us
     (ap not listens) f) c

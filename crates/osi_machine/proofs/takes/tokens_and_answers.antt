@@ -162,7 +162,7 @@ called s u n x z = record s { phase = Answering; units = functional_units u; wis
 
 module _ (w : Core) (v : Bool) (u : ℕ) (n : Option ℕ) (x : TokenSetting) (from to : Option (List ℕ)) (z : TsduMaximumSize) (o : List ℕ)
     (us : List Meaning) (d : drops w.own.session (CN v u n x from to z o) ≡ false) (h : Stands (at w (CN v u n x from to z o ∷ us))) where
-  -- a CN that can't be accepted would end the called side, and two sides in this invariant do not meet so
+  -- a CN that can't be accepted would end the called side, and under this invariant two sides never meet in that phase
   pub acceptable : is_acceptable v u z ≡ true
   acceptable = by_test (is_acceptable v u z)
       (λ e. e)

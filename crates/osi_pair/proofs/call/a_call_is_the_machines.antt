@@ -201,7 +201,7 @@ all_sent r (tsdu ∷ tsdus) c peer link lasts at =
 abbrev pub now_of : ℕ → Call → Holding → Holding
 now_of r call h = record h { end = to_session r (words.called call) h.end }
 
--- what is so of it
+-- what is true of it
 pub record Called (r : ℕ) (call : Call) (h : Holding) : Type 0 where
   pub session : Listener
   pub was : session_at r h.end ≡ Some session

@@ -38,7 +38,7 @@ transports_are k (l ∷ lines) live h =
     (transports_are (k + 1) lines live
     (λ i m at. h (suc i) m at ∙ ap (λ (n : ℕ). transport_in (was_given (value_at n live))) (omega arith)))
 
--- a row in front of those that are looked at
+-- a row before those that are looked at
 skip : (k m q : ℕ) (x : Connection) (live : Rows Connection) → q ≤ k → transports k m ((q, x) ∷ live) ≡ transports k m live
 unfolding transports
 skip k zero q x live le = refl

@@ -26,7 +26,7 @@ use Rattle.osi_pair.proofs.flight.whether_something_is_cut_off.{Lasts}
 
 -- ---- an allocation failure ends an end
 
--- a packet for which there is none
+-- a packet for which memory runs out
 starved_named : CarryLaws → (s : Side) (p : TwoEnds) (steps : List Step) (packet octets : List ℕ) (none : Held) (new : End) →
     StandsAt p steps → Lasts s p → IsPacket packet octets → (end_at s p).held.octets ≡ octets ++ none.octets →
     Starves (end_at s p).end packet new → new.carrier.ended ≡ Some NoMemory
@@ -53,7 +53,7 @@ memory_by laws f q steps k new before octets z (inr st) =
     starved_named laws (other f) r (steps ++ z.more) st.0 packs.0 none new z.stands z.lasts packs.2 cut
     (subst (λ (b : Holding). Starves b.end st.0 new) (sym z.here) st.2)
 
--- a piece for which there is none
+-- a piece for which memory runs out
 memory_named : CarryLaws → (f : Side) (q : TwoEnds) (steps : List Step) (most used : ℕ) (new : Holding) → StandsAt q steps →
     Lasts (other f) q → most ≤ reachable f q → FindsNoMemory (end_at (other f) q) (piece_of f most q) used new →
     new.end.carrier.ended ≡ Some NoMemory

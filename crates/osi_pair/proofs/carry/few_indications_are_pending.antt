@@ -34,7 +34,7 @@ use Rattle.osi_pair.proofs.flight.whether_something_is_cut_off.{Lasts}
 
 -- ---- how many units a TSDU has
 
--- the units that are read, if they are, are so few
+-- if the units of a TSDU are read, there are at most this many
 abbrev FewIn : ℕ → Result Units SpduFault → Type 0
 FewIn n (Ok us) = length us ≤ n
 FewIn n (Err fault) = Unit {0}
@@ -60,7 +60,7 @@ few_units : (octets : List ℕ) → FewIn 17 (tsdu_at octets)
 unfolding tsdu_at
 few_units octets = few_by (unit_at false 0 octets)
 
--- ---- how much a session shows
+-- ---- how much a session indicates
 
 abbrev FewSaid : Result Words SpduFault → Type 0
 FewSaid (Ok said) = length said ≤ 17
@@ -212,7 +212,7 @@ record HasInput (n : ℕ) (row : Row) : Type 0 where
   shows : (x : Listener) → length (react x input).shown ≤ 17
   there : is_there (before row) ≡ true
 
--- or that its transport connection is there
+-- or that its transport connection is open
 input_of : (n : ℕ) (row : Row) → is_heard row ≡ true → HasInput n row ⊎ (row ≡ agrees)
 unfolding is_there
 input_of n agrees h = inr refl
@@ -296,7 +296,7 @@ pub record FewLaws : Type 0 where
       carriers.Acts (side end both).state packet new →
       (new ≡ carriers.after_packet (side end both).state packet) ⊎ (new ≡ states.ends NoMemory (side end both).state)
 
--- for what the one event does there was no memory
+-- memory ran out for the effect of the one event
 one_told_by : (x new : End) (event : Happening) (heard : ℕ) → x.carrier.events ≡ event ∷ [] → (out : RunsOut x new) → out.heard ≡ heard →
     new.lines ≡ all_lost x.lines
 one_told_by x new event zero one out e =

@@ -33,7 +33,7 @@ awaits_shows = refl
 few : (b : Bool) → length (if◌then◌else◌ {A = List Shown} b (Lost ∷ []) []) ≤ 1
 few b = grind arith
 
--- the session of an end shows as much
+-- the session of an end indicates as much
 pub quiet_loss : (l : Listener) → shows_loss l.state.phase ≡ false → (words.react l words.broken).shown ≡ []
 unfolding words.react
 quiet_loss l h = unshown l.state.phase h
@@ -156,7 +156,7 @@ few_lost m ((r, line) ∷ lines) live rise all =
 
 -- ---- in the order of the machine
 
--- what the side of each line shows is what the session shows that is kept
+-- what the side of each line indicates is what the session that is kept indicates
 abbrev AreKept : Side → ℕ → List Line → Rows stack.Line → Type 0
 AreKept side m ls lines =
     (i : ℕ) (l : Line) → slice_get ls i ≡ Some l →
@@ -172,7 +172,7 @@ joined_entries side r (x ∷ l) es more h =
 abbrev Ordered : Side → ℕ → List Line → Rows stack.Line → Type 0
 Ordered side m ls lines = map Some (shown_in_order (side_in side) (m + 1) ls) ≡ map entry_in (shown_entries side (lost_in lines))
 
--- the first line of all shows nothing
+-- the first line of all indicates nothing
 order_quiet : (side : Side) (m : ℕ) (l : Line) (ls : List Line) (lines : Rows stack.Line) → kept_at (m + 1) lines ≡ None →
     AreKept side m (l ∷ ls) lines → (AreKept side (m + 1) ls lines → Ordered side (m + 1) ls lines) → Ordered side m (l ∷ ls) lines
 order_quiet side m l ls lines none all more =
@@ -229,7 +229,7 @@ ordered side m (l ∷ ls) ((r, line) ∷ lines) rise up all = ordered_by side m 
 
 -- ---- the sides
 
--- what a side shows that is lost, is what the session shows that is kept of it
+-- a side that is lost indicates what the session that is kept of it indicates
 kept_shows : (o : Option Listener) (joined : Option (List ℕ)) (seat : Seat) →
     ((s : Listener) → o ≡ Some s → s ≡ joining joined seat.session) → is_ended seat.session.state.phase ≡ true →
     (react seat.session broken_off).shown ≡ shown_at_loss o
@@ -286,7 +286,7 @@ abbrev pub AllSeated : Side → ℕ → Holding → Tables → Type 0
 AllSeated who given h t =
     (n : ℕ) → 0 < n → n ≤ length t.lines → (l : Line) × (connection_at n t.lines ≡ Some l) × IsSeated n h (seen_from (side_in who) l).own
 
--- what a kept session shows has a connection
+-- an indication of a kept session has a connection
 pub all_live : (who : Side) (h : Holding) (t : Tables) → RiseFrom 0 h.end.lines → AreUpTo h.end.carrier.given h.end.lines →
     h.end.carrier.given ≤ length t.lines → AllSeated who h.end.carrier.given h t → AreLive h.end.lines h.end.carrier.live
 all_live who h t rise up few all q s kept shown =
@@ -326,7 +326,7 @@ up_in_all : (m n : ℕ) (lines : Rows stack.Line) → m ≤ n → AreUpTo m line
 up_in_all m n [] less up = tt
 up_in_all m n ((r, line) ∷ lines) less up = ((let here = up.0 in omega arith), up_in_all m n lines less up.1)
 
--- its journal, and that no more is pending
+-- its journal, and that nothing more is pending
 pub record SaysAll (who : Side) (lines : Rows stack.Line) (first : List (ℕ × Shown)) (t : Tables) : Type 0 where
   pub quiet : waiting_in lines ≡ []
   pub says : map Some (shown_in_order (side_in who) 1 t.lines) ≡ map entry_in (shown_entries who first)
@@ -347,7 +347,7 @@ says_all who h lines first t told quiet order few all =
           (sym (first_all h.end.lines first (waiting_in lines) quiet told.shown none));
     }
 
--- the journals go on alike
+-- the journals continue alike
 pub journal_on : (old : List entries.Entry) (more : List entries.Entry) (last : entries.Entry) (before said : List Entry) (end : Entry) →
     map Some old ≡ map entry_in before → map Some more ≡ map entry_in said → Some last ≡ entry_in end →
     map Some (old ++ (more ++ last ∷ [])) ≡ map entry_in (before ++ (said ++ end ∷ []))

@@ -118,7 +118,7 @@ says_then s n line l t u lines first a found shows says =
 
 -- ---- what becomes of the packet
 
--- what is proved of two carriers, for which memory is wanted
+-- what is proved of two carriers, for which memory is needed
 pub record WantLaws : Type 0 where
   pub starved : (terms : Terms) (end : Bool) (both : Both) (b : Between) (packet octets behind : List ℕ) (new : State) →
       AreBetween terms both b → (side end both).state.ended ≡ None → IsPacket packet octets → (side end both).held ≡ octets ++ behind →
@@ -155,7 +155,7 @@ pub record IsUnheard (e : End) (u : Value) (told : List Happening) (new : End) :
 abbrev pub HasStarved : End → Value → List Happening → End → Type 0
 HasStarved e u told new = (new ≡ hearing.ends NoMemory e) ⊎ IsUnheard e u told new
 
--- for what the one event does there was no memory
+-- memory ran out for the effect of the one event
 one_by : (k : ℕ) (e new : End) (event first : Happening) (more : List Happening) → e.carrier.events ≡ event ∷ [] →
     (hears_times k e).carrier.events ≡ first ∷ more → needs_memory first (with_events more (hears_times k e)) ≡ true →
     new ≡ starves (with_events more (hears_times k e)) → new ≡ starves (with_events [] e)

@@ -42,7 +42,7 @@ alike_take shutting xs ys gone h = kinds_take xs ys gone h
 alike_take progress.gone xs ys gone h = kinds_take xs ys gone h
 alike_take g xs ys gone h = ap (take (length ys)) h ∙ take-append_seam ys gone
 
--- ---- if one place stays
+-- ---- if one place is unchanged
 
 pub alike_like : (p : Place) (xs ys zs : Sent) → AreAlike (progress_of p) xs ys → AreLike (connection_in p) ys zs →
     AreAlike (progress_of p) xs zs

@@ -78,7 +78,7 @@ new_at n s h = grind arith
 abbrev pub begun_lines : Side → TwoEnds → Value → ℕ → Rows Line
 begun_lines s p u n = used_lines (told_all u (end_at s p).end).carrier.live (joined n (end_at s p).end.lines)
 
--- an ask has no effect on a session
+-- a request has no effect on a session
 pub asks_same : (x : SessionState) (m : Message) → kind_of (message_in m) ≡ carrier.ask → after_message x m ≡ x
 asks_same x m k = grind arith
 

@@ -57,9 +57,9 @@ one_by row h1 = grind arith
 pub one_in : (row : Row) → is_heard row ≡ true → arrived_in row ≡ got_in row ∷ []
 one_in row heard = one_by row (as_heard row heard)
 
--- ---- what is so of a row
+-- ---- what is true of a row
 
--- what a session has joined its phase keeps
+-- the phase of a session keeps what it has joined
 abbrev pub IsTaker : Standing → Option (List ℕ) → Type 0
 IsTaker x joined = IsKeptIn x.state.phase joined
 

@@ -21,7 +21,7 @@ as_made m = record { next = listening m.next; shown = m.shown; reply = m.reply; 
 pub moves_so : (s : Standing) (input : Input) → words.react (listening s) (in_words input) ≡ as_made (react s input)
 moves_so s input = grind (arith, kept_none, moves_as_whole)
 
--- a session that has joined something makes the same moves but for messages that come, and keeps by its phase
+-- a session that has joined something makes the same moves except for messages that arrive, and keeps by its phase
 -- what it has joined
 pub moves_apart : (joined : Option (List ℕ)) (s : Standing) (input : Input) → IsKeptIn s.state.phase joined → is_apart input ≡ true →
     kept_in (react s input).next.state.phase joined ≡ None → words.react (joining joined s) (in_words input) ≡ as_made (react s input)
@@ -62,7 +62,7 @@ none_joined s joined h2 = grind arith
 
 -- ---- parts of one Data
 
--- One that is not the last shows and sends nothing, and is joined to what has begun.
+-- One that is not the last indicates and sends nothing, and is joined to what has begun.
 pub record PartJoins (joined : Option (List ℕ)) (x : Standing) (place : Place) (octets : List ℕ) (begun : Option (List ℕ)) : Type 0 where
   pub now : Option (List ℕ)
   pub is : words.react (joining joined x) (part_comes place octets) ≡ words.rests (joining now x)
@@ -96,11 +96,11 @@ last_moves joined x front last short kept fine stands =
     (words_of_message (record { state = x.state; joined = None }) (DT (front ++ last))))
     ∙ moves_so x (taken (said_of (DT (front ++ last))))
 
--- a session that is over takes data for no fault
+-- for a session that is over data is no fault
 pub over_fine : (s : State) (octets : List ℕ) → is_over s.phase ≡ true → IsNoFault s octets
 over_fine s octets over = rw over refl
 
--- ---- what a session of an end has joined its phase keeps
+-- ---- the phase of a session of an end keeps what it has joined
 
 pub kept_of : (r : ℕ) (s : Listener) (e : End) → IsInOrder e → kept_at r e.lines ≡ Some s → IsKept s
 kept_of r s e order is = let h =

@@ -38,7 +38,7 @@ quiet_came ((r, line) ∷ lines) h = (h.0, quiet_came lines h.1)
 pub quiet_order : (e : End) → IsInOrder e → IsInOrder (record e { lines = quieted e.lines })
 quiet_order e o = grind (arith, quieted_apart, quieted_up, quieted_at, quiet_rise, quiet_came)
 
--- ---- what one session shows
+-- ---- what one session indicates
 
 abbrev of_one : ℕ → List Shown → List (ℕ × Shown)
 of_one n shown = map (λ x. (n, x)) shown

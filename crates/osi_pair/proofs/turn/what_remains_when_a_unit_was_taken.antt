@@ -51,7 +51,7 @@ pub record OtherSessions (s : Side) (p : TwoEnds) (e : End) (n : ℕ) : Type 0 w
 abbrev pub terms_at : TwoEnds → Terms
 terms_at p = terms_of p.left.end.carrier.local p.right.end.carrier.local
 
--- what a packet does that arrives at an end that holds these octets behind it
+-- the effect of a packet that arrives at an end that then holds these octets
 abbrev pub PacketAt : Side → TwoEnds → Between → List ℕ → Held → Type 0
 PacketAt s p b packet h = PacketActs (terms_at p) (is_caller s) (carriers_of p) b packet h.octets
 

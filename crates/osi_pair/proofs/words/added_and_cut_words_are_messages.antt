@@ -37,7 +37,7 @@ pub joins_whole : (ms : List Message) → joins None (map whole ms) ≡ ms
 joins_whole [] = refl
 joins_whole (m ∷ ms) = ap (λ r. m ∷ r) (joins_whole ms)
 
--- ---- the front and the rest
+-- ---- the first words and the rest
 
 pub order_back : (b : Option (List ℕ)) (xs ys : List Word) → AreInOrder b (xs ++ ys) → AreInOrder (left_of b xs) ys
 order_back b [] ys h = h

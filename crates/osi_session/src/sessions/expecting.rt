@@ -1,5 +1,5 @@
-//! TSDUs that a session expects, and takes straight: whole data, a part of it, a minor point or its
-//! confirmation. Each is tried once: what is none of these goes to the general reader.
+//! The fast path for TSDUs that a session expects: whole data, a part of it, a minor point or its confirmation. Each
+//! TSDU is tried once; any other goes to the general reader.
 
 use super::Session;
 use crate::expected::{Expected, expected_point};
@@ -21,11 +21,11 @@ impl Session {
     ghost use Rattle.osi_session.specs.Sessions.{takes_memory};
     ghost use Rattle.osi_session.specs.Shown.{Data, shown_by};
 
-    /// Tries a TSDU as one that is expected: the written form of whole data, of a part of it, or of a minor
-    /// point or a confirmation without other parameters, behind a GT that names no token. `Shown` and
-    /// `Joined` are all that [`Session::take_tsdu`] would do beside the state. `Other` changes nothing: the
-    /// TSDU goes to [`Session::take_unexpected`], which doesn't try this again. `Err` changes nothing, and
-    /// comes only where something is shown or octets are joined.
+    /// Tries a TSDU as one that is expected: the written form of whole data, of a part of it, or of a minor point or a
+    /// confirmation without other parameters, after a GT that names no token. `Shown` and `Joined` are all that
+    /// [`Session::take_tsdu`] would do apart from the state. `Other` changes nothing: pass the TSDU to
+    /// [`Session::take_unexpected`], which doesn't try this again. `Err` changes nothing, and is possible only if
+    /// something is indicated or octets are joined.
     #[inline(always)]
     pub fn take_expected(&mut self, tsdu: &[u8]) -> Result<Expected, AllocError>
         ensures taken { IfOk result (λ e. Meets e (react self.old (came tsdu.now)) self.old self.new) }
@@ -33,7 +33,8 @@ impl Session {
         ensures memory { OnErr result (takes_memory self.old (react self.old (came tsdu.now)) ≡ true) }
     {
         let Some(user_data) = PlainUnit::data(tsdu) else {
-            // A value of its own: else what data shows, too, would be made in the room of this one.
+            // A value of its own: otherwise the indication of data, too, would be built in the stack space of this
+            // one.
             let answer = self.take_plain(tsdu);
             return answer;
         };
@@ -46,9 +47,9 @@ impl Session {
         }
     }
 
-    /// Tries a TSDU, with the room that its octets are in, as whole data that is expected: that is shown from
-    /// there, and no octet is copied. Nothing else happens, so the session stays as it is, and no memory is
-    /// taken. Any other TSDU comes back.
+    /// Tries a TSDU, with the buffer that its octets are in, as whole data that is expected. Such data is indicated
+    /// from that buffer, and no octet is copied; the session is unchanged, and nothing is allocated. Any other TSDU is
+    /// returned.
     #[inline(always)]
     pub fn show_data(&self, tsdu: Vec<u8>) -> Result<Indication, Vec<u8>>
         ensures octets { IfOk result (λ i. shown_by i ≡ Data (drop 4 tsdu.items)) }
@@ -66,7 +67,7 @@ impl Session {
         })
     }
 
-    /// What is no whole data. It stands out of line: data comes more often.
+    /// A TSDU that is not whole data. The function is kept out of line, because data is more frequent.
     #[inline(never)]
     fn take_plain(&mut self, tsdu: &[u8]) -> Result<Expected, AllocError>
         ensures { Tries result (react self.old (came tsdu.now)) self.old self.new }
@@ -92,7 +93,8 @@ impl Session {
         Expected::Shown(expected.shown)
     }
 
-    /// A part of one Data, which is joined to those before it. It stands out of line: points come more often.
+    /// A part of one Data, which is joined to those before it. The function is kept out of line, because points are
+    /// more frequent.
     #[inline(never)]
     fn take_part(&mut self, place: Place, user_data: &[u8]) -> Result<Expected, AllocError>
         ensures { Tries result (moved self.old (respond_word (taker_of self.old) (part place user_data.now))) self.old self.new }
@@ -103,8 +105,8 @@ impl Session {
         }
     }
 
-    /// Joins a part that is good. The octets of the last are put behind what is joined, which then is
-    /// shown, and is not copied.
+    /// Joins a good part. The octets of the last part are added to those joined, which are then indicated without a
+    /// copy.
     fn join(&mut self, place: Place, user_data: &[u8]) -> Result<Expected, AllocError>
         requires { word_verdict (taker_of self.old) (part place user_data.now) ≡ fine }
         ensures { Tries result (moved self.old (respond_word (taker_of self.old) (part place user_data.now))) self.old self.new }

@@ -3,7 +3,7 @@ use Rattle.osi_judge.proofs.a_call_is_explained.{AsSent}
 use Rattle.osi_judge.proofs.a_caller_is_explained.{called_explained, caller_explained}
 use Rattle.osi_judge.proofs.laws.an_honest_session_is_explained.Goals as goal
 
--- what the laws of messages say
+-- what the laws of messages state
 as_sent : (c : goal.After-what_leaves_in_parts) → AsSent
 as_sent c = record {
   message = λ m s. said_again m (c.what_is_sent_is_read.ensures.read m s) (c.what_is_sent_is_read.ensures.said m s);

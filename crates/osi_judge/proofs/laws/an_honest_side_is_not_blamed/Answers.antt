@@ -3,7 +3,7 @@ use Rattle.osi_judge.proofs.a_call_is_explained.{AsSent}
 use Rattle.osi_judge.proofs.an_honest_side_is_kept.{not_blamed}
 use Rattle.osi_judge.proofs.laws.an_honest_side_is_not_blamed.Goals as goal
 
--- what the laws of messages say
+-- what the laws of messages state
 as_sent : (c : goal.After-an_honest_session_is_explained) → AsSent
 as_sent c = record {
   message = λ m s. said_again m (c.what_is_sent_is_read.ensures.read m s) (c.what_is_sent_is_read.ensures.said m s);

@@ -3,11 +3,11 @@ use Rattle.clap.specs.Words.{App}
 use Rattle.clap.specs.Simple.{app_of_fields}
 use Rattle.osi_tool.proofs.words.bare_command.Goals as goal
 
--- the command that wants a subcommand
+-- the command that needs a subcommand
 abbrev wanting : App → App
 wanting a = record { top = record a.top { subcommand_required = true }; subs = a.subs }
 
--- and tells its version
+-- and has a version
 abbrev telling : App → App
 telling a = record { top = record a.top { has_version = true; subcommand_required = true }; subs = a.subs }
 

@@ -11,7 +11,7 @@ zeros_read zero i = refl
 zeros_read (suc n) zero = refl
 zeros_read (suc n) (suc i) = zeros_read n i
 
--- past a front part the other zeros are read
+-- after the first part, the zeros at the end are read
 zeros_behind : (front : List ℕ) (n i : ℕ) → length front ≡ n → n ≤ i → get_or (front ++ drop n (zeros 32)) i 0 ≡ 0
 zeros_behind front n i size past =
     get_or-append_right front (drop n (zeros 32)) n i 0 size past ∙ get_or-drop n (zeros 32) (i - n) 0 ∙ zeros_read 32 (n + (i - n))
