@@ -130,9 +130,10 @@ impl Carrier {
     }
 
     /// Sends TSDUs of at most 1,048,576 octets each together on an open connection, all or none: as
-    /// [`Carrier::send`] does with each, the first of them first. The errors are those of that, where one
-    /// TSDU that is too long counts for all; each changes nothing. An empty list sends none, and takes no
-    /// memory.
+    /// [`Carrier::send`] does with each, the first of them first. If all their units may be sent now, these are written
+    /// straight from the TSDUs. Otherwise copies of the TSDUs are kept, and what may be sent now is written from them.
+    /// The errors are those of [`Carrier::send`], where one TSDU that is too long counts for all; each changes nothing.
+    /// An empty list sends none, and takes no memory.
     pub fn send_all(&mut self, reference: Ref, tsdus: &[Vec<u8>]) -> Result<(), SendError>
         ensures ok { OnOk result (self.new ≡ record self.old { state = sent_all reference.0 (map (λ v. v.items) tsdus.now) self.old.state }) }
         ensures allowed { OnOk result (send_all_error (map (λ v. v.items) tsdus.now) (open_link reference.0 self.old.state) ≡ None) }

@@ -3,7 +3,7 @@
 ghost use Rattle.std.specs.Prelude.{◌≡◌, ◌<◌, ◌≤◌, ◌+◌, ◌^◌, ◌++◌, [], None, true, false, nat_lt, length, drop, map, IfOk, IsOk, OnOk, OnErr};
 ghost use Rattle.std.specs.Cow.{cow_slice_items, IsOwnedSlice};
 ghost use Rattle.osi_class.specs.AnyLink.{any_standing};
-ghost use Rattle.osi_class.specs.Giving.{all_given, octets_in, one_by_one, AllGoAtOnce};
+ghost use Rattle.osi_class.specs.Giving.{all_given, most_given, octets_in, one_by_one, AllGoAtOnce};
 ghost use Rattle.osi_class.specs.Link.{next, with_tsdu, with_tsdus};
 ghost use Rattle.osi_class.specs.Tsdus.{octets_of_tsdus};
 ghost use Rattle.osi_carrier.specs.Calls.{WaitsAlone, WaitTogether};
@@ -180,8 +180,8 @@ fn write_all(
 }
 
 /// Hands in TSDUs together at a link that gives nothing now, and writes all units that it gives then: straight from
-/// their octets if all of them may go now. Otherwise the link keeps the TSDUs. Want of memory changes nothing: the room
-/// for the units is made first. Owned ones that only wait need none.
+/// their octets if all of them may go now, and then no memory is needed but for their room. Otherwise the link keeps
+/// the TSDUs. Want of memory changes nothing: the room for the units is made first. Owned ones that only wait need none.
 #[tactic(auto, using(crate::proofs::NothingTakesNoRoom::nothing_takes_no_room))]
 pub fn send_all_on(
     alloc: Global,
@@ -196,11 +196,15 @@ pub fn send_all_on(
     ensures pumped { OnOk result (next (any_standing link.new) ≡ None) }
     ensures err { OnErr result ((any_standing link.new ≡ any_standing link.old) × (out.new.items ≡ out.old.items)) }
     ensures kept { IsOwnedSlice tsdus.entry → WaitTogether (any_standing link.old) (map (λ v. v.items) (cow_slice_items tsdus.entry)) → IsOk result }
+    ensures straight { AllGoAtOnce (any_standing link.old) (map (λ v. v.items) (cow_slice_items tsdus.entry)) →
+        most_given 9 (with_tsdus (any_standing link.old) (map (λ v. v.items) (cow_slice_items tsdus.entry))) ≤ out.old.spare → IsOk result }
 {
     many_go_as_one_by_one();
     what_units_take();
     let lent = tsdus.as_slice();
     let Some(room) = link.room_for_all(lent, MOST_HEADERS as u8) else {
+        // Named for the proof: it fits a `usize`.
+        let _capacity = out.capacity();
         return Err(AllocError);
     };
     out.reserve(room)?;
