@@ -7,7 +7,8 @@ use Rattle.osi_carrier.proofs.Pumping.{packets_join}
 
 -- Some TSDUs were written behind the octets `before`. This is the link after them, and `rest` are the others. The end is
 -- this link, and `target` are all units that are to be written.
-pub record IsWriting (peer : ℕ) (end : Standing) (target before : List ℕ) (link : Standing) (rest : List (List ℕ)) (octets : List ℕ) (spare : ℕ) : Type 0 where
+pub record IsWriting (peer : ℕ) (end : Standing) (target before : List ℕ) (link : Standing) (rest : List (List ℕ)) (octets : List ℕ)
+    (spare : ℕ) : Type 0 where
   pub go : AllGoAtOnce link rest
   pub quiet : next link ≡ None
   pub limit : 0 < link.ends.limit
@@ -17,21 +18,24 @@ pub record IsWriting (peer : ℕ) (end : Standing) (target before : List ℕ) (l
   pub all : more ++ packets (written_for peer link rest) ≡ target
   pub room : length (packets (written_for peer link rest)) ≤ spare
 
-pub writing_first : (peer : ℕ) (link : Standing) (tsdus : List (List ℕ)) (before : List ℕ) (spare : ℕ) → AllGoAtOnce link tsdus → next link ≡ None → 0 < link.ends.limit →
+pub writing_first : (peer : ℕ) (link : Standing) (tsdus : List (List ℕ)) (before : List ℕ) (spare : ℕ) →
+    AllGoAtOnce link tsdus → next link ≡ None → 0 < link.ends.limit →
     length (packets (written_for peer link tsdus)) ≤ spare →
     IsWriting peer (one_by_one link tsdus) (packets (written_for peer link tsdus)) before link tsdus before spare
 writing_first peer link tsdus before spare go quiet limit room =
     record { go = go; quiet = quiet; limit = limit; leads = refl; more = []; is = sym (append-nil before); all = refl; room = room }
 
 -- one TSDU of a list, and those after it
-pub rest_from : {V : Type 0} (items : V → List ℕ) (vs : List V) (i : ℕ) (v : V) (octets : List ℕ) → i < length vs → v ≡ get_or vs i v → octets ≡ items v →
+pub rest_from : {V : Type 0} (items : V → List ℕ) (vs : List V) (i : ℕ) (v : V) (octets : List ℕ) →
+    i < length vs → v ≡ get_or vs i v → octets ≡ items v →
     map items (drop i vs) ≡ octets ∷ map items (drop (i + 1) vs)
 rest_from items vs i v octets within is same =
     ap (map items) (drop_more vs i v within) ∙ ap (λ (l : List ℕ). l ∷ map items (drop (i + 1) vs)) (ap items (sym is) ∙ sym same)
 
 -- the units of the first TSDU, and then those of the others
 pub first_written : (peer : ℕ) (link : Standing) (tsdu : List ℕ) (rest : List (List ℕ)) →
-    packets (written_for peer link (tsdu ∷ rest)) ≡ packets (written_by peer (with_tsdu link tsdu)) ++ packets (written_for peer (pumped (with_tsdu link tsdu)) rest)
+    packets (written_for peer link (tsdu ∷ rest))
+    ≡ packets (written_by peer (with_tsdu link tsdu)) ++ packets (written_for peer (pumped (with_tsdu link tsdu)) rest)
 first_written peer link tsdu rest =
     let first = with_tsdu link tsdu in
     ap packets (map-append (unit_of peer) (all_given first) (given_one_by_one (pumped first) rest))
@@ -45,8 +49,10 @@ first_room peer link tsdu rest =
     ap length (first_written peer link tsdu rest)
     ∙ length-append (packets (written_by peer (with_tsdu link tsdu))) (packets (written_for peer (pumped (with_tsdu link tsdu)) rest))
 
-writing_then : (peer : ℕ) (end : Standing) (target before : List ℕ) (link : Standing) (tsdu : List ℕ) (rest : List (List ℕ)) (octets after : List ℕ) (spare left : ℕ) →
-    IsWriting peer end target before link (tsdu ∷ rest) octets spare → GoesWhole link tsdu rest → next (pumped (with_tsdu link tsdu)) ≡ None →
+writing_then : (peer : ℕ) (end : Standing) (target before : List ℕ) (link : Standing) (tsdu : List ℕ) (rest : List (List ℕ))
+    (octets after : List ℕ) (spare left : ℕ) →
+    IsWriting peer end target before link (tsdu ∷ rest) octets spare → GoesWhole link tsdu rest →
+    next (pumped (with_tsdu link tsdu)) ≡ None →
     after ≡ octets ++ packets (written_by peer (with_tsdu link tsdu)) → length octets + spare ≤ length after + left →
     IsWriting peer end target before (pumped (with_tsdu link tsdu)) rest after left
 writing_then peer end target before link tsdu rest octets after spare left h goes quiet put kept =
@@ -69,8 +75,10 @@ writing_then peer end target before link tsdu rest octets after spare left h goe
     }
 
 -- the first of them was written
-pub writing_next : (peer : ℕ) (end : Standing) (target before : List ℕ) (link now : Standing) (tsdu : List ℕ) (rest : List (List ℕ)) (octets after : List ℕ) (spare left : ℕ) →
-    IsWriting peer end target before link (tsdu ∷ rest) octets spare → GoesWhole link tsdu rest → now ≡ pumped (with_tsdu link tsdu) → next now ≡ None →
+pub writing_next : (peer : ℕ) (end : Standing) (target before : List ℕ) (link now : Standing) (tsdu : List ℕ) (rest : List (List ℕ))
+    (octets after : List ℕ) (spare left : ℕ) →
+    IsWriting peer end target before link (tsdu ∷ rest) octets spare → GoesWhole link tsdu rest → now ≡ pumped (with_tsdu link tsdu) →
+    next now ≡ None →
     after ≡ octets ++ packets (written_by peer (with_tsdu link tsdu)) → length octets + spare ≤ length after + left →
     IsWriting peer end target before now rest after left
 writing_next peer end target before link now tsdu rest octets after spare left h goes is quiet put kept =

@@ -12,7 +12,9 @@ ghost use Rattle.osi_carrier.specs.State.{packets};
 
 use crate::writing::{put_given, put_part};
 use bytes::BytesMut;
-use osi_class::laws::{all_go_at_once, all_is_given, giving_ends, many_go_as_one_by_one, what_units_take};
+use osi_class::laws::{
+    all_go_at_once, all_is_given, giving_ends, many_go_as_one_by_one, what_units_take,
+};
 use osi_class::{AnyLink, Link, LinkFault};
 use std::alloc::{AllocError, Global};
 use std::borrow::CowSlice;
@@ -158,13 +160,7 @@ fn keep_all(link: &mut AnyLink, tsdus: CowSlice<'_, Vec<u8>, Global>) -> Result<
 
 /// Writes all units of TSDUs straight from their octets, one TSDU after the other. They may all go now, and there is
 /// room for them in `out`.
-fn write_all(
-    alloc: Global,
-    link: &mut AnyLink,
-    peer: u16,
-    tsdus: &[Vec<u8>],
-    out: &mut BytesMut,
-)
+fn write_all(alloc: Global, link: &mut AnyLink, peer: u16, tsdus: &[Vec<u8>], out: &mut BytesMut)
     requires go { AllGoAtOnce (any_standing link.old) (map (λ v. v.items) tsdus.now) }
     requires quiet { next (any_standing link.old) ≡ None }
     requires limit { 0 < (any_standing link.old).ends.limit }

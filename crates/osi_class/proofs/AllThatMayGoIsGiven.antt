@@ -7,7 +7,8 @@ use Rattle.osi_class.proofs.Giving.{within_none, drained_ends, drained_leaves}
 use Rattle.osi_class.proofs.Nothing.{class_0}
 use Rattle.osi_class.proofs.RoomLaws.{parts_cut, one_part, parts_some, take_drop, two_flow, two_with, no_tsdus, alone, room_of_class_0}
 
-pub more_units : (limit : ℕ) (t : List ℕ) (ts : List (List ℕ)) → units_needed limit (t ∷ ts) ≡ parts_needed limit (length t) + units_needed limit ts
+pub more_units : (limit : ℕ) (t : List ℕ) (ts : List (List ℕ)) →
+    units_needed limit (t ∷ ts) ≡ parts_needed limit (length t) + units_needed limit ts
 more_units limit t ts = sum_by-cons (λ (t : List ℕ). parts_needed limit (length t)) t ts
 
 no_flow : (flow : Option Flow) → is_some flow ≡ false → flow ≡ None
@@ -23,7 +24,10 @@ zero_goes e t others room none =
     let ends = subst (λ (f : Option Flow). next (record { ends = last.ends; flow = f }) ≡ None) flow (drained_ends first room) in
     record {
       octets = (room_of_class_0 e t room ((class_0 e).1 none)).1;
-      others = record { alone = (class_0 last.ends).0 ends; may = subst (λ (f : Option Flow). MayGoAll (units_needed last.ends.limit others) f) (sym flow) tt };
+      others = record {
+        alone = (class_0 last.ends).0 ends;
+        may = subst (λ (f : Option Flow). MayGoAll (units_needed last.ends.limit others) f) (sym flow) tt;
+      };
     }
 
 -- a link of class 2 with nothing to be sent
@@ -37,7 +41,8 @@ record Emptied (limit : ℕ) (j : Joining) (credit w x octets : ℕ) (d : Draine
   link : d.link ≡ nothing_left limit j number unacknowledged w x credit
   all : octets_in d.units ≡ octets
 
-two_empties : (limit : ℕ) → 0 < limit → (n a u c w x : ℕ) (t : List ℕ) (j : Joining) → length t + 1 ≤ n → parts_needed limit (length t) ≤ c →
+two_empties : (limit : ℕ) → 0 < limit → (n a u c w x : ℕ) (t : List ℕ) (j : Joining) →
+    length t + 1 ≤ n → parts_needed limit (length t) ≤ c →
     Emptied limit j (c - parts_needed limit (length t)) w x (length t) (drained_within n (two_with limit j t (two_flow a u c w x)))
 two_empties limit room zero a u c w x t j small enough = absurd (omega arith)
 two_empties limit room (suc n) a u c w x t j small enough =
@@ -46,7 +51,8 @@ two_empties limit room (suc n) a u c w x t j small enough =
     let left = c - parts_needed limit (length t) in
     let needed = parts_some limit (length t) in
     elim (nat_lt 0 c) as (λ k. nat_lt 0 c ≡ k → Emptied limit j left w x (length t)
-    (drained_by (if k then given_part e (Some (sent_flow f)) (Some a) (give limit (t ∷ [])) else None) (two_standing e f) (drained_within n))) [
+    (drained_by (if k then given_part e (Some (sent_flow f)) (Some a) (give limit (t ∷ [])) else None) (two_standing e f)
+    (drained_within n))) [
       | true ↦ λ k. elim (nat_lt limit (length t)) as (λ b. nat_lt limit (length t) ≡ b → Emptied limit j left w x (length t)
           (drained_by (given_part e (Some (sent_flow f)) (Some a)
           (if b then Some ((false, take limit t), drop limit t ∷ []) else Some ((true, t), []))) (two_standing e f) (drained_within n))) [
@@ -55,7 +61,8 @@ two_empties limit room (suc n) a u c w x t j small enough =
                 let both = take_drop limit t in
                 let count : parts_needed limit (length t) ≡ parts_needed limit (length (drop limit t)) + 1 =
                 parts_cut limit (length t) room longer ∙ ap (λ (m : ℕ). parts_needed limit m + 1) (sym shorter) in
-                let more = two_empties limit room n ((a + 1) % 128) (u + 1) (c - 1) w x (drop limit t) j (omega arith) (omega (arith, count)) in
+                let more = two_empties limit room n ((a + 1) % 128) (u + 1) (c - 1) w x (drop limit t) j (omega arith)
+                (omega (arith, count)) in
                 let credit : c - 1 - parts_needed limit (length (drop limit t)) ≡ left = omega (arith, count) in
                 let octets = more.all in
                 record {
@@ -65,7 +72,8 @@ two_empties limit room (suc n) a u c w x t j small enough =
                   all = omega (arith, both, octets);
                 }
             | false ↦ λ b. let short : length t ≤ limit = ltb-false limit (length t) b in
-                let none = within_none n (nothing_left limit j ((a + 1) % 128) (u + 1) w x (c - 1)) (no_tsdus limit j ((a + 1) % 128) (u + 1) (c - 1) w x) in
+                let none = within_none n (nothing_left limit j ((a + 1) % 128) (u + 1) w x (c - 1))
+                (no_tsdus limit j ((a + 1) % 128) (u + 1) (c - 1) w x) in
                 let count = one_part limit (length t) room short in
                 let credit : c - 1 ≡ left = omega (arith, count) in
                 let octets = ap (λ (d : Drained). octets_in d.units) none in
@@ -81,15 +89,19 @@ two_empties limit room (suc n) a u c w x t j small enough =
       | false ↦ λ k. let none : c ≤ 0 = ltb-false 0 c k in absurd (omega arith)
     ] refl
 
-emptied : (e : Ends) (f : Flow) (t : List ℕ) → 0 < e.limit → e.unsent ≡ [] → f.receiver.waiting ≡ 0 → parts_needed e.limit (length t) ≤ f.sender.credit →
-    Emptied e.limit e.joining (f.sender.credit - parts_needed e.limit (length t)) f.receiver.window f.receiver.expected (length t) (drained (with_tsdu (two_standing e f) t))
+emptied : (e : Ends) (f : Flow) (t : List ℕ) → 0 < e.limit → e.unsent ≡ [] → f.receiver.waiting ≡ 0 →
+    parts_needed e.limit (length t) ≤ f.sender.credit →
+    Emptied e.limit e.joining (f.sender.credit - parts_needed e.limit (length t)) f.receiver.window f.receiver.expected (length t)
+    (drained (with_tsdu (two_standing e f) t))
 unfolding drained
 emptied e f t room unsent waiting enough =
     let s = f.sender in
     let r = f.receiver in
-    let P : List (List ℕ) → ℕ → Type 0 = λ u w. Emptied e.limit e.joining (s.credit - parts_needed e.limit (length t)) r.window r.expected (length t)
+    let P : List (List ℕ) → ℕ → Type 0 = λ u w. Emptied e.limit e.joining (s.credit - parts_needed e.limit (length t)) r.window
+    r.expected (length t)
     (drained (two_standing (record e { unsent = u }) (record f { receiver = record r { waiting = w } }))) in
-    let one : P (t ∷ []) 0 = two_empties e.limit room (length t + 1 + 0 + 0) s.next s.unacknowledged s.credit r.window r.expected t e.joining (omega arith) enough in
+    let one : P (t ∷ []) 0 = two_empties e.limit room (length t + 1 + 0 + 0) s.next s.unacknowledged s.credit r.window r.expected t
+    e.joining (omega arith) enough in
     let two : P (t ∷ []) r.waiting = subst (λ (w : ℕ). P (t ∷ []) w) (sym waiting) one in
     subst (λ (u : List (List ℕ)). P u r.waiting) (sym (alone e.unsent t unsent)) two
 

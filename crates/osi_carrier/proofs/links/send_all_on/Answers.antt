@@ -13,7 +13,8 @@ write_all-requires-clause-room c =
     let room = c.in-Some.ensures.value c.requires in
     let spare = c.in_ok-reserve.ensures.spare.1 in
     let units = packets_most c.args.peer (all_given then) in
-    let all = ap (λ (d : Drained). length (packets (map (unit_of c.args.peer) d.units))) (c.many_go_as_one_by_one.ensures.given (any_standing c.args.link.now) tsdus limit c.requires) in
+    let all = ap (λ (d : Drained). length (packets (map (unit_of c.args.peer) d.units)))
+    (c.many_go_as_one_by_one.ensures.given (any_standing c.args.link.now) tsdus limit c.requires) in
     omega arith
 
 pub unreachable-requires : goal.unreachable-requires

@@ -18,8 +18,10 @@ write_parts-requires-clause-kept c =
     let first = any_standing c.args.link.now in
     let tsdu = c.deref.result.now in
     let others = map (λ v. v.items) (drop (c.tsdus.tsdu-index + 1) c.args.tsdus.now) in
-    let rest = rest_from (λ v. v.items) c.args.tsdus.now c.tsdus.tsdu-index c.tsdu-item.result tsdu c.tsdus-test.true c.tsdu-item.is c.deref.ensures.value in
-    let writing = subst (λ (r : List (List ℕ)). IsWriting c.args.peer (one_by_one first all) (packets (written_for c.args.peer first all)) c.args.out.now.items
+    let rest = rest_from (λ v. v.items) c.args.tsdus.now c.tsdus.tsdu-index c.tsdu-item.result tsdu c.tsdus-test.true c.tsdu-item.is
+    c.deref.ensures.value in
+    let writing = subst (λ (r : List (List ℕ)). IsWriting c.args.peer (one_by_one first all)
+    (packets (written_for c.args.peer first all)) c.args.out.now.items
     (any_standing c.tsdus.link) r c.tsdus.out.items c.tsdus.out.spare) rest c.tsdus.invariant in
     let goes = c.all_go_at_once.ensures (any_standing c.tsdus.link) tsdu others writing.limit writing.go in
     c.new.ensures.items ∙ sym (ap (λ (n : ℕ). drop n tsdu) goes.octets ∙ drop-length tsdu)
@@ -30,8 +32,10 @@ write_parts-requires-clause-room c =
     let first = any_standing c.args.link.now in
     let tsdu = c.deref.result.now in
     let others = map (λ v. v.items) (drop (c.tsdus.tsdu-index + 1) c.args.tsdus.now) in
-    let rest = rest_from (λ v. v.items) c.args.tsdus.now c.tsdus.tsdu-index c.tsdu-item.result tsdu c.tsdus-test.true c.tsdu-item.is c.deref.ensures.value in
-    let writing = subst (λ (r : List (List ℕ)). IsWriting c.args.peer (one_by_one first all) (packets (written_for c.args.peer first all)) c.args.out.now.items
+    let rest = rest_from (λ v. v.items) c.args.tsdus.now c.tsdus.tsdu-index c.tsdu-item.result tsdu c.tsdus-test.true c.tsdu-item.is
+    c.deref.ensures.value in
+    let writing = subst (λ (r : List (List ℕ)). IsWriting c.args.peer (one_by_one first all)
+    (packets (written_for c.args.peer first all)) c.args.out.now.items
     (any_standing c.tsdus.link) r c.tsdus.out.items c.tsdus.out.spare) rest c.tsdus.invariant in
     let room = first_room c.args.peer (any_standing c.tsdus.link) tsdu others in
     let enough = writing.room in
@@ -43,11 +47,14 @@ tsdus-preserved c =
     let first = any_standing c.args.link.now in
     let tsdu = c.deref.result.now in
     let others = map (λ v. v.items) (drop (c.tsdus.tsdu-index + 1) c.args.tsdus.now) in
-    let rest = rest_from (λ v. v.items) c.args.tsdus.now c.tsdus.tsdu-index c.tsdu-item.result tsdu c.tsdus-test.true c.tsdu-item.is c.deref.ensures.value in
-    let writing = subst (λ (r : List (List ℕ)). IsWriting c.args.peer (one_by_one first all) (packets (written_for c.args.peer first all)) c.args.out.now.items
+    let rest = rest_from (λ v. v.items) c.args.tsdus.now c.tsdus.tsdu-index c.tsdu-item.result tsdu c.tsdus-test.true c.tsdu-item.is
+    c.deref.ensures.value in
+    let writing = subst (λ (r : List (List ℕ)). IsWriting c.args.peer (one_by_one first all)
+    (packets (written_for c.args.peer first all)) c.args.out.now.items
     (any_standing c.tsdus.link) r c.tsdus.out.items c.tsdus.out.spare) rest c.tsdus.invariant in
     let goes = c.all_go_at_once.ensures (any_standing c.tsdus.link) tsdu others writing.limit writing.go in
-    writing_next c.args.peer (one_by_one first all) (packets (written_for c.args.peer first all)) c.args.out.now.items (any_standing c.tsdus.link) (any_standing c.write_parts.new.link)
+    writing_next c.args.peer (one_by_one first all) (packets (written_for c.args.peer first all)) c.args.out.now.items
+    (any_standing c.tsdus.link) (any_standing c.write_parts.new.link)
     tsdu others c.tsdus.out.items c.write_parts.new.out.items c.tsdus.out.spare c.write_parts.new.out.spare writing goes
     c.write_parts.ensures.link c.write_parts.ensures.pumped c.write_parts.ensures.written c.write_parts.ensures.spare
 
@@ -56,8 +63,10 @@ returns c =
     let all = map (λ v. v.items) c.args.tsdus.now in
     let first = any_standing c.args.link.now in
     let none = ap (map (λ v. v.items)) (drop_all c.tsdus.tsdu-index c.args.tsdus.now (omega arith)) in
-    let writing = subst (λ (r : List (List ℕ)). IsWriting c.args.peer (one_by_one first all) (packets (written_for c.args.peer first all)) c.args.out.now.items
+    let writing = subst (λ (r : List (List ℕ)). IsWriting c.args.peer (one_by_one first all)
+    (packets (written_for c.args.peer first all)) c.args.out.now.items
     (any_standing c.tsdus.link) r c.tsdus.out.items c.tsdus.out.spare) none c.tsdus.invariant in
-    let last = writing_last c.args.peer (one_by_one first all) (packets (written_for c.args.peer first all)) c.args.out.now.items (any_standing c.tsdus.link)
+    let last = writing_last c.args.peer (one_by_one first all) (packets (written_for c.args.peer first all)) c.args.out.now.items
+    (any_standing c.tsdus.link)
     c.tsdus.out.items c.tsdus.out.spare writing in
     record { link = last.link_is; written = last.written; pumped = last.pumped }

@@ -58,7 +58,9 @@ returns-then-end c =
     let none : drop (octets_of unit) rest ≡ [] = cut.left ∙ empty_list c.split_at.result.1.now nothing in
     let all = parting_last c.args.peer (with_tsdu (any_standing c.args.link.now) c.args.tsdu.now) (any_standing c.parts.link) (any_standing c.give_slot.new.self)
     c.args.out.now.items rest c.args.kept.items c.parts.out.items c.put_part.new.out.items unit c.parts.out.spare c.parts.invariant.0 (omega arith) part put none in
-    let longer = put_length c.parts.out.items c.put_part.new.out.items (packets (unit_of c.args.peer (part_under (number_in c.in-Some.slot) c.is_empty-end.result ([] ++ c.split_at.result.0.now)) ∷ [])) c.in-Ok-put_part.ensures.ok in
+    let longer = put_length c.parts.out.items c.put_part.new.out.items
+    (packets (unit_of c.args.peer (part_under (number_in c.in-Some.slot) c.is_empty-end.result ([] ++ c.split_at.result.0.now)) ∷ []))
+    c.in-Ok-put_part.ensures.ok in
     let room = c.in-Ok-put_part.ensures.spare in
     let kept = c.parts.invariant.1 in
     record { link = all.link; written = all.written; pumped = part.last; spare = omega (arith, longer, room, kept) }
@@ -80,10 +82,13 @@ parts-preserved c =
     let left = ap length cut.left in
     let something : length c.split_at.result.1.now ≡ 0 → ⊥ = eqb-false (length c.split_at.result.1.now) 0 (sym c.is_empty-end.ensures ∙ c.if-end.false) in
     let some : 0 < length (drop (octets_of unit) rest) = omega arith in
-    let longer = put_length c.parts.out.items c.put_part.new.out.items (packets (unit_of c.args.peer (part_under (number_in c.in-Some.slot) c.is_empty-end.result ([] ++ c.split_at.result.0.now)) ∷ [])) c.in-Ok-put_part.ensures.ok in
+    let longer = put_length c.parts.out.items c.put_part.new.out.items
+    (packets (unit_of c.args.peer (part_under (number_in c.in-Some.slot) c.is_empty-end.result ([] ++ c.split_at.result.0.now)) ∷ []))
+    c.in-Ok-put_part.ensures.ok in
     let room = c.in-Ok-put_part.ensures.spare in
     let kept = c.parts.invariant.1 in
-    let parting = subst (λ (r : List ℕ). IsParting c.args.peer first c.args.out.now.items then r c.args.kept.items c.put_part.new.out.items c.put_part.new.out.spare) cut.left
+    let parting = subst (λ (r : List ℕ). IsParting c.args.peer first c.args.out.now.items then r c.args.kept.items
+    c.put_part.new.out.items c.put_part.new.out.spare) cut.left
     (parting_next c.args.peer first (any_standing c.parts.link) then c.args.out.now.items rest c.args.kept.items c.parts.out.items c.put_part.new.out.items unit
     c.parts.out.spare c.put_part.new.out.spare c.parts.invariant.0 (omega arith) (c.in-Some.ensures.given rest) c.in-Some.ensures.alone put took some) in
     (parting, omega (arith, longer, room, kept))
