@@ -1,6 +1,6 @@
 -- TSDUs whose units may all be given now are given whole, one after the other.
 -- For the law `all_go_at_once`, and for `are_few` of sizes, which counts the units.
-use Rattle.std.proofs.Common.{◌≡◌, ℕ, zero, suc, ◌+◌, ◌-◌, ◌%◌, ◌<◌, ◌≤◌, Bool, true, false, List, [], ◌∷◌, ◌++◌, length, take, drop, map, get_or, Option, Some, None, inl, refl, sym, ◌∙◌, ap, subst, arith, nat_lt, is_some, if◌then◌else◌, length-drop}
+use Rattle.std.proofs.Common.{◌≡◌, ℕ, zero, suc, ◌+◌, ◌-◌, ◌%◌, ◌<◌, ◌≤◌, true, false, List, [], ◌∷◌, length, take, drop, map, get_or, Option, Some, None, refl, sym, ◌∙◌, ap, subst, arith, nat_lt, is_some, if◌then◌else◌, length-drop}
 use Rattle.std.proofs.lemmas.List.Sums.{sum_by-cons}
 use Rattle.osi_class.proofs.Vocabulary.{ltb-true, ltb-false, Ends, Flow, Drained, drained_by, drained_within, drained, octets_in, parts_needed, units_needed, MayGoAll, AllGoAtOnce, GoesWhole, Joining, Standing, given_part, next, sent_flow, with_tsdu, zero_standing, two_standing, give}
 use Rattle.osi_class.proofs.Giving.{within_none, drained_ends, drained_leaves}
