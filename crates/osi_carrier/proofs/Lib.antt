@@ -20,6 +20,7 @@ pub mod Slots
 pub mod SentAll
 pub mod Pieces
 pub mod ToldOpen
+pub mod TsdusAreWrittenStraight
 pub mod Lasting
 pub mod Outcomes
 pub mod Growing

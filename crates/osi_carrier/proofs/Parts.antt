@@ -1,5 +1,5 @@
 -- Writing a TSDU straight from its octets, part after part, and keeping what may not be sent yet.
-use Rattle.std.proofs.Common.{◌≡◌, ℕ, ◌+◌, ◌<◌, ◌≤◌, List, [], ◌∷◌, ◌++◌, length, drop, Option, Some, None, refl, sym, ap, ◌∙◌, subst, append_assoc, arith}
+use Rattle.std.proofs.Common.{◌≡◌, ℕ, ◌+◌, ◌<◌, ◌≤◌, List, [], ◌∷◌, ◌++◌, length, drop, Option, Some, None, refl, sym, ap, ◌∙◌, subst, append_assoc, length-append, arith}
 use Rattle.std.proofs.Math.Seq.{drop-append-add}
 use Rattle.std.proofs.lemmas.List.{drop-drop}
 use Rattle.osi_class.proofs.PartLaws.{goes_at_once, some_rest}
@@ -59,6 +59,10 @@ part_room peer link new rest unit room part =
 pub empty_list : (l : List ℕ) → length l ≡ 0 → l ≡ []
 empty_list [] h = refl
 empty_list (x ∷ l) h = absurd (omega arith)
+
+-- what was written makes the octets longer
+pub put_length : (octets after unit : List ℕ) → after ≡ octets ++ unit → length after ≡ length octets + length unit
+put_length octets after unit e = ap length e ∙ length-append octets unit
 
 -- what is left of it may be sent now too, except for the same that is kept
 pub rest_goes : (link new : Standing) (rest kept : List ℕ) (unit : Given) → Goes link rest kept → 0 < link.ends.limit → GivesPart unit rest link new →

@@ -10,7 +10,7 @@ pub use Rattle.std.specs.Prelude.{min}
 pub use Rattle.std.specs.List.{AllByRecursion, flat_map, list_any, position_or_len, remove}
 pub use Rattle.osi_class.proofs.Giving.{drained_leaves, drained_none, drained_some}
 pub use Rattle.osi_class.specs.AnyLink.{any_standing}
-pub use Rattle.osi_class.specs.Giving.{Drained, GivesPart, GivesSlot, GoesAtOnce, IsNumbered, all_given, drained, first_in, given_one_by_one, header_octets, left_to_give, number_in, octets_in, octets_of, one_by_one, with_rest}
+pub use Rattle.osi_class.specs.Giving.{AllGoAtOnce, Drained, GivesPart, GivesSlot, GoesAtOnce, GoesWhole, IsNumbered, all_given, drained, first_in, given_one_by_one, header_octets, left_to_give, number_in, octets_in, octets_of, one_by_one, with_rest}
 pub use Rattle.osi_class.specs.declared.units.Slot.{Slot}
 pub use Rattle.osi_class.specs.Link.{Given, Gives, Hands, Standing, ack, given, needs_memory, next, part0, part2, part_needs_memory, part_under, taken, taken_by, taken_flow, unit_of, with_joined, with_tsdu, with_tsdus}
 pub use Rattle.osi_class.specs.Negotiation.{Selection, accept, refuse, selected_by, selection}

@@ -128,8 +128,10 @@ impl Carrier {
     }
 
     /// Sends TSDUs of at most 1,048,576 octets each together on an open connection, all or none, in order, as
-    /// [`Carrier::send`] does with each. The errors are the same; one TSDU that is too long makes the whole call fail.
-    /// An error changes nothing. An empty list sends nothing, and allocates nothing.
+    /// [`Carrier::send`] does with each. If all their units may be sent now, they are written straight from the TSDUs.
+    /// Otherwise copies of the TSDUs are kept, and what may be sent now is written from them. The errors are those of
+    /// [`Carrier::send`]; one TSDU that is too long makes the whole call fail. An error changes nothing. An empty list
+    /// sends nothing, and allocates nothing.
     pub fn send_all(&mut self, reference: Ref, tsdus: &[Vec<u8>]) -> Result<(), SendError>
         ensures ok { OnOk result (self.new ≡ record self.old { state = sent_all reference.0 (map (λ v. v.items) tsdus.now) self.old.state }) }
         ensures allowed { OnOk result (send_all_error (map (λ v. v.items) tsdus.now) (open_link reference.0 self.old.state) ≡ None) }

@@ -3,7 +3,7 @@
 ghost use Rattle.std.specs.Prelude.{◌≡◌, ◌<◌, ◌≤◌, ◌+◌, ◌^◌, ◌++◌, [], None, true, false, nat_lt, length, drop, map, IfOk, IsOk, OnOk, OnErr};
 ghost use Rattle.std.specs.Cow.{cow_slice_items, IsOwnedSlice};
 ghost use Rattle.osi_class.specs.AnyLink.{any_standing};
-ghost use Rattle.osi_class.specs.Giving.{all_given, octets_in, one_by_one};
+ghost use Rattle.osi_class.specs.Giving.{all_given, most_given, octets_in, one_by_one, AllGoAtOnce};
 ghost use Rattle.osi_class.specs.Link.{next, with_tsdu, with_tsdus};
 ghost use Rattle.osi_class.specs.Tsdus.{octets_of_tsdus};
 ghost use Rattle.osi_carrier.specs.Calls.{WaitsAlone, WaitTogether};
@@ -12,7 +12,9 @@ ghost use Rattle.osi_carrier.specs.State.{packets};
 
 use crate::writing::{put_given, put_part};
 use bytes::BytesMut;
-use osi_class::laws::{all_is_given, giving_ends, many_go_as_one_by_one, what_units_take};
+use osi_class::laws::{
+    all_go_at_once, all_is_given, giving_ends, many_go_as_one_by_one, what_units_take,
+};
 use osi_class::{AnyLink, Link, LinkFault};
 use std::alloc::{AllocError, Global};
 use std::borrow::CowSlice;
@@ -154,10 +156,30 @@ fn keep_all(link: &mut AnyLink, tsdus: CowSlice<'_, Vec<u8>, Global>) -> Result<
     }
 }
 
-/// Hands in TSDUs together at a link that gives nothing now, and writes all units that it then gives. An allocation
-/// failure changes nothing: the room for the units is reserved first. Owned ones that only wait need no memory.
+/// Writes all units of TSDUs straight from their octets, one TSDU after the other. They may all go now, and there is
+/// room for them in `out`.
+fn write_all(alloc: Global, link: &mut AnyLink, peer: u16, tsdus: &[Vec<u8>], out: &mut BytesMut)
+    requires go { AllGoAtOnce (any_standing link.old) (map (λ v. v.items) tsdus.now) }
+    requires quiet { next (any_standing link.old) ≡ None }
+    requires limit { 0 < (any_standing link.old).ends.limit }
+    requires room { length (packets (written_for peer (any_standing link.old) (map (λ v. v.items) tsdus.now))) ≤ out.old.spare }
+    ensures link { any_standing link.new ≡ one_by_one (any_standing link.old) (map (λ v. v.items) tsdus.now) }
+    ensures written { out.new.items ≡ out.old.items ++ packets (written_for peer (any_standing link.old) (map (λ v. v.items) tsdus.now)) }
+    ensures pumped { next (any_standing link.new) ≡ None }
+{
+    all_go_at_once();
+    'tsdus: for tsdu in tsdus {
+        write_parts(link, peer, tsdu, Vec::new(alloc), out);
+    }
+}
+
+/// Hands in TSDUs together at a link that gives nothing now, and writes all units that it then gives. If all of them
+/// may be sent now, they are written straight from the TSDUs, and no memory is needed but for their room. Otherwise the
+/// link keeps the TSDUs. An allocation failure changes nothing: the room for the units is reserved first. Owned TSDUs
+/// that only wait need no memory.
 #[tactic(auto, using(crate::proofs::NothingTakesNoRoom::nothing_takes_no_room))]
 pub fn send_all_on(
+    alloc: Global,
     link: &mut AnyLink,
     peer: u16,
     tsdus: CowSlice<'_, Vec<u8>, Global>,
@@ -169,14 +191,22 @@ pub fn send_all_on(
     ensures pumped { OnOk result (next (any_standing link.new) ≡ None) }
     ensures err { OnErr result ((any_standing link.new ≡ any_standing link.old) × (out.new.items ≡ out.old.items)) }
     ensures kept { IsOwnedSlice tsdus.entry → WaitTogether (any_standing link.old) (map (λ v. v.items) (cow_slice_items tsdus.entry)) → IsOk result }
+    ensures straight { AllGoAtOnce (any_standing link.old) (map (λ v. v.items) (cow_slice_items tsdus.entry)) →
+        most_given 9 (with_tsdus (any_standing link.old) (map (λ v. v.items) (cow_slice_items tsdus.entry))) ≤ out.old.spare → IsOk result }
 {
     many_go_as_one_by_one();
     what_units_take();
     let lent = tsdus.as_slice();
     let Some(room) = link.room_for_all(lent, MOST_HEADERS as u8) else {
+        // Named for the proof: it fits a `usize`.
+        let _capacity = out.capacity();
         return Err(AllocError);
     };
     out.reserve(room)?;
+    if link.gives_all(lent) {
+        write_all(alloc, link, peer, lent, out);
+        return Ok(());
+    }
     keep_all(link, tsdus)?;
     let Ok(()) = pump(link, peer, out) else {
         unreachable!()
@@ -194,6 +224,7 @@ fn write_parts(link: &mut AnyLink, peer: u16, tsdu: &[u8], kept: Vec<u8>, out: &
     ensures link { any_standing link.new ≡ pumped (with_tsdu (any_standing link.old) tsdu.now) }
     ensures written { out.new.items ≡ out.old.items ++ packets (written_by peer (with_tsdu (any_standing link.old) tsdu.now)) }
     ensures pumped { next (any_standing link.new) ≡ None }
+    ensures spare { length out.old.items + out.old.spare ≤ length out.new.items + out.new.spare }
 {
     let mut rest = tsdu;
     'parts: loop {

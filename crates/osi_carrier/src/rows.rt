@@ -170,6 +170,7 @@ impl Row {
     /// memory.
     fn send_all(
         &mut self,
+        alloc: Global,
         peer: u16,
         tsdus: CowSlice<'_, Vec<u8>, Global>,
         out: &mut BytesMut,
@@ -183,7 +184,7 @@ impl Row {
     {
         match &mut self.phase {
             Phase::Asked | Phase::Closing(_) => unreachable!(),
-            Phase::Linked(_, link) => send_all_on(link, peer, tsdus, out),
+            Phase::Linked(_, link) => send_all_on(alloc, link, peer, tsdus, out),
         }
     }
 
@@ -455,6 +456,7 @@ impl Connections {
     /// peer. An allocation failure changes nothing.
     pub fn send_all(
         &mut self,
+        alloc: Global,
         place: usize,
         reference: u16,
         peer: u16,
@@ -468,7 +470,7 @@ impl Connections {
         ensures err { OnErr result ((self.new ≡ self.old) × (out.new.items ≡ out.old.items)) }
         ensures kept { IsOwnedSlice tsdus.entry → WaitTogether (link_in (value_at reference self.old)) (map (λ v. v.items) (cow_slice_items tsdus.entry)) → IsOk result }
     {
-        self.rows[place].send_all(peer, tsdus, out)
+        self.rows[place].send_all(alloc, peer, tsdus, out)
     }
 
     /// Brings the connection at this place into another phase.

@@ -1,3 +1,4 @@
+pub mod AllThatMayGoIsGiven
 pub mod Arrival
 pub mod Classes
 pub mod Ending

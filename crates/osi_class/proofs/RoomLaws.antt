@@ -17,7 +17,7 @@ parts_cut limit octets room longer =
 pub one_part : (limit octets : ℕ) → 0 < limit → octets ≤ limit → parts_needed limit octets ≡ 1
 one_part limit octets room short = omega (arith, div-eq_of_lt)
 
-parts_some : (limit octets : ℕ) → 1 ≤ parts_needed limit octets
+pub parts_some : (limit octets : ℕ) → 1 ≤ parts_needed limit octets
 parts_some limit octets = omega arith
 
 pub take_drop : (limit : ℕ) (t : List ℕ) → length (take limit t) + length (drop limit t) ≡ length t
@@ -53,10 +53,10 @@ zero_counts limit room (suc n) t j small =
     ] refl
 
 -- class 2, with this credit
-abbrev two_flow : ℕ → ℕ → ℕ → ℕ → ℕ → Flow
+abbrev pub two_flow : ℕ → ℕ → ℕ → ℕ → ℕ → Flow
 two_flow a u c w x = record { sender = record { next = a; unacknowledged = u; credit = c }; receiver = record { window = w; expected = x; waiting = 0 } }
 
-abbrev two_with : ℕ → Joining → List ℕ → Flow → Standing
+abbrev pub two_with : ℕ → Joining → List ℕ → Flow → Standing
 two_with limit j t f = two_standing (record { limit = limit; unsent = t ∷ []; joining = j }) f
 
 pub more_credit : (c limit : ℕ) → 0 < c → c * limit ≡ limit + (c - 1) * limit
@@ -70,7 +70,7 @@ more_credit (suc c) limit some =
 pub one_unit_carries : (credit limit octets parts : ℕ) → 123 ≤ limit → 0 < min parts credit → min 123 octets ≤ min octets (credit * limit)
 one_unit_carries credit limit octets parts least some = let more = more_credit credit limit (omega arith) in omega (arith, more)
 
-no_tsdus : (limit : ℕ) (j : Joining) (a u c w x : ℕ) →
+pub no_tsdus : (limit : ℕ) (j : Joining) (a u c w x : ℕ) →
     next (two_standing (record { limit = limit; unsent = []; joining = j }) (two_flow a u c w x)) ≡ None
 no_tsdus limit j a u c w x =
     elim (nat_lt 0 c) as (λ k. (if◌then◌else◌ {A = Option (Given × Standing)} k None None) ≡ None) [ true ↦ refl | false ↦ refl ]
@@ -114,7 +114,7 @@ two_counts limit room (suc n) a u c w x t j small =
     ] refl
 
 -- what is to be sent is one TSDU, if nothing was
-alone : (u : List (List ℕ)) (t : List ℕ) → u ≡ [] → u ++ t ∷ [] ≡ t ∷ []
+pub alone : (u : List (List ℕ)) (t : List ℕ) → u ≡ [] → u ++ t ∷ [] ≡ t ∷ []
 alone u t e = ap (λ (x : List (List ℕ)). x ++ t ∷ []) e
 
 pub room_of_class_0 : (e : Ends) (t : List ℕ) → 0 < e.limit → next (zero_standing e) ≡ None →

@@ -10,7 +10,7 @@ pub use Rattle.osi_class.specs.Between.{AreOfClass, Comes, HasWholeTsdus, IsFres
 pub use Rattle.osi_class.specs.Directions.{Agree, AgreeInClass, AgreeZero, HaveFlows, StepsOrStays, TurnSteps, ack_numbers, direction, unit_numbers}
 pub use Rattle.osi_class.specs.Ends.{Ends, fresh_ends, unit_size}
 pub use Rattle.osi_class.specs.Flow.{Flow, Receiver, Sender, ack_number, acknowledged, after_acked, after_sent, after_taken, fresh_receiver, fresh_sender, is_awaited, steps_before}
-pub use Rattle.osi_class.specs.Giving.{Drained, GivesPart, GivesSlot, GoesAtOnce, all_given, drained_by, drained_within, given_one_by_one, header_octets, left_of_acks, left_of_tsdus, left_to_give, most_by, most_given, octets_in, octets_in_parts, octets_of, one_by_one, parts_needed, with_rest}
+pub use Rattle.osi_class.specs.Giving.{AllGoAtOnce, Drained, GivesPart, GivesSlot, GoesAtOnce, GoesWhole, MayGoAll, all_given, drained_by, drained_within, given_one_by_one, header_octets, left_of_acks, left_of_tsdus, left_to_give, most_by, most_given, octets_in, octets_in_parts, octets_of, one_by_one, parts_needed, units_needed, with_rest}
 unfoldable pub use Rattle.osi_class.specs.Giving.{drained}
 pub use Rattle.osi_class.specs.Joining.{Joining, joined, joining, with_part}
 pub use Rattle.osi_class.specs.Limits.{longest_tsdu}

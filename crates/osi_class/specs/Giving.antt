@@ -1,5 +1,5 @@
 -- All that a link gives, one unit after the other, until it gives none.
-use Rattle.std.specs.Prelude.{◌≡◌, ℕ, zero, suc, ◌+◌, ◌-◌, ◌*◌, ◌/◌, ◌<◌, nat_le, min, List, [], ◌∷◌, ◌++◌, length, take, drop, Option, Some, None}
+use Rattle.std.specs.Prelude.{◌≡◌, ℕ, zero, suc, ◌+◌, ◌-◌, ◌*◌, ◌/◌, ◌<◌, ◌≤◌, nat_le, min, List, [], ◌∷◌, ◌++◌, length, take, drop, Option, Some, None}
 use Rattle.std.specs.List.{sum_by}
 use Rattle.osi_class.specs.Ends.{Ends}
 use Rattle.osi_class.specs.Flow.{Flow}
@@ -84,6 +84,25 @@ given_one_by_one s (tsdu ∷ tsdus) = all_given (with_tsdu s tsdu) ++ given_one_
 abbrev pub one_by_one : Standing → List (List ℕ) → Standing
 one_by_one s [] = s
 one_by_one s (tsdu ∷ tsdus) = one_by_one (drained (with_tsdu s tsdu)).link tsdus
+
+-- in how many units TSDUs go
+abbrev pub units_needed : ℕ → List (List ℕ) → ℕ
+units_needed limit tsdus = sum_by (λ tsdu. parts_needed limit (length tsdu)) tsdus
+
+-- In class 0 any number of units may be sent at any time; in class 2 if no Ack is due and there is credit for all of them.
+abbrev pub MayGoAll : ℕ → Option Flow → Type 0
+MayGoAll units None = Unit {0}
+MayGoAll units (Some f) = (f.receiver.waiting ≡ 0) × (units ≤ f.sender.credit)
+
+-- all units of TSDUs that are handed in now may be given at once: nothing is to be sent before them
+pub record AllGoAtOnce (s : Standing) (tsdus : List (List ℕ)) : Type 0 where
+  pub alone : s.ends.unsent ≡ []
+  pub may : MayGoAll (units_needed s.ends.limit tsdus) s.flow
+
+-- a TSDU is given whole, and then all units of others may be given
+pub record GoesWhole (s : Standing) (tsdu : List ℕ) (more : List (List ℕ)) : Type 0 where
+  pub octets : octets_in (all_given (with_tsdu s tsdu)) ≡ length tsdu
+  pub others : AllGoAtOnce (drained (with_tsdu s tsdu)).link more
 
 -- In class 0 data may be sent at any time; in class 2 if no Ack is due and there is credit.
 abbrev pub MayGo : Option Flow → Type 0

@@ -7,7 +7,7 @@ use crate::limits::Credit;
 use crate::links::Link;
 use crate::queue::Queue;
 use crate::sending::Outgoing;
-use crate::sizes::{most_octets, room_for_parts, room_within};
+use crate::sizes::{are_few, most_octets, room_for_parts, room_within};
 use crate::units::{Out, Room, Slot};
 use osi_tpdu::{SizeCode, Tpdu, Window};
 use std::alloc::{AllocError, Global};
@@ -174,5 +174,12 @@ impl Link for Class2 {
             None => Some(open),
             Some(room) => Some(room.min(open)),
         }
+    }
+
+    fn gives_all(&self, tsdus: &[Vec<u8>]) -> bool {
+        if !self.outgoing.is_empty() || self.receiving.has_ack() {
+            return false;
+        }
+        are_few(self.limit, self.sending.credit(), tsdus)
     }
 }

@@ -133,4 +133,8 @@ impl Link for Class0 {
     fn room_for_all(&self, tsdus: &[Vec<u8>], headers: u8) -> Option<usize> {
         room_for_parts(self.limit, headers, tsdus)
     }
+
+    fn gives_all(&self, _tsdus: &[Vec<u8>]) -> bool {
+        self.outgoing.is_empty()
+    }
 }

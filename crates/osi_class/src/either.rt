@@ -117,4 +117,11 @@ impl Link for AnyLink {
             AnyLink::Two(link) => link.room_for_all(tsdus, headers),
         }
     }
+
+    fn gives_all(&self, tsdus: &[Vec<u8>]) -> bool {
+        match self {
+            AnyLink::Zero(link) => link.gives_all(tsdus),
+            AnyLink::Two(link) => link.gives_all(tsdus),
+        }
+    }
 }

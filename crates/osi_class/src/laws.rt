@@ -13,7 +13,7 @@ ghost use Rattle.osi_class.specs.Ends.{Ends, unit_size, fresh_ends};
 ghost use Rattle.osi_class.specs.Flow.{Flow, fresh_sender, fresh_receiver, acknowledged, is_awaited, steps_before};
 ghost use Rattle.osi_class.specs.Joining.{joined, with_part};
 ghost use Rattle.osi_class.specs.Link.{Standing, Given, next, is_of_two, unit_of, given_in, with_tsdus, zero_standing, two_standing, fresh_two};
-ghost use Rattle.osi_class.specs.Giving.{left_to_give, drained, all_given, octets_of, octets_in, header_octets, most_given, given_one_by_one, one_by_one};
+ghost use Rattle.osi_class.specs.Giving.{AllGoAtOnce, GoesWhole, left_to_give, drained, all_given, octets_of, octets_in, header_octets, most_given, given_one_by_one, one_by_one};
 ghost use Rattle.osi_class.specs.Runs.{Move, Moves, MovesAlong, hand_in, give_out, tsdus_in, parts_out, parts_in, tsdus_out};
 ghost use Rattle.osi_class.specs.Sound.{IsSound, HasGivenInRange, TakesInRange};
 ghost use Rattle.osi_class.specs.Tsdus.{Part, MakeTheSame, tsdus, tsdus_after, uncut};
@@ -139,6 +139,13 @@ pub fn many_go_as_one_by_one()
 pub fn what_units_take()
     ensures { (headers : ℕ) (s : Standing) → 0 < s.ends.limit →
         octets_in (all_given s) + length (all_given s) * headers ≤ most_given headers s }
+{}
+
+/// If all units of TSDUs may be given now, the first TSDU is given whole, in its parts, and then all units of the others
+/// may be given.
+pub fn all_go_at_once()
+    ensures { (s : Standing) (tsdu : List ℕ) (others : List (List ℕ)) → 0 < s.ends.limit → AllGoAtOnce s (tsdu ∷ others) →
+        GoesWhole s tsdu others }
 {}
 
 /// A new link satisfies the bounds of `IsSound`, and every call keeps them, for units whose numbers are in range. No

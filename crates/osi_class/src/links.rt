@@ -12,11 +12,11 @@ use std::alloc::AllocError;
 /// What a link holds and what each call does is stated on its `standing`, which both classes have; the laws over lists
 /// of calls are in [`crate::laws`].
 pub trait Link {
-    ghost use Rattle.std.specs.Prelude.{ℕ, List, ◌≡◌, ◌<◌, ◌≤◌, ◌+◌, ◌*◌, ◌^◌, [], None, length, map, min, IfSome, IfNone, IsOk, IsSome, OnOk, OnErr, option_map};
+    ghost use Rattle.std.specs.Prelude.{ℕ, List, ◌≡◌, ◌<◌, ◌≤◌, ◌+◌, ◌*◌, ◌^◌, [], None, true, false, length, map, min, IfSome, IfNone, IsOk, IsSome, OnOk, OnErr, option_map};
     ghost use Rattle.std.specs.Borrow.{sem};
     ghost use Rattle.std.specs.Io.BufRead.{Rests};
     ghost use Rattle.osi_tpdu.specs.View.{value};
-    ghost use Rattle.osi_class.specs.Giving.{all_given, octets_in, most_given, GoesAtOnce, GivesSlot, IsNumbered};
+    ghost use Rattle.osi_class.specs.Giving.{all_given, octets_in, most_given, AllGoAtOnce, GoesAtOnce, GivesSlot, IsNumbered};
     ghost use Rattle.osi_class.specs.Limits.{longest_tsdu};
     ghost use Rattle.osi_class.specs.Link.{Standing, with_tsdu, with_tsdus, unsent_octets, given, taken, needs_memory, next, Gives, Hands, FitsAUnit};
     ghost use Rattle.osi_class.specs.Sound.{IsSound};
@@ -127,4 +127,10 @@ pub trait Link {
         ensures value { IfSome result (λ room. next (standing self.now) ≡ None → room ≡ most_given headers (with_tsdus (standing self.now) (map (λ v. v.items) tsdus.now))) }
         ensures none { IfNone result (next (standing self.now) ≡ None → 2 ^ 64 ≤ most_given headers (with_tsdus (standing self.now) (map (λ v. v.items) tsdus.now))) }
         ensures at_least { 123 ≤ (standing self.now).ends.limit };
+
+    /// Whether all units of these TSDUs may be given now, one after the other: nothing is to be sent before them and, in
+    /// class 2, no Ack waits and there is credit for all of them.
+    fn gives_all(&self, tsdus: &[Vec<u8>]) -> bool
+        ensures all { result ≡ true → AllGoAtOnce (standing self.now) (map (λ v. v.items) tsdus.now) }
+        ensures some_wait { result ≡ false → AllGoAtOnce (standing self.now) (map (λ v. v.items) tsdus.now) → ⊥ };
 }

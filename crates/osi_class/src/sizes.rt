@@ -1,9 +1,9 @@
 //! Sizes of units, and the number of parts of a TSDU.
 
-ghost use Rattle.std.specs.Prelude.{◌≡◌, ◌<◌, ◌≤◌, ◌+◌, ◌*◌, ◌^◌, min, length, map, IfSome, IfNone, SomeIff};
+ghost use Rattle.std.specs.Prelude.{◌≡◌, ◌<◌, ◌≤◌, ◌+◌, ◌*◌, ◌^◌, min, nat_le, length, map, IfSome, IfNone, SomeIff};
 ghost use Rattle.osi_tpdu.specs.Limits.{size_code};
 ghost use Rattle.osi_class.specs.Ends.{unit_size};
-ghost use Rattle.osi_class.specs.Giving.{parts_needed, octets_in_parts};
+ghost use Rattle.osi_class.specs.Giving.{parts_needed, octets_in_parts, units_needed};
 
 use crate::units::Room;
 use osi_tpdu::SizeCode;
@@ -77,4 +77,20 @@ pub fn room_for_parts(limit: usize, headers: u8, tsdus: &[Vec<u8>]) -> Option<us
         room = room.checked_add(more)?;
     }
     Some(room)
+}
+
+/// Whether these TSDUs go in at most this many units, in parts of at most `limit` octets.
+pub fn are_few(limit: usize, units: u8, tsdus: &[Vec<u8>]) -> bool
+    requires { 123 ≤ limit }
+    ensures { result ≡ nat_le (units_needed limit (map (λ v. v.items) tsdus.now)) units }
+{
+    let mut left = usize::from(units);
+    'tsdus: for tsdu in tsdus {
+        let parts = count_parts(limit, tsdu.len());
+        if parts > left {
+            return false;
+        }
+        left -= parts;
+    }
+    true
 }

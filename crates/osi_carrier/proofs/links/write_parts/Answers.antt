@@ -1,21 +1,23 @@
 use Rattle.std.proofs.Common.{◌≡◌, ◌<◌, ◌≤◌, ◌+◌, ℕ, Bool, List, [], ◌∷◌, ◌++◌, length, drop, refl, sym, ap, subst, ◌∙◌, arith}
 use Rattle.osi_class.specs.declared.either.AnyLink.{AnyLink}
-use Rattle.osi_carrier.proofs.Vocabulary.{eqb-true, eqb-false, any_standing, first_in, octets_of, Given, GoesAtOnce, unit_of, packets, with_tsdu}
-use Rattle.osi_carrier.proofs.Parts.{IsParting, parting_first, parting_kept, part_room, empty_list, parting_next, parting_last}
+use Rattle.osi_carrier.proofs.Vocabulary.{eqb-true, eqb-false, any_standing, first_in, number_in, octets_of, Given, GoesAtOnce, part_under, unit_of, packets, with_tsdu}
+use Rattle.osi_carrier.proofs.Parts.{IsParting, parting_first, parting_kept, part_room, empty_list, put_length, parting_next, parting_last}
 use Rattle.osi_carrier.proofs.Slots.{first_cut}
 use Rattle.osi_carrier.proofs.links.write_parts.Goals as goal
 
 pub parts-init : goal.parts-init
-parts-init c =
-    parting_first c.args.peer (any_standing c.args.link.now) c.args.tsdu.now c.args.kept.items c.args.out.now.items c.args.out.now.spare
-    (record { quiet = c.requires.quiet; alone = c.requires.alone; left = c.requires.kept }) c.requires.room
+parts-init c = (
+  parting_first c.args.peer (any_standing c.args.link.now) c.args.tsdu.now c.args.kept.items c.args.out.now.items c.args.out.now.spare
+      (record { quiet = c.requires.quiet; alone = c.requires.alone; left = c.requires.kept }) c.requires.room,
+  omega arith,
+)
 
 pub returns-in_default-clause-link : goal.returns-in_default-clause-link
 returns-in_default-clause-link c =
     let never : GoesAtOnce (any_standing c.parts.link) → ⊥ = λ goes. (let given = c.in_default.ensures.at_once goes in cc) in
     let is = c.in-Ok.ensures.ok ∙ ap (λ (l : AnyLink). with_tsdu (any_standing l) c.args.kept.items) c.in_default.ensures.none in
     let all = parting_kept c.args.peer (with_tsdu (any_standing c.args.link.now) c.args.tsdu.now) (any_standing c.parts.link) (any_standing c.send_owned.new.self)
-    c.args.out.now.items c.parts.rest.now c.args.kept.items c.parts.out.items c.parts.out.spare c.parts.invariant never is in
+    c.args.out.now.items c.parts.rest.now c.args.kept.items c.parts.out.items c.parts.out.spare c.parts.invariant.0 never is in
     all.whole.link
 
 pub returns-in_default-clause-written : goal.returns-in_default-clause-written
@@ -23,7 +25,7 @@ returns-in_default-clause-written c =
     let never : GoesAtOnce (any_standing c.parts.link) → ⊥ = λ goes. (let given = c.in_default.ensures.at_once goes in cc) in
     let is = c.in-Ok.ensures.ok ∙ ap (λ (l : AnyLink). with_tsdu (any_standing l) c.args.kept.items) c.in_default.ensures.none in
     let all = parting_kept c.args.peer (with_tsdu (any_standing c.args.link.now) c.args.tsdu.now) (any_standing c.parts.link) (any_standing c.send_owned.new.self)
-    c.args.out.now.items c.parts.rest.now c.args.kept.items c.parts.out.items c.parts.out.spare c.parts.invariant never is in
+    c.args.out.now.items c.parts.rest.now c.args.kept.items c.parts.out.items c.parts.out.spare c.parts.invariant.0 never is in
     all.whole.written
 
 pub unreachable-requires-in_default-put_part : goal.unreachable-requires-in_default-put_part
@@ -37,7 +39,7 @@ unreachable-requires-in_default-put_part c =
     let unit = first_in c.in-Some.slot limit rest in
     let size = ap (λ (u : Given). length (packets (unit_of c.args.peer u ∷ []))) cut.unit in
     let room = part_room c.args.peer (any_standing c.parts.link) (any_standing c.give_slot.new.self) rest unit (omega arith) (c.in-Some.ensures.given rest) in
-    let enough = c.parts.invariant.room in
+    let enough = c.parts.invariant.0.room in
     let full = c.in_default-put_part.ensures.full in
     omega arith
 
@@ -55,8 +57,13 @@ returns-then-end c =
     let nothing = eqb-true (length c.split_at.result.1.now) 0 (sym c.is_empty-end.ensures ∙ c.if-end.true) in
     let none : drop (octets_of unit) rest ≡ [] = cut.left ∙ empty_list c.split_at.result.1.now nothing in
     let all = parting_last c.args.peer (with_tsdu (any_standing c.args.link.now) c.args.tsdu.now) (any_standing c.parts.link) (any_standing c.give_slot.new.self)
-    c.args.out.now.items rest c.args.kept.items c.parts.out.items c.put_part.new.out.items unit c.parts.out.spare c.parts.invariant (omega arith) part put none in
-    record { link = all.link; written = all.written; pumped = part.last }
+    c.args.out.now.items rest c.args.kept.items c.parts.out.items c.put_part.new.out.items unit c.parts.out.spare c.parts.invariant.0 (omega arith) part put none in
+    let longer = put_length c.parts.out.items c.put_part.new.out.items
+    (packets (unit_of c.args.peer (part_under (number_in c.in-Some.slot) c.is_empty-end.result ([] ++ c.split_at.result.0.now)) ∷ []))
+    c.in-Ok-put_part.ensures.ok in
+    let room = c.in-Ok-put_part.ensures.spare in
+    let kept = c.parts.invariant.1 in
+    record { link = all.link; written = all.written; pumped = part.last; spare = omega (arith, longer, room, kept) }
 
 pub parts-preserved : goal.parts-preserved
 parts-preserved c =
@@ -75,6 +82,13 @@ parts-preserved c =
     let left = ap length cut.left in
     let something : length c.split_at.result.1.now ≡ 0 → ⊥ = eqb-false (length c.split_at.result.1.now) 0 (sym c.is_empty-end.ensures ∙ c.if-end.false) in
     let some : 0 < length (drop (octets_of unit) rest) = omega arith in
-    subst (λ (r : List ℕ). IsParting c.args.peer first c.args.out.now.items then r c.args.kept.items c.put_part.new.out.items c.put_part.new.out.spare) cut.left
+    let longer = put_length c.parts.out.items c.put_part.new.out.items
+    (packets (unit_of c.args.peer (part_under (number_in c.in-Some.slot) c.is_empty-end.result ([] ++ c.split_at.result.0.now)) ∷ []))
+    c.in-Ok-put_part.ensures.ok in
+    let room = c.in-Ok-put_part.ensures.spare in
+    let kept = c.parts.invariant.1 in
+    let parting = subst (λ (r : List ℕ). IsParting c.args.peer first c.args.out.now.items then r c.args.kept.items
+    c.put_part.new.out.items c.put_part.new.out.spare) cut.left
     (parting_next c.args.peer first (any_standing c.parts.link) then c.args.out.now.items rest c.args.kept.items c.parts.out.items c.put_part.new.out.items unit
-    c.parts.out.spare c.put_part.new.out.spare c.parts.invariant (omega arith) (c.in-Some.ensures.given rest) c.in-Some.ensures.alone put took some)
+    c.parts.out.spare c.put_part.new.out.spare c.parts.invariant.0 (omega arith) (c.in-Some.ensures.given rest) c.in-Some.ensures.alone put took some) in
+    (parting, omega (arith, longer, room, kept))

@@ -1,0 +1,6 @@
+use Rattle.std.proofs.Common.{◌≡◌, ◌+◌, map, take}
+use Rattle.osi_class.specs.Giving.{units_needed}
+use Rattle.osi_class.proofs.sizes.are_few.Given as goal
+
+abbrev pub invariant-tsdus : goal.invariant-tsdus
+invariant-tsdus l = l.left + units_needed l.limit (map (λ v. v.items) (take l.tsdu-index l.tsdus)) ≡ l.units
