@@ -1,7 +1,8 @@
 //! The trace of one direction of a byte connection.
 
 ghost use Rattle.std.specs.Prelude.{◌≡◌, ◌++◌, ℕ, List, [], length, vec_capacity, true, false};
-ghost use Rattle.osi_listing.specs.Traced.{IsTraced, IsBounded, AreCounted, KeepsOn, CountsOn, HasToStop, unfetched, counted, octets_taken, is_stopped};
+ghost use Rattle.osi_listing.specs.Traced.{IsTraced, IsBounded, AreCounted, unfetched, counted, octets_taken, is_stopped};
+ghost use Rattle.osi_listing.specs.Traced.{KeepsOn, CountsOn, HasToStop};
 
 use crate::counting::Counts;
 use crate::pieces::Lister;

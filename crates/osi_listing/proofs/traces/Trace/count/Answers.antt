@@ -15,4 +15,5 @@ returns-clause-traced c = λ counts octets fetched h.
 
 pub returns-clause-stops : goal.returns-clause-stops
 returns-clause-stops c = λ stopped.
-    inr (inl (stops_for_streams c.counting-self.result c.feed.new.self c.unfinished.result c.unfinished.ensures c.counting-self.ensures stopped))
+    inr (inl (stops_for_streams c.counting-self.result c.feed.new.self c.unfinished.result c.unfinished.ensures
+    c.counting-self.ensures stopped))
