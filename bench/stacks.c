@@ -209,6 +209,12 @@ static uint64_t in_parts(const uint8_t *data, size_t length, size_t rounds, uint
     return osi_bench_stacks(data, length, rounds, connections, class_two, points, 65535);
 }
 
+/* A small limit: data of 1,000 octets leaves in five parts, so that the cost of a part is most of it. */
+static uint64_t in_short_parts(const uint8_t *data, size_t length, size_t rounds, uint16_t connections, bool class_two, bool points)
+{
+    return osi_bench_stacks(data, length, rounds, connections, class_two, points, 256);
+}
+
 typedef uint64_t job(const uint8_t *, size_t, size_t, uint16_t, bool, bool);
 
 #define JOBS 2
@@ -277,11 +283,13 @@ static job *job_of(char **words)
 {
     if (strcmp(words[4], "parts") == 0)
         return in_parts;
+    if (strcmp(words[4], "short-parts") == 0)
+        return in_short_parts;
     return strcmp(words[1], "proved") == 0 ? proved : stacks_by_hand;
 }
 
-/* With the words `job class connections data|points|parts octets rounds` one job runs once, to be counted; it prints the
-   number of rounds. */
+/* With the words `job class connections data|points|parts|short-parts octets rounds` one job runs once, to be counted; it
+   prints the number of rounds. */
 static int once(char **words, const uint8_t *data)
 {
     size_t n = strtoul(words[5], NULL, 10), rounds = strtoul(words[6], NULL, 10);

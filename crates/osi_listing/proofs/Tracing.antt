@@ -1,12 +1,13 @@
 -- A trace after one more piece, and after a fetch: what was given is still the listing, or a prefix of it. For `Trace`.
-use Rattle.std.proofs.Common.{◌≡◌, ◌∙◌, ℕ, List, [], ◌++◌, refl, sym, ap, subst}
+use Rattle.std.proofs.Common.{◌≡◌, ◌∙◌, ◌<◌, ◌⊎◌, inl, inr, ℕ, true, List, [], ◌++◌, refl, sym, ap, subst}
+use Rattle.std.proofs.lemmas.Bool.{false≢true}
 use Rattle.std.proofs.lemmas.List.{append_assoc, append-nil}
 use Rattle.osi_listing.specs.declared.pieces.Lister.{Lister}
 use Rattle.osi_listing.specs.declared.traces.Keeping.{Keeping}
 use Rattle.osi_listing.specs.declared.traces.Keeping.TheVariants.{Lines, Counters, Nothing}
 use Rattle.osi_listing.specs.Fed.{IsFed, Feeds}
 use Rattle.osi_listing.specs.SoFar.{IsListedSoFar}
-use Rattle.osi_listing.specs.Traced.{IsListedInPart, Stands, KeepsOn, CountsOn}
+use Rattle.osi_listing.specs.Traced.{IsListedInPart, Stands, KeepsOn, CountsOn, LacksRoom, FindsNoRoom, keeps_nothing, unfinished}
 use Rattle.osi_listing.proofs.Standing.{stands_so_far}
 
 -- a trace that kept lines, or that counted, stops before a piece
@@ -56,17 +57,17 @@ stays_stopped k lister octets piece given e h =
     })
 
 -- a trace that kept lines, after the lines of a piece
-pub kept : (k last : Keeping) (old new : Lister) (octets piece fetched text before lines slice after : List ℕ) (streams : ℕ) → k ≡ Lines → before ≡ [] →
-    slice ≡ lines → KeepsOn text slice streams last after → Feeds old piece before lines new → Stands k old octets (fetched ++ text) →
+pub kept : (k last : Keeping) (old new : Lister) (octets piece fetched text before lines slice after : List ℕ) (room streams : ℕ) → k ≡ Lines → before ≡ [] →
+    slice ≡ lines → KeepsOn room text slice streams last after → Feeds old piece before lines new → Stands k old octets (fetched ++ text) →
     Stands last new (octets ++ piece) (fetched ++ after)
-kept k Lines old new octets piece fetched text before lines slice after streams e none same keeps feeds h =
+kept k Lines old new octets piece fetched text before lines slice after room streams e none same keeps feeds h =
     let went = feeds octets (fetched ++ text) (subst (λ (k : Keeping). Stands k old octets (fetched ++ text)) e h) in
     let gained : slice ≡ went.0 = same ∙ went.1 ∙ ap (λ (b : List ℕ). b ++ went.0) none in
     subst (λ (given : List ℕ). IsFed new (octets ++ piece) given)
     (append_assoc fetched text went.0 ∙ ap (λ (m : List ℕ). fetched ++ (text ++ m)) (sym gained) ∙ ap (λ (a : List ℕ). fetched ++ a) (sym keeps.0)) went.2
-kept k Counters old new octets piece fetched text before lines slice after streams e none same keeps feeds h = absurd keeps
-kept k Nothing old new octets piece fetched text before lines slice after streams e none same keeps feeds h =
-    subst (λ (a : List ℕ). IsListedInPart (octets ++ piece) (fetched ++ a)) (sym keeps) (stops_lines k old octets piece (fetched ++ text) e h)
+kept k Counters old new octets piece fetched text before lines slice after room streams e none same keeps feeds h = absurd keeps
+kept k Nothing old new octets piece fetched text before lines slice after room streams e none same keeps feeds h =
+    subst (λ (a : List ℕ). IsListedInPart (octets ++ piece) (fetched ++ a)) (sym keeps.0) (stops_lines k old octets piece (fetched ++ text) e h)
 
 -- a trace that counted, after a piece
 pub counted_on : (k last : Keeping) (old new : Lister) (octets piece given before lines : List ℕ) (streams : ℕ) → k ≡ Counters →
@@ -113,3 +114,31 @@ pub whole_listing : (k : Keeping) (lister : Lister) (octets given : List ℕ) �
 whole_listing k lister octets given h e =
     let fed : IsFed lister octets given = subst (λ (k : Keeping). Stands k lister octets given) e h in
     stands_so_far lister.stage lister.work octets given fed.stands
+
+-- the lines of a piece find no room
+no_room : (room : ℕ) (old new : Lister) (piece text before lines slice : List ℕ) → before ≡ [] → slice ≡ lines → LacksRoom room text slice →
+    Feeds old piece before lines new → FindsNoRoom room text old piece new
+no_room room old new piece text before lines slice none same lacks feeds =
+    record {
+      lines = lines;
+      listed = subst (λ (b : List ℕ). Feeds old piece b lines new) none feeds;
+      lacks = subst (λ (l : List ℕ). LacksRoom room text l) same lacks;
+    }
+
+-- why a trace stops that kept lines
+pub stops_for : (last : Keeping) (room : ℕ) (old new : Lister) (piece text before lines slice after : List ℕ) (streams : ℕ) → before ≡ [] →
+    slice ≡ lines → streams ≡ unfinished new → KeepsOn room text slice streams last after → Feeds old piece before lines new →
+    keeps_nothing last ≡ true → (64 < unfinished new) ⊎ FindsNoRoom room text old piece new
+stops_for Lines room old new piece text before lines slice after streams none same told keeps feeds h = absurd (false≢true h)
+stops_for Counters room old new piece text before lines slice after streams none same told keeps feeds h = absurd keeps
+stops_for Nothing room old new piece text before lines slice after streams none same told (is, inl many) feeds h =
+    inl (subst (λ (n : ℕ). 64 < n) told many)
+stops_for Nothing room old new piece text before lines slice after streams none same told (is, inr lacks) feeds h =
+    inr (no_room room old new piece text before lines slice none same lacks feeds)
+
+-- why a trace stops that counted
+pub stops_for_streams : (last : Keeping) (new : Lister) (streams : ℕ) → streams ≡ unfinished new → CountsOn streams last →
+    keeps_nothing last ≡ true → 64 < unfinished new
+stops_for_streams Lines new streams told keeps h = absurd keeps
+stops_for_streams Counters new streams told keeps h = absurd (false≢true h)
+stops_for_streams Nothing new streams told keeps h = subst (λ (n : ℕ). 64 < n) told keeps

@@ -1,12 +1,12 @@
 -- The meaning of a trace, and the effect of each of its calls.
-use Rattle.std.specs.Prelude.{◌≡◌, ℕ, ◌≤◌, Bool, true, false, List, [], ◌++◌, length, ⊤}
+use Rattle.std.specs.Prelude.{◌≡◌, ℕ, ◌+◌, ◌<◌, ◌≤◌, ◌⊎◌, Bool, true, false, List, [], ◌++◌, length, vec_capacity}
 use Rattle.std.specs.BTreeMap.{btree_map_len}
 use Rattle.osi_listing.specs.declared.counting.Counts.{Counts}
 use Rattle.osi_listing.specs.declared.pieces.Lister.{Lister}
 use Rattle.osi_listing.specs.declared.traces.Keeping.{Keeping}
 use Rattle.osi_listing.specs.declared.traces.Keeping.TheVariants.{Lines, Counters, Nothing}
 use Rattle.osi_listing.specs.declared.traces.Trace.{Trace}
-use Rattle.osi_listing.specs.Fed.{IsFed}
+use Rattle.osi_listing.specs.Fed.{IsFed, IsLost, Feeds}
 use Rattle.osi_listing.specs.Joins.{join_value, join_at}
 use Rattle.osi_listing.specs.Streams as streams
 use Rattle.osi_listing.specs.SoFar.{IsListedSoFar}
@@ -84,14 +84,30 @@ pub record IsBounded (t : Trace) : Type 0 where
 
 -- ---- what a trace keeps after a piece
 
--- a text gains lines if there is room for them and not too many streams have an unfinished TSDU; otherwise the trace
--- stops
-abbrev pub KeepsOn : List ℕ → List ℕ → ℕ → Keeping → List ℕ → Type 0
-KeepsOn text lines streams Lines after = (after ≡ text ++ lines) × (length after ≤ 1048576) × (streams ≤ 64)
-KeepsOn text lines streams Counters after = ⊥
-KeepsOn text lines streams Nothing after = after ≡ text
+-- a text can't gain these lines: they are too long, or an allocation would have to make room for them
+abbrev pub LacksRoom : ℕ → List ℕ → List ℕ → Type 0
+LacksRoom room text lines = (1048576 < length text + length lines) ⊎ (room < length text + length lines)
+
+-- A text, in this room, gains lines if there is room for them and not too many streams have an unfinished TSDU. Otherwise the
+-- trace stops: too many streams have one, or the text lacks room.
+abbrev pub KeepsOn : ℕ → List ℕ → List ℕ → ℕ → Keeping → List ℕ → Type 0
+KeepsOn room text lines streams Lines after = (after ≡ text ++ lines) × (length after ≤ 1048576) × (streams ≤ 64)
+KeepsOn room text lines streams Counters after = ⊥
+KeepsOn room text lines streams Nothing after = (after ≡ text) × ((64 < streams) ⊎ LacksRoom room text lines)
 
 abbrev pub CountsOn : ℕ → Keeping → Type 0
 CountsOn streams Lines = ⊥
 CountsOn streams Counters = streams ≤ 64
-CountsOn streams Nothing = ⊤
+CountsOn streams Nothing = 64 < streams
+
+-- the lines of a piece find no room
+pub record FindsNoRoom (room : ℕ) (text : List ℕ) (old : Lister) (piece : List ℕ) (new : Lister) : Type 0 where
+  pub lines : List ℕ
+  pub listed : Feeds old piece [] lines new
+  pub lacks : LacksRoom room text lines
+
+-- why a trace stops: its lister ran out of memory; too many streams are within a TSDU; or, if it keeps lines, those of the piece
+-- find no room
+abbrev pub HasToStop : Trace → List ℕ → Trace → Type 0
+HasToStop old piece new = IsLost new.lister ⊎ ((64 < unfinished new.lister)
+    ⊎ ((old.keeping ≡ Lines) × FindsNoRoom (vec_capacity old.text) (unfetched old) old.lister piece new.lister))

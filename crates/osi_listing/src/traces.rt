@@ -1,7 +1,8 @@
 //! The trace of one direction of a byte connection.
 
-ghost use Rattle.std.specs.Prelude.{◌≡◌, ◌++◌, ℕ, List, [], length, false};
-ghost use Rattle.osi_listing.specs.Traced.{IsTraced, IsBounded, AreCounted, KeepsOn, CountsOn, unfetched, counted, octets_taken, is_stopped};
+ghost use Rattle.std.specs.Prelude.{◌≡◌, ◌++◌, ℕ, List, [], length, vec_capacity, true, false};
+ghost use Rattle.osi_listing.specs.Traced.{IsTraced, IsBounded, AreCounted, unfetched, counted, octets_taken, is_stopped};
+ghost use Rattle.osi_listing.specs.Traced.{KeepsOn, CountsOn, HasToStop};
 
 use crate::counting::Counts;
 use crate::pieces::Lister;
@@ -65,11 +66,12 @@ impl Trace {
         }
     }
 
-    /// Takes the next octets that passed.
+    /// Takes the next octets that passed. It stops only if it has to.
     pub fn feed(&mut self, alloc: Global, piece: &[u8])
         ensures traced { (octets fetched : List ℕ) → IsTraced self.old octets fetched → IsTraced self.new (octets ++ piece.now) fetched }
         ensures bounded { IsBounded self.old → IsBounded self.new }
         ensures keeping { is_stopped self.new ≡ false → self.new.keeping ≡ self.old.keeping }
+        ensures stops { is_stopped self.old ≡ false → is_stopped self.new ≡ true → HasToStop self.old piece.now self.new }
     {
         match self.keeping {
             Keeping::Lines => self.list(alloc, piece),
@@ -84,6 +86,7 @@ impl Trace {
             IsTraced self.new (octets ++ piece.now) fetched }
         ensures bounded { self.old.keeping ≡ Keeping.Lines → IsBounded self.old → IsBounded self.new }
         ensures keeping { is_stopped self.new ≡ false → self.new.keeping ≡ Keeping.Lines }
+        ensures stops { self.old.keeping ≡ Keeping.Lines → is_stopped self.new ≡ true → HasToStop self.old piece.now self.new }
     {
         let mut lines = Vec::new(alloc);
         match self.lister.feed(alloc, &mut lines, piece) {
@@ -102,6 +105,7 @@ impl Trace {
             IsTraced self.new (octets ++ piece.now) fetched }
         ensures bounded { self.old.keeping ≡ Keeping.Counters → IsBounded self.old → IsBounded self.new }
         ensures keeping { is_stopped self.new ≡ false → self.new.keeping ≡ Keeping.Counters }
+        ensures stops { is_stopped self.new ≡ true → HasToStop self.old piece.now self.new }
     {
         let mut lines = Vec::new(alloc);
         match self.lister.feed(alloc, &mut lines, piece) {
@@ -147,7 +151,7 @@ impl Trace {
 
 /// Adds lines to a text, if there is room for them and not too many streams have an unfinished TSDU.
 fn keep(text: &mut Vec<u8>, lines: &[u8], streams: usize) -> Keeping
-    ensures { KeepsOn text.old.items lines.now streams result text.new.items }
+    ensures { KeepsOn (vec_capacity text.old) text.old.items lines.now streams result text.new.items }
 {
     if streams > MOST_STREAMS {
         return Keeping::Nothing;

@@ -1,5 +1,5 @@
 -- Events one after the other.
-use Rattle.std.specs.Prelude.{◌≡◌, ◌<◌, List, [], ◌∷◌, ◌++◌, take, length, None, IfSome, slice_get}
+use Rattle.std.specs.Prelude.{◌≡◌, ◌<◌, ◌||◌, Bool, false, List, [], ◌∷◌, ◌++◌, take, length, None, IfSome, slice_get}
 use Rattle.osi_machine.specs.Core as machine
 use Rattle.osi_machine.specs.Machine.{Step, connects, calls, breaks, ends, told_of_break}
 use Rattle.osi_session.specs.Calls.{called_by}
@@ -19,8 +19,7 @@ use Rattle.osi_pair.specs.declared.faults.RunError.{RunError}
 -- An event that fits is applied; a carry carries as much as there is, up to what it was asked to, and is cut short only
 -- after it has noted something. If the two ends matched a list of steps of the machine, they match that list followed by
 -- the steps of the event; and they are safe.
-pub record Happens (event : Event) (old new : TwoEnds) : Type 0 where
-  pub applied : Applied
+pub record Happens (event : Event) (old : TwoEnds) (applied : Applied) (new : TwoEnds) : Type 0 where
   pub fits : misfit event old ≡ None
   pub does : Does event old applied.carried new
   pub carried : CarriesAsMuch event old applied
@@ -28,10 +27,12 @@ pub record Happens (event : Event) (old new : TwoEnds) : Type 0 where
   pub stands : (steps : List Step) → StandsAt old steps → StandsAfter event old new steps
   pub safe : IsSafe new
 
--- events happen one after the other
-abbrev pub HappenAll : List Event → TwoEnds → TwoEnds → Type 0
-HappenAll [] old new = new ≡ old
-HappenAll (event ∷ events) old new = (between : TwoEnds) × Happens event old between × HappenAll events between new
+-- events happen one after the other, and a carry among them is cut short, or none is
+abbrev pub HappenAll : List Event → TwoEnds → Bool → TwoEnds → Type 0
+HappenAll [] old is_cut new = (is_cut ≡ false) × (new ≡ old)
+HappenAll (event ∷ events) old is_cut new =
+    (between : TwoEnds) × (applied : Applied) × (later : Bool) × (is_cut ≡ (applied.is_cut_short || later))
+    × Happens event old applied between × HappenAll events between later new
 
 -- ---- their steps of the machine
 
@@ -70,15 +71,16 @@ pub record StandsBehind (events : List Event) (p : TwoEnds) (steps : List Step) 
 
 -- ---- a run
 
--- All events happen; and if the two ends matched a list of steps, they match that list followed by the steps of all
--- events.
-pub record RunsThrough (events : List Event) (old new : TwoEnds) : Type 0 where
-  pub all : HappenAll events old new
+-- All events happen, and a carry among them is cut short, or none is; and if the two ends matched a list of steps, they match
+-- that list followed by the steps of all events.
+pub record RunsThrough (events : List Event) (old : TwoEnds) (is_cut : Bool) (new : TwoEnds) : Type 0 where
+  pub all : HappenAll events old is_cut new
   pub stands : (steps : List Step) → StandsAt old steps → StandsBehind events new steps
 
 -- all events before one happen, and that one is refused; if because memory ran out, then only if it needs some
 pub record StopsAt (events : List Event) (old : TwoEnds) (error : RunError) (new : TwoEnds) : Type 0 where
   pub within : error.place < length events
-  pub before : RunsThrough (take error.place events) old new
+  pub is_cut : Bool
+  pub before : RunsThrough (take error.place events) old is_cut new
   pub refused : IfSome (slice_get events error.place) (λ event. error_by_rule error.error ≡ misfit event new)
   pub needed : IfSome (slice_get events error.place) (λ event. error.error ≡ OutOfMemory → WantsMemory event new)

@@ -1,5 +1,7 @@
 //! Two ends of one byte connection, and the promises about them.
 
+ghost use Rattle.std.specs.Prelude.{◌≡◌, ◌||◌};
+
 use crate::ends::Ends;
 use crate::entries::Entry;
 use crate::events::{Applied, Event};
@@ -12,6 +14,13 @@ use osi_class::Local;
 use osi_stack::Stack;
 use std::alloc::Global;
 use std::marker::Model;
+
+/// Whether one of them holds.
+fn either(one: bool, other: bool) -> bool
+    ensures { result ≡ (one || other) }
+{
+    one || other
+}
 
 /// Two ends of one byte connection, the left one a caller, and the journal of what their users asked for and received.
 #[derive(Drop)]
@@ -39,7 +48,9 @@ impl Pair {
     ghost use Rattle.osi_pair.specs.Ends.{fresh_ends, end_at};
     ghost use Rattle.osi_pair.specs.Entries.{entry_by};
     ghost use Rattle.osi_pair.specs.Events.{misfit, error_by_rule, WantsMemory, Does, CarriesAsMuch, NotesIfCutShort, Adds};
-    ghost use Rattle.osi_pair.specs.Promises.{AgreeUnlessDuplex, AllWereAskedFor, ConfirmedIsSeen, EndsForFewReasons, HasNoFault, HaveOneHolder, IsLegalJournal, IsSafe, IsShownAsAsked, LoseAsTheyEnd, OfEachConnection, TakeWhatWasSent};
+    ghost use Rattle.osi_pair.specs.Promises.{AgreeUnlessDuplex, AllWereAskedFor, ConfirmedIsSeen, EndsForFewReasons, HasNoFault};
+    ghost use Rattle.osi_pair.specs.Promises.{HaveOneHolder, IsLegalJournal, IsSafe, IsShownAsAsked, LoseAsTheyEnd};
+    ghost use Rattle.osi_pair.specs.Promises.{OfEachConnection, TakeWhatWasSent};
     ghost use Rattle.osi_pair.specs.Reached.{IsReached};
     ghost use Rattle.osi_pair.specs.Running.{RunsThrough, StopsAt};
     ghost use Rattle.osi_pair.specs.Standing.{StandsAt};
@@ -116,23 +127,26 @@ impl Pair {
         self.ends.apply(event)
     }
 
-    /// Applies events one after the other, up to the first that is refused.
+    /// Applies events one after the other, up to the first that is refused, and returns whether a carry among them was cut
+    /// short.
     ///
     /// Each event does what [`Pair::apply`] says. So if the two ends matched a list of steps of the machine, they match
     /// that list followed by the steps of all events. An error gives the place of the refused event, counted from 0,
     /// and the reason; the events before it have been applied.
-    pub fn run(&mut self, events: &[Event]) -> Result<(), RunError>
-        ensures all { OnOk result (RunsThrough events.now self.old self.new) }
+    pub fn run(&mut self, events: &[Event]) -> Result<bool, RunError>
+        ensures all { IfOk result (λ is_cut. RunsThrough events.now self.old is_cut self.new) }
         ensures stops { IfErr result (λ error. StopsAt events.now self.old error self.new) }
         ensures safe { IsSafe self.new }
     {
+        let mut is_cut_short = false;
         'events: for (place, event) in events.iter().enumerate() {
-            if let Err(error) = self.apply(event) {
-                return Err(RunError { place, error });
+            match self.apply(event) {
+                Ok(applied) => is_cut_short = either(is_cut_short, applied.is_cut_short),
+                Err(error) => return Err(RunError { place, error }),
             }
         }
         self.is_safe();
-        Ok(())
+        Ok(is_cut_short)
     }
 
     /// What the users asked for, how they were answered and what they received, the oldest entry first.

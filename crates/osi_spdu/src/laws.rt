@@ -7,11 +7,13 @@ ghost use Rattle.osi_spdu.specs.Known.{Contents, Units};
 ghost use Rattle.osi_spdu.specs.Groups.{units_of};
 ghost use Rattle.osi_spdu.specs.Reading.{unit_at, tsdu_at};
 ghost use Rattle.osi_spdu.specs.Faults.{IsUnitFault, IsFirstFault};
+ghost use Rattle.osi_spdu.specs.Sizes.{size_of, named_by, no_sizes};
 ghost use Rattle.osi_spdu.specs.declared.faults.SpduFault.{SpduFault};
 ghost use Rattle.osi_spdu.specs.Spelling.{SpellsTsdu};
 ghost use Rattle.osi_spdu.specs.Writing.{tsdu_octets, free_len, IsCanonical, IsFormedTsdu, UnitFits, TsduFits};
 
 use crate::groups::Group;
+use crate::sizes::{TsduSize, TsduSizes};
 
 /// Reading is sound: units that are read are spelled by the octets.
 #[tactic(auto, using(crate::proofs::UnitsLaws::tsdu_found))]
@@ -86,3 +88,17 @@ pub fn first_fault()
     ensures only { (octets : List ℕ) (fault : SpduFault) → IsOctets octets →
         IsFirstFault octets fault → tsdu_at octets ≡ Err fault }
 {}
+
+/// The value of [`TsduSize::NONE`]: 0, for no limit.
+pub fn no_size() -> TsduSize
+    ensures { size_of result ≡ 0 }
+{
+    TsduSize::NONE
+}
+
+/// The value of [`TsduSizes::NONE`]: no limit in either direction, as if the parameter is absent.
+pub fn no_sizes() -> TsduSizes
+    ensures { named_by result ≡ no_sizes }
+{
+    TsduSizes::NONE
+}

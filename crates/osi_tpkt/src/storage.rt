@@ -1,6 +1,6 @@
 //! The buffer of a packet. All its octets are initialised; the first ones are those of the packet.
 
-ghost use Rattle.std.specs.Prelude.{◌≡◌, ◌+◌, ◌<◌, ◌≤◌, ◌++◌, length, take, false, IsTrue, IfSome, IfNone, OnOk, OnErr, vec_len};
+ghost use Rattle.std.specs.Prelude.{◌≡◌, ◌+◌, ◌<◌, ◌≤◌, ◌++◌, length, take, max, false, IsTrue, IfSome, IfNone, OnOk, OnErr, vec_len, vec_capacity};
 ghost use Rattle.osi_tpkt.specs.Header.{IsFront, IsFull};
 
 use crate::headers::whole_length;
@@ -73,6 +73,7 @@ pub(crate) fn make_room(storage: &mut Vec<u8>, held: usize, more: usize) -> Resu
     ensures ok { OnOk result (held + more ≤ vec_len storage.new) }
     ensures err { OnErr result (vec_len storage.new ≡ vec_len storage.old) }
     ensures full { OnErr result (vec_len storage.old < held + more) }
+    ensures needed { OnErr result (vec_capacity storage.old < vec_len storage.old + max more 64) }
     ensures octets { take held storage.new.items ≡ take held storage.old.items }
     ensures room { vec_len storage.old ≤ vec_len storage.new }
 {
@@ -82,12 +83,14 @@ pub(crate) fn make_room(storage: &mut Vec<u8>, held: usize, more: usize) -> Resu
     grow(storage, more)
 }
 
-/// Makes room for this many more octets. The contents of the buffer stay.
+/// Makes room for this many more octets, and for at least [`LEAST`]. The contents of the buffer stay. Memory is needed only
+/// for room that was not reserved.
 #[cold]
 #[inline(never)]
 fn grow(storage: &mut Vec<u8>, more: usize) -> Result<(), AllocError>
     ensures ok { OnOk result (vec_len storage.old + more ≤ vec_len storage.new) }
     ensures err { OnErr result (vec_len storage.new ≡ vec_len storage.old) }
+    ensures needed { OnErr result (vec_capacity storage.old < vec_len storage.old + max more 64) }
     ensures octets { take (vec_len storage.old) storage.new.items ≡ storage.old.items }
     ensures room { vec_len storage.old ≤ vec_len storage.new }
 {

@@ -1,16 +1,40 @@
 -- Events that happen one after the other, and their steps of the machine.
 -- For the code of `Pair`.
 use Rattle.osi_pair.specs.declared.events.Event.TheVariants.{Call}
-use Rattle.osi_pair.proofs.Vocabulary.{List, [], ◌∷◌, ◌++◌, Option, Some, None, refl, sym, subst, append_assoc, append-nil, EndReason, Step}
+use Rattle.osi_pair.proofs.Vocabulary.{◌≡◌, ◌∙◌, ◌||◌, Bool, true, false, List, [], ◌∷◌, ◌++◌, Option}
+use Rattle.osi_pair.proofs.Vocabulary.{Some, None, refl, sym, ap, subst, Applied, append_assoc, append-nil, EndReason, Step}
 use Rattle.osi_pair.proofs.Vocabulary.{connects, calls, breaks, ends, told_of_break, called_by, StandsAfter, asked_of, TwoEnds, end_at}
 use Rattle.osi_pair.proofs.Vocabulary.{Happens, HappenAll, AreStepsOf, StandsBehind, RunsThrough, side_in, offer_in, StandsAt, StandsAtTold}
 use Rattle.osi_pair.proofs.Vocabulary.{Event, Connect, Carry, Break, Told, Side}
 
+or_false : (b : Bool) → b ≡ (b || false)
+or_false true = refl
+or_false false = refl
+
+or_later : (a b c : Bool) → ((a || b) || c) ≡ (a || (b || c))
+or_later true b c = refl
+or_later false b c = refl
+
 -- one more event happens
-pub happen_more : (events : List Event) (event : Event) (old mid new : TwoEnds) → HappenAll events old mid → Happens event mid new →
-    HappenAll (events ++ event ∷ []) old new
-happen_more [] event old mid new h more = (new, subst (λ (p : TwoEnds). Happens event p new) h more, refl)
-happen_more (first ∷ events) event old mid new h more = (h.0, h.1, happen_more events event h.0 mid new h.2 more)
+pub happen_more : (events : List Event) (event : Event) (applied : Applied) (is_cut : Bool) (old mid new : TwoEnds) →
+    HappenAll events old is_cut mid → Happens event mid applied new →
+    HappenAll (events ++ event ∷ []) old (is_cut || applied.is_cut_short) new
+happen_more [] event applied is_cut old mid new h more = (
+  new,
+  applied,
+  false,
+  ap (λ (b : Bool). b || applied.is_cut_short) h.0 ∙ or_false applied.is_cut_short,
+  subst (λ (p : TwoEnds). Happens event p applied new) h.1 more,
+  (refl, refl),
+)
+happen_more (first ∷ events) event applied is_cut old mid new h more = (
+  h.0,
+  h.1,
+  h.2 || applied.is_cut_short,
+  ap (λ (b : Bool). b || applied.is_cut_short) h.3 ∙ or_later h.1.is_cut_short h.2 applied.is_cut_short,
+  h.4,
+  happen_more events event applied h.2 h.0 mid new h.5 more,
+)
 
 -- the steps of one event
 record StandsBehindOne (event : Event) (p : TwoEnds) (steps : List Step) : Type 0 where
@@ -43,21 +67,22 @@ one_behind (Break left right) old new steps s = record { more = breaks s.keep_le
 one_behind (Told side) old new steps s = told_behind (end_at side old).end.carrier.ended side new steps s
 
 -- the steps of all of them
-all_behind : (events : List Event) (old new : TwoEnds) (steps : List Step) → HappenAll events old new → StandsAt old steps →
-    StandsBehind events new steps
-all_behind [] old new steps h s = record {
+all_behind : (events : List Event) (is_cut : Bool) (old new : TwoEnds) (steps : List Step) → HappenAll events old is_cut new →
+    StandsAt old steps → StandsBehind events new steps
+all_behind [] is_cut old new steps h s = record {
   more = [];
   are = refl;
-  stands = subst (λ (l : List Step). StandsAt new l) (sym (append-nil steps)) (subst (λ (p : TwoEnds). StandsAt p steps) (sym h) s);
+  stands = subst (λ (l : List Step). StandsAt new l) (sym (append-nil steps)) (subst (λ (p : TwoEnds). StandsAt p steps) (sym h.1) s);
 }
-all_behind (event ∷ events) old new steps h s =
-    let one = one_behind event old h.0 steps (h.1.stands steps s) in
-    let rest = all_behind events h.0 new (steps ++ one.more) h.2 one.stands in
+all_behind (event ∷ events) is_cut old new steps h s =
+    let one = one_behind event old h.0 steps (h.4.stands steps s) in
+    let rest = all_behind events h.2 h.0 new (steps ++ one.more) h.5 one.stands in
     record {
       more = one.more ++ rest.more;
       are = (record { first = one.more; rest = rest.more }, refl, one.are, rest.are);
       stands = subst (λ (l : List Step). StandsAt new l) (append_assoc steps one.more rest.more) rest.stands;
     }
 
-pub runs_through : (events : List Event) (old new : TwoEnds) → HappenAll events old new → RunsThrough events old new
-runs_through events old new h = record { all = h; stands = λ steps s. all_behind events old new steps h s }
+pub runs_through : (events : List Event) (is_cut : Bool) (old new : TwoEnds) → HappenAll events old is_cut new →
+    RunsThrough events old is_cut new
+runs_through events is_cut old new h = record { all = h; stands = λ steps s. all_behind events is_cut old new steps h s }

@@ -1,6 +1,6 @@
-use Rattle.std.proofs.Common.{◌++◌}
+use Rattle.std.proofs.Common.{◌++◌, inl, inr}
 use Rattle.osi_listing.specs.Traced.{unfetched}
-use Rattle.osi_listing.proofs.Tracing.{stops_counters, counted_on}
+use Rattle.osi_listing.proofs.Tracing.{stops_counters, stops_for_streams, counted_on}
 use Rattle.osi_listing.proofs.traces.Trace.count.Goals as goal
 
 pub returns-in-Err-clause-traced : goal.returns-in-Err-clause-traced
@@ -12,3 +12,8 @@ returns-clause-traced c = λ counts octets fetched h.
     counted_on c.args.self.now.keeping c.counting-self.result c.args.self.now.lister c.feed.new.self octets c.args.piece.now
     (fetched ++ unfetched c.args.self.now) c.new-lines.result.items c.feed.new.text.items c.unfinished.result counts c.counting-self.ensures
     c.in-Ok.ensures.fed h
+
+pub returns-clause-stops : goal.returns-clause-stops
+returns-clause-stops c = λ stopped.
+    inr (inl (stops_for_streams c.counting-self.result c.feed.new.self c.unfinished.result c.unfinished.ensures
+    c.counting-self.ensures stopped))

@@ -1,7 +1,8 @@
-use Rattle.std.proofs.Common.{◌++◌, ℕ, List, subst}
+use Rattle.std.proofs.Common.{◌++◌, ℕ, List, inl, inr, subst}
+use Rattle.std.specs.Prelude.{vec_capacity}
 use Rattle.osi_listing.specs.Fed.{Feeds}
 use Rattle.osi_listing.specs.Traced.{unfetched}
-use Rattle.osi_listing.proofs.Tracing.{stops_lines, kept}
+use Rattle.osi_listing.proofs.Tracing.{stops_lines, stops_for, kept}
 use Rattle.osi_listing.proofs.traces.Trace.list.Goals as goal
 
 pub returns-in-Err-clause-traced : goal.returns-in-Err-clause-traced
@@ -10,6 +11,15 @@ returns-in-Err-clause-traced c = λ lines octets fetched h.
 
 pub returns-clause-traced : goal.returns-clause-traced
 returns-clause-traced c = λ lines octets fetched h.
-    kept c.args.self.now.keeping c.keep-self.result c.args.self.now.lister c.feed.new.self octets c.args.piece.now fetched (unfetched c.args.self.now)
-    c.new-lines.result.items c.feed.new.text.items c.as_slice.result.now c.keep-self.new.text.items c.unfinished.result lines
-    c.new-lines.ensures.items c.as_slice.ensures.value c.keep-self.ensures c.in-Ok.ensures.fed h
+    kept c.args.self.now.keeping c.keep-self.result c.args.self.now.lister c.feed.new.self octets c.args.piece.now fetched
+    (unfetched c.args.self.now) c.new-lines.result.items c.feed.new.text.items c.as_slice.result.now c.keep-self.new.text.items
+    (vec_capacity c.args.self.now.text) c.unfinished.result lines c.new-lines.ensures.items c.as_slice.ensures.value
+    c.keep-self.ensures c.in-Ok.ensures.fed h
+
+pub returns-clause-stops : goal.returns-clause-stops
+returns-clause-stops c = λ lines stopped.
+    elim (stops_for c.keep-self.result (vec_capacity c.args.self.now.text) c.args.self.now.lister c.feed.new.self c.args.piece.now
+    (unfetched c.args.self.now) c.new-lines.result.items c.feed.new.text.items c.as_slice.result.now c.keep-self.new.text.items
+    c.unfinished.result c.new-lines.ensures.items c.as_slice.ensures.value c.unfinished.ensures
+    c.keep-self.ensures c.in-Ok.ensures.fed stopped)
+    [ inl many ↦ inr (inl many) | inr none ↦ inr (inr (lines, none)) ]
