@@ -1,0 +1,4 @@
+pub mod Parts
+pub mod Turns
+pub mod Talking
+pub mod Stretches
