@@ -8,3 +8,7 @@ pub mod what_a_call_does_in_class_0
 pub mod what_a_session_answers_fits
 pub mod what_a_run_does_in_class_0
 pub mod a_history_is_a_run
+pub mod what_is_put_and_taken_is_read
+pub mod what_a_capture_shows_is_a_run
+pub mod how_a_called_end_opens
+pub mod what_a_waiting_end_does

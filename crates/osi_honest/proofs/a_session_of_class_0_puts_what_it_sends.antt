@@ -30,7 +30,8 @@ record HasLine (r : ℕ) (session : Listener) (lines : Rows Line) : Type 0 where
   here : value_at r lines ≡ Some line
   is : line.session ≡ Some session
 
-line_in : (r : ℕ) (session : Listener) (lines : Rows Line) (o : Option Line) → value_at r lines ≡ o → session_in o ≡ Some session → HasLine r session lines
+line_in : (r : ℕ) (session : Listener) (lines : Rows Line) (o : Option Line) → value_at r lines ≡ o → session_in o ≡ Some session →
+    HasLine r session lines
 line_in r session lines None e h = absurd (cc)
 line_in r session lines (Some line) e h = record { line = line; here = e; is = h }
 
@@ -38,7 +39,11 @@ line_there : (r : ℕ) (session : Listener) (lines : Rows Line) → kept_at r li
 line_there r session lines h = line_in r session lines (value_at r lines) refl h
 
 moved_by : (r : ℕ) (session : Listener) (input : Input) (e : End) (h : HasLine r session e.lines) →
-    to_session r input e ≡ record { carrier = answers r (limit_for session input) (react session input) e.carrier; lines = put r (line_by h.line (Some session) input) e.lines }
+    to_session r input e ≡ record {
+      carrier = answers r (limit_for session input) (react session input) e.carrier;
+      lines = put r
+          (line_by h.line (Some session) input) e.lines;
+    }
 moved_by r session input e h =
     ap (λ o. by_line r o input e) h.here
     ∙ ap (λ (o : Option Listener). record { carrier = carrier_by r o input e.carrier; lines = put r (line_by h.line o input) e.lines }) h.is
@@ -55,15 +60,18 @@ pub record IsProper (session : Listener) (input : Input) : Type 0 where
   pub short : AreShort (sends session input)
   pub silent : (react session input).closes ≡ true → sends session input ≡ []
 
-still_begun : (session : Listener) (input : Input) → is_wait_transport session.state.phase ≡ false → is_wait_transport (after_input session input).state.phase ≡ false
+still_begun : (session : Listener) (input : Input) → is_wait_transport session.state.phase ≡ false →
+    is_wait_transport (after_input session input).state.phase ≡ false
 still_begun session input w = by (is_wait_transport (after_input session input).state.phase) refl
   where
-    by : (b : Bool) → is_wait_transport (after_input session input).state.phase ≡ b → is_wait_transport (after_input session input).state.phase ≡ false
+    by : (b : Bool) → is_wait_transport (after_input session input).state.phase ≡ b →
+        is_wait_transport (after_input session input).state.phase ≡ false
     by false e = e
     by true e = let k = input_begun session input e in absurd (cc)
 
-written_puts : (tsdus : List (List ℕ)) (old new : Carrier) → IsWritten tsdus old new → Puts tsdus old new
-written_puts tsdus old new w = record { parts = w.parts; carry = w.carry; outgoing = ap (λ (c : Carrier). c.outgoing) w.is }
+written_puts : (tsdus : List (List ℕ)) (old new : Carrier) → AreShort tsdus → IsWritten tsdus old new → Puts tsdus old new
+written_puts tsdus old new short w =
+    record { parts = w.parts; carry = w.carry; short = short; outgoing = ap (λ (c : Carrier). c.outgoing) w.is }
 
 pub closed_ends : (r peer limit : ℕ) (begun : List ℕ) (c : Carrier) → IsOpenZero r peer limit begun c → c.class ≡ Some Zero →
     IsSome (closed_with r 128 c).ended × ((closed_with r 128 c).outgoing ≡ c.outgoing)
@@ -73,40 +81,54 @@ closed_ends r peer limit begun c h zero =
     (ap (λ (x : Carrier). is_some x.ended) is, ap (λ (x : Carrier). x.outgoing) is)
 
 -- how the carrier answers a move that closes the connection or not
-answered : (r : ℕ) (session : Listener) (begun : List ℕ) (input : Input) (e : End) (t : Talks r session begun e) (b : Bool) → (react session input).closes ≡ b → IsProper session input →
+answered : (r : ℕ) (session : Listener) (begun : List ℕ) (input : Input) (e : End) (t : Talks r session begun e) (b : Bool) →
+    (react session input).closes ≡ b → IsProper session input →
     (h : HasLine r session e.lines) → Moves r session begun input e (to_session r input e)
 answered r session begun input e t true closes proper h =
     let is = moved_by r session input e h in
     let none = proper.silent closes in
     let carrier : (to_session r input e).carrier ≡ closed_with r 128 e.carrier =
-    ap (λ (x : End). x.carrier) is ∙ ap (λ (x : Bool). answers_by x r (tsdus_sent (limit_for session input) (react session input).reply) e.carrier) closes in
+    ap (λ (x : End). x.carrier) is
+    ∙ ap (λ (x : Bool). answers_by x r (tsdus_sent (limit_for session input) (react session input).reply) e.carrier) closes in
     let over = closed_ends r t.peer t.limit begun e.carrier t.is_open t.class in
-    let nothing = written_puts [] e.carrier e.carrier (none_written e.carrier) in
+    let nothing = written_puts [] e.carrier e.carrier tt (none_written e.carrier) in
     record {
       puts = subst (λ (x : List (List ℕ)). Puts x e.carrier (to_session r input e).carrier) (sym none)
-          (record { parts = nothing.parts; carry = nothing.carry; outgoing = ap (λ (x : Carrier). x.outgoing) carrier ∙ over.1 ∙ nothing.outgoing });
+          (record {
+            parts = nothing.parts;
+            carry = nothing.carry;
+            short = tt;
+            outgoing = ap (λ (x : Carrier). x.outgoing) carrier
+                ∙ over.1 ∙ nothing.outgoing;
+          });
       then_is = inr (closes, subst (λ (x : Carrier). IsSome x.ended) (sym carrier) over.0);
     }
 answered r session begun input e t false closes proper h =
     let is = moved_by r session input e h in
     let tsdus = sends session input in
     let carrier : (to_session r input e).carrier ≡ sent_all r tsdus e.carrier =
-    ap (λ (x : End). x.carrier) is ∙ ap (λ (x : Bool). answers_by x r (tsdus_sent (limit_for session input) (react session input).reply) e.carrier) closes
+    ap (λ (x : End). x.carrier) is
+    ∙ ap (λ (x : Bool). answers_by x r (tsdus_sent (limit_for session input) (react session input).reply) e.carrier) closes
     ∙ ap (λ (x : List (List ℕ)). hands r x e.carrier) proper.same ∙ handed r tsdus e.carrier proper.short in
-    let w : IsWritten tsdus e.carrier (to_session r input e).carrier = subst (IsWritten tsdus e.carrier) (sym carrier) (all_written r t.peer t.limit begun tsdus e.carrier t.is_open) in
+    let w : IsWritten tsdus e.carrier (to_session r input e).carrier = subst (IsWritten tsdus e.carrier) (sym carrier)
+    (all_written r t.peer t.limit begun tsdus e.carrier t.is_open) in
     record {
-      puts = written_puts tsdus e.carrier (to_session r input e).carrier w;
-      then_is = inl (closes, record {
-        peer = t.peer;
-        limit = t.limit;
-        is_open = written_open r t.peer t.limit begun tsdus e.carrier (to_session r input e).carrier w t.is_open;
-        class = ap (λ (x : Carrier). x.class) w.is ∙ t.class;
-        told = ap (λ (x : Carrier). x.events) w.is ∙ t.told;
-        here = ap (λ (x : End). kept_at r x.lines) is ∙ kept_then r session input e.lines h;
-        begun_long_ago = still_begun session input t.begun_long_ago;
-      });
+      puts = written_puts tsdus e.carrier (to_session r input e).carrier proper.short w;
+      then_is = inl (
+        closes,
+        record {
+          peer = t.peer;
+          limit = t.limit;
+          is_open = written_open r t.peer t.limit begun tsdus e.carrier (to_session r input e).carrier w t.is_open;
+          class = ap (λ (x : Carrier). x.class) w.is ∙ t.class;
+          told = ap (λ (x : Carrier). x.events) w.is ∙ t.told;
+          here = ap (λ (x : End). kept_at r x.lines) is ∙ kept_then r session input e.lines h;
+          begun_long_ago = still_begun session input t.begun_long_ago;
+        },
+      );
     }
 
-pub session_moves : (r : ℕ) (session : Listener) (begun : List ℕ) (input : Input) (e : End) → Talks r session begun e → IsProper session input → Moves r session begun input e (to_session r input e)
+pub session_moves : (r : ℕ) (session : Listener) (begun : List ℕ) (input : Input) (e : End) → Talks r session begun e →
+    IsProper session input → Moves r session begun input e (to_session r input e)
 session_moves r session begun input e t proper =
     answered r session begun input e t (react session input).closes refl proper (line_there r session e.lines t.here)

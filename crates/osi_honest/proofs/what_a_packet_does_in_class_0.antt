@@ -73,25 +73,37 @@ pub data AfterUnit (r peer limit : ℕ) (begun : List ℕ) (v : Value) (old new 
       new ≡ record old { live = one_open r peer limit []; events = tsdu r (begun ++ octets) ∷ [] } → AfterUnit r peer limit begun v old new
   is_over : Over old.outgoing new → AfterUnit r peer limit begun v old new
 
-module _ (r peer limit : ℕ) (begun : List ℕ) (c : Carrier) (h : IsOpenZero r peer limit begun c) (zero : c.class ≡ Some Zero) (quiet : c.events ≡ []) where
-
+module _ (r peer limit : ℕ) (begun : List ℕ) (c : Carrier) (h : IsOpenZero r peer limit begun c) (zero : c.class ≡ Some Zero)
+    (quiet : c.events ≡ []) where
   link_now : (begun : List ℕ) → Standing
   link_now begun = zero_standing (resting limit begun)
 
   settled : (begun : List ℕ) (told : List Happening) →
-      record c { live = put r (linked peer (drained (zero_standing (resting limit begun))).link) c.live;
-        outgoing = c.outgoing ++ packets (map (unit_of peer) (drained (zero_standing (resting limit begun))).units); events = c.events ++ told }
+      record c {
+        live = put r (linked peer (drained (zero_standing (resting limit begun))).link) c.live;
+        outgoing = c.outgoing ++ packets
+            (map (unit_of peer) (drained (zero_standing (resting limit begun))).units);
+        events = c.events ++ told;
+      }
       ≡ record c { live = one_open r peer limit begun; events = told }
   settled begun told =
-      ap (λ (d : Drained). record c { live = put r (linked peer d.link) c.live; outgoing = c.outgoing ++ packets (map (unit_of peer) d.units); events = c.events ++ told }) (nothing_left limit begun)
+      ap (λ (d : Drained). record c {
+        live = put r (linked peer d.link) c.live;
+        outgoing = c.outgoing ++ packets
+            (map (unit_of peer) d.units);
+        events = c.events ++ told;
+      }) (nothing_left limit begun)
       ∙ (λ i. record c {
-          live = (ap (put r (linked peer (zero_standing (resting limit begun)))) h.live ∙ put_one r (linked peer (zero_standing (resting limit begun))) _) i;
-          outgoing = append-nil c.outgoing i;
-          events = ap (λ (l : List Happening). l ++ told) quiet i;
-        })
+        live = (ap (put r (linked peer (zero_standing (resting limit begun)))) h.live
+            ∙ put_one r (linked peer (zero_standing (resting limit begun))) _) i;
+        outgoing = append-nil c.outgoing i;
+        events = ap (λ (l : List Happening). l ++ told) quiet i;
+      })
 
   joined_by : (end : Bool) (octets : List ℕ) (b : Bool) → nat_lt longest_tsdu (length begun + length octets) ≡ b →
-      AfterUnit r peer limit begun (data0 end octets) c (taking r peer (with_joined (resting limit begun) None (if b then Err TsduTooLong else Ok (with_part (joining begun []) end octets))) c)
+      AfterUnit r peer limit begun (data0 end octets) c
+      (taking r peer (with_joined (resting limit begun) None
+      (if b then Err TsduTooLong else Ok (with_part (joining begun []) end octets))) c)
   joined_by end octets true e = is_over (
     ap (λ (x : Option Class). is_some (breaks r peer TsduTooLong x c).ended) zero,
     ap (λ (x : Option Class). (breaks r peer TsduTooLong x c).outgoing) zero,
@@ -101,13 +113,23 @@ module _ (r peer limit : ℕ) (begun : List ℕ) (c : Carrier) (h : IsOpenZero r
   joined_by true octets false e = ends_tsdu octets refl e (settled [] (tsdu r (begun ++ octets) ∷ []))
 
   wrong_form : (v : Value) → AfterUnit r peer limit begun v c (taking r peer (Err WrongForm) c)
-  wrong_form v = is_over (ap (λ (x : Option Class). is_some (breaks r peer WrongForm x c).ended) zero, ap (λ (x : Option Class). (breaks r peer WrongForm x c).outgoing) zero)
+  wrong_form v = is_over (
+    ap (λ (x : Option Class). is_some (breaks r peer WrongForm x c).ended) zero,
+    ap
+        (λ (x : Option Class). (breaks r peer WrongForm x c).outgoing) zero,
+  )
 
   in_link : (v : Value) → AfterUnit r peer limit begun v c (to_linked r peer (zero_standing (resting limit begun)) v c)
   in_link (data0 end octets) =
-      subst (λ (x : Bool). AfterUnit r peer limit begun (data0 end octets) c (taking r peer (with_joined (resting limit begun) None (if x then Err TsduTooLong else Ok (with_part (joining begun []) end octets))) c))
+      subst (λ (x : Bool). AfterUnit r peer limit begun (data0 end octets) c
+      (taking r peer (with_joined (resting limit begun) None
+      (if x then Err TsduTooLong else Ok (with_part (joining begun []) end octets))) c))
       refl (joined_by end octets (nat_lt longest_tsdu (length begun + length octets)) refl)
-  in_link (disconnect destination source reason user) = is_over (ap (λ (x : Option Class). is_some (leaves r peer reason x c).ended) zero, ap (λ (x : Option Class). (leaves r peer reason x c).outgoing) zero)
+  in_link (disconnect destination source reason user) = is_over (
+    ap (λ (x : Option Class). is_some (leaves r peer reason x c).ended) zero,
+    ap
+        (λ (x : Option Class). (leaves r peer reason x c).outgoing) zero,
+  )
   in_link (request cr) = wrong_form (request cr)
   in_link (confirm destination cc0) = wrong_form (confirm destination cc0)
   in_link (disconnected destination source) = wrong_form (disconnected destination source)
@@ -130,7 +152,8 @@ module _ (r peer limit : ℕ) (begun : List ℕ) (c : Carrier) (h : IsOpenZero r
   by_zero false v = in_only v
 
   pub unit_acts : (v : Value) → AfterUnit r peer limit begun v c (react v c)
-  unit_acts v = subst (AfterUnit r peer limit begun v c) (sym (react_quiet v c h.lasts ∙ ap (λ (x : Option Class). in_class x v c) zero)) (by_zero c.is_caller v)
+  unit_acts v = subst (AfterUnit r peer limit begun v c) (sym (react_quiet v c h.lasts ∙ ap (λ (x : Option Class). in_class x v c) zero))
+      (by_zero c.is_caller v)
 
 -- ---- the units of a packet
 
@@ -140,33 +163,40 @@ alone v [] u last_of us = refl
 alone v (w ∷ vs) u last_of us = absurd (let may : IsTrue (may_be_followed v) = us.0 in cc)
 
 pub data AfterPacket (r peer limit : ℕ) (begun u : List ℕ) (old new : Carrier) : Type 0 where
-  adds_part : (octets : List ℕ) → IsPart u false octets begun → new ≡ record old { live = one_open r peer limit (begun ++ octets) } → AfterPacket r peer limit begun u old new
-  ends_tsdu : (octets : List ℕ) → IsPart u true octets begun → new ≡ record old { live = one_open r peer limit []; events = tsdu r (begun ++ octets) ∷ [] }
+  adds_part : (octets : List ℕ) → IsPart u false octets begun → new ≡ record old { live = one_open r peer limit (begun ++ octets) } →
+      AfterPacket r peer limit begun u old new
+  ends_tsdu : (octets : List ℕ) → IsPart u true octets begun →
+      new ≡ record old { live = one_open r peer limit []; events = tsdu r (begun ++ octets) ∷ [] }
       → AfterPacket r peer limit begun u old new
   is_over : Over old.outgoing new → AfterPacket r peer limit begun u old new
 
 module _ (r peer limit : ℕ) (begun u : List ℕ) (c : Carrier) where
-
-  then_units : (v : Value) (vs : List Value) → units_of u ≡ Ok (v ∷ vs) → AreUnits (v ∷ vs) u → AfterUnit r peer limit begun v c (react v c) →
+  then_units : (v : Value) (vs : List Value) → units_of u ≡ Ok (v ∷ vs) → AreUnits (v ∷ vs) u →
+      AfterUnit r peer limit begun v c (react v c) →
       AfterPacket r peer limit begun u c (reacts (v ∷ vs) c)
   then_units v vs e us (adds_part octets is fits new) =
       let none = alone v vs u (ap may_be_followed is) us in
-      adds_part octets (record { is = e ∙ (λ i. Ok (is i ∷ none i)); fits = fits }) (ap (λ (l : List Value). reacts l (react v c)) none ∙ new)
+      adds_part octets (record { is = e ∙ (λ i. Ok (is i ∷ none i)); fits = fits })
+      (ap (λ (l : List Value). reacts l (react v c)) none ∙ new)
   then_units v vs e us (ends_tsdu octets is fits new) =
       let none = alone v vs u (ap may_be_followed is) us in
-      ends_tsdu octets (record { is = e ∙ (λ i. Ok (is i ∷ none i)); fits = fits }) (ap (λ (l : List Value). reacts l (react v c)) none ∙ new)
+      ends_tsdu octets (record { is = e ∙ (λ i. Ok (is i ∷ none i)); fits = fits })
+      (ap (λ (l : List Value). reacts l (react v c)) none ∙ new)
   then_units v vs e us (is_over p) = is_over (subst (Over c.outgoing) (sym (reacts_over vs (react v c) p.0)) p)
 
-  by_units : (units : Result (List Value) TpduFault) → units_of u ≡ units → IsOctets u → ((v : Value) → AfterUnit r peer limit begun v c (react v c)) →
+  by_units : (units : Result (List Value) TpduFault) → units_of u ≡ units → IsOctets u →
+      ((v : Value) → AfterUnit r peer limit begun v c (react v c)) →
       AfterPacket r peer limit begun u c (carriers.acts_by units c)
   by_units (Err fault) e octets each = is_over (refl, refl)
   by_units (Ok []) e octets each = absurd (units_found u [] octets e)
   by_units (Ok (v ∷ vs)) e octets each = then_units v vs e (units_found u (v ∷ vs) octets e) (each v)
 
-pub acted : (r peer limit : ℕ) (begun u : List ℕ) (c : Carrier) → IsOpenZero r peer limit begun c → c.class ≡ Some Zero → c.events ≡ [] → IsOctets u →
+pub acted : (r peer limit : ℕ) (begun u : List ℕ) (c : Carrier) → IsOpenZero r peer limit begun c → c.class ≡ Some Zero → c.events ≡ [] →
+    IsOctets u →
     AfterPacket r peer limit begun u c (carriers.after_packet c u)
 unfolding carriers.after_packet
-acted r peer limit begun u c h zero quiet octets = by_units r peer limit begun u c (units_of u) refl octets (unit_acts r peer limit begun c h zero quiet)
+acted r peer limit begun u c h zero quiet octets = by_units r peer limit begun u c (units_of u) refl octets
+    (unit_acts r peer limit begun c h zero quiet)
 
 -- ---- what the session hears of it
 
@@ -174,11 +204,10 @@ acted r peer limit begun u c h zero quiet octets = by_units r peer limit begun u
 abbrev pub AllProper : Type 0
 AllProper = (session : Listener) (octets : List ℕ) → IsProper session (came octets)
 
-lasting : (e : End) → e.carrier.ended ≡ None → concludes e ≡ e
+pub lasting : (e : End) → e.carrier.ended ≡ None → concludes e ≡ e
 lasting e h = concludes_lasting e.carrier.ended e h
 
 module _ (r : ℕ) (session : Listener) (begun u : List ℕ) (e : End) (t : Talks r session begun e) where
-
   -- the last part has come: the session takes the TSDU
   taken : AllProper → (octets : List ℕ) → IsPart u true octets begun → (c : Carrier) →
       c ≡ record e.carrier { live = one_open r t.peer t.limit []; events = tsdu r (begun ++ octets) ∷ [] } →
@@ -197,12 +226,15 @@ module _ (r : ℕ) (session : Listener) (begun u : List ℕ) (e : End) (t : Talk
       let moved = session_moves r session [] (came (begun ++ octets)) mid talks (proper session (begun ++ octets)) in
       let heard : attends (with_carrier c e) ≡ concludes (to_session r (came (begun ++ octets)) mid) =
       ap (λ (x : Carrier). attends (with_carrier x e)) new
-      ∙ ap concludes (one_heard (with_carrier (record e.carrier { live = one_open r t.peer t.limit []; events = tsdu r (begun ++ octets) ∷ [] }) e) (tsdu r (begun ++ octets)) refl) in
+      ∙ ap concludes (one_heard
+      (with_carrier (record e.carrier { live = one_open r t.peer t.limit []; events = tsdu r (begun ++ octets) ∷ [] }) e)
+      (tsdu r (begun ++ octets)) refl) in
       let there = to_session r (came (begun ++ octets)) mid in
       last octets is (subst (Moves r session [] (came (begun ++ octets)) e) (sym heard) (record {
         puts = record {
           parts = moved.puts.parts;
           carry = moved.puts.carry;
+          short = moved.puts.short;
           outgoing = ap (λ (x : Carrier). x.outgoing) (concluded_carrier there) ∙ moved.puts.outgoing;
         };
         then_is = elim moved.then_is [
@@ -211,7 +243,8 @@ module _ (r : ℕ) (session : Listener) (begun u : List ℕ) (e : End) (t : Talk
         ];
       }))
 
-  heard_by : AllProper → (c : Carrier) → AfterPacket r t.peer t.limit begun u e.carrier c → Packet r session begun u e (attends (with_carrier c e))
+  heard_by : AllProper → (c : Carrier) → AfterPacket r t.peer t.limit begun u e.carrier c →
+      Packet r session begun u e (attends (with_carrier c e))
   heard_by proper c (adds_part octets is new) =
       let there : End = with_carrier (record e.carrier { live = one_open r t.peer t.limit (begun ++ octets) }) e in
       let heard : attends (with_carrier c e) ≡ there =

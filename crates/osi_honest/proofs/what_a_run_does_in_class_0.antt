@@ -9,7 +9,9 @@ use Rattle.osi_honest.specs.Turns.{Run, Takes, Turn}
 use Rattle.osi_honest.proofs.what_a_packet_does_in_class_0.{AllProper}
 use Rattle.osi_honest.proofs.what_a_call_does_in_class_0.{turn_goes}
 
-pub run_goes : AllProper → (begin : Listener) (r : ℕ) (took : List (List ℕ)) (said : List Said) (begun : List ℕ) (turns : List Turn) (old new : Holding) → Stands begin r took said begun old.end →
+pub run_goes : AllProper →
+    (begin : Listener) (r : ℕ) (took : List (List ℕ)) (said : List Said) (begun : List ℕ) (turns : List Turn) (old new : Holding) →
+    Stands begin r took said begun old.end →
     Run old turns new → GoesAlong begin r took said begun old turns new
 run_goes proper begin r took said begun [] old new s run = run
 run_goes proper begin r took said begun (turn ∷ turns) old new s run =

@@ -34,21 +34,26 @@ answer_plain _ e = absurd (cc)
 
 one_for_all : (some other : ℕ) (reply : Option Meaning) → SaysItself reply → tsdus_sent some reply ≡ tsdus_sent other reply
 one_for_all some other None h = refl
-one_for_all some other (Some m) h = sent_alone some m (answer_alone m some h.itself) ∙ sym (sent_alone other m (answer_alone m other h.itself))
+one_for_all some other (Some m) h = sent_alone some m (answer_alone m some h.itself)
+    ∙ sym (sent_alone other m (answer_alone m other h.itself))
 
 answer_short : SpduLaws → (limit : ℕ) (reply : Option Meaning) → SaysItself reply → AreShort (tsdus_sent limit reply)
 answer_short law limit None h = tt
-answer_short law limit (Some m) h = subst AreShort (sym (sent_alone limit m (answer_alone m limit h.itself))) (sent_short law m h.sendable (answer_plain m h.itself), tt)
+answer_short law limit (Some m) h = subst AreShort (sym (sent_alone limit m (answer_alone m limit h.itself)))
+    (sent_short law m h.sendable (answer_plain m h.itself), tt)
 
 replies_itself : (session : Listener) (octets : List ℕ) → SaysItself (react session (came octets)).reply
-replies_itself session octets = subst SaysItself (sym (ap (λ (m : Move). m.reply) (came_moves session octets))) (came_itself (taker_of session) (said_at octets))
+replies_itself session octets = subst SaysItself (sym (ap (λ (m : Move). m.reply) (came_moves session octets)))
+    (came_itself (taker_of session) (said_at octets))
 
 abbrev pub ClosesSilently : Type 0
-ClosesSilently = (session : Listener) (octets : List ℕ) → (react session (came octets)).closes ≡ true → (react session (came octets)).reply ≡ None
+ClosesSilently = (session : Listener) (octets : List ℕ) → (react session (came octets)).closes ≡ true →
+    (react session (came octets)).reply ≡ None
 
 pub all_proper : SpduLaws → ClosesSilently → AllProper
 all_proper law silently session octets = record {
-  same = one_for_all (limit_for session (came octets)) (limit_of session.state) (react session (came octets)).reply (replies_itself session octets);
+  same = one_for_all (limit_for session (came octets)) (limit_of session.state) (react session (came octets)).reply
+      (replies_itself session octets);
   short = answer_short law (limit_of session.state) (react session (came octets)).reply (replies_itself session octets);
   silent = λ closes. ap (tsdus_sent (limit_of session.state)) (silently session octets closes);
 }

@@ -11,6 +11,7 @@ use Rattle.osi_session.specs.Listening.{Listener, came, react, after_input}
 use Rattle.osi_judge.specs.Running.{sends}
 use Rattle.osi_stack.specs.Feeding.{TakesPackets, stops}
 use Rattle.osi_stack.specs.Hearing.{after_packet}
+use Rattle.osi_stack.specs.Messages.{AreShort}
 use Rattle.osi_stack.specs.State.{End, waits}
 use Rattle.osi_stack.proofs.Lifting.{lasting_of}
 use Rattle.osi_honest.specs.Parts.{Carry, dt}
@@ -25,19 +26,33 @@ use Rattle.osi_honest.proofs.what_a_packet_does_in_class_0.{AllProper, packet_ac
 -- ---- what is put one after the other
 
 pub none_put : (old new : Carrier) → new.outgoing ≡ old.outgoing → Puts [] old new
-none_put old new same = record { parts = []; carry = λ later. refl; outgoing = same ∙ sym (append-nil old.outgoing) }
+none_put old new same = record { parts = []; carry = λ later. refl; short = tt; outgoing = same ∙ sym (append-nil old.outgoing) }
 
-pub put_more : (tsdus others : List (List ℕ)) (old mid new : Carrier) → Puts tsdus old mid → Puts others mid new → Puts (tsdus ++ others) old new
+short_more : (some others : List (List ℕ)) → AreShort some → AreShort others → AreShort (some ++ others)
+short_more [] others a b = b
+short_more (tsdu ∷ some) others a b = (a.0, short_more some others a.1 b)
+
+pub put_more : (tsdus others : List (List ℕ)) (old mid new : Carrier) → Puts tsdus old mid → Puts others mid new →
+    Puts (tsdus ++ others) old new
 put_more tsdus others old mid new a b = record {
   parts = a.parts ++ b.parts;
   carry = carry_more a.parts b.parts tsdus others a.carry b.carry;
+  short = short_more tsdus others a.short b.short;
   outgoing = b.outgoing ∙ ap (λ (x : List ℕ). x ++ packets (map dt b.parts)) a.outgoing
       ∙ append_assoc old.outgoing (packets (map dt a.parts)) (packets (map dt b.parts))
-      ∙ ap (λ (x : List ℕ). old.outgoing ++ x) (sym (packets_joined (map dt a.parts) (map dt b.parts)) ∙ ap packets (sym (map-append dt a.parts b.parts)));
+      ∙ ap (λ (x : List ℕ). old.outgoing ++ x)
+      (sym (packets_joined (map dt a.parts) (map dt b.parts)) ∙ ap packets (sym (map-append dt a.parts b.parts)));
 }
 
 pub put_from : (tsdus : List (List ℕ)) (old other new : Carrier) → other.outgoing ≡ old.outgoing → Puts tsdus other new → Puts tsdus old new
-put_from tsdus old other new same p = record { parts = p.parts; carry = p.carry; outgoing = p.outgoing ∙ ap (λ (x : List ℕ). x ++ packets (map dt p.parts)) same }
+put_from tsdus old other new same p =
+    record {
+      parts = p.parts;
+      carry = p.carry;
+      short = p.short;
+      outgoing = p.outgoing
+          ∙ ap (λ (x : List ℕ). x ++ packets (map dt p.parts)) same;
+    }
 
 -- ---- what is said
 
@@ -55,13 +70,15 @@ said_more n (s ∷ some) others a b = (a.0, said_more n some others a.1 b)
 
 -- ---- nothing more
 
-pub stands_still : (begin : Listener) (r : ℕ) (took : List (List ℕ)) (said : List Said) (begun : List ℕ) (e : End) → Stands begin r took said begun e →
+pub stands_still : (begin : Listener) (r : ℕ) (took : List (List ℕ)) (said : List Said) (begun : List ℕ) (e : End) →
+    Stands begin r took said begun e →
     Stands begin r (took ++ []) (said ++ []) begun e
 stands_still begin r took said begun e s =
-    subst (λ (x : List (List ℕ)). Stands begin r x (said ++ []) begun e) (sym (append-nil took)) (subst (λ (x : List Said). Stands begin r took x begun e) (sym (append-nil said)) s)
+    subst (λ (x : List (List ℕ)). Stands begin r x (said ++ []) begun e) (sym (append-nil took))
+    (subst (λ (x : List Said). Stands begin r took x begun e) (sym (append-nil said)) s)
 
 -- an end that is over takes no packet
-over_takes : (units : List (List ℕ)) (e new : End) → IsSome e.carrier.ended → TakesPackets e units new → new ≡ e
+pub over_takes : (units : List (List ℕ)) (e new : End) → IsSome e.carrier.ended → TakesPackets e units new → new ≡ e
 over_takes [] e new is h = h
 over_takes (v ∷ units) e new is h = let none = lasting_of e.carrier.ended (waits e.lines) h.0 in absurd (cc)
 
@@ -70,10 +87,11 @@ never_lasts None is none = cc
 never_lasts (Some x) is none = cc
 
 module _ (begin : Listener) (r : ℕ) where
-
   -- the packets that come after one with which the end was over
-  still_over : (took : List (List ℕ)) (said : List Said) (begun : List ℕ) (u : List ℕ) (units : List (List ℕ)) (closed : Bool) (session : Listener) (old mid new : End) →
-      History begin took said closed session → IsSome mid.carrier.ended → mid.carrier.outgoing ≡ old.carrier.outgoing → TakesPackets mid units new →
+  still_over : (took : List (List ℕ)) (said : List Said) (begun : List ℕ) (u : List ℕ) (units : List (List ℕ)) (closed : Bool)
+      (session : Listener) (old mid new : End) →
+      History begin took said closed session → IsSome mid.carrier.ended → mid.carrier.outgoing ≡ old.carrier.outgoing →
+      TakesPackets mid units new →
       Extends begin r took said begun (u ∷ units) old new
   still_over took said begun u units closed session old mid new h is same takes =
       let there = over_takes units mid new is takes in
@@ -92,8 +110,10 @@ module _ (begin : Listener) (r : ℕ) where
         all = λ lasts. absurd (never_lasts new.carrier.ended ended lasts);
       }
 
-  part_more : (took : List (List ℕ)) (said : List Said) (begun octets u : List ℕ) (units : List (List ℕ)) (old mid new : End) → IsPart u false octets begun →
-      mid.carrier.outgoing ≡ old.carrier.outgoing → Extends begin r took said (begun ++ octets) units mid new → Extends begin r took said begun (u ∷ units) old new
+  part_more : (took : List (List ℕ)) (said : List Said) (begun octets u : List ℕ) (units : List (List ℕ)) (old mid new : End) →
+      IsPart u false octets begun →
+      mid.carrier.outgoing ≡ old.carrier.outgoing → Extends begin r took said (begun ++ octets) units mid new →
+      Extends begin r took said begun (u ∷ units) old new
   part_more took said begun octets u units old mid new is same x = record {
     more = x.more;
     told = x.told;
@@ -114,11 +134,14 @@ module _ (begin : Listener) (r : ℕ) where
 
   now_put : (took : List (List ℕ)) (session : Listener) (tsdu : List ℕ) (old mid : Carrier) → Puts (sends session (came tsdu)) old mid →
       Puts (octets_said (said_after (length took + 1) (sends session (came tsdu)))) old mid
-  now_put took session tsdu old mid p = subst (λ (x : List (List ℕ)). Puts x old mid) (sym (said_octets (length took + 1) (sends session (came tsdu)))) p
+  now_put took session tsdu old mid p = subst (λ (x : List (List ℕ)). Puts x old mid)
+      (sym (said_octets (length took + 1) (sends session (came tsdu)))) p
 
-  taken_more : (took : List (List ℕ)) (said : List Said) (session : Listener) (begun octets u : List ℕ) (units : List (List ℕ)) (old mid new : End) → IsPart u true octets begun →
+  taken_more : (took : List (List ℕ)) (said : List Said) (session : Listener) (begun octets u : List ℕ) (units : List (List ℕ))
+      (old mid new : End) → IsPart u true octets begun →
       Puts (sends session (came (begun ++ octets))) old.carrier mid.carrier →
-      Extends begin r (took ++ (begun ++ octets) ∷ []) (said ++ said_after (length took + 1) (sends session (came (begun ++ octets)))) [] units mid new →
+      Extends begin r (took ++ (begun ++ octets) ∷ [])
+      (said ++ said_after (length took + 1) (sends session (came (begun ++ octets)))) [] units mid new →
       Extends begin r took said begun (u ∷ units) old new
   taken_more took said session begun octets u units old mid new is p x =
       let tsdu = begun ++ octets in
@@ -133,7 +156,8 @@ module _ (begin : Listener) (r : ℕ) where
         stands = subst (λ (t : List (List ℕ)). Stands begin r t (said ++ (now ++ x.told)) x.later new) all_took
             (subst (λ (s : List Said). Stands begin r ((took ++ tsdu ∷ []) ++ x.more) s x.later new) all_said x.stands);
         puts = subst (λ (t : List (List ℕ)). Puts t old.carrier new.carrier) (sym (map-append (λ s. s.octets) now x.told))
-            (put_more (octets_said now) (octets_said x.told) old.carrier mid.carrier new.carrier (now_put took session tsdu old.carrier mid.carrier p) x.puts);
+            (put_more (octets_said now) (octets_said x.told) old.carrier mid.carrier new.carrier
+            (now_put took session tsdu old.carrier mid.carrier p) x.puts);
         counted = said_more (length (took ++ tsdu ∷ x.more)) now x.told
             (said_by (length (took ++ tsdu ∷ x.more)) (length took + 1) (sends session (came tsdu)) (let b = l in omega arith))
             (subst (λ (n : ℕ). AllSaidBy n x.told) (ap length all_took) x.counted);
@@ -145,7 +169,8 @@ module _ (begin : Listener) (r : ℕ) where
       }
 
   -- nothing more after a TSDU with which the end is over
-  rests_over : (took : List (List ℕ)) (said : List Said) (units : List (List ℕ)) (closed : Bool) (session : Listener) (mid new : End) → History begin took said closed session →
+  rests_over : (took : List (List ℕ)) (said : List Said) (units : List (List ℕ)) (closed : Bool) (session : Listener) (mid new : End) →
+      History begin took said closed session →
       IsSome mid.carrier.ended → TakesPackets mid units new → Extends begin r took said [] units mid new
   rests_over took said units closed session mid new h is takes =
       let there = over_takes units mid new is takes in
@@ -166,11 +191,14 @@ module _ (begin : Listener) (r : ℕ) where
 
   -- what the packets after one do
   abbrev Rest : List (List ℕ) → End → End → Type 0
-  Rest units mid new = (took : List (List ℕ)) (said : List Said) (begun : List ℕ) (session : Listener) → History begin took said false session → Talks r session begun mid →
+  Rest units mid new = (took : List (List ℕ)) (said : List Said) (begun : List ℕ) (session : Listener) →
+      History begin took said false session → Talks r session begun mid →
       Extends begin r took said begun units mid new
 
-  packet_then : (took : List (List ℕ)) (said : List Said) (begun u : List ℕ) (units : List (List ℕ)) (session : Listener) (old mid new : End) →
-      History begin took said false session → Talks r session begun old → Rest units mid new → TakesPackets mid units new → Packet r session begun u old mid →
+  packet_then : (took : List (List ℕ)) (said : List Said) (begun u : List ℕ) (units : List (List ℕ)) (session : Listener)
+      (old mid new : End) →
+      History begin took said false session → Talks r session begun old → Rest units mid new → TakesPackets mid units new →
+      Packet r session begun u old mid →
       Extends begin r took said begun (u ∷ units) old new
   packet_then took said begun u units session old mid new h t rest takes (part o is same then_talks) =
       part_more took said begun o u units old mid new is same (rest took said (begun ++ o) session h then_talks)
@@ -178,16 +206,20 @@ module _ (begin : Listener) (r : ℕ) where
       let tsdu = begun ++ o in
       let then_history = history.takes took said session tsdu h t.begun_long_ago in
       taken_more took said session begun o u units old mid new is m.puts (elim m.then_is [
-        | inl k ↦ rest (took ++ tsdu ∷ []) (said ++ said_after (length took + 1) (sends session (came tsdu))) [] (after_input session (came tsdu))
-            (subst (λ (b : Bool). History begin (took ++ tsdu ∷ []) (said ++ said_after (length took + 1) (sends session (came tsdu))) b (after_input session (came tsdu))) k.0 then_history)
+        | inl k ↦ rest (took ++ tsdu ∷ []) (said ++ said_after (length took + 1) (sends session (came tsdu))) []
+            (after_input session (came tsdu))
+            (subst (λ (b : Bool). History begin (took ++ tsdu ∷ []) (said ++ said_after (length took + 1) (sends session (came tsdu))) b
+            (after_input session (came tsdu))) k.0 then_history)
             k.1
-        | inr k ↦ rests_over (took ++ tsdu ∷ []) (said ++ said_after (length took + 1) (sends session (came tsdu))) units (react session (came tsdu)).closes (after_input session (came tsdu)) mid new
+        | inr k ↦ rests_over (took ++ tsdu ∷ []) (said ++ said_after (length took + 1) (sends session (came tsdu))) units
+            (react session (came tsdu)).closes (after_input session (came tsdu)) mid new
             then_history k.1 takes
       ])
   packet_then took said begun u units session old mid new h t rest takes (over is same) =
       still_over took said begun u units false session old mid new h is same takes
 
-  pub packets_act : AllProper → (took : List (List ℕ)) (said : List Said) (begun : List ℕ) (units : List (List ℕ)) (session : Listener) (old new : End) →
+  pub packets_act : AllProper →
+      (took : List (List ℕ)) (said : List Said) (begun : List ℕ) (units : List (List ℕ)) (session : Listener) (old new : End) →
       History begin took said false session → Talks r session begun old → AllByRecursion IsOctets units → TakesPackets old units new →
       Extends begin r took said begun units old new
   packets_act proper took said begun [] session old new h t octets takes = record {

@@ -1,6 +1,7 @@
 -- TSDUs of class 0 in the units that carry them.
 use Rattle.std.specs.Prelude.{◌≡◌, ◌<◌, ℕ, List, [], ◌∷◌, ◌++◌, map, None}
 use Rattle.osi_tpdu.specs.Value.{Value, data0}
+use Rattle.osi_tpdu.specs.Writing.{written}
 use Rattle.osi_class.specs.Ends.{Ends}
 use Rattle.osi_class.specs.Joining.{joining}
 use Rattle.osi_class.specs.Link.{zero_standing}
@@ -11,6 +12,10 @@ use Rattle.osi_carrier.specs.State.{Connection, State, linked, packets}
 -- a part of a TSDU in a DT
 abbrev pub dt : Part → Value
 dt part = data0 part.0 part.1
+
+-- the transport units of packets with these parts
+abbrev pub units_put : List Part → List (List ℕ)
+units_put parts = map (λ part. written (dt part)) parts
 
 -- These parts are these TSDUs, each of them whole: what comes later begins a TSDU.
 abbrev pub Carry : List Part → List (List ℕ) → Type 0

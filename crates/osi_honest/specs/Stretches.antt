@@ -5,6 +5,7 @@ use Rattle.osi_tpkt.specs.Stream.{ArePackets}
 use Rattle.osi_class.specs.Tsdus.{Part}
 use Rattle.osi_carrier.specs.State.{packets}
 use Rattle.osi_session.specs.Listening.{Listener}
+use Rattle.osi_stack.specs.Messages.{AreShort}
 use Rattle.osi_stack.specs.State.{End, Holding}
 use Rattle.osi_honest.specs.Parts.{Carry, dt}
 use Rattle.osi_honest.specs.Talking.{History, IsPart, Puts, Said, Talks}
@@ -20,7 +21,8 @@ Brings begun (u ∷ units) tsdus later = (octets : List ℕ) ×
 -- The session took and sent this, and its connection is open; or the end is over.
 pub data Stands (begin : Listener) (r : ℕ) (took : List (List ℕ)) (said : List Said) (begun : List ℕ) (e : End) : Type 0 where
   talking : (session : Listener) → History begin took said false session → Talks r session begun e → Stands begin r took said begun e
-  gone : (closed : Bool) (session : Listener) → History begin took said closed session → IsSome e.carrier.ended → Stands begin r took said begun e
+  gone : (closed : Bool) (session : Listener) → History begin took said closed session → IsSome e.carrier.ended →
+      Stands begin r took said begun e
 
 abbrev pub octets_said : List Said → List (List ℕ)
 octets_said said = map (λ s. s.octets) said
@@ -31,7 +33,8 @@ AllSaidBy n said = AllByRecursion (λ s. s.taken ≤ n) said
 
 -- Packets took effect: the session took the TSDUs that those of class 0 bring, and sent these; what it sent was put. If the
 -- end still lasts, all of them were such packets.
-pub record Extends (begin : Listener) (r : ℕ) (took : List (List ℕ)) (said : List Said) (begun : List ℕ) (units : List (List ℕ)) (old new : End) : Type 0 where
+pub record Extends (begin : Listener) (r : ℕ) (took : List (List ℕ)) (said : List Said) (begun : List ℕ) (units : List (List ℕ))
+    (old new : End) : Type 0 where
   pub more : List (List ℕ)
   pub told : List Said
   pub later : List ℕ
@@ -45,13 +48,15 @@ pub record Extends (begin : Listener) (r : ℕ) (took : List (List ℕ)) (said :
   pub all : new.carrier.ended ≡ None → back ≡ []
 
 -- The same of one turn, in which octets were used and put.
-pub record Goes (begin : Listener) (r : ℕ) (took : List (List ℕ)) (said : List Said) (begun used put : List ℕ) (old new : Holding) : Type 0 where
+pub record Goes (begin : Listener) (r : ℕ) (took : List (List ℕ)) (said : List Said) (begun used put : List ℕ)
+    (old new : Holding) : Type 0 where
   pub more : List (List ℕ)
   pub told : List Said
   pub later : List ℕ
   pub stands : Stands begin r (took ++ more) (said ++ told) later new.end
   pub parts : List Part
   pub carry : Carry parts (octets_said told)
+  pub short : AreShort (octets_said told)
   pub written : put ≡ packets (map dt parts)
   pub counted : AllSaidBy (length (took ++ more)) told
   pub units : List (List ℕ)

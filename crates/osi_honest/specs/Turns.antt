@@ -21,7 +21,8 @@ HasSerialIn breaking = Unit {0}
 
 abbrev pub Acts : Holding → Act → Holding → Type 0
 Acts old (serving call) new = Calls old call new
-Acts old (using call) new = (old.end.carrier.ended ≡ None) × IsAccepted call old.end × HasSerialIn call × (new ≡ record old { end = user_does call old.end })
+Acts old (using call) new = (old.end.carrier.ended ≡ None) × IsAccepted call old.end × HasSerialIn call
+    × (new ≡ record old { end = user_does call old.end })
 
 -- the octets that were used of what arrived, and those that were handed over
 abbrev pub used_by : Act → List ℕ
