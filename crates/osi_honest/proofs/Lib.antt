@@ -12,3 +12,5 @@ pub mod what_is_put_and_taken_is_read
 pub mod what_a_capture_shows_is_a_run
 pub mod how_a_called_end_opens
 pub mod what_a_waiting_end_does
+pub mod how_a_caller_opens
+pub mod what_an_asking_end_does

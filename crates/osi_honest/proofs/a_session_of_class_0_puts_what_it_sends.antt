@@ -80,8 +80,17 @@ closed_ends r peer limit begun c h zero =
     ap (λ o. closed_on r 128 o c) (open_is r peer limit begun c h) ∙ ap (λ (x : Option Class). closes r peer 128 x c) zero in
     (ap (λ (x : Carrier). is_some x.ended) is, ap (λ (x : Carrier). x.outgoing) is)
 
+-- an open connection of this session, which does not wait for it after the input
+record CanMove (r : ℕ) (session : Listener) (begun : List ℕ) (input : Input) (e : End) : Type 0 where
+  peer : ℕ
+  limit : ℕ
+  is_open : IsOpenZero r peer limit begun e.carrier
+  class : e.carrier.class ≡ Some Zero
+  told : e.carrier.events ≡ []
+  begun_then : is_wait_transport (after_input session input).state.phase ≡ false
+
 -- how the carrier answers a move that closes the connection or not
-answered : (r : ℕ) (session : Listener) (begun : List ℕ) (input : Input) (e : End) (t : Talks r session begun e) (b : Bool) →
+answered : (r : ℕ) (session : Listener) (begun : List ℕ) (input : Input) (e : End) (t : CanMove r session begun input e) (b : Bool) →
     (react session input).closes ≡ b → IsProper session input →
     (h : HasLine r session e.lines) → Moves r session begun input e (to_session r input e)
 answered r session begun input e t true closes proper h =
@@ -123,7 +132,7 @@ answered r session begun input e t false closes proper h =
           class = ap (λ (x : Carrier). x.class) w.is ∙ t.class;
           told = ap (λ (x : Carrier). x.events) w.is ∙ t.told;
           here = ap (λ (x : End). kept_at r x.lines) is ∙ kept_then r session input e.lines h;
-          begun_long_ago = still_begun session input t.begun_long_ago;
+          begun_long_ago = t.begun_then;
         },
       );
     }
@@ -131,4 +140,26 @@ answered r session begun input e t false closes proper h =
 pub session_moves : (r : ℕ) (session : Listener) (begun : List ℕ) (input : Input) (e : End) → Talks r session begun e →
     IsProper session input → Moves r session begun input e (to_session r input e)
 session_moves r session begun input e t proper =
-    answered r session begun input e t (react session input).closes refl proper (line_there r session e.lines t.here)
+    answered r session begun input e (record {
+      peer = t.peer;
+      limit = t.limit;
+      is_open = t.is_open;
+      class = t.class;
+      told = t.told;
+      begun_then = still_begun session input t.begun_long_ago;
+    }) (react session input).closes refl proper (line_there r session e.lines t.here)
+
+-- the same of a session that waited for its connection until now
+pub moves_from : (r : ℕ) (session : Listener) (begun : List ℕ) (input : Input) (e : End) (peer limit : ℕ) →
+    IsOpenZero r peer limit begun e.carrier → e.carrier.class ≡ Some Zero → e.carrier.events ≡ [] → kept_at r e.lines ≡ Some session →
+    is_wait_transport (after_input session input).state.phase ≡ false → IsProper session input →
+    Moves r session begun input e (to_session r input e)
+moves_from r session begun input e peer limit is_open class told here then_begun proper =
+    answered r session begun input e (record {
+      peer = peer;
+      limit = limit;
+      is_open = is_open;
+      class = class;
+      told = told;
+      begun_then = then_begun;
+    }) (react session input).closes refl proper (line_there r session e.lines here)

@@ -55,7 +55,7 @@ data FirstUnit (v : Value) (c d : Carrier) : Type 0 where
   elsewhere : FirstUnit v c d
   at_an_end : Over c.outgoing d → FirstUnit v c d
 
-enough : (o : Option ℕ) (local : Local) → IfSome o (λ code. (7 ≤ code) × (code ≤ 13)) →
+pub enough : (o : Option ℕ) (local : Local) → IfSome o (λ code. (7 ≤ code) × (code ≤ 13)) →
     0 < unit_octets (option_map (λ code. min code (size_code local.size)) o) - 3
 enough None local h = omega arith
 enough (Some code) local h =

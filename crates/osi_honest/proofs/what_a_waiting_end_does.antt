@@ -69,7 +69,7 @@ as_waiting units used put rest old new w (opened_by cr size u later mid us reque
     let cc = packets (answer_to cr size old.end.carrier ∷ []) in
     opens (record {
       r = r;
-      asked = cr;
+      wanted = cr;
       size = size;
       first = u;
       is_request = request;
