@@ -1,9 +1,8 @@
 -- What a session took and sent is a run of it as the judge has it, so what it sent is explained by what it took.
 -- For the laws of an end and its captures.
-use Rattle.std.proofs.Common.{◌≡◌, ◌∙◌, refl, sym, ap, subst, ℕ, zero, suc, ◌+◌, ◌≤◌, Bool, true, false, List, [], ◌∷◌, ◌++◌, length, map, get_or, append_assoc, length-append, arith}
+use Rattle.std.proofs.Common.{◌≡◌, ◌∙◌, refl, sym, ap, subst, ℕ, ◌+◌, Bool, false, List, [], ◌∷◌, ◌++◌, length, map, get_or, append_assoc, length-append, arith}
 use Rattle.std.proofs.lemmas.List.{append-nil, map-append}
-use Rattle.osi_session.specs.Calls.{Call, HasSerial}
-use Rattle.osi_session.specs.Listening.{Listener, after_input, broken, called, came, opened, react, refused}
+use Rattle.osi_session.specs.Listening.{Listener, after_input, called, came, opened, react}
 use Rattle.osi_judge.specs.Explaining.{Told}
 use Rattle.osi_judge.specs.Running.{IsSentFrom, Pass, Runs, sends}
 use Rattle.osi_judge.specs.Running as running

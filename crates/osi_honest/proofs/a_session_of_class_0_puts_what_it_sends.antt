@@ -1,16 +1,14 @@
 -- Whatever happens to a session of class 0, what it sends is put at once, and the connection stays open unless the session closes it.
 -- For the turns of an end.
-use Rattle.std.proofs.Common.{◌≡◌, ◌∙◌, refl, sym, ap, subst, ℕ, ◌+◌, ◌≤◌, Bool, true, false, if◌then◌else◌, List, [], ◌∷◌, ◌++◌, map, Option, Some, None, is_some, IsSome, inl, inr, arith}
-use Rattle.osi_class.specs.Link.{Standing, zero_standing}
+use Rattle.std.proofs.Common.{◌≡◌, ◌∙◌, refl, sym, ap, subst, ℕ, Bool, true, false, List, [], Option, Some, None, is_some, IsSome, inl, inr}
 use Rattle.osi_class.specs.declared.terms.Class.{Class}
 use Rattle.osi_class.specs.declared.terms.Class.TheVariants.{Zero}
-use Rattle.osi_carrier.specs.Calls.{closed_on, closed_with, closes, open_link, sent_all}
+use Rattle.osi_carrier.specs.Calls.{closed_on, closed_with, closes, sent_all}
 use Rattle.osi_carrier.specs.Rows.{Rows, put, value_at}
-use Rattle.osi_carrier.specs.State.{State as Carrier, packets}
+use Rattle.osi_carrier.specs.State.{State as Carrier}
 use Rattle.osi_carrier.proofs.Apart.{put_here}
-use Rattle.osi_message.specs.Meanings.{Meaning}
 use Rattle.osi_message.specs.Parting.{tsdus_sent}
-use Rattle.osi_session.specs.Listening.{Input, Listener, Move, called, react, after_input}
+use Rattle.osi_session.specs.Listening.{Input, Listener, react, after_input}
 use Rattle.osi_session.specs.Phases.{is_wait_transport}
 use Rattle.osi_session.proofs.RunLaws.{input_begun}
 use Rattle.osi_judge.specs.Running.{sends}
@@ -19,7 +17,7 @@ use Rattle.osi_stack.specs.Moving.{answers, by_line, carrier_by, limit_for, line
 use Rattle.osi_stack.specs.State.{End, Line, session_in}
 use Rattle.osi_stack.specs.Transport.{answers_by, hands}
 use Rattle.osi_stack.proofs.Handing.{handed}
-use Rattle.osi_honest.specs.Parts.{IsOpenZero, IsWritten, adds, dt, resting}
+use Rattle.osi_honest.specs.Parts.{IsOpenZero, IsWritten}
 use Rattle.osi_honest.specs.Talking.{Moves, Puts, Talks}
 use Rattle.osi_honest.proofs.what_class_0_writes_of_a_tsdu.{all_written, none_written, open_is, written_open}
 

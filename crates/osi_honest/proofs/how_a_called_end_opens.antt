@@ -1,6 +1,6 @@
 -- A packet at a called end that waits for the first CR, and packets one after the other.
 -- For the turns of a called end.
-use Rattle.std.proofs.Common.{◌≡◌, ◌∙◌, refl, sym, ap, subst, ℕ, ◌+◌, ◌-◌, ◌^◌, ◌<◌, ◌≤◌, min, ◌==◌, ◌&&◌, ◌||◌, Bool, true, false, if◌then◌else◌, List, [], ◌∷◌, ◌++◌, length, map, Option, Some, None, is_some, IsSome, option_map, Result, Ok, Err, inl, inr, ◌⊎◌, arith}
+use Rattle.std.proofs.Common.{◌≡◌, ◌∙◌, refl, sym, ap, subst, ℕ, ◌+◌, ◌-◌, ◌^◌, ◌<◌, ◌≤◌, min, ◌&&◌, Bool, true, false, if◌then◌else◌, List, [], ◌∷◌, ◌++◌, Option, Some, None, IsSome, option_map, Result, Ok, Err, arith}
 use Rattle.std.specs.Prelude.{IfSome}
 use Rattle.std.specs.List.{AllByRecursion}
 use Rattle.std.proofs.Math.Pow.{pow_mono}
@@ -18,7 +18,7 @@ use Rattle.osi_class.specs.declared.terms.Local.{Local}
 use Rattle.osi_carrier.specs.Happenings.{Happening, opened}
 use Rattle.osi_carrier.specs.Negotiation.{acceptance, opened_link, unit_octets}
 use Rattle.osi_carrier.specs.Packets as carriers
-use Rattle.osi_carrier.specs.React.{accepts, answers, answers_request, before_class, denies, has_peer, in_class, is_full, react, reacts}
+use Rattle.osi_carrier.specs.React.{accepts, answers, before_class, denies, has_peer, in_class, is_full, react, reacts}
 use Rattle.osi_carrier.specs.Rows.{Rows, value_at}
 use Rattle.osi_carrier.specs.State.{Connection, State as Carrier, linked, packets}
 use Rattle.osi_carrier.proofs.Reacts.{react_quiet, reacts_over}
@@ -30,7 +30,7 @@ use Rattle.osi_stack.specs.State.{End, Line, fresh_line, joins, used_lines}
 use Rattle.osi_stack.proofs.Lifting.{packet_is}
 use Rattle.osi_stack.proofs.Moves.{one_heard}
 use Rattle.osi_honest.specs.Openings.{Waits}
-use Rattle.osi_honest.specs.Parts.{IsOpenZero, one_open}
+use Rattle.osi_honest.specs.Parts.{one_open}
 use Rattle.osi_honest.specs.Stretches.{Extends}
 use Rattle.osi_honest.specs.Talking.{Talks}
 use Rattle.osi_honest.specs.Talking as history

@@ -1,23 +1,20 @@
 -- A packet at a calling end whose CR is not answered yet, and packets one after the other.
 -- For the turns of a calling end.
-use Rattle.std.proofs.Common.{◌≡◌, ◌∙◌, refl, sym, ap, subst, ℕ, ◌+◌, ◌-◌, ◌<◌, ◌≤◌, min, ◌==◌, Bool, true, false, if◌then◌else◌, List, [], ◌∷◌, ◌++◌, length, map, Option, Some, None, is_some, IsSome, option_map, Result, Ok, Err, inl, inr, ◌⊎◌, arith}
+use Rattle.std.proofs.Common.{◌≡◌, ◌∙◌, refl, sym, ap, subst, ℕ, ◌-◌, ◌≤◌, ◌==◌, Bool, true, false, if◌then◌else◌, List, [], ◌∷◌, ◌++◌, map, Option, Some, None, IsSome, Result, Ok, Err, inl, inr}
 use Rattle.std.specs.Prelude.{IfSome}
 use Rattle.std.specs.List.{AllByRecursion}
-use Rattle.std.proofs.lemmas.Bool.{eq-eqb, eqb-true}
-use Rattle.std.proofs.lemmas.List.{append-nil}
+use Rattle.std.proofs.lemmas.Bool.{eqb-true}
 use Rattle.osi_tpkt.specs.Octets.{IsOctets}
-use Rattle.osi_tpdu.specs.Limits.{size_code}
 use Rattle.osi_tpdu.specs.Packet.{AreUnits, units_of}
 use Rattle.osi_tpdu.specs.Value.{Connect, Value, acknowledge, confirm, data0, data2, disconnect, disconnected, error, may_be_followed, request}
 use Rattle.osi_tpdu.specs.declared.faults.TpduFault.{TpduFault}
 use Rattle.osi_tpdu.proofs.PacketLaws.{units_found}
 use Rattle.osi_class.specs.declared.terms.Class.{Class}
 use Rattle.osi_class.specs.declared.terms.Class.TheVariants.{Two, Zero}
-use Rattle.osi_class.specs.declared.terms.Local.{Local}
 use Rattle.osi_carrier.specs.Happenings.{Happening, opened as told_opened}
 use Rattle.osi_carrier.specs.Negotiation.{agreed_size, confirmed, opened_link, unit_octets}
 use Rattle.osi_carrier.specs.Packets as carriers
-use Rattle.osi_carrier.specs.React.{before_class, in_class, react, reacts, to_connection, to_reference}
+use Rattle.osi_carrier.specs.React.{before_class, in_class, react, reacts, to_connection}
 use Rattle.osi_carrier.specs.React.{opens as opens_by}
 use Rattle.osi_carrier.specs.Rows.{Rows, put, value_at}
 use Rattle.osi_carrier.specs.State.{Connection, State as Carrier, asked, linked, packets}
@@ -29,14 +26,12 @@ use Rattle.osi_judge.specs.Running.{sends}
 use Rattle.osi_stack.specs.Feeding.{TakesPackets}
 use Rattle.osi_stack.specs.Hearing.{after_packet, attends, concludes, hears, with_carrier, with_events}
 use Rattle.osi_stack.specs.Hearing.{opens as opens_line}
-use Rattle.osi_stack.specs.Messages.{kept_at}
 use Rattle.osi_stack.specs.Moving.{to_session}
 use Rattle.osi_stack.specs.State.{End, Line, session_in}
-use Rattle.osi_stack.proofs.Events.{concluded_carrier}
 use Rattle.osi_stack.proofs.Lifting.{packet_is}
 use Rattle.osi_stack.proofs.Moves.{one_heard}
 use Rattle.osi_honest.specs.Openings.{Asks}
-use Rattle.osi_honest.specs.Parts.{IsOpenZero, dt, one_open, resting}
+use Rattle.osi_honest.specs.Parts.{IsOpenZero, dt}
 use Rattle.osi_honest.specs.Stretches.{Extends}
 use Rattle.osi_honest.specs.Talking.{History, Moves, Puts, Said, Talks, said_after}
 use Rattle.osi_honest.specs.Talking as history
@@ -44,7 +39,7 @@ use Rattle.osi_honest.proofs.a_session_of_class_0_puts_what_it_sends.{IsProper, 
 use Rattle.osi_honest.proofs.how_a_called_end_opens.{enough}
 use Rattle.osi_honest.proofs.what_a_packet_does_in_class_0.{AllProper, Over, alone, attends_over, lasting}
 use Rattle.osi_honest.proofs.what_class_0_writes_of_a_tsdu.{put_one}
-use Rattle.osi_honest.proofs.what_packets_do_in_class_0.{over_takes, packets_act, put_more, said_octets}
+use Rattle.osi_honest.proofs.what_packets_do_in_class_0.{over_takes, packets_act}
 
 -- ---- one unit
 

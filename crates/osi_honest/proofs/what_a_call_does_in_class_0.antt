@@ -1,41 +1,38 @@
 -- A call of the user at an end with an open connection of class 0, and any turn of such an end, or of one that is over.
 -- For runs of an end.
-use Rattle.std.proofs.Common.{◌≡◌, ◌≢◌, ◌∙◌, refl, sym, ap, subst, ℕ, ◌+◌, ◌≤◌, ◌==◌, Bool, true, false, if◌then◌else◌, not, ◌||◌, List, [], ◌∷◌, ◌++◌, length, map, Option, Some, None, is_some, IsSome, inl, inr, ◌⊎◌, arith}
+use Rattle.std.proofs.Common.{◌≡◌, ◌≢◌, ◌∙◌, refl, sym, ap, subst, ℕ, ◌==◌, Bool, true, false, if◌then◌else◌, not, List, [], ◌∷◌, ◌++◌, length, map, Option, Some, None, is_some, IsSome, inl, inr, arith}
 use Rattle.std.proofs.lemmas.Bool.{eqb-true, eq-eqb}
 use Rattle.std.proofs.lemmas.List.{append-nil, append_cancel_left}
-use Rattle.osi_class.specs.Link.{Standing}
 use Rattle.osi_class.specs.declared.terms.Class.{Class}
-use Rattle.osi_class.specs.declared.terms.Class.TheVariants.{Zero}
-use Rattle.osi_carrier.specs.Calls.{class_error, closed_on, closed_with, link_of, may_connect, open_link, or_else, room_error}
+use Rattle.osi_carrier.specs.Calls.{class_error, closed_on, closed_with, link_of, open_link, or_else, room_error}
 use Rattle.osi_carrier.specs.Rows.{Rows, value_at}
 use Rattle.osi_carrier.specs.State.{Connection, State as Carrier, packets}
 use Rattle.osi_carrier.specs.declared.ends.EndReason.{EndReason}
 use Rattle.osi_carrier.specs.declared.ends.EndReason.TheVariants.{Broken}
 use Rattle.osi_carrier.specs.declared.faults.OpenError.{OpenError}
 use Rattle.osi_carrier.specs.declared.faults.OpenError.TheVariants.{Ended, NotCaller, OneConnection}
-use Rattle.osi_message.specs.Meanings.{Meaning}
 use Rattle.osi_message.specs.Parting.{tsdus_sent}
 use Rattle.osi_session.specs.Calls.{Call as SessionCall, HasSerial}
 use Rattle.osi_session.specs.Listening.{Listener, called, react, after_input}
 use Rattle.osi_session.specs.Sizes.{limit_of}
 use Rattle.osi_judge.specs.Running.{sends}
-use Rattle.osi_stack.specs.Calls.{after_open, breaks, call_error, connect_error, connects, terms_error}
-use Rattle.osi_stack.specs.Disconnecting.{disconnect_error, disconnects, gives_up}
+use Rattle.osi_stack.specs.Calls.{after_open, breaks, call_error, connect_error, terms_error}
+use Rattle.osi_stack.specs.Disconnecting.{disconnects, gives_up}
 use Rattle.osi_stack.specs.Hearing.{ends}
 use Rattle.osi_stack.specs.Inputs.{IsAccepted}
 use Rattle.osi_stack.specs.Messages.{AreShort, IsGranted, kept_at}
 use Rattle.osi_stack.specs.Moving.{to_session}
 use Rattle.osi_stack.specs.Rounds.{UserCall, user_does}
 use Rattle.osi_stack.specs.Rounds.UserCall.{breaking, calling, connecting, disconnecting}
-use Rattle.osi_stack.specs.Runs.{Call, Calls, carried_in, put_back, used_in}
+use Rattle.osi_stack.specs.Runs.{Call, Calls, carried_in}
 use Rattle.osi_stack.specs.Runs.Call.{carrying, feeding, telling}
-use Rattle.osi_stack.specs.State.{End, Holding, Line, session_in}
+use Rattle.osi_stack.specs.State.{End, Holding, session_in}
 use Rattle.osi_stack.specs.declared.connecting.Connect.{Connect}
 use Rattle.osi_stack.specs.declared.connecting.ConnectError.{ConnectError}
 use Rattle.osi_stack.proofs.DisconnectKeeps.{closed_and_given, disconnect_carrier, disconnect_is, given_other}
 use Rattle.osi_stack.proofs.Moves.{says_is}
 use Rattle.osi_honest.specs.Parts.{Carry, dt}
-use Rattle.osi_honest.specs.Stretches.{Goes, Stands, octets_said}
+use Rattle.osi_honest.specs.Stretches.{Goes, Stands}
 use Rattle.osi_honest.specs.Stretches.Stands.{gone, talking}
 use Rattle.osi_honest.specs.Talking.{History, Moves, Puts, Said, Talks, said_after}
 use Rattle.osi_honest.specs.Talking as history
@@ -43,7 +40,6 @@ use Rattle.osi_honest.specs.Turns.{Act, Acts, HasSerialIn, Takes, Turn, carried_
 use Rattle.osi_honest.specs.Turns.Act.{serving, using}
 use Rattle.osi_honest.proofs.a_session_of_class_0_puts_what_it_sends.{IsProper, closed_ends, session_moves}
 use Rattle.osi_honest.proofs.what_a_packet_does_in_class_0.{AllProper}
-use Rattle.osi_honest.proofs.what_class_0_writes_of_a_tsdu.{open_is}
 use Rattle.osi_honest.proofs.what_packets_do_in_class_0.{never_lasts, said_by, said_octets}
 use Rattle.osi_honest.proofs.what_a_turn_does_in_class_0.{nothing_put, over_turn, serving_turn, still_turn}
 

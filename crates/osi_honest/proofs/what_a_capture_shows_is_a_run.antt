@@ -1,8 +1,7 @@
 -- A capture that shows what a session sent, up to some place, with at least as many TSDUs before each as the session had
 -- taken by then, shows a run of it as the judge has it.
 -- For the laws of an end and its captures.
-use Rattle.std.proofs.Common.{◌≡◌, ◌∙◌, refl, sym, ap, subst, ℕ, ◌+◌, ◌<◌, ◌≤◌, Bool, true, false, List, [], ◌∷◌, ◌++◌, length, map, get_or, append_assoc, arith}
-use Rattle.std.proofs.lemmas.List.{append-nil}
+use Rattle.std.proofs.Common.{◌≡◌, ◌∙◌, refl, sym, ap, subst, ℕ, ◌+◌, ◌<◌, ◌≤◌, Bool, false, List, [], ◌∷◌, ◌++◌, length, get_or, arith}
 use Rattle.osi_session.specs.Listening.{Listener, after_input, came, react}
 use Rattle.osi_judge.specs.Explaining.{Told}
 use Rattle.osi_judge.specs.Running.{IsSentFrom, Pass, Runs, sends}
@@ -74,7 +73,7 @@ shows_after bound (t ∷ told) [] later s = s
 shows_after bound (t ∷ told) (a ∷ now) later s = shows_after bound told now later s.3
 
 -- what is shown, and what is not, of a step and of what comes after it
-record Goes_on (us : List (List ℕ)) (closed : Bool) (l : Listener) (taken : ℕ) (told : List Told) : Type 0 where
+record GoesOn (us : List (List ℕ)) (closed : Bool) (l : Listener) (taken : ℕ) (told : List Told) : Type 0 where
   later : List Told
   runs : Runs us closed l taken (told ++ later)
 
@@ -87,7 +86,7 @@ parted (t ∷ told) (a ∷ now) more = let p = parted told now more in (p.0, ap 
 
 stepped : (us : List (List ℕ)) (closed : Bool) (l : Listener) (taken : ℕ) (told now more : List Told) →
     Runs us closed l taken (shown_in told now ++ (shown_after told now ++ more)) →
-    Goes_on us closed l taken told
+    GoesOn us closed l taken told
 stepped us closed l taken told now more run = let p =
     parted told now more in record { later = p.0; runs = subst (Runs us closed l taken) p.1 run }
 
@@ -95,7 +94,7 @@ stepped us closed l taken told now more run = let p =
 
 module _ (took us : List (List ℕ)) (same : AreSame us took) where
   shown_run : (closed : Bool) (l : Listener) (taken : ℕ) (told all : List Told) → Shows (length us) told all →
-      Runs took closed l taken all → Goes_on us closed l taken told
+      Runs took closed l taken all → GoesOn us closed l taken told
   shown_run closed l taken [] all s run = record { later = []; runs = running.rests closed l taken }
   shown_run closed l taken (t ∷ told) all s (running.rests _ _ _) = absurd s
   shown_run closed l taken (t ∷ told) all s (running.takes _ _ now later w p e) =

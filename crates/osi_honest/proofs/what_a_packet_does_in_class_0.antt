@@ -1,7 +1,6 @@
 -- A packet at an open connection of class 0: a part of a TSDU, the last part, which the session takes, or the end is over.
 -- For the turns of an end.
-use Rattle.std.proofs.Common.{◌≡◌, ◌∙◌, refl, sym, ap, subst, ℕ, ◌+◌, ◌==◌, Bool, true, false, if◌then◌else◌, nat_lt, List, [], ◌∷◌, ◌++◌, length, map, Option, Some, None, is_some, IsSome, IsTrue, Result, Ok, Err, inl, inr, ◌⊎◌}
-use Rattle.std.proofs.lemmas.Bool.{eq-eqb}
+use Rattle.std.proofs.Common.{◌≡◌, ◌∙◌, refl, sym, ap, subst, ℕ, ◌+◌, Bool, true, false, if◌then◌else◌, nat_lt, List, [], ◌∷◌, ◌++◌, length, map, Option, Some, None, is_some, IsSome, IsTrue, Result, Ok, Err, inl, inr}
 use Rattle.std.proofs.lemmas.List.{append-nil}
 use Rattle.osi_tpkt.specs.Octets.{IsOctets}
 use Rattle.osi_tpdu.specs.Packet.{AreUnits, units_of}
@@ -9,35 +8,30 @@ use Rattle.osi_tpdu.specs.Value.{Value, acknowledge, confirm, data0, data2, disc
 use Rattle.osi_tpdu.specs.declared.faults.TpduFault.{TpduFault}
 use Rattle.osi_tpdu.proofs.PacketLaws.{units_found}
 use Rattle.osi_class.specs.Giving.{Drained, drained}
-use Rattle.osi_class.specs.Joining.{Joining, joining, with_part}
+use Rattle.osi_class.specs.Joining.{joining, with_part}
 use Rattle.osi_class.specs.Limits.{longest_tsdu}
 use Rattle.osi_class.specs.Link.{Standing, unit_of, with_joined, zero_standing}
-use Rattle.osi_class.specs.declared.faults.LinkFault.{LinkFault}
 use Rattle.osi_class.specs.declared.faults.LinkFault.TheVariants.{TsduTooLong, WrongForm}
 use Rattle.osi_class.specs.declared.terms.Class.{Class}
 use Rattle.osi_class.specs.declared.terms.Class.TheVariants.{Zero}
-use Rattle.osi_class.proofs.Giving.{drained_none}
-use Rattle.osi_carrier.specs.Calls.{closed_on, closed_with, link_of, open_link, sent, sent_on}
+use Rattle.osi_carrier.specs.Calls.{closed_on, link_of, open_link, sent_on}
 use Rattle.osi_carrier.specs.Happenings.{Happening, tsdu}
 use Rattle.osi_carrier.specs.Packets as carriers
-use Rattle.osi_carrier.specs.React.{breaks, in_class, in_zero, leaves, react, reacts, settles, taking, to_linked, to_only}
+use Rattle.osi_carrier.specs.React.{breaks, in_class, in_zero, leaves, react, reacts, taking, to_linked, to_only}
 use Rattle.osi_carrier.specs.Rows.{Rows, put, value_at}
-use Rattle.osi_carrier.specs.State.{Connection, State as Carrier, fails, linked, packets}
-use Rattle.osi_carrier.specs.declared.ends.CarrierFault.TheVariants.{UnexpectedUnit}
+use Rattle.osi_carrier.specs.State.{Connection, State as Carrier, linked, packets}
 use Rattle.osi_carrier.proofs.Reacts.{react_quiet, reacts_over}
-use Rattle.osi_session.specs.Listening.{Listener, came, react as session_react, after_input}
-use Rattle.osi_judge.specs.Running.{sends}
-use Rattle.osi_stack.specs.Hearing.{after_packet, attends, concludes, hears_all, hears_times, with_carrier, with_events}
-use Rattle.osi_stack.specs.Messages.{kept_at}
+use Rattle.osi_session.specs.Listening.{Listener, came, after_input}
+use Rattle.osi_stack.specs.Hearing.{after_packet, attends, concludes, hears_all, with_carrier}
 use Rattle.osi_stack.specs.Moving.{to_session}
 use Rattle.osi_stack.specs.State.{End}
 use Rattle.osi_stack.proofs.Events.{all_quiet, concluded_carrier}
 use Rattle.osi_stack.proofs.Lifting.{packet_is}
 use Rattle.osi_stack.proofs.Moves.{one_heard}
 use Rattle.osi_stack.proofs.Soundness.{concludes_lasting}
-use Rattle.osi_stack.proofs.Stepwise.{Carries, Hears, events_heard, session_carried}
+use Rattle.osi_stack.proofs.Stepwise.{Carries, events_heard, session_carried}
 use Rattle.osi_honest.specs.Parts.{IsOpenZero, one_open, resting}
-use Rattle.osi_honest.specs.Talking.{IsPart, Moves, Packet, Puts, Talks}
+use Rattle.osi_honest.specs.Talking.{IsPart, Moves, Packet, Talks}
 use Rattle.osi_honest.specs.Talking.Packet.{last, over, part}
 use Rattle.osi_honest.proofs.a_session_of_class_0_puts_what_it_sends.{IsProper, session_moves}
 use Rattle.osi_honest.proofs.what_class_0_writes_of_a_tsdu.{nothing_left, put_one}

@@ -1,23 +1,19 @@
 -- What a session answers a TSDU by is one short TSDU, and it answers nothing where it closes its connection.
 -- For the turns of an end.
-use Rattle.std.proofs.Common.{◌≡◌, ◌∙◌, refl, sym, ap, subst, ℕ, ◌≤◌, Bool, true, false, List, [], ◌∷◌, length, Option, Some, None}
+use Rattle.std.proofs.Common.{◌≡◌, ◌∙◌, refl, sym, ap, subst, ℕ, true, false, List, [], Option, Some, None}
 use Rattle.osi_message.specs.Meanings.{AA, AB, DT, Meaning, RF}
-use Rattle.osi_message.specs.Parting.{is_parted, tsdus_of, tsdus_sent}
+use Rattle.osi_message.specs.Parting.{is_parted, tsdus_sent}
 use Rattle.osi_message.specs.Reading.{said_at}
 unfoldable use Rattle.osi_message.specs.Written.{unit_of}
-use Rattle.osi_message.specs.Written.{written}
 use Rattle.osi_message.proofs.SentLaws.{sent_alone}
 use Rattle.osi_session.specs.Listening.{Listener, Move, came, react, taker_of}
 use Rattle.osi_session.specs.Sizes.{limit_of}
 use Rattle.osi_session.specs.Standing.{answers}
-use Rattle.osi_judge.specs.Running.{sends}
 use Rattle.osi_judge.proofs.a_run_is_explained.{came_moves}
-use Rattle.osi_judge.proofs.an_answer_says_itself.{IsAnswer, SaysItself, came_itself}
+use Rattle.osi_judge.proofs.an_answer_says_itself.{SaysItself, came_itself}
 use Rattle.osi_stack.specs.Messages.{AreShort}
 use Rattle.osi_stack.specs.Moving.{limit_for}
-use Rattle.osi_stack.proofs.Handing.{came_unbounded}
 use Rattle.osi_stack.proofs.Shortness.{SpduLaws, sent_short}
-use Rattle.osi_honest.proofs.a_session_of_class_0_puts_what_it_sends.{IsProper}
 use Rattle.osi_honest.proofs.what_a_packet_does_in_class_0.{AllProper}
 
 pub answer_alone : (m : Meaning) (limit : ℕ) → answers m m ≡ true → is_parted limit m ≡ false

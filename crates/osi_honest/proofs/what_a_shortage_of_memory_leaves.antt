@@ -1,11 +1,10 @@
 -- If memory runs out for a packet at an open connection of class 0, nothing was put for it.
 -- For the turns of an end.
-use Rattle.std.proofs.Common.{◌≡◌, ◌∙◌, refl, sym, ap, subst, ℕ, zero, suc, ◌+◌, Bool, true, false, if◌then◌else◌, List, [], ◌∷◌, ◌++◌, length, Option, Some, None, is_some, IsSome, Result, Ok, Err, inl, inr, ◌⊎◌}
+use Rattle.std.proofs.Common.{◌≡◌, ◌∙◌, refl, sym, ap, subst, ℕ, zero, suc, Bool, true, false, if◌then◌else◌, List, [], ◌∷◌, ◌++◌, None, is_some, inl, inr}
 use Rattle.osi_tpkt.specs.Octets.{IsOctets}
-use Rattle.osi_tpdu.specs.Packet.{AreUnits, units_of}
+use Rattle.osi_tpdu.specs.Packet.{AreUnits}
 use Rattle.osi_tpdu.specs.Value.{Value, may_be_followed}
 use Rattle.osi_tpdu.proofs.PacketLaws.{units_found}
-use Rattle.osi_carrier.specs.Calls.{ended_by}
 use Rattle.osi_carrier.specs.Happenings.{Happening, tsdu}
 use Rattle.osi_carrier.specs.Packets as carriers
 use Rattle.osi_carrier.specs.React.{react, reacts}
@@ -14,12 +13,11 @@ use Rattle.osi_carrier.specs.declared.ends.EndReason.TheVariants.{NoMemory}
 use Rattle.osi_carrier.proofs.Reacts.{reacts_over}
 use Rattle.osi_carrier.proofs.Reading.{acts_cases}
 use Rattle.osi_session.specs.Listening.{Listener}
-use Rattle.osi_stack.specs.Hearing.{RunsOut, Starves, attends, hears_next, hears_times, starves, with_carrier, with_events}
+use Rattle.osi_stack.specs.Hearing.{RunsOut, Starves, hears_next, hears_times, starves, with_carrier, with_events}
 use Rattle.osi_stack.specs.State.{End}
 use Rattle.osi_stack.proofs.Events.{never_starved, times_quiet}
 use Rattle.osi_stack.proofs.Linking.{rest_is}
-use Rattle.osi_stack.proofs.Stepwise.{Hears, events_heard, session_carried}
-use Rattle.osi_honest.specs.Parts.{IsOpenZero, one_open}
+use Rattle.osi_stack.proofs.Stepwise.{events_heard, session_carried}
 use Rattle.osi_honest.specs.Talking.{Talks}
 use Rattle.osi_honest.proofs.what_a_packet_does_in_class_0.{AfterPacket, AfterUnit, Over, acted, alone, attends_over, over_carries, unit_acts}
 use Rattle.osi_honest.proofs.what_a_packet_does_in_class_0.AfterUnit.{adds_part as unit_adds, ends_tsdu as unit_ends, is_over as unit_over}

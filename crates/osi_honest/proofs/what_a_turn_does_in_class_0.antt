@@ -1,20 +1,18 @@
 -- Each turn of an end with an open connection of class 0: what its session took, and that what it sent was put.
 -- For runs of an end.
-use Rattle.std.proofs.Common.{◌≡◌, ◌≢◌, ◌∙◌, refl, sym, ap, subst, ℕ, ◌+◌, ◌≤◌, ◌==◌, Bool, true, false, if◌then◌else◌, not, ◌||◌, List, [], ◌∷◌, ◌++◌, length, take, drop, map, Option, Some, None, is_some, IsSome, inl, inr, ◌⊎◌, append_assoc, arith}
+use Rattle.std.proofs.Common.{◌≡◌, ◌∙◌, refl, sym, ap, subst, ℕ, Bool, true, false, if◌then◌else◌, List, [], ◌∷◌, ◌++◌, length, take, drop, map, Option, Some, None, is_some, IsSome, inl, inr, ◌⊎◌, append_assoc, arith}
 use Rattle.std.specs.List.{AllByRecursion}
-use Rattle.std.proofs.lemmas.Bool.{eq-eqb, eqb-true, ne_eqb}
 use Rattle.std.proofs.lemmas.List.{append-nil, append_cancel_left, take-append-drop, take_all}
 use Rattle.osi_tpkt.specs.Octets.{IsOctets}
 use Rattle.osi_tpkt.specs.Packet.{IsPacket}
 use Rattle.osi_tpkt.proofs.OctetLaws.{octets_right}
 use Rattle.osi_tpkt.specs.Stream.{ArePackets}
 use Rattle.osi_tpkt.specs.declared.cutting.Fed.{Fed}
-use Rattle.osi_class.specs.Tsdus.{Part}
-use Rattle.osi_carrier.specs.State.{State as Carrier, packets}
+use Rattle.osi_carrier.specs.State.{packets}
 use Rattle.osi_carrier.specs.declared.ends.EndReason.{EndReason}
 use Rattle.osi_carrier.proofs.Reading.{packets_more}
 use Rattle.osi_session.specs.Listening.{Listener}
-use Rattle.osi_stack.specs.Feeding.{Feeds, FindsNoMemory, Refuses, RunsDry, StopsBehind, TakesPackets, stops, uses_all}
+use Rattle.osi_stack.specs.Feeding.{Feeds, FindsNoMemory, RunsDry, StopsBehind, TakesPackets, uses_all}
 use Rattle.osi_stack.specs.Feeding.{Goes as GoesThrough}
 use Rattle.osi_stack.specs.State.{End, Holding, waits}
 use Rattle.osi_stack.specs.Calls.{without_first}
@@ -27,10 +25,10 @@ use Rattle.osi_stack.proofs.Rooms.{found_how}
 use Rattle.osi_stack.proofs.Runs.{none_ended}
 use Rattle.osi_stack.specs.Hearing.{Starves, ends}
 use Rattle.osi_carrier.specs.declared.ends.EndReason.TheVariants.{NoMemory}
-use Rattle.osi_honest.specs.Parts.{Carry, dt}
-use Rattle.osi_honest.specs.Stretches.{AllSaidBy, Brings, Extends, Goes, Stands, octets_said}
+use Rattle.osi_honest.specs.Parts.{dt}
+use Rattle.osi_honest.specs.Stretches.{Extends, Goes, Stands}
 use Rattle.osi_honest.specs.Stretches.Stands.{gone, talking}
-use Rattle.osi_honest.specs.Talking.{History, Puts, Said, Talks}
+use Rattle.osi_honest.specs.Talking.{History, Said, Talks}
 use Rattle.osi_honest.proofs.what_a_packet_does_in_class_0.{AllProper}
 use Rattle.osi_honest.proofs.what_packets_do_in_class_0.{never_lasts, packets_act, stands_still}
 use Rattle.osi_honest.proofs.what_a_shortage_of_memory_leaves.{starved_still}

@@ -1,36 +1,33 @@
 -- Each turn of a called end that waits for the first CR, and runs of it.
 -- For the laws of an end and its captures.
-use Rattle.std.proofs.Common.{◌≡◌, ◌∙◌, refl, sym, ap, subst, ℕ, ◌+◌, ◌≤◌, Bool, true, false, if◌then◌else◌, not, List, [], ◌∷◌, ◌++◌, length, take, drop, map, Option, Some, None, is_some, IsSome, inl, inr, ◌⊎◌, append_assoc, arith}
+use Rattle.std.proofs.Common.{◌≡◌, ◌∙◌, refl, sym, ap, subst, ℕ, ◌+◌, Bool, true, false, if◌then◌else◌, List, [], ◌∷◌, ◌++◌, length, take, drop, map, Option, Some, None, is_some, IsSome, inl, inr, ◌⊎◌, append_assoc, arith}
 use Rattle.std.proofs.lemmas.List.{append-nil, append_cancel_left, take_all}
 use Rattle.osi_tpkt.specs.Stream.{ArePackets}
-use Rattle.osi_tpkt.specs.declared.cutting.Fed.{Fed}
 use Rattle.osi_class.specs.Link.{Standing}
-use Rattle.osi_carrier.specs.Calls.{closed_on, closed_with, link_of, may_connect, open_link}
+use Rattle.osi_carrier.specs.Calls.{closed_on, closed_with, link_of, open_link}
 use Rattle.osi_carrier.specs.Rows.{Rows, value_at}
 use Rattle.osi_carrier.specs.State.{Connection, State as Carrier, packets}
 use Rattle.osi_carrier.specs.declared.ends.EndReason.TheVariants.{Broken, NoMemory}
 use Rattle.osi_session.specs.Sessions.{awaits}
-use Rattle.osi_stack.specs.Calls.{breaks, call_error, connect_error, without_first}
+use Rattle.osi_stack.specs.Calls.{connect_error, without_first}
 use Rattle.osi_stack.specs.Disconnecting.{disconnects, gives_up, gives_up_by}
-use Rattle.osi_stack.specs.Feeding.{Feeds, FindsNoMemory, StopsBehind, stops, uses_all}
+use Rattle.osi_stack.specs.Feeding.{uses_all}
 use Rattle.osi_stack.specs.Feeding.{Goes as GoesThrough}
 use Rattle.osi_stack.specs.Hearing.{Starves, ends}
-use Rattle.osi_stack.specs.Moving.{to_session}
 use Rattle.osi_stack.specs.Rounds.{UserCall, user_does}
 use Rattle.osi_stack.specs.Inputs.{IsAccepted}
 use Rattle.osi_stack.specs.Rounds.UserCall.{breaking, calling, connecting, disconnecting}
 use Rattle.osi_stack.specs.Runs.{Call, Calls, carried_in, put_back, used_in}
 use Rattle.osi_stack.specs.Runs.Call.{carrying, feeding, telling}
 use Rattle.osi_stack.specs.State.{End, Holding, Line, waits}
-use Rattle.osi_stack.proofs.DisconnectKeeps.{closed_and_given, disconnect_carrier, disconnect_is}
+use Rattle.osi_stack.proofs.DisconnectKeeps.{disconnect_carrier, disconnect_is}
 use Rattle.osi_stack.proofs.Lifting.{lasting_of, quiet_stops}
 use Rattle.osi_stack.proofs.Moves.{says_is}
 use Rattle.osi_stack.proofs.Rooms.{found_how}
 use Rattle.osi_stack.proofs.Runs.{none_ended}
-use Rattle.osi_honest.specs.Openings.{Opens, Waits, WaitingTurn}
+use Rattle.osi_honest.specs.Openings.{Waits, WaitingTurn}
 use Rattle.osi_honest.specs.Openings.WaitingTurn.{is_over, opens, turns_away, waits_on}
 use Rattle.osi_honest.specs.Parts.{dt}
-use Rattle.osi_honest.specs.Stretches.{Extends}
 use Rattle.osi_honest.specs.Talking as history
 use Rattle.osi_honest.specs.Turns.{Act, Acts, Takes, Turn, carried_by, used_by}
 use Rattle.osi_honest.specs.Turns.Act.{serving, using}

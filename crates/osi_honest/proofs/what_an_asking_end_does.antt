@@ -1,21 +1,19 @@
 -- Each turn of a calling end whose CR is not answered yet.
 -- For the laws of an end and its captures.
-use Rattle.std.proofs.Common.{◌≡◌, ◌≢◌, ◌∙◌, refl, sym, ap, subst, ℕ, ◌+◌, ◌<◌, ◌≤◌, ◌==◌, ◌||◌, Bool, true, false, if◌then◌else◌, not, nat_le, nat_lt, List, [], ◌∷◌, ◌++◌, length, take, drop, map, Option, Some, None, is_some, IsSome, inl, inr, ◌⊎◌, append_assoc, arith}
+use Rattle.std.proofs.Common.{◌≡◌, ◌≢◌, ◌∙◌, refl, sym, ap, subst, ℕ, ◌≤◌, ◌==◌, Bool, true, false, if◌then◌else◌, not, List, [], ◌∷◌, ◌++◌, length, take, drop, map, Option, Some, None, is_some, IsSome, inl, inr, ◌⊎◌, arith}
 use Rattle.std.proofs.lemmas.Bool.{eq-eqb, eqb-true, leb-true, ltb-false, not-false}
 use Rattle.std.proofs.lemmas.List.{append-nil, append_cancel_left, map-append, take_all}
 use Rattle.osi_tpkt.specs.Stream.{ArePackets}
 use Rattle.osi_tpkt.specs.declared.cutting.Fed.{Fed}
 use Rattle.osi_class.specs.Link.{Standing}
 use Rattle.osi_class.specs.declared.terms.Class.{Class}
-use Rattle.osi_carrier.specs.Calls.{class_error, closed_on, closed_with, link_of, may_connect, open_link, or_else, room_error}
+use Rattle.osi_carrier.specs.Calls.{class_error, closed_on, closed_with, link_of, open_link, or_else, room_error}
 use Rattle.osi_carrier.specs.Rows.{Rows, value_at}
 use Rattle.osi_carrier.specs.State.{Connection, State as Carrier, asked, packets}
 use Rattle.osi_carrier.specs.declared.ends.EndReason.{EndReason}
 use Rattle.osi_carrier.specs.declared.ends.EndReason.TheVariants.{Broken, NoMemory}
 use Rattle.osi_carrier.specs.declared.faults.OpenError.{OpenError}
 use Rattle.osi_carrier.specs.declared.faults.OpenError.TheVariants.{Ended, Negotiating, NotCaller}
-use Rattle.osi_message.specs.Meanings.{CN}
-use Rattle.osi_message.specs.Parting.{tsdus_of, tsdus_sent}
 use Rattle.osi_message.specs.Sendable.{IsAddress, IsSendable}
 unfoldable use Rattle.osi_message.specs.Written.{unit_of, user_data_of}
 use Rattle.osi_message.specs.Written.{written}
@@ -25,47 +23,45 @@ use Rattle.osi_session.specs.Listening.{Listener, opened}
 use Rattle.osi_session.specs.Allowed.{most_user_data}
 use Rattle.osi_session.specs.Phases.{is_wait_transport}
 use Rattle.osi_session.specs.Sizes.{limit_of}
-use Rattle.osi_session.specs.declared.faults.CallError.{CallError}
 use Rattle.osi_session.specs.declared.faults.CallError.TheVariants.{BadState, NoSuchConnection}
 use Rattle.osi_session.proofs.SendableLaws.{asked_sendable}
 use Rattle.osi_spdu.specs.Fields.{unit_bits}
 use Rattle.osi_session.specs.Units.{is_profile}
 use Rattle.osi_judge.specs.Running.{sends}
-use Rattle.osi_stack.specs.Calls.{after_open, asked_for, breaks, call_error, called_octets, calling_octets, calls_with, connect_error, has_given, is_long, is_long_address, opening_of, terms_error, without_first}
+use Rattle.osi_stack.specs.Calls.{after_open, asked_for, called_octets, calling_octets, calls_with, connect_error, has_given, is_long, is_long_address, opening_of, terms_error, without_first}
 use Rattle.osi_stack.specs.Disconnecting.{awaits_transport, disconnect_error, disconnects, gives_up}
-use Rattle.osi_stack.specs.Feeding.{Feeds, FindsNoMemory, StopsBehind, stops, uses_all}
+use Rattle.osi_stack.specs.Feeding.{Feeds, uses_all}
 use Rattle.osi_stack.specs.Feeding.{Goes as GoesThrough}
 use Rattle.osi_stack.specs.Hearing.{Starves, ends}
 use Rattle.osi_stack.specs.Inputs.{IsAccepted}
-use Rattle.osi_stack.specs.Messages.{AreShort, kept_at}
+use Rattle.osi_stack.specs.Messages.{AreShort}
 use Rattle.osi_stack.specs.Rounds.{UserCall, user_does}
 use Rattle.osi_stack.specs.Rounds.UserCall.{breaking, calling, connecting, disconnecting}
 use Rattle.osi_stack.specs.Runs.{Call, Calls, carried_in, put_back, used_in}
 use Rattle.osi_stack.specs.Runs.Call.{carrying, feeding, telling}
-use Rattle.osi_stack.specs.State.{End, Holding, Line, session_at, session_in, waits}
+use Rattle.osi_stack.specs.State.{End, Holding, session_at, session_in, waits}
 use Rattle.osi_stack.specs.declared.connecting.Connect.{Connect}
 use Rattle.osi_stack.specs.declared.connecting.ConnectError.{ConnectError}
 use Rattle.osi_stack.specs.declared.connecting.ConnectError.TheVariants.{NotSelected, TooLong}
-use Rattle.osi_stack.proofs.DisconnectKeeps.{closed_and_given, disconnect_carrier, disconnect_is, given_other}
+use Rattle.osi_stack.proofs.DisconnectKeeps.{disconnect_carrier, disconnect_is, given_other}
 use Rattle.osi_stack.proofs.Lifting.{lasting_of, or_first, or_second, quiet_stops}
 use Rattle.osi_stack.proofs.Moves.{kept_first, says_is}
 use Rattle.osi_stack.proofs.Rooms.{found_how}
 use Rattle.osi_stack.proofs.Runs.{none_ended}
 use Rattle.osi_stack.proofs.Shortness.{SpduLaws, sent_short}
-use Rattle.osi_honest.specs.Openings.{Asks, AskingTurn, IsAnswered}
+use Rattle.osi_honest.specs.Openings.{Asks, AskingTurn}
 use Rattle.osi_honest.specs.Openings.AskingTurn.{asks_on, ends_so, is_answered, turns_aside}
 use Rattle.osi_honest.specs.Parts.{Carry, dt}
-use Rattle.osi_honest.specs.Stretches.{Extends, octets_said}
+use Rattle.osi_honest.specs.Stretches.{octets_said}
 use Rattle.osi_honest.specs.Talking.{Said}
 use Rattle.osi_honest.specs.Talking as history
 use Rattle.osi_honest.specs.Turns.{Act, Acts, Takes, Turn, carried_by, used_by}
 use Rattle.osi_honest.specs.Turns.Act.{serving, using}
-use Rattle.osi_honest.proofs.a_session_of_class_0_puts_what_it_sends.{IsProper}
 use Rattle.osi_honest.proofs.how_a_caller_opens.{CanBegin, FirstStretch, caller_packets, cn_said}
 use Rattle.osi_honest.proofs.how_a_caller_opens.FirstStretch.{another_way, ended_by, nothing_came, opened_by}
 use Rattle.osi_honest.proofs.what_a_packet_does_in_class_0.{AllProper}
 use Rattle.osi_honest.proofs.what_packets_do_in_class_0.{never_lasts, put_more, said_by, said_more, said_octets}
-use Rattle.osi_honest.proofs.what_a_turn_does_in_class_0.{all_octets, extends_over, front_packets, more_used, nothing_put, starved_by, stopped_within}
+use Rattle.osi_honest.proofs.what_a_turn_does_in_class_0.{all_octets, extends_over, front_packets, more_used, starved_by, stopped_within}
 
 -- ---- the CN of a request that was accepted
 

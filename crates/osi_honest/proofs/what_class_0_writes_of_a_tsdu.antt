@@ -1,24 +1,21 @@
 -- A TSDU that is handed to an open connection of class 0 is written at once, whole, and the link is as it was before.
 -- For what a session of class 0 puts.
-use Rattle.std.proofs.Common.{◌≡◌, ◌∙◌, refl, sym, ap, subst, ℕ, zero, suc, ◌+◌, ◌-◌, ◌<◌, ◌≤◌, ◌==◌, Bool, true, false, if◌then◌else◌, nat_lt, List, [], ◌∷◌, ◌++◌, length, take, drop, map, Option, Some, None, is_some, arith, append_assoc, length-drop, take-append-drop}
-use Rattle.std.specs.List.{flat_map}
-use Rattle.std.proofs.lemmas.Bool.{eq-eqb, ltb-true, ltb-false}
+use Rattle.std.proofs.Common.{◌≡◌, ◌∙◌, refl, sym, ap, subst, ℕ, zero, suc, ◌<◌, ◌≤◌, Bool, true, false, if◌then◌else◌, nat_lt, List, [], ◌∷◌, ◌++◌, length, take, drop, map, Some, None, is_some, arith, append_assoc, length-drop, take-append-drop}
+use Rattle.std.proofs.lemmas.Bool.{eq-eqb, ltb-true}
 use Rattle.std.proofs.lemmas.List.{append-nil, map-append}
 use Rattle.std.proofs.lemmas.List.Concat.{flat_map-append}
 use Rattle.osi_tpkt.specs.Packet.{packet_of}
 use Rattle.osi_tpdu.specs.Value.{Value}
 use Rattle.osi_tpdu.specs.Writing.{written}
-use Rattle.osi_class.specs.Ends.{Ends}
 use Rattle.osi_class.specs.Giving.{Drained, drained}
 use Rattle.osi_class.specs.Joining.{joining}
-use Rattle.osi_class.specs.Link.{Given, Standing, next, part0, unit_of, with_tsdu, zero_standing}
-use Rattle.osi_class.specs.Tsdus.{Part, give, tsdus_after}
+use Rattle.osi_class.specs.Link.{Given, Standing, next, part0, unit_of, zero_standing}
+use Rattle.osi_class.specs.Tsdus.{Part, tsdus_after}
 use Rattle.osi_class.proofs.Giving.{drained_none, drained_some}
 use Rattle.osi_carrier.specs.Calls.{link_of, open_link, sent, sent_all, sent_on}
-use Rattle.osi_carrier.specs.React.{pumps}
 use Rattle.osi_carrier.specs.Rows.{Rows, put, value_at}
 use Rattle.osi_carrier.specs.State.{Connection, State, linked, packets}
-use Rattle.osi_honest.specs.Parts.{Carry, IsOpenZero, IsWritten, adds, dt, one_open, resting}
+use Rattle.osi_honest.specs.Parts.{Carry, IsOpenZero, IsWritten, adds, dt, resting}
 
 -- ---- the parts of one TSDU
 

@@ -1,21 +1,19 @@
 -- Packets one after the other at an open connection of class 0: what the session took, sent and put.
 -- For the turns of an end.
-use Rattle.std.proofs.Common.{◌≡◌, ◌∙◌, refl, sym, ap, subst, ℕ, ◌+◌, ◌≤◌, Bool, true, false, List, [], ◌∷◌, ◌++◌, length, map, Option, Some, None, is_some, IsSome, inl, inr, ◌⊎◌, append_assoc, length-append, arith}
+use Rattle.std.proofs.Common.{◌≡◌, ◌∙◌, refl, sym, ap, subst, ℕ, ◌+◌, ◌≤◌, Bool, true, false, List, [], ◌∷◌, ◌++◌, length, map, Option, Some, None, IsSome, inl, inr, append_assoc, length-append, arith}
 use Rattle.std.specs.List.{AllByRecursion}
 use Rattle.std.proofs.lemmas.List.{append-nil, map-append}
 use Rattle.osi_tpkt.specs.Octets.{IsOctets}
-use Rattle.osi_class.specs.Tsdus.{Part, tsdus_after}
-use Rattle.osi_tpdu.specs.Value.{Value}
 use Rattle.osi_carrier.specs.State.{State as Carrier, packets}
 use Rattle.osi_session.specs.Listening.{Listener, came, react, after_input}
 use Rattle.osi_judge.specs.Running.{sends}
-use Rattle.osi_stack.specs.Feeding.{TakesPackets, stops}
+use Rattle.osi_stack.specs.Feeding.{TakesPackets}
 use Rattle.osi_stack.specs.Hearing.{after_packet}
 use Rattle.osi_stack.specs.Messages.{AreShort}
 use Rattle.osi_stack.specs.State.{End, waits}
 use Rattle.osi_stack.proofs.Lifting.{lasting_of}
-use Rattle.osi_honest.specs.Parts.{Carry, dt}
-use Rattle.osi_honest.specs.Stretches.{AllSaidBy, Brings, Extends, Stands, octets_said}
+use Rattle.osi_honest.specs.Parts.{dt}
+use Rattle.osi_honest.specs.Stretches.{AllSaidBy, Extends, Stands, octets_said}
 use Rattle.osi_honest.specs.Stretches.Stands.{gone, talking}
 use Rattle.osi_honest.specs.Talking.{History, IsPart, Moves, Packet, Puts, Said, Talks, said_after}
 use Rattle.osi_honest.specs.Talking as history

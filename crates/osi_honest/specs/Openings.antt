@@ -12,9 +12,8 @@ use Rattle.osi_session.specs.Listening.{Listener}
 use Rattle.osi_stack.specs.Messages.{AreShort, kept_at}
 use Rattle.osi_stack.specs.State.{End, Holding}
 use Rattle.osi_honest.specs.Parts.{Carry, dt}
-use Rattle.osi_honest.specs.Stretches.{AllSaidBy, Brings, GoesAlong, Stands, octets_said}
+use Rattle.osi_honest.specs.Stretches.{AllSaidBy, Brings, Stands, octets_said}
 use Rattle.osi_honest.specs.Talking.{Said}
-use Rattle.osi_honest.specs.Turns.{Turn}
 
 -- A called end to which no connection was requested yet.
 pub record Waits (e : End) : Type 0 where

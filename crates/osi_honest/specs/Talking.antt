@@ -1,5 +1,5 @@
 -- What a session of class 0 took and sent, one thing after the other, and an end at which it is open.
-use Rattle.std.specs.Prelude.{◌≡◌, ◌⊎◌, ◌+◌, ℕ, nat_lt, Bool, true, false, List, [], ◌∷◌, ◌++◌, length, map, Some, None, IsSome, Ok}
+use Rattle.std.specs.Prelude.{◌≡◌, ◌⊎◌, ◌+◌, ℕ, nat_lt, Bool, true, false, List, [], ◌∷◌, ◌++◌, length, map, Some, IsSome, Ok}
 use Rattle.osi_tpdu.specs.Packet.{units_of}
 use Rattle.osi_tpdu.specs.Value.{data0}
 use Rattle.osi_class.specs.Limits.{longest_tsdu}
