@@ -1,0 +1,16 @@
+pub mod what_class_0_writes_of_a_tsdu
+pub mod a_session_of_class_0_puts_what_it_sends
+pub mod what_a_packet_does_in_class_0
+pub mod what_packets_do_in_class_0
+pub mod what_a_shortage_of_memory_leaves
+pub mod what_a_turn_does_in_class_0
+pub mod what_a_call_does_in_class_0
+pub mod what_a_session_answers_fits
+pub mod what_a_run_does_in_class_0
+pub mod a_history_is_a_run
+pub mod what_is_put_and_taken_is_read
+pub mod what_a_capture_shows_is_a_run
+pub mod how_a_called_end_opens
+pub mod what_a_waiting_end_does
+pub mod how_a_caller_opens
+pub mod what_an_asking_end_does

@@ -1,0 +1,10 @@
+use Rattle.std.proofs.Common.{refl}
+use Rattle.osi_honest.proofs.what_a_session_answers_fits.{all_proper}
+use Rattle.osi_honest.proofs.what_a_waiting_end_does.{turn_waits}
+use Rattle.osi_honest.proofs.laws.what_a_waiting_end_puts.Goals as goal
+
+pub returns-clause-begins : goal.returns-clause-begins
+returns-clause-begins c = λ local. record { lasts = refl; is_called = refl; class = refl; live = refl; told = refl; lines = refl }
+
+pub returns-clause-turn : goal.returns-clause-turn
+returns-clause-turn c = turn_waits (all_proper (record { room = c.few_octets_fit.ensures; digits = c.serial_digits.ensures }) c.what_closes_sends_nothing.ensures.octets)

@@ -1,0 +1,160 @@
+-- A TSDU that is handed to an open connection of class 0 is written at once, whole, and the link is as it was before.
+-- For what a session of class 0 puts.
+use Rattle.std.proofs.Common.{◌≡◌, ◌∙◌, refl, sym, ap, subst, ℕ, zero, suc, ◌<◌, ◌≤◌, Bool, true, false, if◌then◌else◌, nat_lt, List, [], ◌∷◌, ◌++◌, length, take, drop, map, Some, None, is_some, arith, append_assoc, length-drop, take-append-drop}
+use Rattle.std.proofs.lemmas.Bool.{eq-eqb, ltb-true}
+use Rattle.std.proofs.lemmas.List.{append-nil, map-append}
+use Rattle.std.proofs.lemmas.List.Concat.{flat_map-append}
+use Rattle.osi_tpkt.specs.Packet.{packet_of}
+use Rattle.osi_tpdu.specs.Value.{Value}
+use Rattle.osi_tpdu.specs.Writing.{written}
+use Rattle.osi_class.specs.Giving.{Drained, drained}
+use Rattle.osi_class.specs.Joining.{joining}
+use Rattle.osi_class.specs.Link.{Given, Standing, next, part0, unit_of, zero_standing}
+use Rattle.osi_class.specs.Tsdus.{Part, tsdus_after}
+use Rattle.osi_class.proofs.Giving.{drained_none, drained_some}
+use Rattle.osi_carrier.specs.Calls.{link_of, open_link, sent, sent_all, sent_on}
+use Rattle.osi_carrier.specs.Rows.{Rows, put, value_at}
+use Rattle.osi_carrier.specs.State.{Connection, State, linked, packets}
+use Rattle.osi_honest.specs.Parts.{Carry, IsOpenZero, IsWritten, adds, dt, resting}
+
+-- ---- the parts of one TSDU
+
+abbrev as_given : Part → Given
+as_given part = part0 part.0 part.1
+
+abbrev holding_one : (limit : ℕ) → List ℕ → List ℕ → Standing
+holding_one limit begun tsdu = zero_standing (record { limit = limit; unsent = tsdu ∷ []; joining = joining begun [] })
+
+record Whole (limit : ℕ) (begun tsdu : List ℕ) : Type 0 where
+  parts : List Part
+  all : drained (holding_one limit begun tsdu) ≡ record { units = map as_given parts; link = zero_standing (resting limit begun) }
+  makes : (b : List ℕ) (later : List Part) → tsdus_after b (parts ++ later) ≡ (b ++ tsdu) ∷ tsdus_after [] later
+
+pub nothing_left : (limit : ℕ) (begun : List ℕ) →
+    drained (zero_standing (resting limit begun)) ≡ record { units = []; link = zero_standing (resting limit begun) }
+nothing_left limit begun = drained_none (zero_standing (resting limit begun)) refl
+
+next_last : (limit : ℕ) (begun tsdu : List ℕ) → nat_lt limit (length tsdu) ≡ false →
+    next (holding_one limit begun tsdu) ≡ Some (part0 true tsdu, zero_standing (resting limit begun))
+next_last limit begun tsdu e = rw e refl
+
+next_part : (limit : ℕ) (begun tsdu : List ℕ) → nat_lt limit (length tsdu) ≡ true →
+    next (holding_one limit begun tsdu) ≡ Some (part0 false (take limit tsdu), holding_one limit begun (drop limit tsdu))
+next_part limit begun tsdu e = rw e refl
+
+last_whole : (limit : ℕ) (begun tsdu : List ℕ) → 0 < limit → nat_lt limit (length tsdu) ≡ false → Whole limit begun tsdu
+last_whole limit begun tsdu some e = record {
+  parts = (true, tsdu) ∷ [];
+  all = drained_some (holding_one limit begun tsdu) (zero_standing (resting limit begun)) (part0 true tsdu) some
+      (next_last limit begun tsdu e)
+      ∙ ap (λ (d : Drained). record { units = part0 true tsdu ∷ d.units; link = d.link }) (nothing_left limit begun);
+  makes = λ b later. refl;
+}
+
+more_whole : (limit : ℕ) (begun tsdu : List ℕ) → 0 < limit → nat_lt limit (length tsdu) ≡ true → Whole limit begun (drop limit tsdu) →
+    Whole limit begun tsdu
+more_whole limit begun tsdu some e rest = record {
+  parts = (false, take limit tsdu) ∷ rest.parts;
+  all = drained_some (holding_one limit begun tsdu) (holding_one limit begun (drop limit tsdu)) (part0 false (take limit tsdu)) some
+      (next_part limit begun tsdu e)
+      ∙ ap (λ (d : Drained). record { units = part0 false (take limit tsdu) ∷ d.units; link = d.link }) rest.all;
+  makes = λ b later. rest.makes (b ++ take limit tsdu) later
+      ∙ ap (λ (x : List ℕ). x ∷ tsdus_after [] later)
+      (append_assoc b (take limit tsdu) (drop limit tsdu) ∙ ap (λ (x : List ℕ). b ++ x) (take-append-drop limit tsdu));
+}
+
+whole_by : (n limit : ℕ) (begun tsdu : List ℕ) (b : Bool) → 0 < limit → nat_lt limit (length tsdu) ≡ b → length tsdu ≤ n →
+    Whole limit begun tsdu
+whole_by n limit begun tsdu false some e few = last_whole limit begun tsdu some e
+whole_by zero limit begun tsdu true some e few = let l : limit < length tsdu = ltb-true limit (length tsdu) e in absurd (omega arith)
+whole_by (suc n) limit begun tsdu true some e few =
+    let l : limit < length tsdu = ltb-true limit (length tsdu) e in
+    let k = length-drop limit tsdu in
+    more_whole limit begun tsdu some e
+    (whole_by n limit begun (drop limit tsdu) (nat_lt limit (length (drop limit tsdu))) some refl (omega arith))
+
+whole : (limit : ℕ) (begun tsdu : List ℕ) → 0 < limit → Whole limit begun tsdu
+whole limit begun tsdu some = whole_by (length tsdu) limit begun tsdu (nat_lt limit (length tsdu)) some refl (omega arith)
+
+-- ---- the carrier
+
+one_at : {X : Type 0} (r : ℕ) (x : X) → value_at r ((r, x) ∷ []) ≡ Some x
+one_at r x = rw (eq-eqb r r refl) refl
+
+pub put_one : {X : Type 0} (r : ℕ) (x y : X) → put r x ((r, y) ∷ []) ≡ (r, x) ∷ []
+put_one r x y = rw (eq-eqb r r refl) refl
+
+pub open_is : (r peer limit : ℕ) (begun : List ℕ) (s : State) → IsOpenZero r peer limit begun s →
+    open_link r s ≡ Some (peer, zero_standing (resting limit begun))
+open_is r peer limit begun s h =
+    ap (λ (x : Bool). if x then None else link_of (value_at r s.live)) (ap is_some h.lasts)
+    ∙ ap (λ (rows : Rows Connection). link_of (value_at r rows)) h.live
+    ∙ ap link_of (one_at r (linked peer (zero_standing (resting limit begun))))
+
+as_units : (peer : ℕ) (parts : List Part) → map (unit_of peer) (map as_given parts) ≡ map dt parts
+as_units peer [] = refl
+as_units peer (p ∷ parts) = ap (λ (us : List Value). dt p ∷ us) (as_units peer parts)
+
+sent_one : (r peer limit : ℕ) (begun tsdu : List ℕ) (s : State) → IsOpenZero r peer limit begun s → IsWritten (tsdu ∷ []) s (sent r tsdu s)
+sent_one r peer limit begun tsdu s h =
+    let w = whole limit begun tsdu h.some in
+    let link = zero_standing (resting limit begun) in
+    let kept : put r (linked peer link) s.live ≡ s.live =
+    ap (put r (linked peer link)) h.live ∙ put_one r (linked peer link) (linked peer link) ∙ sym h.live in
+    record {
+      parts = w.parts;
+      carry = λ later. w.makes [] later;
+      is = ap (λ o. sent_on r tsdu o s) (open_is r peer limit begun s h)
+          ∙ ap (λ (d : Drained). record s {
+            live = put r (linked peer d.link) s.live;
+            outgoing = s.outgoing ++ packets
+                (map (unit_of peer) d.units);
+          }) w.all
+          ∙ (λ i. record s { live = kept i; outgoing = s.outgoing ++ packets (as_units peer w.parts i) });
+    }
+
+added_open : (r peer limit : ℕ) (begun octets : List ℕ) (s : State) → IsOpenZero r peer limit begun s →
+    IsOpenZero r peer limit begun (adds octets s)
+added_open r peer limit begun octets s h = record { some = h.some; lasts = h.lasts; live = h.live }
+
+pub packets_joined : (us vs : List Value) → packets (us ++ vs) ≡ packets us ++ packets vs
+packets_joined us vs = flat_map-append (λ unit. packet_of (written unit)) us vs
+
+pub carry_more : (parts more : List Part) (tsdus others : List (List ℕ)) → Carry parts tsdus → Carry more others →
+    Carry (parts ++ more) (tsdus ++ others)
+carry_more parts more tsdus others c d later =
+    ap (tsdus_after []) (append_assoc parts more later) ∙ c (more ++ later) ∙ ap (λ (x : List (List ℕ)). tsdus ++ x) (d later)
+    ∙ sym (append_assoc tsdus others (tsdus_after [] later))
+
+pub written_more : (tsdus others : List (List ℕ)) (old mid new : State) → IsWritten tsdus old mid → IsWritten others mid new →
+    IsWritten (tsdus ++ others) old new
+written_more tsdus others old mid new w v = record {
+  parts = w.parts ++ v.parts;
+  carry = carry_more w.parts v.parts tsdus others w.carry v.carry;
+  is = v.is ∙ ap (adds (packets (map dt v.parts))) w.is
+      ∙ ap (λ (x : List ℕ). record old { outgoing = x }) (append_assoc old.outgoing (packets (map dt w.parts)) (packets (map dt v.parts))
+      ∙ ap (λ (x : List ℕ). old.outgoing ++ x)
+      (sym (packets_joined (map dt w.parts) (map dt v.parts)) ∙ ap packets (sym (map-append dt w.parts v.parts))));
+}
+
+pub none_written : (s : State) → IsWritten [] s s
+none_written s = record {
+  parts = [];
+  carry = λ later. refl;
+  is = ap (λ (x : List ℕ). record s { outgoing = x })
+      (sym (append-nil s.outgoing));
+}
+
+pub written_open : (r peer limit : ℕ) (begun : List ℕ) (tsdus : List (List ℕ)) (old new : State) → IsWritten tsdus old new →
+    IsOpenZero r peer limit begun old → IsOpenZero r peer limit begun new
+written_open r peer limit begun tsdus old new w h = subst (IsOpenZero r peer limit begun) (sym w.is)
+    (added_open r peer limit begun (packets (map dt w.parts)) old h)
+
+-- TSDUs that are sent together
+pub all_written : (r peer limit : ℕ) (begun : List ℕ) (tsdus : List (List ℕ)) (s : State) → IsOpenZero r peer limit begun s →
+    IsWritten tsdus s (sent_all r tsdus s)
+all_written r peer limit begun [] s h = none_written s
+all_written r peer limit begun (tsdu ∷ tsdus) s h =
+    let one = sent_one r peer limit begun tsdu s h in
+    written_more (tsdu ∷ []) tsdus s (sent r tsdu s) (sent_all r tsdus (sent r tsdu s)) one
+    (all_written r peer limit begun tsdus (sent r tsdu s) (written_open r peer limit begun (tsdu ∷ []) s (sent r tsdu s) one h))

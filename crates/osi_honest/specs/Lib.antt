@@ -1,0 +1,7 @@
+pub mod Parts
+pub mod Turns
+pub mod Talking
+pub mod Stretches
+pub mod Reading
+pub mod Showing
+pub mod Openings

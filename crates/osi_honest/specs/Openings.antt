@@ -1,0 +1,95 @@
+-- The opening of the one connection of class 0 at a called end (X.224 section 6.5).
+use Rattle.std.specs.Prelude.{◌≡◌, ℕ, true, false, List, [], ◌∷◌, ◌++◌, length, map, Option, Some, None, IsSome, Ok}
+use Rattle.osi_tpkt.specs.Stream.{ArePackets}
+use Rattle.osi_tpdu.specs.Packet.{units_of}
+use Rattle.osi_tpdu.specs.Value.{Connect, confirm, request}
+use Rattle.osi_class.specs.Tsdus.{Part}
+use Rattle.osi_class.specs.declared.terms.Class.TheVariants.{Zero}
+use Rattle.osi_carrier.specs.Negotiation.{acceptance}
+use Rattle.osi_carrier.specs.State.{asked, packets}
+use Rattle.osi_session.specs.Sessions.{awaits}
+use Rattle.osi_session.specs.Listening.{Listener}
+use Rattle.osi_stack.specs.Messages.{AreShort, kept_at}
+use Rattle.osi_stack.specs.State.{End, Holding}
+use Rattle.osi_honest.specs.Parts.{Carry, dt}
+use Rattle.osi_honest.specs.Stretches.{AllSaidBy, Brings, Stands, octets_said}
+use Rattle.osi_honest.specs.Talking.{Said}
+
+-- A called end to which no connection was requested yet.
+pub record Waits (e : End) : Type 0 where
+  pub lasts : e.carrier.ended ≡ None
+  pub is_called : e.carrier.is_caller ≡ false
+  pub class : e.carrier.class ≡ None
+  pub live : e.carrier.live ≡ []
+  pub told : e.carrier.events ≡ []
+  pub lines : e.lines ≡ []
+
+-- A calling end whose CR is not answered yet, with the session whose CN waits.
+pub record Asks (r : ℕ) (session : Listener) (e : End) : Type 0 where
+  pub lasts : e.carrier.ended ≡ None
+  pub is_caller : e.carrier.is_caller ≡ true
+  pub class : e.carrier.class ≡ None
+  pub live : e.carrier.live ≡ (r, asked) ∷ []
+  pub told : e.carrier.events ≡ []
+  pub here : kept_at r e.lines ≡ Some session
+
+-- A turn in which the first packet has a CR that is accepted in class 0. A CC is put, and a session awaits its CN; the
+-- packets after it take effect as at an open end.
+pub record Opens (used put : List ℕ) (old new : Holding) : Type 0 where
+  pub r : ℕ
+  pub wanted : Connect
+  pub size : Option ℕ
+  pub first : List ℕ
+  pub is_request : units_of first ≡ Ok (request wanted ∷ [])
+  pub more : List (List ℕ)
+  pub told : List Said
+  pub later : List ℕ
+  pub stands : Stands awaits r more told later new.end
+  pub parts : List Part
+  pub carry : Carry parts (octets_said told)
+  pub short : AreShort (octets_said told)
+  pub written : put ≡ packets (confirm wanted.source (acceptance Zero size wanted old.end.carrier.local r) ∷ []) ++ packets (map dt parts)
+  pub counted : AllSaidBy (length more) told
+  pub units : List (List ℕ)
+  pub rest : List ℕ
+  pub cut : ArePackets (first ∷ units) (old.held.octets ++ used) rest
+  pub brings : Brings [] units more later
+  pub held : new.end.carrier.ended ≡ None → rest ≡ new.held.octets
+
+-- A turn of a called end that waits: it waits on, and puts nothing; it opens in class 0; it is over, and nothing was put;
+-- or it answers a CR otherwise, or memory ran out for a packet, and no more is said here.
+pub data WaitingTurn (used put : List ℕ) (old new : Holding) : Type 0 where
+  waits_on : Waits new.end → put ≡ [] → new.held.octets ≡ old.held.octets ++ used → WaitingTurn used put old new
+  opens : Opens used put old new → WaitingTurn used put old new
+  is_over : IsSome new.end.carrier.ended → put ≡ [] → WaitingTurn used put old new
+  turns_away : WaitingTurn used put old new
+
+-- A turn in which the first packet has a CC of class 0: the session sends its CN, and the packets after it take effect as
+-- at an open end.
+pub record IsAnswered (r : ℕ) (session : Listener) (used put : List ℕ) (old new : Holding) : Type 0 where
+  pub destination : ℕ
+  pub answer : Connect
+  pub first : List ℕ
+  pub is_answer : units_of first ≡ Ok (confirm destination answer ∷ [])
+  pub more : List (List ℕ)
+  pub told : List Said
+  pub later : List ℕ
+  pub stands : Stands session r more told later new.end
+  pub parts : List Part
+  pub carry : Carry parts (octets_said told)
+  pub short : AreShort (octets_said told)
+  pub written : put ≡ packets (map dt parts)
+  pub counted : AllSaidBy (length more) told
+  pub units : List (List ℕ)
+  pub rest : List ℕ
+  pub cut : ArePackets (first ∷ units) (old.held.octets ++ used) rest
+  pub brings : Brings [] units more later
+  pub held : new.end.carrier.ended ≡ None → rest ≡ new.held.octets
+
+-- A turn of a calling end that asks: it asks on, and puts nothing; it opens in class 0; it is over, and nothing was put; or
+-- its CR is refused or accepted in class 2, a DR is answered, or memory ran out for a packet, and no more is said here.
+pub data AskingTurn (r : ℕ) (session : Listener) (used put : List ℕ) (old new : Holding) : Type 0 where
+  asks_on : Asks r session new.end → put ≡ [] → new.held.octets ≡ old.held.octets ++ used → AskingTurn r session used put old new
+  is_answered : IsAnswered r session used put old new → AskingTurn r session used put old new
+  ends_so : IsSome new.end.carrier.ended → put ≡ [] → AskingTurn r session used put old new
+  turns_aside : AskingTurn r session used put old new

@@ -1,0 +1,104 @@
+//! Laws of an end and its captures. Each function does nothing: its clauses are the laws.
+
+ghost use Rattle.std.specs.Prelude.{◌≡◌, ℕ, Bool, false, true, List, None, length, map};
+ghost use Rattle.osi_class.specs.Tsdus.{Part};
+ghost use Rattle.osi_class.specs.declared.terms.Local.{Local};
+ghost use Rattle.osi_judge.specs.Explaining.{IsExplained, Told};
+ghost use Rattle.osi_judge.specs.Running.{IsSentFrom};
+ghost use Rattle.osi_judge.specs.Tapping.{octets_of};
+ghost use Rattle.osi_judge.specs.Transport.{Stage, between, sent_from};
+ghost use Rattle.osi_judge.specs.declared.directions.Direction.{Direction};
+ghost use Rattle.osi_session.specs.Listening.{Listener};
+ghost use Rattle.osi_session.specs.Sessions.{awaits, opens, refusal_of};
+ghost use Rattle.osi_session.specs.Standing.{seen_called, seen_calling};
+ghost use Rattle.osi_session.specs.declared.opening.Opening.{Opening};
+ghost use Rattle.osi_stack.specs.Calls.{calls_with, connects, terms_error};
+ghost use Rattle.osi_stack.specs.Messages.{AreShort};
+ghost use Rattle.osi_stack.specs.State.{Holding, fresh_end};
+ghost use Rattle.osi_stack.specs.declared.connecting.Connect.{Connect};
+ghost use Rattle.osi_honest.specs.Openings.{Asks, AskingTurn, Waits, WaitingTurn};
+ghost use Rattle.osi_honest.specs.Parts.{Carry, units_put};
+ghost use Rattle.osi_honest.specs.Reading.{IsReading};
+ghost use Rattle.osi_honest.specs.Showing.{AreSame, Shows};
+ghost use Rattle.osi_honest.specs.Stretches.{Brings, GoesAlong, Stands};
+ghost use Rattle.osi_honest.specs.Talking.{History, Said, told_of};
+ghost use Rattle.osi_honest.specs.Turns.{Run, Takes, Turn};
+
+use osi_judge::laws::an_honest_session_is_explained;
+use osi_session::laws::what_closes_sends_nothing;
+use osi_spdu::laws::{few_octets_fit, serial_digits};
+
+/// What an end puts on the byte connection, from the time at which its connection is open in class 0. Take any list of
+/// turns: in each, octets arrive in whatever pieces, indications are fetched, octets are handed over, or the user makes
+/// a call, gives up the connection, or finds that the byte connection broke. In each turn the packets that took effect
+/// bring TSDUs, and the session takes these and no others, in order; it sends what it answers and what its user calls,
+/// and no more happens to it. What it sends is put in this turn, whole and in order, each TSDU after those that had been
+/// taken by then; and nothing else is put. This holds also if memory runs out, if what arrives is no packet or no unit,
+/// and after the end.
+pub fn what_an_open_end_puts()
+    ensures { (begin : Listener) (r : ℕ) (took : List (List ℕ)) (said : List Said) (begun : List ℕ) (turns : List Turn)
+        (old new : Holding) →
+        Stands begin r took said begun old.end → Run old turns new → GoesAlong begin r took said begun old turns new }
+{
+    few_octets_fit();
+    serial_digits();
+    what_closes_sends_nothing();
+}
+
+/// How a called end opens its connection in class 0: each turn of an end that waits for the first CR. It waits on and
+/// puts nothing; or the first packet has a CR that is accepted in class 0, a CC is put, and what its session then takes
+/// and sends is as at an open end; or the end is over, with nothing put. What a CR does that is refused or accepted in
+/// class 2, and an end that runs out of memory for the first packet, are left out here (`turns_away`).
+pub fn what_a_waiting_end_puts()
+    ensures begins { (local : Local) → Waits (fresh_end false local) }
+    ensures turn { (turn : Turn) (old new : Holding) → Waits old.end → Takes old turn new →
+        WaitingTurn turn.used turn.put old new }
+{
+    few_octets_fit();
+    serial_digits();
+    what_closes_sends_nothing();
+}
+
+/// How a calling end opens its connection in class 0: each turn of an end whose CR is not answered yet. It asks on and
+/// puts nothing; or the first packet has a CC of class 0, the session sends its CN, and what it then takes and sends is
+/// as at an open end; or the end is over, with nothing put. A CR that is refused or accepted in class 2, a DR that is
+/// answered by a DC, and an end that runs out of memory for the first packet are left out here (`turns_aside`).
+pub fn what_an_asking_end_puts()
+    ensures begins { (c : Connect) (local : Local) → Asks 1 (calls_with c) (connects c (fresh_end true local)) }
+    ensures turn { (r : ℕ) (c : Connect) (turn : Turn) (old new : Holding) → terms_error c ≡ None →
+        Asks r (calls_with c) old.end → Takes old turn new → AskingTurn r (calls_with c) turn.used turn.put old new }
+{
+    few_octets_fit();
+    serial_digits();
+    what_closes_sends_nothing();
+}
+
+/// What a session sent is explained by the TSDUs that it had taken by then, whatever it took and whatever its user
+/// called. So the judge, which is told what such an end puts and what it takes, never blames its session.
+pub fn what_a_session_said_is_explained()
+    ensures called { (took : List (List ℕ)) (said : List Said) (closed : Bool) (l : Listener) → History awaits took said closed l →
+        IsExplained seen_called took (map told_of said) }
+    ensures caller { (o : Opening) (took : List (List ℕ)) (said : List Said) (closed : Bool) (l : Listener) → refusal_of o ≡ None →
+        History (opens o) took said closed l → IsExplained seen_calling took (map told_of said) }
+{
+    an_honest_session_is_explained();
+}
+
+/// The judge reads both directions as the end does. From the packets that an end puts for TSDUs it reads these TSDUs
+/// (`put`), and from the packets that an end takes the TSDUs that its session takes (`taken`).
+pub fn what_is_put_and_taken_is_read()
+    ensures put { (d : Direction) (at : ℕ) (parts : List Part) (tsdus : List (List ℕ)) → Carry parts tsdus → AreShort tsdus →
+        map octets_of (sent_from d between at (units_put parts)) ≡ tsdus }
+    ensures taken { (d : Direction) (stage : Stage) (begun : List ℕ) (at : ℕ) (units tsdus : List (List ℕ)) (later : List ℕ) →
+        IsReading stage begun → Brings begun units tsdus later → map octets_of (sent_from d stage at units) ≡ tsdus }
+{}
+
+/// A capture need not show all that a session sent, nor all that it took; and more of the other side's TSDUs may have
+/// passed before a TSDU than the session had taken when it sent it. What the capture shows is still a run of the session
+/// as the judge has it ([`IsSentFrom`]).
+///
+/// [`IsSentFrom`]: ../../osi_judge/specs/Running.antt
+pub fn what_a_capture_shows_is_a_run()
+    ensures { (begin : Listener) (took us : List (List ℕ)) (said : List Said) (told : List Told) (closed : Bool) (l : Listener) →
+        History begin took said closed l → AreSame us took → Shows (length us) told (map told_of said) → IsSentFrom begin us told }
+{}

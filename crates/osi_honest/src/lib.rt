@@ -1,0 +1,22 @@
+//! What an end of this library puts on the byte connection, in the words in which the judge reads a capture. The crate
+//! has definitions and laws; nothing here runs.
+//!
+//! Read it if you want to know why `osi judge` should blame an end of this library for nothing. It joins two crates that
+//! know nothing of each other: `osi_stack` says what an end is after octets and calls, and `osi_judge` which runs of a
+//! session explain what a side sent. It speaks of one connection of class 0.
+//!
+//! - A `Turn` (`specs/Turns.antt`) is one thing that the owner of an end does, with the octets that the end used and those
+//!   that it put. A `Run` is turns one after the other.
+//! - A `History` (`specs/Talking.antt`) is what a session took and sent, each TSDU with how many it had taken by then. It
+//!   is a run of the session as `osi_judge` has it, also if a capture shows less of it:
+//!   [`laws::what_a_session_said_is_explained`], [`laws::what_a_capture_shows_is_a_run`].
+//! - `GoesAlong` (`specs/Stretches.antt`) says of each turn of an open end which TSDUs its packets bring, what the session
+//!   sends, and that this is what was put: [`laws::what_an_open_end_puts`]. How a called and a calling end come to be open
+//!   is in `specs/Openings.antt`: [`laws::what_a_waiting_end_puts`], [`laws::what_an_asking_end_puts`].
+//! - The judge reads these packets as the end does: [`laws::what_is_put_and_taken_is_read`].
+//!
+//! It doesn't say yet that a whole capture of an end is never blamed: for that, positions in a capture have to be counted
+//! against turns.
+#![tactic(auto)]
+
+pub mod laws;
