@@ -7,9 +7,11 @@ pub mod OnwardLaws
 pub mod CaptureLaws
 pub mod CountLaws
 pub mod UnitLaws
+pub mod what_is_told_beside_is_of_the_capture
 pub mod FollowLaws
 pub mod JudgeLaws
 pub mod LineLaws
+pub mod what_was_broken_stays_broken
 pub mod FirstLaws
 pub mod a_tsdu_has_one_count
 pub mod a_call_may_be_said

@@ -59,6 +59,14 @@ WatchesBy TooMany w told = Unit {0}
 abbrev pub Watches : Watched → List Told → Type 0
 Watches w told = WatchesBy w.finding w told
 
+-- What is found once a side is told one TSDU more. A side that kept the protocol may break it or leave the profile at this TSDU
+-- alone; anything else that was found stays.
+abbrev pub FoundNext : Finding → (told : ℕ) → Finding → Type 0
+FoundNext Kept told (Broke i) = i ≡ told
+FoundNext Kept told (Left i) = i ≡ told
+FoundNext Kept told finding = Unit {0}
+FoundNext found told finding = finding ≡ found
+
 -- what is found of a side that said this where the other side said that
 abbrev pub IsFound : Seen → List (List ℕ) → List Told → Finding → Type 0
 IsFound begin heard told Kept = IsExplained begin heard told

@@ -3,8 +3,9 @@
 ghost use Rattle.std.specs.Prelude.{◌≡◌, ◌<◌, ◌≤◌, ◌⊎◌, ◌++◌, ◌∷◌, [], Err, IfOk, OnOk, OnErr, List, length, take};
 ghost use Rattle.osi_session.specs.Standing.{seen_called, seen_calling};
 ghost use Rattle.osi_judge.specs.Explaining.{Told};
-ghost use Rattle.osi_judge.specs.Judging.{Watches, Keeps, IsFound};
-ghost use Rattle.osi_judge.specs.Sides.{watched, EndsAt};
+ghost use Rattle.osi_judge.specs.Judging.{Watches, Keeps, IsFound, FoundNext};
+ghost use Rattle.osi_judge.specs.Onward.{StandsFor};
+ghost use Rattle.osi_judge.specs.Sides.{watched, blame_of, EndsAt};
 
 use crate::findings::Finding;
 use crate::members::{Member, none_is_left};
@@ -119,6 +120,7 @@ impl Side {
     pub fn tell(&mut self, tsdu: &[u8], before: usize) -> Result<(), TellError>
         ensures others { OnOk result (((watched self.new).begin ≡ (watched self.old).begin) × ((watched self.new).heard ≡ (watched self.old).heard)) }
         ensures order { OnOk result ((watched self.new).before ≤ before) }
+        ensures finding { OnOk result (FoundNext (watched self.old).finding (watched self.old).told (watched self.new).finding) }
         ensures watches { OnOk result ((told : List Told) → Watches (watched self.old) told → Watches (watched self.new) (told ++ record { octets = tsdu.now; before = before } ∷ [])) }
         ensures in_order { OnOk result (((watched self.old).before ≤ before) × (before ≤ length (watched self.old).heard)) }
         ensures out_of_order { result ≡ Err TellError.OutOfOrder → (before < (watched self.old).before) ⊎ (length (watched self.old).heard < before) }
@@ -142,6 +144,7 @@ impl Side {
         requires passed { before ≤ length (watched self.old).heard }
         ensures others { OnOk result (((watched self.new).begin ≡ (watched self.old).begin) × ((watched self.new).heard ≡ (watched self.old).heard)) }
         ensures order { OnOk result ((watched self.new).before ≤ before) }
+        ensures finding { OnOk result (FoundNext (watched self.old).finding (watched self.old).told (watched self.new).finding) }
         ensures watches { OnOk result ((told : List Told) → Watches (watched self.old) told → Watches (watched self.new) (told ++ record { octets = tsdu.now; before = before } ∷ [])) }
         ensures err { OnErr result (watched self.new ≡ watched self.old) }
     {
@@ -160,6 +163,7 @@ impl Side {
         requires passed { before ≤ length (watched self.old).heard }
         ensures others { OnOk result (((watched self.new).begin ≡ (watched self.old).begin) × ((watched self.new).heard ≡ (watched self.old).heard)) }
         ensures order { OnOk result ((watched self.new).before ≤ before) }
+        ensures finding { OnOk result (FoundNext (watched self.old).finding (watched self.old).told (watched self.new).finding) }
         ensures watches { OnOk result ((told : List Told) → Keeps (watched self.old) told → Watches (watched self.new) (told ++ record { octets = tsdu.now; before = before } ∷ [])) }
         ensures err { OnErr result (watched self.new ≡ watched self.old) }
     {
@@ -222,19 +226,26 @@ impl Side {
 
     /// By which rule the side broke the protocol, or left the profile. It says nothing of a side that did
     /// neither.
-    pub fn by(&self) -> Break {
+    pub fn by(&self) -> Break
+        ensures { result ≡ blame_of self.now }
+    {
         self.by
     }
 
     /// How many TSDUs it said before its break, or in all.
-    pub fn told(&self) -> usize {
+    pub fn told(&self) -> usize
+        ensures value { result ≡ (watched self.now).told }
+        ensures kept { (told : List Told) → Watches (watched self.now) told → (watched self.now).finding ≡ Finding.Kept → result ≡ length told }
+    {
         self.told
     }
 
     /// How the side stands that kept the protocol, or kept it before its break: by the session that explains
     /// it and has taken most, of these the one with the highest V(A), then with the flag on, which takes
     /// what it can.
-    pub fn stands(&self) -> Result<Stands, AllocError> {
+    pub fn stands(&self) -> Result<Stands, AllocError>
+        ensures { IfOk result (λ s. (told : List Told) → Keeps (watched self.now) told → StandsFor (watched self.now) told s) }
+    {
         stands_behind(self.alloc, &self.heard, foremost(&self.members))
     }
 
