@@ -16,7 +16,7 @@ use Rattle.osi_judge.specs.declared.findings.Finding.TheVariants.{Kept}
 use Rattle.osi_judge.specs.declared.judge.Reading.{Reading}
 use Rattle.osi_judge.specs.Transport.{Stage, opening, between, within, stopped, Sent, packets_length, stage_from, IsSent}
 use Rattle.osi_judge.specs.Tapping.{begin_of, heard, told, IsFoundIn, stop_in, IsStoppedIn, IsReadIn, IsReferenceIn, IsPlace, IsPlaceIn}
-use Rattle.osi_judge.specs.Feeding.{Tapped, stopped_by, stopped_of}
+use Rattle.osi_judge.specs.Feeding.{Tapped, reading_of, stopped_by, stopped_of}
 use Rattle.osi_judge.specs.Following.{shown, IsRest, Follows, Judged, half_of, Taps}
 use Rattle.osi_judge.proofs.SideLaws.{found_as}
 use Rattle.osi_judge.proofs.UnitLaws.{offset_of_rest}
@@ -143,8 +143,8 @@ cut_as d c t mine others f =
     let e = ending_of (offset_of (0 + (length (stream d c) - length f.rest))) t.fault t.held f.rest f.is_rest in
     (e.0, (f.rest, f.packets, e.1))
 
-abbrev pub reading_of : Tapped → Reading
-reading_of t = record { packets = t.line.packets; octets = t.octets; rest = t.octets - t.line.at }
+abbrev pub with_rest : (packets octets rest : ℕ) → Reading
+with_rest packets octets rest = record { packets = packets; octets = octets; rest = rest }
 
 read_as : (d : Direction) (c : Capture) (t : Tapped) (mine others : List Sent) → Follows d c t mine others → IsReadIn d c (reading_of t)
 read_as d c t mine others f =

@@ -11,6 +11,7 @@ pub mod what_is_told_beside_is_of_the_capture
 pub mod FollowLaws
 pub mod JudgeLaws
 pub mod LineLaws
+pub mod what_is_known_of_a_side_is_of_the_capture
 pub mod what_was_broken_stays_broken
 pub mod FirstLaws
 pub mod a_tsdu_has_one_count

@@ -1,10 +1,11 @@
 -- What octets of a side do to what is kept of it.
-use Rattle.std.specs.Prelude.{◌≡◌, ◌≤◌, ◌<◌, ℕ, ◌+◌, List, [], ◌∷◌, ◌++◌, length, take, Bool, ◌||◌, Option, Some, None}
+use Rattle.std.specs.Prelude.{◌≡◌, ◌≤◌, ◌<◌, ℕ, ◌+◌, ◌-◌, List, [], ◌∷◌, ◌++◌, length, take, Bool, ◌||◌, Option, Some, None}
 use Rattle.osi_tpkt.specs.Packet.{IsPacket, IsPartial, IsFaultOf, stated_length}
 use Rattle.osi_tpkt.specs.Stream.{offset_of}
 use Rattle.osi_tpkt.specs.declared.faults.TpktFault.{TpktFault}
 use Rattle.osi_tpkt.specs.declared.faults.TpktFault.TheVariants.{BadVersion, BadLength, OutOfMemory}
 use Rattle.osi_judge.specs.declared.directions.Direction.{Direction}
+use Rattle.osi_judge.specs.declared.judge.Reading.{Reading}
 use Rattle.osi_judge.specs.declared.stops.Stop.TheVariants.{BadPacket}
 use Rattle.osi_judge.specs.declared.stops.Stopped.{Stopped as StoppedAt}
 use Rattle.osi_judge.specs.Stops.{breaks, broke_session}
@@ -58,6 +59,10 @@ pub record Tapped : Type 0 where
 
 abbrev pub tapped : Half → Tapped
 tapped h = record { held = h.held.items; octets = h.octets; fault = h.fault; line = lined h.line; side = watched h.side }
+
+-- what was read of a side
+abbrev pub reading_of : Tapped → Reading
+reading_of t = record { packets = t.line.packets; octets = t.octets; rest = t.octets - t.line.at }
 
 -- ---- a TSDU
 

@@ -15,7 +15,11 @@ use Rattle.osi_judge.specs.declared.stops.Stopped.{Stopped as StoppedAt}
 use Rattle.osi_judge.specs.Stops.{breaks, broke_session}
 use Rattle.osi_judge.specs.Captures.{Capture, other, stream, passed_before}
 use Rattle.osi_judge.specs.Transport.{Stage, opening, stopped, reference_in, Sent, packets_length, last_packet, stage_from, IsSent}
-use Rattle.osi_judge.specs.Explaining.{Told}
+use Rattle.osi_judge.specs.Explaining.{Told, remarks, Explains}
+use Rattle.osi_judge.specs.Walking.{Ever}
+use Rattle.osi_judge.specs.Onward.{StandsBehind}
+use Rattle.osi_judge.specs.declared.members.Member.{Member}
+use Rattle.osi_judge.specs.declared.standings.Stands.{Stands}
 use Rattle.osi_judge.specs.Judging.{IsFound}
 
 -- left calls
@@ -94,6 +98,25 @@ pub record IsPlaceIn (d : Direction) (capture : Capture) (finding : Finding) (of
   pub mine : List Sent
   pub is_mine : IsSent d capture mine
   pub place : IsPlace finding mine offset
+
+-- how many TSDUs a side of a capture sent
+pub record IsCountIn (d : Direction) (capture : Capture) (count : ℕ) : Type 0 where
+  pub mine : List Sent
+  pub is_mine : IsSent d capture mine
+  pub counted : count ≡ length mine
+
+-- How a side of a capture stands that kept the protocol: by a session that said all that the side sent, so that whatever is
+-- explained from there on is explained for the side, and that took what it could of what the other side sent.
+pub record IsStandingIn (d : Direction) (capture : Capture) (s : Stands) : Type 0 where
+  pub mine : List Sent
+  pub others : List Sent
+  pub is_mine : IsSent d capture mine
+  pub is_others : IsSent (other d) capture others
+  pub member : Member
+  pub before : ℕ
+  pub has_said : Ever (heard others) before (λ us later.
+      Explains us later member.taken member.standing → Explains us (remarks (told d capture mine others) ++ later) 0 (begin_of d))
+  pub behind : StandsBehind (heard others) member s
 
 -- ---- the first break
 

@@ -2,7 +2,7 @@
 
 ghost use Rattle.std.specs.Prelude.{◌≡◌, ◌≤◌, ◌<◌, ◌++◌, [], None, true, IfOk, OnOk, OnErr, length, take};
 ghost use Rattle.osi_judge.specs.Captures.{Capture, other, piece};
-ghost use Rattle.osi_judge.specs.Feeding.{tapped, has_broken, stopped_of};
+ghost use Rattle.osi_judge.specs.Feeding.{tapped, reading_of, has_broken, stopped_of};
 ghost use Rattle.osi_judge.specs.Following.{judged, both, half_of, first_in, first_after, Taps, FirstIs};
 ghost use Rattle.osi_judge.specs.Sides.{watched};
 ghost use Rattle.osi_judge.specs.Tapping.{IsFoundIn, IsStoppedIn, IsReadIn, IsReferenceIn, IsPlaceIn, IsFirstIn};
@@ -127,7 +127,8 @@ impl Judge {
 
     /// What was read of a direction.
     pub fn reading(&self, direction: Direction) -> Reading
-        ensures { (capture : Capture) → Taps (judged self.now) capture → IsReadIn direction capture result }
+        ensures value { result ≡ reading_of (half_of direction (judged self.now)) }
+        ensures read { (capture : Capture) → Taps (judged self.now) capture → IsReadIn direction capture result }
     {
         let half = self.half(direction);
         Reading {
@@ -163,7 +164,8 @@ impl Judge {
     /// Where the session of a side broke the protocol or left the profile: the offset of the packet in which that
     /// TSDU ended. Of a side that did neither it says nothing.
     pub fn offset(&self, direction: Direction) -> u64
-        ensures { (capture : Capture) → Taps (judged self.now) capture
+        ensures value { result ≡ (half_of direction (judged self.now)).line.last }
+        ensures place { (capture : Capture) → Taps (judged self.now) capture
             → IsPlaceIn direction capture (half_of direction (judged self.now)).side.finding result }
     {
         self.half(direction).line.last
