@@ -1,6 +1,7 @@
 -- How many TSDUs a side told, and how its session stands, is so in the capture; and a side without a reference told none.
 -- For the crate that writes what a judge found.
-use Rattle.std.proofs.Common.{◌≡◌, ◌∙◌, refl, sym, ap, subst, ℕ, ◌+◌, ◌==◌, Bool, true, false, if◌then◌else◌, List, [], ◌∷◌, ◌++◌, length, Option, Some, None, Result, Ok, Err}
+use Rattle.std.proofs.Common.{◌≡◌, ◌∙◌, refl, sym, ap, subst, ℕ, ◌+◌, ◌==◌, Bool, true, false, if◌then◌else◌, List, [], ◌∷◌, ◌++◌}
+use Rattle.std.proofs.Common.{length, Option, Some, None, Result, Ok, Err}
 use Rattle.std.proofs.lemmas.List.{append-nil}
 use Rattle.osi_tpkt.specs.Stream.{Cuts, Ending}
 use Rattle.osi_tpkt.proofs.Streams.{one_cut}
@@ -21,8 +22,10 @@ use Rattle.osi_judge.specs.Explaining.{Told, remarks, Explains}
 use Rattle.osi_judge.specs.Judging.{Watched, Keeps, WatchesBy, Watches}
 use Rattle.osi_judge.specs.Onward.{StandsFor, StandsBehind}
 use Rattle.osi_judge.specs.Walking.{Ever}
-use Rattle.osi_judge.specs.Transport.{Move, opens, adds, stops, first_step, step_of, given_by, reference_in, Stage, opening, stopped, moved, Sent, brought, packet_length, sent_from, IsSent}
-use Rattle.osi_judge.specs.Tapping.{begin_of, heard, told, IsFoundIn, IsStoppedIn, IsReadIn, IsReferenceIn, IsPlaceIn, IsCountIn, IsStandingIn, IsFirstIn}
+use Rattle.osi_judge.specs.Transport.{Move, opens, adds, stops, first_step, step_of, given_by, reference_in, Stage, opening, stopped}
+use Rattle.osi_judge.specs.Transport.{moved, Sent, brought, packet_length, sent_from, IsSent}
+use Rattle.osi_judge.specs.Tapping.{begin_of, heard, told, IsFoundIn, IsStoppedIn, IsReadIn, IsReferenceIn, IsPlaceIn, IsCountIn}
+use Rattle.osi_judge.specs.Tapping.{IsStandingIn, IsFirstIn}
 use Rattle.osi_judge.specs.Feeding.{Tapped, reading_of, stopped_of}
 use Rattle.osi_judge.specs.Following.{Follows, Judged, half_of, Taps, FirstIs}
 use Rattle.osi_judge.proofs.JudgeLaws.{is_sent, is_read, is_given, is_stopped, is_found, is_placed}
@@ -41,18 +44,21 @@ StandsHere w s = (said : List Told) → Keeps w said → StandsFor w said s
 keeps_as : (w : Watched) (said : List Told) → Watches w said → w.finding ≡ Kept → Keeps w said
 keeps_as w said k e = subst (λ (f : Finding). WatchesBy f w said) e k
 
-counted_as : (d : Direction) (c : Capture) (t : Tapped) (mine others : List Sent) → Follows d c t mine others → t.side.finding ≡ Kept → (n : ℕ) → Counts t.side n → IsCountIn d c n
+counted_as : (d : Direction) (c : Capture) (t : Tapped) (mine others : List Sent) → Follows d c t mine others → t.side.finding ≡ Kept
+    → (n : ℕ) → Counts t.side n → IsCountIn d c n
 counted_as d c t mine others f e n k = record {
   mine = mine;
   is_mine = is_sent d c t mine others f;
   counted = k (told d c mine others) f.watches e ∙ sym (keeps_as t.side (told d c mine others) f.watches e).count ∙ count_told d c mine others t.side f.watches e;
 }
 
-pub is_counted : (d : Direction) (c : Capture) (j : Judged) → Taps j c → (half_of d j).side.finding ≡ Kept → (n : ℕ) → Counts (half_of d j).side n → IsCountIn d c n
+pub is_counted : (d : Direction) (c : Capture) (j : Judged) → Taps j c → (half_of d j).side.finding ≡ Kept → (n : ℕ)
+    → Counts (half_of d j).side n → IsCountIn d c n
 is_counted side.Left c j h e n k = counted_as side.Left c j.left h.left h.right h.of_left e n k
 is_counted side.Right c j h e n k = counted_as side.Right c j.right h.right h.left h.of_right e n k
 
-standing_as : (d : Direction) (c : Capture) (t u : Tapped) (mine others : List Sent) → Follows d c t mine others → Follows (other d) c u others mine → t.side.finding ≡ Kept
+standing_as : (d : Direction) (c : Capture) (t u : Tapped) (mine others : List Sent) → Follows d c t mine others
+    → Follows (other d) c u others mine → t.side.finding ≡ Kept
     → (s : Stands) → StandsHere t.side s → IsStandingIn d c s
 standing_as d c t u mine others f g e s k =
     let said = told d c mine others in
@@ -68,7 +74,8 @@ standing_as d c t u mine others f g e s k =
       behind = subst (λ (x : List (List ℕ)). StandsBehind x h.member s) f.heard h.behind;
     }
 
-pub is_standing : (d : Direction) (c : Capture) (j : Judged) → Taps j c → (half_of d j).side.finding ≡ Kept → (s : Stands) → StandsHere (half_of d j).side s → IsStandingIn d c s
+pub is_standing : (d : Direction) (c : Capture) (j : Judged) → Taps j c → (half_of d j).side.finding ≡ Kept → (s : Stands)
+    → StandsHere (half_of d j).side s → IsStandingIn d c s
 is_standing side.Left c j h e s k = standing_as side.Left c j.left j.right h.left h.right h.of_left h.of_right e s k
 is_standing side.Right c j h e s k = standing_as side.Right c j.right j.left h.right h.left h.of_right h.of_left e s k
 
@@ -97,7 +104,8 @@ known_in d c j h = record {
 abbrev IsStop : Move → Type 0
 IsStop m = (stop : Stop) × (m ≡ stops stop)
 
-opens_or_stops : (b : Bool) (source : ℕ) → given_by (if b then opens source else stops OtherClass) ≡ None → IsStop (if b then opens source else stops OtherClass)
+opens_or_stops : (b : Bool) (source : ℕ) → given_by (if b then opens source else stops OtherClass) ≡ None
+    → IsStop (if b then opens source else stops OtherClass)
 opens_or_stops true source h = absurd (cc)
 opens_or_stops false source h = (OtherClass, refl)
 

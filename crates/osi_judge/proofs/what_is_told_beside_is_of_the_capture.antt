@@ -1,5 +1,6 @@
 -- The reference of a side, and the packet of its break, follow the packets that passed: for what a judge is fed.
-use Rattle.std.proofs.Common.{◌≡◌, ◌∙◌, refl, sym, ap, subst, ℕ, suc, zero, ◌+◌, Bool, true, false, if◌then◌else◌, List, [], ◌∷◌, ◌++◌, length, map, Option, Some, None, option_map, Result, Ok, Err, inl, inr, arith}
+use Rattle.std.proofs.Common.{◌≡◌, ◌∙◌, refl, sym, ap, subst, ℕ, suc, zero, ◌+◌, Bool, true, false, if◌then◌else◌, List, [], ◌∷◌, ◌++◌}
+use Rattle.std.proofs.Common.{length, map, Option, Some, None, option_map, Result, Ok, Err, inl, inr, arith}
 use Rattle.std.proofs.lemmas.List.{append-nil}
 use Rattle.osi_tpkt.specs.Stream.{offset_of}
 use Rattle.osi_tpdu.specs.Value.{Value, request, confirm, disconnect, disconnected, data0, data2, acknowledge, error}
@@ -12,7 +13,9 @@ use Rattle.osi_judge.specs.declared.stops.Stop.TheVariants.{TsduTooLong}
 use Rattle.osi_judge.specs.Captures.{Capture}
 use Rattle.osi_judge.specs.Explaining.{Told}
 use Rattle.osi_judge.specs.Judging.{Watched, WatchesBy, Watches, FoundNext}
-use Rattle.osi_judge.specs.Transport.{Move, opens, adds, stops, next_step, step_of, given_by, reference_in, Stage, opening, between, within, stopped, is_open, is_too_long, added, moved, stage_behind, Sent, packet_length, packets_length, last_packet, sent_by, stage_from}
+use Rattle.osi_judge.specs.Transport.{Move, opens, adds, stops, next_step, step_of, given_by, reference_in, Stage, opening, between}
+use Rattle.osi_judge.specs.Transport.{within, stopped, is_open, is_too_long, added, moved, stage_behind, Sent, packet_length}
+use Rattle.osi_judge.specs.Transport.{packets_length, last_packet, sent_by, stage_from}
 use Rattle.osi_judge.specs.Tapping.{heard, tell, told, IsPlace}
 use Rattle.osi_judge.specs.Feeding.{named, named_behind, last_place, last_behind, Passes}
 use Rattle.osi_judge.specs.Following.{shown}
@@ -35,7 +38,8 @@ later_named d (Err fault) known = refl
 later_named d (Ok []) known = refl
 later_named d (Ok (v ∷ vs)) known = never_opens v known
 
-open_added : (s : Stage) (at : ℕ) (long end : Bool) (octets : List ℕ) → is_open (if long then stopped TsduTooLong at else added s at end octets) ≡ true
+open_added : (s : Stage) (at : ℕ) (long end : Bool) (octets : List ℕ)
+    → is_open (if long then stopped TsduTooLong at else added s at end octets) ≡ true
 open_added s at true end octets = refl
 open_added s at false true octets = refl
 open_added s at false false octets = refl
@@ -67,7 +71,8 @@ named_first (opens reference) = refl
 named_first (adds end octets) = refl
 named_first (stops stop) = refl
 
-pub named_more : (d : Direction) (us : List (List ℕ)) (u : List ℕ) → named_behind d (stage_from d opening 0 us) (reference_in d us) u ≡ reference_in d (us ++ u ∷ [])
+pub named_more : (d : Direction) (us : List (List ℕ)) (u : List ℕ)
+    → named_behind d (stage_from d opening 0 us) (reference_in d us) u ≡ reference_in d (us ++ u ∷ [])
 named_more d [] u = named_first (step_of d false (units_of u))
 named_more d (x ∷ us) u =
     named_open d (stage_from d (stage_behind d opening 0 x) (0 + packet_length x) us) (reference_in d (x ∷ us)) u
@@ -105,10 +110,12 @@ place_stays (Broke i) sent t n h = front_packet sent t i n h
 place_stays (Left i) sent t n h = front_packet sent t i n h
 place_stays TooMany sent t n h = tt
 
-place_here : (sent : List Sent) (t : Sent) (i at : ℕ) → t.last ≡ at → i ≡ length sent → Some (offset_of at) ≡ option_map offset_of (last_packet (sent ++ t ∷ []) i)
+place_here : (sent : List Sent) (t : Sent) (i at : ℕ) → t.last ≡ at → i ≡ length sent
+    → Some (offset_of at) ≡ option_map offset_of (last_packet (sent ++ t ∷ []) i)
 place_here sent t i at l e = sym (ap (option_map offset_of) (new_packet sent t i e) ∙ ap (λ (x : ℕ). Some (offset_of x)) l)
 
-place_next : (f g : Finding) (count last at : ℕ) (sent : List Sent) (t : Sent) → FoundNext f count g → (f ≡ Kept → count ≡ length sent) → t.last ≡ at → IsPlace f sent last
+place_next : (f g : Finding) (count last at : ℕ) (sent : List Sent) (t : Sent) → FoundNext f count g → (f ≡ Kept → count ≡ length sent)
+    → t.last ≡ at → IsPlace f sent last
     → IsPlace g (sent ++ t ∷ []) (last_place f (offset_of at) last)
 place_next Kept Kept count last at sent t n c l h = tt
 place_next Kept (Broke i) count last at sent t n c l h = place_here sent t i at l (n ∙ c refl)
@@ -119,8 +126,10 @@ place_next (Left i) g count last at sent t n c l h = subst (λ (x : Finding). Is
 place_next TooMany g count last at sent t n c l h = subst (λ (x : Finding). IsPlace x (sent ++ t ∷ []) last) (sym n) tt
 
 -- of a packet that ends a TSDU, or none; the TSDU is kept with its offsets as they are shown
-pub place_behind : (mine sent kept : List Sent) (w new o new_o : Watched) (s r : Stage) (at before last : ℕ) (u : List ℕ) → OneOrNone s at u sent → OneOrNone r (offset_of at) u kept → heard kept ≡ heard sent
-    → Passes sent before w new o new_o → (w.finding ≡ Kept → w.told ≡ length mine) → IsPlace w.finding mine last → IsPlace new.finding (mine ++ sent) (last_behind w.finding kept last)
+pub place_behind : (mine sent kept : List Sent) (w new o new_o : Watched) (s r : Stage) (at before last : ℕ) (u : List ℕ)
+    → OneOrNone s at u sent → OneOrNone r (offset_of at) u kept → heard kept ≡ heard sent
+    → Passes sent before w new o new_o → (w.finding ≡ Kept → w.told ≡ length mine) → IsPlace w.finding mine last
+    → IsPlace new.finding (mine ++ sent) (last_behind w.finding kept last)
 place_behind mine sent kept w new o new_o s r at before last u (inl e) (inl k) h p c i =
     let q : Passes [] before w new o new_o = subst (λ (x : List Sent). Passes x before w new o new_o) e p in
     subst (λ (x : List Sent). IsPlace new.finding (mine ++ sent) (last_behind w.finding x last)) (sym k)
@@ -150,7 +159,8 @@ length_told d c (t ∷ mine) others = ap (λ (n : ℕ). suc n) (length_told d c 
 pub count_kept : (w : Watched) (said : List Told) → Watches w said → w.finding ≡ Kept → w.told ≡ length said
 count_kept w said k e = count_by w.finding w said k e
 
-pub count_told : (d : Direction) (c : Capture) (mine others : List Sent) (w : Watched) → Watches w (told d c mine others) → w.finding ≡ Kept → w.told ≡ length mine
+pub count_told : (d : Direction) (c : Capture) (mine others : List Sent) (w : Watched) → Watches w (told d c mine others)
+    → w.finding ≡ Kept → w.told ≡ length mine
 count_told d c mine others w k e = count_kept w (told d c mine others) k e ∙ length_told d c mine others
 
 -- what was found stays, or it was that the side kept the protocol

@@ -5,7 +5,8 @@ ghost use Rattle.osi_tpkt.specs.Packet.{stated_length};
 ghost use Rattle.osi_tpkt.specs.Stream.{offset_of};
 ghost use Rattle.osi_judge.specs.Sides.{watched};
 ghost use Rattle.osi_judge.specs.Transport.{opening, between, stopped, is_open, begun, first_of, added, moved, adds, brought};
-ghost use Rattle.osi_judge.specs.Feeding.{stage_in, lined, tapped, since_at, since_in, last_place, last_behind, Tells, hears, Passes, TakesUnit, Settles, Feeds, placed, stopped_packet, stopped_of, has_broken};
+ghost use Rattle.osi_judge.specs.Feeding.{stage_in, lined, tapped, since_at, since_in, last_place, last_behind, Tells, hears, Passes};
+ghost use Rattle.osi_judge.specs.Feeding.{TakesUnit, Settles, Feeds, placed, stopped_packet, stopped_of, has_broken};
 
 use crate::directions::Direction;
 use crate::findings::Finding;
