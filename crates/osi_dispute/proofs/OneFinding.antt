@@ -95,7 +95,7 @@ one_found begin us said (Broke i) (Left j) d e k h = absurd e
 one_found begin us said (Broke i) TooMany d e k h = absurd e
 
 -- a side of a capture has one list of TSDUs
-abbrev HasOneList : Type 0
+abbrev pub HasOneList : Type 0
 HasOneList = (d : Direction) (capture : Capture) (some others : List Sent) → IsSent d capture some → IsSent d capture others → some ≡ others
 
 pub one_finding : HasOneList → (d : Direction) (capture : Capture) (f g : Finding) → IsDecided f → IsDecided g
