@@ -73,7 +73,7 @@ said_by : (d : Direction) (c : Capture) (f : Finding) → broke_session f ≡ tr
     → (mine : List Sent) × IsSent d c mine × (mine ≡ [] → ⊥)
 said_by d c Kept b h = absurd (cc)
 said_by d c TooMany b h = absurd (cc)
-said_by d c (Broke i) b h = (h.mine, h.is_mine, some_said d c h.mine h.others i h.found.there)
+said_by d c (Broke i) b h = (h.mine, h.is_mine, some_said d c h.mine h.others i h.found.0.there)
 said_by d c (Left i) b h = (h.mine, h.is_mine, some_said d c h.mine h.others i h.found.0)
 
 -- it gave the connection a reference

@@ -25,3 +25,5 @@ pub mod an_honest_side_is_kept
 pub mod a_selection_is_read
 pub mod a_cn_is_answered_within_its_units
 pub mod an_honest_run_stays_in_the_profile
+pub mod a_side_strays_at_one_place
+pub mod no_more_is_kept_than_passed

@@ -15,11 +15,19 @@ pub(crate) struct Member {
     pub(crate) standing: Standing,
 }
 
-/// Whether it is one of these.
+/// How many of the last members are searched for one that is there already. Equal ones stand near each
+/// other: members come in the order in which they took the TSDUs.
+const NEAR: usize = 16;
+
+/// Whether it is one of the last of these.
 fn is_among(members: &[Member], member: &Member) -> bool
     ensures { (us : List (List ℕ)) (later : List Remark) → result ≡ true → Explains us later member.now.taken member.now.standing → SomeExplains us members.now later }
 {
-    'members: for other in members {
+    let first = members.len().saturating_sub(NEAR);
+    let mut at = members.len();
+    'members: while first < at {
+        at -= 1;
+        let other = &members[at];
         if other.taken == member.taken && other.standing.is_same(&member.standing) {
             return true;
         }
@@ -27,7 +35,7 @@ fn is_among(members: &[Member], member: &Member) -> bool
     false
 }
 
-/// Adds one, unless it is there already.
+/// Adds one, unless it is there already, among the last.
 pub(crate) fn add(members: &mut Vec<Member>, member: Member) -> Result<(), AllocError>
     ensures { OnOk result ((us : List (List ℕ)) (later : List Remark) →
         (SomeExplains us members.old.items later ⊎ Explains us later member.taken member.standing) ↔ SomeExplains us members.new.items later) }

@@ -1,10 +1,11 @@
 //! One side of a connection, judged by what it said and by what it may have heard.
 
-ghost use Rattle.std.specs.Prelude.{◌≡◌, ◌<◌, ◌≤◌, ◌⊎◌, ◌++◌, ◌∷◌, [], Err, IfOk, OnOk, OnErr, List, length, take};
+ghost use Rattle.std.specs.Prelude.{◌≡◌, ◌<◌, ◌≤◌, ◌⊎◌, ◌++◌, ◌∷◌, ◌+◌, [], false, Err, IfOk, OnOk, OnErr, List, length, take};
 ghost use Rattle.osi_session.specs.Standing.{seen_called, seen_calling};
 ghost use Rattle.osi_judge.specs.Explaining.{Told};
 ghost use Rattle.osi_judge.specs.Judging.{Watches, Keeps, IsFound, FoundNext};
 ghost use Rattle.osi_judge.specs.Onward.{StandsFor};
+ghost use Rattle.osi_judge.specs.Profiles.{selects_outside};
 ghost use Rattle.osi_judge.specs.Sides.{watched, blame_of, EndsAt};
 
 use crate::findings::Finding;
@@ -171,11 +172,11 @@ impl Side {
         if none_is_left(members.as_slice()) {
             return self.end(tsdu, before);
         }
-        if selects_outside(&self.heard, tsdu) {
+        if self.opens_outside(tsdu, before) {
             self.leave(before);
             return Ok(());
         }
-        if members.len() > MOST_MEMBERS || self.told == usize::MAX {
+        if self.is_crowd(members.as_slice()) {
             self.finding = Finding::TooMany;
             return Ok(());
         }
@@ -183,6 +184,26 @@ impl Side {
         self.told += 1;
         self.before = before;
         Ok(())
+    }
+
+    /// Whether these are more sessions than are kept, or TSDUs are no more to be counted.
+    fn is_crowd(&self, members: &[Member]) -> bool
+        ensures few { result ≡ false → length members.now ≤ 4096 }
+        ensures counted { result ≡ false → (watched self.now).told + 1 < 18446744073709551616 }
+    {
+        members.len() > MOST_MEMBERS || self.told == usize::MAX
+    }
+
+    /// Whether a TSDU of this side is its first, and selects what is not selected here.
+    fn opens_outside(&self, tsdu: &[u8], before: usize) -> bool
+        requires { before ≤ length (watched self.now).heard }
+        ensures first { (watched self.now).told ≡ 0 → result ≡ selects_outside (watched self.now).heard (record { octets = tsdu.now; before = before } ∷ []) }
+        ensures later { 0 < (watched self.now).told → result ≡ false }
+    {
+        if self.told > 0 {
+            return false;
+        }
+        selects_outside(&self.heard, tsdu, before)
     }
 
     /// A TSDU of this side that no session says.
