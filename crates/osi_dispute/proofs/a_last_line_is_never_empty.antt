@@ -119,5 +119,6 @@ words_by c (Some side.Left) l r a b f = account_words side.Left c l r a f
 words_by c (Some side.Right) l r a b f = account_words side.Right c r r b f
 
 pub last_words : (c : Capture) (v : Verdict) → IsDetermined c v → HasWords (outcome_line v)
+unfolding IsDetermined
 last_words c v h =
     subst (λ (w : Verdict). HasWords (outcome_line w)) (sym h.told.tells) (words_by c h.first h.left h.right h.told.of_left h.told.of_right h.told.first_of)

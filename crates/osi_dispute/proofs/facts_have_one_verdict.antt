@@ -18,11 +18,11 @@ use Rattle.osi_judge.specs.Tapping.{IsFoundIn, IsReadIn, IsReferenceIn, IsStoppe
 use Rattle.osi_dispute.specs.declared.verdicts.Told.{Told}
 use Rattle.osi_dispute.specs.declared.verdicts.Told.TheVariants as told
 use Rattle.osi_dispute.specs.declared.verdicts.Verdict.{Verdict}
-use Rattle.osi_dispute.specs.Facts.{is_broken, IsFirstOf, Facts, AreFacts, told_by, told_of, is_refused, connection_by, left_first, outcome_by, verdict_by}
+use Rattle.osi_dispute.specs.Facts.{Determined, is_broken, IsFirstOf, Facts, AreFacts, told_by, told_of, is_refused, connection_by, left_first, outcome_by, verdict_by}
 use Rattle.osi_dispute.specs.Facts.{IsToldBy}
 use Rattle.osi_dispute.specs.Disputes.{IsJudgement}
 use Rattle.osi_dispute.specs.Texts.{verdict_text, verdict_status}
-use Rattle.osi_dispute.specs.Laws.{IsDecided, ChooseSame, SameChoices, AreAlike}
+use Rattle.osi_dispute.specs.Laws.{IsDecided, ChooseSame, SameChoices}
 use Rattle.osi_dispute.proofs.OneFinding.{HasOneList, one_finding}
 use Rattle.osi_dispute.proofs.OneText.{one_text}
 
@@ -158,10 +158,9 @@ one_verdict one c v w first second l r m s h k e =
 -- ---- of a text
 
 pub one_judgement : HasOneList → (text lines others : List ℕ) (status other : ℕ) (one : IsJudgement text lines status)
-    (two : IsJudgement text others other) → AreAlike one two → (lines ≡ others) × (status ≡ other)
-one_judgement has text lines others status other one two same =
-    let a = one.judged.judged.determined in
-    let b = two.judged.judged.determined in
+    (two : IsJudgement text others other) (a : Determined one.capture one.judged.verdict) (b : Determined two.capture two.judged.verdict)
+    → SameChoices a.first b.first a.left a.right b.left b.right → (lines ≡ others) × (status ≡ other)
+one_judgement has text lines others status other one two a b same =
     let v = one.judged.verdict in
     let w = two.judged.verdict in
     let capture = one_text text one.capture two.capture one.reads two.reads in

@@ -168,23 +168,6 @@ first_known None j c s u b e h = h
 first_known (Some side.Left) j c s u b e h = h.1
 first_known (Some side.Right) j c s u b e h = h.1
 
-pub determined : (j : Judge) (c : Capture) (l r : Account) (o : Outcome) → Knows j c
-    → Accounts (left_first (first_in j) side.Right (judged j).right.side.finding) (judged j).left (judged j).right l
-    → Accounts (left_first (first_in j) side.Left (judged j).left.side.finding) (judged j).right (judged j).right r
-    → o ≡ outcome_in (first_in j) (judged j) → IsDetermined c (record { left = l; right = r; outcome = o })
-determined j c l r o k a b e = record {
-  first = first_in j;
-  left = facts_of (judged j).left a.stands a.by;
-  right = facts_of (judged j).right b.stands b.by;
-  told = record {
-    of_left = facts_known side.Left c (judged j) a.stands a.by k.taps;
-    of_right = facts_known side.Right c (judged j) b.stands b.by k.taps;
-    is_first = is_first_in (first_in j) (judged j) c k.taps k.first;
-    first_of = first_known (first_in j) (judged j) c a.stands b.stands a.by b.by k.first;
-    tells = λ i. record { left = a.is i; right = b.is i; outcome = e i };
-  };
-}
-
 stands_session : (d : Direction) (c : Capture) (j : Judged) (r : ℕ) (x : Told) → Taps j c → StandsBy (half_of d j) (Session r x)
     → StandsIn d c (Session r x)
 stands_session d c j r (told.Kept n s) t h = is_standing d c j t h.0 s h.1
@@ -197,3 +180,23 @@ stands_in d c j Silent t h = tt
 stands_in d c j (Refused r) t h = tt
 stands_in d c j (Unanswered r) t h = tt
 stands_in d c j (Session r x) t h = stands_session d c j r x t h
+
+pub determined : (j : Judge) (c : Capture) (l r : Account) (o : Outcome) → Knows j c
+    → Accounts (left_first (first_in j) side.Right (judged j).right.side.finding) (judged j).left (judged j).right l
+    → Accounts (left_first (first_in j) side.Left (judged j).left.side.finding) (judged j).right (judged j).right r
+    → o ≡ outcome_in (first_in j) (judged j) → IsDetermined c (record { left = l; right = r; outcome = o })
+unfolding IsDetermined
+determined j c l r o k a b e = record {
+  first = first_in j;
+  left = facts_of (judged j).left a.stands a.by;
+  right = facts_of (judged j).right b.stands b.by;
+  told = record {
+    of_left = facts_known side.Left c (judged j) a.stands a.by k.taps;
+    of_right = facts_known side.Right c (judged j) b.stands b.by k.taps;
+    is_first = is_first_in (first_in j) (judged j) c k.taps k.first;
+    first_of = first_known (first_in j) (judged j) c a.stands b.stands a.by b.by k.first;
+    tells = λ i. record { left = a.is i; right = b.is i; outcome = e i };
+  };
+  left_stands = stands_in side.Left c (judged j) l.connection k.taps a.standing;
+  right_stands = stands_in side.Right c (judged j) r.connection k.taps b.standing;
+}

@@ -162,16 +162,22 @@ pub record IsToldBy (capture : Capture) (v : Verdict) (first : Option Direction)
   pub first_of : IsFirstOf first left right
   pub tells : v ≡ verdict_by first left right
 
-pub record IsDetermined (capture : Capture) (v : Verdict) : Type 0 where
-  pub first : Option Direction
-  pub left : Facts
-  pub right : Facts
-  pub told : IsToldBy capture v first left right
-
 -- so a session of this side stands, where one is told of that kept the protocol
 abbrev pub StandsIn : Direction → Capture → Connection → Type 0
 StandsIn d capture (Session reference (told.Kept count stands)) = IsStandingIn d capture stands
 StandsIn d capture connection = Unit {0}
+
+pub record Determined (capture : Capture) (v : Verdict) : Type 0 where
+  pub first : Option Direction
+  pub left : Facts
+  pub right : Facts
+  pub told : IsToldBy capture v first left right
+  pub left_stands : StandsIn Left capture v.left.connection
+  pub right_stands : StandsIn Right capture v.right.connection
+
+-- folded, so that a search for what else a verdict says does not look into it
+unfoldable pub IsDetermined : Capture → Verdict → Type 0
+IsDetermined capture v = Determined capture v
 
 -- ---- what a judge knows
 

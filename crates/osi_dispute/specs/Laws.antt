@@ -1,10 +1,9 @@
 -- Findings that say whether a side kept the protocol, and what two judgements may choose.
-use Rattle.std.specs.Prelude.{◌≡◌, ◌⊎◌, ℕ, true, List, Option}
+use Rattle.std.specs.Prelude.{◌≡◌, ◌⊎◌, true, Option}
 use Rattle.osi_judge.specs.declared.directions.Direction.{Direction}
 use Rattle.osi_judge.specs.declared.findings.Finding.{Finding}
 use Rattle.osi_judge.specs.declared.findings.Finding.TheVariants.{Kept, Broke, Left, TooMany}
-use Rattle.osi_dispute.specs.Disputes.{IsJudgement}
-use Rattle.osi_dispute.specs.Facts.{Facts, is_broken, IsDetermined}
+use Rattle.osi_dispute.specs.Facts.{Facts, is_broken}
 
 -- the side kept the protocol, or broke it
 abbrev pub IsDecided : Finding → Type 0
@@ -25,10 +24,3 @@ pub record SameChoices (first second : Option Direction) (left right lefts right
   pub of_left : ChooseSame left lefts
   pub of_right : ChooseSame right rights
   pub of_first : is_broken left ≡ true → is_broken right ≡ true → first ≡ second
-
-abbrev determined : {text lines : List ℕ} → {status : ℕ} → (j : IsJudgement text lines status) → IsDetermined j.capture j.judged.verdict
-determined j = j.judged.judged.determined
-
-abbrev pub AreAlike : {text lines others : List ℕ} → {status other : ℕ} → IsJudgement text lines status → IsJudgement text others other → Type 0
-AreAlike one two =
-    SameChoices (determined one).first (determined two).first (determined one).left (determined one).right (determined two).left (determined two).right

@@ -17,7 +17,7 @@ use Rattle.osi_dispute.specs.declared.verdicts.Connection.TheVariants.{Silent, R
 use Rattle.osi_dispute.specs.declared.verdicts.Outcome.{Outcome}
 use Rattle.osi_dispute.specs.declared.verdicts.Outcome.TheVariants.{BothKept, First, NotJudged}
 use Rattle.osi_dispute.specs.declared.verdicts.Verdict.{Verdict}
-use Rattle.osi_dispute.specs.Facts.{IsDetermined, StandsIn}
+use Rattle.osi_dispute.specs.Facts.{IsDetermined}
 
 -- what is known of a judge that was fed this capture
 pub record Knows (j : Judge) (capture : Capture) : Type 0 where
@@ -59,6 +59,4 @@ pub record IsVerdict (capture : Capture) (v : Verdict) : Type 0 where
   pub left_stop : IsStoppedIn Left capture v.left.stopped
   pub right_stop : IsStoppedIn Right capture v.right.stopped
   pub outcome : IsOutcome capture v.outcome
-  pub left_stands : StandsIn Left capture v.left.connection
-  pub right_stands : StandsIn Right capture v.right.connection
   pub determined : IsDetermined capture v

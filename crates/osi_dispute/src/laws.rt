@@ -7,8 +7,8 @@ ghost use Rattle.osi_judge.specs.Captures.{Capture};
 ghost use Rattle.osi_judge.specs.Tapping.{IsFoundIn};
 ghost use Rattle.osi_dispute.specs.declared.verdicts.Verdict.{Verdict};
 ghost use Rattle.osi_dispute.specs.Disputes.{IsJudgement};
-ghost use Rattle.osi_dispute.specs.Facts.{Facts, IsToldBy, IsDetermined};
-ghost use Rattle.osi_dispute.specs.Laws.{IsDecided, SameChoices, AreAlike};
+ghost use Rattle.osi_dispute.specs.Facts.{Facts, IsToldBy, Determined, IsDetermined};
+ghost use Rattle.osi_dispute.specs.Laws.{IsDecided, SameChoices};
 ghost use Rattle.osi_dispute.specs.Rows.{IsCaptureOf};
 ghost use Rattle.osi_dispute.specs.Texts.{outcome_line};
 
@@ -34,7 +34,8 @@ pub fn a_text_has_one_judgement()
         → SameChoices first second left right lefts rights → v ≡ w }
     ensures text { (text lines others : List ℕ) (status other : ℕ)
         (one : IsJudgement text lines status) (two : IsJudgement text others other)
-        → AreAlike one two → (lines ≡ others) × (status ≡ other) }
+        (a : Determined one.capture one.judged.verdict) (b : Determined two.capture two.judged.verdict)
+        → SameChoices a.first b.first a.left a.right b.left b.right → (lines ≡ others) × (status ≡ other) }
 {
     a_capture_has_one_reading();
 }

@@ -5,5 +5,4 @@ pub returns-clause-verdict : goal.returns-clause-verdict
 returns-clause-verdict c = one_verdict c.a_capture_has_one_reading.ensures.one
 
 pub returns-clause-text : goal.returns-clause-text
-returns-clause-text c = λ text lines others status other one two same.
-    one_judgement c.a_capture_has_one_reading.ensures.one text lines others status other one two same
+returns-clause-text c = one_judgement c.a_capture_has_one_reading.ensures.one

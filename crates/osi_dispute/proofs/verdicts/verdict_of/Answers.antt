@@ -1,6 +1,4 @@
-use Rattle.osi_judge.specs.Following.{judged}
-use Rattle.osi_judge.specs.declared.directions.Direction.TheVariants.{Left, Right}
-use Rattle.osi_dispute.proofs.what_is_told_is_by_facts.{determined, stands_in}
+use Rattle.osi_dispute.proofs.what_is_told_is_by_facts.{determined}
 use Rattle.osi_dispute.proofs.verdicts.verdict_of.Goals as goal
 
 pub returns : goal.returns
@@ -14,7 +12,5 @@ returns c = λ capture k.
       left_stop = l.ensures.stopped capture k;
       right_stop = r.ensures.stopped capture k;
       outcome = c.outcome_of.ensures.told capture k;
-      left_stands = stands_in Left capture (judged j) l.left.connection k.taps l.ensures.told.standing;
-      right_stands = stands_in Right capture (judged j) r.right.connection k.taps r.ensures.told.standing;
       determined = determined j capture l.left r.right c.outcome_of.result k l.ensures.told r.ensures.told c.outcome_of.ensures.value;
     }
