@@ -65,7 +65,8 @@ kept_still begin us a b e k = subst (λ (z : List Told). IsKept begin us z) (sym
 astray_still : (begin : Seen) (us : List (List ℕ)) (a b : List Told) → a ≡ b → IsAstray begin us b → IsAstray begin us a
 astray_still begin us a b e k = subst (λ (z : List Told). IsAstray begin us z) (sym e) k
 
-broke_stays : (begin : Seen) (heard : List (List ℕ)) (told : List Told) (x : Told) (i : ℕ) → BrokeFor begin heard told i → BrokeFor begin heard (told ++ x ∷ []) i
+broke_stays : (begin : Seen) (heard : List (List ℕ)) (told : List Told) (x : Told) (i : ℕ) → BrokeFor begin heard told i
+    → BrokeFor begin heard (told ++ x ∷ []) i
 broke_stays begin heard told x i k =
     let n = length-append told (x ∷ []) in
     let there = k.0 in
@@ -86,7 +87,8 @@ left_stays begin heard told x i k =
           (kept_still begin us (take i (told ++ x ∷ [])) (take i told) a y.0, astray_still begin us (take (i + 1) (told ++ x ∷ [])) (take (i + 1) told) b y.1),
     )
 
-crowded_stays : (begin : Seen) (heard : List (List ℕ)) (told : List Told) (x : Told) (i : ℕ) → CrowdedFor begin heard told i → CrowdedFor begin heard (told ++ x ∷ []) i
+crowded_stays : (begin : Seen) (heard : List (List ℕ)) (told : List Told) (x : Told) (i : ℕ) → CrowdedFor begin heard told i
+    → CrowdedFor begin heard (told ++ x ∷ []) i
 crowded_stays begin heard told x i k =
     let n = length-append told (x ∷ []) in
     let there = k.0 in
@@ -100,15 +102,18 @@ stays_by (Left i) w told x n k = left_stays w.begin w.heard told x i k
 stays_by TooMany w told x n k = crowded_stays w.begin w.heard told x w.told k
 
 -- what was found of a side that is judged no further stays
-stays : (w n : Watched) (told : List Told) (x : Told) (f : Finding) → w.finding ≡ f → (f ≡ Kept → ⊥) → n ≡ w → Watches w told → Watches n (told ++ x ∷ [])
+stays : (w n : Watched) (told : List Told) (x : Told) (f : Finding) → w.finding ≡ f → (f ≡ Kept → ⊥) → n ≡ w → Watches w told
+    → Watches n (told ++ x ∷ [])
 stays w n told x f z o e k =
     subst (λ (y : Watched). Watches y (told ++ x ∷ [])) (sym e)
     (subst (λ (g : Finding). WatchesBy g w (told ++ x ∷ [])) (sym z) (stays_by f w told x o (subst (λ (g : Finding). WatchesBy g w told) z k)))
 
-pub broke_as : (w n : Watched) (told : List Told) (x : Told) (i : ℕ) → w.finding ≡ Broke i → n ≡ w → Watches w told → Watches n (told ++ x ∷ [])
+pub broke_as : (w n : Watched) (told : List Told) (x : Told) (i : ℕ) → w.finding ≡ Broke i → n ≡ w → Watches w told
+    → Watches n (told ++ x ∷ [])
 broke_as w n told x i f e k = stays w n told x (Broke i) f (λ z. cc) e k
 
-pub left_as : (w n : Watched) (told : List Told) (x : Told) (i : ℕ) → w.finding ≡ Left i → n ≡ w → Watches w told → Watches n (told ++ x ∷ [])
+pub left_as : (w n : Watched) (told : List Told) (x : Told) (i : ℕ) → w.finding ≡ Left i → n ≡ w → Watches w told
+    → Watches n (told ++ x ∷ [])
 left_as w n told x i f e k = stays w n told x (Left i) f (λ z. cc) e k
 
 pub too_many_as : (w n : Watched) (told : List Told) (x : Told) → w.finding ≡ TooMany → n ≡ w → Watches w told → Watches n (told ++ x ∷ [])
@@ -146,7 +151,8 @@ all_more w told x new l a g = λ us later e h.
 
 -- ---- what the first TSDU selects
 
-same_offer : (us heard : List (List ℕ)) (x : Told) → Extends us heard → x.before ≤ length heard → selects_outside us (x ∷ []) ≡ selects_outside heard (x ∷ [])
+same_offer : (us heard : List (List ℕ)) (x : Told) → Extends us heard → x.before ≤ length heard
+    → selects_outside us (x ∷ []) ≡ selects_outside heard (x ∷ [])
 same_offer us heard x e l = by x.before l
   where
     asked : ℕ → List ℕ → Bool
@@ -160,7 +166,8 @@ same_offer us heard x e l = by x.before l
 abbrev pub OpensBy : Watched → Told → Bool → Type 0
 OpensBy w x b = (w.told ≡ 0 → b ≡ selects_outside w.heard (x ∷ [])) × (0 < w.told → b ≡ false)
 
-opens_by : (w : Watched) (told : List Told) (x : Told) (b : Bool) (us : List (List ℕ)) → Extends us w.heard → x.before ≤ length w.heard → OpensBy w x b → Keeps w told
+opens_by : (w : Watched) (told : List Told) (x : Told) (b : Bool) (us : List (List ℕ)) → Extends us w.heard → x.before ≤ length w.heard
+    → OpensBy w x b → Keeps w told
     → selects_outside us (told ++ x ∷ []) ≡ b
 opens_by w [] x b us e l o k = same_offer us w.heard x e l ∙ sym (o.0 k.count)
 opens_by w (t ∷ told) x b us e l o k = let c = k.count in k.inside us e ∙ sym (o.1 (omega arith))
@@ -171,13 +178,16 @@ some_done : (us : List (List ℕ)) (members : List Member) → is_empty members 
 some_done us [] s = absurd (cc)
 some_done us (m ∷ members) s = inl (done m.taken m.standing)
 
-explained_more : (w : Watched) (told : List Told) (x : Told) (new : List Member) (us : List (List ℕ)) → w.before ≤ x.before → Gives w x new → is_empty new ≡ false → Keeps w told → Extends us w.heard
+explained_more : (w : Watched) (told : List Told) (x : Told) (new : List Member) (us : List (List ℕ)) → w.before ≤ x.before
+    → Gives w x new → is_empty new ≡ false → Keeps w told → Extends us w.heard
     → IsExplained w.begin us (told ++ x ∷ [])
 explained_more w told x new us l g s k e =
     subst (λ (z : List Remark). Explains us z 0 w.begin) (append-nil (remarks (told ++ x ∷ []))) ((all_more w told x new l k.all g us [] e tt).1 (some_done us new s))
 
-pub kept_as : (w n : Watched) (told : List Told) (x : Told) (new : List Member) (b : Bool) → n ≡ record w { members = new; told = w.told + 1; before = x.before } → w.finding ≡ Kept → w.before ≤ x.before
-    → Gives w x new → is_empty new ≡ false → length new ≤ 4096 → x.before ≤ length w.heard → OpensBy w x b → b ≡ false → Keeps w told → Watches n (told ++ x ∷ [])
+pub kept_as : (w n : Watched) (told : List Told) (x : Told) (new : List Member) (b : Bool)
+    → n ≡ record w { members = new; told = w.told + 1; before = x.before } → w.finding ≡ Kept → w.before ≤ x.before
+    → Gives w x new → is_empty new ≡ false → length new ≤ 4096 → x.before ≤ length w.heard → OpensBy w x b → b ≡ false → Keeps w told
+    → Watches n (told ++ x ∷ [])
 kept_as w n told x new b e f l g s y p o z k =
     let m = length-append told (x ∷ []) in let c = k.count in
     subst (λ (y : Watched). Watches y (told ++ x ∷ [])) (sym e)
@@ -185,8 +195,10 @@ kept_as w n told x new b e f l g s y p o z k =
     (record { count = omega arith; all = all_more w told x new l k.all g; some = s; few = y; inside = λ us h. opens_by w told x b us h p o k ∙ z }))
 
 -- too many sessions explain it
-pub crowds_as : (w n : Watched) (told : List Told) (x : Told) (new : List Member) (b : Bool) → n ≡ record w { finding = TooMany } → w.before ≤ x.before
-    → Gives w x new → is_empty new ≡ false → x.before ≤ length w.heard → OpensBy w x b → b ≡ false → Keeps w told → Watches n (told ++ x ∷ [])
+pub crowds_as : (w n : Watched) (told : List Told) (x : Told) (new : List Member) (b : Bool) → n ≡ record w { finding = TooMany }
+    → w.before ≤ x.before
+    → Gives w x new → is_empty new ≡ false → x.before ≤ length w.heard → OpensBy w x b → b ≡ false → Keeps w told
+    → Watches n (told ++ x ∷ [])
 crowds_as w n told x new b e l g s p o z k =
     let m = length-append told (x ∷ []) in let c = k.count in
     let whole = take_whole (told ++ x ∷ []) (w.told + 1) (omega arith) in
@@ -223,7 +235,8 @@ breaks_as w n told x new e l g z k = subst (λ (y : Watched). Watches y (told ++
 -- ---- a side that leaves the profile
 
 -- by what it selects
-left_here : (w : Watched) (told : List Told) (x : Told) (b : Bool) → x.before ≤ length w.heard → OpensBy w x b → b ≡ true → Keeps w told → LeftFor w.begin w.heard (told ++ x ∷ []) w.told
+left_here : (w : Watched) (told : List Told) (x : Told) (b : Bool) → x.before ≤ length w.heard → OpensBy w x b → b ≡ true → Keeps w told
+    → LeftFor w.begin w.heard (told ++ x ∷ []) w.told
 left_here w told x b p o z k =
     let m = length-append told (x ∷ []) in let c = k.count in
     let front = take_front told (x ∷ []) w.told (omega arith) ∙ take_whole told w.told (omega arith) in
@@ -235,7 +248,8 @@ left_here w told x b p o z k =
       ),
     )
 
-pub leaves_as : (w n : Watched) (told : List Told) (x : Told) (b : Bool) → n ≡ record w { finding = Left w.told } → x.before ≤ length w.heard → OpensBy w x b → b ≡ true → Keeps w told
+pub leaves_as : (w n : Watched) (told : List Told) (x : Told) (b : Bool) → n ≡ record w { finding = Left w.told }
+    → x.before ≤ length w.heard → OpensBy w x b → b ≡ true → Keeps w told
     → Watches n (told ++ x ∷ [])
 leaves_as w n told x b e p o z k = subst (λ (y : Watched). Watches y (told ++ x ∷ [])) (sym e) (left_here w told x b p o z k)
 

@@ -18,7 +18,8 @@ use Rattle.osi_judge.proofs.an_honest_side_is_kept.{OneReading}
 
 -- ---- the front part of what is kept is kept
 
-front_explained : (begin : Seen) (us : List (List ℕ)) (said : List Told) (n : ℕ) → IsExplained begin us said → IsExplained begin us (take n said)
+front_explained : (begin : Seen) (us : List (List ℕ)) (said : List Told) (n : ℕ) → IsExplained begin us said
+    → IsExplained begin us (take n said)
 front_explained begin us said n e =
     front_told us (take n said) (drop n said) begin (subst (λ (x : List Told). IsExplained begin us x) (sym (take-append-drop n said)) e)
 
@@ -83,7 +84,8 @@ Says begin us said (Broke i) = Strays begin us said i
 Says begin us said (Left i) = Strays begin us said i
 Says begin us said TooMany = ⊥
 
-says : (begin : Seen) (us : List (List ℕ)) (said : List Told) (f : Finding) → is_judged f ≡ true → IsFound begin us said f → Says begin us said f
+says : (begin : Seen) (us : List (List ℕ)) (said : List Told) (f : Finding) → is_judged f ≡ true → IsFound begin us said f
+    → Says begin us said f
 says begin us said Kept j k = k
 says begin us said (Broke i) j k = record { so_far = (k.0.so_far, k.1); astray = inl k.0.broke }
 says begin us said (Left i) j k = record { so_far = k.1; astray = k.2 }
@@ -92,7 +94,8 @@ says begin us said TooMany j k = absurd (cc)
 never_strays : (begin : Seen) (us : List (List ℕ)) (said : List Told) (i : ℕ) → IsKept begin us said → Strays begin us said i → ⊥
 never_strays begin us said i k s = kept_or_astray begin us (take (i + 1) said) (front_kept begin us said (i + 1) k) s.astray
 
-one_found : (begin : Seen) (us : List (List ℕ)) (said : List Told) (f g : Finding) → Says begin us said f → Says begin us said g → place_of f ≡ place_of g
+one_found : (begin : Seen) (us : List (List ℕ)) (said : List Told) (f g : Finding) → Says begin us said f → Says begin us said g
+    → place_of f ≡ place_of g
 one_found begin us said Kept Kept k h = refl
 one_found begin us said Kept (Broke j) k h = absurd (never_strays begin us said j k h)
 one_found begin us said Kept (Left j) k h = absurd (never_strays begin us said j k h)
@@ -107,7 +110,8 @@ one_found begin us said Kept TooMany k h = absurd h
 one_found begin us said (Broke i) TooMany k h = absurd h
 one_found begin us said (Left i) TooMany k h = absurd h
 
-pub one_way : OneReading → (d : Direction) (capture : Capture) (f g : Finding) → is_judged f ≡ true → is_judged g ≡ true → IsFoundIn d capture f → IsFoundIn d capture g → place_of f ≡ place_of g
+pub one_way : OneReading → (d : Direction) (capture : Capture) (f g : Finding) → is_judged f ≡ true → is_judged g ≡ true
+    → IsFoundIn d capture f → IsFoundIn d capture g → place_of f ≡ place_of g
 one_way one d capture f g a b k h =
     let mine = one d capture h.mine k.mine h.is_mine k.is_mine in
     let others = one (other d) capture h.others k.others h.is_others k.is_others in

@@ -47,7 +47,8 @@ not_outside : (us : List (List ℕ)) (told : List Told) → AllInside (first_ask
 not_outside us [] a = refl
 not_outside us (t ∷ told) a = ap (λ (b : Bool). nat_lt 0 t.before && b) a.0 ∙ and_false (nat_lt 0 t.before)
 
-front_outside : (us : List (List ℕ)) (told : List Told) (i : ℕ) → AllInside (first_asked us) told → selects_outside us (take i told) ≡ true → ⊥
+front_outside : (us : List (List ℕ)) (told : List Told) (i : ℕ) → AllInside (first_asked us) told
+    → selects_outside us (take i told) ≡ true → ⊥
 front_outside us told i a s =
     let front = front_inside (first_asked us) (take i told) (drop i told) (subst (AllInside (first_asked us)) (sym (take-append-drop i told)) a) in
     not_both (selects_outside us (take i told)) s (not_outside us (take i told) front)
@@ -61,7 +62,8 @@ not_broken begin us told i e n =
 no_break : (begin : Seen) (us : List (List ℕ)) (told : List Told) (finding : Finding) → IsExplained begin us told → AllInside (first_asked us) told → IsFound begin us told finding → broke_session finding ≡ false
 no_break begin us told Kept e a f = refl
 no_break begin us told (Broke i) e a f = absurd (not_broken begin us told i e f.0.broke)
-no_break begin us told (Left i) e a f = absurd (elim f.2 [ inl n ↦ not_broken begin us told i e n | inr s ↦ front_outside us told (i + 1) a s ])
+no_break begin us told (Left i) e a f =
+    absurd (elim f.2 [ inl n ↦ not_broken begin us told i e n | inr s ↦ front_outside us told (i + 1) a s ])
 no_break begin us told TooMany e a f = refl
 
 -- what is known of an honest side

@@ -38,7 +38,8 @@ spelled_short end user octets s =
     let whole = ap (λ (x : List ℕ). length x) s.whole in
     let both = length-append s.header user in omega (arith, header, whole, both)
 
-data_short : (end : Bool) (user : List ℕ) (vs : List Value) (octets : List ℕ) → AreUnits (data0 end user ∷ vs) octets → length user + 3 ≤ length octets
+data_short : (end : Bool) (user : List ℕ) (vs : List Value) (octets : List ℕ) → AreUnits (data0 end user ∷ vs) octets
+    → length user + 3 ≤ length octets
 data_short end user [] octets h = spelled_short end user octets h
 data_short end user (v ∷ vs) octets (b, x, y, e, s, h) =
     let one = spelled_short end user x s in
@@ -59,7 +60,8 @@ next_short : (octets : List ℕ) (v : Value) (vs : List Value) → AreUnits (v �
 next_short octets (data0 end user) vs h = data_short end user vs octets h
 next_short octets _ vs h = tt
 
-step_short : FoundUnits → (d : Direction) (is_open : Bool) (unit : List ℕ) (read : Result (List Value) TpduFault) → IsOctets unit → units_of unit ≡ read → IsShort (length unit) (step_of d is_open read)
+step_short : FoundUnits → (d : Direction) (is_open : Bool) (unit : List ℕ) (read : Result (List Value) TpduFault) → IsOctets unit
+    → units_of unit ≡ read → IsShort (length unit) (step_of d is_open read)
 step_short found d is_open unit (Err fault) o e = tt
 step_short found d is_open unit (Ok []) o e = tt
 step_short found d false unit (Ok (v ∷ vs)) o e = first_short (length unit) d v
@@ -87,9 +89,12 @@ move_keeps s at unit (stops stop) h = omega arith
 unit_keeps : FoundUnits → (d : Direction) (s : Stage) (at : ℕ) (unit : List ℕ) → IsOctets unit
     → kept_by (sent_by d s at unit) + length (begun (stage_behind d s at unit)) ≤ length (begun s) + (length unit + 4)
 unit_keeps found d (stopped stop place) at unit o = omega arith
-unit_keeps found d opening at unit o = move_keeps opening at unit (step_of d false (units_of unit)) (step_short found d false unit (units_of unit) o refl)
-unit_keeps found d between at unit o = move_keeps between at unit (step_of d true (units_of unit)) (step_short found d true unit (units_of unit) o refl)
-unit_keeps found d (within first octets) at unit o = move_keeps (within first octets) at unit (step_of d true (units_of unit)) (step_short found d true unit (units_of unit) o refl)
+unit_keeps found d opening at unit o =
+    move_keeps opening at unit (step_of d false (units_of unit)) (step_short found d false unit (units_of unit) o refl)
+unit_keeps found d between at unit o =
+    move_keeps between at unit (step_of d true (units_of unit)) (step_short found d true unit (units_of unit) o refl)
+unit_keeps found d (within first octets) at unit o =
+    move_keeps (within first octets) at unit (step_of d true (units_of unit)) (step_short found d true unit (units_of unit) o refl)
 
 -- ---- a stream
 
@@ -133,6 +138,7 @@ pub no_more_kept : FoundUnits → (d : Direction) (c : Capture) (j : Judged) →
 no_more_kept found Left c j h = side_keeps found Left c j h.left h.right h.of_left h.of_right.heard
 no_more_kept found Right c j h = side_keeps found Right c j h.right h.left h.of_right h.of_left.heard
 
-pub few_sessions : (d : Direction) (c : Capture) (j : Judged) → Taps j c → (half_of d j).side.finding ≡ Kept → length (half_of d j).side.members ≤ 4096
+pub few_sessions : (d : Direction) (c : Capture) (j : Judged) → Taps j c → (half_of d j).side.finding ≡ Kept
+    → length (half_of d j).side.members ≤ 4096
 few_sessions Left c j h f = few_by j.left.side (told Left c h.left h.right) f h.of_left.watches
 few_sessions Right c j h f = few_by j.right.side (told Right c h.right h.left) f h.of_right.watches

@@ -34,15 +34,18 @@ IsAstray begin us told = (IsExplained begin us told → ⊥) ⊎ (selects_outsid
 
 -- whatever the other side says later, the side kept the protocol up to its i-th TSDU, and is explained no further
 abbrev pub BrokeFor : Seen → List (List ℕ) → List Told → ℕ → Type 0
-BrokeFor begin heard told i = (i < length told) × ((us : List (List ℕ)) → Extends us heard → IsKept begin us (take i told) × (IsExplained begin us (take (i + 1) told) → ⊥))
+BrokeFor begin heard told i = (i < length told)
+    × ((us : List (List ℕ)) → Extends us heard → IsKept begin us (take i told) × (IsExplained begin us (take (i + 1) told) → ⊥))
 
 -- or it left the profile at its i-th TSDU
 abbrev pub LeftFor : Seen → List (List ℕ) → List Told → ℕ → Type 0
-LeftFor begin heard told i = (i < length told) × ((us : List (List ℕ)) → Extends us heard → IsKept begin us (take i told) × IsAstray begin us (take (i + 1) told))
+LeftFor begin heard told i = (i < length told)
+    × ((us : List (List ℕ)) → Extends us heard → IsKept begin us (take i told) × IsAstray begin us (take (i + 1) told))
 
 -- or it kept the protocol up to its i-th TSDU and with it
 abbrev pub CrowdedFor : Seen → List (List ℕ) → List Told → ℕ → Type 0
-CrowdedFor begin heard told i = (i < length told) × ((us : List (List ℕ)) → Extends us heard → IsKept begin us (take (i + 1) told))
+CrowdedFor begin heard told i = (i < length told)
+    × ((us : List (List ℕ)) → Extends us heard → IsKept begin us (take (i + 1) told))
 
 -- the members explain what is said from here on just where the side is explained up to there
 abbrev pub AreAll : Seen → List (List ℕ) → ℕ → List Member → List Told → Type 0

@@ -33,4 +33,5 @@ is_outside _ _ = false
 -- profile leaves out.
 abbrev pub selects_outside : List (List ℕ) → List Told → Bool
 selects_outside us [] = false
-selects_outside us (t ∷ told) = nat_lt 0 t.before && is_outside (in_first offered_in (said_at (get_or us 0 []))) (in_first accepted_in (said_at t.octets))
+selects_outside us (t ∷ told) =
+    nat_lt 0 t.before && is_outside (in_first offered_in (said_at (get_or us 0 []))) (in_first accepted_in (said_at t.octets))

@@ -35,7 +35,8 @@ pub fn a_side_is_found_in_one_way()
 /// counts for seven octets more than it has. And of a side that kept the protocol at most 4,096 sessions are
 /// kept that explain it.
 pub fn no_more_is_kept_than_passed()
-    ensures sessions { (d : Direction) (capture : Capture) (j : Judged) → Taps j capture → (half_of d j).side.finding ≡ Finding.Kept → length (half_of d j).side.members ≤ 4096 }
+    ensures sessions { (d : Direction) (capture : Capture) (j : Judged) → Taps j capture → (half_of d j).side.finding ≡ Finding.Kept
+        → length (half_of d j).side.members ≤ 4096 }
     ensures octets { (d : Direction) (capture : Capture) (j : Judged) → Taps j capture → kept_of d j ≤ length (stream d capture) }
 {
     osi_tpdu::laws::whole_packet();

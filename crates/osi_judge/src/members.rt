@@ -17,7 +17,20 @@ pub(crate) struct Member {
 
 /// How many of the last members are searched for one that is there already. Equal ones stand near each
 /// other: members come in the order in which they took the TSDUs.
-const NEAR: usize = 16;
+const NEAR: usize = 256;
+
+/// Whether two members are one. Most of those at one place differ in V(A), so that is looked at first.
+fn is_same_member(one: &Member, other: &Member) -> bool
+    ensures { result ≡ true → (one.now.taken ≡ other.now.taken) × (one.now.standing ≡ other.now.standing) }
+{
+    if one.taken != other.taken {
+        return false;
+    }
+    if one.standing.numbers().confirmed != other.standing.numbers().confirmed {
+        return false;
+    }
+    one.standing.is_same(&other.standing)
+}
 
 /// Whether it is one of the last of these.
 fn is_among(members: &[Member], member: &Member) -> bool
@@ -27,8 +40,7 @@ fn is_among(members: &[Member], member: &Member) -> bool
     let mut at = members.len();
     'members: while first < at {
         at -= 1;
-        let other = &members[at];
-        if other.taken == member.taken && other.standing.is_same(&member.standing) {
+        if is_same_member(&members[at], member) {
             return true;
         }
     }

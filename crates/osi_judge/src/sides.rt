@@ -197,7 +197,8 @@ impl Side {
     /// Whether a TSDU of this side is its first, and selects what is not selected here.
     fn opens_outside(&self, tsdu: &[u8], before: usize) -> bool
         requires { before ≤ length (watched self.now).heard }
-        ensures first { (watched self.now).told ≡ 0 → result ≡ selects_outside (watched self.now).heard (record { octets = tsdu.now; before = before } ∷ []) }
+        ensures first { (watched self.now).told ≡ 0
+            → result ≡ selects_outside (watched self.now).heard (record { octets = tsdu.now; before = before } ∷ []) }
         ensures later { 0 < (watched self.now).told → result ≡ false }
     {
         if self.told > 0 {
