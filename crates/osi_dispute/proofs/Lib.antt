@@ -1,6 +1,9 @@
-pub mod Feeds
-pub mod Digits
+pub mod what_is_fed_piece_by_piece_passes_whole
+pub mod digits_are_counted_one_by_one
 pub mod OneFinding
 pub mod OneText
 pub mod RowLaws
-pub mod Appends
+pub mod text_added_in_two_parts_is_added_whole
+pub mod what_is_told_is_by_facts
+pub mod facts_have_one_verdict
+pub mod a_last_line_is_never_empty

@@ -84,9 +84,9 @@ one_break begin us said i j b c = elim (compare i j) [
 one_found : (begin : Seen) (us : List (List ℕ)) (said : List Told) (f g : Finding) → IsDecided f → IsDecided g
     → IsFound begin us said f → IsFound begin us said g → f ≡ g
 one_found begin us said Kept Kept d e k h = refl
-one_found begin us said Kept (Broke j) d e k h = absurd (kept_or_broke begin us said j k h)
-one_found begin us said (Broke i) Kept d e k h = absurd (kept_or_broke begin us said i h k)
-one_found begin us said (Broke i) (Broke j) d e k h = ap Broke (one_break begin us said i j k h)
+one_found begin us said Kept (Broke j) d e k h = absurd (kept_or_broke begin us said j k.0 h.0)
+one_found begin us said (Broke i) Kept d e k h = absurd (kept_or_broke begin us said i h.0 k.0)
+one_found begin us said (Broke i) (Broke j) d e k h = ap Broke (one_break begin us said i j k.0 h.0)
 one_found begin us said (Left i) g d e k h = absurd d
 one_found begin us said TooMany g d e k h = absurd d
 one_found begin us said Kept (Left j) d e k h = absurd e
@@ -95,7 +95,7 @@ one_found begin us said (Broke i) (Left j) d e k h = absurd e
 one_found begin us said (Broke i) TooMany d e k h = absurd e
 
 -- a side of a capture has one list of TSDUs
-abbrev HasOneList : Type 0
+abbrev pub HasOneList : Type 0
 HasOneList = (d : Direction) (capture : Capture) (some others : List Sent) → IsSent d capture some → IsSent d capture others → some ≡ others
 
 pub one_finding : HasOneList → (d : Direction) (capture : Capture) (f g : Finding) → IsDecided f → IsDecided g

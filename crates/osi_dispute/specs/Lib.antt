@@ -3,6 +3,7 @@ pub mod Lines
 pub mod Texts
 pub mod Rows
 pub mod Reading
+pub mod Facts
 pub mod Verdicts
 pub mod Disputes
 pub mod Laws

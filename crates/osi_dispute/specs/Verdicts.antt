@@ -17,6 +17,7 @@ use Rattle.osi_dispute.specs.declared.verdicts.Connection.TheVariants.{Silent, R
 use Rattle.osi_dispute.specs.declared.verdicts.Outcome.{Outcome}
 use Rattle.osi_dispute.specs.declared.verdicts.Outcome.TheVariants.{BothKept, First, NotJudged}
 use Rattle.osi_dispute.specs.declared.verdicts.Verdict.{Verdict}
+use Rattle.osi_dispute.specs.Facts.{IsDetermined}
 
 -- what is known of a judge that was fed this capture
 pub record Knows (j : Judge) (capture : Capture) : Type 0 where
@@ -51,10 +52,11 @@ IsOutcome capture BothKept = KeepsIn Left capture × KeepsIn Right capture
 IsOutcome capture (First d) = FirstBreak d capture
 IsOutcome capture (NotJudged why) = Unit {0}
 
--- what is reported of each side was found of it
+-- What is told of each side was found of it, and the whole verdict is determined by facts of the capture.
 pub record IsVerdict (capture : Capture) (v : Verdict) : Type 0 where
   pub left : IsTrueOf Left capture v.left.connection
   pub right : IsTrueOf Right capture v.right.connection
   pub left_stop : IsStoppedIn Left capture v.left.stopped
   pub right_stop : IsStoppedIn Right capture v.right.stopped
   pub outcome : IsOutcome capture v.outcome
+  pub determined : IsDetermined capture v

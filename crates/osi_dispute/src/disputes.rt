@@ -1,4 +1,4 @@
-//! The judgement of a text with both sides of a capture.
+//! Reads the text of a capture of both sides, feeds it to a judge, and gives the judgement.
 
 ghost use Rattle.std.specs.Prelude.{◌≡◌, ◌++◌, ◌⊎◌, ◌<◌, Err, IfOk, OnOk, List};
 ghost use Rattle.osi_judge.specs.Captures.{Capture, piece};

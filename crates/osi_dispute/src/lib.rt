@@ -1,18 +1,28 @@
 //! The text of a dispute: what was found of the two sides of a capture, as lines.
 //!
-//! [`judge_text`] reads a text of hexadecimal digits in which each line is a piece of one side, judges it, and writes
-//! what was found. [`push_verdict`] writes what `osi judge` prints: what was read of each side; the state of its
-//! session, or where and by which rule it broke the protocol; and which side broke it first.
+//! Two systems don't understand each other, each maker blames the other, and there is a capture of both
+//! directions. [`judge_text`] reads it as a text of hexadecimal digits, in which each line is a piece of one
+//! side and a line that begins with a tab is of the other. It judges the capture, and writes what it found:
 //!
 //! ```text
-//! let judgement = judge_text(alloc, text)?;   // Err: the text is not a capture, or out of memory
-//! judgement.lines                             // what `osi judge` prints
-//! judgement.status                            // 0 if both sides kept the protocol, otherwise 1
+//! let judgement = judge_text(alloc, b"0300000e09e00000000100c0010a\n")?;
+//! // left packets 1 octets 14 rest 0
+//! // right packets 0 octets 0 rest 0
+//! // left 1 unanswered
+//! // both kept the protocol
+//! let status = judgement.status;                       // 0: both kept the protocol
 //! ```
 //!
-//! Numbers, offsets and names are those of the listing of that side (`osi_listing`) and of transcripts (`osi_script`).
+//! The steps can be called one by one. You feed a `Judge` of `osi_judge` the octets as they pass.
+//! [`verdict_of`] asks it what it found of both sides, as a [`Verdict`]: for each side an [`Account`] (what was
+//! read, its [`Connection`], and where its transport was stopped), and the [`Outcome`]. [`push_verdict`] writes
+//! a verdict as lines, and [`status_of`] says which status the program ends with.
 //!
-//! What it leaves to others: the judgement (`osi_judge`), and standard input and output (the program).
+//! A verdict is a function of facts of the capture (`specs/Facts`), but for what the definitions leave open,
+//! such as the rule of a break (`laws::a_text_has_one_judgement`). Numbers, offsets and names are those of the
+//! listing of that side (`osi_listing`) and of transcripts (`osi_script`).
+//!
+//! It leaves the judgement to `osi_judge`, and standard input and output to the program.
 #![tactic(auto)]
 
 mod disputes;

@@ -1,4 +1,4 @@
-//! The lines of a judgement.
+//! Writes one line of a judgement, or a part of one.
 
 ghost use Rattle.std.specs.Prelude.{◌≡◌, ◌++◌, OnOk};
 ghost use Rattle.osi_dispute.specs.Names.{side_name};

@@ -1,4 +1,4 @@
-//! Reading the text of a capture of both sides: each line is a piece of one side.
+//! Cuts the text of a capture into pieces: each line is a piece of one side.
 
 ghost use Rattle.std.specs.Prelude.{◌≡◌, ◌<◌, ◌≤◌, ◌+◌, ◌∷◌, ℕ, List, take, drop};
 ghost use Rattle.osi_listing.specs.Capture.{is_blank};
@@ -107,8 +107,8 @@ struct Counter {
     in_comment: bool,
 }
 
-/// One more octet of a line.
-#[tactic(auto, using(crate::proofs::Digits::in_comment, crate::proofs::Digits::begins_comment))]
+/// One octet more of a line.
+#[tactic(auto, using(crate::proofs::digits_are_counted_one_by_one::in_comment, crate::proofs::digits_are_counted_one_by_one::begins_comment))]
 fn counted(counter: Counter, octet: u8) -> Counter
     requires { counter.digits < usize.MAX }
     ensures left { (rest : List ℕ) → result.digits + digits_left result.in_comment rest

@@ -1,4 +1,4 @@
-//! The text of a judgement.
+//! Writes a verdict as text: the lines of both sides, and the last line, which says who was first.
 
 ghost use Rattle.std.specs.Prelude.{◌≡◌, ◌++◌, ◌<◌, OnOk};
 ghost use Rattle.osi_dispute.specs.Texts.{told_lines, connection_lines, stopped_lines, who_text, where_text, first_text, broke_first};

@@ -1,9 +1,13 @@
-//! What is reported of a capture.
+//! Asks a judge what it found of both sides, and puts it together as a verdict.
 
-ghost use Rattle.std.specs.Prelude.{◌≡◌, ◌<◌, true, IfOk};
+ghost use Rattle.std.specs.Prelude.{◌≡◌, ◌<◌, true, false, Some, IfOk};
 ghost use Rattle.osi_dispute.specs.Disputes.{Judged};
+ghost use Rattle.osi_dispute.specs.Facts.{is_refused, is_first, is_left, other_left, unjudged, keeps, kept_outcome_of, outcome_in};
+ghost use Rattle.osi_dispute.specs.Facts.{IsToldOf, Connects, Accounts};
 ghost use Rattle.osi_judge.specs.Captures.{Capture};
-ghost use Rattle.osi_judge.specs.Stops.{breaks};
+ghost use Rattle.osi_judge.specs.Feeding.{stopped_of};
+ghost use Rattle.osi_judge.specs.Following.{judged, half_of, first_in};
+ghost use Rattle.osi_judge.specs.Stops.{breaks, broke_session};
 ghost use Rattle.osi_judge.specs.Tapping.{IsStoppedIn};
 ghost use Rattle.osi_dispute.specs.Verdicts.{Knows, IsTold, IsTrueOf, KeepsIn, IsOutcome, IsVerdict};
 
@@ -82,7 +86,8 @@ pub struct Verdict {
 
 /// What is reported of the session of a side.
 fn told_of(judge: &Judge, direction: Direction) -> Result<Told, AllocError>
-    ensures { IfOk result (λ t. (capture : Capture) → Knows judge.now capture → IsTold direction capture t) }
+    ensures told { IfOk result (λ t. IsToldOf (half_of direction (judged judge.now)) t) }
+    ensures found { IfOk result (λ t. (capture : Capture) → Knows judge.now capture → IsTold direction capture t) }
 {
     let side = judge.side(direction);
     let offset = judge.offset(direction);
@@ -94,31 +99,58 @@ fn told_of(judge: &Judge, direction: Direction) -> Result<Told, AllocError>
     }
 }
 
-fn is_refused(judge: &Judge) -> bool {
-    match judge.stopped(Direction::Right) {
+/// Whether right refused the connection.
+fn is_refused(stopped: Option<Stopped>) -> bool
+    ensures { result ≡ is_refused stopped }
+{
+    match stopped {
         Some(stopped) => matches!(stopped.stop, Stop::Refused),
         None => false,
     }
 }
 
-/// Whether a side left the profile first: then the other is not judged any further.
-fn is_dropped(judge: &Judge, direction: Direction) -> bool {
-    match judge.first() {
-        None => false,
-        Some(first) => first != direction && is_left(judge, first),
+fn is_first(first: Option<Direction>, direction: Direction) -> bool
+    ensures { result ≡ is_first first direction }
+{
+    match (first, direction) {
+        (Some(Direction::Left), Direction::Left) => true,
+        (Some(Direction::Right), Direction::Right) => true,
+        _ => false,
     }
 }
 
-fn is_left(judge: &Judge, direction: Direction) -> bool {
-    matches!(judge.finding(direction), Finding::Left(_))
+fn is_left(finding: Finding) -> bool
+    ensures { result ≡ is_left finding }
+{
+    matches!(finding, Finding::Left(_))
+}
+
+/// Whether the other side left the profile first: then this side is judged no further.
+fn is_dropped(judge: &Judge, direction: Direction) -> bool
+    ensures { result ≡ other_left direction (first_in judge.now) (judged judge.now) }
+{
+    let other = direction.other();
+    if !is_first(judge.first(), other) {
+        return false;
+    }
+    is_left(judge.finding(other))
 }
 
 /// Whether the session of a side broke the protocol or left the profile.
-fn is_blamed(judge: &Judge, direction: Direction) -> bool {
-    matches!(
-        judge.finding(direction),
-        Finding::Broke(_) | Finding::Left(_)
-    )
+fn is_blamed(finding: Finding) -> bool
+    ensures { result ≡ broke_session finding }
+{
+    matches!(finding, Finding::Broke(_) | Finding::Left(_))
+}
+
+/// What is told of the session of a side, which gave the connection this reference.
+fn session_of(judge: &Judge, direction: Direction, reference: u16) -> Result<Connection, AllocError>
+    ensures told { IfOk result (λ c. (x : Told) × (c ≡ Connection.Session reference x)
+        × IsToldOf (half_of direction (judged judge.now)) x) }
+    ensures found { IfOk result (λ c. (capture : Capture) → Knows judge.now capture → IsTrueOf direction capture c) }
+{
+    let told = told_of(judge, direction)?;
+    Ok(Connection::Session(reference, told))
 }
 
 /// What is reported of the connection of a side, which gave it this reference. If the side is to blame, this is
@@ -128,22 +160,26 @@ fn connection_by(
     direction: Direction,
     reference: u16,
 ) -> Result<Connection, AllocError>
-    ensures { IfOk result (λ c. (capture : Capture) → Knows judge.now capture → IsTrueOf direction capture c) }
+    requires { (half_of direction (judged judge.now)).line.reference ≡ Some reference }
+    ensures told { IfOk result (λ c. Connects false (half_of direction (judged judge.now)) (half_of Direction.Right (judged judge.now)) c) }
+    ensures found { IfOk result (λ c. (capture : Capture) → Knows judge.now capture → IsTrueOf direction capture c) }
 {
-    if !is_blamed(judge, direction) {
-        if is_refused(judge) {
-            return Ok(Connection::Refused(reference));
-        }
-        if judge.reference(Direction::Right).is_none() {
-            return Ok(Connection::Unanswered(reference));
-        }
+    if is_blamed(judge.finding(direction)) {
+        return session_of(judge, direction, reference);
     }
-    let told = told_of(judge, direction)?;
-    Ok(Connection::Session(reference, told))
+    if is_refused(judge.stopped(Direction::Right)) {
+        return Ok(Connection::Refused(reference));
+    }
+    match judge.reference(Direction::Right) {
+        None => Ok(Connection::Unanswered(reference)),
+        Some(_) => session_of(judge, direction, reference),
+    }
 }
 
 fn connection_of(judge: &Judge, direction: Direction) -> Result<Connection, AllocError>
-    ensures { IfOk result (λ c. (capture : Capture) → Knows judge.now capture → IsTrueOf direction capture c) }
+    ensures told { IfOk result (λ c. Connects (other_left direction (first_in judge.now) (judged judge.now))
+        (half_of direction (judged judge.now)) (half_of Direction.Right (judged judge.now)) c) }
+    ensures found { IfOk result (λ c. (capture : Capture) → Knows judge.now capture → IsTrueOf direction capture c) }
 {
     if is_dropped(judge, direction) {
         return Ok(Connection::Silent);
@@ -155,19 +191,24 @@ fn connection_of(judge: &Judge, direction: Direction) -> Result<Connection, Allo
 }
 
 fn account_of(judge: &Judge, direction: Direction) -> Result<Account, AllocError>
+    ensures told { IfOk result (λ a. Accounts (other_left direction (first_in judge.now) (judged judge.now))
+        (half_of direction (judged judge.now)) (half_of Direction.Right (judged judge.now)) a) }
     ensures connection { IfOk result (λ a. (capture : Capture) → Knows judge.now capture → IsTrueOf direction capture a.connection) }
     ensures stopped { IfOk result (λ a. (capture : Capture) → Knows judge.now capture → IsStoppedIn direction capture a.stopped) }
 {
+    let connection = connection_of(judge, direction)?;
     Ok(Account {
         reading: judge.reading(direction),
-        connection: connection_of(judge, direction)?,
+        connection,
         stopped: judge.stopped(direction),
     })
 }
 
 /// Why the transport of a side is not judged to the end of the capture.
-fn unjudged_at(judge: &Judge, direction: Direction) -> Option<Unjudged> {
-    match judge.stopped(direction) {
+fn unjudged_at(stopped: Option<Stopped>) -> Option<Unjudged>
+    ensures { result ≡ unjudged stopped }
+{
+    match stopped {
         Some(
             Stopped {
                 stop: Stop::Refused,
@@ -191,7 +232,8 @@ fn has_broken(stopped: Option<Stopped>) -> bool
 
 /// Whether a side kept the protocol, in its session and in its transport.
 fn keeps(judge: &Judge, direction: Direction) -> bool
-    ensures { result ≡ true → (capture : Capture) → Knows judge.now capture → KeepsIn direction capture }
+    ensures value { result ≡ keeps (half_of direction (judged judge.now)).side.finding (stopped_of (half_of direction (judged judge.now))) }
+    ensures kept { result ≡ true → (capture : Capture) → Knows judge.now capture → KeepsIn direction capture }
 {
     if has_broken(judge.stopped(direction)) {
         return false;
@@ -204,22 +246,27 @@ fn keeps(judge: &Judge, direction: Direction) -> bool
 
 /// The outcome if nobody broke the protocol, by what was not judged.
 fn kept_outcome(judge: &Judge) -> Outcome
-    ensures { (capture : Capture) → Knows judge.now capture → IsOutcome capture result }
+    ensures value { result ≡ kept_outcome_of (judged judge.now) }
+    ensures told { (capture : Capture) → Knows judge.now capture → IsOutcome capture result }
 {
-    if !keeps(judge, Direction::Left) || !keeps(judge, Direction::Right) {
+    if !keeps(judge, Direction::Left) {
         return Outcome::NotJudged(Unjudged::TooMany);
     }
-    if let Some(unjudged) = unjudged_at(judge, Direction::Left) {
+    if !keeps(judge, Direction::Right) {
+        return Outcome::NotJudged(Unjudged::TooMany);
+    }
+    if let Some(unjudged) = unjudged_at(judge.stopped(Direction::Left)) {
         return Outcome::NotJudged(unjudged);
     }
-    match unjudged_at(judge, Direction::Right) {
+    match unjudged_at(judge.stopped(Direction::Right)) {
         Some(unjudged) => Outcome::NotJudged(unjudged),
         None => Outcome::BothKept,
     }
 }
 
 fn outcome_of(judge: &Judge) -> Outcome
-    ensures { (capture : Capture) → Knows judge.now capture → IsOutcome capture result }
+    ensures value { result ≡ outcome_in (first_in judge.now) (judged judge.now) }
+    ensures told { (capture : Capture) → Knows judge.now capture → IsOutcome capture result }
 {
     match judge.first() {
         Some(direction) => Outcome::First(direction),

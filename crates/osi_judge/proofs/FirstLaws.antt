@@ -55,17 +55,26 @@ none_broken Right new a b = (b, a)
 
 first_now : (d : Direction) (b : Bool) (old new : Judged) (c : Capture) → b ≡ has_broken (half_of d new) → (has_broken old.left ≡ false) × (has_broken old.right ≡ false) → Taps new c
     → has_broken (half_of (other d) new) ≡ has_broken (half_of (other d) old) → FirstIs (first_after None d b) new c
-first_now d true old new c e h t o = record { by_then = new; front = c; back = []; parts = sym (append-nil c); taps = t; broke = sym e; kept = kept_still d old new h o }
+first_now d true old new c e h t o = (record { by_then = new; front = c; back = []; parts = sym (append-nil c); taps = t; broke = sym e; kept = kept_still d old new h o }, sym e)
 first_now d false old new c e h t o = none_broken d new (sym e) (kept_still d old new h o)
 
+-- a side that has broken the protocol has still, be it the one of which octets passed or the other
+still_either : (x d : Direction) (old new : Judged) → (has_broken (half_of d old) ≡ true → has_broken (half_of d new) ≡ true) → has_broken (half_of (other d) new) ≡ has_broken (half_of (other d) old)
+    → has_broken (half_of x old) ≡ true → has_broken (half_of x new) ≡ true
+still_either Left Left old new s o h = s h
+still_either Right Right old new s o h = s h
+still_either Left Right old new s o h = o ∙ h
+still_either Right Left old new s o h = o ∙ h
+
 first_on : (first : Option Direction) (d : Direction) (old new : Judged) (c e : Capture) → FirstIs first old c → Taps new (c ++ e)
-    → has_broken (half_of (other d) new) ≡ has_broken (half_of (other d) old) → FirstIs (first_after first d (has_broken (half_of d new))) new (c ++ e)
-first_on None d old new c e h t o = first_now d (has_broken (half_of d new)) old new (c ++ e) refl h t o
-first_on (Some x) d old new c e h t o = first_goes_on x c e h
+    → (has_broken (half_of d old) ≡ true → has_broken (half_of d new) ≡ true) → has_broken (half_of (other d) new) ≡ has_broken (half_of (other d) old)
+    → FirstIs (first_after first d (has_broken (half_of d new))) new (c ++ e)
+first_on None d old new c e h t s o = first_now d (has_broken (half_of d new)) old new (c ++ e) refl h t o
+first_on (Some x) d old new c e h t s o = (first_goes_on x c e h.0, still_either x d old new s o h.1)
 
 pub first_stays : (first next : Option Direction) (d : Direction) (old new : Judged) (c e : Capture) → next ≡ first_after first d (has_broken (half_of d new)) → FirstIs first old c → Taps new (c ++ e)
-    → has_broken (half_of (other d) new) ≡ has_broken (half_of (other d) old) → FirstIs next new (c ++ e)
-first_stays first next d old new c e n h t o = subst (λ (x : Option Direction). FirstIs x new (c ++ e)) (sym n) (first_on first d old new c e h t o)
+    → (has_broken (half_of d old) ≡ true → has_broken (half_of d new) ≡ true) → has_broken (half_of (other d) new) ≡ has_broken (half_of (other d) old) → FirstIs next new (c ++ e)
+first_stays first next d old new c e n h t s o = subst (λ (x : Option Direction). FirstIs x new (c ++ e)) (sym n) (first_on first d old new c e h t s o)
 
 -- ---- what is reported of it
 
@@ -74,7 +83,7 @@ stands_in d c j t = record { finding = (half_of d j).side.finding; stop = stoppe
 
 pub first_told : (first : Option Direction) (j : Judged) (c : Capture) → Taps j c → FirstIs first j c → IsFirstIn c first
 first_told None j c t h = (subst (λ (b : Bool). StandsIn Left c b) h.0 (stands_in Left c j t), subst (λ (b : Bool). StandsIn Right c b) h.1 (stands_in Right c j t))
-first_told (Some d) j c t h = record {
+first_told (Some d) j c t (h, still) = record {
   front = h.front;
   back = h.back;
   parts = h.parts;

@@ -13,14 +13,15 @@ use Rattle.osi_judge.specs.declared.directions.Direction.TheVariants.{Left, Righ
 use Rattle.osi_judge.specs.Captures.{Capture, other, piece, stream}
 use Rattle.osi_judge.specs.Explaining.{Told}
 use Rattle.osi_judge.specs.Judging.{Watched, Watches}
-use Rattle.osi_judge.specs.Transport.{Stage, opening, between, within, stopped, first_of, stage_behind, Sent, packet_length, sent_by, stage_from}
-use Rattle.osi_judge.specs.Tapping.{begin_of, had_passed, octets_of, heard, tell, told}
-use Rattle.osi_judge.specs.Feeding.{Tapped, since_at, Tells, hears, Passes, TakesPacket, Settles, goes_on, faulty, whole, since_in, since_of, IsWithin, with_octets, Feeds, ignored, looked_at}
+use Rattle.osi_judge.specs.Transport.{Stage, opening, between, within, stopped, reference_in, first_of, stage_behind, Sent, packet_length, sent_by, stage_from}
+use Rattle.osi_judge.specs.Tapping.{begin_of, had_passed, octets_of, heard, tell, told, IsPlace}
+use Rattle.osi_judge.specs.Feeding.{Tapped, since_at, named_behind, last_behind, with_count, Tells, hears, Passes, TakesPacket, Settles, goes_on, faulty, whole, since_in, since_of, IsWithin, with_octets, Feeds, ignored, looked_at}
 use Rattle.osi_judge.specs.Following.{shown, IsRest, BeginBefore, EndBy, IsSince, Follows, Judged, Taps}
 use Rattle.osi_judge.proofs.CaptureLaws.{stream_fed, stream_beside}
 use Rattle.osi_judge.proofs.CountLaws.{stays_passed, not_yet_passed, all_had_passed, told_stays, told_beside, begin_later, end_later, begin_more, end_more}
 use Rattle.osi_judge.proofs.UnitLaws.{packets_on, packet_on, offset_from, packet_octets, offset_of_rest, stage_more, sent_more, shown_behind, heard_shown, since_shown, OneOrNone, sent_one, since_behind}
 use Rattle.osi_judge.proofs.SideLaws as side
+use Rattle.osi_judge.proofs.what_is_told_beside_is_of_the_capture.{named_more, named_shown, place_behind, count_told}
 
 -- ---- positions
 
@@ -75,8 +76,12 @@ since_stays d c e others (stopped stop at) since l h = tt
 
 -- ---- no packet becomes complete
 
-abbrev pub with_front : Tapped → List ℕ → Option TpktFault → ℕ → Tapped
-with_front t held fault since = record t { held = held; fault = fault; line = record t.line { since = since } }
+abbrev pub with_front : Tapped → ℕ → List ℕ → Option TpktFault → ℕ → Tapped
+with_front t n held fault since = record t { held = held; octets = offset_of (t.octets + n); fault = fault; line = record t.line { since = since } }
+
+octets_fed : (d : Direction) (c : Capture) (octets : List ℕ) (count : ℕ) → count ≡ offset_of (length (stream d c)) → offset_of (count + length octets) ≡ offset_of (length (stream d (c ++ piece d octets)))
+octets_fed d c octets count e =
+    ap (λ (x : ℕ). offset_of (x + length octets)) e ∙ offset_on (length (stream d c)) (length octets) ∙ ap offset_of (sym (length_fed d c octets))
 
 same_place : (a b o r : ℕ) → a ≡ b + o → b - r ≡ a - (r + o)
 same_place a b o r e = omega arith
@@ -84,7 +89,7 @@ same_place a b o r e = omega arith
 front_follows : (d : Direction) (c : Capture) (octets : List ℕ) (t : Tapped) (mine others : List Sent) (f : Follows d c t mine others) (held : List ℕ) (fault : Option TpktFault) (since : ℕ)
     → IsRest fault held (f.rest ++ octets)
     → (fault ≡ None → 0 < length (f.rest ++ octets) → since ≡ had_passed d (c ++ piece d octets) (length (stream d c) - length f.rest) others)
-    → Follows d (c ++ piece d octets) (with_front t held fault since) mine others
+    → Follows d (c ++ piece d octets) (with_front t (length octets) held fault since) mine others
 front_follows d c octets t mine others f held fault since r k =
     let n = length_fed d c octets in
     let m = length-append f.rest octets in
@@ -100,6 +105,10 @@ front_follows d c octets t mine others f held fault since r k =
       stage = f.stage;
       since = λ e l. k e l ∙ ap (λ (x : ℕ). had_passed d (c ++ piece d octets) x others) there;
       begun = since_stays d c (piece d octets) others (stage_from d opening 0 f.units) t.line.begun_since longer f.begun;
+      octets = octets_fed d c octets t.octets f.octets;
+      counted = f.counted;
+      reference = f.reference;
+      place = f.place;
       begins = begin_later (length (stream d c)) (length (stream d (c ++ piece d octets))) mine longer f.begins;
       ends = end_later (length (stream d c)) (length (stream d (c ++ piece d octets))) mine longer f.ends;
       begin = f.begin;
@@ -131,6 +140,10 @@ beside_follows d c octets t mine others f =
       since = λ z l. f.since z l ∙ sym (stays_passed d c (piece (other d) octets) (length (stream d c) - length f.rest) others (omega arith))
           ∙ ap (λ (x : ℕ). had_passed d (c ++ piece (other d) octets) x others) there;
       begun = since_stays d c (piece (other d) octets) others (stage_from d opening 0 f.units) t.line.begun_since longer f.begun;
+      octets = f.octets ∙ ap offset_of (sym n);
+      counted = f.counted;
+      reference = f.reference;
+      place = f.place;
       begins = begin_later (length (stream d c)) (length (stream d (c ++ piece (other d) octets))) mine longer f.begins;
       ends = end_later (length (stream d c)) (length (stream d (c ++ piece (other d) octets))) mine longer f.ends;
       begin = f.begin;
@@ -157,6 +170,10 @@ hearing_follows d c t mine others u f l = record {
   stage = f.stage;
   since = λ z k. f.since z k ∙ sym (not_yet_passed d c (length (stream d c) - length f.rest) others u l);
   begun = since_beside d c others u (stage_from d opening 0 f.units) t.line.begun_since l f.begun;
+  octets = f.octets;
+  counted = f.counted;
+  reference = f.reference;
+  place = f.place;
   begins = f.begins;
   ends = f.ends;
   begin = f.begin;
@@ -329,6 +346,10 @@ stood d c octets u t new o new_o mine others f e n packet p =
     let new_at : new.line.at ≡ offset_of (length (stream d c2))
     = p.at ∙ ap (λ (x : ℕ). offset_of (t.line.at + x)) held_length ∙ ap (λ (x : ℕ). offset_of (x + packet_length u)) kept_at ∙ offset_on at (packet_length u) ∙ ap offset_of behind in
     let new_since : new.line.begun_since ≡ before = p.begun_since ∙ same_since in
+    let kept = sent_by d (shown s) (offset_of at) u in
+    let new_last : new.line.last ≡ last_behind t.side.finding kept t.line.last
+    = p.last ∙ ap (λ (x : Stage). last_behind t.side.finding (sent_by d x t.line.at u) t.line.last) f.stage
+    ∙ ap (λ (x : ℕ). last_behind t.side.finding (sent_by d (shown s) x u) t.line.last) kept_at in
     record {
       passes = passes;
       behind = behind;
@@ -343,6 +364,13 @@ stood d c octets u t new o new_o mine others f e n packet p =
         since = λ z l. absurd (omega arith);
         begun = subst (λ (x : Stage). IsSince d c2 others x new.line.begun_since) (sym (stage_more d opening 0 f.units u))
             (since_behind d c2 others s at new.line.begun_since u there (new_since ∙ before_known));
+        octets = p.octets ∙ octets_fed d c octets t.octets f.octets;
+        counted = p.packets ∙ ap (λ (x : ℕ). offset_of (x + 1)) f.counted ∙ offset_on (length f.units) 1 ∙ ap offset_of (sym (length-append f.units (u ∷ [])));
+        reference = p.reference ∙ ap (λ (x : Stage). named_behind d x t.line.reference u) f.stage ∙ ap (λ (x : Option ℕ). named_behind d (shown s) x u) f.reference
+            ∙ named_shown d s (reference_in d f.units) u ∙ named_more d f.units u;
+        place = subst (λ (x : ℕ). IsPlace new.side.finding (mine ++ sent_by d s at u) x) (sym new_last)
+            (place_behind mine (sent_by d s at u) kept t.side new.side o new_o s (shown s) at before t.line.last u (sent_one d s at u) (sent_one d (shown s) (offset_of at) u)
+            (sym (heard_shown d s at u)) passes (count_told d c mine others t.side f.watches) f.place);
         begins = g.begins;
         ends = g.ends;
         begin = g.begin;
@@ -372,7 +400,7 @@ other_ends : (d e : Direction) → AreOthers d e → (c : Capture) (u : Tapped) 
 other_ends d e o c u mine others g = subst (λ (x : Direction). EndBy (length (stream x c)) others) (sym o.one) g.ends
 
 front_fed : (d e : Direction) → AreOthers d e → (c : Capture) (octets : List ℕ) (t u new : Tapped) (new_o : Watched) (mine others : List Sent) (f : Follows d c t mine others) → Follows e c u others mine
-    → (held : List ℕ) (fault : Option TpktFault) (since : ℕ) → new ≡ with_front t held fault since → new_o ≡ u.side → IsRest fault held (f.rest ++ octets)
+    → (held : List ℕ) (fault : Option TpktFault) (since : ℕ) → new ≡ with_front t (length octets) held fault since → new_o ≡ u.side → IsRest fault held (f.rest ++ octets)
     → (fault ≡ None → 0 < length (f.rest ++ octets) → since ≡ had_passed d (c ++ piece d octets) (length (stream d c) - length f.rest) others)
     → Fed d e (c ++ piece d octets) new (record u { side = new_o })
 front_fed d e o c octets t u new new_o mine others f g held fault since n w r k = record {
@@ -404,7 +432,7 @@ settled : (d e : Direction) → AreOthers d e → (c : Capture) (octets : List �
 settled d e o c octets t u new new_o mine others f g n w (goes_on r i j) =
     let held = held_rest t f.rest n f.is_rest in
     let same : t.held ++ octets ≡ f.rest ++ octets = ap (λ (x : List ℕ). x ++ octets) held.0 in
-    front_fed d e o c octets t u new new_o mine others f g (t.held ++ octets) None (since_of t) (i ∙ ap (λ (x : Option TpktFault). with_front t (t.held ++ octets) x (since_of t)) n) j
+    front_fed d e o c octets t u new new_o mine others f g (t.held ++ octets) None (since_of t) (i ∙ ap (λ (x : Option TpktFault). with_front t (length octets) (t.held ++ octets) x (since_of t)) n) j
     (same, subst (λ (x : List ℕ). IsPartial x) same r)
     (λ z l. since_known d c octets t mine others f (other_ends d e o c u mine others g) n l)
 settled d e o c octets t u new new_o mine others f g n w (faulty x r i j) =
@@ -434,14 +462,14 @@ settled d e o c octets t u new new_o mine others f g n w (whole unit k l p x) =
           (heard_follows e c u others mine (sent_by d stage at unit) t.side new.side new_o stage at (since_at stage t.line.begun_since (since_of t)) unit (sent_one d stage at unit) s.passes far_other g);
     }
 
-with_same : (t : Tapped) (x : TpktFault) → t.fault ≡ Some x → t ≡ with_front t t.held (Some x) t.line.since
-with_same t x e = ap (λ (y : Option TpktFault). with_front t t.held y t.line.since) e
+with_same : (t : Tapped) (n : ℕ) (x : TpktFault) → t.fault ≡ Some x → with_count t n ≡ with_front t n t.held (Some x) t.line.since
+with_same t n x e = ap (λ (y : Option TpktFault). with_front t n t.held y t.line.since) e
 
 pub fed : (d e : Direction) → AreOthers d e → (c : Capture) (octets : List ℕ) (t u new : Tapped) (new_o : Watched) (mine others : List Sent) → Follows d c t mine others → Follows e c u others mine
     → Feeds d octets t new u.side new_o → Fed d e (c ++ piece d octets) new (record u { side = new_o })
 fed d e o c octets t u new new_o mine others f g (ignored x n i j) =
     let r = subst (λ (y : Option TpktFault). IsRest y t.held f.rest) n f.is_rest in
-    front_fed d e o c octets t u new new_o mine others f g t.held (Some x) t.line.since (i ∙ with_same t x n) j (faulty_on f.rest octets x r) (λ z l. absurd (cc))
+    front_fed d e o c octets t u new new_o mine others f g t.held (Some x) t.line.since (i ∙ with_same t (length octets) x n) j (faulty_on f.rest octets x r) (λ z l. absurd (cc))
 fed d e o c octets t u new new_o mine others f g (looked_at n w s) = settled d e o c octets t u new new_o mine others f g n w s
 
 pub fed_left : (c : Capture) (octets : List ℕ) (j : Judged) (new : Tapped) (new_o : Watched) → Feeds Left octets j.left new j.right.side new_o → Taps j c

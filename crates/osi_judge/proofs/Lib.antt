@@ -7,9 +7,12 @@ pub mod OnwardLaws
 pub mod CaptureLaws
 pub mod CountLaws
 pub mod UnitLaws
+pub mod what_is_told_beside_is_of_the_capture
 pub mod FollowLaws
 pub mod JudgeLaws
 pub mod LineLaws
+pub mod what_is_known_of_a_side_is_of_the_capture
+pub mod what_was_broken_stays_broken
 pub mod FirstLaws
 pub mod a_tsdu_has_one_count
 pub mod a_call_may_be_said
@@ -22,3 +25,5 @@ pub mod an_honest_side_is_kept
 pub mod a_selection_is_read
 pub mod a_cn_is_answered_within_its_units
 pub mod an_honest_run_stays_in_the_profile
+pub mod a_side_strays_at_one_place
+pub mod no_more_is_kept_than_passed

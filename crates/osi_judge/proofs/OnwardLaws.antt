@@ -1,5 +1,6 @@
--- How a session continues, one TSDU after the other: for `take_next` and `stands_behind`.
-use Rattle.std.proofs.Common.{◌≡◌, refl, ◌+◌, ap, subst, true, false, List, [], ℕ, get_or, Option, Some, None, option_map, is_some}
+-- How a session comes on, one TSDU after the other: for `take_next` and `stands_behind`.
+use Rattle.std.proofs.Common.{◌≡◌, refl, sym, ◌+◌, ◌<◌, ◌⊎◌, Result, Ok, Err, IfOk, ap, subst, true, false, zero, suc, inl, inr, List, [], ◌∷◌, ℕ, length, get_or, arith, Option, Some, None, option_map, is_some}
+use Rattle.std.specs.List.{slice_get}
 use Rattle.osi_session.specs.declared.reactions.Reply.{Reply}
 use Rattle.osi_session.specs.declared.standing.Taking.{Taking}
 use Rattle.osi_session.specs.Steps.{reply_of}
@@ -8,7 +9,11 @@ use Rattle.osi_session.specs.Standing.{Seen, Takes, listens, after_count}
 use Rattle.osi_judge.specs.declared.members.Member.{Member}
 use Rattle.osi_judge.specs.declared.standings.Turn.{Turn}
 use Rattle.osi_judge.specs.declared.standings.Turn.TheVariants.{Goes}
-use Rattle.osi_judge.specs.Onward.{StopsBy, Quietly, GoesOn, Comes, stays, goes}
+use Rattle.osi_judge.specs.declared.standings.Stands.{Stands}
+use Rattle.osi_judge.specs.Explaining.{Told, Remark, Explains}
+use Rattle.osi_judge.specs.Members.{SomeExplains}
+use Rattle.osi_judge.specs.Judging.{Watched, is_empty, Keeps}
+use Rattle.osi_judge.specs.Onward.{StopsBy, Quietly, GoesOn, Comes, stays, goes, StandsBehind, IsAmong, StandsFor}
 
 -- what a session does with a TSDU that it takes
 pub record Takings (s : Seen) (tsdu : List ℕ) (t : Taking) : Type 0 where
@@ -46,3 +51,36 @@ comes_on us m n t (goes k l o p c) q = goes m l t p (comes_on us l n t c q)
 
 pub comes_next : (us : List (List ℕ)) (m n t : Member) (turn : Turn) → turn ≡ Goes t → Comes us m n → GoesOn us n turn → Comes us m t
 comes_next us m n t turn e c g = comes_on us m n t c (subst (λ (x : Turn). GoesOn us n x) e g)
+
+-- ---- a session that explains a side
+
+pub among_at : (members : List Member) (i : ℕ) (x : Member) → i < length members → x ≡ get_or members i x → IsAmong x members
+among_at [] i x l e = absurd (omega arith)
+among_at (m ∷ members) zero x l e = inl e
+among_at (m ∷ members) (suc i) x l e = inr (among_at members i x (omega arith) e)
+
+some_explains : (us : List (List ℕ)) (later : List Remark) (members : List Member) (m : Member) → IsAmong m members → Explains us later m.taken m.standing → SomeExplains us members later
+some_explains us later [] m a h = absurd a
+some_explains us later (n ∷ members) m (inl e) h = inl (subst (λ (x : Member). Explains us later x.taken x.standing) e h)
+some_explains us later (n ∷ members) m (inr a) h = inr (some_explains us later members m a h)
+
+pub stands_for : (w : Watched) (told : List Told) (m : Member) (s : Stands) → (is_empty w.members ≡ false → IsAmong m w.members) → StandsBehind w.heard m s → Keeps w told → StandsFor w told s
+stands_for w told m s a b k = record {
+  member = m;
+  has_said = λ us later e h p. (k.all us later e h).1 (some_explains us later w.members m (a k.some) p);
+  behind = b;
+}
+
+pub stands_ok : {E : Type 0} (r : Result Stands E) (w : Watched) (heard : List (List ℕ)) (m : Member) → heard ≡ w.heard → (is_empty w.members ≡ false → IsAmong m w.members)
+    → IfOk r (λ s. StandsBehind heard m s) → IfOk r (λ s. (told : List Told) → Keeps w told → StandsFor w told s)
+stands_ok (Ok s) w heard m e a b = λ told k. stands_for w told m s a (subst (λ (x : List (List ℕ)). StandsBehind x m s) e b) k
+stands_ok (Err x) w heard m e a b = tt
+
+pub first_among : (members : List Member) (m : Member) → Some m ≡ slice_get members 0 → is_empty members ≡ false → IsAmong m members
+first_among [] m e s = absurd (cc)
+first_among (n ∷ members) m e s = inl (cc)
+
+pub among_next : (members : List Member) (best next : Member) (i : ℕ) (x : Member) → i < length members → x ≡ get_or members i x → (next ≡ best) ⊎ (next ≡ x)
+    → (is_empty members ≡ false → IsAmong best members) → is_empty members ≡ false → IsAmong next members
+among_next members best next i x l e (inl n) a s = subst (λ (y : Member). IsAmong y members) (sym n) (a s)
+among_next members best next i x l e (inr n) a s = subst (λ (y : Member). IsAmong y members) (sym n) (among_at members i x l e)

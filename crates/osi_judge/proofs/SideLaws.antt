@@ -1,5 +1,5 @@
--- What is known of a side, as TSDUs of both sides pass.
-use Rattle.std.proofs.Common.{◌≡◌, ◌∙◌, refl, sym, ap, subst, ℕ, suc, zero, ◌+◌, ◌<◌, ◌≤◌, ◌↔◌, ◌⊎◌, ◌==◌, true, false, inl, inr, List, [], ◌∷◌, ◌++◌, length, map, take, get_or, Result, Ok, Err, OnOk, arith}
+-- What is known of a side, as it hears and tells.
+use Rattle.std.proofs.Common.{◌≡◌, ◌∙◌, refl, sym, ap, subst, ℕ, suc, zero, ◌+◌, ◌<◌, ◌≤◌, ◌↔◌, ◌==◌, ◌&&◌, Bool, nat_lt, true, false, inl, inr, List, [], ◌∷◌, ◌++◌, length, map, take, get_or, Result, Ok, Err, OnOk, arith}
 use Rattle.std.proofs.lemmas.List.{append-nil, append_assoc, length-append}
 use Rattle.osi_spdu.specs.declared.faults.SpduFault.{SpduFault}
 use Rattle.osi_message.specs.Reading.{said_at}
@@ -13,8 +13,8 @@ use Rattle.osi_judge.specs.Explaining.{Remark, remark, Told, read_as, remarks_of
 use Rattle.osi_judge.specs.Members.{SomeExplains, Extends, IsBehind}
 use Rattle.osi_judge.specs.Walking.{Ever}
 use Rattle.osi_judge.specs.Sides.{EndsAt}
-use Rattle.osi_judge.specs.Profiles.{selects_outside}
-use Rattle.osi_judge.specs.Judging.{Watched, is_empty, SelectsOutside, BrokeFor, LeftFor, AreAll, Keeps, WatchesBy, Watches, IsFound}
+use Rattle.osi_judge.specs.Profiles.{offered_in, accepted_in, in_first, is_outside, selects_outside}
+use Rattle.osi_judge.specs.Judging.{Watched, is_empty, IsKept, IsAstray, BrokeFor, LeftFor, CrowdedFor, AreAll, Keeps, WatchesBy, Watches, IsFound}
 
 -- ---- the TSDUs of the other side become more
 
@@ -26,19 +26,17 @@ get_front (x ∷ xs) ys (suc i) l = get_front xs ys i (omega arith)
 extends_less : (us heard : List (List ℕ)) (x : List ℕ) → Extends us (heard ++ x ∷ []) → Extends us heard
 extends_less us heard x h = λ i l. let n = length-append heard (x ∷ []) in h i (omega arith) ∙ get_front heard (x ∷ []) i l
 
-selects_more : (heard : List (List ℕ)) (x tsdu : List ℕ) → selects_outside heard tsdu ≡ true → selects_outside (heard ++ x ∷ []) tsdu ≡ true
-selects_more [] x tsdu h = absurd (cc)
-selects_more (first ∷ heard) x tsdu h = h
-
-leaves_more : {A : Type 0} → (heard : List (List ℕ)) (x : List ℕ) (told : List Told) (i : ℕ) → (A ⊎ SelectsOutside heard told i) → (A ⊎ SelectsOutside (heard ++ x ∷ []) told i)
-leaves_more heard x told i (inl n) = inl n
-leaves_more heard x told i (inr s) = inr (record { tsdu = s.tsdu; at = s.at; outside = selects_more heard x s.tsdu.octets s.outside })
-
 heard_by : (f : Finding) (w : Watched) (x : List ℕ) (told : List Told) → WatchesBy f w told → WatchesBy f (record w { heard = w.heard ++ x ∷ [] }) told
-heard_by Kept w x told k = record { count = k.count; all = λ us later e h. k.all us later (extends_less us w.heard x e) h; some = k.some }
+heard_by Kept w x told k = record {
+  count = k.count;
+  all = λ us later e h. k.all us later (extends_less us w.heard x e) h;
+  some = k.some;
+  few = k.few;
+  inside = λ us e. k.inside us (extends_less us w.heard x e);
+}
 heard_by (Broke i) w x told k = (k.0, λ us e. k.1 us (extends_less us w.heard x e))
-heard_by (Left i) w x told k = (k.0, λ us e. let y = k.1 us (extends_less us w.heard x e) in (y.0, leaves_more w.heard x told i y.1))
-heard_by TooMany w x told k = tt
+heard_by (Left i) w x told k = (k.0, λ us e. k.1 us (extends_less us w.heard x e))
+heard_by TooMany w x told k = (k.0, λ us e. k.1 us (extends_less us w.heard x e))
 
 pub hears : (w : Watched) (x : List ℕ) (told : List Told) → Watches w told → Watches (record w { heard = w.heard ++ x ∷ [] }) told
 hears w x told k = heard_by w.finding w x told k
@@ -60,29 +58,23 @@ take_whole [] (suc n) l = refl
 take_whole (x ∷ xs) zero l = absurd (omega arith)
 take_whole (x ∷ xs) (suc n) l = ap (λ (z : List Told). x ∷ z) (take_whole xs n (omega arith))
 
--- a break stays where it is
-pub broke_stays : (begin : Seen) (heard : List (List ℕ)) (told : List Told) (x : Told) (i : ℕ) → BrokeFor begin heard told i → BrokeFor begin heard (told ++ x ∷ []) i
+-- what is said of the front part of what was told stays
+kept_still : (begin : Seen) (us : List (List ℕ)) (a b : List Told) → a ≡ b → IsKept begin us b → IsKept begin us a
+kept_still begin us a b e k = subst (λ (z : List Told). IsKept begin us z) (sym e) k
+
+astray_still : (begin : Seen) (us : List (List ℕ)) (a b : List Told) → a ≡ b → IsAstray begin us b → IsAstray begin us a
+astray_still begin us a b e k = subst (λ (z : List Told). IsAstray begin us z) (sym e) k
+
+broke_stays : (begin : Seen) (heard : List (List ℕ)) (told : List Told) (x : Told) (i : ℕ) → BrokeFor begin heard told i
+    → BrokeFor begin heard (told ++ x ∷ []) i
 broke_stays begin heard told x i k =
     let n = length-append told (x ∷ []) in
     let there = k.0 in
     let a = take_front told (x ∷ []) i (omega arith) in
     let b = take_front told (x ∷ []) (i + 1) (omega arith) in (
       omega arith,
-      λ us e. let y = k.1 us e in
-          (subst (λ (z : List Told). IsExplained begin us z) (sym a) y.0, λ h. y.1 (subst (λ (z : List Told). IsExplained begin us z) b h)),
+      λ us e. let y = k.1 us e in (kept_still begin us (take i (told ++ x ∷ [])) (take i told) a y.0, λ h. y.1 (subst (λ (z : List Told). IsExplained begin us z) b h)),
     )
-
-pub broke_as : (w n : Watched) (told : List Told) (x : Told) (i : ℕ) → w.finding ≡ Broke i → n ≡ w → Watches w told → Watches n (told ++ x ∷ [])
-broke_as w n told x i f e k =
-    subst (λ (y : Watched). Watches y (told ++ x ∷ [])) (sym e)
-    (subst (λ (g : Finding). WatchesBy g w (told ++ x ∷ [])) (sym f) (broke_stays w.begin w.heard told x i (subst (λ (g : Finding). WatchesBy g w told) f k)))
-
--- so does a side that left the profile
-leaves_still : (begin : Seen) (heard us : List (List ℕ)) (told : List Told) (x : Told) (i : ℕ) → take i (told ++ x ∷ []) ≡ take i told → take (i + 1) (told ++ x ∷ []) ≡ take (i + 1) told
-    → ((IsExplained begin us (take (i + 1) told) → ⊥) ⊎ SelectsOutside heard told i) → ((IsExplained begin us (take (i + 1) (told ++ x ∷ [])) → ⊥) ⊎ SelectsOutside heard (told ++ x ∷ []) i)
-leaves_still begin heard us told x i a b (inl n) = inl (λ h. n (subst (λ (z : List Told). IsExplained begin us z) b h))
-leaves_still begin heard us told x i a b (inr s) =
-    inr (record { tsdu = s.tsdu; at = b ∙ s.at ∙ ap (λ (z : List Told). z ++ s.tsdu ∷ []) (sym a); outside = s.outside })
 
 left_stays : (begin : Seen) (heard : List (List ℕ)) (told : List Told) (x : Told) (i : ℕ) → LeftFor begin heard told i → LeftFor begin heard (told ++ x ∷ []) i
 left_stays begin heard told x i k =
@@ -91,16 +83,41 @@ left_stays begin heard told x i k =
     let a = take_front told (x ∷ []) i (omega arith) in
     let b = take_front told (x ∷ []) (i + 1) (omega arith) in (
       omega arith,
-      λ us e. let y = k.1 us e in (subst (λ (z : List Told). IsExplained begin us z) (sym a) y.0, leaves_still begin heard us told x i a b y.1),
+      λ us e. let y = k.1 us e in
+          (kept_still begin us (take i (told ++ x ∷ [])) (take i told) a y.0, astray_still begin us (take (i + 1) (told ++ x ∷ [])) (take (i + 1) told) b y.1),
     )
 
-pub left_as : (w n : Watched) (told : List Told) (x : Told) (i : ℕ) → w.finding ≡ Left i → n ≡ w → Watches w told → Watches n (told ++ x ∷ [])
-left_as w n told x i f e k =
-    subst (λ (y : Watched). Watches y (told ++ x ∷ [])) (sym e)
-    (subst (λ (g : Finding). WatchesBy g w (told ++ x ∷ [])) (sym f) (left_stays w.begin w.heard told x i (subst (λ (g : Finding). WatchesBy g w told) f k)))
+crowded_stays : (begin : Seen) (heard : List (List ℕ)) (told : List Told) (x : Told) (i : ℕ) → CrowdedFor begin heard told i
+    → CrowdedFor begin heard (told ++ x ∷ []) i
+crowded_stays begin heard told x i k =
+    let n = length-append told (x ∷ []) in
+    let there = k.0 in
+    let b = take_front told (x ∷ []) (i + 1) (omega arith) in
+    (omega arith, λ us e. kept_still begin us (take (i + 1) (told ++ x ∷ [])) (take (i + 1) told) b (k.1 us e))
 
-pub too_many_as : (n : Watched) (told : List Told) → n.finding ≡ TooMany → Watches n told
-too_many_as n told f = subst (λ (g : Finding). WatchesBy g n told) (sym f) tt
+stays_by : (f : Finding) (w : Watched) (told : List Told) (x : Told) → (f ≡ Kept → ⊥) → WatchesBy f w told → WatchesBy f w (told ++ x ∷ [])
+stays_by Kept w told x n k = absurd (n refl)
+stays_by (Broke i) w told x n k = broke_stays w.begin w.heard told x i k
+stays_by (Left i) w told x n k = left_stays w.begin w.heard told x i k
+stays_by TooMany w told x n k = crowded_stays w.begin w.heard told x w.told k
+
+-- what was found of a side that is judged no further stays
+stays : (w n : Watched) (told : List Told) (x : Told) (f : Finding) → w.finding ≡ f → (f ≡ Kept → ⊥) → n ≡ w → Watches w told
+    → Watches n (told ++ x ∷ [])
+stays w n told x f z o e k =
+    subst (λ (y : Watched). Watches y (told ++ x ∷ [])) (sym e)
+    (subst (λ (g : Finding). WatchesBy g w (told ++ x ∷ [])) (sym z) (stays_by f w told x o (subst (λ (g : Finding). WatchesBy g w told) z k)))
+
+pub broke_as : (w n : Watched) (told : List Told) (x : Told) (i : ℕ) → w.finding ≡ Broke i → n ≡ w → Watches w told
+    → Watches n (told ++ x ∷ [])
+broke_as w n told x i f e k = stays w n told x (Broke i) f (λ z. cc) e k
+
+pub left_as : (w n : Watched) (told : List Told) (x : Told) (i : ℕ) → w.finding ≡ Left i → n ≡ w → Watches w told
+    → Watches n (told ++ x ∷ [])
+left_as w n told x i f e k = stays w n told x (Left i) f (λ z. cc) e k
+
+pub too_many_as : (w n : Watched) (told : List Told) (x : Told) → w.finding ≡ TooMany → n ≡ w → Watches w told → Watches n (told ++ x ∷ [])
+too_many_as w n told x f e k = stays w n told x TooMany f (λ z. cc) e k
 
 -- the remarks of one TSDU more
 remarks_more : (told : List Told) (x : Told) (later : List Remark) → remarks (told ++ x ∷ []) ++ later ≡ remarks told ++ (remarks_of x ++ later)
@@ -132,22 +149,69 @@ all_more w told x new l a g = λ us later e h.
     let same = remarks_more told x later in
     (λ p. i.0 (k.0 (subst (λ (z : List Remark). Explains us z 0 w.begin) same p)), λ p. subst (λ (z : List Remark). Explains us z 0 w.begin) (sym same) (k.1 (i.1 p)))
 
-pub kept_as : (w n : Watched) (told : List Told) (x : Told) (new : List Member) → n ≡ record w { members = new; told = w.told + 1; before = x.before } → w.finding ≡ Kept → w.before ≤ x.before
-    → Gives w x new → is_empty new ≡ false → Keeps w told → Watches n (told ++ x ∷ [])
-kept_as w n told x new e f l g s k =
-    let m = length-append told (x ∷ []) in let c = k.count in
-    subst (λ (y : Watched). Watches y (told ++ x ∷ [])) (sym e)
-    (subst (λ (y : Finding). WatchesBy y (record w { members = new; told = w.told + 1; before = x.before }) (told ++ x ∷ [])) (sym f)
-    (record { count = omega arith; all = all_more w told x new l k.all g; some = s }))
+-- ---- what the first TSDU selects
 
--- ---- a break
+same_offer : (us heard : List (List ℕ)) (x : Told) → Extends us heard → x.before ≤ length heard
+    → selects_outside us (x ∷ []) ≡ selects_outside heard (x ∷ [])
+same_offer us heard x e l = by x.before l
+  where
+    asked : ℕ → List ℕ → Bool
+    asked n cn = nat_lt 0 n && is_outside (in_first offered_in (said_at cn)) (in_first accepted_in (said_at x.octets))
+
+    by : (n : ℕ) → n ≤ length heard → asked n (get_or us 0 []) ≡ asked n (get_or heard 0 [])
+    by zero l = refl
+    by (suc n) l = ap (asked (suc n)) (e 0 (omega arith))
+
+-- whether it selects what the profile leaves out, tested of a first TSDU alone
+abbrev pub OpensBy : Watched → Told → Bool → Type 0
+OpensBy w x b = (w.told ≡ 0 → b ≡ selects_outside w.heard (x ∷ [])) × (0 < w.told → b ≡ false)
+
+opens_by : (w : Watched) (told : List Told) (x : Told) (b : Bool) (us : List (List ℕ)) → Extends us w.heard → x.before ≤ length w.heard
+    → OpensBy w x b → Keeps w told
+    → selects_outside us (told ++ x ∷ []) ≡ b
+opens_by w [] x b us e l o k = same_offer us w.heard x e l ∙ sym (o.0 k.count)
+opens_by w (t ∷ told) x b us e l o k = let c = k.count in k.inside us e ∙ sym (o.1 (omega arith))
+
+-- ---- one TSDU more
 
 some_done : (us : List (List ℕ)) (members : List Member) → is_empty members ≡ false → SomeExplains us members []
 some_done us [] s = absurd (cc)
 some_done us (m ∷ members) s = inl (done m.taken m.standing)
 
+explained_more : (w : Watched) (told : List Told) (x : Told) (new : List Member) (us : List (List ℕ)) → w.before ≤ x.before
+    → Gives w x new → is_empty new ≡ false → Keeps w told → Extends us w.heard
+    → IsExplained w.begin us (told ++ x ∷ [])
+explained_more w told x new us l g s k e =
+    subst (λ (z : List Remark). Explains us z 0 w.begin) (append-nil (remarks (told ++ x ∷ []))) ((all_more w told x new l k.all g us [] e tt).1 (some_done us new s))
+
+pub kept_as : (w n : Watched) (told : List Told) (x : Told) (new : List Member) (b : Bool)
+    → n ≡ record w { members = new; told = w.told + 1; before = x.before } → w.finding ≡ Kept → w.before ≤ x.before
+    → Gives w x new → is_empty new ≡ false → length new ≤ 4096 → x.before ≤ length w.heard → OpensBy w x b → b ≡ false → Keeps w told
+    → Watches n (told ++ x ∷ [])
+kept_as w n told x new b e f l g s y p o z k =
+    let m = length-append told (x ∷ []) in let c = k.count in
+    subst (λ (y : Watched). Watches y (told ++ x ∷ [])) (sym e)
+    (subst (λ (y : Finding). WatchesBy y (record w { members = new; told = w.told + 1; before = x.before }) (told ++ x ∷ [])) (sym f)
+    (record { count = omega arith; all = all_more w told x new l k.all g; some = s; few = y; inside = λ us h. opens_by w told x b us h p o k ∙ z }))
+
+-- too many sessions explain it
+pub crowds_as : (w n : Watched) (told : List Told) (x : Told) (new : List Member) (b : Bool) → n ≡ record w { finding = TooMany }
+    → w.before ≤ x.before
+    → Gives w x new → is_empty new ≡ false → x.before ≤ length w.heard → OpensBy w x b → b ≡ false → Keeps w told
+    → Watches n (told ++ x ∷ [])
+crowds_as w n told x new b e l g s p o z k =
+    let m = length-append told (x ∷ []) in let c = k.count in
+    let whole = take_whole (told ++ x ∷ []) (w.told + 1) (omega arith) in
+    subst (λ (y : Watched). Watches y (told ++ x ∷ [])) (sym e)
+    (omega arith, λ us h. kept_still w.begin us (take (w.told + 1) (told ++ x ∷ [])) (told ++ x ∷ []) whole (explained_more w told x new us l g s k h, opens_by w told x b us h p o k ∙ z))
+
+-- ---- a break
+
 explained_so_far : (w : Watched) (told : List Told) (us : List (List ℕ)) → Extends us w.heard → Keeps w told → IsExplained w.begin us told
 explained_so_far w told us e k = subst (λ (z : List Remark). Explains us z 0 w.begin) (append-nil (remarks told)) ((k.all us [] e tt).1 (some_done us w.members k.some))
+
+kept_so_far : (w : Watched) (told : List Told) (us : List (List ℕ)) → Extends us w.heard → Keeps w told → IsKept w.begin us told
+kept_so_far w told us e k = (explained_so_far w told us e k, k.inside us e)
 
 pub broke_here : (w : Watched) (told : List Told) (x : Told) (new : List Member) → w.before ≤ x.before → Gives w x new → new ≡ [] → Keeps w told → BrokeFor w.begin w.heard (told ++ x ∷ []) w.told
 broke_here w told x new l g z k =
@@ -156,7 +220,7 @@ broke_here w told x new l g z k =
     let whole = take_whole (told ++ x ∷ []) (w.told + 1) (omega arith) in (
       omega arith,
       λ us e. (
-        subst (λ (y : List Told). IsExplained w.begin us y) (sym front) (explained_so_far w told us e k),
+        kept_still w.begin us (take w.told (told ++ x ∷ [])) told front (kept_so_far w told us e k),
         λ h.
             let p = subst (λ (y : List Told). IsExplained w.begin us y) whole h in
             let q = (all_more w told x new l k.all g us [] e tt).0 (subst (λ (y : List Remark). Explains us y 0 w.begin) (sym (append-nil (remarks (told ++ x ∷ [])))) p) in
@@ -171,20 +235,23 @@ breaks_as w n told x new e l g z k = subst (λ (y : Watched). Watches y (told ++
 -- ---- a side that leaves the profile
 
 -- by what it selects
-left_here : (w : Watched) (told : List Told) (x : Told) → selects_outside w.heard x.octets ≡ true → Keeps w told → LeftFor w.begin w.heard (told ++ x ∷ []) w.told
-left_here w told x o k =
+left_here : (w : Watched) (told : List Told) (x : Told) (b : Bool) → x.before ≤ length w.heard → OpensBy w x b → b ≡ true → Keeps w told
+    → LeftFor w.begin w.heard (told ++ x ∷ []) w.told
+left_here w told x b p o z k =
     let m = length-append told (x ∷ []) in let c = k.count in
     let front = take_front told (x ∷ []) w.told (omega arith) ∙ take_whole told w.told (omega arith) in
     let whole = take_whole (told ++ x ∷ []) (w.told + 1) (omega arith) in (
       omega arith,
       λ us e. (
-        subst (λ (y : List Told). IsExplained w.begin us y) (sym front) (explained_so_far w told us e k),
-        inr (record { tsdu = x; at = whole ∙ ap (λ (y : List Told). y ++ x ∷ []) (sym front); outside = o }),
+        kept_still w.begin us (take w.told (told ++ x ∷ [])) told front (kept_so_far w told us e k),
+        astray_still w.begin us (take (w.told + 1) (told ++ x ∷ [])) (told ++ x ∷ []) whole (inr (opens_by w told x b us e p o k ∙ z)),
       ),
     )
 
-pub leaves_as : (w n : Watched) (told : List Told) (x : Told) → n ≡ record w { finding = Left w.told } → selects_outside w.heard x.octets ≡ true → Keeps w told → Watches n (told ++ x ∷ [])
-leaves_as w n told x e o k = subst (λ (y : Watched). Watches y (told ++ x ∷ [])) (sym e) (left_here w told x o k)
+pub leaves_as : (w n : Watched) (told : List Told) (x : Told) (b : Bool) → n ≡ record w { finding = Left w.told }
+    → x.before ≤ length w.heard → OpensBy w x b → b ≡ true → Keeps w told
+    → Watches n (told ++ x ∷ [])
+leaves_as w n told x b e p o z k = subst (λ (y : Watched). Watches y (told ++ x ∷ [])) (sym e) (left_here w told x b p o z k)
 
 -- by something that no session sends
 left_broken : (begin : Seen) (heard : List (List ℕ)) (told : List Told) (i : ℕ) → BrokeFor begin heard told i → LeftFor begin heard told i
@@ -213,6 +280,8 @@ begins w m h s t b o f = subst (λ (y : Finding). WatchesBy y w []) (sym f) (rec
       = λ p. begin_only us later m w.begin t b (subst (λ (y : List Member). SomeExplains us y later) s p) in
       (there, back);
   some = ap is_empty s;
+  few = let n = ap (λ (x : List Member). length x) s in omega (arith, n);
+  inside = λ us e. refl;
 })
   where
     begin_only : (us : List (List ℕ)) (later : List Remark) (m : Member) (begin : Seen) → m.taken ≡ 0 → m.standing ≡ begin → SomeExplains us (m ∷ []) later → Explains us later 0 begin
@@ -220,10 +289,13 @@ begins w m h s t b o f = subst (λ (y : Finding). WatchesBy y w []) (sym f) (rec
     begin_only us later m begin t b (inr p) = absurd p
 
 found_by : (f : Finding) (w : Watched) (told : List Told) → WatchesBy f w told → IsFound w.begin w.heard told f
-found_by Kept w told k = explained_so_far w told w.heard (λ i l. refl) k
-found_by (Broke i) w told k = let y = k.1 w.heard (λ j l. refl) in record { there = k.0; so_far = y.0; broke = y.1 }
+found_by Kept w told k = kept_so_far w told w.heard (λ i l. refl) k
+found_by (Broke i) w told k = let y = k.1 w.heard (λ j l. refl) in (record { there = k.0; so_far = y.0.0; broke = y.1 }, y.0.1)
 found_by (Left i) w told k = let y = k.1 w.heard (λ j l. refl) in (k.0, y.0, y.1)
-found_by TooMany w told k = tt
+found_by TooMany w told k = (w.told, k.0, k.1 w.heard (λ j l. refl))
+
+pub few_by : (w : Watched) (told : List Told) → w.finding ≡ Kept → Watches w told → length w.members ≤ 4096
+few_by w told f k = let kept : Keeps w told = subst (λ (g : Finding). WatchesBy g w told) f k in kept.few
 
 pub found_as : (w : Watched) (told : List Told) → Watches w told → IsFound w.begin w.heard told w.finding
 found_as w told k = found_by w.finding w told k

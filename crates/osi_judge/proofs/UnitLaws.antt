@@ -122,6 +122,7 @@ since_shown (stopped stop packet) b n = refl
 -- it is none, or this one
 pub record IsEnded (s : Stage) (at : ℕ) (u : List ℕ) (t : Sent) : Type 0 where
   pub first : t.first ≡ first_of s at
+  pub last : t.last ≡ at
   pub behind : t.behind ≡ at + packet_length u
 
 abbrev pub OneOrNone : Stage → ℕ → List ℕ → List Sent → Type 0
@@ -131,7 +132,7 @@ ended_one : (s : Stage) (at : ℕ) (u : List ℕ) (long end : Bool) (octets : Li
 ended_one s at u true end octets = inl refl
 ended_one s at u false false octets = inl refl
 ended_one s at u false true octets =
-    inr (record { octets = begun s ++ octets; first = first_of s at; last = at; behind = at + packet_length u }, refl, record { first = refl; behind = refl })
+    inr (record { octets = begun s ++ octets; first = first_of s at; last = at; behind = at + packet_length u }, refl, record { first = refl; last = refl; behind = refl })
 
 brought_one : (s : Stage) (at : ℕ) (u : List ℕ) (m : Move) → OneOrNone s at u (brought s at u m)
 brought_one s at u (opens reference) = inl refl

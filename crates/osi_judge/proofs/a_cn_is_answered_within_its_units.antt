@@ -1,6 +1,6 @@
 -- An honest side never selects what the profile leaves out: its AC names units of the CN, and units that may be selected together.
 -- For the law that an honest side is not blamed.
-use Rattle.std.proofs.Common.{◌≡◌, ◌∙◌, refl, sym, ap, subst, ℕ, ◌+◌, ◌==◌, ◌⊎◌, inl, inr, Bool, true, false, not, ◌&&◌, ◌||◌, if◌then◌else◌, is_none, List, [], ◌∷◌, ◌++◌, map, get_or, Option, Some, None, unwrap_or, Result, Ok, Err, arith}
+use Rattle.std.proofs.Common.{◌≡◌, ◌∙◌, refl, sym, ap, subst, ℕ, ◌+◌, ◌==◌, ◌⊎◌, inl, inr, Bool, true, false, not, ◌&&◌, ◌||◌, if◌then◌else◌, is_none, List, [], ◌∷◌, get_or, Option, Some, None, unwrap_or, Result, Ok, Err, arith}
 use Rattle.std.specs.Int.RustNames.{bit_and}
 use Rattle.std.specs.List.{AllByRecursion, list_any}
 use Rattle.std.proofs.lemmas.Bool.{and_from, and_parts, cases_Bool, eq-eqb, eqb-true}
@@ -13,25 +13,20 @@ use Rattle.osi_spdu.specs.declared.settings.TokenSetting.{TokenSetting}
 use Rattle.osi_spdu.specs.Kinds.{category_of}
 use Rattle.osi_spdu.specs.Known.{Known}
 use Rattle.osi_message.specs.Meanings.{Meaning, AA, AB, AC, CN, DN, DT, FN, GT, MAA, MAP, MIA, MIP, NF, PT, RA, RF, RS}
-use Rattle.osi_message.specs.Parting.{behind_no_token, in_one, is_parted, tsdus_of, tsdus_sent, words_sent}
 use Rattle.osi_message.specs.Reading.{meaning_by, names, said_at}
-use Rattle.osi_message.specs.Sendable.{IsSendable, words_of}
-use Rattle.osi_message.specs.Tokens.{no_token}
 use Rattle.osi_message.specs.Words.{Word, Words, as_message, part, says}
-use Rattle.osi_message.specs.Written.{is_second, written}
-use Rattle.osi_session.specs.declared.opening.Opening.{Opening}
 use Rattle.osi_session.specs.declared.phases.Phase.{Phase}
 use Rattle.osi_session.specs.declared.phases.Phase.TheVariants.{Answering, Ended, RestartDue}
 use Rattle.osi_session.specs.declared.selected.FunctionalUnits.{FunctionalUnits}
 use Rattle.osi_session.specs.declared.state.State.{State}
-use Rattle.osi_session.specs.Allowed.{Answer, Step, after, allowed, may_call, needs, sends}
-use Rattle.osi_session.specs.Calls.{Abort, Accept, Call, Data, Give, HasSerial, Major, MajorConfirm, Minor, MinorConfirm, Please, Refuse, Release, ReleaseAccept, ReleaseRefuse, Restart, RestartConfirm}
+use Rattle.osi_session.specs.Allowed.{Step, after}
+use Rattle.osi_session.specs.Calls.{Call, Data, Give, Minor, MinorConfirm, Please}
 use Rattle.osi_session.specs.Causes.{unit_asks}
-use Rattle.osi_session.specs.Joining.{Hearing, Taker, respond_tsdu, respond_word, word_verdict}
+use Rattle.osi_session.specs.Joining.{Hearing, Taker, respond_tsdu, respond_word}
 use Rattle.osi_session.specs.Listening.{Input, Listener, Move, after_input, called, came, came_as, react, taker_of, unread}
 use Rattle.osi_session.specs.Listening as listening
 use Rattle.osi_session.specs.Numbers.{restarted_at}
-use Rattle.osi_session.specs.Phases.{is_answering, is_over, is_restarting, is_wait_cn, is_wait_transport}
+use Rattle.osi_session.specs.Phases.{is_answering, is_over, is_restarting, is_wait_cn}
 use Rattle.osi_session.specs.Respond.{becomes, fine, is_acceptable, is_expected, respond_unit, stands}
 use Rattle.osi_session.specs.State.{without_tokens}
 use Rattle.osi_session.specs.Units.{functional_units, is_profile, units_within}
@@ -41,7 +36,7 @@ use Rattle.osi_session.proofs.PhaseLaws.{excluded}
 use Rattle.osi_session.proofs.RunCases.{call_cases, fault_cases, taken_cases, unit_cases}
 use Rattle.osi_session.proofs.WordCases.{ActsAs, any_tsdu_keeps, tsdu_keeps, word_keeps}
 use Rattle.osi_session.proofs.WordLaws.{word_alone, word_at}
-use Rattle.osi_judge.specs.Profiles.{accepted_in, in_first, is_outside, offered_in}
+use Rattle.osi_judge.specs.Profiles.{in_first, offered_in}
 
 -- ---- units that may be selected together stay so when another side names them too
 

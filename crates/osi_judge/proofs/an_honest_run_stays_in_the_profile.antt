@@ -1,10 +1,10 @@
 -- No TSDU of an honest session selects what the profile leaves out: by induction over its run.
 -- For the law that an honest side is not blamed.
-use Rattle.std.proofs.Common.{◌≡◌, ◌∙◌, refl, sym, ap, subst, ℕ, ◌+◌, ◌⊎◌, inl, inr, Bool, true, false, not, ◌&&◌, ◌||◌, if◌then◌else◌, nat_le, List, [], ◌∷◌, ◌++◌, length, map, get_or, Option, Some, None, Result, Ok, Err, arith}
+use Rattle.std.proofs.Common.{◌≡◌, ◌∙◌, refl, sym, ap, subst, ℕ, ◌+◌, inl, Bool, true, false, not, ◌&&◌, if◌then◌else◌, nat_le, List, [], ◌∷◌, ◌++◌, length, map, get_or, Option, Some, None, Result, Ok, Err}
 use Rattle.std.proofs.lemmas.Bool.{and_parts}
 use Rattle.osi_spdu.specs.declared.faults.SpduFault.{SpduFault}
-use Rattle.osi_message.specs.Meanings.{Meaning, AA, AB, AC, DT, GT, RF}
-use Rattle.osi_message.specs.Parting.{behind_no_token, in_one, is_parted, tsdus_of, tsdus_sent, words_sent}
+use Rattle.osi_message.specs.Meanings.{Meaning, AC, DT, GT}
+use Rattle.osi_message.specs.Parting.{behind_no_token, is_parted, tsdus_of, tsdus_sent, words_sent}
 use Rattle.osi_message.specs.Reading.{said_at}
 use Rattle.osi_message.specs.Sendable.{IsSendable, words_of}
 use Rattle.osi_message.specs.Tokens.{no_token}
@@ -14,10 +14,10 @@ use Rattle.osi_session.specs.declared.opening.Opening.{Opening}
 use Rattle.osi_session.specs.declared.state.State.{State}
 use Rattle.osi_session.specs.Allowed.{Answer, Step, allowed, most_user_data, needs, may_call, AllHold, sends as call_sends_this}
 use Rattle.osi_session.specs.Calls.{Accept, Call, Data, HasSerial}
-use Rattle.osi_session.specs.Listening.{Listener, Move, after_input, begun, broken, called, came, opened, react, refused, taker_of}
+use Rattle.osi_session.specs.Listening.{Listener, Move, after_input, broken, called, came, opened, taker_of}
 use Rattle.osi_session.specs.Openings.{asked_for}
 use Rattle.osi_session.specs.Phases.{is_answering, is_over, is_wait_transport}
-use Rattle.osi_session.specs.Sessions.{asking, awaiting, awaits, opens, refusal_of}
+use Rattle.osi_session.specs.Sessions.{asking, awaiting, awaits, opens}
 use Rattle.osi_session.specs.Sizes.{is_data, limit_of}
 use Rattle.osi_session.specs.Sound.{IsSound}
 use Rattle.osi_session.specs.Standing.{answers}
@@ -27,17 +27,16 @@ use Rattle.osi_session.proofs.MoveLaws.{call_sends, not_opened}
 use Rattle.osi_session.proofs.Passed.{passed}
 use Rattle.osi_session.proofs.RunLaws.{awaiting_fresh, fresh_sound, input_over, input_sound, lost_ended}
 use Rattle.osi_session.proofs.SendableLaws.{sent_sendable}
-use Rattle.osi_session.proofs.SentLaws.{sent_alone}
 use Rattle.osi_judge.specs.declared.directions.Direction.{Direction}
 use Rattle.osi_judge.specs.declared.directions.Direction.TheVariants.{Left, Right}
 use Rattle.osi_judge.specs.Explaining.{Told}
-use Rattle.osi_judge.specs.Profiles.{accepted_in, in_first, is_outside, offered_in}
+use Rattle.osi_judge.specs.Profiles.{accepted_in, in_first, is_outside}
 use Rattle.osi_judge.specs.Running.{IsHonest, IsSentFrom, Pass, Runs, sends}
 use Rattle.osi_judge.specs.Running as running
 use Rattle.osi_judge.proofs.a_call_is_explained.{AsSent, data_sent, one_sent}
 use Rattle.osi_judge.proofs.a_caller_is_explained.{as_opened, connecting, missed_ended, opening_sound, over_by, refuses_all, fits, sendable}
-use Rattle.osi_judge.proofs.a_run_is_explained.{came_moves, ended_over, err_sends, err_stays, hearing, nothing_passes, sends_no_more, still_open, tsdu_sound}
-use Rattle.osi_judge.proofs.an_answer_says_itself.{IsAnswer, SaysItself, came_itself}
+use Rattle.osi_judge.proofs.a_run_is_explained.{came_moves, ended_over, err_sends, err_stays, hearing, sends_no_more, still_open, tsdu_sound}
+use Rattle.osi_judge.proofs.an_answer_says_itself.{SaysItself, came_itself}
 use Rattle.osi_judge.proofs.a_cn_is_answered_within_its_units.{AsAsked, IsUnits, calls_as_asked, first_asked, selected_inside, takes_as_asked}
 
 -- ---- one TSDU

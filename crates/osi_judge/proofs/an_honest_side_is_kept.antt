@@ -1,8 +1,7 @@
 -- What was found of an honest side of a capture is no break, nor that it left the profile.
 -- For the law that an honest side is not blamed.
-use Rattle.std.proofs.Common.{◌≡◌, refl, sym, subst, ℕ, ◌+◌, Bool, true, false, List, [], ◌∷◌, ◌++◌, take, drop, Option, None, inl, inr}
+use Rattle.std.proofs.Common.{◌≡◌, ◌∙◌, refl, sym, ap, subst, ℕ, ◌+◌, ◌&&◌, nat_lt, Bool, true, false, List, [], ◌∷◌, take, drop, None, inl, inr}
 use Rattle.std.proofs.lemmas.List.{take-append-drop}
-use Rattle.osi_message.specs.Reading.{said_at}
 use Rattle.osi_session.specs.declared.opening.Opening.{Opening}
 use Rattle.osi_session.specs.Sessions.{awaits, opens, refusal_of}
 use Rattle.osi_session.specs.Standing.{Seen, seen_called, seen_calling}
@@ -12,9 +11,9 @@ use Rattle.osi_judge.specs.declared.findings.Finding.{Finding}
 use Rattle.osi_judge.specs.declared.findings.Finding.TheVariants.{Kept, Broke, Left, TooMany}
 use Rattle.osi_judge.specs.Captures.{Capture, other}
 use Rattle.osi_judge.specs.Explaining.{Told, IsExplained}
-use Rattle.osi_judge.specs.Judging.{IsFound, SelectsOutside}
+use Rattle.osi_judge.specs.Judging.{IsFound}
 use Rattle.osi_judge.specs.Running.{IsSentFrom, IsHonest, IsHonestIn}
-use Rattle.osi_judge.specs.Profiles.{accepted_in, in_first, is_outside, selects_outside}
+use Rattle.osi_judge.specs.Profiles.{selects_outside}
 use Rattle.osi_judge.specs.Stops.{broke_session}
 use Rattle.osi_judge.specs.Tapping.{IsFoundIn, begin_of, heard, told}
 use Rattle.osi_judge.specs.Transport.{Sent, IsSent}
@@ -36,23 +35,23 @@ honest_explained : CallerLaw → CalledLaw → (d : Direction) (us : List (List 
 honest_explained caller called left us told h = caller h.0 us told h.1 h.2
 honest_explained caller called right us told h = called us told h
 
--- the last TSDU of a prefix selects nothing outside
-last_inside : (first : Option ℕ) (told : List Told) (t : Told) → AllInside first (told ++ t ∷ []) → is_outside first (in_first accepted_in (said_at t.octets)) ≡ false
-last_inside first [] t a = a.0
-last_inside first (u ∷ told) t a = last_inside first told t a.1
-
 not_both : (b : Bool) → b ≡ true → b ≡ false → ⊥
 not_both true h k = cc
 not_both false h k = cc
 
-selects_none : (us : List (List ℕ)) (tsdu : List ℕ) → is_outside (first_asked us) (in_first accepted_in (said_at tsdu)) ≡ false → selects_outside us tsdu ≡ true → ⊥
-selects_none [] tsdu i o = not_both false o refl
-selects_none (first ∷ us) tsdu i o = not_both (selects_outside (first ∷ us) tsdu) o i
+and_false : (b : Bool) → (b && false) ≡ false
+and_false true = refl
+and_false false = refl
 
-not_outside : (us : List (List ℕ)) (told : List Told) (i : ℕ) → AllInside (first_asked us) told → SelectsOutside us told i → ⊥
-not_outside us told i a s =
-    let front = front_inside (first_asked us) (take (i + 1) told) (drop (i + 1) told) (subst (AllInside (first_asked us)) (sym (take-append-drop (i + 1) told)) a) in
-    selects_none us s.tsdu.octets (last_inside (first_asked us) (take i told) s.tsdu (subst (AllInside (first_asked us)) s.at front)) s.outside
+not_outside : (us : List (List ℕ)) (told : List Told) → AllInside (first_asked us) told → selects_outside us told ≡ false
+not_outside us [] a = refl
+not_outside us (t ∷ told) a = ap (λ (b : Bool). nat_lt 0 t.before && b) a.0 ∙ and_false (nat_lt 0 t.before)
+
+front_outside : (us : List (List ℕ)) (told : List Told) (i : ℕ) → AllInside (first_asked us) told
+    → selects_outside us (take i told) ≡ true → ⊥
+front_outside us told i a s =
+    let front = front_inside (first_asked us) (take i told) (drop i told) (subst (AllInside (first_asked us)) (sym (take-append-drop i told)) a) in
+    not_both (selects_outside us (take i told)) s (not_outside us (take i told) front)
 
 -- a prefix of a side that is explained is explained
 not_broken : (begin : Seen) (us : List (List ℕ)) (told : List Told) (i : ℕ) → IsExplained begin us told → (IsExplained begin us (take (i + 1) told) → ⊥) → ⊥
@@ -62,8 +61,9 @@ not_broken begin us told i e n =
 -- a side that is explained and selects nothing outside neither broke the protocol nor left the profile
 no_break : (begin : Seen) (us : List (List ℕ)) (told : List Told) (finding : Finding) → IsExplained begin us told → AllInside (first_asked us) told → IsFound begin us told finding → broke_session finding ≡ false
 no_break begin us told Kept e a f = refl
-no_break begin us told (Broke i) e a f = absurd (not_broken begin us told i e f.broke)
-no_break begin us told (Left i) e a f = absurd (elim f.2 [ inl n ↦ not_broken begin us told i e n | inr s ↦ not_outside us told i a s ])
+no_break begin us told (Broke i) e a f = absurd (not_broken begin us told i e f.0.broke)
+no_break begin us told (Left i) e a f =
+    absurd (elim f.2 [ inl n ↦ not_broken begin us told i e n | inr s ↦ front_outside us told (i + 1) a s ])
 no_break begin us told TooMany e a f = refl
 
 -- what is known of an honest side

@@ -1,10 +1,11 @@
--- The effect of octets of a side on what is kept of it.
-use Rattle.std.specs.Prelude.{◌≡◌, ◌≤◌, ◌<◌, ℕ, ◌+◌, List, [], ◌∷◌, ◌++◌, length, take, Bool, ◌||◌, Option, Some, None}
+-- What octets of a side do to what is kept of it.
+use Rattle.std.specs.Prelude.{◌≡◌, ◌≤◌, ◌<◌, ℕ, ◌+◌, ◌-◌, List, [], ◌∷◌, ◌++◌, length, take, Bool, ◌||◌, Option, Some, None}
 use Rattle.osi_tpkt.specs.Packet.{IsPacket, IsPartial, IsFaultOf, stated_length}
 use Rattle.osi_tpkt.specs.Stream.{offset_of}
 use Rattle.osi_tpkt.specs.declared.faults.TpktFault.{TpktFault}
 use Rattle.osi_tpkt.specs.declared.faults.TpktFault.TheVariants.{BadVersion, BadLength, OutOfMemory}
 use Rattle.osi_judge.specs.declared.directions.Direction.{Direction}
+use Rattle.osi_judge.specs.declared.judge.Reading.{Reading}
 use Rattle.osi_judge.specs.declared.stops.Stop.TheVariants.{BadPacket}
 use Rattle.osi_judge.specs.declared.stops.Stopped.{Stopped as StoppedAt}
 use Rattle.osi_judge.specs.Stops.{breaks, broke_session}
@@ -13,9 +14,12 @@ use Rattle.osi_judge.specs.declared.lines.Progress.TheVariants.{Opening, Between
 use Rattle.osi_judge.specs.declared.lines.Line.{Line}
 use Rattle.osi_judge.specs.declared.lines.Half.{Half}
 use Rattle.osi_judge.specs.Explaining.{Told}
-use Rattle.osi_judge.specs.Judging.{Watched, Watches}
+use Rattle.osi_judge.specs.Judging.{Watched, Watches, FoundNext}
 use Rattle.osi_judge.specs.Sides.{watched}
-use Rattle.osi_judge.specs.Transport.{Stage, opening, between, within, stopped, stage_behind, Sent, sent_by}
+use Rattle.osi_tpdu.specs.Packet.{units_of}
+use Rattle.osi_judge.specs.declared.findings.Finding.{Finding}
+use Rattle.osi_judge.specs.declared.findings.Finding.TheVariants.{Kept}
+use Rattle.osi_judge.specs.Transport.{Move, opens, step_of, Stage, opening, between, within, stopped, is_open, stage_behind, Sent, sent_by}
 
 abbrev pub stage_in : Progress → List ℕ → Stage
 stage_in Opening octets = opening
@@ -23,26 +27,42 @@ stage_in Between octets = between
 stage_in (Within first) octets = within first octets
 stage_in (Stopped stop at) octets = stopped stop at
 
--- the TSDUs of a side as far as they were read: the offset of the current packet, how many of the other side's TSDUs
--- had passed before it, the state of the side's transport, and how many had passed before the first packet of the
--- unfinished TSDU
+-- the TSDUs of a side as far as they were read: the offset of the packet under way, how many of the other side's TSDUs had
+-- passed before it, how the side stands, and how many had passed before the first packet of the TSDU under way; and how many
+-- packets were read, the reference of the CR or CC, and the packet that ended the TSDU at which the side broke the protocol
 pub record Lined : Type 0 where
   pub at : ℕ
   pub since : ℕ
   pub stage : Stage
   pub begun_since : ℕ
+  pub packets : ℕ
+  pub reference : Option ℕ
+  pub last : ℕ
 
 abbrev pub lined : Line → Lined
-lined l = record { at = l.at; since = l.since; stage = stage_in l.progress l.begun.items; begun_since = l.begun_since }
+lined l = record {
+  at = l.at;
+  since = l.since;
+  stage = stage_in l.progress l.begun.items;
+  begun_since = l.begun_since;
+  packets = l.packets;
+  reference = l.reference;
+  last = l.last;
+}
 
 pub record Tapped : Type 0 where
   pub held : List ℕ
+  pub octets : ℕ
   pub fault : Option TpktFault
   pub line : Lined
   pub side : Watched
 
 abbrev pub tapped : Half → Tapped
-tapped h = record { held = h.held.items; fault = h.fault; line = lined h.line; side = watched h.side }
+tapped h = record { held = h.held.items; octets = h.octets; fault = h.fault; line = lined h.line; side = watched h.side }
+
+-- what was read of a side
+abbrev pub reading_of : Tapped → Reading
+reading_of t = record { packets = t.line.packets; octets = t.octets; rest = t.octets - t.line.at }
 
 -- ---- a TSDU
 
@@ -56,6 +76,7 @@ pub record Tells (tsdu : List ℕ) (before : ℕ) (old new : Watched) : Type 0 w
   pub begin : new.begin ≡ old.begin
   pub heard : new.heard ≡ old.heard
   pub no_later : new.before ≤ before
+  pub finding : FoundNext old.finding old.told new.finding
   pub watches : (told : List Told) → Watches old told → Watches new (told ++ record { octets = tsdu; before = before } ∷ [])
 
 abbrev pub hears : Watched → List ℕ → Watched
@@ -68,11 +89,32 @@ Passes (t ∷ sent) before old new other new_other = Tells t.octets before old n
 
 -- ---- a packet
 
--- A packet with this transport unit; `since` TSDUs of the other side had passed before it.
+-- the reference of the packet that opens the connection
+abbrev pub named : Option ℕ → Move → Option ℕ
+named known (opens reference) = Some reference
+named known move = known
+
+abbrev pub named_behind : Direction → Stage → Option ℕ → List ℕ → Option ℕ
+named_behind d (stopped stop packet) known unit = known
+named_behind d stage known unit = named known (step_of d (is_open stage) (units_of unit))
+
+-- the packet that ended the TSDU at which a side broke the protocol; the last one while it keeps the protocol
+abbrev pub last_place : Finding → (at last : ℕ) → ℕ
+last_place Kept at last = at
+last_place finding at last = last
+
+abbrev pub last_behind : Finding → List Sent → ℕ → ℕ
+last_behind finding [] last = last
+last_behind finding (t ∷ sent) last = last_place finding t.last last
+
+-- A packet with this transport unit, before which so many TSDUs of the other side had passed.
 pub record TakesUnit (d : Direction) (unit : List ℕ) (since : ℕ) (old new : Lined) (side new_side other new_other : Watched) : Type 0 where
   pub at : new.at ≡ old.at
   pub stage : new.stage ≡ stage_behind d old.stage old.at unit
   pub begun_since : new.begun_since ≡ since_at old.stage old.begun_since since
+  pub packets : new.packets ≡ old.packets
+  pub reference : new.reference ≡ named_behind d old.stage old.reference unit
+  pub last : new.last ≡ last_behind side.finding (sent_by d old.stage old.at unit) old.last
   pub passes : Passes (sent_by d old.stage old.at unit) (since_at old.stage old.begun_since since) side new_side other new_other
 
 -- the current packet is complete, and passes
@@ -83,6 +125,10 @@ pub record TakesPacket (d : Direction) (unit : List ℕ) (since : ℕ) (old new 
   pub counted : new.line.since ≡ since
   pub stage : new.line.stage ≡ stage_behind d old.line.stage old.line.at unit
   pub begun_since : new.line.begun_since ≡ since_at old.line.stage old.line.begun_since since
+  pub octets : new.octets ≡ old.octets
+  pub packets : new.line.packets ≡ offset_of (old.line.packets + 1)
+  pub reference : new.line.reference ≡ named_behind d old.line.stage old.line.reference unit
+  pub last : new.line.last ≡ last_behind old.side.finding (sent_by d old.line.stage old.line.at unit) old.line.last
   pub passes : Passes (sent_by d old.line.stage old.line.at unit) (since_at old.line.stage old.line.begun_since since) old.side new.side other new_other
 
 -- The octets that are held of the current packet are looked at.
@@ -109,14 +155,18 @@ pub record IsWithin (held : List ℕ) (n : ℕ) : Type 0 where
   pub header : length held < 4 → length held + n ≤ 4
   pub packet : 4 ≤ length held → length held < stated_length held → length held + n ≤ stated_length held
 
+-- so many octets more have passed
+abbrev pub with_count : Tapped → ℕ → Tapped
+with_count t n = record t { octets = offset_of (t.octets + n) }
+
 abbrev pub with_octets : Tapped → List ℕ → Tapped
-with_octets t octets = record t { held = t.held ++ octets }
+with_octets t octets = record t { held = t.held ++ octets; octets = offset_of (t.octets + length octets) }
 
 -- Octets of a side pass.
 pub data Feeds (d : Direction) (octets : List ℕ) (old new : Tapped) (other new_other : Watched) : Type 0 where
   -- they are not looked at
-  ignored : (f : TpktFault) → old.fault ≡ Some f → new ≡ old → new_other ≡ other → Feeds d octets old new other new_other
-  -- they belong to the current packet
+  ignored : (f : TpktFault) → old.fault ≡ Some f → new ≡ with_count old (length octets) → new_other ≡ other → Feeds d octets old new other new_other
+  -- they belong to the packet under way
   looked_at : old.fault ≡ None → IsWithin old.held (length octets) → Settles d (since_of old) (with_octets old octets) new other new_other → Feeds d octets old new other new_other
 
 -- ---- where it is not read any further

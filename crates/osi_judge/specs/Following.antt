@@ -1,5 +1,5 @@
--- What is known of a judge after it was fed a capture.
-use Rattle.std.specs.Prelude.{◌≡◌, ◌≤◌, ◌<◌, ◌-◌, ℕ, List, [], ◌∷◌, ◌++◌, length, Bool, true, false, Option, Some, None}
+-- What is known of a judge that was fed a capture.
+use Rattle.std.specs.Prelude.{◌≡◌, ◌≤◌, ◌<◌, ◌+◌, ◌-◌, ℕ, List, [], ◌∷◌, ◌++◌, length, Bool, true, false, Option, Some, None}
 use Rattle.osi_tpkt.specs.Packet.{IsPartial, IsFaultOf}
 use Rattle.osi_tpkt.specs.Stream.{ArePackets, offset_of}
 use Rattle.osi_tpkt.specs.declared.faults.TpktFault.{TpktFault}
@@ -8,8 +8,8 @@ use Rattle.osi_judge.specs.declared.directions.Direction.TheVariants.{Left, Righ
 use Rattle.osi_judge.specs.declared.judge.Judge.{Judge}
 use Rattle.osi_judge.specs.declared.lines.Half.{Half}
 use Rattle.osi_judge.specs.Captures.{Capture, other, stream}
-use Rattle.osi_judge.specs.Transport.{Stage, opening, between, within, stopped, Sent, stage_from, sent_from}
-use Rattle.osi_judge.specs.Tapping.{begin_of, had_passed, heard, told}
+use Rattle.osi_judge.specs.Transport.{Stage, opening, between, within, stopped, begun, reference_in, Sent, stage_from, sent_from}
+use Rattle.osi_judge.specs.Tapping.{begin_of, had_passed, heard, told, IsPlace}
 use Rattle.osi_judge.specs.Feeding.{Tapped, tapped, has_broken}
 use Rattle.osi_judge.specs.Judging.{Watches}
 
@@ -74,6 +74,10 @@ pub record Follows (d : Direction) (capture : Capture) (t : Tapped) (mine others
   pub stage : t.line.stage ≡ shown (stage_from d opening 0 units)
   pub since : t.fault ≡ None → 0 < length rest → t.line.since ≡ had_passed d capture (length (stream d capture) - length rest) others
   pub begun : IsSince d capture others (stage_from d opening 0 units) t.line.begun_since
+  pub octets : t.octets ≡ offset_of (length (stream d capture))
+  pub counted : t.line.packets ≡ offset_of (length units)
+  pub reference : t.line.reference ≡ reference_in d units
+  pub place : IsPlace t.side.finding mine t.line.last
   pub begins : BeginBefore (length (stream d capture)) mine
   pub ends : EndBy (length (stream d capture)) mine
   pub begin : t.side.begin ≡ begin_of d
@@ -97,7 +101,18 @@ pub record BrokeFirst (d : Direction) (capture : Capture) : Type 0 where
   pub broke : has_broken (half_of d by_then) ≡ true
   pub kept : has_broken (half_of (other d) by_then) ≡ false
 
--- what is known of the first break
+-- what is known of the first break: neither side has broken the protocol, or this one had first, and has still
 abbrev pub FirstIs : Option Direction → Judged → Capture → Type 0
 FirstIs None j capture = (has_broken j.left ≡ false) × (has_broken j.right ≡ false)
-FirstIs (Some d) j capture = BrokeFirst d capture
+FirstIs (Some d) j capture = BrokeFirst d capture × (has_broken (half_of d j) ≡ true)
+
+-- ---- what is kept
+
+-- the octets of TSDUs, each with the seven that a packet and a DT begin with
+abbrev pub kept_in : List (List ℕ) → ℕ
+kept_in [] = 0
+kept_in (tsdu ∷ tsdus) = length tsdu + 7 + kept_in tsdus
+
+-- of the TSDUs of a side: those that the other side heard, and the octets of that under way
+abbrev pub kept_of : Direction → Judged → ℕ
+kept_of d j = kept_in (half_of (other d) j).side.heard + length (begun (half_of d j).line.stage)

@@ -1,5 +1,5 @@
--- What is known of a side after these TSDUs of both sides passed, and what was found of it.
-use Rattle.std.specs.Prelude.{◌≡◌, ◌<◌, ◌↔◌, ◌⊎◌, ◌++◌, ◌+◌, ℕ, Bool, true, false, List, [], ◌∷◌, length, take}
+-- What is known of a side of which so much was heard and told, and what is found of it.
+use Rattle.std.specs.Prelude.{◌≡◌, ◌<◌, ◌≤◌, ◌↔◌, ◌⊎◌, ◌++◌, ◌+◌, ℕ, Bool, true, false, List, [], ◌∷◌, length, take}
 use Rattle.osi_session.specs.Standing.{Seen}
 use Rattle.osi_judge.specs.declared.members.Member.{Member}
 use Rattle.osi_judge.specs.declared.findings.Finding.{Finding}
@@ -23,48 +23,65 @@ abbrev pub is_empty : List Member → Bool
 is_empty [] = true
 is_empty (m ∷ members) = false
 
--- whatever the other side sends later, the side is explained up to its i-th TSDU, and no further
+-- A side that said this, where the other side said that, kept the protocol: it is explained, and selects nothing that the
+-- profile leaves out.
+abbrev pub IsKept : Seen → List (List ℕ) → List Told → Type 0
+IsKept begin us told = IsExplained begin us told × (selects_outside us told ≡ false)
+
+-- it is not explained, or selects what the profile leaves out
+abbrev pub IsAstray : Seen → List (List ℕ) → List Told → Type 0
+IsAstray begin us told = (IsExplained begin us told → ⊥) ⊎ (selects_outside us told ≡ true)
+
+-- whatever the other side says later, the side kept the protocol up to its i-th TSDU, and is explained no further
 abbrev pub BrokeFor : Seen → List (List ℕ) → List Told → ℕ → Type 0
-BrokeFor begin heard told i = (i < length told) × ((us : List (List ℕ)) → Extends us heard → IsExplained begin us (take i told) × (IsExplained begin us (take (i + 1) told) → ⊥))
+BrokeFor begin heard told i = (i < length told)
+    × ((us : List (List ℕ)) → Extends us heard → IsKept begin us (take i told) × (IsExplained begin us (take (i + 1) told) → ⊥))
 
--- the i-th TSDU is an AC that selects functional units that the profile leaves out
-pub record SelectsOutside (heard : List (List ℕ)) (told : List Told) (i : ℕ) : Type 0 where
-  pub tsdu : Told
-  pub at : take (i + 1) told ≡ take i told ++ tsdu ∷ []
-  pub outside : selects_outside heard tsdu.octets ≡ true
-
--- whatever the other side sends later, the side is explained up to its i-th TSDU, with which it left the profile: it
--- is explained no further, or selects what the profile leaves out
+-- or it left the profile at its i-th TSDU
 abbrev pub LeftFor : Seen → List (List ℕ) → List Told → ℕ → Type 0
-LeftFor begin heard told i = (i < length told) × ((us : List (List ℕ)) → Extends us heard →
-    IsExplained begin us (take i told) × ((IsExplained begin us (take (i + 1) told) → ⊥) ⊎ SelectsOutside heard told i))
+LeftFor begin heard told i = (i < length told)
+    × ((us : List (List ℕ)) → Extends us heard → IsKept begin us (take i told) × IsAstray begin us (take (i + 1) told))
+
+-- or it kept the protocol up to its i-th TSDU and with it
+abbrev pub CrowdedFor : Seen → List (List ℕ) → List Told → ℕ → Type 0
+CrowdedFor begin heard told i = (i < length told)
+    × ((us : List (List ℕ)) → Extends us heard → IsKept begin us (take (i + 1) told))
 
 -- the members explain what is sent from here on exactly if the side is explained up to there
 abbrev pub AreAll : Seen → List (List ℕ) → ℕ → List Member → List Told → Type 0
 AreAll begin heard before members told = Ever heard before (λ us later. Explains us (remarks told ++ later) 0 begin ↔ SomeExplains us members later)
 
--- of a side that keeps the protocol: how many TSDUs it sent, and the sessions that explain them
+-- of a side that keeps the protocol: how many TSDUs it said, and sessions that explain them, at most 4,096
 pub record Keeps (w : Watched) (told : List Told) : Type 0 where
   pub count : w.told ≡ length told
   pub all : AreAll w.begin w.heard w.before w.members told
   pub some : is_empty w.members ≡ false
+  pub few : length w.members ≤ 4096
+  pub inside : (us : List (List ℕ)) → Extends us w.heard → selects_outside us told ≡ false
 
 -- This is what is known of a side that sent this, by what was found.
 abbrev pub WatchesBy : Finding → Watched → List Told → Type 0
 WatchesBy Kept w told = Keeps w told
 WatchesBy (Broke i) w told = BrokeFor w.begin w.heard told i
 WatchesBy (Left i) w told = LeftFor w.begin w.heard told i
-WatchesBy TooMany w told = Unit {0}
+WatchesBy TooMany w told = CrowdedFor w.begin w.heard told w.told
 
 abbrev pub Watches : Watched → List Told → Type 0
 Watches w told = WatchesBy w.finding w told
 
--- what was found of a side that sent this, if the other side sent that
+-- What is found once a side is told one TSDU more. A side that kept the protocol may break it or leave the profile at this TSDU
+-- alone; anything else that was found stays.
+abbrev pub FoundNext : Finding → (told : ℕ) → Finding → Type 0
+FoundNext Kept told (Broke i) = i ≡ told
+FoundNext Kept told (Left i) = i ≡ told
+FoundNext Kept told finding = Unit {0}
+FoundNext found told finding = finding ≡ found
+
+-- What is found of a side that said this where the other side said that.
 abbrev pub IsFound : Seen → List (List ℕ) → List Told → Finding → Type 0
-IsFound begin heard told Kept = IsExplained begin heard told
-IsFound begin heard told (Broke i) = IsBlamed begin heard told i
--- it left the profile with its i-th TSDU: those before it are explained, and those up to it are not, or it selects
--- what the profile leaves out
-IsFound begin heard told (Left i) = (i < length told) × IsExplained begin heard (take i told)
-    × ((IsExplained begin heard (take (i + 1) told) → ⊥) ⊎ SelectsOutside heard told i)
-IsFound begin heard told TooMany = Unit {0}
+IsFound begin heard told Kept = IsKept begin heard told
+IsFound begin heard told (Broke i) = IsBlamed begin heard told i × (selects_outside heard (take i told) ≡ false)
+-- it left the profile at its i-th TSDU, and kept the protocol up to there
+IsFound begin heard told (Left i) = (i < length told) × IsKept begin heard (take i told) × IsAstray begin heard (take (i + 1) told)
+-- it kept the protocol up to one of its TSDUs and with it, and then there were too many sessions that explain it
+IsFound begin heard told TooMany = (i : ℕ) × (i < length told) × IsKept begin heard (take (i + 1) told)

@@ -1,5 +1,5 @@
--- How a session continues by the TSDUs of the other side that it takes, without sending anything of its own.
-use Rattle.std.specs.Prelude.{◌≡◌, ◌<◌, ◌+◌, ◌⊎◌, ℕ, true, false, List, [], length, get_or, Option, Some, None}
+-- How a session goes on by what it takes of the other side, without a word of its own.
+use Rattle.std.specs.Prelude.{◌≡◌, ◌<◌, ◌+◌, ◌⊎◌, ◌++◌, ◌∷◌, ℕ, true, false, List, [], length, get_or, Option, Some, None}
 use Rattle.osi_session.specs.declared.reactions.Reply.{Reply}
 use Rattle.osi_session.specs.Steps.{reply_of}
 use Rattle.osi_session.specs.Standing.{Seen, Count, Takes, listens}
@@ -8,6 +8,9 @@ use Rattle.osi_judge.specs.declared.standings.Stands.{Stands}
 use Rattle.osi_judge.specs.declared.standings.Turn.{Turn}
 use Rattle.osi_judge.specs.declared.standings.Turn.TheVariants.{Goes, Stops}
 use Rattle.osi_session.specs.Steady.{Hears}
+use Rattle.osi_judge.specs.Explaining.{Told, remarks, Explains}
+use Rattle.osi_judge.specs.Judging.{Watched}
+use Rattle.osi_judge.specs.Walking.{Ever}
 
 -- it takes the next TSDU, and sends nothing
 pub record Quietly (us : List (List ℕ)) (m t : Member) : Type 0 where
@@ -46,3 +49,15 @@ standing_of s = record { taken = s.taken; standing = s.standing }
 pub record StandsBehind (us : List (List ℕ)) (m : Member) (s : Stands) : Type 0 where
   pub comes : Comes us m (standing_of s)
   pub ends : IsAtEnd us (standing_of s) s.owes
+
+-- one of these
+abbrev pub IsAmong : Member → List Member → Type 0
+IsAmong m [] = ⊥
+IsAmong m (n ∷ members) = (m ≡ n) ⊎ IsAmong m members
+
+-- How a side stands that said this and kept the protocol: by a session that said it all, so that whatever is explained from
+-- there on is explained for the side, and that took what it could of what was heard.
+pub record StandsFor (w : Watched) (told : List Told) (s : Stands) : Type 0 where
+  pub member : Member
+  pub has_said : Ever w.heard w.before (λ us later. Explains us later member.taken member.standing → Explains us (remarks told ++ later) 0 w.begin)
+  pub behind : StandsBehind w.heard member s

@@ -1,11 +1,12 @@
 -- An AC that selects functional units together that the profile leaves out.
-use Rattle.std.specs.Prelude.{ℕ, Bool, false, not, List, [], ◌∷◌, Option, Some, None, Result, Ok, Err}
+use Rattle.std.specs.Prelude.{ℕ, Bool, false, not, ◌&&◌, nat_lt, List, [], ◌∷◌, get_or, Option, Some, None, Result, Ok, Err}
 use Rattle.std.specs.Int.RustNames.{bit_and}
 use Rattle.osi_spdu.specs.declared.faults.SpduFault.{SpduFault}
 use Rattle.osi_message.specs.Meanings.{Meaning, CN, AC}
 use Rattle.osi_message.specs.Reading.{said_at}
 use Rattle.osi_message.specs.Words.{Words, as_message}
 use Rattle.osi_session.specs.Units.{is_profile}
+use Rattle.osi_judge.specs.Explaining.{Told}
 
 -- the functional units that a CN offers
 abbrev pub offered_in : Meaning → Option ℕ
@@ -28,7 +29,9 @@ abbrev pub is_outside : Option ℕ → Option ℕ → Bool
 is_outside (Some offered) (Some accepted) = not (is_profile (bit_and offered accepted))
 is_outside _ _ = false
 
--- an AC, after a CN that was the first TSDU of the other side
-abbrev pub selects_outside : List (List ℕ) → List ℕ → Bool
-selects_outside [] tsdu = false
-selects_outside (first ∷ heard) tsdu = is_outside (in_first offered_in (said_at first)) (in_first accepted_in (said_at tsdu))
+-- A side answers the CN, which is the first TSDU of the other side, by an AC as its own first TSDU, and selects what the
+-- profile leaves out.
+abbrev pub selects_outside : List (List ℕ) → List Told → Bool
+selects_outside us [] = false
+selects_outside us (t ∷ told) =
+    nat_lt 0 t.before && is_outside (in_first offered_in (said_at (get_or us 0 []))) (in_first accepted_in (said_at t.octets))

@@ -1,7 +1,7 @@
 -- Which findings and which stops are breaks of the protocol.
-use Rattle.std.specs.Prelude.{Bool, true, false, Option, Some, None}
+use Rattle.std.specs.Prelude.{ℕ, Bool, true, false, Option, Some, None}
 use Rattle.osi_judge.specs.declared.findings.Finding.{Finding}
-use Rattle.osi_judge.specs.declared.findings.Finding.TheVariants.{Broke, Left}
+use Rattle.osi_judge.specs.declared.findings.Finding.TheVariants.{Broke, Left, TooMany}
 use Rattle.osi_judge.specs.declared.stops.Stop.{Stop}
 use Rattle.osi_judge.specs.declared.stops.Stop.TheVariants.{NoOpening, OtherClass, Refused, MoreConnections, BadPacket, BadUnit, UnexpectedUnit, WrongForm, TsduTooLong}
 use Rattle.osi_judge.specs.declared.stops.Stopped.{Stopped}
@@ -26,3 +26,14 @@ abbrev pub broke_session : Finding → Bool
 broke_session (Broke i) = true
 broke_session (Left i) = true
 broke_session finding = false
+
+-- the TSDU at which a side broke the protocol, or left the profile
+abbrev pub place_of : Finding → Option ℕ
+place_of (Broke i) = Some i
+place_of (Left i) = Some i
+place_of finding = None
+
+-- there were not too many sessions that explain it
+abbrev pub is_judged : Finding → Bool
+is_judged TooMany = false
+is_judged finding = true

@@ -1,9 +1,11 @@
--- What is judged of a capture: each side by its TSDUs, and by those of the other side that had passed before them.
-use Rattle.std.specs.Prelude.{◌≡◌, ℕ, List, ◌++◌, length, map, filter, nat_le, Bool, true, false, ◌||◌, Option, Some, None}
+-- What is judged of a capture: each side by its TSDUs, and by those of the other that had passed before them.
+use Rattle.std.specs.Prelude.{◌≡◌, ℕ, ◌-◌, List, ◌++◌, length, map, filter, nat_le, Bool, true, false, ◌||◌, Option, Some, None, option_map}
 use Rattle.osi_session.specs.Standing.{Seen, seen_calling, seen_called}
 use Rattle.osi_judge.specs.declared.directions.Direction.{Direction}
 use Rattle.osi_judge.specs.declared.directions.Direction.TheVariants.{Left, Right}
 use Rattle.osi_judge.specs.declared.findings.Finding.{Finding}
+use Rattle.osi_judge.specs.declared.findings.Finding.TheVariants as outcome
+use Rattle.osi_judge.specs.declared.judge.Reading.{Reading}
 use Rattle.osi_tpkt.specs.Stream.{Cuts, Ending, offset_of}
 use Rattle.osi_tpkt.specs.Stream.Ending.{Faulty, Rest}
 use Rattle.osi_tpkt.specs.declared.faults.TpktFault.{TpktFault}
@@ -12,8 +14,12 @@ use Rattle.osi_judge.specs.declared.stops.Stop.TheVariants.{BadPacket}
 use Rattle.osi_judge.specs.declared.stops.Stopped.{Stopped as StoppedAt}
 use Rattle.osi_judge.specs.Stops.{breaks, broke_session}
 use Rattle.osi_judge.specs.Captures.{Capture, other, stream, passed_before}
-use Rattle.osi_judge.specs.Transport.{Stage, opening, stopped, Sent, stage_from, IsSent}
-use Rattle.osi_judge.specs.Explaining.{Told}
+use Rattle.osi_judge.specs.Transport.{Stage, opening, stopped, reference_in, Sent, packets_length, last_packet, stage_from, IsSent}
+use Rattle.osi_judge.specs.Explaining.{Told, remarks, Explains}
+use Rattle.osi_judge.specs.Walking.{Ever}
+use Rattle.osi_judge.specs.Onward.{StandsBehind}
+use Rattle.osi_judge.specs.declared.members.Member.{Member}
+use Rattle.osi_judge.specs.declared.standings.Stands.{Stands}
 use Rattle.osi_judge.specs.Judging.{IsFound}
 
 -- left calls
@@ -63,6 +69,54 @@ pub record IsStoppedIn (d : Direction) (capture : Capture) (result : Option Stop
   pub ending : Ending
   pub cut : Cuts (stream d capture) units ending
   pub stops : result ≡ stop_in (stage_from d opening 0 units) ending
+
+-- ---- what is told beside it
+
+-- what was read of a side of a capture: its whole packets, its octets, and those after the last whole packet
+pub record IsReadIn (d : Direction) (capture : Capture) (r : Reading) : Type 0 where
+  pub units : List (List ℕ)
+  pub ending : Ending
+  pub cut : Cuts (stream d capture) units ending
+  pub packets : r.packets ≡ offset_of (length units)
+  pub octets : r.octets ≡ offset_of (length (stream d capture))
+  pub rest : r.rest ≡ offset_of (length (stream d capture)) - offset_of (packets_length units)
+
+-- the reference that a side of a capture gave the connection
+pub record IsReferenceIn (d : Direction) (capture : Capture) (reference : Option ℕ) : Type 0 where
+  pub units : List (List ℕ)
+  pub ending : Ending
+  pub cut : Cuts (stream d capture) units ending
+  pub given : reference ≡ reference_in d units
+
+-- the packet in which the TSDU ended at which a side broke the protocol or left the profile
+abbrev pub IsPlace : Finding → List Sent → ℕ → Type 0
+IsPlace (outcome.Broke i) sent offset = Some offset ≡ option_map offset_of (last_packet sent i)
+IsPlace (outcome.Left i) sent offset = Some offset ≡ option_map offset_of (last_packet sent i)
+IsPlace found sent offset = Unit {0}
+
+pub record IsPlaceIn (d : Direction) (capture : Capture) (finding : Finding) (offset : ℕ) : Type 0 where
+  pub mine : List Sent
+  pub is_mine : IsSent d capture mine
+  pub place : IsPlace finding mine offset
+
+-- how many TSDUs a side of a capture sent
+pub record IsCountIn (d : Direction) (capture : Capture) (count : ℕ) : Type 0 where
+  pub mine : List Sent
+  pub is_mine : IsSent d capture mine
+  pub counted : count ≡ length mine
+
+-- How a side of a capture stands that kept the protocol: by a session that said all that the side sent, so that whatever is
+-- explained from there on is explained for the side, and that took what it could of what the other side sent.
+pub record IsStandingIn (d : Direction) (capture : Capture) (s : Stands) : Type 0 where
+  pub mine : List Sent
+  pub others : List Sent
+  pub is_mine : IsSent d capture mine
+  pub is_others : IsSent (other d) capture others
+  pub member : Member
+  pub before : ℕ
+  pub has_said : Ever (heard others) before (λ us later.
+      Explains us later member.taken member.standing → Explains us (remarks (told d capture mine others) ++ later) 0 (begin_of d))
+  pub behind : StandsBehind (heard others) member s
 
 -- ---- the first break
 

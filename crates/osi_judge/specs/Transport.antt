@@ -1,5 +1,6 @@
 -- The transport of one side in class 0 (X.224 sections 6.5 and 8): a CR of left or a CC of right, and then DTs.
-use Rattle.std.specs.Prelude.{◌≡◌, ℕ, ◌+◌, ◌==◌, Bool, true, false, List, [], ◌∷◌, ◌++◌, length, nat_lt, Result, Ok, Err, if◌then◌else◌}
+use Rattle.std.specs.Prelude.{◌≡◌, ℕ, zero, suc, ◌+◌, ◌==◌, Bool, true, false, List, [], ◌∷◌, ◌++◌, length, nat_lt, Option, Some, None}
+use Rattle.std.specs.Prelude.{Result, Ok, Err, if◌then◌else◌}
 use Rattle.osi_tpkt.specs.Stream.{Cuts, Ending}
 use Rattle.osi_tpdu.specs.Value.{Value, request, confirm, disconnect, data0}
 use Rattle.osi_tpdu.specs.Packet.{units_of}
@@ -49,7 +50,16 @@ step_of d is_open (Ok []) = stops UnexpectedUnit
 step_of d false (Ok (v ∷ vs)) = first_step d v
 step_of d true (Ok (v ∷ vs)) = next_step v
 
--- ---- the state of a side's transport between two packets
+abbrev pub given_by : Move → Option ℕ
+given_by (opens reference) = Some reference
+given_by move = None
+
+-- the reference that a side gave the connection: that of its CR or CC, its first packet
+abbrev pub reference_in : Direction → List (List ℕ) → Option ℕ
+reference_in d [] = None
+reference_in d (u ∷ us) = given_by (step_of d false (units_of u))
+
+-- ---- how a side stands between two packets
 
 pub data Stage : Type 0 where
   -- its CR or CC has not passed yet
@@ -126,6 +136,17 @@ stage_from d stage at (u ∷ us) = stage_from d (stage_behind d stage at u) (at 
 abbrev pub sent_from : Direction → Stage → ℕ → List (List ℕ) → List Sent
 sent_from d stage at [] = []
 sent_from d stage at (u ∷ us) = sent_by d stage at u ++ sent_from d (stage_behind d stage at u) (at + packet_length u) us
+
+-- how many octets packets with these units have
+abbrev pub packets_length : List (List ℕ) → ℕ
+packets_length [] = 0
+packets_length (u ∷ us) = packet_length u + packets_length us
+
+-- the packet in which the TSDU ended that has this place among those of a side, counted from 0
+abbrev pub last_packet : List Sent → ℕ → Option ℕ
+last_packet [] i = None
+last_packet (t ∷ sent) zero = Some t.last
+last_packet (t ∷ sent) (suc i) = last_packet sent i
 
 -- the TSDUs of a side of a capture
 abbrev pub IsSent : Direction → Capture → List Sent → Type 0

@@ -1,11 +1,11 @@
 //! A capture of one connection of class 0, judged while it passes.
 
-ghost use Rattle.std.specs.Prelude.{◌≡◌, ◌≤◌, ◌<◌, ◌++◌, [], None, IfOk, OnOk, OnErr, length, take};
+ghost use Rattle.std.specs.Prelude.{◌≡◌, ◌≤◌, ◌<◌, ◌++◌, [], None, true, IfOk, OnOk, OnErr, length, take};
 ghost use Rattle.osi_judge.specs.Captures.{Capture, other, piece};
-ghost use Rattle.osi_judge.specs.Feeding.{tapped, has_broken};
+ghost use Rattle.osi_judge.specs.Feeding.{tapped, reading_of, has_broken, stopped_of};
 ghost use Rattle.osi_judge.specs.Following.{judged, both, half_of, first_in, first_after, Taps, FirstIs};
 ghost use Rattle.osi_judge.specs.Sides.{watched};
-ghost use Rattle.osi_judge.specs.Tapping.{IsFoundIn, IsStoppedIn, IsFirstIn};
+ghost use Rattle.osi_judge.specs.Tapping.{IsFoundIn, IsStoppedIn, IsReadIn, IsReferenceIn, IsPlaceIn, IsFirstIn};
 
 use crate::directions::Direction;
 use crate::findings::Finding;
@@ -50,6 +50,7 @@ fn feed_left(left: &mut Half, right: &mut Half, octets: &[u8]) -> Result<usize, 
     ensures some { IfOk result (λ n. 0 < length octets.now → 0 < n) }
     ensures taps { IfOk result (λ n. (capture : Capture) → Taps (both left.old right.old) capture → Taps (both left.new right.new) (capture ++ piece Direction.Left (take n octets.now))) }
     ensures beside { OnOk result (has_broken (tapped right.new) ≡ has_broken (tapped right.old)) }
+    ensures still { OnOk result (has_broken (tapped left.old) ≡ true → has_broken (tapped left.new) ≡ true) }
     ensures err { OnErr result (both left.new right.new ≡ both left.old right.old) }
 {
     let used = feed(Direction::Left, left, &mut right.side, octets)?;
@@ -62,6 +63,7 @@ fn feed_right(left: &mut Half, right: &mut Half, octets: &[u8]) -> Result<usize,
     ensures some { IfOk result (λ n. 0 < length octets.now → 0 < n) }
     ensures taps { IfOk result (λ n. (capture : Capture) → Taps (both left.old right.old) capture → Taps (both left.new right.new) (capture ++ piece Direction.Right (take n octets.now))) }
     ensures beside { OnOk result (has_broken (tapped left.new) ≡ has_broken (tapped left.old)) }
+    ensures still { OnOk result (has_broken (tapped right.old) ≡ true → has_broken (tapped right.new) ≡ true) }
     ensures err { OnErr result (both left.new right.new ≡ both left.old right.old) }
 {
     let used = feed(Direction::Right, right, &mut left.side, octets)?;
@@ -104,6 +106,7 @@ impl Judge {
         ensures some { IfOk result (λ n. 0 < length octets.now → 0 < n) }
         ensures taps { IfOk result (λ n. (capture : Capture) → Taps (judged self.old) capture → Taps (judged self.new) (capture ++ piece direction (take n octets.now))) }
         ensures beside { OnOk result (has_broken (half_of (other direction) (judged self.new)) ≡ has_broken (half_of (other direction) (judged self.old))) }
+        ensures still { OnOk result (has_broken (half_of direction (judged self.old)) ≡ true → has_broken (half_of direction (judged self.new)) ≡ true) }
         ensures first { first_in self.new ≡ first_in self.old }
         ensures err { OnErr result (judged self.new ≡ judged self.old) }
     {
@@ -123,7 +126,10 @@ impl Judge {
     }
 
     /// What was read of a direction.
-    pub fn reading(&self, direction: Direction) -> Reading {
+    pub fn reading(&self, direction: Direction) -> Reading
+        ensures value { result ≡ reading_of (half_of direction (judged self.now)) }
+        ensures read { (capture : Capture) → Taps (judged self.now) capture → IsReadIn direction capture result }
+    {
         let half = self.half(direction);
         Reading {
             packets: half.line.packets,
@@ -133,7 +139,10 @@ impl Judge {
     }
 
     /// The reference that a side gave the connection, in its CR or CC.
-    pub fn reference(&self, direction: Direction) -> Option<u16> {
+    pub fn reference(&self, direction: Direction) -> Option<u16>
+        ensures value { result ≡ (half_of direction (judged self.now)).line.reference }
+        ensures given { (capture : Capture) → Taps (judged self.now) capture → IsReferenceIn direction capture result }
+    {
         self.half(direction).line.reference
     }
 
@@ -146,26 +155,34 @@ impl Judge {
 
     /// What was found of a side, from everything that was fed.
     pub fn finding(&self, direction: Direction) -> Finding
-        ensures { (capture : Capture) → Taps (judged self.now) capture → IsFoundIn direction capture result }
+        ensures value { result ≡ (half_of direction (judged self.now)).side.finding }
+        ensures found { (capture : Capture) → Taps (judged self.now) capture → IsFoundIn direction capture result }
     {
         self.side(direction).finding()
     }
 
-    /// The point at which the session of a side broke the protocol: the offset of the last packet of that TSDU.
-    pub fn offset(&self, direction: Direction) -> u64 {
+    /// Where the session of a side broke the protocol or left the profile: the offset of the packet in which that
+    /// TSDU ended. Of a side that did neither it says nothing.
+    pub fn offset(&self, direction: Direction) -> u64
+        ensures value { result ≡ (half_of direction (judged self.now)).line.last }
+        ensures place { (capture : Capture) → Taps (judged self.now) capture
+            → IsPlaceIn direction capture (half_of direction (judged self.now)).side.finding result }
+    {
         self.half(direction).line.last
     }
 
     /// Why and where the transport of a side is not read any further; `None` if it is.
     pub fn stopped(&self, direction: Direction) -> Option<Stopped>
-        ensures { (capture : Capture) → Taps (judged self.now) capture → IsStoppedIn direction capture result }
+        ensures value { result ≡ stopped_of (half_of direction (judged self.now)) }
+        ensures stopped { (capture : Capture) → Taps (judged self.now) capture → IsStoppedIn direction capture result }
     {
         self.half(direction).stopped()
     }
 
     /// The side whose break, of session or of transport, passed first.
     pub fn first(&self) -> Option<Direction>
-        ensures { (capture : Capture) → Taps (judged self.now) capture → FirstIs (first_in self.now) (judged self.now) capture → IsFirstIn capture result }
+        ensures value { result ≡ first_in self.now }
+        ensures first { (capture : Capture) → Taps (judged self.now) capture → FirstIs (first_in self.now) (judged self.now) capture → IsFirstIn capture result }
     {
         self.first
     }

@@ -5,7 +5,8 @@ ghost use Rattle.osi_tpkt.specs.Packet.{stated_length};
 ghost use Rattle.osi_tpkt.specs.Stream.{offset_of};
 ghost use Rattle.osi_judge.specs.Sides.{watched};
 ghost use Rattle.osi_judge.specs.Transport.{opening, between, stopped, is_open, begun, first_of, added, moved, adds, brought};
-ghost use Rattle.osi_judge.specs.Feeding.{stage_in, lined, tapped, since_at, since_in, Tells, hears, Passes, TakesUnit, Settles, Feeds, placed, stopped_packet, stopped_of, has_broken};
+ghost use Rattle.osi_judge.specs.Feeding.{stage_in, lined, tapped, since_at, since_in, last_place, last_behind, Tells, hears, Passes};
+ghost use Rattle.osi_judge.specs.Feeding.{TakesUnit, Settles, Feeds, placed, stopped_packet, stopped_of, has_broken};
 
 use crate::directions::Direction;
 use crate::findings::Finding;
@@ -92,7 +93,7 @@ impl Progress {
 
 impl Line {
     fn new(alloc: Global) -> Line
-        ensures { lined result ≡ record { at = 0; since = 0; stage = opening; begun_since = 0 } }
+        ensures { lined result ≡ record { at = 0; since = 0; stage = opening; begun_since = 0; packets = 0; reference = None; last = 0 } }
     {
         Line {
             packets: 0,
@@ -201,9 +202,10 @@ fn add_part(line: &mut Line, octets: &[u8], since: usize) -> Result<(), AllocErr
     Ok(())
 }
 
-/// The packet that ended the TSDU with which a side broke the protocol; the last packet as long as the side keeps the
-/// protocol.
-fn last_place(finding: Finding, at: u64, last: u64) -> u64 {
+/// The packet that ended the TSDU at which a side broke the protocol, or the last while it keeps it.
+fn last_place(finding: Finding, at: u64, last: u64) -> u64
+    ensures { result ≡ last_place finding at last }
+{
     match finding {
         Finding::Kept => at,
         Finding::Broke(_) => last,
@@ -221,7 +223,7 @@ fn end_part(
     since: usize,
 ) -> Result<(), AllocError>
     requires { line.old.begun.items ≡ begun (lined line.old).stage }
-    ensures line { OnOk result (lined line.new ≡ record (lined line.old) { stage = between; begun_since = since }) }
+    ensures line { OnOk result (lined line.new ≡ record (lined line.old) { stage = between; begun_since = since; last = last_place (watched side.old).finding (lined line.old).at (lined line.old).last }) }
     ensures tells { OnOk result (Tells (begun (lined line.old).stage ++ octets.now) since (watched side.old) (watched side.new)) }
     ensures hears { OnOk result (watched other.new ≡ hears (watched other.old) (begun (lined line.old).stage ++ octets.now)) }
     ensures err { OnErr result ((lined line.new ≡ lined line.old) × (watched side.new ≡ watched side.old) × (watched other.new ≡ watched other.old)) }
@@ -252,7 +254,11 @@ fn add(
     octets: &[u8],
     since: usize,
 ) -> Result<(), AllocError>
-    ensures line { OnOk result (lined line.new ≡ record (lined line.old) { stage = moved (lined line.old).stage (lined line.old).at (adds end octets.now); begun_since = since }) }
+    ensures line { (unit : List ℕ) → OnOk result (lined line.new ≡ record (lined line.old) {
+      stage = moved (lined line.old).stage (lined line.old).at (adds end octets.now);
+      begun_since = since;
+      last = last_behind (watched side.old).finding (brought (lined line.old).stage (lined line.old).at unit (adds end octets.now)) (lined line.old).last;
+    }) }
     ensures passes { (unit : List ℕ) → OnOk result (Passes (brought (lined line.old).stage (lined line.old).at unit (adds end octets.now)) since (watched side.old) (watched side.new) (watched other.old) (watched other.new)) }
     ensures err { OnErr result ((lined line.new ≡ lined line.old) × (watched side.new ≡ watched side.old) × (watched other.new ≡ watched other.old)) }
 {
@@ -342,7 +348,13 @@ fn settle(
 impl Half {
     /// Nothing has passed.
     pub(crate) fn new(alloc: Global, side: Side) -> Half
-        ensures { tapped result ≡ record { held = []; fault = None; line = record { at = 0; since = 0; stage = opening; begun_since = 0 }; side = watched side } }
+        ensures { tapped result ≡ record {
+          held = [];
+          octets = 0;
+          fault = None;
+          line = record { at = 0; since = 0; stage = opening; begun_since = 0; packets = 0; reference = None; last = 0 };
+          side = watched side;
+        } }
     {
         Half {
             held: Vec::new(alloc),
@@ -379,7 +391,14 @@ impl Half {
 
     /// The packet that was held is done; `since` TSDUs of the other side had passed before it.
     fn advance(&mut self, since: usize)
-        ensures { tapped self.new ≡ record (tapped self.old) { held = []; line = record (tapped self.old).line { at = offset_of ((tapped self.old).line.at + length (tapped self.old).held); since = since } } }
+        ensures { tapped self.new ≡ record (tapped self.old) {
+          held = [];
+          line = record (tapped self.old).line {
+            packets = offset_of ((tapped self.old).line.packets + 1);
+            at = offset_of ((tapped self.old).line.at + length (tapped self.old).held);
+            since = since;
+          };
+        } }
     {
         self.line.packets = self.line.packets.saturating_add(1);
         self.line.at = self.line.at.saturating_add(self.held.len() as u64);
@@ -405,16 +424,16 @@ pub(crate) fn feed(
         return Ok(piece.len());
     }
     let held = half.held.len();
+    let octets = half.octets;
     let used = wanted(half.held.as_slice()).min(piece.len());
     let since = since_packet(half.held.as_slice(), half.side.heard(), half.line.since);
     half.held.extend_from_slice(&piece[..used])?;
+    half.octets = octets.saturating_add(used as u64);
     match settle(direction, half, other, since) {
-        Ok(()) => {
-            half.octets = half.octets.saturating_add(used as u64);
-            Ok(used)
-        }
+        Ok(()) => Ok(used),
         Err(refused) => {
             half.held.truncate(held);
+            half.octets = octets;
             Err(refused)
         }
     }

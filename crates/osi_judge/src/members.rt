@@ -15,19 +15,39 @@ pub(crate) struct Member {
     pub(crate) standing: Standing,
 }
 
-/// Whether a member is in the list.
+/// How many of the last members are searched for one that is there already. Equal ones stand near each
+/// other: members come in the order in which they took the TSDUs.
+const NEAR: usize = 256;
+
+/// Whether two members are one. Most of those at one place differ in V(A), so that is looked at first.
+fn is_same_member(one: &Member, other: &Member) -> bool
+    ensures { result ≡ true → (one.now.taken ≡ other.now.taken) × (one.now.standing ≡ other.now.standing) }
+{
+    if one.taken != other.taken {
+        return false;
+    }
+    if one.standing.numbers().confirmed != other.standing.numbers().confirmed {
+        return false;
+    }
+    one.standing.is_same(&other.standing)
+}
+
+/// Whether it is one of the last of these.
 fn is_among(members: &[Member], member: &Member) -> bool
     ensures { (us : List (List ℕ)) (later : List Remark) → result ≡ true → Explains us later member.now.taken member.now.standing → SomeExplains us members.now later }
 {
-    'members: for other in members {
-        if other.taken == member.taken && other.standing.is_same(&member.standing) {
+    let first = members.len().saturating_sub(NEAR);
+    let mut at = members.len();
+    'members: while first < at {
+        at -= 1;
+        if is_same_member(&members[at], member) {
             return true;
         }
     }
     false
 }
 
-/// Adds a member, unless it is in the list already.
+/// Adds one, unless it is there already, among the last.
 pub(crate) fn add(members: &mut Vec<Member>, member: Member) -> Result<(), AllocError>
     ensures { OnOk result ((us : List (List ℕ)) (later : List Remark) →
         (SomeExplains us members.old.items later ⊎ Explains us later member.taken member.standing) ↔ SomeExplains us members.new.items later) }

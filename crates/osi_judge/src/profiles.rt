@@ -1,6 +1,6 @@
 //! What X.225 allows and the profile of this library leaves out.
 
-ghost use Rattle.std.specs.Prelude.{◌≡◌, option_map};
+ghost use Rattle.std.specs.Prelude.{◌≡◌, ◌≤◌, ◌∷◌, [], length, option_map};
 ghost use Rattle.osi_message.specs.Meanings.{meant_by};
 ghost use Rattle.osi_message.specs.Reading.{said_at, word};
 ghost use Rattle.osi_message.specs.Words.{as_message};
@@ -8,6 +8,7 @@ ghost use Rattle.osi_spdu.specs.Fields.{unit_bits};
 ghost use Rattle.osi_spdu.specs.Units.{said_by};
 ghost use Rattle.osi_judge.specs.Profiles.{offered_in, accepted_in, in_first, is_outside, selects_outside};
 
+use crate::first_places::tsdu_at;
 use crate::rules::{Break, Rule};
 use bitflags::Flags;
 use osi_message::{Message, Octets};
@@ -84,15 +85,17 @@ fn is_outside(offered: Option<Requirements>, accepted: Option<Requirements>) -> 
     }
 }
 
-/// Whether an AC selects functional units that the profile leaves out. It answers the first TSDU of the other side, a
-/// CN.
-pub(crate) fn selects_outside(heard: &[Octets], tsdu: &[u8]) -> bool
-    ensures { result ≡ selects_outside heard.now tsdu.now }
+/// Whether the first TSDU of a side is an AC that selects functional units that are not selected here: it
+/// answers a CN, the first TSDU that was heard.
+pub(crate) fn selects_outside(heard: &[Octets], tsdu: &[u8], before: usize) -> bool
+    requires { before ≤ length heard.now }
+    ensures { result ≡ selects_outside heard.now (record { octets = tsdu.now; before = before } ∷ []) }
 {
-    match heard.first() {
-        Some(first) => is_outside(offered(first.as_slice()), accepted(tsdu)),
-        None => false,
+    if before == 0 {
+        return false;
     }
+    let connect = tsdu_at(heard, 0);
+    is_outside(offered(connect), accepted(tsdu))
 }
 
 /// Whether the unit that begins here in a TSDU is one that the profile leaves out: PREPARE, or connect data that

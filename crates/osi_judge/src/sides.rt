@@ -1,10 +1,12 @@
 //! One side of a connection, judged by what it sent and by what it may have taken.
 
-ghost use Rattle.std.specs.Prelude.{◌≡◌, ◌<◌, ◌≤◌, ◌⊎◌, ◌++◌, ◌∷◌, [], Err, IfOk, OnOk, OnErr, List, length, take};
+ghost use Rattle.std.specs.Prelude.{◌≡◌, ◌<◌, ◌≤◌, ◌⊎◌, ◌++◌, ◌∷◌, ◌+◌, [], false, Err, IfOk, OnOk, OnErr, List, length, take};
 ghost use Rattle.osi_session.specs.Standing.{seen_called, seen_calling};
 ghost use Rattle.osi_judge.specs.Explaining.{Told};
-ghost use Rattle.osi_judge.specs.Judging.{Watches, Keeps, IsFound};
-ghost use Rattle.osi_judge.specs.Sides.{watched, EndsAt};
+ghost use Rattle.osi_judge.specs.Judging.{Watches, Keeps, IsFound, FoundNext};
+ghost use Rattle.osi_judge.specs.Onward.{StandsFor};
+ghost use Rattle.osi_judge.specs.Profiles.{selects_outside};
+ghost use Rattle.osi_judge.specs.Sides.{watched, blame_of, EndsAt};
 
 use crate::findings::Finding;
 use crate::members::{Member, none_is_left};
@@ -119,6 +121,7 @@ impl Side {
     pub fn tell(&mut self, tsdu: &[u8], before: usize) -> Result<(), TellError>
         ensures others { OnOk result (((watched self.new).begin ≡ (watched self.old).begin) × ((watched self.new).heard ≡ (watched self.old).heard)) }
         ensures order { OnOk result ((watched self.new).before ≤ before) }
+        ensures finding { OnOk result (FoundNext (watched self.old).finding (watched self.old).told (watched self.new).finding) }
         ensures watches { OnOk result ((told : List Told) → Watches (watched self.old) told → Watches (watched self.new) (told ++ record { octets = tsdu.now; before = before } ∷ [])) }
         ensures in_order { OnOk result (((watched self.old).before ≤ before) × (before ≤ length (watched self.old).heard)) }
         ensures out_of_order { result ≡ Err TellError.OutOfOrder → (before < (watched self.old).before) ⊎ (length (watched self.old).heard < before) }
@@ -142,6 +145,7 @@ impl Side {
         requires passed { before ≤ length (watched self.old).heard }
         ensures others { OnOk result (((watched self.new).begin ≡ (watched self.old).begin) × ((watched self.new).heard ≡ (watched self.old).heard)) }
         ensures order { OnOk result ((watched self.new).before ≤ before) }
+        ensures finding { OnOk result (FoundNext (watched self.old).finding (watched self.old).told (watched self.new).finding) }
         ensures watches { OnOk result ((told : List Told) → Watches (watched self.old) told → Watches (watched self.new) (told ++ record { octets = tsdu.now; before = before } ∷ [])) }
         ensures err { OnErr result (watched self.new ≡ watched self.old) }
     {
@@ -160,6 +164,7 @@ impl Side {
         requires passed { before ≤ length (watched self.old).heard }
         ensures others { OnOk result (((watched self.new).begin ≡ (watched self.old).begin) × ((watched self.new).heard ≡ (watched self.old).heard)) }
         ensures order { OnOk result ((watched self.new).before ≤ before) }
+        ensures finding { OnOk result (FoundNext (watched self.old).finding (watched self.old).told (watched self.new).finding) }
         ensures watches { OnOk result ((told : List Told) → Keeps (watched self.old) told → Watches (watched self.new) (told ++ record { octets = tsdu.now; before = before } ∷ [])) }
         ensures err { OnErr result (watched self.new ≡ watched self.old) }
     {
@@ -167,11 +172,11 @@ impl Side {
         if none_is_left(members.as_slice()) {
             return self.end(tsdu, before);
         }
-        if selects_outside(&self.heard, tsdu) {
+        if self.opens_outside(tsdu, before) {
             self.leave(before);
             return Ok(());
         }
-        if members.len() > MOST_MEMBERS || self.told == usize::MAX {
+        if self.is_crowd(members.as_slice()) {
             self.finding = Finding::TooMany;
             return Ok(());
         }
@@ -181,7 +186,28 @@ impl Side {
         Ok(())
     }
 
-    /// A TSDU of this side that no session sends.
+    /// Whether these are more sessions than are kept, or TSDUs are no more to be counted.
+    fn is_crowd(&self, members: &[Member]) -> bool
+        ensures few { result ≡ false → length members.now ≤ 4096 }
+        ensures counted { result ≡ false → (watched self.now).told + 1 < 18446744073709551616 }
+    {
+        members.len() > MOST_MEMBERS || self.told == usize::MAX
+    }
+
+    /// Whether a TSDU of this side is its first, and selects what is not selected here.
+    fn opens_outside(&self, tsdu: &[u8], before: usize) -> bool
+        requires { before ≤ length (watched self.now).heard }
+        ensures first { (watched self.now).told ≡ 0
+            → result ≡ selects_outside (watched self.now).heard (record { octets = tsdu.now; before = before } ∷ []) }
+        ensures later { 0 < (watched self.now).told → result ≡ false }
+    {
+        if self.told > 0 {
+            return false;
+        }
+        selects_outside(&self.heard, tsdu, before)
+    }
+
+    /// A TSDU of this side that no session says.
     fn end(&mut self, tsdu: &[u8], before: usize) -> Result<(), AllocError>
         requires { before ≤ length (watched self.old).heard }
         ensures ends { OnOk result (EndsAt (watched self.old) (watched self.new)) }
@@ -222,19 +248,26 @@ impl Side {
 
     /// The rule by which the side broke the protocol, or left the profile. It has no meaning for a side that did
     /// neither.
-    pub fn by(&self) -> Break {
+    pub fn by(&self) -> Break
+        ensures { result ≡ blame_of self.now }
+    {
         self.by
     }
 
-    /// How many TSDUs it sent before its break, or in all.
-    pub fn told(&self) -> usize {
+    /// How many TSDUs it said before its break, or in all.
+    pub fn told(&self) -> usize
+        ensures value { result ≡ (watched self.now).told }
+        ensures kept { (told : List Told) → Watches (watched self.now) told → (watched self.now).finding ≡ Finding.Kept → result ≡ length told }
+    {
         self.told
     }
 
-    /// The state of a side that kept the protocol, or that it had before its break: by the session that explains it
-    /// and has taken most TSDUs; of these the one with the highest V(A), and then with the answer flag on. That
-    /// session has taken what it can.
-    pub fn stands(&self) -> Result<Stands, AllocError> {
+    /// How the side stands that kept the protocol, or kept it before its break: by the session that explains
+    /// it and has taken most, of these the one with the highest V(A), then with the flag on, which takes
+    /// what it can.
+    pub fn stands(&self) -> Result<Stands, AllocError>
+        ensures { IfOk result (λ s. (told : List Told) → Keeps (watched self.now) told → StandsFor (watched self.now) told s) }
+    {
         stands_behind(self.alloc, &self.heard, foremost(&self.members))
     }
 

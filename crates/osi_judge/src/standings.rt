@@ -1,7 +1,8 @@
 //! The state of a side that kept the protocol.
 
-ghost use Rattle.std.specs.Prelude.{◌≡◌, ◌<◌, length, IfOk};
-ghost use Rattle.osi_judge.specs.Onward.{GoesOn, StandsBehind};
+ghost use Rattle.std.specs.Prelude.{◌≡◌, ◌<◌, ◌⊎◌, false, length, IfOk};
+ghost use Rattle.osi_judge.specs.Judging.{is_empty};
+ghost use Rattle.osi_judge.specs.Onward.{IsAmong, GoesOn, StandsBehind};
 
 use crate::first_places::tsdu_at;
 use crate::members::Member;
@@ -39,20 +40,32 @@ pub(crate) fn is_before(one: &Member, other: &Member) -> bool {
     is_ahead(&one.standing, &other.standing)
 }
 
-/// The member that comes before all others: it has taken most TSDUs, and of these it has the highest V(A), and then
-/// the answer flag on.
-pub(crate) fn foremost(members: &[Member]) -> Member {
+/// The member that comes before all others: it has taken most, and of these it has the highest V(A), then
+/// the flag on.
+pub(crate) fn foremost(members: &[Member]) -> Member
+    ensures { is_empty members.now ≡ false → IsAmong result members.now }
+{
     let mut best = first_of(members);
     'members: for member in members {
-        if is_before(member, &best) {
-            best = *member;
-        }
+        best = before_of(best, member);
     }
     best
 }
 
-/// The first member; if there is none, a session that has just begun.
-pub(crate) fn first_of(members: &[Member]) -> Member {
+/// The one of two members that comes before the other; the first where neither does.
+fn before_of(best: Member, member: &Member) -> Member
+    ensures { (result ≡ best) ⊎ (result ≡ member.now) }
+{
+    if is_before(member, &best) {
+        return *member;
+    }
+    best
+}
+
+/// The first member; where there is none, a session that has just begun.
+pub(crate) fn first_of(members: &[Member]) -> Member
+    ensures { is_empty members.now ≡ false → IsAmong result members.now }
+{
     match members.first() {
         Some(member) => *member,
         None => Member {

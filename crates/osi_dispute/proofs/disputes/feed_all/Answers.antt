@@ -1,6 +1,6 @@
 use Rattle.std.proofs.Common.{List, ℕ, sym, subst, take, ◌≡◌, []}
 use Rattle.osi_judge.specs.Captures.{piece}
-use Rattle.osi_dispute.proofs.Feeds.{Passes, IsFed, passes_as, fed_more, fed_all, empty_yes, empty_not}
+use Rattle.osi_dispute.proofs.what_is_fed_piece_by_piece_passes_whole.{Passes, IsFed, passes_as, fed_none, fed_more, fed_all, empty_yes, empty_not}
 use Rattle.osi_dispute.proofs.disputes.feed_all.Goals as goal
 
 pub rest-preserved : goal.rest-preserved
@@ -18,3 +18,6 @@ pub returns : goal.returns
 returns c =
     let none : c.rest.rest.now ≡ [] = search (empty_yes, empty_not, c.is_empty.ensures, c.rest-test.false) in
     fed_all c.args.direction c.args.judge.now c.rest.judge c.args.octets.now c.rest.rest.now none c.rest.invariant
+
+pub rest-init : goal.rest-init
+rest-init c = fed_none c.args.direction c.args.judge.now c.args.octets.now

@@ -1,6 +1,6 @@
 use Rattle.std.proofs.Common.{length}
 use Rattle.osi_dispute.specs.Reading.{rows_left}
-use Rattle.osi_dispute.proofs.Feeds.{AreFed}
+use Rattle.osi_dispute.proofs.what_is_fed_piece_by_piece_passes_whole.{AreFed}
 use Rattle.osi_dispute.proofs.disputes.feed_pieces.Given as goal
 
 abbrev pub invariant-pieces : goal.invariant-pieces

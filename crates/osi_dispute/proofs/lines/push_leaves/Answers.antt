@@ -1,6 +1,6 @@
 use Rattle.std.proofs.Common.{refl, codes}
 use Rattle.osi_dispute.specs.Lines.{place_text, outside_text, leaves_line}
-use Rattle.osi_dispute.proofs.Appends.{on_ok_more}
+use Rattle.osi_dispute.proofs.text_added_in_two_parts_is_added_whole.{on_ok_more}
 use Rattle.osi_dispute.proofs.lines.push_leaves.Goals as goal
 
 pub returns : goal.returns

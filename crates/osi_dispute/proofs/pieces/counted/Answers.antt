@@ -1,5 +1,5 @@
 use Rattle.std.proofs.Common.{◌∙◌, sym}
-use Rattle.osi_dispute.proofs.Digits.{at_blank, at_digit}
+use Rattle.osi_dispute.proofs.digits_are_counted_one_by_one.{at_blank, at_digit}
 use Rattle.osi_dispute.proofs.pieces.counted.Goals as goal
 
 pub returns-then-is_blank_octet-clause-left : goal.returns-then-is_blank_octet-clause-left

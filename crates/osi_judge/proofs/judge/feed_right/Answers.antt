@@ -5,6 +5,7 @@ use Rattle.osi_judge.specs.Following.{both}
 use Rattle.osi_judge.specs.declared.directions.Direction.TheVariants.{Right}
 use Rattle.osi_judge.proofs.FirstLaws.{broken_beside}
 use Rattle.osi_judge.proofs.FollowLaws.{fed_right}
+use Rattle.osi_judge.proofs.what_was_broken_stays_broken.{broken_still}
 use Rattle.osi_judge.proofs.judge.feed_right.Goals as goal
 
 pub returns-clause-taps : goal.returns-clause-taps
@@ -14,3 +15,7 @@ returns-clause-taps c = λ capture t.
 pub returns-clause-beside : goal.returns-clause-beside
 returns-clause-beside c =
     broken_beside Right (take c.in_ok-used.used c.args.octets.now) (tapped c.args.right.now) (tapped c.feed.new.half) (tapped c.args.left.now) (watched c.feed.new.other) c.in_ok-used.ensures.feeds
+
+pub returns-clause-still : goal.returns-clause-still
+returns-clause-still c =
+    broken_still Right (take c.in_ok-used.used c.args.octets.now) (tapped c.args.right.now) (tapped c.feed.new.half) (watched c.args.left.now.side) (watched c.feed.new.other) c.in_ok-used.ensures.feeds

@@ -21,6 +21,6 @@ returns-in_ok-take_unit-in-Ok-Some-clause-ok c =
     let n = c.in-Ok-Some.found.1 in
     let packet = subst (λ (u : List ℕ). IsPacket u (take n c.as_slice.result.now)) (sym c.unit-unit.ensures.value) found.spelled in
     settled_whole c.args.direction c.unit-unit.result.now c.args.since n (tapped half)
-    (record { held = half.held.items; fault = half.fault; line = lined c.take_unit.new.line; side = watched c.take_unit.new.side }) (tapped c.advance.new.self) (watched c.args.other.now) (watched c.take_unit.new.other)
+    (record { held = half.held.items; octets = half.octets; fault = half.fault; line = lined c.take_unit.new.line; side = watched c.take_unit.new.side }) (tapped c.advance.new.self) (watched c.args.other.now) (watched c.take_unit.new.other)
     (subst (λ (x : List ℕ). n ≤ length x) c.as_slice.ensures.value found.within) (subst (λ (x : List ℕ). IsPacket c.unit-unit.result.now (take n x)) c.as_slice.ensures.value packet)
-    refl refl c.in_ok-take_unit-in-Ok-Some.ensures.ok c.advance.ensures
+    refl refl refl c.in_ok-take_unit-in-Ok-Some.ensures.ok c.advance.ensures

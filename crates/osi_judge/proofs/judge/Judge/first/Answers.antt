@@ -2,5 +2,5 @@ use Rattle.osi_judge.specs.Following.{judged, first_in}
 use Rattle.osi_judge.proofs.FirstLaws.{first_told}
 use Rattle.osi_judge.proofs.judge.Judge.first.Goals as goal
 
-pub returns : goal.returns
-returns c = λ capture t h. first_told (first_in c.args.self.now) (judged c.args.self.now) capture t h
+pub returns-clause-first : goal.returns-clause-first
+returns-clause-first c = λ capture t h. first_told (first_in c.args.self.now) (judged c.args.self.now) capture t h

@@ -6,7 +6,7 @@ use Rattle.osi_judge.specs.Tapping.{IsStoppedIn}
 use Rattle.osi_judge.proofs.JudgeLaws.{is_stopped}
 use Rattle.osi_judge.proofs.judge.Judge.stopped.Goals as goal
 
-pub returns : goal.returns
-returns c = λ capture t.
+pub returns-clause-stopped : goal.returns-clause-stopped
+returns-clause-stopped c = λ capture t.
     let same = c.stopped.ensures ∙ ap stopped_of c.half.ensures in
     subst (λ (x : Option Stopped). IsStoppedIn c.args.direction capture x) (sym same) (is_stopped c.args.direction capture (judged c.args.self.now) t)

@@ -1,9 +1,10 @@
-use Rattle.std.proofs.Common.{◌∙◌, ◌≡◌, ◌+◌, ℕ, List, refl, sym, ap, [], false}
+use Rattle.std.proofs.Common.{◌∙◌, ◌≡◌, ◌+◌, List, refl, sym, ap, [], false, ◌≤◌, subst, length}
+use Rattle.osi_judge.specs.declared.members.Member.{Member}
+use Rattle.osi_judge.specs.declared.findings.Finding.TheVariants.{TooMany}
 use Rattle.osi_judge.specs.Explaining.{Told}
 use Rattle.osi_judge.specs.Judging.{is_empty}
-use Rattle.osi_judge.specs.Profiles.{selects_outside}
 use Rattle.osi_judge.specs.Sides.{watched}
-use Rattle.osi_judge.proofs.SideLaws.{ends_ok, leaves_as, kept_as, gives_as, nil_of}
+use Rattle.osi_judge.proofs.SideLaws.{ends_ok, leaves_as, crowds_as, kept_as, gives_as, nil_of}
 use Rattle.osi_judge.proofs.sides.Side.tell_kept.Goals as goal
 
 pub returns-then-none_is_left-clause-watches : goal.returns-then-none_is_left-clause-watches
@@ -15,13 +16,21 @@ returns-then-none_is_left-clause-watches c =
     ends_ok c.end.result w (watched c.end.new.self) x new c.requires.order
     (gives_as w x new c.deref.result.now c.deref-2.result.now c.deref.ensures.value c.deref-2.ensures.value c.in_ok-members.ensures) none c.end.ensures.ends
 
-pub returns-then-selects_outside-clause-watches : goal.returns-then-selects_outside-clause-watches
-returns-then-selects_outside-clause-watches c = λ told k.
+pub returns-then-opens_outside-clause-watches : goal.returns-then-opens_outside-clause-watches
+returns-then-opens_outside-clause-watches c = λ told k.
     let w = watched c.args.self.now in
     let x : Told = record { octets = c.args.tsdu.now; before = c.args.before } in
-    let heard : c.deref-3.result.now ≡ w.heard = c.deref-3.ensures.value in
-    leaves_as w (watched c.leave.new.self) told x c.leave.ensures
-    (ap (λ (h : List (List ℕ)). selects_outside h c.args.tsdu.now) (sym heard) ∙ sym c.selects_outside.ensures ∙ c.if-selects_outside.true) k
+    leaves_as w (watched c.leave.new.self) told x c.opens_outside.result c.leave.ensures c.requires.passed (c.opens_outside.ensures.first, c.opens_outside.ensures.later) c.if-opens_outside.true k
+
+pub returns-then-is_crowd-clause-watches : goal.returns-then-is_crowd-clause-watches
+returns-then-is_crowd-clause-watches c = λ told k.
+    let w = watched c.args.self.now in
+    let x : Told = record { octets = c.args.tsdu.now; before = c.args.before } in
+    let new = c.in_ok-members.members.items in
+    let some : is_empty new ≡ false = ap is_empty (sym c.as_slice.ensures.value) ∙ sym c.none_is_left.ensures ∙ c.if-none_is_left.false in
+    crowds_as w (record w { finding = TooMany }) told x new c.opens_outside.result refl c.requires.order
+    (gives_as w x new c.deref.result.now c.deref-2.result.now c.deref.ensures.value c.deref-2.ensures.value c.in_ok-members.ensures) some
+    c.requires.passed (c.opens_outside.ensures.first, c.opens_outside.ensures.later) c.if-opens_outside.false k
 
 pub returns-clause-watches : goal.returns-clause-watches
 returns-clause-watches c = λ told k.
@@ -29,5 +38,7 @@ returns-clause-watches c = λ told k.
     let x : Told = record { octets = c.args.tsdu.now; before = c.args.before } in
     let new = c.in_ok-members.members.items in
     let some : is_empty new ≡ false = ap is_empty (sym c.as_slice.ensures.value) ∙ sym c.none_is_left.ensures ∙ c.if-none_is_left.false in
-    kept_as w (record w { members = new; told = w.told + 1; before = c.args.before }) told x new refl c.requires.kept c.requires.order
-    (gives_as w x new c.deref.result.now c.deref-2.result.now c.deref.ensures.value c.deref-2.ensures.value c.in_ok-members.ensures) some k
+    let few : length new ≤ 4096 = subst (λ (m : List Member). length m ≤ 4096) c.as_slice-2.ensures.value (c.is_crowd.ensures.few c.if-is_crowd.false) in
+    kept_as w (record w { members = new; told = w.told + 1; before = c.args.before }) told x new c.opens_outside.result refl c.requires.kept c.requires.order
+    (gives_as w x new c.deref.result.now c.deref-2.result.now c.deref.ensures.value c.deref-2.ensures.value c.in_ok-members.ensures) some few
+    c.requires.passed (c.opens_outside.ensures.first, c.opens_outside.ensures.later) c.if-opens_outside.false k

@@ -1,4 +1,5 @@
--- How many digits are on a line, octet by octet: for `digits_on`.
+-- A counter that takes one octet of a line after the other comes to the number of digits on it, blanks and a comment left out.
+-- For `digits_on` and `counted`.
 use Rattle.std.proofs.Common.{◌≡◌, ◌∙◌, refl, sym, ap, ℕ, suc, take, Bool, true, false, cond, not, List, [], ◌∷◌, length, arith, ◌+◌}
 use Rattle.std.proofs.Common.{◌==◌, filter, inl, inr}
 use Rattle.std.specs.List.{before_first, prefix_len}

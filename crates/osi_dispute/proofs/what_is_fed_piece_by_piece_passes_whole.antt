@@ -1,4 +1,5 @@
--- What was fed to a judge, octet by octet and row by row: for `feed_all` and `feed_pieces`.
+-- A judge that is fed the octets of a piece one part after the other, and the rows of a text one row after the other, knows
+-- the capture of all of them. For `feed_all` and `feed_pieces`.
 use Rattle.std.proofs.Common.{◌≡◌, ◌∙◌, refl, sym, ap, subst, ℕ, ◌==◌, Bool, true, false, not, arith, length, List, [], ◌∷◌, ◌++◌, take}
 use Rattle.std.proofs.Common.{drop}
 use Rattle.std.specs.List.{flat_map}

@@ -1,4 +1,5 @@
--- What is added to a text, one piece after the other: for `push_leaves`.
+-- Text that is added in two parts, one after the other, is added as a whole.
+-- For `push_leaves`.
 use Rattle.std.proofs.Common.{◌≡◌, ◌∙◌, sym, ap, List, ℕ, ◌++◌, Result, Ok, Err, OnOk}
 use Rattle.std.proofs.lemmas.List.{append_assoc}
 

@@ -1,0 +1,124 @@
+-- The line of the side that broke the protocol first has words, so a verdict ends with one: for the laws.
+use Rattle.std.proofs.Common.{◌≡◌, ◌∙◌, refl, sym, ap, subst, ℕ, ◌+◌, ◌<◌, Bool, true, false, is_some, codes, ◌||◌, ◌&&◌, List, [], ◌∷◌}
+use Rattle.std.proofs.Common.{◌++◌, length, Option, Some, None, arith}
+use Rattle.osi_judge.specs.declared.directions.Direction.{Direction}
+use Rattle.osi_judge.specs.declared.directions.Direction.TheVariants as side
+use Rattle.osi_judge.specs.declared.findings.Finding.{Finding}
+use Rattle.osi_judge.specs.declared.findings.Finding.TheVariants.{Kept, Broke, Left, TooMany}
+use Rattle.osi_judge.specs.declared.rules.Break.{Break}
+use Rattle.osi_judge.specs.declared.standings.Stands.{Stands}
+use Rattle.osi_judge.specs.declared.stops.Stopped.{Stopped}
+use Rattle.osi_judge.specs.Captures.{Capture}
+use Rattle.osi_judge.specs.Stops.{breaks, broke_session}
+use Rattle.osi_judge.specs.Tapping.{IsFoundIn, IsReferenceIn, told, tell}
+use Rattle.osi_judge.specs.Transport.{Sent, IsSent}
+use Rattle.osi_judge.proofs.what_is_known_of_a_side_is_of_the_capture.{nameless_said_nothing}
+use Rattle.osi_dispute.specs.declared.verdicts.Told.{Told}
+use Rattle.osi_dispute.specs.declared.verdicts.Told.TheVariants as what
+use Rattle.osi_dispute.specs.declared.verdicts.Connection.{Connection}
+use Rattle.osi_dispute.specs.declared.verdicts.Connection.TheVariants.{Silent, Refused, Unanswered, Session}
+use Rattle.osi_dispute.specs.declared.verdicts.Outcome.{Outcome}
+use Rattle.osi_dispute.specs.declared.verdicts.Outcome.TheVariants.{BothKept, First, NotJudged}
+use Rattle.osi_dispute.specs.declared.verdicts.Unjudged.{Unjudged}
+use Rattle.osi_dispute.specs.declared.verdicts.Unjudged.TheVariants.{Transport, TooMany as Many}
+use Rattle.osi_dispute.specs.declared.verdicts.Verdict.{Verdict}
+use Rattle.osi_judge.specs.declared.stops.Stop.TheVariants as stop
+use Rattle.osi_dispute.specs.Names.{side_name, unjudged_text}
+use Rattle.osi_dispute.specs.Texts.{first_text, broke_first, left_first as left_first_line, stopped_first, told_first, connection_first}
+use Rattle.osi_dispute.specs.Texts.{first_line, unjudged_line, line_by, outcome_line}
+use Rattle.osi_dispute.specs.Facts.{Facts, AreFacts, is_broken, told_by, told_of, is_refused, connection_with, connection_by, is_first}
+use Rattle.osi_dispute.specs.Facts.{is_left, left_first, account_by, keeps, unjudged, kept_outcome, outcome_by, verdict_by, IsFirstOf}
+use Rattle.osi_dispute.specs.Facts.{IsToldBy, IsDetermined}
+
+abbrev HasWords : List ℕ → Type 0
+HasWords line = line ≡ [] → ⊥
+
+-- ---- lines
+
+broke_words : (d : Direction) (offset : ℕ) (by : Break) → HasWords (broke_first d offset by)
+unfolding broke_first first_text
+broke_words side.Left offset by e = absurd (cc)
+broke_words side.Right offset by e = absurd (cc)
+
+left_words : (d : Direction) (offset : ℕ) (by : Break) → HasWords (left_first_line d offset by)
+unfolding left_first_line first_text
+left_words side.Left offset by e = absurd (cc)
+left_words side.Right offset by e = absurd (cc)
+
+stop_words : (d : Direction) (s : Option Stopped) → breaks s ≡ true → HasWords (stopped_first d s)
+unfolding stopped_first first_text
+stop_words d None b e = absurd (cc)
+stop_words side.Left (Some s) b e = absurd (cc)
+stop_words side.Right (Some s) b e = absurd (cc)
+
+unjudged_words : (why : Unjudged) → HasWords (unjudged_line why)
+unfolding unjudged_line unjudged_text
+unjudged_words Many e = absurd (cc)
+unjudged_words (Transport stop.NoOpening) e = absurd (cc)
+unjudged_words (Transport stop.OtherClass) e = absurd (cc)
+unjudged_words (Transport stop.MoreConnections) e = absurd (cc)
+unjudged_words (Transport stop.Refused) e = absurd (cc)
+unjudged_words (Transport (stop.BadPacket fault)) e = absurd (cc)
+unjudged_words (Transport (stop.BadUnit fault)) e = absurd (cc)
+unjudged_words (Transport stop.UnexpectedUnit) e = absurd (cc)
+unjudged_words (Transport stop.WrongForm) e = absurd (cc)
+unjudged_words (Transport stop.TsduTooLong) e = absurd (cc)
+
+-- ---- a side that is to blame
+
+some_said : (d : Direction) (c : Capture) (mine others : List Sent) (i : ℕ) → i < length (told d c mine others) → mine ≡ [] → ⊥
+some_said d c mine others i l e = let n = ap (λ (x : List Sent). length (told d c x others)) e in absurd (omega arith)
+
+said_by : (d : Direction) (c : Capture) (f : Finding) → broke_session f ≡ true → IsFoundIn d c f
+    → (mine : List Sent) × IsSent d c mine × (mine ≡ [] → ⊥)
+said_by d c Kept b h = absurd (cc)
+said_by d c TooMany b h = absurd (cc)
+said_by d c (Broke i) b h = (h.mine, h.is_mine, some_said d c h.mine h.others i h.found.0.there)
+said_by d c (Left i) b h = (h.mine, h.is_mine, some_said d c h.mine h.others i h.found.0)
+
+-- it gave the connection a reference
+named : (d : Direction) (c : Capture) (f : Facts) → AreFacts d c f → broke_session f.found ≡ true → f.reference ≡ None → ⊥
+named d c f h b e =
+    let s = said_by d c f.found b h.found in
+    s.2 (nameless_said_nothing d c s.0 s.1 (subst (λ (r : Option ℕ). IsReferenceIn d c r) e h.reference))
+
+-- a side that broke the protocol, and gave a reference if its session did
+side_words : (d : Direction) (f : Finding) (count offset : ℕ) (stands : Stands) (by : Break) (stopped : Option Stopped) (reference : Option ℕ) (refused answered : Bool)
+    → (broke_session f || breaks stopped) ≡ true → (broke_session f ≡ true → reference ≡ None → ⊥)
+    → HasWords (connection_first d stopped (connection_by false reference (broke_session f) refused answered (told_by f count offset stands by)))
+side_words d (Broke i) count offset stands by stopped None refused answered h n = absurd (n refl refl)
+side_words d (Broke i) count offset stands by stopped (Some r) refused answered h n = broke_words d offset by
+side_words d (Left i) count offset stands by stopped None refused answered h n = absurd (n refl refl)
+side_words d (Left i) count offset stands by stopped (Some r) refused answered h n = left_words d offset by
+side_words d Kept count offset stands by stopped None refused answered h n = stop_words d stopped h
+side_words d Kept count offset stands by stopped (Some r) true answered h n = stop_words d stopped h
+side_words d Kept count offset stands by stopped (Some r) false true h n = stop_words d stopped h
+side_words d Kept count offset stands by stopped (Some r) false false h n = stop_words d stopped h
+side_words d TooMany count offset stands by stopped None refused answered h n = stop_words d stopped h
+side_words d TooMany count offset stands by stopped (Some r) true answered h n = stop_words d stopped h
+side_words d TooMany count offset stands by stopped (Some r) false true h n = stop_words d stopped h
+side_words d TooMany count offset stands by stopped (Some r) false false h n = stop_words d stopped h
+
+account_words : (d : Direction) (c : Capture) (f right : Facts) → AreFacts d c f → is_broken f ≡ true
+    → HasWords (first_line d (account_by false f right))
+account_words d c f right h b =
+    side_words d f.found f.count f.offset f.stands f.by f.stopped f.reference (is_refused right.stopped) (is_some right.reference) b (named d c f h)
+
+-- ---- the last line
+
+kept_words : (v : Verdict) (keep : Bool) (left right : Option Unjudged) → HasWords (line_by v (kept_outcome keep left right))
+kept_words v false left right = unjudged_words Many
+kept_words v true (Some why) right = unjudged_words why
+kept_words v true None (Some why) = unjudged_words why
+kept_words v true None None = λ e. absurd (cc)
+
+words_by : (c : Capture) (first : Option Direction) (l r : Facts) → AreFacts side.Left c l → AreFacts side.Right c r
+    → IsFirstOf first l r → HasWords (outcome_line (verdict_by first l r))
+words_by c None l r a b f = kept_words (verdict_by None l r) (keeps l.found l.stopped && keeps r.found r.stopped) (unjudged l.stopped) (unjudged r.stopped)
+words_by c (Some side.Left) l r a b f = account_words side.Left c l r a f
+words_by c (Some side.Right) l r a b f = account_words side.Right c r r b f
+
+pub last_words : (c : Capture) (v : Verdict) → IsDetermined c v → HasWords (outcome_line v)
+unfolding IsDetermined
+last_words c v h =
+    subst (λ (w : Verdict). HasWords (outcome_line w)) (sym h.told.tells) (words_by c h.first h.left h.right h.told.of_left h.told.of_right h.told.first_of)

@@ -1,0 +1,20 @@
+use Rattle.std.proofs.Common.{◌∙◌, sym, ap, is_some}
+use Rattle.osi_judge.specs.Following.{judged, half_of}
+use Rattle.osi_judge.specs.Stops.{broke_session}
+use Rattle.osi_judge.specs.declared.directions.Direction.TheVariants.{Right}
+use Rattle.osi_dispute.specs.Facts.{is_refused}
+use Rattle.osi_dispute.proofs.what_is_told_is_by_facts.{refused, unanswered}
+use Rattle.osi_dispute.proofs.verdicts.connection_by.Goals as goal
+
+pub returns-then-is_refused-clause-told : goal.returns-then-is_refused-clause-told
+returns-then-is_refused-clause-told c =
+    refused (half_of c.args.direction (judged c.args.judge.now)) (half_of Right (judged c.args.judge.now)) c.args.reference c.requires
+    (sym (ap broke_session c.finding.ensures.value) ∙ sym c.is_blamed.ensures ∙ c.if-is_blamed.false)
+    (sym (ap is_refused c.stopped.ensures.value) ∙ sym c.is_refused.ensures ∙ c.if-is_refused.true)
+
+pub returns-in-None-clause-told : goal.returns-in-None-clause-told
+returns-in-None-clause-told c =
+    unanswered (half_of c.args.direction (judged c.args.judge.now)) (half_of Right (judged c.args.judge.now)) c.args.reference c.requires
+    (sym (ap broke_session c.finding.ensures.value) ∙ sym c.is_blamed.ensures ∙ c.if-is_blamed.false)
+    (sym (ap is_refused c.stopped.ensures.value) ∙ sym c.is_refused.ensures ∙ c.if-is_refused.false)
+    (ap is_some (sym c.in-None.ensures.value))

@@ -1,0 +1,5 @@
+use Rattle.osi_judge.proofs.a_side_strays_at_one_place.{one_way}
+use Rattle.osi_judge.proofs.laws.a_side_is_found_in_one_way.Goals as goal
+
+pub returns : goal.returns
+returns c = one_way c.a_capture_has_one_reading.ensures.one
