@@ -49,6 +49,8 @@ except ImportError:
 # In addition to what a segment has: it acknowledges octets that the capture doesn't have; it closes its direction; it resets.
 CLOSING = ("tcp.analysis.ack_lost_segment", "tcp.flags.fin", "tcp.flags.reset")
 LONGEST = 8_000_000
+# How many octets wait for a missing segment before it counts as lost.
+MOST_WAITING = 262_144
 
 
 class Watched:
@@ -85,7 +87,8 @@ class Watched:
 
 
 class Fed(Watched):
-    """A stream of which each octet is fed to a judge of the library, and kept no longer. Left is the side that sends first."""
+    """A stream of which each octet is fed to a judge of the library, and kept no longer. If a segment is missing, what passes waits
+    until it comes. Left is the side that sends first."""
 
     def __init__(self, stream):
         super().__init__(stream)
@@ -93,11 +96,19 @@ class Fed(Watched):
 
     def take(self, segment, has_gap, closes):
         super().take(segment, has_gap, closes)
-        self.why_not = "the capture lost segments" if has_gap else None
+        waits = self.lost() > 0
+        is_late = waits and sum(len(piece.octets) for _, piece in self.stream.pieces) > MOST_WAITING
+        self.why_not = "the capture lost segments" if has_gap or is_late else None
+        if waits:
+            return
         for source, piece in self.stream.pieces:
             if not self.found:
                 self.feed(source, piece)
         self.stream.pieces.clear()
+
+    def lost(self):
+        """How many octets at least are missing."""
+        return sum(direction.lost() for direction in self.stream.directions.values())
 
     def feed(self, source, piece):
         """Feeds octets that have passed."""
@@ -124,9 +135,8 @@ class Fed(Watched):
 
     def at_the_end(self):
         """The verdict on a stream that is over, or of which no more is captured."""
-        lost = sum(direction.lost() for direction in self.stream.directions.values())
-        if lost:
-            return f"not judged: lost segments: {lost} octets or more are not in the capture", False
+        if self.lost():
+            return f"not judged: lost segments: {self.lost()} octets or more are not in the capture", False
         if self.left is None:
             return "not judged: begins in the middle", False
         said = verdicts.printed(self.judge.text())

@@ -159,23 +159,34 @@ class ByLibrary(unittest.TestCase):
 
     def test_a_gap_is_waited_for_and_named_at_the_end(self):
         rows = Rows().of("restart")
-        del rows[5]
-        self.assertEqual(self.printed(*rows, is_end=True), f"{NAME}: not judged: lost segments: 14 octets or more are not in the capture\n")
+        del rows[4]
+        self.assertEqual(self.printed(*rows, is_end=True), f"{NAME}: not judged: lost segments: 19 octets or more are not in the capture\n")
+
+    def test_segments_out_of_order_are_put_in_order(self):
+        rows = Rows().of("restart_cured")
+        rows[4], rows[5] = rows[5], rows[4]
+        self.assertEqual(self.printed(*rows, is_end=True), f"{NAME}: both kept the protocol\n")
 
     def test_octets_that_were_acknowledged_and_not_captured_end_the_watch(self):
         rows = Rows()
         self.printed(*rows.of("restart")[:6])
         self.assertEqual(self.printed(rows.row("right", lost="1")), f"{NAME}: not judged: the capture lost segments\n")
 
+    def test_a_segment_that_stays_away_for_long_is_lost(self):
+        rows = Rows().of("restart")
+        with mock.patch.object(watch, "MOST_WAITING", 20):
+            self.assertEqual(self.printed(*rows[:4], *rows[5:]), f"{NAME}: not judged: the capture lost segments\n")
+
     def test_a_stream_that_begins_in_the_middle_is_named(self):
         self.assertIn("not judged: the capture begins in the middle of a connection", self.printed(*Rows().of("restart")[2:], is_end=True))
-        rows = Rows()
-        self.assertIn("not judged: begins in the middle", self.printed(rows.row("left", b"half a packet"), is_end=True))
+        half = Rows(stream=5).row("left", b"half a packet")
+        self.assertIn("not judged: begins in the middle", self.printed(half, is_end=True))
 
     def test_a_stream_that_is_too_long_is_watched_no_further(self):
         rows = Rows()
+        opening = [rows.row(piece.side, piece.octets) for piece in judged.read(test_judged.stored("restart")[0])[:4]]
         much = bytes.fromhex("0300c35002f08001000100") + bytes(50000 - 11)
-        self.assertEqual(self.printed(*rows.of("restart")[:4], *(rows.row("left", much) for _ in range(3))), "")
+        self.assertEqual(self.printed(*opening, *(rows.row("left", much) for _ in range(3))), "")
         said = "not judged further: more passed than a judge of the library keeps"
         self.assertEqual(self.printed(rows.row("left", much)), f"{NAME}: {said}\n")
 
