@@ -23,6 +23,8 @@ struct alignments {
     struct { char c; osi_addressing at; } osi_addressing;
     struct { char c; osi_tally at; } osi_tally;
     struct { char c; osi_counters at; } osi_counters;
+    struct { char c; osi_judge at; } osi_judge;
+    struct { char c; osi_verdict at; } osi_verdict;
 };
 
 #define ALIGNMENT(type) (offsetof(struct alignments, type.at) - offsetof(struct alignments, type))
@@ -119,6 +121,93 @@ static void counters(void)
     STRUCT(osi_counters);
     FIELD(osi_counters, received);
     FIELD(osi_counters, sent);
+}
+
+static void judging(void)
+{
+    STRUCT(osi_judge);
+    FIELD(osi_judge, full);
+    FIELD(osi_judge, inner);
+    STRUCT(osi_verdict);
+    FIELD(osi_verdict, offset);
+    FIELD(osi_verdict, kind);
+    FIELD(osi_verdict, side);
+    FIELD(osi_verdict, rule);
+    FIELD(osi_verdict, said);
+    FIELD(osi_verdict, reference);
+}
+
+static void verdicts(void)
+{
+    VALUE(OSI_LEFT);
+    VALUE(OSI_RIGHT);
+    VALUE(OSI_VERDICT_NONE);
+    VALUE(OSI_VERDICT_KEPT);
+    VALUE(OSI_VERDICT_BROKE);
+    VALUE(OSI_VERDICT_LEAVES);
+    VALUE(OSI_VERDICT_TOO_MANY);
+    VALUE(OSI_VERDICT_NOT_JUDGED);
+    VALUE(OSI_RULE_NONE);
+    VALUE(OSI_RULE_NO_SUCH_CONNECTION);
+    VALUE(OSI_RULE_ENDED);
+    VALUE(OSI_RULE_BAD_STATE);
+    VALUE(OSI_RULE_NOT_SELECTED);
+    VALUE(OSI_RULE_TOKEN_NOT_HELD);
+    VALUE(OSI_RULE_TOKEN_ALREADY_HELD);
+    VALUE(OSI_RULE_BAD_NUMBER);
+    VALUE(OSI_RULE_SERIALS_USED_UP);
+    VALUE(OSI_RULE_EMPTY);
+    VALUE(OSI_RULE_TOO_LONG);
+    VALUE(OSI_RULE_BAD_TOKENS);
+    VALUE(OSI_RULE_BAD_ENCLOSURE);
+    VALUE(OSI_RULE_NO_FAULT);
+    VALUE(OSI_RULE_NOTHING_TO_ANSWER);
+    VALUE(OSI_RULE_OUTSIDE);
+    VALUE(OSI_RULE_UNKNOWN_SI);
+    VALUE(OSI_RULE_LENGTH_PAST_END);
+    VALUE(OSI_RULE_MISSING_PARAMETER);
+    VALUE(OSI_RULE_DUPLICATE_PARAMETER);
+    VALUE(OSI_RULE_BAD_VALUE);
+    VALUE(OSI_RULE_BAD_CONCATENATION);
+    VALUE(OSI_RULE_TRAILING_OCTETS);
+    VALUE(OSI_RULE_NO_OPENING);
+    VALUE(OSI_RULE_OTHER_CLASS);
+    VALUE(OSI_RULE_MORE_CONNECTIONS);
+    VALUE(OSI_RULE_REFUSED);
+    VALUE(OSI_RULE_BAD_VERSION);
+    VALUE(OSI_RULE_BAD_LENGTH);
+    VALUE(OSI_RULE_BAD_LI);
+    VALUE(OSI_RULE_UNKNOWN_CODE);
+    VALUE(OSI_RULE_BAD_TPDU_PARAMETER_LENGTH);
+    VALUE(OSI_RULE_BAD_TPDU_PARAMETER_VALUE);
+    VALUE(OSI_RULE_DUPLICATE_TPDU_PARAMETER);
+    VALUE(OSI_RULE_UNEXPECTED_UNIT);
+    VALUE(OSI_RULE_WRONG_FORM);
+    VALUE(OSI_RULE_TSDU_TOO_LONG);
+    VALUE(OSI_RULE_LIMIT);
+    VALUE(OSI_SAID_NOTHING);
+    VALUE(OSI_SAID_CN);
+    VALUE(OSI_SAID_AC);
+    VALUE(OSI_SAID_RF);
+    VALUE(OSI_SAID_DT);
+    VALUE(OSI_SAID_GT);
+    VALUE(OSI_SAID_PT);
+    VALUE(OSI_SAID_MIP);
+    VALUE(OSI_SAID_MIA);
+    VALUE(OSI_SAID_MAP);
+    VALUE(OSI_SAID_MAA);
+    VALUE(OSI_SAID_RS);
+    VALUE(OSI_SAID_RA);
+    VALUE(OSI_SAID_FN);
+    VALUE(OSI_SAID_DN);
+    VALUE(OSI_SAID_NF);
+    VALUE(OSI_SAID_AB);
+    VALUE(OSI_SAID_AA);
+    VALUE(OSI_SAID_TSDU);
+    VALUE(OSI_SAID_TPKT);
+    VALUE(OSI_SAID_TPDU);
+    VALUE(OSI_SAID_TRANSPORT_DT);
+    VALUE(OSI_SAID_TRANSPORT_DR);
 }
 
 static void trace(void)
@@ -258,5 +347,7 @@ int main(void)
     ends();
     phases();
     trace();
+    judging();
+    verdicts();
     return 0;
 }

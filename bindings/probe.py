@@ -164,15 +164,14 @@ def fed():
     say_fields("osi_fed", runs, {"used": (8, lengths[::2]), "waits": (1, [0, 1])})
 
 
-def slot():
-    ends = [End(library.osi_called), End(library.osi_caller)]
-    octets = [end.slot.raw for end in ends]
+def slot(name, holders):
+    octets = [holder.slot.raw for holder in holders]
     runs = [[octet if octet != 0 else None for octet in one] for one in octets]
     full = [at for at in range(0, ROOM, 8) if all(one[at : at + 8] == b"\1" + bytes(7) for one in octets)]
     inner = [at for at in range(0, ROOM, 8) if any(octets[0][at : at + 8]) and at not in full]
-    say_struct("osi_end", runs, 8)
-    say_field("osi_end.full", full[0] if len(full) == 1 else None, 1)
-    say_field("osi_end.inner", inner[0] if len(inner) == 1 else None, 8)
+    say_struct(name, runs, 8)
+    say_field(f"{name}.full", full[0] if len(full) == 1 else None, 1)
+    say_field(f"{name}.inner", inner[0] if len(inner) == 1 else None, 8)
 
 
 def shown(end):
@@ -274,6 +273,45 @@ def counters():
     say_field("osi_counters.sent", place([written(lambda into: library.osi_counts(caller.slot, into))], 8, [sent]), 48)
 
 
+# ---- judges
+
+
+class Judge:
+    """A judge that is fed these pieces, each with its side."""
+
+    def __init__(self, *pieces):
+        self.slot = ctypes.create_string_buffer(ROOM)
+        need(library.osi_judge_new(self.slot) == 0, "osi_judge_new is refused")
+        for side, octets in pieces:
+            used = ctypes.create_string_buffer(ROOM)
+            need(library.osi_judge_feed(self.slot, side, octets, size_t(len(octets)), used) == 0, "osi_judge_feed is refused")
+
+    def __del__(self):
+        library.osi_judge_free(self.slot)
+
+    def shown(self, side):
+        return written(lambda into: library.osi_judge_verdict(self.slot, side, into))
+
+
+def verdicts():
+    """The calling side sends data without a token; the called side sends no packet; a side that begins in the middle."""
+    opening = [(0, bytes.fromhex("0300000e09e00000000100c0010a")), (1, bytes.fromhex("0300000e09d00001123400c0010a"))]
+    session = "0300001b02f0800{}12050c1301011601021701311a0100140200b9"
+    opening += [(0, bytes.fromhex(session.format("d"))), (1, bytes.fromhex(session.format("e")))]
+    data, noise = bytes.fromhex("0300000c02f0800100010041"), bytes(4)
+    broken, begun = Judge(*opening, (1, data)), Judge(*opening[:2], (1, noise))
+    runs = [broken.shown(1), broken.shown(0), begun.shown(1), Judge(opening[1]).shown(1), Judge((0, opening[1][1])).shown(0)]
+    say_struct("osi_verdict", runs, 8)
+    say_fields("osi_verdict", runs, {
+        "offset": (8, [41, 0, 14, 0, 0]),
+        "kind": (4, [2, 1, 2, 1, 5]),
+        "side": (4, [1, 0, 1, 1, 0]),
+        "rule": (4, [14, 0, 54, 0, 50]),
+        "said": (4, [4, 0, 19, 0, 20]),
+        "reference": (2, [0x1234, 1, 0x1234, 0x1234, 0]),
+    })
+
+
 # ---- structs that the library reads
 
 
@@ -337,7 +375,7 @@ def opening():
 
 
 def main():
-    slot()
+    slot("osi_end", [End(library.osi_called), End(library.osi_caller)])
     octets()
     terms()
     fed()
@@ -345,6 +383,8 @@ def main():
     indications()
     addressing()
     counters()
+    slot("osi_judge", [Judge(), Judge()])
+    verdicts()
 
 
 main()

@@ -574,6 +574,166 @@ typedef struct osi_counters {
  * end stays as it is. */
 void osi_counts(osi_end *end, osi_counters *shown);
 
+/* ---- judging a connection that passes --------------------------------------------------------------------
+ * A judge watches a connection between two other programs, and says which side first sent what no
+ * conforming end could have sent there (docs/JUDGING.md): `osi judge`, piece by piece. It needs no
+ * osi_end.
+ *
+ *     osi_judge judge = OSI_JUDGE;
+ *     osi_verdict verdict;
+ *     size_t used;
+ *     if (osi_judge_new(&judge))
+ *         return 1;                             // OSI_NO_MEMORY
+ *     while (next_piece(&side, &piece, &length)) {
+ *         if (osi_judge_feed(&judge, side, piece, length, &used))
+ *             return 1;                         // OSI_NO_MEMORY: feed the rest again
+ *         while (osi_judge_next(&judge, &verdict))
+ *             printf("%u: %s\n", verdict.side, osi_rule_name(verdict.rule));
+ *     }
+ *     osi_judge_free(&judge);
+ *
+ * What the caller owes is what he owes to an osi_end: an osi_judge begins as OSI_JUDGE, only these
+ * functions read or write its fields, one thread at a time uses it, and text that it lends is valid until
+ * the next call with it.
+ */
+
+/* A slot that holds the judge of one connection, or none. */
+typedef struct osi_judge {
+    bool full;
+    struct {
+        void *at;
+    } inner;
+} osi_judge;
+
+/* An empty slot. Each slot begins as this. */
+#ifdef __cplusplus
+#define OSI_JUDGE { false, { nullptr } }
+#else
+#define OSI_JUDGE { false, { NULL } }
+#endif
+
+/* The sides of a connection. */
+#define OSI_LEFT 0u  /* the side that opened the byte connection, and sent the CR */
+#define OSI_RIGHT 1u /* the other side */
+
+/* What a verdict says of a side. OSI_VERDICT_KEPT may change while octets pass; the others don't. */
+#define OSI_VERDICT_NONE 0u       /* nothing: the other side left the profile before */
+#define OSI_VERDICT_KEPT 1u       /* all that it sent so far is what a conforming end may send */
+#define OSI_VERDICT_BROKE 2u      /* it broke the protocol: said, rule, offset */
+#define OSI_VERDICT_LEAVES 3u     /* it sent what X.225 allows and this product leaves out: said, offset */
+#define OSI_VERDICT_TOO_MANY 4u   /* more than 4,096 sessions explain it, so it is judged no further */
+#define OSI_VERDICT_NOT_JUDGED 5u /* it is judged no further: rule says why */
+
+/* The rule that a side broke. 10 to 19: a session there would refuse the call that sends it, with the code
+ * of the same number. */
+#define OSI_RULE_NONE 0u
+#define OSI_RULE_NO_SUCH_CONNECTION 10u
+#define OSI_RULE_ENDED 11u
+#define OSI_RULE_BAD_STATE 12u
+#define OSI_RULE_NOT_SELECTED 13u
+#define OSI_RULE_TOKEN_NOT_HELD 14u
+#define OSI_RULE_TOKEN_ALREADY_HELD 15u
+#define OSI_RULE_BAD_NUMBER 16u
+#define OSI_RULE_SERIALS_USED_UP 17u
+#define OSI_RULE_EMPTY 18u
+#define OSI_RULE_TOO_LONG 19u
+#define OSI_RULE_BAD_TOKENS 30u             /* it settles a token that the other side has settled */
+#define OSI_RULE_BAD_ENCLOSURE 31u          /* a part of data is out of its place */
+#define OSI_RULE_NO_FAULT 32u               /* it aborts for a protocol error that nobody made */
+#define OSI_RULE_NOTHING_TO_ANSWER 33u      /* AA without an AB */
+#define OSI_RULE_OUTSIDE 34u                /* what this product leaves out */
+#define OSI_RULE_UNKNOWN_SI 40u             /* 40 to 46: the TSDU is no session units (X.225 section 8) */
+#define OSI_RULE_LENGTH_PAST_END 41u
+#define OSI_RULE_MISSING_PARAMETER 42u
+#define OSI_RULE_DUPLICATE_PARAMETER 43u
+#define OSI_RULE_BAD_VALUE 44u
+#define OSI_RULE_BAD_CONCATENATION 45u
+#define OSI_RULE_TRAILING_OCTETS 46u
+#define OSI_RULE_NO_OPENING 50u             /* no break: the first packet has no CR, or no CC or DR */
+#define OSI_RULE_OTHER_CLASS 51u            /* no break: the connection is not of class 0 */
+#define OSI_RULE_MORE_CONNECTIONS 52u       /* no break: a second CR */
+#define OSI_RULE_REFUSED 53u                /* no break: a DR; it comes in no verdict */
+#define OSI_RULE_BAD_VERSION 54u            /* 54 and 55: no packet begins there (RFC 1006 section 6) */
+#define OSI_RULE_BAD_LENGTH 55u
+#define OSI_RULE_BAD_LI 56u                 /* 56 to 60: no transport unit (X.224 section 13) */
+#define OSI_RULE_UNKNOWN_CODE 57u
+#define OSI_RULE_BAD_TPDU_PARAMETER_LENGTH 58u
+#define OSI_RULE_BAD_TPDU_PARAMETER_VALUE 59u
+#define OSI_RULE_DUPLICATE_TPDU_PARAMETER 60u
+#define OSI_RULE_UNEXPECTED_UNIT 61u        /* a unit that is no DT of class 0 */
+#define OSI_RULE_WRONG_FORM 62u             /* a DR after the CC, which class 0 doesn't have */
+#define OSI_RULE_TSDU_TOO_LONG 63u          /* more than 1,048,576 octets */
+#define OSI_RULE_LIMIT 70u                  /* no break: more passed than a judge keeps */
+
+/* What the side sent: a session unit by its name in X.225, or what could not be read. */
+#define OSI_SAID_NOTHING 0u
+#define OSI_SAID_CN 1u
+#define OSI_SAID_AC 2u
+#define OSI_SAID_RF 3u
+#define OSI_SAID_DT 4u
+#define OSI_SAID_GT 5u
+#define OSI_SAID_PT 6u
+#define OSI_SAID_MIP 7u
+#define OSI_SAID_MIA 8u
+#define OSI_SAID_MAP 9u
+#define OSI_SAID_MAA 10u
+#define OSI_SAID_RS 11u
+#define OSI_SAID_RA 12u
+#define OSI_SAID_FN 13u
+#define OSI_SAID_DN 14u
+#define OSI_SAID_NF 15u
+#define OSI_SAID_AB 16u
+#define OSI_SAID_AA 17u
+#define OSI_SAID_TSDU 18u         /* a TSDU that is no session units */
+#define OSI_SAID_TPKT 19u         /* octets that begin no packet */
+#define OSI_SAID_TPDU 20u         /* a transport unit */
+#define OSI_SAID_TRANSPORT_DT 21u /* a DT of the transport, by which a TSDU is too long */
+#define OSI_SAID_TRANSPORT_DR 22u /* a DR of the transport */
+
+/* A verdict on a side. */
+typedef struct osi_verdict {
+    uint64_t offset;    /* of the packet in its direction, from 0; a TSDU has that of its last packet */
+    uint32_t kind;      /* OSI_VERDICT_* */
+    uint32_t side;      /* OSI_LEFT or OSI_RIGHT */
+    uint32_t rule;      /* OSI_RULE_*, or a code of a call */
+    uint32_t said;      /* OSI_SAID_* */
+    uint16_t reference; /* the reference that this side gave the connection; 0 if it gave none so far */
+} osi_verdict;
+
+/* Makes a judge of a connection on which nothing has passed. OSI_OK, OSI_IN_USE, OSI_NO_MEMORY. */
+uint32_t osi_judge_new(osi_judge *judge) OSI_LOOK;
+
+/* Frees the judge that the slot holds, if any, with the text that it has lent. */
+void osi_judge_free(osi_judge *judge);
+
+/* Feeds octets of a side, in the order in which they passed the tap, cut in any way. *used is how many
+ * passed: all of them if the answer is OSI_OK. OSI_OK, or the first that applies of OSI_BAD_ARGUMENT (no
+ * side), OSI_SLOT_EMPTY and OSI_NO_MEMORY. After OSI_NO_MEMORY the first *used octets have passed: feed the
+ * others again when there is memory. After the other two none has.
+ *
+ * A judge keeps the TSDUs that passed, in at most 1 MiB: those of 196,608 octets of both sides together,
+ * and no more than 4,096 of them. What passes after that is not judged, and the verdict on a side that was
+ * kept until then is OSI_VERDICT_NOT_JUDGED with OSI_RULE_LIMIT. */
+uint32_t osi_judge_feed(osi_judge *judge, uint32_t side, const uint8_t *piece, size_t length, size_t *used) OSI_LOOK;
+
+/* Writes a verdict that is certain to *verdict, and answers whether there was one. It gives at most one
+ * verdict on each side, that on the side that broke the protocol first before the other, and never
+ * OSI_VERDICT_KEPT. If there is none, the struct is all 0. */
+bool osi_judge_next(osi_judge *judge, osi_verdict *verdict) OSI_LOOK;
+
+/* Writes the verdict on a side by what has passed so far to *verdict, whether it is certain or not. If the
+ * connection is over, OSI_VERDICT_KEPT is final. The judge stays as it is. OSI_OK, or the first that applies
+ * of OSI_BAD_ARGUMENT (no side; the struct is all 0) and OSI_SLOT_EMPTY (the same). */
+uint32_t osi_judge_verdict(osi_judge *judge, uint32_t side, osi_verdict *verdict);
+
+/* Writes the text of what has passed so far, as `osi judge` prints it, which osi_judge_text then lends.
+ * OSI_OK, OSI_SLOT_EMPTY, OSI_NO_MEMORY (the text that was written before is still there). */
+uint32_t osi_judge_write(osi_judge *judge) OSI_LOOK;
+
+/* Lends the text that was written last, its lines each with a line feed; no octets if there is none. It is
+ * valid until the next call with this judge. */
+void osi_judge_text(osi_judge *judge, osi_octets *text);
+
 /* ---- names ------------------------------------------------------------------------------------------- */
 
 /* The version of the library. OSI_VERSION is that of this header. */
@@ -585,6 +745,9 @@ const char *osi_code_name(uint32_t code);
 const char *osi_indication_name(uint32_t tag);
 const char *osi_phase_name(uint32_t phase);
 const char *osi_end_name(uint32_t why);
+const char *osi_verdict_name(uint32_t kind);
+const char *osi_rule_name(uint32_t rule);
+const char *osi_said_name(uint32_t said);
 
 #ifdef __cplusplus
 }

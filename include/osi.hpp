@@ -589,11 +589,109 @@ constexpr std::string_view text(phase stands) noexcept
     return "a phase without a name";
 }
 
+/* A side of a connection that a judge watches: left opened the byte connection, and sent the CR. */
+enum class tap_side : std::uint32_t {
+    left = OSI_LEFT,
+    right = OSI_RIGHT,
+};
+
+/* What a verdict says of a side. `kept` may change while octets pass; the others don't. */
+enum class verdict_kind : std::uint32_t {
+    none = OSI_VERDICT_NONE,             /* nothing: the other side left the profile before */
+    kept = OSI_VERDICT_KEPT,             /* all that it sent so far is what a conforming end may send */
+    broke = OSI_VERDICT_BROKE,           /* it broke the protocol: said, rule, offset */
+    leaves = OSI_VERDICT_LEAVES,         /* it sent what X.225 allows and this product leaves out */
+    too_many = OSI_VERDICT_TOO_MANY,     /* more than 4,096 sessions explain it: judged no further */
+    not_judged = OSI_VERDICT_NOT_JUDGED, /* judged no further: rule says why */
+};
+
+/* The rule that a side broke, or why it is judged no further. */
+enum class rule : std::uint32_t {
+    none = OSI_RULE_NONE,
+    no_such_connection = OSI_RULE_NO_SUCH_CONNECTION, /* this one and the next nine: the code of a refused call */
+    ended = OSI_RULE_ENDED,
+    bad_state = OSI_RULE_BAD_STATE,
+    not_selected = OSI_RULE_NOT_SELECTED,
+    token_not_held = OSI_RULE_TOKEN_NOT_HELD,
+    token_already_held = OSI_RULE_TOKEN_ALREADY_HELD,
+    bad_number = OSI_RULE_BAD_NUMBER,
+    serials_used_up = OSI_RULE_SERIALS_USED_UP,
+    empty = OSI_RULE_EMPTY,
+    too_long = OSI_RULE_TOO_LONG,
+    bad_tokens = OSI_RULE_BAD_TOKENS,
+    bad_enclosure = OSI_RULE_BAD_ENCLOSURE,
+    no_fault = OSI_RULE_NO_FAULT,
+    nothing_to_answer = OSI_RULE_NOTHING_TO_ANSWER,
+    outside = OSI_RULE_OUTSIDE,
+    unknown_si = OSI_RULE_UNKNOWN_SI, /* this one and the next six: the TSDU is no session units */
+    length_past_end = OSI_RULE_LENGTH_PAST_END,
+    missing_parameter = OSI_RULE_MISSING_PARAMETER,
+    duplicate_parameter = OSI_RULE_DUPLICATE_PARAMETER,
+    bad_value = OSI_RULE_BAD_VALUE,
+    bad_concatenation = OSI_RULE_BAD_CONCATENATION,
+    trailing_octets = OSI_RULE_TRAILING_OCTETS,
+    no_opening = OSI_RULE_NO_OPENING,             /* no break: the first packet has no CR, or no CC or DR */
+    other_class = OSI_RULE_OTHER_CLASS,           /* no break: the connection is not of class 0 */
+    more_connections = OSI_RULE_MORE_CONNECTIONS, /* no break: a second CR */
+    refused = OSI_RULE_REFUSED,                   /* in no verdict */
+    bad_version = OSI_RULE_BAD_VERSION,           /* this one and the next: no packet begins there */
+    bad_length = OSI_RULE_BAD_LENGTH,
+    bad_li = OSI_RULE_BAD_LI,                     /* this one and the next four: no transport unit */
+    unknown_code = OSI_RULE_UNKNOWN_CODE,
+    bad_tpdu_parameter_length = OSI_RULE_BAD_TPDU_PARAMETER_LENGTH,
+    bad_tpdu_parameter_value = OSI_RULE_BAD_TPDU_PARAMETER_VALUE,
+    duplicate_tpdu_parameter = OSI_RULE_DUPLICATE_TPDU_PARAMETER,
+    unexpected_unit = OSI_RULE_UNEXPECTED_UNIT,
+    wrong_form = OSI_RULE_WRONG_FORM,
+    tsdu_too_long = OSI_RULE_TSDU_TOO_LONG,
+    limit = OSI_RULE_LIMIT,                       /* no break: more passed than a judge keeps */
+};
+
+/* What a side sent, by its name in X.225, or what could not be read. */
+enum class said : std::uint32_t {
+    nothing = OSI_SAID_NOTHING,
+    cn = OSI_SAID_CN,
+    ac = OSI_SAID_AC,
+    rf = OSI_SAID_RF,
+    dt = OSI_SAID_DT,
+    gt = OSI_SAID_GT,
+    pt = OSI_SAID_PT,
+    mip = OSI_SAID_MIP,
+    mia = OSI_SAID_MIA,
+    map = OSI_SAID_MAP,
+    maa = OSI_SAID_MAA,
+    rs = OSI_SAID_RS,
+    ra = OSI_SAID_RA,
+    fn = OSI_SAID_FN,
+    dn = OSI_SAID_DN,
+    nf = OSI_SAID_NF,
+    ab = OSI_SAID_AB,
+    aa = OSI_SAID_AA,
+    tsdu = OSI_SAID_TSDU,                 /* a TSDU that is no session units */
+    tpkt = OSI_SAID_TPKT,                 /* octets that begin no packet */
+    tpdu = OSI_SAID_TPDU,                 /* a transport unit */
+    transport_dt = OSI_SAID_TRANSPORT_DT, /* a DT of the transport, by which a TSDU is too long */
+    transport_dr = OSI_SAID_TRANSPORT_DR, /* a DR of the transport */
+};
+
+/* A verdict on a side. */
+struct verdict {
+    tap_side side = tap_side::left;
+    verdict_kind kind = verdict_kind::none;
+    osi::said said = osi::said::nothing;
+    osi::rule rule = osi::rule::none;
+    std::uint64_t offset = 0;     /* of the packet in its direction, from 0; a TSDU has that of its last packet */
+    osi::reference reference = 0; /* the reference that this side gave the connection; 0 if it gave none so far */
+};
+
 /* The name of a number in osi.h, such as "OSI_BAD_STATE", and the version of the library. */
 inline std::string_view name(code answer) noexcept { return osi_code_name(detail::bits(answer)); }
 inline std::string_view name(tag shown) noexcept { return osi_indication_name(detail::bits(shown)); }
 inline std::string_view name(phase stands) noexcept { return osi_phase_name(detail::bits(stands)); }
 inline std::string_view name(ending why) noexcept { return osi_end_name(detail::bits(why)); }
+inline std::string_view name(verdict_kind kind) noexcept { return osi_verdict_name(detail::bits(kind)); }
+inline std::string_view name(rule broken) noexcept { return osi_rule_name(detail::bits(broken)); }
+inline std::string_view name(said what) noexcept { return osi_said_name(detail::bits(what)); }
 inline std::string_view version() noexcept { return osi_version(); }
 
 /* What a trace keeps: nothing (there is none), counters, or counters and lines. */
@@ -991,6 +1089,112 @@ private:
     }
 
     std::unique_ptr<osi_end, freed> slot_;
+};
+
+/* ---- the judge of a connection that passes ---------------------------------------------------------- */
+
+/* Watches a connection between two other programs, and says which side first sent what no conforming end
+ * could have sent there (docs/JUDGING.md): `osi judge`, piece by piece, in bounded memory. You can move a
+ * judge, but not copy it. An object that was moved from, or default-made, holds none: its calls answer
+ * code::slot_empty, and it has no verdicts.
+ *
+ *     osi::judge judge = *osi::judge::make();          // empty if memory ran out
+ *     (void)judge.feed_all(osi::tap_side::left, piece, [](const osi::verdict &said) {
+ *         std::cout << osi::name(said.rule) << '\n';
+ *     });
+ */
+class judge {
+public:
+    /* Holds no judge. */
+    judge() noexcept = default;
+
+    /* The judge of a connection on which nothing has passed: ok, no_memory. */
+    static result<judge> make() noexcept
+    {
+        result<judge> answer;
+        answer.value.slot_.reset(new (std::nothrow) osi_judge OSI_JUDGE);
+        answer.code = answer.value ? static_cast<osi::code>(osi_judge_new(answer.value.slot_.get())) : code::no_memory;
+        if (!answer)
+            answer.value.reset();
+        return answer;
+    }
+
+    /* Whether it holds a judge. */
+    explicit operator bool() const noexcept { return slot_ != nullptr; }
+
+    /* Frees the judge. */
+    void reset() noexcept { slot_.reset(); }
+
+    /* Feeds octets of a side, in the order in which they passed the tap, and answers how many passed: all of them
+     * if the code is ok. ok, slot_empty, no_memory (the first ones have passed: feed the others again). */
+    result<std::size_t> feed(tap_side side, octets piece) noexcept
+    {
+        result<std::size_t> answer;
+        answer.code = call(osi_judge_feed, detail::bits(side), piece.data(), piece.size(), &answer.value);
+        return answer;
+    }
+
+    /* The same, and passes each verdict that is certain to on_verdict(const verdict &). */
+    template <class OnVerdict>
+    result<std::size_t> feed_all(tap_side side, octets piece, OnVerdict &&on_verdict)
+    {
+        const result<std::size_t> answer = feed(side, piece);
+        while (const std::optional<verdict> certain = next())
+            on_verdict(*certain);
+        return answer;
+    }
+
+    /* A verdict that is certain: at most one on each side, and never `kept`. */
+    std::optional<verdict> next() noexcept
+    {
+        osi_verdict shown;
+        if (!slot_ || !osi_judge_next(slot_.get(), &shown))
+            return std::nullopt;
+        return verdict_of(shown);
+    }
+
+    /* The verdict on a side by what has passed so far, whether it is certain or not. */
+    verdict of(tap_side side) noexcept
+    {
+        osi_verdict shown;
+        return call(osi_judge_verdict, detail::bits(side), &shown) == code::ok ? verdict_of(shown) : verdict();
+    }
+
+    /* The text of what has passed so far, as `osi judge` prints it: ok, slot_empty, no_memory. It is valid until
+     * the next call with this judge. */
+    result<std::string_view> text() noexcept
+    {
+        result<std::string_view> answer;
+        answer.code = call(osi_judge_write);
+        osi_octets lent = OSI_NO_OCTETS;
+        if (answer)
+            osi_judge_text(slot_.get(), &lent);
+        answer.value = octets(lent).text();
+        return answer;
+    }
+
+private:
+    struct freed {
+        void operator()(osi_judge *slot) const noexcept
+        {
+            osi_judge_free(slot);
+            delete slot;
+        }
+    };
+
+    static verdict verdict_of(const osi_verdict &v) noexcept
+    {
+        return {static_cast<tap_side>(v.side), static_cast<verdict_kind>(v.kind), static_cast<osi::said>(v.said),
+                static_cast<osi::rule>(v.rule), v.offset, v.reference};
+    }
+
+    template <class Function, class... Arguments>
+    code call(Function function, Arguments... arguments) noexcept
+    {
+        return slot_ ? static_cast<code>(function(slot_.get(), arguments...)) : code::slot_empty;
+    }
+
+    std::unique_ptr<osi_judge, freed> slot_;
 };
 
 } // namespace osi

@@ -117,3 +117,91 @@ const char *osi_end_name(uint32_t why)
     }
     return unknown;
 }
+
+const char *osi_verdict_name(uint32_t kind)
+{
+    switch (kind) {
+        NAME(OSI_VERDICT_NONE);
+        NAME(OSI_VERDICT_KEPT);
+        NAME(OSI_VERDICT_BROKE);
+        NAME(OSI_VERDICT_LEAVES);
+        NAME(OSI_VERDICT_TOO_MANY);
+        NAME(OSI_VERDICT_NOT_JUDGED);
+    }
+    return unknown;
+}
+
+const char *osi_rule_name(uint32_t rule)
+{
+    switch (rule) {
+        NAME(OSI_RULE_NONE);
+        NAME(OSI_RULE_NO_SUCH_CONNECTION);
+        NAME(OSI_RULE_ENDED);
+        NAME(OSI_RULE_BAD_STATE);
+        NAME(OSI_RULE_NOT_SELECTED);
+        NAME(OSI_RULE_TOKEN_NOT_HELD);
+        NAME(OSI_RULE_TOKEN_ALREADY_HELD);
+        NAME(OSI_RULE_BAD_NUMBER);
+        NAME(OSI_RULE_SERIALS_USED_UP);
+        NAME(OSI_RULE_EMPTY);
+        NAME(OSI_RULE_TOO_LONG);
+        NAME(OSI_RULE_BAD_TOKENS);
+        NAME(OSI_RULE_BAD_ENCLOSURE);
+        NAME(OSI_RULE_NO_FAULT);
+        NAME(OSI_RULE_NOTHING_TO_ANSWER);
+        NAME(OSI_RULE_OUTSIDE);
+        NAME(OSI_RULE_UNKNOWN_SI);
+        NAME(OSI_RULE_LENGTH_PAST_END);
+        NAME(OSI_RULE_MISSING_PARAMETER);
+        NAME(OSI_RULE_DUPLICATE_PARAMETER);
+        NAME(OSI_RULE_BAD_VALUE);
+        NAME(OSI_RULE_BAD_CONCATENATION);
+        NAME(OSI_RULE_TRAILING_OCTETS);
+        NAME(OSI_RULE_NO_OPENING);
+        NAME(OSI_RULE_OTHER_CLASS);
+        NAME(OSI_RULE_MORE_CONNECTIONS);
+        NAME(OSI_RULE_REFUSED);
+        NAME(OSI_RULE_BAD_VERSION);
+        NAME(OSI_RULE_BAD_LENGTH);
+        NAME(OSI_RULE_BAD_LI);
+        NAME(OSI_RULE_UNKNOWN_CODE);
+        NAME(OSI_RULE_BAD_TPDU_PARAMETER_LENGTH);
+        NAME(OSI_RULE_BAD_TPDU_PARAMETER_VALUE);
+        NAME(OSI_RULE_DUPLICATE_TPDU_PARAMETER);
+        NAME(OSI_RULE_UNEXPECTED_UNIT);
+        NAME(OSI_RULE_WRONG_FORM);
+        NAME(OSI_RULE_TSDU_TOO_LONG);
+        NAME(OSI_RULE_LIMIT);
+    }
+    return unknown;
+}
+
+const char *osi_said_name(uint32_t said)
+{
+    switch (said) {
+        NAME(OSI_SAID_NOTHING);
+        NAME(OSI_SAID_CN);
+        NAME(OSI_SAID_AC);
+        NAME(OSI_SAID_RF);
+        NAME(OSI_SAID_DT);
+        NAME(OSI_SAID_GT);
+        NAME(OSI_SAID_PT);
+        NAME(OSI_SAID_MIP);
+        NAME(OSI_SAID_MIA);
+        NAME(OSI_SAID_MAP);
+        NAME(OSI_SAID_MAA);
+        NAME(OSI_SAID_RS);
+        NAME(OSI_SAID_RA);
+        NAME(OSI_SAID_FN);
+        NAME(OSI_SAID_DN);
+        NAME(OSI_SAID_NF);
+        NAME(OSI_SAID_AB);
+        NAME(OSI_SAID_AA);
+        NAME(OSI_SAID_TSDU);
+        NAME(OSI_SAID_TPKT);
+        NAME(OSI_SAID_TPDU);
+        NAME(OSI_SAID_TRANSPORT_DT);
+        NAME(OSI_SAID_TRANSPORT_DR);
+    }
+    return unknown;
+}

@@ -9,6 +9,9 @@
 #include <stdio.h>
 #include <stdlib.h>
 #include <string.h>
+#ifdef __GLIBC__
+#include <malloc.h>
+#endif
 
 static unsigned passed, failed;
 #define CHECK(holds) check(holds, #holds, __LINE__)
@@ -400,6 +403,184 @@ static void lines_that_nobody_fetches_are_bounded(void)
     osi_free(&ends[1]);
 }
 
+/* ---- a connection that passes is judged */
+
+static const uint8_t cr[] = {3, 0, 0, 14, 9, 0xE0, 0, 0, 0, 1, 0, 0xC0, 1, 10};
+static const uint8_t cc[] = {3, 0, 0, 14, 9, 0xD0, 0, 1, 0, 2, 0, 0xC0, 1, 10};
+static const uint8_t dt[] = {3, 0, 0, 19, 2, 0xF0, 0x80, 1, 0, 1, 0, 'r', 'e', 'c', 'o', 'r', 'd', ' ', '1'};
+/* A CN with all units of 00B9 and all tokens with the side that asks; with 14 for 13 it is the AC that agrees. */
+static uint8_t cn[] = {3, 0, 0, 27, 2, 0xF0, 0x80, 13, 18, 5, 12, 19, 1, 1, 22, 1, 2, 23, 1, '1', 26, 1, 0, 20, 2, 0, 0xB9};
+
+/* Feeds octets of a side, of which all have to pass. */
+static void pass(osi_judge *judge, uint32_t side, const uint8_t *octets, size_t length)
+{
+    size_t used = 0;
+    CHECK_QUIETLY(osi_judge_feed(judge, side, octets, length, &used) == OSI_OK && used == length);
+}
+
+static void open_in(osi_judge *judge)
+{
+    CHECK(osi_judge_new(judge) == OSI_OK);
+    pass(judge, OSI_LEFT, cr, sizeof cr);
+    pass(judge, OSI_RIGHT, cc, sizeof cc);
+    cn[7] = 13;
+    pass(judge, OSI_LEFT, cn, sizeof cn);
+    cn[7] = 14;
+    pass(judge, OSI_RIGHT, cn, sizeof cn);
+}
+
+static bool says(osi_judge *judge, const char *text)
+{
+    osi_octets lent;
+    CHECK(osi_judge_write(judge) == OSI_OK);
+    osi_judge_text(judge, &lent);
+    return lent.length == strlen(text) && memcmp(lent.at, text, lent.length) == 0;
+}
+
+/* The side that sends data without the token is told at once, and once; the other side has kept the protocol. */
+static void a_break_is_told(void)
+{
+    osi_judge judge = OSI_JUDGE;
+    osi_verdict verdict;
+    open_in(&judge);
+    CHECK(!osi_judge_next(&judge, &verdict) && verdict.kind == OSI_VERDICT_NONE);
+    pass(&judge, OSI_LEFT, dt, sizeof dt);
+    CHECK(!osi_judge_next(&judge, &verdict));
+    for (size_t i = 0; i < sizeof dt; i++) {
+        CHECK_QUIETLY(!osi_judge_next(&judge, &verdict));
+        pass(&judge, OSI_RIGHT, dt + i, 1);
+    }
+    CHECK(osi_judge_next(&judge, &verdict));
+    CHECK(verdict.side == OSI_RIGHT && verdict.kind == OSI_VERDICT_BROKE && verdict.rule == OSI_RULE_TOKEN_NOT_HELD);
+    CHECK(verdict.said == OSI_SAID_DT && verdict.offset == 41 && verdict.reference == 2);
+    CHECK(!osi_judge_next(&judge, &verdict) && verdict.kind == OSI_VERDICT_NONE);
+    CHECK(osi_judge_verdict(&judge, OSI_RIGHT, &verdict) == OSI_OK && verdict.kind == OSI_VERDICT_BROKE && verdict.offset == 41);
+    CHECK(osi_judge_verdict(&judge, OSI_LEFT, &verdict) == OSI_OK && verdict.kind == OSI_VERDICT_KEPT && verdict.reference == 1);
+    CHECK(says(&judge, "left packets 3 octets 60 rest 0\nright packets 3 octets 60 rest 0\n"
+                       "left 1 kept 2 phase Ready held 55 next 1 below 1 lowest 1 owes Abort\n"
+                       "right 2 broke packet 41 Data TokenNotHeld\n"
+                       "right 2 knew 2 of 2 phase Ready held 00 next 1 below 1 lowest 1\n"
+                       "right broke the protocol first, packet 41: Data TokenNotHeld\n"));
+    osi_judge_free(&judge);
+    CHECK(!judge.full);
+}
+
+/* The two sides break the protocol between two questions: the first break is told first. */
+static void the_first_break_is_told_first(void)
+{
+    static const uint8_t nothing[] = {4, 0, 0, 7};
+    osi_judge judge = OSI_JUDGE;
+    osi_verdict verdict;
+    CHECK(osi_judge_new(&judge) == OSI_OK);
+    pass(&judge, OSI_LEFT, cr, sizeof cr);
+    pass(&judge, OSI_RIGHT, nothing, sizeof nothing);
+    pass(&judge, OSI_LEFT, nothing, sizeof nothing);
+    CHECK(osi_judge_next(&judge, &verdict) && verdict.side == OSI_RIGHT && verdict.offset == 0);
+    CHECK(verdict.kind == OSI_VERDICT_BROKE && verdict.rule == OSI_RULE_BAD_VERSION && verdict.said == OSI_SAID_TPKT);
+    CHECK(osi_judge_next(&judge, &verdict) && verdict.side == OSI_LEFT && verdict.offset == sizeof cr);
+    CHECK(!osi_judge_next(&judge, &verdict));
+    osi_judge_free(&judge);
+}
+
+/* A connection of which more passes than a judge keeps is judged no further, and that is said once for each side. */
+static void more_than_a_judge_keeps_passes(bool is_long)
+{
+    static uint8_t data[50000];
+    osi_judge judge = OSI_JUDGE;
+    osi_verdict verdict;
+    memcpy(data, dt, sizeof dt);
+    data[2] = sizeof data >> 8;
+    data[3] = sizeof data & 255;
+    open_in(&judge);
+    for (int i = 0; i < (is_long ? 3 : 4094); i++)
+        pass(&judge, OSI_LEFT, is_long ? data : dt, is_long ? sizeof data : sizeof dt);
+    CHECK(!osi_judge_next(&judge, &verdict));
+    CHECK(osi_judge_verdict(&judge, OSI_LEFT, &verdict) == OSI_OK && verdict.kind == OSI_VERDICT_KEPT);
+    pass(&judge, OSI_LEFT, data, sizeof data);
+    for (uint32_t side = OSI_LEFT; side <= OSI_RIGHT; side++) {
+        CHECK(osi_judge_next(&judge, &verdict) && verdict.side == side);
+        CHECK(verdict.kind == OSI_VERDICT_NOT_JUDGED && verdict.rule == OSI_RULE_LIMIT);
+    }
+    pass(&judge, OSI_RIGHT, dt, sizeof dt);
+    CHECK(!osi_judge_next(&judge, &verdict));
+    CHECK(osi_judge_verdict(&judge, OSI_RIGHT, &verdict) == OSI_OK && verdict.kind == OSI_VERDICT_NOT_JUDGED);
+    osi_judge_free(&judge);
+}
+
+#if defined(__GLIBC__) && defined(__GLIBC_PREREQ)
+#if __GLIBC_PREREQ(2, 33)
+#define KNOWS_WHAT_IS_ALLOCATED
+#endif
+#endif
+
+#ifdef KNOWS_WHAT_IS_ALLOCATED
+static size_t allocated(void)
+{
+    const struct mallinfo2 info = mallinfo2();
+    return info.uordblks + info.hblkhd;
+}
+
+/* How much memory a judge takes if data passes until it judges no more, in packets of this length. If parts is set, they are the
+ * parts of one TSDU. */
+static size_t taken_by(size_t length, bool parts)
+{
+    static uint8_t data[65535];
+    const size_t before = allocated();
+    osi_judge judge = OSI_JUDGE;
+    osi_verdict verdict;
+    memcpy(data, dt, sizeof dt);
+    data[2] = (uint8_t)(length >> 8);
+    data[3] = (uint8_t)(length & 255);
+    data[6] = parts ? 0 : 0x80;
+    open_in(&judge);
+    do
+        pass(&judge, OSI_LEFT, data, length);
+    while (osi_judge_verdict(&judge, OSI_LEFT, &verdict) == OSI_OK && verdict.kind == OSI_VERDICT_KEPT);
+    CHECK(verdict.kind == OSI_VERDICT_NOT_JUDGED && verdict.rule == OSI_RULE_LIMIT);
+    const size_t taken = allocated() - before;
+    osi_judge_free(&judge);
+    return taken;
+}
+
+/* Whatever the lengths of its packets and TSDUs, a judge takes at most 1 MiB. */
+static void a_judge_takes_little_memory(void)
+{
+    static const size_t lengths[] = {12, 13, 19, 24, 40, 48, 100, 1000, 8192, 50000, 65535};
+    for (size_t i = 0; i < sizeof lengths / sizeof *lengths; i++) {
+        CHECK(taken_by(lengths[i], false) <= 1048576);
+        CHECK(taken_by(lengths[i], true) <= 1048576);
+    }
+}
+#else
+static void a_judge_takes_little_memory(void)
+{
+    printf("not there: mallinfo2, by which the memory of a judge is measured\n");
+}
+#endif
+
+/* What is not a side, and slots that hold no judge or hold one already. */
+static void judges_that_are_refused(void)
+{
+    osi_judge judge = OSI_JUDGE;
+    osi_verdict verdict;
+    osi_octets lent;
+    size_t used = 1;
+    CHECK(osi_judge_feed(&judge, OSI_LEFT, cr, sizeof cr, &used) == OSI_SLOT_EMPTY && used == 0);
+    CHECK(osi_judge_verdict(&judge, OSI_LEFT, &verdict) == OSI_SLOT_EMPTY && verdict.kind == OSI_VERDICT_NONE);
+    CHECK(!osi_judge_next(&judge, &verdict) && osi_judge_write(&judge) == OSI_SLOT_EMPTY);
+    osi_judge_text(&judge, &lent);
+    CHECK(lent.length == 0 && lent.at != NULL);
+    osi_judge_free(&judge);
+    CHECK(osi_judge_new(&judge) == OSI_OK && osi_judge_new(&judge) == OSI_IN_USE);
+    CHECK(osi_judge_feed(&judge, 2, cr, sizeof cr, &used) == OSI_BAD_ARGUMENT && used == 0);
+    CHECK(osi_judge_verdict(&judge, 2, &verdict) == OSI_BAD_ARGUMENT && verdict.kind == OSI_VERDICT_NONE);
+    CHECK(osi_judge_feed(&judge, OSI_LEFT, OSI_NO_DATA, &used) == OSI_OK && used == 0);
+    pass(&judge, OSI_LEFT, cc, sizeof cc);
+    CHECK(osi_judge_next(&judge, &verdict) && verdict.kind == OSI_VERDICT_NOT_JUDGED && verdict.rule == OSI_RULE_NO_OPENING);
+    osi_judge_free(&judge);
+    osi_judge_free(&judge);
+}
+
 /* ---- names */
 
 static void names(void)
@@ -409,6 +590,9 @@ static void names(void)
     CHECK(strcmp(osi_indication_name(OSI_PEER_ABORT), "OSI_PEER_ABORT") == 0);
     CHECK(strcmp(osi_phase_name(OSI_PHASE_READY), "OSI_PHASE_READY") == 0);
     CHECK(strcmp(osi_end_name(OSI_END_BAD_LI), "OSI_END_BAD_LI") == 0);
+    CHECK(strcmp(osi_verdict_name(OSI_VERDICT_LEAVES), "OSI_VERDICT_LEAVES") == 0);
+    CHECK(strcmp(osi_rule_name(OSI_RULE_TOKEN_NOT_HELD), "OSI_RULE_TOKEN_NOT_HELD") == 0);
+    CHECK(strcmp(osi_said_name(OSI_SAID_MIP), "OSI_SAID_MIP") == 0);
     CHECK(strcmp(osi_code_name(6), "unknown") == 0 && strcmp(osi_end_name(8), "unknown") == 0);
 }
 
@@ -425,6 +609,12 @@ int main(void)
     a_connection_is_given_up_alone();
     lines_are_traced();
     lines_that_nobody_fetches_are_bounded();
+    a_break_is_told();
+    the_first_break_is_told_first();
+    more_than_a_judge_keeps_passes(true);
+    more_than_a_judge_keeps_passes(false);
+    a_judge_takes_little_memory();
+    judges_that_are_refused();
     names();
     printf("%u passed, %u failed\n", passed, failed);
     return failed != 0;

@@ -624,6 +624,36 @@ static void an_end_is_traced()
     CHECK(none.traced(osi::direction::sent, keep) == code::slot_empty);
 }
 
+/* A connection that passes is judged, and the first break is told first. */
+static void a_connection_is_judged()
+{
+    static_assert(!std::is_copy_constructible_v<osi::judge> && std::is_nothrow_move_constructible_v<osi::judge>);
+    const std::array<std::uint8_t, 14> cr = {3, 0, 0, 14, 9, 0xE0, 0, 0, 0, 1, 0, 0xC0, 1, 10};
+    std::vector<osi::verdict> told;
+    const auto keep = [&](const osi::verdict &verdict) { told.push_back(verdict); };
+    osi::judge empty;
+    CHECK(!empty && empty.feed(osi::tap_side::left, cr).code == code::slot_empty && !empty.next());
+    CHECK(empty.text().code == code::slot_empty && empty.of(osi::tap_side::left).kind == osi::verdict_kind::none);
+    auto made = osi::judge::make();
+    CHECK(made && *made);
+    osi::judge judge = std::move(*made);
+    CHECK(*judge.feed_all(osi::tap_side::left, cr, keep) == cr.size() && told.empty());
+    CHECK(judge.of(osi::tap_side::left).kind == osi::verdict_kind::kept && judge.of(osi::tap_side::left).reference == 1);
+    CHECK(*judge.feed_all(osi::tap_side::right, "HTTP/1.1 400", keep) == 12 && told.size() == 1);
+    CHECK(told[0].side == osi::tap_side::right && told[0].kind == osi::verdict_kind::broke && told[0].offset == 0);
+    CHECK(told[0].rule == osi::rule::bad_version && told[0].said == osi::said::tpkt && told[0].reference == 0);
+    const auto text = judge.text();
+    CHECK(text && text->substr(text->find("right broke the")) == "right broke the protocol first, packet 0: TPKT BadVersion\n");
+    CHECK(osi::name(told[0].rule) == "OSI_RULE_BAD_VERSION" && osi::name(told[0].said) == "OSI_SAID_TPKT");
+    CHECK(osi::name(told[0].kind) == "OSI_VERDICT_BROKE");
+    judge.reset();
+    CHECK(!judge);
+    no_slot = true;
+    if (is_refused())
+        CHECK(osi::judge::make().code == code::no_memory);
+    no_slot = false;
+}
+
 int main()
 {
     octets_are_views();
@@ -652,6 +682,7 @@ int main()
     calls_are_judged();
     codes_have_texts();
     numbers_have_names();
+    a_connection_is_judged();
     std::printf("%d passed, %d failed\n", passed, failed);
     return failed == 0 ? 0 : 1;
 }

@@ -130,6 +130,67 @@ class Watching(unittest.TestCase):
             self.assertEqual(list(found), [["3", "4"]])
 
 
+@unittest.skipUnless(watch.library(), "the package osi_session or its library is not there")
+class ByLibrary(unittest.TestCase):
+    """The same by the judge of the library, without tshark."""
+
+    def setUp(self):
+        self.watching = watch.Watch(102)
+
+    printed = Watching.printed
+
+    def test_a_break_is_told_as_soon_as_it_has_passed_and_once(self):
+        rows = Rows().of("restart")
+        self.assertEqual(self.printed(*rows[:12]), "")
+        told = self.printed(rows[12])
+        self.assertTrue(told.startswith(f"{NAME}: frame 13, 1.500000 seconds: left broke the protocol first, in its packet 143."), told)
+        self.assertEqual(self.printed(*rows[13:], is_end=True), "")
+        self.assertEqual((self.watching.status(), self.watching.watched), (1, {}))
+
+    def test_no_octet_is_kept(self):
+        self.printed(*Rows().of("restart_cured"))
+        self.assertEqual(self.watching.watched[4].stream.pieces, [])
+
+    def test_that_both_kept_the_protocol_is_told_when_tcp_has_closed_the_stream(self):
+        rows = Rows()
+        self.assertEqual(self.printed(*rows.of("restart_cured"), rows.row("left", fin="1")), "")
+        self.assertEqual(self.printed(rows.row("right", fin="1")), f"{NAME}: both kept the protocol\n")
+        self.assertEqual((self.watching.status(), self.watching.watched), (0, {}))
+
+    def test_a_gap_is_waited_for_and_named_at_the_end(self):
+        rows = Rows().of("restart")
+        del rows[4]
+        self.assertEqual(self.printed(*rows, is_end=True), f"{NAME}: not judged: lost segments: 19 octets or more are not in the capture\n")
+
+    def test_segments_out_of_order_are_put_in_order(self):
+        rows = Rows().of("restart_cured")
+        rows[4], rows[5] = rows[5], rows[4]
+        self.assertEqual(self.printed(*rows, is_end=True), f"{NAME}: both kept the protocol\n")
+
+    def test_octets_that_were_acknowledged_and_not_captured_end_the_watch(self):
+        rows = Rows()
+        self.printed(*rows.of("restart")[:6])
+        self.assertEqual(self.printed(rows.row("right", lost="1")), f"{NAME}: not judged: the capture lost segments\n")
+
+    def test_a_segment_that_stays_away_for_long_is_lost(self):
+        rows = Rows().of("restart")
+        with mock.patch.object(watch, "MOST_WAITING", 20):
+            self.assertEqual(self.printed(*rows[:4], *rows[5:]), f"{NAME}: not judged: the capture lost segments\n")
+
+    def test_a_stream_that_begins_in_the_middle_is_named(self):
+        self.assertIn("not judged: the capture begins in the middle of a connection", self.printed(*Rows().of("restart")[2:], is_end=True))
+        half = Rows(stream=5).row("left", b"half a packet")
+        self.assertIn("not judged: begins in the middle", self.printed(half, is_end=True))
+
+    def test_a_stream_that_is_too_long_is_watched_no_further(self):
+        rows = Rows()
+        opening = [rows.row(piece.side, piece.octets) for piece in judged.read(test_judged.stored("restart")[0])[:4]]
+        much = bytes.fromhex("0300c35002f08001000100") + bytes(50000 - 11)
+        self.assertEqual(self.printed(*opening, *(rows.row("left", much) for _ in range(3))), "")
+        said = "not judged further: more passed than a judge of the library keeps"
+        self.assertEqual(self.printed(rows.row("left", much)), f"{NAME}: {said}\n")
+
+
 @unittest.skipUnless(shutil.which("tshark"), "tshark is not installed")
 class Captures(unittest.TestCase):
     """The program, over captures that tshark reads; `osi` is not run."""

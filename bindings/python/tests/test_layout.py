@@ -27,6 +27,10 @@ PREFIXES = {
     osi_session.Reason: "OSI_END_",
     osi_session.Trace: "OSI_TRACE_",
     osi_session.Direction: "OSI_",
+    osi_session.TapSide: "OSI_",
+    osi_session.VerdictKind: "OSI_VERDICT_",
+    osi_session.Rule: "OSI_RULE_",
+    osi_session.Said: "OSI_SAID_",
 }
 # Members that stand for more than one number, or for none, and so have no name in C.
 JOINED = {("Classes", "BOTH"), ("Classes", "NONE"), ("Units", "NONE"), ("Tokens", "NONE")}
@@ -64,7 +68,9 @@ def sections():
             continue
         name, value = number.group(1), int(number.group(2))
         begins = {"OSI_OK": "osi_code_name", "OSI_CLASS_0": None, "OSI_NONE": "osi_indication_name",
-                  "OSI_END_NONE": "osi_end_name", "OSI_PHASE_NONE": "osi_phase_name", "OSI_TRACE_OFF": None}
+                  "OSI_END_NONE": "osi_end_name", "OSI_PHASE_NONE": "osi_phase_name", "OSI_TRACE_OFF": None,
+                  "OSI_LEFT": None, "OSI_VERDICT_NONE": "osi_verdict_name", "OSI_RULE_NONE": "osi_rule_name",
+                  "OSI_SAID_NOTHING": "osi_said_name"}
         function = begins.get(name, function)
         if function:
             found[function][value] = name
@@ -140,15 +146,15 @@ class Names(unittest.TestCase):
             return set(re.findall(r"\w+", file.read()))
 
     def test_here(self):
-        self.assertEqual(functions(), set(_library.FUNCTIONS) | set(_library.TEXTS))
+        self.assertEqual(functions(), set(_library.FUNCTIONS) | set(_library.JUDGES) | set(_library.TEXTS))
 
     def test_in_the_library(self):
-        for name in (*_library.FUNCTIONS, *_library.TEXTS):
+        for name in (*_library.FUNCTIONS, *_library.JUDGES, *_library.TEXTS):
             self.assertTrue(hasattr(_library.library(), name), name)
 
     def test_each_number_has_its_name(self):
         for function, names in sections().items():
-            self.assertGreater(len(names), 10, function)
+            self.assertGreater(len(names), 5, function)
             for number in (*range(300), 1 << 31, (1 << 32) - 1):
                 told = getattr(_library.library(), function)(number).decode()
                 self.assertEqual(told, names.get(number, "unknown"), f"{function}({number})")

@@ -130,6 +130,27 @@ pub struct osi_counters {
     pub sent: osi_tally,
 }
 
+/// A slot that holds the judge of one connection, or none.
+#[repr(C)]
+pub struct osi_judge {
+    pub full: bool,
+    pub inner: osi_end_inner,
+}
+
+/// `OSI_JUDGE`.
+pub const OSI_JUDGE: osi_judge = osi_judge { full: false, inner: osi_end_inner { at: std::ptr::null_mut() } };
+
+#[repr(C)]
+#[derive(Clone, Copy, Default)]
+pub struct osi_verdict {
+    pub offset: u64,
+    pub kind: u32,
+    pub side: u32,
+    pub rule: u32,
+    pub said: u32,
+    pub reference: u16,
+}
+
 pub const OSI_OK: u32 = 0;
 pub const OSI_NO_MEMORY: u32 = 3;
 pub const OSI_END_NONE: u32 = 0;
@@ -231,6 +252,19 @@ extern "C" {
     pub fn osi_trace_fetch(end: *mut osi_end, direction: u32) -> u32;
     pub fn osi_trace_lines(end: *mut osi_end, lines: *mut osi_octets);
     pub fn osi_counts(end: *mut osi_end, shown: *mut osi_counters);
+    pub fn osi_judge_new(judge: *mut osi_judge) -> u32;
+    pub fn osi_judge_free(judge: *mut osi_judge);
+    pub fn osi_judge_feed(
+        judge: *mut osi_judge,
+        side: u32,
+        piece: *const u8,
+        length: usize,
+        used: *mut usize,
+    ) -> u32;
+    pub fn osi_judge_next(judge: *mut osi_judge, verdict: *mut osi_verdict) -> bool;
+    pub fn osi_judge_verdict(judge: *mut osi_judge, side: u32, verdict: *mut osi_verdict) -> u32;
+    pub fn osi_judge_write(judge: *mut osi_judge) -> u32;
+    pub fn osi_judge_text(judge: *mut osi_judge, text: *mut osi_octets);
     pub fn osi_version() -> *const c_char;
 }
 

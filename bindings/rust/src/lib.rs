@@ -87,6 +87,7 @@ mod end;
 #[allow(missing_docs, non_camel_case_types)]
 mod ffi;
 mod indications;
+mod judges;
 mod terms;
 mod traces;
 
@@ -102,6 +103,7 @@ pub use addresses::Addresses;
 pub use codes::{Ending, Error, Fault, Spelling};
 pub use end::{End, Fed};
 pub use indications::Indication;
+pub use judges::{Judge, NotFed, Rule, Said, TapSide, Verdict, VerdictKind};
 pub use terms::{Classes, Opening, Phase, Reference, Refusal, Side, Sides, Sizes, Terms, Tokens, Units};
 pub use traces::{Counters, Direction, Tally, Trace};
 

@@ -1,5 +1,7 @@
 pub mod Owned
+pub mod OwnedWatch
 pub mod Lent
+pub mod LentJudge
 pub mod Codes
 pub mod Arguments
 pub mod Traced
@@ -7,3 +9,7 @@ pub mod Ends
 pub mod Tracing
 pub mod Addressed
 pub mod Told
+pub mod Watched
+pub mod Ruled
+pub mod Verdicts
+pub mod Watching

@@ -1,8 +1,9 @@
-//! One end of a byte connection for C: the functions that `include/osi.h` declares.
+//! One end of a byte connection, and the judge of one that passes, for C: the functions that `include/osi.h` declares.
 //!
-//! Each function is a call of [`osi_stack::Stack`], and its contract says what that call's contract says, in the
-//! numbers of C. `OsiEnd` is the slot that a C program holds. Every argument is allowed except a pointer to nothing:
-//! numbers that are out of range give `BAD_ARGUMENT`, and an empty slot gives `CLOSED`.
+//! Each function is a call of [`osi_stack::Stack`] or [`osi_judge::Judge`], and its contract says what that call's
+//! contract says, in the numbers of C. `OsiEnd` and `OsiJudge` are the slots that a C program holds. Every argument is
+//! allowed except a pointer to nothing: numbers that are out of range give `BAD_ARGUMENT`, and an empty slot gives
+//! `CLOSED`.
 //!
 //! A C caller has a few duties that no contract can check (true lengths, one thread at a time): docs/GUIDE.md lists
 //! them. Three functions of the header are small C functions around these, in `bindings/c/edges.c`.
@@ -15,9 +16,15 @@ mod codes;
 mod ends;
 mod handles;
 mod indications;
+mod judges;
+mod judging;
+mod rules;
 mod slots;
 mod standings;
 mod streams;
 mod telling;
 mod traces;
 mod tracing;
+mod verdicts;
+mod watches;
+mod watching;

@@ -35,4 +35,6 @@ mod verdicts;
 
 pub use disputes::judge_text;
 pub use texts::{Judgement, push_verdict, status_of};
-pub use verdicts::{Account, Connection, Outcome, Told, Unjudged, Verdict, verdict_of};
+pub use verdicts::{
+    Account, Connection, Outcome, Told, Unjudged, Verdict, judgement_of, verdict_of,
+};

@@ -287,8 +287,8 @@ pub fn verdict_of(judge: &Judge) -> Result<Verdict, AllocError>
     })
 }
 
-/// The judgement of everything that a judge was fed.
-pub(crate) fn judgement_of(alloc: Global, judge: &Judge) -> Result<Judgement, AllocError>
+/// The judgement of everything that a judge was fed. `Err` means that memory ran out.
+pub fn judgement_of(alloc: Global, judge: &Judge) -> Result<Judgement, AllocError>
     ensures judged { IfOk result (λ j. (capture : Capture) → Knows judge.now capture → Judged capture j.lines.items j.status) }
     ensures small { IfOk result (λ j. j.status < 2) }
 {

@@ -10,6 +10,8 @@ Send the octets of ``end.outgoing()`` to the peer, and pass the number that you 
 Pass the octets that you received to ``end.feed_all(piece)``, which yields the indications.
 ``osi_session.aio`` does both over asyncio.
 
+``Judge`` watches a connection between two other programs, and says which side broke the protocol first.
+
 The package calls the shared library libosi-session.so of the same project over ctypes. It takes the library
 from the folder that OSI_SESSION_DIR names (or the file OSI_SESSION_LIBRARY), else the one in this package, if
 it was built with one, else the one that the loader or pkg-config finds.
@@ -22,14 +24,19 @@ from ._codes import (
     Phase,
     Reason,
     Refusal,
+    Rule,
+    Said,
     SessionError,
     Side,
     Spelling,
+    TapSide,
     Tokens,
     Trace,
     Units,
+    VerdictKind,
 )
 from ._end import End
+from ._judge import Judge, Verdict
 from ._library import VERSION as __version__, LibraryNotFound, library_version
 from ._values import (
     Aborted,
@@ -85,6 +92,7 @@ __all__ = [
     "Fed",
     "Given",
     "Indication",
+    "Judge",
     "LibraryNotFound",
     "Lost",
     "Major",
@@ -103,6 +111,8 @@ __all__ = [
     "Released",
     "Restart",
     "Restarted",
+    "Rule",
+    "Said",
     "SessionError",
     "Shown",
     "Side",
@@ -110,9 +120,12 @@ __all__ = [
     "Sizes",
     "Spelling",
     "Tally",
+    "TapSide",
     "Terms",
     "Tokens",
     "Trace",
     "Units",
+    "Verdict",
+    "VerdictKind",
     "library_version",
 ]

@@ -260,3 +260,164 @@ class Spelling(IntEnum):
     BAD_VALUE = 5
     BAD_CONCATENATION = 6
     OCTETS_LEFT_OVER = 7
+
+
+class TapSide(IntEnum):
+    """A side of a connection that a ``Judge`` watches."""
+
+    LEFT = 0
+    """The side that opened the byte connection, and sent the CR."""
+    RIGHT = 1
+    """The other side."""
+
+    @property
+    def other(self) -> TapSide:
+        """The other side."""
+        return TapSide(1 - self)
+
+
+class VerdictKind(IntEnum):
+    """What a ``Verdict`` says of a side. KEPT may change while octets pass; the others don't."""
+
+    NONE = 0
+    """Nothing: the other side left the profile before."""
+    KEPT = 1
+    """All that it sent so far is what a conforming end may send."""
+    BROKE = 2
+    """It broke the protocol."""
+    LEAVES = 3
+    """It sent what X.225 allows and this product leaves out."""
+    TOO_MANY = 4
+    """More than 4,096 sessions explain it, so it is judged no further."""
+    NOT_JUDGED = 5
+    """It is judged no further; the rule says why."""
+
+
+class Rule(IntEnum):
+    """The rule that a side broke, or why it is judged no further."""
+
+    NONE = 0
+    NO_SUCH_CONNECTION = 10
+    """There was no session connection."""
+    ENDED = 11
+    """The session connection was over."""
+    BAD_STATE = 12
+    """A session may not send it in this phase (X.225 annex A)."""
+    NOT_SELECTED = 13
+    """Its functional unit or token is not available."""
+    TOKEN_NOT_HELD = 14
+    """It needs a token that the other side held."""
+    TOKEN_ALREADY_HELD = 15
+    """It asks for a token that this side held."""
+    BAD_NUMBER = 16
+    """It names a point that it may not name."""
+    SERIALS_USED_UP = 17
+    """All numbers of points were used."""
+    EMPTY = 18
+    """Data without an octet, or a set without a token."""
+    TOO_LONG = 19
+    """It is longer than the sides have agreed."""
+    BAD_TOKENS = 30
+    """It settles a token that the other side has settled."""
+    BAD_ENCLOSURE = 31
+    """A part of data is out of its place."""
+    NO_FAULT = 32
+    """It aborts for a protocol error that nobody made."""
+    NOTHING_TO_ANSWER = 33
+    """An AA, although no AB came."""
+    OUTSIDE = 34
+    """X.225 allows it, and this product leaves it out."""
+    UNKNOWN_SI = 40
+    """The TSDU is no session units: an SI is unknown."""
+    LENGTH_PAST_END = 41
+    """A length of the TSDU goes past its end."""
+    MISSING_PARAMETER = 42
+    """A session unit lacks a parameter that it must have."""
+    DUPLICATE_PARAMETER = 43
+    """A parameter of a session unit occurs twice."""
+    BAD_VALUE = 44
+    """A parameter of a session unit has a value that it may not have."""
+    BAD_CONCATENATION = 45
+    """A session unit may not be in that place of the TSDU."""
+    TRAILING_OCTETS = 46
+    """Octets are left after the last session unit."""
+    NO_OPENING = 50
+    """No break: the first packet has no CR, or no CC or DR. The capture begins in the middle of a connection."""
+    OTHER_CLASS = 51
+    """No break: the connection is not of class 0."""
+    MORE_CONNECTIONS = 52
+    """No break: a second CR."""
+    REFUSED = 53
+    """No break: a DR refuses the connection. It is in no verdict."""
+    BAD_VERSION = 54
+    """No packet begins there: its version is not 3 (RFC 1006 section 6)."""
+    BAD_LENGTH = 55
+    """No packet begins there: its length is below 7."""
+    BAD_LI = 56
+    """The length of a transport unit is wrong (X.224 section 13)."""
+    UNKNOWN_CODE = 57
+    """The code of a transport unit is unknown."""
+    BAD_TPDU_PARAMETER_LENGTH = 58
+    """A parameter of a transport unit has a wrong length."""
+    BAD_TPDU_PARAMETER_VALUE = 59
+    """A parameter of a transport unit has a value that it may not have."""
+    DUPLICATE_TPDU_PARAMETER = 60
+    """A parameter of a transport unit occurs twice."""
+    UNEXPECTED_UNIT = 61
+    """A transport unit that is no DT of class 0."""
+    WRONG_FORM = 62
+    """A DR after the CC, which class 0 doesn't have."""
+    TSDU_TOO_LONG = 63
+    """A TSDU of more than 1,048,576 octets."""
+    LIMIT = 70
+    """No break: more passed than a judge keeps."""
+
+
+class Said(IntEnum):
+    """What a side sent: a session unit by its name in X.225, or what could not be read."""
+
+    NOTHING = 0
+    CN = 1
+    """CONNECT."""
+    AC = 2
+    """ACCEPT."""
+    RF = 3
+    """REFUSE."""
+    DT = 4
+    """DATA TRANSFER."""
+    GT = 5
+    """GIVE TOKENS."""
+    PT = 6
+    """PLEASE TOKENS."""
+    MIP = 7
+    """MINOR SYNC POINT."""
+    MIA = 8
+    """MINOR SYNC ACK."""
+    MAP = 9
+    """MAJOR SYNC POINT."""
+    MAA = 10
+    """MAJOR SYNC ACK."""
+    RS = 11
+    """RESYNCHRONIZE."""
+    RA = 12
+    """RESYNCHRONIZE ACK."""
+    FN = 13
+    """FINISH."""
+    DN = 14
+    """DISCONNECT."""
+    NF = 15
+    """NOT FINISHED."""
+    AB = 16
+    """ABORT."""
+    AA = 17
+    """ABORT ACCEPT."""
+    TSDU = 18
+    """A TSDU that is no session units."""
+    TPKT = 19
+    """Octets that begin no packet."""
+    TPDU = 20
+    """A transport unit."""
+    TRANSPORT_DT = 21
+    """A DT of the transport, by which a TSDU is too long."""
+    TRANSPORT_DR = 22
+    """A DR of the transport."""

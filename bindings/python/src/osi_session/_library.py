@@ -23,6 +23,12 @@ class Slot(ctypes.Structure):
     _fields_ = [("full", c_bool), ("inner", Inner)]
 
 
+class JudgeSlot(ctypes.Structure):
+    """osi_judge: a slot that holds the judge of a connection, or none. It begins as zeros, which is OSI_JUDGE."""
+
+    _fields_ = [("full", c_bool), ("inner", Inner)]
+
+
 class Octets(ctypes.Structure):
     _fields_ = [("at", c_void_p), ("length", c_size_t)]
 
@@ -114,6 +120,17 @@ class CountersOfC(ctypes.Structure):
     _fields_ = [("received", TallyOfC), ("sent", TallyOfC)]
 
 
+class VerdictOfC(ctypes.Structure):
+    _fields_ = [
+        ("offset", c_uint64),
+        ("kind", c_uint32),
+        ("side", c_uint32),
+        ("rule", c_uint32),
+        ("said", c_uint32),
+        ("reference", c_uint16),
+    ]
+
+
 STRUCTS = {
     "osi_end": Slot,
     "osi_octets": Octets,
@@ -128,6 +145,8 @@ STRUCTS = {
     "osi_addressing": AddressingOfC,
     "osi_tally": TallyOfC,
     "osi_counters": CountersOfC,
+    "osi_judge": JudgeSlot,
+    "osi_verdict": VerdictOfC,
 }
 
 _DATA = [c_void_p, c_size_t]
@@ -182,6 +201,16 @@ FUNCTIONS: Dict[str, Tuple[List[Any], Any]] = {
     "osi_trace_lines": ([POINTER(Octets)], None),
     "osi_counts": ([POINTER(CountersOfC)], None),
 }
+# The same for the functions that take the slot of a judge.
+JUDGES: Dict[str, Tuple[List[Any], Any]] = {
+    "osi_judge_new": ([], c_uint32),
+    "osi_judge_free": ([], None),
+    "osi_judge_feed": ([c_uint32, *_DATA, POINTER(c_size_t)], c_uint32),
+    "osi_judge_next": ([POINTER(VerdictOfC)], c_bool),
+    "osi_judge_verdict": ([c_uint32, POINTER(VerdictOfC)], c_uint32),
+    "osi_judge_write": ([], c_uint32),
+    "osi_judge_text": ([POINTER(Octets)], None),
+}
 # The argument of each function that needs no slot and returns a text.
 TEXTS: Dict[str, List[Any]] = {
     "osi_version": [],
@@ -189,6 +218,9 @@ TEXTS: Dict[str, List[Any]] = {
     "osi_indication_name": [c_uint32],
     "osi_phase_name": [c_uint32],
     "osi_end_name": [c_uint32],
+    "osi_verdict_name": [c_uint32],
+    "osi_rule_name": [c_uint32],
+    "osi_said_name": [c_uint32],
 }
 
 
@@ -236,10 +268,11 @@ def load() -> ctypes.CDLL:
         except OSError as error:
             tried.append(str(error))
             continue
-        for name, (takes, answers) in FUNCTIONS.items():
-            function = getattr(library, name)
-            function.argtypes = [POINTER(Slot), *takes]
-            function.restype = answers
+        for slot, functions in ((Slot, FUNCTIONS), (JudgeSlot, JUDGES)):
+            for name, (takes, answers) in functions.items():
+                function = getattr(library, name)
+                function.argtypes = [POINTER(slot), *takes]
+                function.restype = answers
         for name, takes in TEXTS.items():
             function = getattr(library, name)
             function.argtypes = takes

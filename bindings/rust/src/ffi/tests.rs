@@ -2,7 +2,10 @@
 //! program `bindings/layout.c`. Where that or a C compiler is not there, these tests say so and pass.
 
 use super::*;
-use crate::{Classes, Direction, Ending, Error, Indication, Phase, Refusal, Side, Tokens, Trace, Units};
+use crate::judges::{KINDS, RULES, SAID};
+use crate::{
+    Classes, Direction, Ending, Error, Indication, Phase, Refusal, Side, TapSide, Tokens, Trace, Units,
+};
 use std::collections::BTreeMap;
 use std::env;
 use std::mem::{align_of, offset_of, size_of};
@@ -79,6 +82,8 @@ fn structs_are_laid_out_as_in_c() {
         osi_addressing: calling_tsap called_tsap calling_selector called_selector;
         osi_tally: octets packets units tsdus session_units refused;
         osi_counters: received sent;
+        osi_judge: full inner;
+        osi_verdict: offset kind side rule said reference;
     };
     assert_eq!(here, of_c);
 }
@@ -213,4 +218,18 @@ fn sets_are_the_bits_of_c() {
         assert_eq!(of_c[name], [usize::from(bits)], "{name}");
     }
     assert_eq!(Classes::BOTH, Classes::CLASS_0 | Classes::CLASS_2);
+}
+
+#[test]
+fn verdicts_are_the_numbers_of_c() {
+    let Some(of_c) = layout("verdicts") else { return };
+    let kinds = KINDS.iter().map(|kind| (c_name("OSI_VERDICT_", &variant(kind)), *kind as u32));
+    assert_eq!(kinds.collect::<BTreeMap<_, _>>(), values(&of_c, "OSI_VERDICT_"));
+    let rules = RULES.iter().map(|rule| (c_name("OSI_RULE_", &variant(rule)), *rule as u32));
+    assert_eq!(rules.collect::<BTreeMap<_, _>>(), values(&of_c, "OSI_RULE_"));
+    let said = SAID.iter().map(|said| (c_name("OSI_SAID_", &variant(said)), *said as u32));
+    assert_eq!(said.collect::<BTreeMap<_, _>>(), values(&of_c, "OSI_SAID_"));
+    for side in [TapSide::Left, TapSide::Right] {
+        assert_eq!(of_c[&c_name("OSI_", &variant(side))], [side as usize]);
+    }
 }

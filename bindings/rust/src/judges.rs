@@ -1,0 +1,415 @@
+//! Judging a connection between two other programs, while it passes.
+
+use crate::codes::Error;
+use crate::end::lent;
+use crate::ffi;
+use std::fmt;
+use std::marker::PhantomData;
+use std::str;
+
+/// A side of a connection that a [`Judge`] watches.
+#[derive(Clone, Copy, Debug, PartialEq, Eq, Hash)]
+pub enum TapSide {
+    /// The side that opened the byte connection, and sent the CR.
+    Left = 0,
+    /// The other side.
+    Right = 1,
+}
+
+/// What a [`Verdict`] says of a side. [`Kept`](VerdictKind::Kept) may change while octets pass; the others don't.
+#[derive(Clone, Copy, Debug, PartialEq, Eq, Hash)]
+pub enum VerdictKind {
+    /// Nothing: the other side left the profile before.
+    None = 0,
+    /// All that it sent so far is what a conforming end may send.
+    Kept = 1,
+    /// It broke the protocol.
+    Broke = 2,
+    /// It sent what X.225 allows and this product leaves out.
+    Leaves = 3,
+    /// More than 4,096 sessions explain it, so it is judged no further.
+    TooMany = 4,
+    /// It is judged no further; the rule says why.
+    NotJudged = 5,
+}
+
+/// The rule that a side broke, or why it is judged no further.
+#[derive(Clone, Copy, Debug, PartialEq, Eq, Hash)]
+#[non_exhaustive]
+pub enum Rule {
+    /// There is none.
+    None = 0,
+    /// There was no session connection.
+    NoSuchConnection = 10,
+    /// The session connection was over.
+    Ended = 11,
+    /// A session may not send it in this phase (X.225 annex A).
+    BadState = 12,
+    /// Its functional unit or token is not available.
+    NotSelected = 13,
+    /// It needs a token that the other side held.
+    TokenNotHeld = 14,
+    /// It asks for a token that this side held.
+    TokenAlreadyHeld = 15,
+    /// It names a point that it may not name.
+    BadNumber = 16,
+    /// All numbers of points were used.
+    SerialsUsedUp = 17,
+    /// Data without an octet, or a set without a token.
+    Empty = 18,
+    /// It is longer than the sides have agreed.
+    TooLong = 19,
+    /// It settles a token that the other side has settled.
+    BadTokens = 30,
+    /// A part of data is out of its place.
+    BadEnclosure = 31,
+    /// It aborts for a protocol error that nobody made.
+    NoFault = 32,
+    /// An AA, although no AB came.
+    NothingToAnswer = 33,
+    /// X.225 allows it, and this product leaves it out.
+    Outside = 34,
+    /// The TSDU is no session units: an SI is unknown.
+    UnknownSi = 40,
+    /// A length of the TSDU goes past its end.
+    LengthPastEnd = 41,
+    /// A session unit lacks a parameter that it must have.
+    MissingParameter = 42,
+    /// A parameter of a session unit occurs twice.
+    DuplicateParameter = 43,
+    /// A parameter of a session unit has a value that it may not have.
+    BadValue = 44,
+    /// A session unit may not be in that place of the TSDU.
+    BadConcatenation = 45,
+    /// Octets are left after the last session unit.
+    TrailingOctets = 46,
+    /// No break: the first packet has no CR, or no CC or DR. The capture begins in the middle of a connection.
+    NoOpening = 50,
+    /// No break: the connection is not of class 0.
+    OtherClass = 51,
+    /// No break: a second CR.
+    MoreConnections = 52,
+    /// No break: a DR refuses the connection. It is in no verdict.
+    Refused = 53,
+    /// No packet begins there: its version is not 3 (RFC 1006 section 6).
+    BadVersion = 54,
+    /// No packet begins there: its length is below 7.
+    BadLength = 55,
+    /// The length of a transport unit is wrong (X.224 section 13).
+    BadLi = 56,
+    /// The code of a transport unit is unknown.
+    UnknownCode = 57,
+    /// A parameter of a transport unit has a wrong length.
+    BadTpduParameterLength = 58,
+    /// A parameter of a transport unit has a value that it may not have.
+    BadTpduParameterValue = 59,
+    /// A parameter of a transport unit occurs twice.
+    DuplicateTpduParameter = 60,
+    /// A transport unit that is no DT of class 0.
+    UnexpectedUnit = 61,
+    /// A DR after the CC, which class 0 doesn't have.
+    WrongForm = 62,
+    /// A TSDU of more than 1,048,576 octets.
+    TsduTooLong = 63,
+    /// No break: more passed than a judge keeps.
+    Limit = 70,
+}
+
+/// What a side sent: a session unit by its name in X.225, or what could not be read.
+#[derive(Clone, Copy, Debug, PartialEq, Eq, Hash)]
+#[non_exhaustive]
+pub enum Said {
+    /// Nothing.
+    Nothing = 0,
+    /// CONNECT.
+    Cn = 1,
+    /// ACCEPT.
+    Ac = 2,
+    /// REFUSE.
+    Rf = 3,
+    /// DATA TRANSFER.
+    Dt = 4,
+    /// GIVE TOKENS.
+    Gt = 5,
+    /// PLEASE TOKENS.
+    Pt = 6,
+    /// MINOR SYNC POINT.
+    Mip = 7,
+    /// MINOR SYNC ACK.
+    Mia = 8,
+    /// MAJOR SYNC POINT.
+    Map = 9,
+    /// MAJOR SYNC ACK.
+    Maa = 10,
+    /// RESYNCHRONIZE.
+    Rs = 11,
+    /// RESYNCHRONIZE ACK.
+    Ra = 12,
+    /// FINISH.
+    Fn = 13,
+    /// DISCONNECT.
+    Dn = 14,
+    /// NOT FINISHED.
+    Nf = 15,
+    /// ABORT.
+    Ab = 16,
+    /// ABORT ACCEPT.
+    Aa = 17,
+    /// A TSDU that is no session units.
+    Tsdu = 18,
+    /// Octets that begin no packet.
+    Tpkt = 19,
+    /// A transport unit.
+    Tpdu = 20,
+    /// A DT of the transport, by which a TSDU is too long.
+    TransportDt = 21,
+    /// A DR of the transport.
+    TransportDr = 22,
+}
+
+pub(crate) const KINDS: [VerdictKind; 6] = [
+    VerdictKind::None,
+    VerdictKind::Kept,
+    VerdictKind::Broke,
+    VerdictKind::Leaves,
+    VerdictKind::TooMany,
+    VerdictKind::NotJudged,
+];
+
+pub(crate) const RULES: &[Rule] = &[
+    Rule::None,
+    Rule::NoSuchConnection,
+    Rule::Ended,
+    Rule::BadState,
+    Rule::NotSelected,
+    Rule::TokenNotHeld,
+    Rule::TokenAlreadyHeld,
+    Rule::BadNumber,
+    Rule::SerialsUsedUp,
+    Rule::Empty,
+    Rule::TooLong,
+    Rule::BadTokens,
+    Rule::BadEnclosure,
+    Rule::NoFault,
+    Rule::NothingToAnswer,
+    Rule::Outside,
+    Rule::UnknownSi,
+    Rule::LengthPastEnd,
+    Rule::MissingParameter,
+    Rule::DuplicateParameter,
+    Rule::BadValue,
+    Rule::BadConcatenation,
+    Rule::TrailingOctets,
+    Rule::NoOpening,
+    Rule::OtherClass,
+    Rule::MoreConnections,
+    Rule::Refused,
+    Rule::BadVersion,
+    Rule::BadLength,
+    Rule::BadLi,
+    Rule::UnknownCode,
+    Rule::BadTpduParameterLength,
+    Rule::BadTpduParameterValue,
+    Rule::DuplicateTpduParameter,
+    Rule::UnexpectedUnit,
+    Rule::WrongForm,
+    Rule::TsduTooLong,
+    Rule::Limit,
+];
+
+pub(crate) const SAID: &[Said] = &[
+    Said::Nothing,
+    Said::Cn,
+    Said::Ac,
+    Said::Rf,
+    Said::Dt,
+    Said::Gt,
+    Said::Pt,
+    Said::Mip,
+    Said::Mia,
+    Said::Map,
+    Said::Maa,
+    Said::Rs,
+    Said::Ra,
+    Said::Fn,
+    Said::Dn,
+    Said::Nf,
+    Said::Ab,
+    Said::Aa,
+    Said::Tsdu,
+    Said::Tpkt,
+    Said::Tpdu,
+    Said::TransportDt,
+    Said::TransportDr,
+];
+
+/// A verdict on a side of a connection.
+#[derive(Clone, Copy, Debug, PartialEq, Eq, Hash)]
+pub struct Verdict {
+    /// The side.
+    pub side: TapSide,
+    /// What is said of it.
+    pub kind: VerdictKind,
+    /// What it sent.
+    pub said: Said,
+    /// The rule that it broke.
+    pub rule: Rule,
+    /// The offset of the packet in its direction, from 0. A TSDU has that of its last packet.
+    pub offset: u64,
+    /// The reference that this side gave the connection; `None` if it gave none so far.
+    pub reference: Option<u16>,
+}
+
+impl Verdict {
+    fn of(shown: &ffi::osi_verdict) -> Self {
+        Verdict {
+            side: if shown.side == TapSide::Right as u32 { TapSide::Right } else { TapSide::Left },
+            kind: KINDS.into_iter().find(|kind| *kind as u32 == shown.kind).unwrap_or(VerdictKind::None),
+            said: SAID.iter().copied().find(|said| *said as u32 == shown.said).unwrap_or(Said::Nothing),
+            rule: RULES.iter().copied().find(|rule| *rule as u32 == shown.rule).unwrap_or(Rule::None),
+            offset: shown.offset,
+            reference: (shown.reference != 0).then_some(shown.reference),
+        }
+    }
+}
+
+impl fmt::Display for Verdict {
+    fn fmt(&self, f: &mut fmt::Formatter<'_>) -> fmt::Result {
+        write!(f, "{:?} {:?} packet {}: {:?} {:?}", self.side, self.kind, self.offset, self.said, self.rule)
+    }
+}
+
+/// Watches a connection between two other programs, and says which side first sent what no conforming end could
+/// have sent there: `osi judge`, piece by piece. It needs no [`End`](crate::End), no key and no clock.
+///
+/// It reads one connection of class 0, from its first octet on. It keeps the TSDUs that passed, in at most 1 MiB:
+/// those of 196,608 octets of both sides together, and no more than 4,096 of them. What passes after that is not
+/// judged, and a side that was kept until then has [`VerdictKind::NotJudged`] with [`Rule::Limit`].
+///
+/// ```
+/// use osi_session::{Judge, Rule, TapSide, VerdictKind};
+///
+/// # fn main() -> Result<(), osi_session::Error> {
+/// let mut judge = Judge::new()?;
+/// judge.feed(TapSide::Left, b"GET / HTTP/1.1")?;
+/// let verdict = judge.next_verdict().expect("no packet begins so");
+/// assert_eq!((verdict.kind, verdict.rule, verdict.offset), (VerdictKind::Broke, Rule::BadVersion, 0));
+/// # Ok(())
+/// # }
+/// ```
+pub struct Judge {
+    slot: Box<ffi::osi_judge>,
+    /// A judge may go to another thread, and is not used by two at the same time.
+    alone: PhantomData<*mut ()>,
+}
+
+// SAFETY: a judge shares nothing with others, and all calls take it by `&mut`.
+unsafe impl Send for Judge {}
+
+// SAFETY, of each call below: the slot began as OSI_JUDGE, only these functions read or write it, and `&mut self`
+// keeps two calls apart and ends the borrow of text that was lent.
+impl Judge {
+    /// The judge of a connection on which nothing has passed.
+    ///
+    /// # Errors
+    /// [`Error::NoMemory`].
+    pub fn new() -> Result<Judge, Error> {
+        let mut slot = Box::new(ffi::OSI_JUDGE);
+        match unsafe { ffi::osi_judge_new(&mut *slot) } {
+            ffi::OSI_OK => Ok(Judge { slot, alone: PhantomData }),
+            code => Err(Error::of(code)),
+        }
+    }
+
+    /// Feeds octets of a side, in the order in which they passed the tap, cut in any way.
+    ///
+    /// # Errors
+    /// [`NotFed`] if memory ran out: the first [`used`](NotFed::used) octets have passed, and you can feed the
+    /// others again when there is memory.
+    pub fn feed(&mut self, side: TapSide, piece: &[u8]) -> Result<(), NotFed> {
+        let mut used = 0;
+        let code =
+            unsafe { ffi::osi_judge_feed(self.at(), side as u32, piece.as_ptr(), piece.len(), &mut used) };
+        match code {
+            ffi::OSI_OK => Ok(()),
+            code => Err(NotFed { used, error: Error::of(code) }),
+        }
+    }
+
+    /// A verdict that is certain, whatever passes later: at most one on each side, that on the side that broke the
+    /// protocol first before the other, and never [`VerdictKind::Kept`].
+    pub fn next_verdict(&mut self) -> Option<Verdict> {
+        let mut shown = ffi::osi_verdict::default();
+        unsafe { ffi::osi_judge_next(self.at(), &mut shown) }.then(|| Verdict::of(&shown))
+    }
+
+    /// The verdict on a side by what has passed so far, whether it is certain or not. If the connection is over,
+    /// [`VerdictKind::Kept`] is final.
+    pub fn verdict(&mut self, side: TapSide) -> Verdict {
+        let mut shown = ffi::osi_verdict::default();
+        // It answers OSI_OK, since the slot holds a judge, and the number is one of the two.
+        unsafe { ffi::osi_judge_verdict(self.at(), side as u32, &mut shown) };
+        Verdict::of(&shown)
+    }
+
+    /// What `osi judge` prints of what has passed so far.
+    ///
+    /// # Errors
+    /// [`Error::NoMemory`].
+    pub fn text(&mut self) -> Result<&str, Error> {
+        let mut octets = ffi::lend(&[]);
+        // SAFETY, in addition: the text is lent until the next call with this judge, and the text that is returned
+        // holds the borrow that a call needs.
+        let text = unsafe {
+            match ffi::osi_judge_write(self.at()) {
+                ffi::OSI_OK => ffi::osi_judge_text(self.at(), &mut octets),
+                code => return Err(Error::of(code)),
+            }
+            lent(octets)
+        };
+        Ok(str::from_utf8(text).unwrap_or_default())
+    }
+
+    fn at(&mut self) -> *mut ffi::osi_judge {
+        &mut *self.slot
+    }
+}
+
+impl Drop for Judge {
+    fn drop(&mut self) {
+        unsafe { ffi::osi_judge_free(self.at()) }
+    }
+}
+
+impl fmt::Debug for Judge {
+    fn fmt(&self, f: &mut fmt::Formatter<'_>) -> fmt::Result {
+        f.debug_struct("Judge").finish_non_exhaustive()
+    }
+}
+
+/// Memory ran out while octets were fed to a [`Judge`].
+#[derive(Clone, Copy, Debug, PartialEq, Eq, Hash)]
+pub struct NotFed {
+    /// How many octets of the piece have passed, from the first.
+    pub used: usize,
+    /// Why the next one has not: [`Error::NoMemory`].
+    pub error: Error,
+}
+
+impl fmt::Display for NotFed {
+    fn fmt(&self, f: &mut fmt::Formatter<'_>) -> fmt::Result {
+        write!(f, "{} after {} octets", self.error, self.used)
+    }
+}
+
+impl std::error::Error for NotFed {
+    fn source(&self) -> Option<&(dyn std::error::Error + 'static)> {
+        Some(&self.error)
+    }
+}
+
+impl From<NotFed> for Error {
+    fn from(refused: NotFed) -> Error {
+        refused.error
+    }
+}
