@@ -203,7 +203,7 @@ def run_at_random(random):
     opening = random.choice((0, 1, 3, 3, 3, 3, 3, 3))
     for side in ("left", "right", "left")[:opening]:
         run.line(f"carry {side} 99999")
-    for _ in range(random.choice((5, 20, 60, 120))):
+    for _ in range(random.choice((10, 40, 120, 300))):
         if random.random() < 0.45:
             carry_at_random(random, run)
         else:

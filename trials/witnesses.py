@@ -8,7 +8,7 @@ import time
 
 from ladders.judged import read
 from ladders.transcript import BadInput
-from runs import SIDES, played, run_at_random
+from runs import OTHER, SIDES, played, run_at_random
 
 UNFINISHED = re.compile(r"# (left|right) packet \d+: no call of a script sends this\n\Z")
 
@@ -69,7 +69,7 @@ def streams(pieces):
 
 
 def passed_before(pieces, side):
-    """For each octet of a side at which a piece begins: how many octets of the other had passed."""
+    """For each piece of a side: the octet at which it begins, and how many octets of the other had passed."""
     at, other, rows = 0, 0, []
     for whose, more in pieces:
         if whose == side:
@@ -81,13 +81,49 @@ def passed_before(pieces, side):
 
 
 def is_in_order(pieces, run, side):
-    """Whether a side had received no more, when it sent its octets, than had passed before the first of them."""
+    """Whether a side had received no more octets, when it sent its own, than had passed before the first of these."""
     rows = passed_before(pieces, side)
-    for begin, received in run.made[side]:
-        known = [other for at, other in rows if at <= begin]
+    for begun, received in run.made[side]:
+        known = [other for at, other in rows if at <= begun]
         if known and received > known[-1]:
             return False
     return True
+
+
+def tsdus(stream):
+    """Where each TSDU of a direction begins and ends; a CR, CC or DR counts as one."""
+    begun, found = None, []
+    for at, end, unit in packets(stream):
+        begun = at if begun is None else begun
+        if unit[1] & 0xF0 != 0xF0 or unit[2] & 0x80:
+            found.append((begun, end))
+            begun = None
+    return found
+
+
+def are_in_order(pieces, run, side):
+    """The same for TSDUs, whose lengths may differ."""
+    had = streams(pieces)
+    rows, ends = passed_before(pieces, side), [end for _, end in tsdus(had[OTHER[side]])]
+    known = [sum(end <= max(other for at, other in rows if at <= begun) for end in ends) for begun, _ in tsdus(had[side])]
+    sent = [end for _, end in tsdus(run.sent[OTHER[side]])]
+    for number, (begun, _) in enumerate(tsdus(run.sent[side])):
+        received = max(got for at, got in run.made[side] if at <= begun)
+        if sum(end <= received for end in sent) > known[number]:
+            return False
+    return True
+
+
+# What is not compared of a unit of a foreign end: what a CN offers and its addresses.
+OFFERED = re.compile(r"(?<=    CN )(.*?)( 20=\w+)?( 51=\w*)?( 52=\w*)?(?= 193|$)")
+# What may come too early without a word of the judge.
+EARLY = re.compile(r"# (left|right) packet \d+: no end of class 0 sends this here\n\Z")
+
+
+def as_they_act(lines):
+    """The units of a TSDU in the order in which they act: a token item after those that follow it."""
+    later = [line for line in lines[:1] if re.match(r"    [GP]T ", line)]
+    return (lines[1:] if later else lines) + (later if not any(line.startswith("    RS") for line in lines) else [])
 
 
 class Witnesses:
@@ -107,9 +143,13 @@ class Witnesses:
     # ---- captures that are kept
 
     def listed(self, stream):
-        """The session units of a direction, as `osi show` lists them, without token items that name no token."""
+        """The session units of a direction, as `osi show` lists them, in the order in which they act."""
         _, text = self.osi(["show"], stream.hex())
-        return [line for line in text.splitlines() if re.match(r"    (?!tsdu |GT$|fault )", line)]
+        found = []
+        for tsdu in re.split(r"^    tsdu .*\n", text, flags=re.M)[1:]:
+            lines = [OFFERED.sub(r"\1", line) for line in re.findall(r"^    (?!fault ).*", tsdu, re.M)]
+            found += [line for line in as_they_act(lines) if line not in ("    GT", "    PT")]
+        return found
 
     def capture(self, name, text):
         """A capture: what is played is what each side sent, up to where the script stops."""
@@ -118,7 +158,7 @@ class Witnesses:
         if judged == 2:
             return self.check(f"{name}: {status} where osi judge gives 2", (status, script) == (2, ""))
         pieces = pieces_of(text)
-        self.check(f"{name}: both kept the protocol, and the script stops", judged != 0 or status == 0)
+        self.check(f"{name}: both kept the protocol, and the script stops", judged != 0 or status == 0 or EARLY.search(script))
         self.check(f"{name}: the script is not played to its end", self.osi(["pair"], script)[0] == 0)
         run = played(script)
         sent = {side: self.listed(run.sent[side]) for side in SIDES}
@@ -126,7 +166,7 @@ class Witnesses:
         for side in SIDES:
             held = had[side] if status == 0 else had[side][:len(sent[side])]
             self.check(f"{name}: {side} sends\n{sent[side]}\nand not\n{held}\nby\n{script}", sent[side] == held)
-            self.check(f"{name}: {side} sends too early by\n{script}", is_in_order(pieces, run, side))
+            self.check(f"{name}: {side} sends too early by\n{script}", are_in_order(pieces, run, side))
         run.close()
         return status == 0
 
