@@ -158,7 +158,16 @@ fn aborting(transport_disconnect: u8, user_data: &[u8]) -> Option<Request<'_>> {
     Some(Request::Abort { user_data })
 }
 
-/// The call that answers a CN with an AC.
+/// The functional units that an AC selects, if all of them have a meaning here.
+fn selection(requirements: Requirements, offer: Offer) -> Option<Requirements> {
+    let bits = requirements.bits() & offer.requirements;
+    if bits & KNOWN != bits {
+        return None;
+    }
+    Some(Requirements::from_bits_retain(bits))
+}
+
+/// The call that answers a CN with an AC. None if the AC selects what no script can.
 fn accepting<'a>(message: &Message<'a>, offer: Offer) -> Option<Request<'a>> {
     match *message {
         Message::Accept {
@@ -169,9 +178,7 @@ fn accepting<'a>(message: &Message<'a>, offer: Offer) -> Option<Request<'a>> {
             user_data,
             ..
         } => Some(Request::Accept {
-            requirements: Requirements::from_bits_retain(
-                requirements.bits() & offer.requirements & KNOWN,
-            ),
+            requirements: selection(requirements, offer)?,
             serial: serial_of(serial.or(offer.serial)),
             sides: sides_of(sides),
             sizes: sizes_of(sizes)?,
