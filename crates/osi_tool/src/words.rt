@@ -56,7 +56,8 @@ The pieces stand in the order in which they passed, all octets of both direction
   tshark -r run.pcap -q -z follow,tcp,raw,0 | sed -n '/^[0-9a-f\\t]*$/p' | osi judge
 
 The status is 0 if both sides kept the protocol, and 1 if one broke it or left the profile, or if the
-capture was not judged.";
+capture was not judged. With --script it is 0 if the script tells all that both sides sent, and 1 if it
+stops before, as its last line says.";
 
 /// What the option for a script does.
 const SCRIPT: &str =
