@@ -34,6 +34,7 @@ mod texts;
 mod verdicts;
 
 pub use disputes::judge_text;
+pub use pieces::{Piece, Pieces, is_left_tabbed};
 pub use texts::{Judgement, push_verdict, status_of};
 pub use verdicts::{
     Account, Connection, Outcome, Told, Unjudged, Verdict, judgement_of, verdict_of,

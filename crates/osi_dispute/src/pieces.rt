@@ -9,15 +9,16 @@ use osi_script::first_line;
 
 /// A piece: the octets whose first digit is on one line.
 #[derive(Clone, Copy)]
-pub(crate) struct Piece<'a> {
+pub struct Piece<'a> {
     /// The line begins with a tab.
-    pub(crate) is_tabbed: bool,
-    pub(crate) octets: &'a [u8],
+    pub is_tabbed: bool,
+    /// These octets.
+    pub octets: &'a [u8],
 }
 
 /// The pieces of a text that have not been read.
 #[derive(Clone, Copy)]
-pub(crate) struct Pieces<'a> {
+pub struct Pieces<'a> {
     lines: Option<&'a [u8]>,
     octets: &'a [u8],
     /// The second digit of an octet comes next.
@@ -30,7 +31,7 @@ impl<'a> Pieces<'a> {
     ghost use Rattle.osi_dispute.specs.Reading.{row, rows_left};
 
     /// All pieces of a text that captures these octets.
-    pub(crate) fn of(text: &'a [u8], octets: &'a [u8]) -> Pieces<'a>
+    pub fn of(text: &'a [u8], octets: &'a [u8]) -> Pieces<'a>
         ensures { rows_left result ≡ rows_of text.entry.now octets.entry.now }
     {
         Pieces {
@@ -41,7 +42,7 @@ impl<'a> Pieces<'a> {
     }
 
     /// The next piece, from the next line.
-    pub(crate) fn next_piece(&mut self) -> Option<Piece<'a>>
+    pub fn next_piece(&mut self) -> Option<Piece<'a>>
         ensures some { IfSome result (λ piece. rows_left self.old ≡ row piece ∷ rows_left self.new) }
         ensures none { IfNone result (rows_left self.old ≡ []) }
     {
@@ -157,7 +158,7 @@ fn is_tabbed(line: &[u8]) -> bool
 }
 
 /// Whether the first of these pieces with an octet is on a line that begins with a tab.
-pub(crate) fn is_left_tabbed(pieces: Pieces<'_>) -> bool
+pub fn is_left_tabbed(pieces: Pieces<'_>) -> bool
     ensures { result ≡ left_is_tabbed (rows_left pieces.entry) }
 {
     let mut pieces = pieces;

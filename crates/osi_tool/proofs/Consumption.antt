@@ -5,6 +5,7 @@ use Rattle.std.specs.Option.{IfSome}
 use Rattle.std.specs.Io.KnownBytes.{Consumes}
 use Rattle.osi_tool.specs.Judging.{Judges, FindsPart}
 use Rattle.osi_tool.specs.Show.{BeginsToAppend, IsRead}
+use Rattle.osi_tool.specs.Witnessing.{Scripts, TellsPart}
 
 pub consumes-append : (a b c : Option (List ℕ)) (xs ys : List ℕ) → Consumes a b xs → Consumes b c ys → Consumes a c (xs ++ ys)
 consumes-append None b c xs ys h k = tt
@@ -29,3 +30,11 @@ found_in_part None new written now input lines status h k j b = tt
 found_in_part (Some x) new written now input lines status h k j b =
     subst (λ (text : List ℕ). FindsPart text written now) (all_read (Some x) new input h k j.short)
     (record { lines = lines; status = status; judges = j; begun = b })
+
+-- A prefix of its script is written: for `judge --script`.
+pub told_in_part : (old new written now : Option (List ℕ)) (input script : List ℕ) (status : ℕ) → Consumes old new input → IsRead new input
+    → Scripts input script status → BeginsToAppend written now script → IfSome old (λ text. TellsPart text written now)
+told_in_part None new written now input script status h k s b = tt
+told_in_part (Some x) new written now input script status h k s b =
+    subst (λ (text : List ℕ). TellsPart text written now) (all_read (Some x) new input h k s.short)
+    (record { script = script; status = status; scripts = s; begun = b })

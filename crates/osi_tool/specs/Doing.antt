@@ -2,25 +2,29 @@
 use Rattle.std.specs.Prelude.{ℕ, List, Option}
 use Rattle.osi_listing.specs.Capture.{IsNoCapture}
 use Rattle.osi_tool.specs.declared.jobs.Job.{Job}
-use Rattle.osi_tool.specs.declared.jobs.Job.TheVariants.{Show, Pair, Judge}
+use Rattle.osi_tool.specs.declared.jobs.Job.TheVariants.{Show, Pair, Judge, Witness}
 use Rattle.osi_tool.specs.Judging.{Finds, FindsPart}
 use Rattle.osi_tool.specs.Pairing.{Pairs, PairsPart}
 use Rattle.osi_tool.specs.Show.{Shows, ShowsPart}
+use Rattle.osi_tool.specs.Witnessing.{Tells, TellsPart}
 
 -- all that the job prints of a text is written, and nothing else
 abbrev pub Does : Job → (text : List ℕ) → (old new : Option (List ℕ)) → (status : ℕ) → Type 0
 Does Show text old new status = Shows text old new status
 Does Pair text old new status = Pairs text old new status
 Does Judge text old new status = Finds text old new status
+Does Witness text old new status = Tells text old new status
 
 -- a prefix of it is written, and nothing else
 abbrev pub BeginsToDo : Job → (text : List ℕ) → (old new : Option (List ℕ)) → Type 0
 BeginsToDo Show text old new = ShowsPart text old new
 BeginsToDo Pair text old new = PairsPart text old new
 BeginsToDo Judge text old new = FindsPart text old new
+BeginsToDo Witness text old new = TellsPart text old new
 
 -- the job needs a capture, and the text is none; any text is a script
 abbrev pub IsUnreadable : Job → (text : List ℕ) → Type 0
 IsUnreadable Show text = IsNoCapture text
 IsUnreadable Pair text = ⊥
 IsUnreadable Judge text = IsNoCapture text
+IsUnreadable Witness text = IsNoCapture text

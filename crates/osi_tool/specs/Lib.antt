@@ -4,3 +4,4 @@ pub mod Judging
 pub mod Pairing
 pub mod Show
 pub mod Words
+pub mod Witnessing

@@ -1,8 +1,11 @@
 -- The words that the program takes.
-use Rattle.std.specs.Prelude.{◌≡◌, ℕ, List, codes, true, Option, Some, option_map}
-use Rattle.clap.specs.Words.{App, Text, new_app, subcommand_of, with_subcommand}
+use Rattle.std.specs.Prelude.{◌≡◌, ℕ, List, codes, Bool, true, false, Option, Some, option_map}
+use Rattle.std.specs.Option.{option_map_or}
+use Rattle.std.specs.Str.{bytes_eq}
+use Rattle.clap.specs.Words.{App, Row, Rule, Text, first_of, new_app, new_rule, subcommand_of, with_rule, with_subcommand}
+use Rattle.clap.specs.declared.builder.ArgAction.TheVariants.{SetTrue}
 use Rattle.osi_tool.specs.declared.jobs.Job.{Job}
-use Rattle.osi_tool.specs.declared.jobs.Job.TheVariants.{Show, Pair, Judge}
+use Rattle.osi_tool.specs.declared.jobs.Job.TheVariants.{Show, Pair, Judge, Witness}
 
 -- the command `osi`, which needs a subcommand and has a version
 abbrev pub top : App
@@ -11,20 +14,37 @@ top = record {
   subs = (new_app (codes "osi")).subs;
 }
 
--- the same with its subcommands
+-- the option of `judge` for a script
+abbrev pub script : Rule
+script = record (new_rule (codes "script")) { long = Some (codes "script"); action = Some SetTrue }
+
+-- `judge`
+abbrev pub judging : App
+judging = with_rule (new_app (codes "judge")) script
+
+-- the command with its subcommands
 unfoldable pub osi : App
-osi = with_subcommand (with_subcommand (with_subcommand top (new_app (codes "show")).top) (new_app (codes "pair")).top) (new_app (codes "judge")).top
+osi = with_subcommand (with_subcommand (with_subcommand top (new_app (codes "show")).top) (new_app (codes "pair")).top) judging.top
 
--- the subcommand of a job
-abbrev pub name_of : Job → List ℕ
-name_of Show = codes "show"
-name_of Pair = codes "pair"
-name_of Judge = codes "judge"
+-- the subcommand of a job, and whether it wants a script
+abbrev pub asked_of : Job → List ℕ × Bool
+asked_of Show = (codes "show", false)
+asked_of Pair = (codes "pair", false)
+asked_of Judge = (codes "judge", false)
+asked_of Witness = (codes "judge", true)
 
--- the name is that of a job
-abbrev pub IsJob : Option (List ℕ) → Type 0
-IsJob name = (job : Job) × (name ≡ Some (name_of job))
+-- that is what is asked for in a job
+abbrev pub IsJob : Option (List ℕ × Bool) → Type 0
+IsJob asked = (job : Job) × (asked ≡ Some (asked_of job))
 
--- the subcommand that clap's matches give for the words
-unfoldable pub named_by : List Text → Option (List ℕ)
-named_by words = option_map (λ p. p.0) (subcommand_of osi words)
+-- the option for a script is there
+abbrev pub wants_script : List Row → Bool
+wants_script rows = option_map_or (λ text. bytes_eq text (codes "true")) (first_of (codes "script") rows) false
+
+-- a subcommand by its rows
+abbrev pub asked_in : Option (Text × List Row) → Option (List ℕ × Bool)
+asked_in = option_map (λ p. (p.0, wants_script p.1))
+
+-- the subcommand that clap's matches give for the words, and whether it wants a script
+unfoldable pub asked_by : List Text → Option (List ℕ × Bool)
+asked_by words = asked_in (subcommand_of osi words)

@@ -10,6 +10,7 @@ use crate::judging::judge;
 use crate::pairing::pair;
 use crate::showing::show;
 use crate::watched::{WatchedReader, WatchedWriter};
+use crate::witnessing::witness;
 use std::alloc::Global;
 use std::io::{Read, Write};
 
@@ -43,5 +44,6 @@ pub fn do_job<R: Read, W: Write>(
         Job::Show => show(alloc, reader, writer),
         Job::Pair => pair(alloc, reader, writer),
         Job::Judge => judge(alloc, reader, writer),
+        Job::Witness => witness(alloc, reader, writer),
     }
 }

@@ -9,4 +9,6 @@ pub enum Job {
     Pair,
     /// Judges the capture of both sides on standard input.
     Judge,
+    /// Writes a script that tells what both sides of that capture did.
+    Witness,
 }

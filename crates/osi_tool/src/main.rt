@@ -38,6 +38,7 @@ mod showing;
 mod tests;
 mod texts;
 mod watched;
+mod witnessing;
 mod words;
 
 ghost use Rattle.std.specs.Prelude.{◌<◌, IfOk};

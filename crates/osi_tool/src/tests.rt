@@ -7,6 +7,7 @@ use crate::pairing::pair;
 use crate::showing::show;
 use crate::texts::LONGEST_INPUT;
 use crate::watched::{WatchedReader, WatchedWriter};
+use crate::witnessing::witness;
 use crate::words::job;
 use clap::error::ErrorKind;
 use std::alloc::Global;
@@ -254,6 +255,27 @@ fn a_capture_of_both_sides(rt: HostRuntime) -> Result<(), Fail> {
     judges_nothing(rt.alloc(), &mut at_once(b"030"), "osi: BadHex")
 }
 
+/// What `judge --script` answers.
+fn witnessed(alloc: Global, source: &mut Source<'_>, out: &mut Vec<u8>) -> Result<u8, ToolFault> {
+    witness(
+        alloc,
+        &mut WatchedReader::new(source),
+        &mut WatchedWriter::new(out),
+    )
+}
+
+/// `judge --script` writes this script.
+fn tells(alloc: Global, text: &str, script: &str) -> Result<(), Fail> {
+    let mut out = Vec::new(alloc);
+    has_status(witnessed(alloc, &mut at_once(text.as_bytes()), &mut out), 0)?;
+    is_text(out.as_slice(), script)
+}
+
+#[test]
+fn a_script_of_a_capture(rt: HostRuntime) -> Result<(), Fail> {
+    tells(rt.alloc(), ASKED, "ends 0 0 10 4\nconnect 00b9 1 aaaa -\n")
+}
+
 /// Blanks, one more than the longest input.
 fn blanks(alloc: Global) -> Result<Vec<u8>, Fail> {
     let blanks = vec![in alloc; b' '; LONGEST_INPUT + 1]?;
@@ -396,6 +418,12 @@ fn words_name_a_job(rt: HostRuntime) {
     assert!(rt; matches!(named(rt.alloc(), &["osi", "show"]), Some(Job::Show)));
     assert!(rt; matches!(named(rt.alloc(), &["osi", "pair"]), Some(Job::Pair)));
     assert!(rt; matches!(named(rt.alloc(), &["osi", "judge"]), Some(Job::Judge)));
+    assert!(rt;
+        matches!(
+            named(rt.alloc(), &["osi", "judge", "--script"]),
+            Some(Job::Witness)
+        )
+    );
     for (words, kind) in NO_JOBS {
         assert!(rt; is_refused(rt.alloc(), words, kind));
     }

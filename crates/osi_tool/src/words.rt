@@ -1,15 +1,15 @@
 //! The words of the command line, and help.
 
 ghost use Rattle.std.specs.Prelude.{◌≡◌, ◌≢◌, true, false, Some, map, codes, option_map, IfOk, IfErr, IfSome, IfNone};
-ghost use Rattle.clap.specs.Words.{app_of, kind_of, new_app, shape_of, takes};
+ghost use Rattle.clap.specs.Words.{app_of, kind_of, new_app, shape_of, rows_of, found_of, subcommand_rows_of, takes};
 ghost use Rattle.clap.specs.declared.builder.command.Command.TheViews.{out-Command as fields_of};
-ghost use Rattle.osi_tool.specs.Words.{osi, top, name_of, named_by, IsJob};
+ghost use Rattle.osi_tool.specs.Words.{osi, top, judging, asked_of, asked_by, asked_in, wants_script, IsJob};
 ghost use Rattle.osi_tool.specs.Endings.{words_fault};
 
 use crate::faults::{ProgramFault, ToolFault};
 use crate::jobs::Job;
 use clap::error::ErrorKind;
-use clap::{Command, Error};
+use clap::{Arg, ArgAction, ArgMatches, Command, Error};
 use std::alloc::{AllocError, Global};
 use std::convert::AsStr;
 
@@ -56,36 +56,61 @@ The pieces stand in the order in which they passed, all octets of both direction
   tshark -r run.pcap -q -z follow,tcp,raw,0 | sed -n '/^[0-9a-f\\t]*$/p' | osi judge
 
 The status is 0 if both sides kept the protocol, and 1 if one broke it or left the profile, or if the
-capture was not judged.";
+capture was not judged. With --script it is 0 if the script tells all that both sides sent, and 1 if it
+stops before, as its last line says.";
+
+/// What the option for a script does.
+const SCRIPT: &str =
+    "Write a script for osi pair that does what both sides did, as far as a session can do it";
 
 /// The job that the program's arguments name; the first of them is the program's name. A request for help or for the
 /// version, and arguments that name no job, are an error of `clap`.
 pub fn job<'a, S: AsStr>(alloc: Global, words: &'a [S]) -> Result<Job, Error>
-    ensures named { IfOk result (λ job. named_by (map S.text words.entry.now) ≡ Some (name_of job)) }
+    ensures named { IfOk result (λ job. asked_by (map S.text words.entry.now) ≡ Some (asked_of job)) }
     // If clap takes the arguments and they name a job's subcommand, the only possible error is out of memory.
     ensures taken { IfErr result (λ e. takes osi (map S.text words.entry.now) ≡ true →
-        IsJob (named_by (map S.text words.entry.now)) →
+        IsJob (asked_by (map S.text words.entry.now)) →
         kind_of e ≡ ErrorKind.OutOfMemory) }
 {
-    let name = match subcommand(alloc, words) {
-        Ok(name) => name,
+    let asked = match subcommand(alloc, words) {
+        Ok(asked) => asked,
         Err(error) => return Err(error),
     };
-    match job_named(name) {
+    match job_asked(asked) {
         Some(job) => Ok(job),
         None => Err(no_subcommand(alloc)?),
     }
 }
 
-/// The name of the subcommand that the words ask for.
-fn subcommand<'a, S: AsStr>(alloc: Global, words: &'a [S]) -> Result<Option<&'a str>, Error>
-    ensures named { IfOk result (λ name. option_map (λ s. s.now) name ≡ named_by (map S.text words.entry.now)) }
+/// The subcommand that the words ask for, and whether they ask for a script.
+fn subcommand<'a, S: AsStr>(alloc: Global, words: &'a [S]) -> Result<Option<(&'a str, bool)>, Error>
+    ensures named { IfOk result (λ asked. option_map (λ p. (p.0.now, p.1)) asked ≡ asked_by (map S.text words.entry.now)) }
     ensures taken { IfErr result (λ e. takes osi (map S.text words.entry.now) ≡ true →
         kind_of e ≡ ErrorKind.OutOfMemory) }
 {
     match command(alloc)?.try_get_matches_from(words) {
-        Ok(matches) => Ok(matches.subcommand_name()),
+        Ok(matches) => Ok(asked_in(&matches)),
         Err(error) => Err(error),
+    }
+}
+
+/// The subcommand that was met, and whether its option for a script was.
+fn asked_in<'a>(matches: &ArgMatches<'a>) -> Option<(&'a str, bool)>
+    ensures { option_map (λ p. (p.0.now, p.1)) result ≡ asked_in (subcommand_rows_of matches.now) }
+{
+    match matches.subcommand() {
+        None => None,
+        Some((name, inner)) => Some((name, is_script(inner))),
+    }
+}
+
+/// Whether a subcommand is asked for a script.
+fn is_script(matches: &ArgMatches<'_>) -> bool
+    ensures { result ≡ wants_script (rows_of (found_of matches.now)) }
+{
+    match matches.get_str("script") {
+        None => false,
+        Some(text) => text == "true",
     }
 }
 
@@ -101,7 +126,7 @@ fn command<'a>(alloc: Global) -> Result<Command<'a>, AllocError>
     bare_command(alloc)?
         .subcommand(show(alloc))?
         .subcommand(pair(alloc))?
-        .subcommand(judge(alloc))
+        .subcommand(judge(alloc)?)
 }
 
 /// The command `osi` without its subcommands.
@@ -136,28 +161,45 @@ fn pair<'a>(alloc: Global) -> Command<'a>
 }
 
 /// The subcommand that judges a capture.
-fn judge<'a>(alloc: Global) -> Command<'a>
-    ensures shape { shape_of result ≡ (new_app (codes "judge")).top }
-    ensures local { (fields_of result).has_globals ≡ false }
+fn judge<'a>(alloc: Global) -> Result<Command<'a>, AllocError>
+    ensures shape { IfOk result (λ command. shape_of command ≡ judging.top) }
+    ensures local { IfOk result (λ command. (fields_of command).has_globals ≡ false) }
 {
+    let script = Arg::new(alloc, "script")
+        .long("script")
+        .action(ArgAction::SetTrue)
+        .help(SCRIPT);
     Command::new(alloc, "judge")
         .about("Say which side of the capture on standard input first broke the protocol")
         .after_help(CAPTURES)
+        .arg(script)
 }
 
-/// The job of a subcommand.
-fn job_named(name: Option<&str>) -> Option<Job>
-    ensures some { IfSome result (λ job. option_map (λ s. s.now) name.entry ≡ Some (name_of job)) }
-    ensures not_show { IfNone result (option_map (λ s. s.now) name.entry ≢ Some (codes "show")) }
-    ensures not_pair { IfNone result (option_map (λ s. s.now) name.entry ≢ Some (codes "pair")) }
-    ensures not_judge { IfNone result (option_map (λ s. s.now) name.entry ≢ Some (codes "judge")) }
+/// The job of a subcommand, which is asked for a script or is not.
+fn job_named(name: &str, wants_script: bool) -> Option<Job>
+    ensures some { IfSome result (λ job. (name.now, wants_script) ≡ asked_of job) }
+    ensures not_show { IfNone result ((name.now, wants_script) ≢ asked_of Job.Show) }
+    ensures not_pair { IfNone result ((name.now, wants_script) ≢ asked_of Job.Pair) }
+    ensures not_judge { IfNone result (name.now ≢ codes "judge") }
 {
-    match name {
-        Some("show") => Some(Job::Show),
-        Some("pair") => Some(Job::Pair),
-        Some("judge") => Some(Job::Judge),
+    match (name, wants_script) {
+        ("show", false) => Some(Job::Show),
+        ("pair", false) => Some(Job::Pair),
+        ("judge", false) => Some(Job::Judge),
+        ("judge", true) => Some(Job::Witness),
         _ => None,
     }
+}
+
+/// The job that is asked for.
+fn job_asked(asked: Option<(&str, bool)>) -> Option<Job>
+    ensures some { IfSome result (λ job. option_map (λ p. (p.0.now, p.1)) asked.entry ≡ Some (asked_of job)) }
+    ensures none { IfNone result (IsJob (option_map (λ p. (p.0.now, p.1)) asked.entry) → ⊥) }
+{
+    let Some((name, wants_script)) = asked else {
+        return None;
+    };
+    job_named(name, wants_script)
 }
 
 /// The fault of words that name no job; none if they ask for help or for the version.

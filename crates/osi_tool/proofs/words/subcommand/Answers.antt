@@ -1,12 +1,12 @@
-use Rattle.std.proofs.Common.{◌∙◌, ap, sym, map, List, ℕ, option_map}
+use Rattle.std.proofs.Common.{◌∙◌, ap, map, List, ℕ}
 use Rattle.clap.specs.Words.{is_simple, subcommand_of}
-use Rattle.osi_tool.specs.Words.{named_by}
-use Rattle.osi_tool.proofs.Names.{name_of_rows, osi_is_simple}
+use Rattle.osi_tool.specs.Words.{asked_by, asked_in}
+use Rattle.osi_tool.proofs.Names.{osi_is_simple}
 use Rattle.osi_tool.proofs.words.subcommand.Goals as goal
 
 pub returns-in-Ok-clause-named : goal.returns-in-Ok-clause-named
-unfolding named_by
+unfolding asked_by
 returns-in-Ok-clause-named g c =
     let words : List (List ℕ) = map g.S.AsStr.text c.args.words.now in
     let rows = (c.in-Ok.ensures.matches (ap is_simple c.in_ok-command.ensures ∙ osi_is_simple)).1 ∙ ap (λ a. subcommand_of a words) c.in_ok-command.ensures in
-    c.subcommand_name.ensures ∙ sym (name_of_rows c.in-Ok.matches) ∙ ap (option_map (λ p. p.0)) rows
+    c.asked_in.ensures ∙ ap asked_in rows
