@@ -249,3 +249,59 @@ fn a_capture_is_judged_in_any_pieces(rt: HostRuntime) -> Result<(), Fail> {
     }
     Ok(())
 }
+
+/// The header of a DT of 65,528 octets that does not end its TSDU.
+const PART: &[u8] = &[0x03, 0x00, 0xFF, 0xFF, 0x02, 0xF0, 0x00];
+/// The header of a DT of 128 octets that ends it.
+const LAST_PART: &[u8] = &[0x03, 0x00, 0x00, 0x87, 0x02, 0xF0, 0x80];
+/// The units before the octets of data in a TSDU.
+const DATA_FRONT: &[u8] = &[0x01, 0x00, 0x01, 0x00];
+
+/// Left sends a Data of 1,048,572 octets in 17 packets. The octets are 65,528.
+fn feed_the_longest(judge: &mut Judge, octets: &[u8]) -> Result<(), Fail> {
+    let (front, first) = octets.split_at_checked(4).ok_or("octets")?;
+    let (last, _) = octets.split_at_checked(128).ok_or("octets")?;
+    feed(judge, Left, PART)?;
+    feed(judge, Left, DATA_FRONT)?;
+    feed(judge, Left, first)?;
+    for _ in 0..15u8 {
+        feed(judge, Left, PART)?;
+        feed(judge, Left, front)?;
+        feed(judge, Left, first)?;
+    }
+    feed(judge, Left, LAST_PART)?;
+    feed(judge, Left, last)
+}
+
+/// Left sends a thousand Data of four octets.
+fn feed_a_thousand(judge: &mut Judge) -> Result<(), Fail> {
+    for _ in 0..1000u16 {
+        feed(judge, Left, DT)?;
+    }
+    Ok(())
+}
+
+/// Both sides kept the protocol, and left said this many TSDUs.
+fn is_kept(judge: &Judge, told: usize) -> Result<(), Fail> {
+    if judge.finding(Left) != KEPT || judge.finding(Right) != KEPT {
+        return Err(Fail::from("something else is found"));
+    }
+    if judge.side(Left).told() != told || judge.side(Right).heard() != told {
+        return Err(Fail::from("another number of TSDUs"));
+    }
+    Ok(())
+}
+
+fn a_long_capture_goes_on(judge: &mut Judge, octets: &[u8]) -> Result<(), Fail> {
+    feed(judge, Left, CR_AND_CN)?;
+    feed(judge, Right, CC_AND_AC)?;
+    feed_a_thousand(judge)?;
+    feed_the_longest(judge, octets)?;
+    is_kept(judge, 1002)
+}
+
+#[test]
+fn a_long_capture_is_judged(rt: HostRuntime) -> Result<(), Fail> {
+    let octets = vec![in rt.alloc(); 0x5A; 65_528]?;
+    a_long_capture_goes_on(&mut judge(&rt)?, octets.as_slice())
+}

@@ -328,7 +328,7 @@ fn gives_away(carrier: &mut Carrier, alloc: Global, tsdu: &[u8]) -> Result<(), F
 }
 
 /// Copies of a TSDU.
-fn copies(alloc: Global, tsdu: &[u8], count: u8) -> Result<Vec<Vec<u8>>, Fail> {
+fn copies(alloc: Global, tsdu: &[u8], count: u16) -> Result<Vec<Vec<u8>>, Fail> {
     let mut tsdus = Vec::new(alloc);
     for _ in 0..count {
         tsdus.push(Vec::from_slice(alloc, tsdu)?)?;
@@ -336,10 +336,15 @@ fn copies(alloc: Global, tsdu: &[u8], count: u8) -> Result<Vec<Vec<u8>>, Fail> {
     Ok(tsdus)
 }
 
-/// Sends two copies of a TSDU in one call, and two more that are given away.
-fn sends_together(carrier: &mut Carrier, alloc: Global, tsdu: &[u8]) -> Result<(), Fail> {
-    send_all(carrier, copies(alloc, tsdu, 2)?.as_slice())?;
-    send_all_owned(carrier, copies(alloc, tsdu, 2)?)?;
+/// Sends copies of a TSDU in one call, and as many again that are given away.
+fn sends_together(
+    carrier: &mut Carrier,
+    alloc: Global,
+    tsdu: &[u8],
+    count: u16,
+) -> Result<(), Fail> {
+    send_all(carrier, copies(alloc, tsdu, count)?.as_slice())?;
+    send_all_owned(carrier, copies(alloc, tsdu, count)?)?;
     Ok(())
 }
 
@@ -351,7 +356,7 @@ fn lengths_go_on(carrier: &mut Carrier, alloc: Global, octets: &[u8]) -> Result<
     sends(carrier, longest, None)?;
     sends(carrier, longest, None)?;
     gives_away(carrier, alloc, longest)?;
-    sends_together(carrier, alloc, longest)
+    sends_together(carrier, alloc, longest, 2)
 }
 
 #[test]
@@ -514,4 +519,56 @@ const HELD_BACK: [Step; 14] = [
 #[test]
 fn what_credit_holds_back_is_unsent(rt: HostRuntime) -> Result<(), Fail> {
     opened_does(&rt, &HELD_BACK)
+}
+
+/// A thousand TSDUs of one octet are sent in one call, and a thousand that are given away: credit holds all but four
+/// back.
+fn thousands_go_on(carrier: &mut Carrier, alloc: Global) -> Result<(), Fail> {
+    sends_together(carrier, alloc, b"A", 1000)?;
+    holds_back(carrier, 1996, 1)
+}
+
+#[test]
+fn a_thousand_tsdus_are_sent_together(rt: HostRuntime) -> Result<(), Fail> {
+    thousands_go_on(&mut opened(&rt)?, rt.alloc())
+}
+
+/// Sends 18 TSDUs of 1,048,576 octets, of which credit lets four units of 1,019 octets out. Before the last one almost 17
+/// MiB wait.
+fn eighteen_wait(carrier: &mut Carrier, longest: &[u8]) -> Result<(), Fail> {
+    for _ in 0..18u8 {
+        sends(carrier, longest, None)?;
+    }
+    holds_back(carrier, 18_870_292, 1)
+}
+
+/// Takes 140 AKs, each of the units sent since the one before it, with credit for 15 more.
+fn credit_comes(carrier: &mut Carrier) -> Result<(), Fail> {
+    for turn in 0..140u8 {
+        let number = turn.wrapping_mul(15).wrapping_add(4) % 128;
+        takes(carrier, &[3, 0, 0, 9, 4, 0x6F, 0, 1, number])?;
+    }
+    Ok(())
+}
+
+/// The connection is closed after more than 2 MiB that nobody has taken: the DR is the last of them.
+fn closes_behind(carrier: &mut Carrier) -> Result<(), Fail> {
+    asks_to_close(carrier)?;
+    let octets = carrier.outgoing();
+    if octets.len() < 2_097_152 || !octets.ends_with(&[3, 0, 0, 0x0B, 6, 0x80, 0, 1, 0, 1, 0x80]) {
+        return Err(Fail::from("other octets are written"));
+    }
+    Ok(())
+}
+
+fn much_goes_on(carrier: &mut Carrier, longest: &[u8]) -> Result<(), Fail> {
+    eighteen_wait(carrier, longest)?;
+    credit_comes(carrier)?;
+    closes_behind(carrier)
+}
+
+#[test]
+fn eighteen_mib_wait_and_a_close_follows_two(rt: HostRuntime) -> Result<(), Fail> {
+    let longest = vec![in rt.alloc(); 0x5A; 1_048_576]?;
+    much_goes_on(&mut opened(&rt)?, longest.as_slice())
 }

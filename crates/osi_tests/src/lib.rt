@@ -9,12 +9,12 @@
 //! - `packets`: a packet that arrives octet by octet, the generic reader and writer, the bounds of a packet;
 //! - `transport_units`, `session_units`: how units are written, sets, bounds, units that are made;
 //! - `links`: credit, numbers that wrap around, the longest TSDU;
-//! - `carriers`: an end of neither class, all references, sending if nothing is open;
+//! - `carriers`: an end of neither class, all references, sending if nothing is open, long lists and backlogs;
 //! - `sessions`: plans, the greatest lengths of user data, a first part that is too long;
-//! - `sides`, `captures`: which side first broke the protocol;
+//! - `sides`, `captures`: which side first broke the protocol; a long capture;
 //! - `stacks`: a selector that is too long, a called end that asks for a connection, two connections distinguished by
 //!   the address they ask for, one of which is given up;
-//! - `listings`: TSDUs of 1,048,576 octets and more.
+//! - `listings`: TSDUs of 1,048,576 octets and more, and traces.
 //!
 //! A public function that allocates is called here, or in a file of `osi_runs`.
 #![tactic(auto)]

@@ -1,6 +1,6 @@
 //! Listings of TSDUs that are too long for a capture of `osi_runs`, and of octets that arrive one by one.
 
-use osi_listing::{Counts, Lister, list};
+use osi_listing::{Counts, Lister, Trace, list};
 use std::alloc::{AllocError, Global};
 use std::test::Fail;
 
@@ -163,4 +163,34 @@ fn octets_that_come_one_by_one_are_listed_as_all_at_once(rt: HostRuntime) -> Res
         return Err(Fail::from("two listings"));
     }
     Ok(())
+}
+
+/// Feeds a trace 10,000 packets, each with an empty TSDU of class 0: more than 900,000 octets of lines.
+fn feed_packets(alloc: Global, trace: &mut Trace) {
+    for _ in 0..10_000u16 {
+        trace.feed(alloc, &[3, 0, 0, 7, 2, 0xF0, 0x80]);
+    }
+}
+
+/// Feeds a trace the first octet of a TSDU of class 2 for each of 64 references.
+fn begin_streams(alloc: Global, trace: &mut Trace) {
+    for reference in 0..64u8 {
+        trace.feed(alloc, &[3, 0, 0, 0x0A, 4, 0xF0, 0, reference, 0, 0x41]);
+    }
+}
+
+/// A trace goes on with all of these.
+fn goes_on(alloc: Global, trace: &mut Trace) -> Result<(), Fail> {
+    feed_packets(alloc, trace);
+    begin_streams(alloc, trace);
+    if trace.is_stopped() || trace.octets() != 70_640 || trace.counts().tsdus != 10_000 {
+        return Err(Fail::from("it has stopped"));
+    }
+    Ok(())
+}
+
+#[test]
+fn a_trace_goes_on_within_its_bounds(rt: HostRuntime) -> Result<(), Fail> {
+    goes_on(rt.alloc(), &mut Trace::lines(rt.alloc()))?;
+    goes_on(rt.alloc(), &mut Trace::counters(rt.alloc()))
 }
