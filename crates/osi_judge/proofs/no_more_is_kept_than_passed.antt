@@ -1,4 +1,4 @@
--- The octets of the TSDUs of a side, and of that under way, are no more than those of its packets.
+-- The octets of the TSDUs of a side, and of the unfinished one, are no more than those of its packets.
 -- For the law that no more is kept than passed.
 use Rattle.std.proofs.Common.{◌≡◌, ◌∙◌, refl, ap, subst, ℕ, ◌+◌, ◌≤◌, ◌==◌, Bool, true, false, if◌then◌else◌, List, [], ◌∷◌, ◌++◌, length, map, Result, Ok, Err, arith}
 use Rattle.std.proofs.lemmas.List.{length-append, map-append}

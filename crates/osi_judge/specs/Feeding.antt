@@ -27,8 +27,8 @@ stage_in Between octets = between
 stage_in (Within first) octets = within first octets
 stage_in (Stopped stop at) octets = stopped stop at
 
--- the TSDUs of a side as far as they were read: the offset of the packet under way, how many of the other side's TSDUs had
--- passed before it, how the side stands, and how many had passed before the first packet of the TSDU under way; and how many
+-- the TSDUs of a side as far as they were read: the offset of the unfinished packet, how many of the other side's TSDUs had
+-- passed before it, how the side stands, and how many had passed before the first packet of the unfinished TSDU; and how many
 -- packets were read, the reference of the CR or CC, and the packet that ended the TSDU at which the side broke the protocol
 pub record Lined : Type 0 where
   pub at : ℕ
@@ -166,7 +166,7 @@ with_octets t octets = record t { held = t.held ++ octets; octets = offset_of (t
 pub data Feeds (d : Direction) (octets : List ℕ) (old new : Tapped) (other new_other : Watched) : Type 0 where
   -- they are not looked at
   ignored : (f : TpktFault) → old.fault ≡ Some f → new ≡ with_count old (length octets) → new_other ≡ other → Feeds d octets old new other new_other
-  -- they belong to the packet under way
+  -- they belong to the unfinished packet
   looked_at : old.fault ≡ None → IsWithin old.held (length octets) → Settles d (since_of old) (with_octets old octets) new other new_other → Feeds d octets old new other new_other
 
 -- ---- where it is not read any further

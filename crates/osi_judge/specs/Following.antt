@@ -113,6 +113,6 @@ abbrev pub kept_in : List (List ℕ) → ℕ
 kept_in [] = 0
 kept_in (tsdu ∷ tsdus) = length tsdu + 7 + kept_in tsdus
 
--- of the TSDUs of a side: those that the other side heard, and the octets of that under way
+-- of the TSDUs of a side: those that the other side heard, and the octets of the unfinished one
 abbrev pub kept_of : Direction → Judged → ℕ
 kept_of d j = kept_in (half_of (other d) j).side.heard + length (begun (half_of d j).line.stage)

@@ -46,7 +46,7 @@ pub(crate) struct Run {
 #[derive(Drop)]
 struct Search {
     nodes: Vec<Node>,
-    /// Where those behind the last unit begin.
+    /// Where the sessions after the last unit begin.
     front: usize,
     said: Vec<Said>,
 }
@@ -79,7 +79,7 @@ impl Search {
         })
     }
 
-    /// Goes on to the sessions behind a unit. Whether there are any.
+    /// Goes on to the sessions after a unit. Whether there are any.
     fn add_unit(
         &mut self,
         alloc: Global,
@@ -103,7 +103,7 @@ impl Search {
         Ok(self.nodes.len() > from)
     }
 
-    /// Goes on to the sessions behind the units of a TSDU. Whether there are any.
+    /// Goes on to the sessions after the units of a TSDU. Whether there are any.
     fn add_units(
         &mut self,
         alloc: Global,

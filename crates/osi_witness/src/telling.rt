@@ -312,7 +312,7 @@ impl<'c> Telling<'c> {
         }
     }
 
-    /// A side sends its next unit, and the parts of the same data behind it. Says how many units are told then.
+    /// A side sends its next unit, and the parts of the same data after it. Says how many units are told then.
     fn say(&mut self, side: Side, said: &Said, place: Place) -> Result<usize, Halt> {
         self.player
             .carry_tsdus(other(side), said.taken, said.is_answer)?;

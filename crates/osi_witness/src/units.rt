@@ -4,7 +4,7 @@ use osi_message::Message;
 use osi_session::is_restart_unit;
 use osi_spdu::{Spdu, read_tsdu};
 
-/// The unit of a TSDU that acts in this place, from 0 on; none if there is none. The first unit acts after those behind it, and
+/// The unit of a TSDU that acts in this place, from 0 on; none if there is none. The first unit acts after those that follow it, and
 /// not at all if one of these is an RS.
 pub(crate) fn acting_unit(tsdu: &[u8], place: usize) -> Option<Spdu<'_>> {
     let Ok(group) = read_tsdu(tsdu) else {

@@ -38,7 +38,7 @@ struct Walker {
     said_before: Option<Standing>,
 }
 
-/// The sessions behind a unit, as far as they were found.
+/// The sessions after a unit, as far as they were found.
 #[derive(Drop)]
 pub(crate) struct Behind<'n> {
     pub(crate) nodes: &'n mut Vec<Node>,
@@ -167,7 +167,7 @@ fn is_done(sent: &Sent<'_>, said: Option<Standing>) -> bool {
     said.is_some() && is_steady(sent.unit)
 }
 
-/// Adds the sessions behind a unit that come from one: it says the unit where it stands, or takes TSDUs first, as many as
+/// Adds the sessions after a unit that come from one: it says the unit as it is, or takes TSDUs first, as many as
 /// had passed. A steady unit is said at the first place where it may be. A session that said the unit and then took
 /// what another took before it, and that stands as the other, stands for both.
 pub(crate) fn walk(
