@@ -1,6 +1,6 @@
 use Rattle.std.proofs.Common.{◌≡◌, ◌<◌, ◌-◌, refl, sym, subst, arith, List, ℕ, [], length}
 use Rattle.osi_c.specs.Watched.{room_in, Passes}
-use Rattle.osi_c.proofs.a_piece_passes_turn_by_turn.{IsPassing, more_passed, front_passed, all_passed, no_room, refused, empty_yes, some_left}
+use Rattle.osi_c.proofs.a_piece_passes_turn_by_turn.{IsPassing, nothing_passed, more_passed, front_passed, all_passed, no_room, refused, empty_yes, some_left}
 use Rattle.osi_c.proofs.watches.take_piece.Goals as goal
 
 pub returns-then-room-eq0 : goal.returns-then-room-eq0
@@ -28,3 +28,6 @@ pub returns : goal.returns
 returns c =
     let none : c.rest.rest.now ≡ [] = search (empty_yes, c.is_empty.ensures, c.rest-test.false) in
     all_passed c.args.side c.args.piece.now c.rest.rest.now c.args.watch.now c.rest.watch none c.rest.invariant
+
+pub rest-init : goal.rest-init
+rest-init c = nothing_passed c.args.side c.args.piece.now c.args.watch.now
