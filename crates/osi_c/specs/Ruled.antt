@@ -90,3 +90,4 @@ stop_code (stop.BadUnit fault) = unit_code fault
 stop_code stop.UnexpectedUnit = 61
 stop_code stop.WrongForm = 62
 stop_code stop.TsduTooLong = 63
+stop_code stop.NothingToAnswer = 33

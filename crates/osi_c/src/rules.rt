@@ -121,5 +121,6 @@ pub(crate) fn stop_code(stop: Stop) -> u32
         Stop::UnexpectedUnit => 61,
         Stop::WrongForm => 62,
         Stop::TsduTooLong => 63,
+        Stop::NothingToAnswer => 33,
     }
 }

@@ -7,7 +7,7 @@ use Rattle.osi_judge.specs.declared.rules.Rule.{Rule}
 use Rattle.osi_judge.specs.declared.rules.Rule.TheVariants as rule
 use Rattle.osi_judge.specs.declared.stops.Stop.{Stop}
 use Rattle.osi_judge.specs.declared.stops.Stop.TheVariants.{NoOpening, OtherClass, Refused, MoreConnections, BadPacket, BadUnit}
-use Rattle.osi_judge.specs.declared.stops.Stop.TheVariants.{UnexpectedUnit, WrongForm, TsduTooLong}
+use Rattle.osi_judge.specs.declared.stops.Stop.TheVariants.{UnexpectedUnit, WrongForm, NothingToAnswer, TsduTooLong}
 use Rattle.osi_dispute.specs.declared.verdicts.Unjudged.{Unjudged}
 use Rattle.osi_dispute.specs.declared.verdicts.Unjudged.TheVariants.{Transport, TooMany}
 use Rattle.osi_listing.specs.Lines.{fault_name, unit_fault_name}
@@ -82,6 +82,7 @@ stop_name (BadPacket fault) = fault_name fault
 stop_name (BadUnit fault) = unit_fault_name fault
 stop_name UnexpectedUnit = codes "UnexpectedUnit"
 stop_name WrongForm = codes "WrongForm"
+stop_name NothingToAnswer = codes "NothingToAnswer"
 stop_name TsduTooLong = codes "TsduTooLong"
 
 unfoldable pub unjudged_text : Unjudged → List ℕ

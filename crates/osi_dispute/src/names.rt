@@ -112,6 +112,7 @@ pub(crate) fn stop(stop: Stop) -> &'static str
         Stop::BadUnit(fault) => unit_fault(fault),
         Stop::UnexpectedUnit => "UnexpectedUnit",
         Stop::WrongForm => "WrongForm",
+        Stop::NothingToAnswer => "NothingToAnswer",
         Stop::TsduTooLong => "TsduTooLong",
     }
 }

@@ -7,6 +7,7 @@ pub mod OnwardLaws
 pub mod CaptureLaws
 pub mod CountLaws
 pub mod UnitLaws
+pub mod HandshakeLaws
 pub mod what_is_told_beside_is_of_the_capture
 pub mod FollowLaws
 pub mod JudgeLaws

@@ -8,7 +8,7 @@ use Rattle.osi_judge.specs.declared.directions.Direction.TheVariants.{Left, Righ
 use Rattle.osi_judge.specs.declared.judge.Judge.{Judge}
 use Rattle.osi_judge.specs.declared.lines.Half.{Half}
 use Rattle.osi_judge.specs.Captures.{Capture, other, stream}
-use Rattle.osi_judge.specs.Transport.{Stage, opening, between, within, stopped, begun, reference_in, Sent, stage_from, sent_from}
+use Rattle.osi_judge.specs.Transport.{silent, handshake_from, met, Stage, opening, asking, between, within, refused, stopped, begun, reference_in, Sent, stage_from, sent_from}
 use Rattle.osi_judge.specs.Tapping.{begin_of, had_passed, heard, told, IsPlace}
 use Rattle.osi_judge.specs.Feeding.{Tapped, tapped, has_broken}
 use Rattle.osi_judge.specs.Judging.{Watches}
@@ -40,8 +40,10 @@ first_after None d false = None
 -- offsets as they are kept
 abbrev pub shown : Stage → Stage
 shown opening = opening
+shown asking = asking
 shown between = between
 shown (within first octets) = within (offset_of first) octets
+shown (refused at) = refused (offset_of at)
 shown (stopped stop at) = stopped stop (offset_of at)
 
 -- the octets after the last complete packet of a stream: they are held, or no packet begins with them
@@ -63,17 +65,19 @@ abbrev pub IsSince : Direction → Capture → List Sent → Stage → ℕ → T
 IsSince d capture others (within first octets) since = (first < length (stream d capture)) × (since ≡ had_passed d capture first others)
 IsSince d capture others stage since = Unit {0}
 
--- what is kept of a side of a capture whose TSDUs are these
-pub record Follows (d : Direction) (capture : Capture) (t : Tapped) (mine others : List Sent) : Type 0 where
-  pub units : List (List ℕ)
+-- what is kept of a side of a capture with these packets, of which these are the TSDUs; the packets and TSDUs of the other
+-- side are those
+pub record Follows (d : Direction) (capture : Capture) (t : Tapped) (units beside : List (List ℕ)) (mine others : List Sent) : Type 0 where
   pub rest : List ℕ
   pub packets : ArePackets units (stream d capture) rest
   pub is_rest : IsRest t.fault t.held rest
   pub at : t.line.at ≡ offset_of (length (stream d capture) - length rest)
-  pub sent : mine ≡ sent_from d opening 0 units
-  pub stage : t.line.stage ≡ shown (stage_from d opening 0 units)
+  pub handshake : t.line.handshake ≡ handshake_from silent units
+  pub met : t.fault ≡ None → 0 < length rest → t.line.met ≡ met d capture beside (length (stream d capture) - length rest)
+  pub sent : mine ≡ sent_from d (met d capture beside) opening 0 units
+  pub stage : t.line.stage ≡ shown (stage_from d (met d capture beside) opening 0 units)
   pub since : t.fault ≡ None → 0 < length rest → t.line.since ≡ had_passed d capture (length (stream d capture) - length rest) others
-  pub begun : IsSince d capture others (stage_from d opening 0 units) t.line.begun_since
+  pub begun : IsSince d capture others (stage_from d (met d capture beside) opening 0 units) t.line.begun_since
   pub octets : t.octets ≡ offset_of (length (stream d capture))
   pub counted : t.line.packets ≡ offset_of (length units)
   pub reference : t.line.reference ≡ reference_in d units
@@ -84,12 +88,14 @@ pub record Follows (d : Direction) (capture : Capture) (t : Tapped) (mine others
   pub heard : t.side.heard ≡ heard others
   pub watches : Watches t.side (told d capture mine others)
 
--- the TSDUs of both sides, and what is kept of them
+-- the packets and the TSDUs of both sides, and what is kept of them
 pub record Taps (j : Judged) (capture : Capture) : Type 0 where
+  pub left_units : List (List ℕ)
+  pub right_units : List (List ℕ)
   pub left : List Sent
   pub right : List Sent
-  pub of_left : Follows Left capture j.left left right
-  pub of_right : Follows Right capture j.right right left
+  pub of_left : Follows Left capture j.left left_units right_units left right
+  pub of_right : Follows Right capture j.right right_units left_units right left
 
 -- a side had broken the protocol after some prefix of the capture, and the other had not
 pub record BrokeFirst (d : Direction) (capture : Capture) : Type 0 where

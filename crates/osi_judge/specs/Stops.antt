@@ -3,7 +3,7 @@ use Rattle.std.specs.Prelude.{ℕ, Bool, true, false, Option, Some, None}
 use Rattle.osi_judge.specs.declared.findings.Finding.{Finding}
 use Rattle.osi_judge.specs.declared.findings.Finding.TheVariants.{Broke, Left, TooMany}
 use Rattle.osi_judge.specs.declared.stops.Stop.{Stop}
-use Rattle.osi_judge.specs.declared.stops.Stop.TheVariants.{NoOpening, OtherClass, Refused, MoreConnections, BadPacket, BadUnit, UnexpectedUnit, WrongForm, TsduTooLong}
+use Rattle.osi_judge.specs.declared.stops.Stop.TheVariants.{NoOpening, OtherClass, Refused, MoreConnections, BadPacket, BadUnit, UnexpectedUnit, WrongForm, NothingToAnswer, TsduTooLong}
 use Rattle.osi_judge.specs.declared.stops.Stopped.{Stopped}
 
 -- if not, the connection is one that is not judged
@@ -16,6 +16,7 @@ is_break (BadPacket fault) = true
 is_break (BadUnit fault) = true
 is_break UnexpectedUnit = true
 is_break WrongForm = true
+is_break NothingToAnswer = true
 is_break TsduTooLong = true
 
 abbrev pub breaks : Option Stopped → Bool

@@ -10,11 +10,11 @@ use Rattle.osi_tpkt.specs.Stream.{Cuts, Ending, offset_of}
 use Rattle.osi_tpkt.specs.Stream.Ending.{Faulty, Rest}
 use Rattle.osi_tpkt.specs.declared.faults.TpktFault.{TpktFault}
 use Rattle.osi_tpkt.specs.declared.faults.TpktFault.TheVariants.{BadVersion, BadLength, OutOfMemory}
-use Rattle.osi_judge.specs.declared.stops.Stop.TheVariants.{BadPacket}
+use Rattle.osi_judge.specs.declared.stops.Stop.TheVariants.{BadPacket, Refused}
 use Rattle.osi_judge.specs.declared.stops.Stopped.{Stopped as StoppedAt}
 use Rattle.osi_judge.specs.Stops.{breaks, broke_session}
 use Rattle.osi_judge.specs.Captures.{Capture, other, stream, passed_before}
-use Rattle.osi_judge.specs.Transport.{Stage, opening, stopped, reference_in, Sent, packets_length, last_packet, stage_from, IsSent}
+use Rattle.osi_judge.specs.Transport.{Stage, opening, refused, stopped, met, reference_in, Sent, packets_length, last_packet, stage_from, ArePacketsOf, IsSent}
 use Rattle.osi_judge.specs.Explaining.{Told, remarks, Explains}
 use Rattle.osi_judge.specs.Walking.{Ever}
 use Rattle.osi_judge.specs.Onward.{StandsBehind}
@@ -52,8 +52,8 @@ pub record IsFoundIn (d : Direction) (capture : Capture) (finding : Finding) : T
   pub is_others : IsSent (other d) capture others
   pub found : IsFound (begin_of d) (heard others) (told d capture mine others) finding
 
--- Where the transport of a side of a capture is not read any further: at a packet that has no place in class 0, or at
--- octets with which no packet begins.
+-- Where the transport of a side of a capture is not read any further: at a packet that has no place in class 0 after what
+-- had passed before it, at a refusal, or at octets with which no packet begins.
 abbrev pub fault_offset : TpktFault → ℕ
 fault_offset (BadVersion at) = at
 fault_offset (BadLength at) = at
@@ -61,6 +61,7 @@ fault_offset OutOfMemory = 0
 
 abbrev pub stop_in : Stage → Ending → Option StoppedAt
 stop_in (stopped stop at) ending = Some (record { stop = stop; offset = offset_of at })
+stop_in (refused at) ending = Some (record { stop = Refused; offset = offset_of at })
 stop_in stage (Faulty fault) = Some (record { stop = BadPacket fault; offset = fault_offset fault })
 stop_in stage (Rest n) = None
 
@@ -68,7 +69,9 @@ pub record IsStoppedIn (d : Direction) (capture : Capture) (result : Option Stop
   pub units : List (List ℕ)
   pub ending : Ending
   pub cut : Cuts (stream d capture) units ending
-  pub stops : result ≡ stop_in (stage_from d opening 0 units) ending
+  pub others : List (List ℕ)
+  pub are_others : ArePacketsOf (other d) capture others
+  pub stops : result ≡ stop_in (stage_from d (met d capture others) opening 0 units) ending
 
 -- ---- what is told beside it
 

@@ -53,7 +53,13 @@ fn feed_left(left: &mut Half, right: &mut Half, octets: &[u8]) -> Result<usize, 
     ensures still { OnOk result (has_broken (tapped left.old) ≡ true → has_broken (tapped left.new) ≡ true) }
     ensures err { OnErr result (both left.new right.new ≡ both left.old right.old) }
 {
-    let used = feed(Direction::Left, left, &mut right.side, octets)?;
+    let used = feed(
+        Direction::Left,
+        left,
+        &mut right.side,
+        right.line.handshake,
+        octets,
+    )?;
     Ok(used)
 }
 
@@ -66,7 +72,13 @@ fn feed_right(left: &mut Half, right: &mut Half, octets: &[u8]) -> Result<usize,
     ensures still { OnOk result (has_broken (tapped right.old) ≡ true → has_broken (tapped right.new) ≡ true) }
     ensures err { OnErr result (both left.new right.new ≡ both left.old right.old) }
 {
-    let used = feed(Direction::Right, right, &mut left.side, octets)?;
+    let used = feed(
+        Direction::Right,
+        right,
+        &mut left.side,
+        left.line.handshake,
+        octets,
+    )?;
     Ok(used)
 }
 

@@ -33,11 +33,13 @@
 mod directions;
 mod findings;
 mod first_places;
+mod handshakes;
 mod judge;
 pub mod laws;
 mod lines;
 mod members;
 mod profiles;
+mod progress;
 mod rules;
 mod sides;
 mod standings;

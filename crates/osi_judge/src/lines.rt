@@ -1,34 +1,23 @@
 //! What was read of one direction of a capture.
 
-ghost use Rattle.std.specs.Prelude.{◌≡◌, ◌≤◌, ◌<◌, ◌+◌, ◌++◌, ℕ, List, [], None, false, IfOk, OnOk, OnErr, length, take};
+ghost use Rattle.std.specs.Prelude.{◌≡◌, ◌≤◌, ◌<◌, ◌+◌, ◌++◌, ℕ, List, [], None, Some, false, IfOk, OnOk, OnErr, length, take};
 ghost use Rattle.osi_tpkt.specs.Packet.{stated_length};
 ghost use Rattle.osi_tpkt.specs.Stream.{offset_of};
 ghost use Rattle.osi_judge.specs.Sides.{watched};
-ghost use Rattle.osi_judge.specs.Transport.{opening, between, stopped, is_open, begun, first_of, added, moved, adds, brought};
-ghost use Rattle.osi_judge.specs.Feeding.{stage_in, lined, tapped, since_at, since_in, last_place, last_behind, Tells, hears, Passes};
+ghost use Rattle.osi_judge.specs.Transport.{silent, opening, asking, between, refused, stopped, begun, added, moved, adds, brought, step as step_move};
+ghost use Rattle.osi_judge.specs.Feeding.{stage_in, handshake_in, lined, tapped, since_in, met_in, named, last_place, last_behind, Tells, hears, Passes};
 ghost use Rattle.osi_judge.specs.Feeding.{TakesUnit, Settles, Feeds, placed, stopped_packet, stopped_of, has_broken};
 
 use crate::directions::Direction;
 use crate::findings::Finding;
+use crate::handshakes::{Handshake, read_first};
+use crate::progress::Progress;
 use crate::sides::Side;
 use crate::steps::{Step, read_step};
 use crate::stops::{Stop, Stopped, breaks};
 use osi_class::LONGEST_TSDU;
 use osi_tpkt::{Packet, TpktFault, Unit};
 use std::alloc::{AllocError, Global};
-
-/// The state of a side's transport between two packets.
-#[derive(Clone, Copy)]
-pub(crate) enum Progress {
-    /// Its CR or CC has not passed yet.
-    Opening,
-    /// Between two TSDUs.
-    Between,
-    /// Within a TSDU, whose first packet is at this offset.
-    Within(u64),
-    /// Nothing after the packet at this offset is looked at.
-    Stopped(Stop, u64),
-}
 
 /// A side's TSDUs, as far as they were read.
 #[derive(Drop)]
@@ -39,6 +28,10 @@ pub(crate) struct Line {
     pub(crate) at: u64,
     /// How many of the other side's TSDUs had passed before its first octet.
     pub(crate) since: usize,
+    /// How far the other side had come before its first octet.
+    pub(crate) met: Handshake,
+    /// How far this side has come.
+    pub(crate) handshake: Handshake,
     pub(crate) progress: Progress,
     /// The octets of the unfinished TSDU.
     pub(crate) begun: Vec<u8>,
@@ -63,42 +56,16 @@ pub(crate) struct Half {
     pub(crate) side: Side,
 }
 
-impl Progress {
-    fn is_open(self) -> bool
-        ensures { result ≡ is_open (stage_in self []) }
-    {
-        !matches!(self, Progress::Opening)
-    }
-
-    /// The first packet of the TSDU to which the packet at an offset adds.
-    fn first(self, at: u64) -> u64
-        ensures { result ≡ first_of (stage_in self []) at }
-    {
-        match self {
-            Progress::Within(first) => first,
-            _ => at,
-        }
-    }
-
-    /// How many TSDUs had passed before that packet.
-    fn since(self, begun_since: usize, since: usize) -> usize
-        ensures { result ≡ since_at (stage_in self []) begun_since since }
-    {
-        match self {
-            Progress::Within(_) => begun_since,
-            _ => since,
-        }
-    }
-}
-
 impl Line {
     fn new(alloc: Global) -> Line
-        ensures { lined result ≡ record { at = 0; since = 0; stage = opening; begun_since = 0; packets = 0; reference = None; last = 0 } }
+        ensures { lined result ≡ record { at = 0; since = 0; met = silent; handshake = silent; stage = opening; begun_since = 0; packets = 0; reference = None; last = 0 } }
     {
         Line {
             packets: 0,
             at: 0,
             since: 0,
+            met: Handshake::Silent,
+            handshake: Handshake::Silent,
             progress: Progress::Opening,
             begun: Vec::new(alloc),
             begun_since: 0,
@@ -116,6 +83,40 @@ impl Line {
             return;
         }
         self.begun.clear();
+    }
+
+    /// What had passed of the other side before the current packet.
+    fn begin_packet(&mut self, since: usize, met: Handshake)
+        ensures { lined self.new ≡ record (lined self.old) { since = since; met = handshake_in met } }
+    {
+        self.since = since;
+        self.met = met;
+    }
+
+    /// The CR of left passes.
+    fn ask(&mut self, reference: u16, since: usize)
+        ensures { lined self.new ≡ record (lined self.old) { stage = asking; begun_since = since; reference = Some reference } }
+    {
+        self.reference = Some(reference);
+        self.begun_since = since;
+        self.progress = Progress::Asking;
+    }
+
+    /// The CC of right passes.
+    fn open(&mut self, reference: u16, since: usize)
+        ensures { lined self.new ≡ record (lined self.old) { stage = between; begun_since = since; reference = Some reference } }
+    {
+        self.reference = Some(reference);
+        self.begun_since = since;
+        self.progress = Progress::Between;
+    }
+
+    /// The connection is refused by the current packet.
+    fn refuse(&mut self, since: usize)
+        ensures { lined self.new ≡ record (lined self.old) { stage = refused (lined self.old).at; begun_since = since } }
+    {
+        self.begun_since = since;
+        self.progress = Progress::Refused(self.at);
     }
 
     /// Nothing after the current packet is looked at.
@@ -147,6 +148,13 @@ fn since_packet(held: &[u8], heard: usize, since: usize) -> usize
     ensures { result ≡ since_in held.now heard since }
 {
     if held.is_empty() { heard } else { since }
+}
+
+/// How far the other side had come before the packet of which these octets are held.
+fn met_packet(held: &[u8], now: Handshake, met: Handshake) -> Handshake
+    ensures { handshake_in result ≡ met_in held.now (handshake_in now) (handshake_in met) }
+{
+    if held.is_empty() { now } else { met }
 }
 
 /// A fault of octets at an offset.
@@ -273,28 +281,38 @@ fn add(
     end_part(line, side, other, octets, since)
 }
 
-/// A complete packet of a side passes; `since` TSDUs of the other side had passed before it. `Err` changes nothing.
-fn take_unit(
-    direction: Direction,
+/// A complete packet of a side passes, and means this. `Err` changes nothing.
+fn take_step(
     line: &mut Line,
     side: &mut Side,
     other: &mut Side,
-    unit: &[u8],
+    step: Step<'_>,
     since: usize,
 ) -> Result<(), AllocError>
-    ensures ok { OnOk result (TakesUnit direction unit.now since (lined line.old) (lined line.new) (watched side.old) (watched side.new) (watched other.old) (watched other.new)) }
+    ensures line { (unit : List ℕ) → OnOk result (lined line.new ≡ record (lined line.old) {
+      stage = moved (lined line.old).stage (lined line.old).at (step_move step);
+      begun_since = since;
+      reference = named (lined line.old).reference (step_move step);
+      last = last_behind (watched side.old).finding (brought (lined line.old).stage (lined line.old).at unit (step_move step)) (lined line.old).last;
+    }) }
+    ensures passes { (unit : List ℕ) → OnOk result (Passes (brought (lined line.old).stage (lined line.old).at unit (step_move step)) since (watched side.old) (watched side.new) (watched other.old) (watched other.new)) }
     ensures err { OnErr result ((lined line.new ≡ lined line.old) × (watched side.new ≡ watched side.old) × (watched other.new ≡ watched other.old)) }
 {
-    let since = line.progress.since(line.begun_since, since);
-    if let Progress::Stopped(..) = line.progress {
-        line.begun_since = since;
-        return Ok(());
-    }
-    match read_step(direction, line.progress.is_open(), unit) {
+    match step {
+        Step::Asks(reference) => {
+            line.ask(reference, since);
+            Ok(())
+        }
         Step::Opens(reference) => {
-            line.reference = Some(reference);
+            line.open(reference, since);
+            Ok(())
+        }
+        Step::Refuses => {
+            line.refuse(since);
+            Ok(())
+        }
+        Step::Ignores => {
             line.begun_since = since;
-            line.progress = Progress::Between;
             Ok(())
         }
         Step::Stops(stop) => {
@@ -308,25 +326,53 @@ fn take_unit(
     }
 }
 
-/// Looks at the octets that are held of a packet; `since` TSDUs of the other side had passed before it. `Err` changes
-/// nothing.
+/// A complete packet of a side passes. Before it, `since` TSDUs of the other side had passed, and the other side had come
+/// so far. `Err` changes nothing.
+fn take_unit(
+    direction: Direction,
+    line: &mut Line,
+    side: &mut Side,
+    other: &mut Side,
+    unit: &[u8],
+    since: usize,
+    met: Handshake,
+) -> Result<(), AllocError>
+    ensures ok { OnOk result (TakesUnit direction unit.now since (handshake_in met) (lined line.old) (lined line.new) (watched side.old) (watched side.new) (watched other.old) (watched other.new)) }
+    ensures err { OnErr result ((lined line.new ≡ lined line.old) × (watched side.new ≡ watched side.old) × (watched other.new ≡ watched other.old)) }
+{
+    let since = line.progress.since(line.begun_since, since);
+    let first = read_first(unit);
+    if let Progress::Stopped(..) = line.progress {
+        line.begun_since = since;
+        line.handshake = line.handshake.after(&first);
+        return Ok(());
+    }
+    let step = read_step(direction, line.progress, met, &first);
+    take_step(line, side, other, step, since)?;
+    line.handshake = line.handshake.after(&first);
+    Ok(())
+}
+
+/// Looks at the octets that are held of a packet. Before it, `since` TSDUs of the other side had passed, and the other
+/// side had come so far. `Err` changes nothing.
 fn settle(
     direction: Direction,
     half: &mut Half,
     other: &mut Side,
     since: usize,
+    met: Handshake,
 ) -> Result<(), AllocError>
-    ensures ok { OnOk result (Settles direction since (tapped half.old) (tapped half.new) (watched other.old) (watched other.new)) }
+    ensures ok { OnOk result (Settles direction since (handshake_in met) (tapped half.old) (tapped half.new) (watched other.old) (watched other.new)) }
     ensures err { OnErr result ((tapped half.new ≡ tapped half.old) × (watched other.new ≡ watched other.old)) }
 {
     match Packet::read(half.held.as_slice()) {
         Ok(None) => {
-            half.line.since = since;
+            half.line.begin_packet(since, met);
             Ok(())
         }
         Err(fault) => {
             half.fault = Some(fault);
-            half.line.since = since;
+            half.line.begin_packet(since, met);
             Ok(())
         }
         Ok(Some(found)) => {
@@ -338,8 +384,9 @@ fn settle(
                 other,
                 unit,
                 since,
+                met,
             )?;
-            half.advance(since);
+            half.advance(since, met);
             Ok(())
         }
     }
@@ -352,7 +399,7 @@ impl Half {
           held = [];
           octets = 0;
           fault = None;
-          line = record { at = 0; since = 0; stage = opening; begun_since = 0; packets = 0; reference = None; last = 0 };
+          line = record { at = 0; since = 0; met = silent; handshake = silent; stage = opening; begun_since = 0; packets = 0; reference = None; last = 0 };
           side = watched side;
         } }
     {
@@ -371,7 +418,12 @@ impl Half {
     {
         match self.line.progress {
             Progress::Stopped(stop, offset) => Some(Stopped { stop, offset }),
+            Progress::Refused(offset) => Some(Stopped {
+                stop: Stop::Refused,
+                offset,
+            }),
             Progress::Opening => stopped_packet(self.fault, self.line.at),
+            Progress::Asking => stopped_packet(self.fault, self.line.at),
             Progress::Between => stopped_packet(self.fault, self.line.at),
             Progress::Within(_) => stopped_packet(self.fault, self.line.at),
         }
@@ -389,34 +441,38 @@ impl Half {
         }
     }
 
-    /// The packet that was held is done; `since` TSDUs of the other side had passed before it.
-    fn advance(&mut self, since: usize)
+    /// The packet that was held is done. Before it, `since` TSDUs of the other side had passed, and the other side had come
+    /// so far.
+    fn advance(&mut self, since: usize, met: Handshake)
         ensures { tapped self.new ≡ record (tapped self.old) {
           held = [];
           line = record (tapped self.old).line {
             packets = offset_of ((tapped self.old).line.packets + 1);
             at = offset_of ((tapped self.old).line.at + length (tapped self.old).held);
             since = since;
+            met = handshake_in met;
           };
         } }
     {
         self.line.packets = self.line.packets.saturating_add(1);
         self.line.at = self.line.at.saturating_add(self.held.len() as u64);
-        self.line.since = since;
+        self.line.begin_packet(since, met);
         self.held.clear();
     }
 }
 
-/// Octets of a piece pass, up to the end of the header or of the packet that they belong to. `Err` changes nothing.
+/// Octets of a piece pass, up to the end of the header or of the packet that they belong to; the other side has come so
+/// far. `Err` changes nothing.
 pub(crate) fn feed(
     direction: Direction,
     half: &mut Half,
     other: &mut Side,
+    now: Handshake,
     piece: &[u8],
 ) -> Result<usize, AllocError>
     ensures used { IfOk result (λ n. n ≤ length piece.now) }
     ensures some { IfOk result (λ n. 0 < length piece.now → 0 < n) }
-    ensures feeds { IfOk result (λ n. Feeds direction (take n piece.now) (tapped half.old) (tapped half.new) (watched other.old) (watched other.new)) }
+    ensures feeds { IfOk result (λ n. Feeds direction (take n piece.now) (handshake_in now) (tapped half.old) (tapped half.new) (watched other.old) (watched other.new)) }
     ensures err { OnErr result ((tapped half.new ≡ tapped half.old) × (watched other.new ≡ watched other.old)) }
 {
     if let Some(_fault) = half.fault {
@@ -427,9 +483,10 @@ pub(crate) fn feed(
     let octets = half.octets;
     let used = wanted(half.held.as_slice()).min(piece.len());
     let since = since_packet(half.held.as_slice(), half.side.heard(), half.line.since);
+    let met = met_packet(half.held.as_slice(), now, half.line.met);
     half.held.extend_from_slice(&piece[..used])?;
     half.octets = octets.saturating_add(used as u64);
-    match settle(direction, half, other, since) {
+    match settle(direction, half, other, since, met) {
         Ok(()) => Ok(used),
         Err(refused) => {
             half.held.truncate(held);

@@ -9,12 +9,12 @@ use osi_tpkt::TpktFault;
 /// Why the packets of a side are not looked at any more. After this the side has no more TSDUs.
 #[derive(Clone, Copy, PartialEq, Eq, Debug)]
 pub enum Stop {
-    /// The first packet of left has no CR, or that of right no CC and no DR: the capture begins in the middle of a
-    /// connection.
+    /// The first packet of left has no CR, or that of right no CC and no CR had passed before it: the capture begins in the
+    /// middle of a connection.
     NoOpening,
     /// The CR offers, or the CC selects, a class other than 0.
     OtherClass,
-    /// A DR refuses the connection.
+    /// A DR or an ER refuses the connection; or this is the DC that answers the DR.
     Refused,
     /// A CR after the first packet: the capture has more than one connection.
     MoreConnections,
@@ -22,10 +22,13 @@ pub enum Stop {
     BadPacket(TpktFault),
     /// The units of a packet can't be read.
     BadUnit(TpduFault),
-    /// After the first packet a unit that is not a DT of class 0 (X.224 section 8).
+    /// A unit that has no place there: after the CC of right a unit that is not a DT of class 0, before it one that
+    /// neither answers a CR nor refuses it, or one after a refusal (X.224 section 8).
     UnexpectedUnit,
-    /// A DR, which class 0 doesn't have after its CC.
+    /// A DR that refuses no CR: of left, after the CC of right, or after another DR.
     WrongForm,
+    /// A DC, and no DR with its references that is not answered.
+    NothingToAnswer,
     /// A TSDU of more than 1,048,576 octets.
     TsduTooLong,
 }
@@ -38,7 +41,8 @@ impl Stop {
         match self {
             Stop::NoOpening | Stop::OtherClass | Stop::Refused | Stop::MoreConnections => false,
             Stop::BadPacket(_) | Stop::BadUnit(_) => true,
-            Stop::UnexpectedUnit | Stop::WrongForm | Stop::TsduTooLong => true,
+            Stop::UnexpectedUnit | Stop::WrongForm => true,
+            Stop::NothingToAnswer | Stop::TsduTooLong => true,
         }
     }
 }
