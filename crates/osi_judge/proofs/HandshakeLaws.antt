@@ -7,7 +7,7 @@ use Rattle.osi_tpkt.specs.Stream.{ArePackets}
 use Rattle.osi_tpdu.specs.Packet.{units_of}
 use Rattle.osi_judge.specs.declared.directions.Direction.{Direction}
 use Rattle.osi_judge.specs.Captures.{Capture, other, piece, stream, passed_before}
-use Rattle.osi_judge.specs.Transport.{Handshake, silent, first_unit, shaken, handshake_from, packet_length, complete_in, met}
+use Rattle.osi_judge.specs.Transport.{Handshake, silent, first_unit, shaken, handshake_from, packet_length, complete_in, met_before}
 use Rattle.osi_judge.specs.Transport.{Stage, opening, stage_behind, Sent, sent_by, stage_from, sent_from, packets_length}
 use Rattle.osi_judge.proofs.CaptureLaws.{passed_stays, passed_by_then, passed_within}
 use Rattle.osi_judge.proofs.UnitLaws.{offset_from, offset_of_rest}
@@ -33,7 +33,7 @@ complete_by n u xs ys more (inr (e, l)) = complete_none n u xs l ∙ sym (comple
 
 -- one that ends later is not among them
 complete_front : (n : ℕ) (us : List (List ℕ)) (u : List ℕ) → n < packets_length us + packet_length u → complete_in n (us ++ u ∷ []) ≡ complete_in n us
-complete_front n [] u l = complete_none n u [] l
+complete_front n [] u l = complete_none n u [] (omega arith)
 complete_front n (v ∷ us) u l =
     complete_by n v (us ++ u ∷ []) us (λ m. complete_front (n - packet_length v) us u (omega arith)) (leb_tells (packet_length v) n)
 
@@ -45,18 +45,18 @@ handshake_more h [] u = refl
 handshake_more h (v ∷ us) u = handshake_more (shaken h (first_unit (units_of v))) us u
 
 -- before an octet that is there it stays so
-pub met_stays : (d : Direction) (c e : Capture) (others : List (List ℕ)) (k : ℕ) → k < length (stream d c) → met d (c ++ e) others k ≡ met d c others k
+pub met_stays : (d : Direction) (c e : Capture) (others : List (List ℕ)) (k : ℕ) → k < length (stream d c) → met_before d (c ++ e) others k ≡ met_before d c others k
 met_stays d c e others k l = ap (λ (n : ℕ). handshake_from silent (complete_in n others)) (passed_stays d c e k l)
 
 -- also if a packet ends later
 pub met_not_yet : (d : Direction) (c : Capture) (others : List (List ℕ)) (u : List ℕ) (k : ℕ)
-    → length (stream (other d) c) < packets_length others + packet_length u → met d c (others ++ u ∷ []) k ≡ met d c others k
+    → length (stream (other d) c) < packets_length others + packet_length u → met_before d c (others ++ u ∷ []) k ≡ met_before d c others k
 met_not_yet d c others u k l =
     let w = passed_within d c k in ap (handshake_from silent) (complete_front (passed_before d c k) others u (omega arith))
 
 -- before an octet that passes now, all that the other side sent had passed
 pub met_now : (d : Direction) (c : Capture) (octets : List ℕ) (others : List (List ℕ)) (k : ℕ) → length (stream d c) ≤ k → k < length (stream d c) + length octets
-    → packets_length others ≤ length (stream (other d) c) → met d (c ++ piece d octets) others k ≡ handshake_from silent others
+    → packets_length others ≤ length (stream (other d) c) → met_before d (c ++ piece d octets) others k ≡ handshake_from silent others
 met_now d c octets others k l m h =
     ap (λ (n : ℕ). handshake_from silent (complete_in n others)) (passed_by_then d c octets k l m)
     ∙ ap (handshake_from silent) (complete_all (length (stream (other d) c)) others h)

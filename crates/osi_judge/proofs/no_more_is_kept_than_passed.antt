@@ -1,6 +1,6 @@
 -- The octets of the TSDUs of a side, and of the unfinished one, are no more than those of its packets.
 -- For the law that no more is kept than passed.
-use Rattle.std.proofs.Common.{◌≡◌, ◌∙◌, refl, ap, subst, ℕ, ◌+◌, ◌≤◌, ◌==◌, Bool, true, false, if◌then◌else◌, List, [], ◌∷◌, ◌++◌, length, map, Result, Ok, Err, arith}
+use Rattle.std.proofs.Common.{◌≡◌, ◌∙◌, refl, ap, subst, ℕ, ◌+◌, ◌≤◌, ◌==◌, ◌&&◌, Bool, true, false, if◌then◌else◌, List, [], ◌∷◌, ◌++◌, length, map, Result, Ok, Err, arith}
 use Rattle.std.proofs.lemmas.List.{length-append, map-append}
 use Rattle.osi_tpkt.specs.Octets.{IsOctets}
 use Rattle.osi_tpkt.specs.Packet.{IsPacket}
@@ -9,16 +9,19 @@ use Rattle.osi_tpkt.proofs.OctetLaws.{octets_right}
 use Rattle.osi_tpdu.specs.declared.faults.TpduFault.{TpduFault}
 use Rattle.osi_tpdu.specs.Packet.{AreUnits, units_of}
 use Rattle.osi_tpdu.specs.Spelling.{Spells}
-use Rattle.osi_tpdu.specs.Value.{Value, request, confirm, data0}
+use Rattle.osi_tpdu.specs.Value.{Value, request, confirm, disconnect, disconnected, data0, data2, acknowledge, error}
 use Rattle.osi_class.specs.Negotiation.{proposes}
 use Rattle.osi_judge.specs.declared.directions.Direction.{Direction}
 use Rattle.osi_judge.specs.declared.directions.Direction.TheVariants.{Left, Right}
 use Rattle.osi_judge.specs.declared.findings.Finding.TheVariants.{Kept}
-use Rattle.osi_judge.specs.declared.stops.Stop.TheVariants.{OtherClass, TsduTooLong}
+use Rattle.osi_judge.specs.declared.stops.Stop.TheVariants.{NoOpening, OtherClass, NothingToAnswer, TsduTooLong}
 use Rattle.osi_judge.specs.Captures.{Capture, other, stream}
 use Rattle.osi_judge.specs.Following.{shown, Follows, Judged, half_of, Taps, kept_in, kept_of}
 use Rattle.osi_judge.specs.Tapping.{octets_of, heard, told}
-use Rattle.osi_judge.specs.Transport.{Move, opens, adds, stops, first_step, next_step, step_of, Stage, opening, between, within, stopped, is_open, begun, is_too_long, added, moved, stage_behind, Sent, ended, brought, sent_by, stage_from, sent_from}
+use Rattle.osi_judge.specs.Transport.{Handshake, silent, asked, asked_again, agreed, denied, astray, first_unit, met_before, Move, asks, opens, adds, refuses, ignores, stops}
+use Rattle.osi_judge.specs.Transport.{misplaced, next_step, asking_step, answering_step, has_asked, first_step, closing_step, later_step, refused_step, unit_step, step_of}
+use Rattle.osi_judge.specs.Transport.{Stage, opening, asking, between, within, refused, stopped, begun, is_too_long, added, moved, stage_behind}
+use Rattle.osi_judge.specs.Transport.{Sent, ended, brought, sent_by, stage_from, sent_from}
 use Rattle.osi_judge.proofs.SideLaws.{few_by}
 use Rattle.osi_judge.proofs.UnitLaws.{packet_octets}
 
@@ -46,26 +49,98 @@ data_short end user (v ∷ vs) octets (b, x, y, e, s, h) =
     let whole = ap (λ (z : List ℕ). length z) e in
     let both = length-append x y in omega (arith, one, whole, both)
 
-opens_or_stops : (n : ℕ) (b : Bool) (reference : ℕ) → IsShort n (if b then opens reference else stops OtherClass)
-opens_or_stops n true reference = tt
-opens_or_stops n false reference = tt
+either_short : (n : ℕ) (b : Bool) (m p : Move) → IsShort n m → IsShort n p → IsShort n (if b then m else p)
+either_short n true m p h k = h
+either_short n false m p h k = k
 
-first_short : (n : ℕ) (d : Direction) (v : Value) → IsShort n (first_step d v)
-first_short n Left (request c) = opens_or_stops n (proposes c 0) c.source
-first_short n Right (confirm destination c) = opens_or_stops n (c.class == 0) c.source
-first_short n Left _ = tt
-first_short n Right _ = tt
+misplaced_short : (n : ℕ) (v : Value) → IsShort n (misplaced v)
+misplaced_short n (request c) = tt
+misplaced_short n (confirm destination c) = tt
+misplaced_short n (disconnect destination source reason user) = tt
+misplaced_short n (disconnected destination source) = tt
+misplaced_short n (data0 end user) = tt
+misplaced_short n (data2 destination number end user) = tt
+misplaced_short n (acknowledge credit destination number) = tt
+misplaced_short n (error destination cause) = tt
+
+asking_short : (n : ℕ) (v : Value) → IsShort n (asking_step v)
+asking_short n (request c) = either_short n (proposes c 0) (asks c.source) (stops OtherClass) tt tt
+asking_short n _ = tt
+
+answering_short : (n : ℕ) (v : Value) → IsShort n (answering_step v)
+answering_short n (disconnect destination source reason user) = tt
+answering_short n (error destination cause) = tt
+answering_short n (request c) = tt
+answering_short n (confirm destination c) = tt
+answering_short n (disconnected destination source) = tt
+answering_short n (data0 end user) = tt
+answering_short n (data2 destination number end user) = tt
+answering_short n (acknowledge credit destination number) = tt
+
+answered_short : (n : ℕ) (h : Handshake) (v : Value) → IsShort n (if has_asked h then answering_step v else stops NoOpening)
+answered_short n h v = either_short n (has_asked h) (answering_step v) (stops NoOpening) (answering_short n v) tt
+
+first_short : (n : ℕ) (d : Direction) (h : Handshake) (v : Value) → IsShort n (first_step d h v)
+first_short n Left h v = asking_short n v
+first_short n Right h (confirm destination c) = either_short n (c.class == 0) (opens c.source) (stops OtherClass) tt tt
+first_short n Right h (request c) = answered_short n h (request c)
+first_short n Right h (disconnect destination source reason user) = answered_short n h (disconnect destination source reason user)
+first_short n Right h (disconnected destination source) = answered_short n h (disconnected destination source)
+first_short n Right h (data0 end user) = answered_short n h (data0 end user)
+first_short n Right h (data2 destination number end user) = answered_short n h (data2 destination number end user)
+first_short n Right h (acknowledge credit destination number) = answered_short n h (acknowledge credit destination number)
+first_short n Right h (error destination cause) = answered_short n h (error destination cause)
 
 next_short : (octets : List ℕ) (v : Value) (vs : List Value) → AreUnits (v ∷ vs) octets → IsShort (length octets) (next_step v)
 next_short octets (data0 end user) vs h = data_short end user vs octets h
-next_short octets _ vs h = tt
+next_short octets (request c) vs h = tt
+next_short octets (confirm destination c) vs h = tt
+next_short octets (disconnect destination source reason user) vs h = tt
+next_short octets (disconnected destination source) vs h = tt
+next_short octets (data2 destination number end user) vs h = tt
+next_short octets (acknowledge credit destination number) vs h = tt
+next_short octets (error destination cause) vs h = tt
 
-step_short : FoundUnits → (d : Direction) (is_open : Bool) (unit : List ℕ) (read : Result (List Value) TpduFault) → IsOctets unit
-    → units_of unit ≡ read → IsShort (length unit) (step_of d is_open read)
-step_short found d is_open unit (Err fault) o e = tt
-step_short found d is_open unit (Ok []) o e = tt
-step_short found d false unit (Ok (v ∷ vs)) o e = first_short (length unit) d v
-step_short found d true unit (Ok (v ∷ vs)) o e = next_short unit v vs (found (v ∷ vs) unit o e)
+closing_short : (n destination source : ℕ) (v : Value) → IsShort n (closing_step destination source v)
+closing_short n destination source (disconnected d s) = either_short n ((d == source) && (s == destination)) refuses (stops NothingToAnswer) tt tt
+closing_short n destination source (request c) = tt
+closing_short n destination source (confirm d c) = tt
+closing_short n destination source (disconnect d s reason user) = tt
+closing_short n destination source (data0 end user) = tt
+closing_short n destination source (data2 d number end user) = tt
+closing_short n destination source (acknowledge credit d number) = tt
+closing_short n destination source (error d cause) = tt
+
+later_short : (octets : List ℕ) (h : Handshake) (v : Value) (vs : List Value) → AreUnits (v ∷ vs) octets → IsShort (length octets) (later_step h v)
+later_short octets silent v vs u = misplaced_short (length octets) v
+later_short octets agreed v vs u = next_short octets v vs u
+later_short octets (denied destination source) v vs u = closing_short (length octets) destination source v
+later_short octets asked v vs u = tt
+later_short octets asked_again v vs u = tt
+later_short octets astray v vs u = tt
+
+refused_short : (n : ℕ) (h : Handshake) (v : Value) → IsShort n (refused_step h v)
+refused_short n asked v = misplaced_short n v
+refused_short n (denied destination source) v = misplaced_short n v
+refused_short n silent v = tt
+refused_short n asked_again v = tt
+refused_short n agreed v = tt
+refused_short n astray v = tt
+
+unit_short : (d : Direction) (s : Stage) (h : Handshake) (octets : List ℕ) (v : Value) (vs : List Value) → AreUnits (v ∷ vs) octets
+    → IsShort (length octets) (unit_step d s h v)
+unit_short d opening h octets v vs u = first_short (length octets) d h v
+unit_short d asking h octets v vs u = later_short octets h v vs u
+unit_short d (refused at) h octets v vs u = refused_short (length octets) h v
+unit_short d between h octets v vs u = next_short octets v vs u
+unit_short d (within first begun) h octets v vs u = next_short octets v vs u
+unit_short d (stopped stop at) h octets v vs u = next_short octets v vs u
+
+step_short : FoundUnits → (d : Direction) (s : Stage) (h : Handshake) (unit : List ℕ) (read : Result (List Value) TpduFault) → IsOctets unit
+    → units_of unit ≡ read → IsShort (length unit) (step_of d s h (first_unit read))
+step_short found d s h unit (Err fault) o e = tt
+step_short found d s h unit (Ok []) o e = tt
+step_short found d s h unit (Ok (v ∷ vs)) o e = unit_short d s h unit v vs (found (v ∷ vs) unit o e)
 
 abbrev kept_by : List Sent → ℕ
 kept_by sent = kept_in (map octets_of sent)
@@ -82,19 +157,26 @@ adds_keeps s at unit octets end false l = ended_keeps s at unit octets end l
 
 move_keeps : (s : Stage) (at : ℕ) (unit : List ℕ) (m : Move) → IsShort (length unit) m
     → kept_by (brought s at unit m) + length (begun (moved s at m)) ≤ length (begun s) + (length unit + 4)
+move_keeps s at unit (asks reference) h = omega arith
 move_keeps s at unit (opens reference) h = omega arith
+move_keeps s at unit refuses h = omega arith
+move_keeps s at unit ignores h = omega arith
 move_keeps s at unit (adds end octets) h = adds_keeps s at unit octets end (is_too_long s octets) h
 move_keeps s at unit (stops stop) h = omega arith
 
-unit_keeps : FoundUnits → (d : Direction) (s : Stage) (at : ℕ) (unit : List ℕ) → IsOctets unit
-    → kept_by (sent_by d s at unit) + length (begun (stage_behind d s at unit)) ≤ length (begun s) + (length unit + 4)
-unit_keeps found d (stopped stop place) at unit o = omega arith
-unit_keeps found d opening at unit o =
-    move_keeps opening at unit (step_of d false (units_of unit)) (step_short found d false unit (units_of unit) o refl)
-unit_keeps found d between at unit o =
-    move_keeps between at unit (step_of d true (units_of unit)) (step_short found d true unit (units_of unit) o refl)
-unit_keeps found d (within first octets) at unit o =
-    move_keeps (within first octets) at unit (step_of d true (units_of unit)) (step_short found d true unit (units_of unit) o refl)
+keeps_by : FoundUnits → (d : Direction) (h : Handshake) (s : Stage) (at : ℕ) (unit : List ℕ) → IsOctets unit
+    → kept_by (brought s at unit (step_of d s h (first_unit (units_of unit)))) + length (begun (moved s at (step_of d s h (first_unit (units_of unit)))))
+    ≤ length (begun s) + (length unit + 4)
+keeps_by found d h s at unit o = move_keeps s at unit (step_of d s h (first_unit (units_of unit))) (step_short found d s h unit (units_of unit) o refl)
+
+unit_keeps : FoundUnits → (d : Direction) (h : Handshake) (s : Stage) (at : ℕ) (unit : List ℕ) → IsOctets unit
+    → kept_by (sent_by d h s at unit) + length (begun (stage_behind d h s at unit)) ≤ length (begun s) + (length unit + 4)
+unit_keeps found d h (stopped stop place) at unit o = omega arith
+unit_keeps found d h opening at unit o = keeps_by found d h opening at unit o
+unit_keeps found d h asking at unit o = keeps_by found d h asking at unit o
+unit_keeps found d h between at unit o = keeps_by found d h between at unit o
+unit_keeps found d h (within first octets) at unit o = keeps_by found d h (within first octets) at unit o
+unit_keeps found d h (refused packet) at unit o = keeps_by found d h (refused packet) at unit o
 
 -- ---- a stream
 
@@ -105,38 +187,42 @@ kept_append : (xs ys : List (List ℕ)) → kept_in (xs ++ ys) ≡ kept_in xs + 
 kept_append [] ys = omega arith
 kept_append (x ∷ xs) ys = let e = kept_append xs ys in omega (arith, e)
 
-stream_keeps : FoundUnits → (d : Direction) (s : Stage) (at : ℕ) (us : List (List ℕ)) (octets rest : List ℕ) → ArePackets us octets rest
-    → kept_by (sent_from d s at us) + length (begun (stage_from d s at us)) ≤ length (begun s) + length octets
-stream_keeps found d s at [] octets rest h = omega arith
-stream_keeps found d s at (u ∷ us) octets rest (b, t, p, e, h) =
+stream_keeps : FoundUnits → (d : Direction) (met : ℕ → Handshake) (s : Stage) (at : ℕ) (us : List (List ℕ)) (octets rest : List ℕ) → ArePackets us octets rest
+    → kept_by (sent_from d met s at us) + length (begun (stage_from d met s at us)) ≤ length (begun s) + length octets
+stream_keeps found d met s at [] octets rest h = omega arith
+stream_keeps found d met s at (u ∷ us) octets rest (b, t, p, e, h) =
+    let next = stage_behind d (met at) s at u in
     let n = packet_octets u b p in
     let m = ap (λ (x : List ℕ). length x) e in
     let k = length-append b t in
-    let one = unit_keeps found d s at u (packet_unit u b p) in
-    let more = stream_keeps found d (stage_behind d s at u) (at + (length u + 4)) us t rest h in
-    let joined = ap kept_in (map-append octets_of (sent_by d s at u) (sent_from d (stage_behind d s at u) (at + (length u + 4)) us))
-    ∙ kept_append (map octets_of (sent_by d s at u)) (map octets_of (sent_from d (stage_behind d s at u) (at + (length u + 4)) us)) in
+    let one = unit_keeps found d (met at) s at u (packet_unit u b p) in
+    let more = stream_keeps found d met next (at + (length u + 4)) us t rest h in
+    let joined = ap kept_in (map-append octets_of (sent_by d (met at) s at u) (sent_from d met next (at + (length u + 4)) us))
+    ∙ kept_append (map octets_of (sent_by d (met at) s at u)) (map octets_of (sent_from d met next (at + (length u + 4)) us)) in
     omega (arith, n, m, k, one, more, joined)
 
 -- ---- a capture
 
 shown_begun : (s : Stage) → begun (shown s) ≡ begun s
 shown_begun opening = refl
+shown_begun asking = refl
 shown_begun between = refl
+shown_begun (refused at) = refl
 shown_begun (within first octets) = refl
 shown_begun (stopped stop at) = refl
 
-side_keeps : FoundUnits → (d : Direction) (c : Capture) (j : Judged) (mine others : List Sent) → Follows d c (half_of d j) mine others
+side_keeps : FoundUnits → (d : Direction) (c : Capture) (j : Judged) (us bs : List (List ℕ)) (mine others : List Sent) → Follows d c (half_of d j) us bs mine others
     → (half_of (other d) j).side.heard ≡ heard mine → kept_of d j ≤ length (stream d c)
-side_keeps found d c j mine others f h =
-    let kept = stream_keeps found d opening 0 f.units (stream d c) f.rest f.packets in
+side_keeps found d c j us bs mine others f h =
+    let met = met_before d c bs in
+    let kept = stream_keeps found d met opening 0 us (stream d c) f.rest f.packets in
     let same = ap kept_in (h ∙ ap heard f.sent) in
-    let way = ap (λ (x : List ℕ). length x) (ap begun f.stage ∙ shown_begun (stage_from d opening 0 f.units)) in
+    let way = ap (λ (x : List ℕ). length x) (ap begun f.stage ∙ shown_begun (stage_from d met opening 0 us)) in
     omega (arith, kept, same, way)
 
 pub no_more_kept : FoundUnits → (d : Direction) (c : Capture) (j : Judged) → Taps j c → kept_of d j ≤ length (stream d c)
-no_more_kept found Left c j h = side_keeps found Left c j h.left h.right h.of_left h.of_right.heard
-no_more_kept found Right c j h = side_keeps found Right c j h.right h.left h.of_right h.of_left.heard
+no_more_kept found Left c j h = side_keeps found Left c j h.left_units h.right_units h.left h.right h.of_left h.of_right.heard
+no_more_kept found Right c j h = side_keeps found Right c j h.right_units h.left_units h.right h.left h.of_right h.of_left.heard
 
 pub few_sessions : (d : Direction) (c : Capture) (j : Judged) → Taps j c → (half_of d j).side.finding ≡ Kept
     → length (half_of d j).side.members ≤ 4096

@@ -6,7 +6,7 @@ use Rattle.osi_judge.specs.declared.findings.Finding.{Finding}
 use Rattle.osi_judge.specs.declared.findings.Finding.TheVariants.{Kept, Broke, Left, TooMany}
 use Rattle.osi_judge.specs.Judging.{Watched, FoundNext}
 use Rattle.osi_judge.specs.Stops.{breaks, broke_session}
-use Rattle.osi_judge.specs.Transport.{Stage, opening, between, within, stopped, stage_behind, Sent}
+use Rattle.osi_judge.specs.Transport.{Handshake, Stage, opening, asking, between, within, refused, stopped, stage_behind, Sent}
 use Rattle.osi_judge.specs.Feeding.{Tapped, Passes, TakesPacket, Settles, goes_on, faulty, whole, with_octets, Feeds, ignored}
 use Rattle.osi_judge.specs.Feeding.{looked_at, stopped_by, stopped_of, has_broken}
 
@@ -37,37 +37,41 @@ passes_still (t ∷ sent) before w new o o2 p h = found_still w.finding new.find
 
 -- ---- by its transport
 
-stage_still : (d : Direction) (s : Stage) (at place now : ℕ) (u : List ℕ) → breaks (stopped_by s None at) ≡ true
-    → breaks (stopped_by (stage_behind d s place u) None now) ≡ true
-stage_still d opening at place now u h = absurd (cc)
-stage_still d between at place now u h = absurd (cc)
-stage_still d (within first octets) at place now u h = absurd (cc)
-stage_still d (stopped stop packet) at place now u h = h
+stage_still : (d : Direction) (come : Handshake) (s : Stage) (at place now : ℕ) (u : List ℕ) → breaks (stopped_by s None at) ≡ true
+    → breaks (stopped_by (stage_behind d come s place u) None now) ≡ true
+stage_still d come opening at place now u h = absurd (cc)
+stage_still d come asking at place now u h = absurd (cc)
+stage_still d come between at place now u h = absurd (cc)
+stage_still d come (within first octets) at place now u h = absurd (cc)
+stage_still d come (refused packet) at place now u h = absurd (cc)
+stage_still d come (stopped stop packet) at place now u h = h
 
 fault_still : (s : Stage) (f : TpktFault) (at : ℕ) → breaks (stopped_by s None at) ≡ true → breaks (stopped_by s (Some f) at) ≡ true
 fault_still opening f at h = absurd (cc)
+fault_still asking f at h = absurd (cc)
 fault_still between f at h = absurd (cc)
+fault_still (refused packet) f at h = absurd (cc)
 fault_still (within first octets) f at h = absurd (cc)
 fault_still (stopped stop packet) f at h = h
 
 no_fault : (t : Tapped) → t.fault ≡ None → breaks (stopped_of t) ≡ true → breaks (stopped_by t.line.stage None t.line.at) ≡ true
 no_fault t n h = ap (λ (x : Option TpktFault). breaks (stopped_by t.line.stage x t.line.at)) (sym n) ∙ h
 
-packet_stop : (d : Direction) (unit : List ℕ) (since : ℕ) (t new : Tapped) (o o2 : Watched) → t.fault ≡ None
-    → TakesPacket d unit since t new o o2 → breaks (stopped_of t) ≡ true
+packet_stop : (d : Direction) (unit : List ℕ) (since : ℕ) (come : Handshake) (t new : Tapped) (o o2 : Watched) → t.fault ≡ None
+    → TakesPacket d unit since come t new o o2 → breaks (stopped_of t) ≡ true
     → breaks (stopped_of new) ≡ true
-packet_stop d unit since t new o o2 n p h =
+packet_stop d unit since come t new o o2 n p h =
     ap (λ (x : Option TpktFault). breaks (stopped_by new.line.stage x new.line.at)) (p.fault ∙ n)
     ∙ ap (λ (x : Stage). breaks (stopped_by x None new.line.at)) p.stage
-    ∙ stage_still d t.line.stage t.line.at t.line.at new.line.at unit (no_fault t n h)
+    ∙ stage_still d come t.line.stage t.line.at t.line.at new.line.at unit (no_fault t n h)
 
-packet_still : (d : Direction) (unit : List ℕ) (since : ℕ) (t new : Tapped) (o o2 : Watched) → t.fault ≡ None
-    → TakesPacket d unit since t new o o2
+packet_still : (d : Direction) (unit : List ℕ) (since : ℕ) (come : Handshake) (t new : Tapped) (o o2 : Watched) → t.fault ≡ None
+    → TakesPacket d unit since come t new o o2
     → ((broke_session t.side.finding ≡ true) ⊎ (breaks (stopped_of t) ≡ true)) → has_broken new ≡ true
-packet_still d unit since t new o o2 n p (inl h) =
+packet_still d unit since come t new o o2 n p (inl h) =
     one (broke_session new.side.finding) (breaks (stopped_of new)) (passes_still _ _ t.side new.side o o2 p.passes h)
-packet_still d unit since t new o o2 n p (inr h) =
-    two (broke_session new.side.finding) (breaks (stopped_of new)) (packet_stop d unit since t new o o2 n p h)
+packet_still d unit since come t new o o2 n p (inr h) =
+    two (broke_session new.side.finding) (breaks (stopped_of new)) (packet_stop d unit since come t new o o2 n p h)
 
 faulty_still : (t : Tapped) (f : TpktFault) → t.fault ≡ None → ((broke_session t.side.finding ≡ true) ⊎ (breaks (stopped_of t) ≡ true))
     → (broke_session t.side.finding || breaks (stopped_by t.line.stage (Some f) t.line.at)) ≡ true
@@ -75,13 +79,13 @@ faulty_still t f n (inl h) = one (broke_session t.side.finding) (breaks (stopped
 faulty_still t f n (inr h) =
     two (broke_session t.side.finding) (breaks (stopped_by t.line.stage (Some f) t.line.at)) (fault_still t.line.stage f t.line.at (no_fault t n h))
 
-settles_still : (d : Direction) (since : ℕ) (t new : Tapped) (o o2 : Watched) → t.fault ≡ None → Settles d since t new o o2
+settles_still : (d : Direction) (since : ℕ) (come : Handshake) (t new : Tapped) (o o2 : Watched) → t.fault ≡ None → Settles d since come t new o o2
     → has_broken t ≡ true → has_broken new ≡ true
-settles_still d since t new o o2 n (goes_on r i j) h = ap has_broken i ∙ h
-settles_still d since t new o o2 n (faulty f r i j) h = ap has_broken i ∙ faulty_still t f n (either (broke_session t.side.finding) (breaks (stopped_of t)) h)
-settles_still d since t new o o2 n (whole unit k l p x) h = packet_still d unit since t new o o2 n x (either (broke_session t.side.finding) (breaks (stopped_of t)) h)
+settles_still d since come t new o o2 n (goes_on r i j) h = ap has_broken i ∙ h
+settles_still d since come t new o o2 n (faulty f r i j) h = ap has_broken i ∙ faulty_still t f n (either (broke_session t.side.finding) (breaks (stopped_of t)) h)
+settles_still d since come t new o o2 n (whole unit k l p x) h = packet_still d unit since come t new o o2 n x (either (broke_session t.side.finding) (breaks (stopped_of t)) h)
 
-pub broken_still : (d : Direction) (octets : List ℕ) (t new : Tapped) (o o2 : Watched) → Feeds d octets t new o o2 → has_broken t ≡ true
+pub broken_still : (d : Direction) (octets : List ℕ) (come : Handshake) (t new : Tapped) (o o2 : Watched) → Feeds d octets come t new o o2 → has_broken t ≡ true
     → has_broken new ≡ true
-broken_still d octets t new o o2 (ignored f n i j) h = ap has_broken i ∙ h
-broken_still d octets t new o o2 (looked_at n w s) h = settles_still d _ (with_octets t octets) new o o2 n s h
+broken_still d octets come t new o o2 (ignored f n i j) h = ap has_broken i ∙ h
+broken_still d octets come t new o o2 (looked_at n w s) h = settles_still d _ _ (with_octets t octets) new o o2 n s h

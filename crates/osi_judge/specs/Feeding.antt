@@ -11,7 +11,7 @@ use Rattle.osi_judge.specs.declared.stops.Stopped.{Stopped as StoppedAt}
 use Rattle.osi_judge.specs.Stops.{breaks, broke_session}
 use Rattle.osi_judge.specs.declared.progress.Progress.{Progress}
 use Rattle.osi_judge.specs.declared.progress.Progress.TheVariants.{Opening, Asking, Between, Within, Refused, Stopped}
-use Rattle.osi_judge.specs.declared.handshakes.Handshake.{Handshake as Kept}
+use Rattle.osi_judge.specs.declared.handshakes.Handshake.{Handshake as Come}
 use Rattle.osi_judge.specs.declared.handshakes.Handshake.TheVariants.{Silent, Asked, AskedAgain, Agreed, Denied, Astray}
 use Rattle.osi_judge.specs.declared.lines.Line.{Line}
 use Rattle.osi_judge.specs.declared.lines.Half.{Half}
@@ -33,7 +33,7 @@ abbrev pub front : Result (Option Tpdu) TpduFault → Result (Option Value) Tpdu
 front (Ok unit) = Ok (option_map value unit)
 front (Err fault) = Err fault
 
-abbrev pub handshake_in : Kept → Handshake
+abbrev pub handshake_in : Come → Handshake
 handshake_in Silent = silent
 handshake_in Asked = asked
 handshake_in AskedAgain = asked_again

@@ -14,7 +14,7 @@ use Rattle.osi_judge.specs.declared.stops.Stop.TheVariants.{BadPacket, Refused}
 use Rattle.osi_judge.specs.declared.stops.Stopped.{Stopped as StoppedAt}
 use Rattle.osi_judge.specs.Stops.{breaks, broke_session}
 use Rattle.osi_judge.specs.Captures.{Capture, other, stream, passed_before}
-use Rattle.osi_judge.specs.Transport.{Stage, opening, refused, stopped, met, reference_in, Sent, packets_length, last_packet, stage_from, ArePacketsOf, IsSent}
+use Rattle.osi_judge.specs.Transport.{Stage, opening, refused, stopped, met_before, reference_in, Sent, packets_length, last_packet, stage_from, ArePacketsOf, IsSent}
 use Rattle.osi_judge.specs.Explaining.{Told, remarks, Explains}
 use Rattle.osi_judge.specs.Walking.{Ever}
 use Rattle.osi_judge.specs.Onward.{StandsBehind}
@@ -71,7 +71,7 @@ pub record IsStoppedIn (d : Direction) (capture : Capture) (result : Option Stop
   pub cut : Cuts (stream d capture) units ending
   pub others : List (List ℕ)
   pub are_others : ArePacketsOf (other d) capture others
-  pub stops : result ≡ stop_in (stage_from d (met d capture others) opening 0 units) ending
+  pub stops : result ≡ stop_in (stage_from d (met_before d capture others) opening 0 units) ending
 
 -- ---- what is told beside it
 

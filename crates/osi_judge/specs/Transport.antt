@@ -67,8 +67,8 @@ complete_in n (u ∷ us) = if nat_le (packet_length u) n then u ∷ complete_in 
 
 -- how far the other side, with these packets, had come before octet k of a side: by those of its packets of which all
 -- octets had passed
-abbrev pub met : Direction → Capture → (others : List (List ℕ)) → ℕ → Handshake
-met d capture others k = handshake_from silent (complete_in (passed_before d capture k) others)
+abbrev pub met_before : Direction → Capture → (others : List (List ℕ)) → ℕ → Handshake
+met_before d capture others k = handshake_from silent (complete_in (passed_before d capture k) others)
 
 -- ---- what a packet means
 
@@ -261,4 +261,4 @@ ArePacketsOf d capture units = (ending : Ending) × Cuts (stream d capture) unit
 -- the TSDUs of a side of a capture
 abbrev pub IsSent : Direction → Capture → List Sent → Type 0
 IsSent d capture sent = (units others : List (List ℕ)) × ArePacketsOf d capture units × ArePacketsOf (other d) capture others
-    × (sent ≡ sent_from d (met d capture others) opening 0 units)
+    × (sent ≡ sent_from d (met_before d capture others) opening 0 units)

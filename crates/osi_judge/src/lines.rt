@@ -286,25 +286,25 @@ fn take_step(
     line: &mut Line,
     side: &mut Side,
     other: &mut Side,
-    step: Step<'_>,
+    step: &Step<'_>,
     since: usize,
 ) -> Result<(), AllocError>
     ensures line { (unit : List ℕ) → OnOk result (lined line.new ≡ record (lined line.old) {
-      stage = moved (lined line.old).stage (lined line.old).at (step_move step);
+      stage = moved (lined line.old).stage (lined line.old).at (step_move step.now);
       begun_since = since;
-      reference = named (lined line.old).reference (step_move step);
-      last = last_behind (watched side.old).finding (brought (lined line.old).stage (lined line.old).at unit (step_move step)) (lined line.old).last;
+      reference = named (lined line.old).reference (step_move step.now);
+      last = last_behind (watched side.old).finding (brought (lined line.old).stage (lined line.old).at unit (step_move step.now)) (lined line.old).last;
     }) }
-    ensures passes { (unit : List ℕ) → OnOk result (Passes (brought (lined line.old).stage (lined line.old).at unit (step_move step)) since (watched side.old) (watched side.new) (watched other.old) (watched other.new)) }
+    ensures passes { (unit : List ℕ) → OnOk result (Passes (brought (lined line.old).stage (lined line.old).at unit (step_move step.now)) since (watched side.old) (watched side.new) (watched other.old) (watched other.new)) }
     ensures err { OnErr result ((lined line.new ≡ lined line.old) × (watched side.new ≡ watched side.old) × (watched other.new ≡ watched other.old)) }
 {
     match step {
         Step::Asks(reference) => {
-            line.ask(reference, since);
+            line.ask(*reference, since);
             Ok(())
         }
         Step::Opens(reference) => {
-            line.open(reference, since);
+            line.open(*reference, since);
             Ok(())
         }
         Step::Refuses => {
@@ -316,11 +316,11 @@ fn take_step(
             Ok(())
         }
         Step::Stops(stop) => {
-            line.stop(stop, since);
+            line.stop(*stop, since);
             Ok(())
         }
         Step::Adds(end, octets) => {
-            add(line, side, other, end, octets, since)?;
+            add(line, side, other, *end, octets, since)?;
             Ok(())
         }
     }
@@ -348,7 +348,7 @@ fn take_unit(
         return Ok(());
     }
     let step = read_step(direction, line.progress, met, &first);
-    take_step(line, side, other, step, since)?;
+    take_step(line, side, other, &step, since)?;
     line.handshake = line.handshake.after(&first);
     Ok(())
 }

@@ -1,6 +1,6 @@
 use Rattle.std.proofs.Common.{take}
 use Rattle.osi_judge.specs.Sides.{watched}
-use Rattle.osi_judge.specs.Feeding.{tapped}
+use Rattle.osi_judge.specs.Feeding.{lined, tapped}
 use Rattle.osi_judge.specs.Following.{both}
 use Rattle.osi_judge.specs.declared.directions.Direction.TheVariants.{Left}
 use Rattle.osi_judge.proofs.FirstLaws.{broken_beside}
@@ -14,8 +14,8 @@ returns-clause-taps c = λ capture t.
 
 pub returns-clause-beside : goal.returns-clause-beside
 returns-clause-beside c =
-    broken_beside Left (take c.in_ok-used.used c.args.octets.now) (tapped c.args.left.now) (tapped c.feed.new.half) (tapped c.args.right.now) (watched c.feed.new.other) c.in_ok-used.ensures.feeds
+    broken_beside Left (take c.in_ok-used.used c.args.octets.now) (lined c.args.right.now.line).handshake (tapped c.args.left.now) (tapped c.feed.new.half) (tapped c.args.right.now) (watched c.feed.new.other) c.in_ok-used.ensures.feeds
 
 pub returns-clause-still : goal.returns-clause-still
 returns-clause-still c =
-    broken_still Left (take c.in_ok-used.used c.args.octets.now) (tapped c.args.left.now) (tapped c.feed.new.half) (watched c.args.right.now.side) (watched c.feed.new.other) c.in_ok-used.ensures.feeds
+    broken_still Left (take c.in_ok-used.used c.args.octets.now) (lined c.args.right.now.line).handshake (tapped c.args.left.now) (tapped c.feed.new.half) (watched c.args.right.now.side) (watched c.feed.new.other) c.in_ok-used.ensures.feeds

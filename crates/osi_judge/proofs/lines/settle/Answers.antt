@@ -1,18 +1,20 @@
-use Rattle.std.proofs.Common.{refl, sym, ap, subst, List, ℕ, ◌≤◌, length, take, Ok}
+use Rattle.std.proofs.Common.{refl, sym, ap, subst, List, ℕ, ◌≤◌, length, take, Some, Ok}
 use Rattle.osi_tpkt.specs.Packet.{IsPacket, IsPartial, IsFaultOf}
 use Rattle.osi_judge.specs.Sides.{watched}
-use Rattle.osi_judge.specs.Feeding.{handshake_in, lined, tapped, goes_on, faulty}
+use Rattle.osi_judge.specs.Feeding.{Lined, handshake_in, lined, tapped, goes_on, faulty}
 use Rattle.osi_judge.proofs.LineLaws.{settled_whole}
 use Rattle.osi_judge.proofs.lines.settle.Goals as goal
 
 pub returns-in-Ok-None-clause-ok : goal.returns-in-Ok-None-clause-ok
 returns-in-Ok-None-clause-ok c =
-    goes_on (subst (λ (x : List ℕ). IsPartial x) c.as_slice.ensures.value (c.in-Ok-None.ensures.begun.0 (ap Ok c.in-Ok-None.field-0-is))) refl refl
+    goes_on (subst (λ (x : List ℕ). IsPartial x) c.as_slice.ensures.value (c.in-Ok-None.ensures.begun.0 (ap Ok c.in-Ok-None.field-0-is)))
+    (ap (λ (l : Lined). record (tapped c.args.half.now) { line = l }) c.begin_packet.ensures) refl
 
 pub returns-in-Err-clause-ok : goal.returns-in-Err-clause-ok
 returns-in-Err-clause-ok c =
     let f = c.in-Err.fault in
-    faulty f (subst (λ (x : List ℕ). IsFaultOf 0 x f) c.as_slice.ensures.value ((c.in-Err.ensures.refused f).0 refl)) refl refl
+    faulty f (subst (λ (x : List ℕ). IsFaultOf 0 x f) c.as_slice.ensures.value ((c.in-Err.ensures.refused f).0 refl))
+    (ap (λ (l : Lined). record (tapped c.args.half.now) { fault = Some f; line = l }) c.begin_packet-in-Err.ensures) refl
 
 pub returns-in_ok-take_unit-in-Ok-Some-clause-ok : goal.returns-in_ok-take_unit-in-Ok-Some-clause-ok
 returns-in_ok-take_unit-in-Ok-Some-clause-ok c =
