@@ -89,20 +89,20 @@ brings d h u (Stopped stop place) octets at m n e = absurd (n stop place refl)
 
 -- A packet that is looked at, before which the other side had come so far: what it means changes the line, and then how far
 -- this side has come.
-pub unit_taken : (d : Direction) (h : Handshake) (u : List ℕ) (p : Progress) (octets : List ℕ) (at kept begun_since since before packets last : ℕ) (met come : Handshake)
-    (known : Option ℕ) (m : Move) (new : Lined) (w w2 o o2 : Watched)
-    → GoesOn p → MeansHere d h u p [] m → before ≡ since_at (stage_in p []) begun_since since
-    → new ≡ record {
+pub unit_taken : (d : Direction) (h : Handshake) (u : List ℕ) (p : Progress) (octets : List ℕ) (at kept begun_since since before packets last : ℕ) (met come after : Handshake)
+    (known : Option ℕ) (r : Result (Option Value) TpduFault) (m : Move) (mid : Lined) (w w2 o o2 : Watched)
+    → GoesOn p → r ≡ first_unit (units_of u) → m ≡ step_of d (stage_in p []) h r → before ≡ since_at (stage_in p []) begun_since since
+    → mid ≡ record {
       at = at;
       since = kept;
       met = met;
-      handshake = shaken come (first_unit (units_of u));
+      handshake = come;
       stage = moved (stage_in p octets) at m;
       begun_since = before;
       packets = packets;
       reference = named known m;
       last = last_behind w.finding (brought (stage_in p octets) at u m) last;
-    } → Passes (brought (stage_in p octets) at u m) before w w2 o o2
+    } → after ≡ shaken mid.handshake r → Passes (brought (stage_in p octets) at u m) before w w2 o o2
     → TakesUnit d u since h (record {
       at = at;
       since = kept;
@@ -113,19 +113,20 @@ pub unit_taken : (d : Direction) (h : Handshake) (u : List ℕ) (p : Progress) (
       packets = packets;
       reference = known;
       last = last;
-    }) new w w2 o o2
-unit_taken d h u p octets at kept begun_since since before packets last met come known m new w w2 o o2 n e b l x =
+    }) (record mid { handshake = after }) w w2 o o2
+unit_taken d h u p octets at kept begun_since since before packets last met come after known r m mid w w2 o o2 n read e b l came x =
     let same = b ∙ since_front p octets begun_since since in
-    let means : MeansHere d h u p octets m = e ∙ step_front d p octets h (first_unit (units_of u)) in record {
-      at = ap (λ (x : Lined). x.at) l;
-      handshake = ap (λ (x : Lined). x.handshake) l;
-      stage = ap (λ (x : Lined). x.stage) l ∙ moves d h u p octets at m n means;
-      begun_since = ap (λ (x : Lined). x.begun_since) l ∙ same;
-      packets = ap (λ (x : Lined). x.packets) l;
-      reference = ap (λ (x : Lined). x.reference) l ∙ names d h u p octets known m n means;
-      last = ap (λ (x : Lined). x.last) l ∙ ap (λ (x : List Sent). last_behind w.finding x last) (brings d h u p octets at m n means);
-      passes = subst (λ (x : ℕ). Passes (sent_by d h (stage_in p octets) at u) x w w2 o o2) same
-          (subst (λ (x : List Sent). Passes x before w w2 o o2) (brings d h u p octets at m n means) x);
+    let means : MeansHere d h u p octets m
+    = e ∙ ap (λ (y : Result (Option Value) TpduFault). step_of d (stage_in p []) h y) read ∙ step_front d p octets h (first_unit (units_of u)) in record {
+      at = ap (λ (y : Lined). y.at) l;
+      handshake = came ∙ ap (λ (y : Lined). shaken y.handshake r) l ∙ ap (λ (y : Result (Option Value) TpduFault). shaken come y) read;
+      stage = ap (λ (y : Lined). y.stage) l ∙ moves d h u p octets at m n means;
+      begun_since = ap (λ (y : Lined). y.begun_since) l ∙ same;
+      packets = ap (λ (y : Lined). y.packets) l;
+      reference = ap (λ (y : Lined). y.reference) l ∙ names d h u p octets known m n means;
+      last = ap (λ (y : Lined). y.last) l ∙ ap (λ (y : List Sent). last_behind w.finding y last) (brings d h u p octets at m n means);
+      passes = subst (λ (y : ℕ). Passes (sent_by d h (stage_in p octets) at u) y w w2 o o2) same
+          (subst (λ (y : List Sent). Passes y before w w2 o o2) (brings d h u p octets at m n means) x);
     }
 
 -- ---- a packet
