@@ -26,7 +26,7 @@ use Rattle.osi_judge.specs.declared.stops.Stop.TheVariants as stop
 use Rattle.osi_dispute.specs.Names.{side_name, unjudged_text}
 use Rattle.osi_dispute.specs.Texts.{first_text, broke_first, left_first as left_first_line, stopped_first, told_first, connection_first}
 use Rattle.osi_dispute.specs.Texts.{first_line, unjudged_line, line_by, outcome_line}
-use Rattle.osi_dispute.specs.Facts.{Facts, AreFacts, is_broken, told_by, told_of, is_refused, connection_with, connection_by, is_first}
+use Rattle.osi_dispute.specs.Facts.{Facts, AreFacts, is_broken, told_by, told_of, is_refused, is_unanswered, connection_with, connection_by, is_first}
 use Rattle.osi_dispute.specs.Facts.{is_left, left_first, account_by, keeps, unjudged, kept_outcome, outcome_by, verdict_by, IsFirstOf}
 use Rattle.osi_dispute.specs.Facts.{IsToldBy, IsDetermined}
 
@@ -62,6 +62,7 @@ unjudged_words (Transport (stop.BadPacket fault)) e = absurd (cc)
 unjudged_words (Transport (stop.BadUnit fault)) e = absurd (cc)
 unjudged_words (Transport stop.UnexpectedUnit) e = absurd (cc)
 unjudged_words (Transport stop.WrongForm) e = absurd (cc)
+unjudged_words (Transport stop.NothingToAnswer) e = absurd (cc)
 unjudged_words (Transport stop.TsduTooLong) e = absurd (cc)
 
 -- ---- a side that is to blame
@@ -83,26 +84,26 @@ named d c f h b e =
     s.2 (nameless_said_nothing d c s.0 s.1 (subst (λ (r : Option ℕ). IsReferenceIn d c r) e h.reference))
 
 -- a side that broke the protocol, and gave a reference if its session did
-side_words : (d : Direction) (f : Finding) (count offset : ℕ) (stands : Stands) (by : Break) (stopped : Option Stopped) (reference : Option ℕ) (refused answered : Bool)
+side_words : (d : Direction) (f : Finding) (count offset : ℕ) (stands : Stands) (by : Break) (stopped : Option Stopped) (reference : Option ℕ) (refused unanswered : Bool)
     → (broke_session f || breaks stopped) ≡ true → (broke_session f ≡ true → reference ≡ None → ⊥)
-    → HasWords (connection_first d stopped (connection_by false reference (broke_session f) refused answered (told_by f count offset stands by)))
-side_words d (Broke i) count offset stands by stopped None refused answered h n = absurd (n refl refl)
-side_words d (Broke i) count offset stands by stopped (Some r) refused answered h n = broke_words d offset by
-side_words d (Left i) count offset stands by stopped None refused answered h n = absurd (n refl refl)
-side_words d (Left i) count offset stands by stopped (Some r) refused answered h n = left_words d offset by
-side_words d Kept count offset stands by stopped None refused answered h n = stop_words d stopped h
-side_words d Kept count offset stands by stopped (Some r) true answered h n = stop_words d stopped h
+    → HasWords (connection_first d stopped (connection_by false reference (broke_session f) refused unanswered (told_by f count offset stands by)))
+side_words d (Broke i) count offset stands by stopped None refused unanswered h n = absurd (n refl refl)
+side_words d (Broke i) count offset stands by stopped (Some r) refused unanswered h n = broke_words d offset by
+side_words d (Left i) count offset stands by stopped None refused unanswered h n = absurd (n refl refl)
+side_words d (Left i) count offset stands by stopped (Some r) refused unanswered h n = left_words d offset by
+side_words d Kept count offset stands by stopped None refused unanswered h n = stop_words d stopped h
+side_words d Kept count offset stands by stopped (Some r) true unanswered h n = stop_words d stopped h
 side_words d Kept count offset stands by stopped (Some r) false true h n = stop_words d stopped h
 side_words d Kept count offset stands by stopped (Some r) false false h n = stop_words d stopped h
-side_words d TooMany count offset stands by stopped None refused answered h n = stop_words d stopped h
-side_words d TooMany count offset stands by stopped (Some r) true answered h n = stop_words d stopped h
+side_words d TooMany count offset stands by stopped None refused unanswered h n = stop_words d stopped h
+side_words d TooMany count offset stands by stopped (Some r) true unanswered h n = stop_words d stopped h
 side_words d TooMany count offset stands by stopped (Some r) false true h n = stop_words d stopped h
 side_words d TooMany count offset stands by stopped (Some r) false false h n = stop_words d stopped h
 
 account_words : (d : Direction) (c : Capture) (f right : Facts) → AreFacts d c f → is_broken f ≡ true
     → HasWords (first_line d (account_by false f right))
 account_words d c f right h b =
-    side_words d f.found f.count f.offset f.stands f.by f.stopped f.reference (is_refused right.stopped) (is_some right.reference) b (named d c f h)
+    side_words d f.found f.count f.offset f.stands f.by f.stopped f.reference (is_refused right.stopped) (is_unanswered right.reference right.stopped) b (named d c f h)
 
 -- ---- the last line
 

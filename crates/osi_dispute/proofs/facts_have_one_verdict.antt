@@ -11,14 +11,14 @@ use Rattle.osi_judge.specs.declared.judge.Reading.{Reading}
 use Rattle.osi_judge.specs.declared.rules.Break.{Break}
 use Rattle.osi_judge.specs.declared.standings.Stands.{Stands}
 use Rattle.osi_judge.specs.declared.stops.Stopped.{Stopped}
-use Rattle.osi_judge.specs.Captures.{Capture, stream}
+use Rattle.osi_judge.specs.Captures.{Capture, other, stream}
 use Rattle.osi_judge.specs.Stops.{breaks, broke_session}
-use Rattle.osi_judge.specs.Transport.{opening, reference_in, Sent, packets_length, last_packet, stage_from, IsSent}
-use Rattle.osi_judge.specs.Tapping.{IsFoundIn, IsReadIn, IsReferenceIn, IsStoppedIn, IsPlaceIn, IsCountIn, stop_in}
+use Rattle.osi_judge.specs.Transport.{met_before, opening, reference_in, Sent, packets_length, last_packet, stage_from, hasty_from, IsSent}
+use Rattle.osi_judge.specs.Tapping.{IsFoundIn, IsReadIn, IsReferenceIn, IsStoppedIn, IsPlaceIn, IsCountIn, stop_in, or_hasty}
 use Rattle.osi_dispute.specs.declared.verdicts.Told.{Told}
 use Rattle.osi_dispute.specs.declared.verdicts.Told.TheVariants as told
 use Rattle.osi_dispute.specs.declared.verdicts.Verdict.{Verdict}
-use Rattle.osi_dispute.specs.Facts.{Determined, is_broken, IsFirstOf, Facts, AreFacts, told_by, told_of, is_refused, connection_by, left_first, outcome_by, verdict_by}
+use Rattle.osi_dispute.specs.Facts.{Determined, is_broken, IsFirstOf, Facts, AreFacts, told_by, told_of, is_refused, is_unanswered, connection_by, left_first, outcome_by, verdict_by}
 use Rattle.osi_dispute.specs.Facts.{IsToldBy}
 use Rattle.osi_dispute.specs.Disputes.{IsJudgement}
 use Rattle.osi_dispute.specs.Texts.{verdict_text, verdict_status}
@@ -41,11 +41,16 @@ one_reference d c r q h k =
     let same = (one_cut (stream d c) h.units k.units h.ending k.ending h.cut k.cut).0 in
     h.given ∙ ap (reference_in d) same ∙ sym k.given
 
+abbrev stop_at : Direction → Capture → (units others : List (List ℕ)) → Ending → Option Stopped
+stop_at d c units others ending =
+    or_hasty (option_map offset_of (hasty_from d (met_before d c others) opening None 0 units)) (stop_in (stage_from d (met_before d c others) opening 0 units) ending)
+
 one_stop : (d : Direction) (c : Capture) (r q : Option Stopped) → IsStoppedIn d c r → IsStoppedIn d c q → r ≡ q
 one_stop d c r q h k =
     let same = one_cut (stream d c) h.units k.units h.ending k.ending h.cut k.cut in
-    h.stops ∙ ap (λ (us : List (List ℕ)). stop_in (stage_from d opening 0 us) h.ending) same.0
-    ∙ ap (λ (e : Ending). stop_in (stage_from d opening 0 k.units) e) same.1 ∙ sym k.stops
+    let beside = (one_cut (stream (other d) c) h.others k.others h.are_others.0 k.are_others.0 h.are_others.1 k.are_others.1).0 in
+    h.stops ∙ ap (λ (us : List (List ℕ)). stop_at d c us h.others h.ending) same.0 ∙ ap (λ (e : Ending). stop_at d c k.units h.others e) same.1
+    ∙ ap (λ (us : List (List ℕ)). stop_at d c k.units us k.ending) beside ∙ sym k.stops
 
 one_count : HasOneList → (d : Direction) (c : Capture) (n m : ℕ) → IsCountIn d c n → IsCountIn d c m → n ≡ m
 one_count one d c n m h k = h.counted ∙ ap (λ (x : List Sent). length x) (one d c h.mine k.mine h.is_mine k.is_mine) ∙ sym k.counted
@@ -135,13 +140,13 @@ verdicts_same first l r m s a b =
       left = record {
         reading = left_reading i;
         connection = connection_by (left_first first side.Right (right_found i)) (left_reference i) (broke_session (left_found i))
-            (is_refused (right_stop i)) (is_some (right_reference i)) (left_told i);
+            (is_refused (right_stop i)) (is_unanswered (right_reference i) (right_stop i)) (left_told i);
         stopped = left_stop i;
       };
       right = record {
         reading = right_reading i;
         connection = connection_by (left_first first side.Left (left_found i)) (right_reference i) (broke_session (right_found i))
-            (is_refused (right_stop i)) (is_some (right_reference i)) (right_told i);
+            (is_refused (right_stop i)) (is_unanswered (right_reference i) (right_stop i)) (right_told i);
         stopped = right_stop i;
       };
       outcome = outcome_by first (left_found i) (right_found i) (left_stop i) (right_stop i);

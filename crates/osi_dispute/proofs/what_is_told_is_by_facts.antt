@@ -27,7 +27,7 @@ use Rattle.osi_dispute.specs.declared.verdicts.Connection.TheVariants.{Silent, R
 use Rattle.osi_dispute.specs.declared.verdicts.Account.{Account}
 use Rattle.osi_dispute.specs.declared.verdicts.Outcome.{Outcome}
 use Rattle.osi_dispute.specs.declared.verdicts.Verdict.{Verdict}
-use Rattle.osi_dispute.specs.Facts.{Facts, AreFacts, told_by, told_of, is_refused, connection_by, account_by, left_first, verdict_by}
+use Rattle.osi_dispute.specs.Facts.{Facts, AreFacts, told_by, told_of, is_refused, is_unanswered, connection_by, account_by, left_first, verdict_by}
 use Rattle.osi_dispute.specs.Facts.{IsFirstOf, IsDetermined, StandsIn, facts_of, IsStandingOf, StandsBy, IsToldOf, Connects, Accounts}
 use Rattle.osi_dispute.specs.Facts.{outcome_in}
 use Rattle.osi_dispute.specs.Verdicts.{Knows}
@@ -81,7 +81,7 @@ pub dropped : (d : Bool) (t right : Tapped) → d ≡ true → Connects d t righ
 dropped d t right e = record {
   stands = no_stands;
   by = no_break;
-  is = sym (ap (λ (b : Bool). connection_by b t.line.reference (broke_session t.side.finding) (is_refused (stopped_of right)) (is_some right.line.reference) (told_of (facts_of t no_stands no_break))) e);
+  is = sym (ap (λ (b : Bool). connection_by b t.line.reference (broke_session t.side.finding) (is_refused (stopped_of right)) (is_unanswered right.line.reference (stopped_of right)) (told_of (facts_of t no_stands no_break))) e);
   standing = tt;
 }
 
@@ -89,33 +89,33 @@ pub nameless : (t right : Tapped) → t.line.reference ≡ None → Connects fal
 nameless t right e = record {
   stands = no_stands;
   by = no_break;
-  is = sym (ap (λ (r : Option ℕ). connection_by false r (broke_session t.side.finding) (is_refused (stopped_of right)) (is_some right.line.reference) (told_of (facts_of t no_stands no_break))) e);
+  is = sym (ap (λ (r : Option ℕ). connection_by false r (broke_session t.side.finding) (is_refused (stopped_of right)) (is_unanswered right.line.reference (stopped_of right)) (told_of (facts_of t no_stands no_break))) e);
   standing = tt;
 }
 
--- a reference, whether the side is to blame, whether right refused, and whether it answered
-connects_as : (t right : Tapped) (r : ℕ) (blamed refused answered : Bool) (x : Told) → t.line.reference ≡ Some r
+-- a reference, whether the side is to blame, whether right refused, and whether it did not answer
+connects_as : (t right : Tapped) (r : ℕ) (blamed refused unanswered : Bool) (x : Told) → t.line.reference ≡ Some r
     → broke_session t.side.finding ≡ blamed → is_refused (stopped_of right) ≡ refused
-    → is_some right.line.reference ≡ answered
-    → connection_by false t.line.reference (broke_session t.side.finding) (is_refused (stopped_of right)) (is_some right.line.reference) x ≡ connection_by false (Some r) blamed refused answered x
-connects_as t right r blamed refused answered x e b f a = λ i. connection_by false (e i) (b i) (f i) (a i) x
+    → is_unanswered right.line.reference (stopped_of right) ≡ unanswered
+    → connection_by false t.line.reference (broke_session t.side.finding) (is_refused (stopped_of right)) (is_unanswered right.line.reference (stopped_of right)) x ≡ connection_by false (Some r) blamed refused unanswered x
+connects_as t right r blamed refused unanswered x e b f a = λ i. connection_by false (e i) (b i) (f i) (a i) x
 
 pub refused : (t right : Tapped) (r : ℕ) → t.line.reference ≡ Some r → broke_session t.side.finding ≡ false
     → is_refused (stopped_of right) ≡ true → Connects false t right (Refused r)
 refused t right r e b f = record {
   stands = no_stands;
   by = no_break;
-  is = sym (connects_as t right r false true (is_some right.line.reference) (told_of (facts_of t no_stands no_break)) e b f refl);
+  is = sym (connects_as t right r false true (is_unanswered right.line.reference (stopped_of right)) (told_of (facts_of t no_stands no_break)) e b f refl);
   standing = tt;
 }
 
 pub unanswered : (t right : Tapped) (r : ℕ) → t.line.reference ≡ Some r → broke_session t.side.finding ≡ false
-    → is_refused (stopped_of right) ≡ false → is_some right.line.reference ≡ false
+    → is_refused (stopped_of right) ≡ false → is_unanswered right.line.reference (stopped_of right) ≡ true
     → Connects false t right (Unanswered r)
 unanswered t right r e b f a = record {
   stands = no_stands;
   by = no_break;
-  is = sym (connects_as t right r false false false (told_of (facts_of t no_stands no_break)) e b f a);
+  is = sym (connects_as t right r false false true (told_of (facts_of t no_stands no_break)) e b f a);
   standing = tt;
 }
 
@@ -124,17 +124,17 @@ pub blamed : (t right : Tapped) (r : ℕ) (c : Connection) (x : Told) → t.line
 blamed t right r c x e b q h = subst (λ (y : Connection). Connects false t right y) (sym q) (record {
   stands = h.stands;
   by = h.by;
-  is = ap (Session r) h.is ∙ sym (connects_as t right r true (is_refused (stopped_of right)) (is_some right.line.reference) (told_of (facts_of t h.stands h.by)) e b refl refl);
+  is = ap (Session r) h.is ∙ sym (connects_as t right r true (is_refused (stopped_of right)) (is_unanswered right.line.reference (stopped_of right)) (told_of (facts_of t h.stands h.by)) e b refl refl);
   standing = h.standing;
 })
 
 pub answered : (t right : Tapped) (r : ℕ) (c : Connection) (x : Told) → t.line.reference ≡ Some r → broke_session t.side.finding ≡ false
     → is_refused (stopped_of right) ≡ false
-    → is_some right.line.reference ≡ true → c ≡ Session r x → IsToldOf t x → Connects false t right c
+    → is_unanswered right.line.reference (stopped_of right) ≡ false → c ≡ Session r x → IsToldOf t x → Connects false t right c
 answered t right r c x e b f a q h = subst (λ (y : Connection). Connects false t right y) (sym q) (record {
   stands = h.stands;
   by = h.by;
-  is = ap (Session r) h.is ∙ sym (connects_as t right r false false true (told_of (facts_of t h.stands h.by)) e b f a);
+  is = ap (Session r) h.is ∙ sym (connects_as t right r false false false (told_of (facts_of t h.stands h.by)) e b f a);
   standing = h.standing;
 })
 

@@ -85,24 +85,28 @@ abbrev pub is_refused : Option Stopped → Bool
 is_refused None = false
 is_refused (Some s) = is_refusal s.stop
 
+-- right gave no reference, and nothing that it sent stopped its transport
+abbrev pub is_unanswered : Option ℕ → Option Stopped → Bool
+is_unanswered reference stopped = not (is_some reference || is_some stopped)
+
 -- A session is told of, also where the connection was refused or not answered if this side is to blame.
-abbrev pub connection_with : (reference : ℕ) → (blamed refused answered : Bool) → Told → Connection
-connection_with reference true refused answered t = Session reference t
-connection_with reference false true answered t = Refused reference
-connection_with reference false false false t = Unanswered reference
-connection_with reference false false true t = Session reference t
+abbrev pub connection_with : (reference : ℕ) → (blamed refused unanswered : Bool) → Told → Connection
+connection_with reference true refused unanswered t = Session reference t
+connection_with reference false true unanswered t = Refused reference
+connection_with reference false false true t = Unanswered reference
+connection_with reference false false false t = Session reference t
 
 -- Nothing is told where the other side left the profile first, nor where this side gave no reference.
-abbrev pub connection_by : (dropped : Bool) → Option ℕ → (blamed refused answered : Bool) → Told → Connection
-connection_by true reference blamed refused answered t = Silent
-connection_by false None blamed refused answered t = Silent
-connection_by false (Some reference) blamed refused answered t = connection_with reference blamed refused answered t
+abbrev pub connection_by : (dropped : Bool) → Option ℕ → (blamed refused unanswered : Bool) → Told → Connection
+connection_by true reference blamed refused unanswered t = Silent
+connection_by false None blamed refused unanswered t = Silent
+connection_by false (Some reference) blamed refused unanswered t = connection_with reference blamed refused unanswered t
 
 -- what is told of a side, by what is known of it and of the right side
 abbrev pub account_by : (dropped : Bool) → Facts → (right : Facts) → Account
 account_by dropped f right = record {
   reading = f.reading;
-  connection = connection_by dropped f.reference (broke_session f.found) (is_refused right.stopped) (is_some right.reference) (told_of f);
+  connection = connection_by dropped f.reference (broke_session f.found) (is_refused right.stopped) (is_unanswered right.reference right.stopped) (told_of f);
   stopped = f.stopped;
 }
 

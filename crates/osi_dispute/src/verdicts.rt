@@ -2,7 +2,7 @@
 
 ghost use Rattle.std.specs.Prelude.{◌≡◌, ◌<◌, true, false, Some, IfOk};
 ghost use Rattle.osi_dispute.specs.Disputes.{Judged};
-ghost use Rattle.osi_dispute.specs.Facts.{is_refused, is_first, is_left, other_left, unjudged, keeps, kept_outcome_of, outcome_in};
+ghost use Rattle.osi_dispute.specs.Facts.{is_refused, is_unanswered, is_first, is_left, other_left, unjudged, keeps, kept_outcome_of, outcome_in};
 ghost use Rattle.osi_dispute.specs.Facts.{IsToldOf, Connects, Accounts};
 ghost use Rattle.osi_judge.specs.Captures.{Capture};
 ghost use Rattle.osi_judge.specs.Feeding.{stopped_of};
@@ -143,6 +143,16 @@ fn is_blamed(finding: Finding) -> bool
     matches!(finding, Finding::Broke(_) | Finding::Left(_))
 }
 
+/// Whether right did not answer: it gave no reference, and nothing that it sent stopped its transport.
+fn is_unanswered(judge: &Judge) -> bool
+    ensures { result ≡ is_unanswered (half_of Direction.Right (judged judge.now)).line.reference (stopped_of (half_of Direction.Right (judged judge.now))) }
+{
+    if judge.reference(Direction::Right).is_some() {
+        return false;
+    }
+    judge.stopped(Direction::Right).is_none()
+}
+
 /// What is told of the session of a side, which gave the connection this reference.
 fn session_of(judge: &Judge, direction: Direction, reference: u16) -> Result<Connection, AllocError>
     ensures told { IfOk result (λ c. (x : Told) × (c ≡ Connection.Session reference x)
@@ -170,10 +180,10 @@ fn connection_by(
     if is_refused(judge.stopped(Direction::Right)) {
         return Ok(Connection::Refused(reference));
     }
-    match judge.reference(Direction::Right) {
-        None => Ok(Connection::Unanswered(reference)),
-        Some(_) => session_of(judge, direction, reference),
+    if is_unanswered(judge) {
+        return Ok(Connection::Unanswered(reference));
     }
+    session_of(judge, direction, reference)
 }
 
 fn connection_of(judge: &Judge, direction: Direction) -> Result<Connection, AllocError>

@@ -1,5 +1,5 @@
 -- What is known of both sides of a capture stays known as octets pass: for what a judge is fed.
-use Rattle.std.proofs.Common.{◌≡◌, ◌∙◌, refl, sym, ap, subst, ℕ, suc, zero, ◌+◌, ◌-◌, ◌<◌, ◌≤◌, ◌⊎◌, inl, inr, min, leb, true, false, List, [], ◌∷◌, ◌++◌, length, take, drop, Option, Some, None, arith}
+use Rattle.std.proofs.Common.{◌≡◌, ◌∙◌, refl, sym, ap, subst, ℕ, suc, zero, ◌+◌, ◌-◌, ◌<◌, ◌≤◌, ◌⊎◌, inl, inr, min, leb, true, false, List, [], ◌∷◌, ◌++◌, length, take, drop, Option, Some, None, option_map, arith}
 use Rattle.std.proofs.lemmas.List.{append-nil, length-append, map-append, length-take-le, take-append-drop}
 use Rattle.std.proofs.lemmas.Bool.Decides.{leb_tells}
 use Rattle.osi_tpkt.specs.Packet.{IsPacket, IsPartial, IsBadVersion, IsBadLength, IsFaultOf, stated_length}
@@ -15,14 +15,14 @@ use Rattle.osi_judge.specs.Explaining.{Told}
 use Rattle.osi_judge.specs.Judging.{Watched, Watches}
 use Rattle.osi_tpdu.specs.Packet.{units_of}
 use Rattle.osi_judge.specs.Transport.{Handshake, silent, first_unit, shaken, handshake_from, packet_length, met_before, reference_in}
-use Rattle.osi_judge.specs.Transport.{Stage, opening, asking, between, within, refused, stopped, first_of, stage_behind, Sent, packets_length, sent_by, stage_from, sent_from}
+use Rattle.osi_judge.specs.Transport.{Stage, opening, asking, between, within, refused, stopped, first_of, stage_behind, Sent, packets_length, sent_by, stage_from, sent_from, hasty_behind, hasty_from}
 use Rattle.osi_judge.specs.Tapping.{begin_of, had_passed, octets_of, heard, tell, told, IsPlace}
 use Rattle.osi_judge.specs.Feeding.{Tapped, since_at, named_behind, last_behind, with_count, Tells, hears, Passes, TakesPacket, Settles, goes_on, faulty, whole, since_in, since_of, met_in, met_of, IsWithin, with_octets, Feeds, ignored, looked_at}
 use Rattle.osi_judge.specs.Following.{shown, IsRest, BeginBefore, EndBy, IsSince, Follows, Judged, Taps}
 use Rattle.osi_judge.proofs.CaptureLaws.{stream_fed, stream_beside}
 use Rattle.osi_judge.proofs.CountLaws.{stays_passed, not_yet_passed, all_had_passed, told_stays, told_beside, begin_later, end_later, begin_more, end_more}
-use Rattle.osi_judge.proofs.UnitLaws.{packets_on, packet_on, offset_from, packet_octets, offset_of_rest, stage_more, sent_more, shown_behind, heard_shown, since_shown, OneOrNone, sent_one, since_behind}
-use Rattle.osi_judge.proofs.HandshakeLaws.{handshake_more, met_stays, met_not_yet, met_now, MeetAlike, stage_stays, sent_stays}
+use Rattle.osi_judge.proofs.UnitLaws.{packets_on, packet_on, offset_from, packet_octets, offset_of_rest, stage_more, sent_more, shown_behind, heard_shown, since_shown, OneOrNone, sent_one, since_behind, hasty_more, hasty_shown}
+use Rattle.osi_judge.proofs.HandshakeLaws.{handshake_more, met_stays, met_not_yet, met_now, MeetAlike, stage_stays, sent_stays, hasty_stays}
 use Rattle.osi_judge.proofs.SideLaws as side
 use Rattle.osi_judge.proofs.what_is_told_beside_is_of_the_capture.{named_more, named_shown, offset_sum, place_behind, count_told}
 
@@ -133,6 +133,7 @@ front_follows d c octets t us bs mine others f held fault since h r k j =
       met = λ e l. j e l ∙ ap (λ (x : ℕ). met_before d c2 bs x) there;
       sent = f.sent ∙ sent_stays d c us f.rest f.packets (met_before d c bs) (met_before d c2 bs) alike;
       stage = f.stage ∙ ap shown same;
+      hasty = f.hasty ∙ ap (option_map offset_of) (hasty_stays d c us f.rest f.packets (met_before d c bs) (met_before d c2 bs) alike);
       since = λ e l. k e l ∙ ap (λ (x : ℕ). had_passed d c2 x others) there;
       begun = subst (λ (x : Stage). IsSince d c2 others x t.line.begun_since) same
           (since_stays d c (piece d octets) others (stage_from d (met_before d c bs) opening 0 us) t.line.begun_since longer f.begun);
@@ -174,6 +175,7 @@ beside_follows d c octets t us bs mine others f =
           ∙ ap (λ (x : ℕ). met_before d c2 bs x) there;
       sent = f.sent ∙ sent_stays d c us f.rest f.packets (met_before d c bs) (met_before d c2 bs) alike;
       stage = f.stage ∙ ap shown same;
+      hasty = f.hasty ∙ ap (option_map offset_of) (hasty_stays d c us f.rest f.packets (met_before d c bs) (met_before d c2 bs) alike);
       since = λ z l. f.since z l ∙ sym (stays_passed d c (piece (other d) octets) (length (stream d c) - length f.rest) others (omega arith))
           ∙ ap (λ (x : ℕ). had_passed d c2 x others) there;
       begun = subst (λ (x : Stage). IsSince d c2 others x t.line.begun_since) same
@@ -204,6 +206,7 @@ passing_follows d c t us bs mine others u f l =
       met = λ z k. f.met z k ∙ sym (met_not_yet d c bs u (length (stream d c) - length f.rest) l);
       sent = f.sent ∙ sent_stays d c us f.rest f.packets (met_before d c bs) (met_before d c more) alike;
       stage = f.stage ∙ ap shown same;
+      hasty = f.hasty ∙ ap (option_map offset_of) (hasty_stays d c us f.rest f.packets (met_before d c bs) (met_before d c more) alike);
       since = f.since;
       begun = subst (λ (x : Stage). IsSince d c others x t.line.begun_since) same f.begun;
       octets = f.octets;
@@ -237,6 +240,7 @@ hearing_follows d c t us bs mine others u f l = record {
   met = f.met;
   sent = f.sent;
   stage = f.stage;
+  hasty = f.hasty;
   since = λ z k. f.since z k ∙ sym (not_yet_passed d c (length (stream d c) - length f.rest) others u l);
   begun = since_beside d c others u (stage_from d (met_before d c bs) opening 0 us) t.line.begun_since l f.begun;
   octets = f.octets;
@@ -434,6 +438,12 @@ stood d c octets u t new o new_o us bs mine others f now e inside shake n packet
     let g = grown d c2 mine others (sent_by d h s at u) t.side new.side o new_o s at before u (sent_one d h s at u) passes before_known there within_it was in
     let new_stage : new.line.stage ≡ shown (stage_behind d h s at u)
     = p.stage ∙ ap (λ (x : Stage). stage_behind d h x t.line.at u) kept_stage ∙ ap (λ (x : ℕ). stage_behind d h (shown s) x u) kept_at ∙ sym (shown_behind d h s at u) in
+    let noted_before = hasty_from d (met_before d c2 bs) opening None 0 us in
+    let kept_hasty : t.line.hasty ≡ option_map offset_of noted_before
+    = f.hasty ∙ ap (option_map offset_of) (hasty_stays d c us f.rest f.packets (met_before d c bs) (met_before d c2 bs) alike) in
+    let new_hasty : new.line.hasty ≡ option_map offset_of (hasty_behind d h s noted_before at u)
+    = p.hasty ∙ ap (λ (x : Stage). hasty_behind d h x t.line.hasty t.line.at u) kept_stage ∙ ap (λ (x : Option ℕ). hasty_behind d h (shown s) x t.line.at u) kept_hasty
+    ∙ ap (λ (x : ℕ). hasty_behind d h (shown s) (option_map offset_of noted_before) x u) kept_at ∙ sym (hasty_shown d h s noted_before at u) in
     let held_length : length (t.held ++ octets) ≡ packet_length u = ap (λ (x : List ℕ). length (x ++ octets)) held.0 ∙ whole_length in
     let new_at : new.line.at ≡ offset_of (length (stream d c2))
     = p.at ∙ ap (λ (x : ℕ). offset_of (t.line.at + x)) held_length ∙ ap (λ (x : ℕ). offset_of (x + packet_length u)) kept_at ∙ offset_on at (packet_length u) ∙ ap offset_of behind in
@@ -455,6 +465,7 @@ stood d c octets u t new o new_o us bs mine others f now e inside shake n packet
         sent = ap (λ (x : List Sent). x ++ sent_by d h s at u) (f.sent ∙ sent_stays d c us f.rest f.packets (met_before d c bs) (met_before d c2 bs) alike)
             ∙ sym (sent_more d (met_before d c2 bs) opening 0 us u);
         stage = new_stage ∙ ap shown (sym (stage_more d (met_before d c2 bs) opening 0 us u));
+        hasty = new_hasty ∙ ap (option_map offset_of) (sym (hasty_more d (met_before d c2 bs) opening None 0 us u));
         since = λ z l. absurd (omega arith);
         begun = subst (λ (x : Stage). IsSince d c2 others x new.line.begun_since) (sym (stage_more d (met_before d c2 bs) opening 0 us u))
             (since_behind d h c2 others s at new.line.begun_since u there (new_since ∙ before_known));

@@ -1,6 +1,6 @@
 -- How far the other side had come before an octet stays so as octets pass, and so does what the packets of a side mean.
 -- For what a judge is fed.
-use Rattle.std.proofs.Common.{◌≡◌, ◌∙◌, refl, sym, ap, ℕ, ◌+◌, ◌-◌, ◌<◌, ◌≤◌, ◌⊎◌, inl, inr, Bool, cond, true, false, leb, List, [], ◌∷◌, ◌++◌, length, arith}
+use Rattle.std.proofs.Common.{◌≡◌, ◌∙◌, refl, sym, ap, ℕ, ◌+◌, ◌-◌, ◌<◌, ◌≤◌, ◌⊎◌, inl, inr, Bool, cond, true, false, leb, List, [], ◌∷◌, ◌++◌, length, Option, None, arith}
 use Rattle.std.proofs.lemmas.Bool.{le-leb, lt-leb}
 use Rattle.std.proofs.lemmas.Bool.Decides.{leb_tells}
 use Rattle.osi_tpkt.specs.Stream.{ArePackets}
@@ -8,7 +8,7 @@ use Rattle.osi_tpdu.specs.Packet.{units_of}
 use Rattle.osi_judge.specs.declared.directions.Direction.{Direction}
 use Rattle.osi_judge.specs.Captures.{Capture, other, piece, stream, passed_before}
 use Rattle.osi_judge.specs.Transport.{Handshake, silent, first_unit, shaken, handshake_from, packet_length, complete_in, met_before}
-use Rattle.osi_judge.specs.Transport.{Stage, opening, stage_behind, Sent, sent_by, stage_from, sent_from, packets_length}
+use Rattle.osi_judge.specs.Transport.{Stage, opening, stage_behind, Sent, sent_by, stage_from, sent_from, hasty_behind, hasty_from, packets_length}
 use Rattle.osi_judge.proofs.CaptureLaws.{passed_stays, passed_by_then, passed_within}
 use Rattle.osi_judge.proofs.UnitLaws.{offset_from, offset_of_rest}
 
@@ -84,6 +84,14 @@ sent_same d m p n e s at (u ∷ us) l =
     ap (λ (h : Handshake). sent_by d h s at u ++ sent_from d m (stage_behind d h s at u) (at + packet_length u) us) (e at (omega arith))
     ∙ ap (λ (x : List Sent). sent_by d (p at) s at u ++ x) (sent_same d m p n e (stage_behind d (p at) s at u) (at + packet_length u) us l)
 
+hasty_same : (d : Direction) (m p : ℕ → Handshake) (n : ℕ) → ((k : ℕ) → k < n → m k ≡ p k) → (s : Stage) (hasty : Option ℕ) (at : ℕ) (us : List (List ℕ))
+    → offset_from at us ≤ n → hasty_from d m s hasty at us ≡ hasty_from d p s hasty at us
+hasty_same d m p n e s hasty at [] l = refl
+hasty_same d m p n e s hasty at (u ∷ us) l =
+    let far = offset_more (at + packet_length u) us in
+    ap (λ (h : Handshake). hasty_from d m (stage_behind d h s at u) (hasty_behind d h s hasty at u) (at + packet_length u) us) (e at (omega arith))
+    ∙ hasty_same d m p n e (stage_behind d (p at) s at u) (hasty_behind d (p at) s hasty at u) (at + packet_length u) us l
+
 -- the packets of a stream mean the same if the other side had come as far before each of its octets
 abbrev pub MeetAlike : ℕ → (m p : ℕ → Handshake) → Type 0
 MeetAlike n m p = (k : ℕ) → k < n → m k ≡ p k
@@ -98,3 +106,7 @@ stage_stays d c us rest h m p e = stage_same d m p (length (stream d c)) e openi
 pub sent_stays : (d : Direction) (c : Capture) (us : List (List ℕ)) (rest : List ℕ) → ArePackets us (stream d c) rest → (m p : ℕ → Handshake) → MeetAlike (length (stream d c)) m p
     → sent_from d m opening 0 us ≡ sent_from d p opening 0 us
 sent_stays d c us rest h m p e = sent_same d m p (length (stream d c)) e opening 0 us (end_within d c us rest h)
+
+pub hasty_stays : (d : Direction) (c : Capture) (us : List (List ℕ)) (rest : List ℕ) → ArePackets us (stream d c) rest → (m p : ℕ → Handshake) → MeetAlike (length (stream d c)) m p
+    → hasty_from d m opening None 0 us ≡ hasty_from d p opening None 0 us
+hasty_stays d c us rest h m p e = hasty_same d m p (length (stream d c)) e opening None 0 us (end_within d c us rest h)

@@ -1,5 +1,5 @@
 -- What is known of a judge, and what was found of a capture.
-use Rattle.std.proofs.Common.{◌≡◌, ◌∙◌, refl, sym, ap, subst, ℕ, ◌-◌, ◌+◌, List, [], length, Option, Some, None, arith}
+use Rattle.std.proofs.Common.{◌≡◌, ◌∙◌, refl, sym, ap, subst, ℕ, ◌-◌, ◌+◌, List, [], length, Option, Some, None, option_map, arith}
 use Rattle.osi_tpkt.specs.Packet.{IsFaultOf}
 use Rattle.osi_tpkt.specs.Stream.{Ending, EndsAt, offset_of}
 use Rattle.osi_tpkt.specs.Stream.Ending.{Faulty, Rest}
@@ -15,8 +15,9 @@ use Rattle.osi_judge.specs.Judging.{Watched, Watches, IsFound}
 use Rattle.osi_judge.specs.declared.findings.Finding.{Finding}
 use Rattle.osi_judge.specs.declared.findings.Finding.TheVariants.{Kept}
 use Rattle.osi_judge.specs.declared.judge.Reading.{Reading}
-use Rattle.osi_judge.specs.Transport.{silent, met_before, Stage, opening, asking, between, within, refused, stopped, Sent, packets_length, stage_from, sent_from, ArePacketsOf, IsSent}
-use Rattle.osi_judge.specs.Tapping.{begin_of, heard, told, IsFoundIn, stop_in, IsStoppedIn, IsReadIn, IsReferenceIn, IsPlace, IsPlaceIn}
+use Rattle.osi_judge.specs.declared.stops.Stopped.{Stopped as StoppedAt}
+use Rattle.osi_judge.specs.Transport.{silent, met_before, Stage, opening, asking, between, within, refused, stopped, Sent, packets_length, stage_from, sent_from, hasty_from, ArePacketsOf, IsSent}
+use Rattle.osi_judge.specs.Tapping.{begin_of, heard, told, IsFoundIn, stop_in, or_hasty, IsStoppedIn, IsReadIn, IsReferenceIn, IsPlace, IsPlaceIn}
 use Rattle.osi_judge.specs.Feeding.{Tapped, reading_of, stopped_by, stopped_of}
 use Rattle.osi_judge.specs.Following.{shown, IsRest, Follows, Judged, half_of, Taps}
 use Rattle.osi_judge.proofs.SideLaws.{found_as}
@@ -30,7 +31,7 @@ fresh_half w = record {
   held = [];
   octets = 0;
   fault = None;
-  line = record { at = 0; since = 0; met = silent; handshake = silent; stage = opening; begun_since = 0; packets = 0; reference = None; last = 0 };
+  line = record { at = 0; since = 0; met = silent; handshake = silent; stage = opening; hasty = None; begun_since = 0; packets = 0; reference = None; last = 0 };
   side = w;
 }
 
@@ -47,6 +48,7 @@ nothing_follows d w b h y k = record {
   met = λ e l. absurd (omega arith);
   sent = refl;
   stage = refl;
+  hasty = refl;
   since = λ e l. absurd (omega arith);
   begun = tt;
   octets = refl;
@@ -148,6 +150,9 @@ stops_as (within first octets) (Some OutOfMemory) held rest at r = absurd r
 zero_plus : (n : ℕ) → n ≡ 0 + n
 zero_plus n = omega arith
 
+abbrev stopped_of_stage : Tapped → Option StoppedAt
+stopped_of_stage t = stopped_by t.line.stage t.fault t.line.at
+
 stopped_as : (d : Direction) (c : Capture) (t : Tapped) (us bs : List (List ℕ)) (mine others : List Sent) → Follows d c t us bs mine others → ArePacketsOf (other d) c bs
     → IsStoppedIn d c (stopped_of t)
 stopped_as d c t us bs mine others f b =
@@ -161,7 +166,9 @@ stopped_as d c t us bs mine others f b =
       cut = (f.rest, f.packets, e.1);
       others = bs;
       are_others = b;
-      stops = ap (λ (x : Stage). stopped_by x t.fault t.line.at) f.stage ∙ ap (λ (x : ℕ). stopped_by (shown s) t.fault x) same_at ∙ stops_as s t.fault t.held f.rest at f.is_rest;
+      stops = ap (λ (x : Option ℕ). or_hasty x (stopped_of_stage t)) f.hasty
+          ∙ ap (or_hasty (option_map offset_of (hasty_from d (met_before d c bs) opening None 0 us)))
+          (ap (λ (x : Stage). stopped_by x t.fault t.line.at) f.stage ∙ ap (λ (x : ℕ). stopped_by (shown s) t.fault x) same_at ∙ stops_as s t.fault t.held f.rest at f.is_rest);
     }
 
 pub is_stopped : (d : Direction) (c : Capture) (j : Judged) → Taps j c → IsStoppedIn d c (stopped_of (half_of d j))

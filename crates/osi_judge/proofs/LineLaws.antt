@@ -13,7 +13,7 @@ use Rattle.osi_judge.specs.declared.progress.Progress.{Progress}
 use Rattle.osi_judge.specs.declared.progress.Progress.TheVariants.{Opening, Asking, Between, Within, Refused, Stopped}
 use Rattle.osi_judge.specs.Judging.{Watched}
 use Rattle.osi_judge.specs.Transport.{Handshake, first_unit, shaken, Move, unit_step, step_of, Stage, opening, asking, between, within, refused, moved, stage_behind}
-use Rattle.osi_judge.specs.Transport.{Sent, brought, sent_by}
+use Rattle.osi_judge.specs.Transport.{Sent, brought, sent_by, noted, hasty_behind}
 use Rattle.osi_judge.specs.Feeding.{stage_in, Lined, Tapped, since_at, named, named_behind, last_behind, hears, Passes, TakesUnit, Settles, whole, since_of, met_of, IsWithin, with_octets, Feeds, looked_at}
 
 -- ---- a TSDU that is taken back
@@ -87,10 +87,19 @@ brings d h u (Within first) octets at m n e = ap (brought (within first octets) 
 brings d h u (Refused packet) octets at m n e = ap (brought (refused packet) at u) e
 brings d h u (Stopped stop place) octets at m n e = absurd (n stop place refl)
 
+notes : (d : Direction) (h : Handshake) (u : List ℕ) (p : Progress) (octets : List ℕ) (hasty : Option ℕ) (at : ℕ) (m : Move) → GoesOn p
+    → MeansHere d h u p octets m → noted hasty at m ≡ hasty_behind d h (stage_in p octets) hasty at u
+notes d h u Opening octets hasty at m n e = ap (noted hasty at) e
+notes d h u Asking octets hasty at m n e = ap (noted hasty at) e
+notes d h u Between octets hasty at m n e = ap (noted hasty at) e
+notes d h u (Within first) octets hasty at m n e = ap (noted hasty at) e
+notes d h u (Refused packet) octets hasty at m n e = ap (noted hasty at) e
+notes d h u (Stopped stop place) octets hasty at m n e = absurd (n stop place refl)
+
 -- A packet that is looked at, before which the other side had come so far: what it means changes the line, and then how far
 -- this side has come.
 pub unit_taken : (d : Direction) (h : Handshake) (u : List ℕ) (p : Progress) (octets : List ℕ) (at kept begun_since since before packets last : ℕ) (met come after : Handshake)
-    (known : Option ℕ) (r : Result (Option Value) TpduFault) (m : Move) (mid : Lined) (w w2 o o2 : Watched)
+    (hasty known : Option ℕ) (r : Result (Option Value) TpduFault) (m : Move) (mid : Lined) (w w2 o o2 : Watched)
     → GoesOn p → r ≡ first_unit (units_of u) → m ≡ step_of d (stage_in p []) h r → before ≡ since_at (stage_in p []) begun_since since
     → mid ≡ record {
       at = at;
@@ -98,6 +107,7 @@ pub unit_taken : (d : Direction) (h : Handshake) (u : List ℕ) (p : Progress) (
       met = met;
       handshake = come;
       stage = moved (stage_in p octets) at m;
+      hasty = noted hasty at m;
       begun_since = before;
       packets = packets;
       reference = named known m;
@@ -109,18 +119,20 @@ pub unit_taken : (d : Direction) (h : Handshake) (u : List ℕ) (p : Progress) (
       met = met;
       handshake = come;
       stage = stage_in p octets;
+      hasty = hasty;
       begun_since = begun_since;
       packets = packets;
       reference = known;
       last = last;
     }) (record mid { handshake = after }) w w2 o o2
-unit_taken d h u p octets at kept begun_since since before packets last met come after known r m mid w w2 o o2 n read e b l came x =
+unit_taken d h u p octets at kept begun_since since before packets last met come after hasty known r m mid w w2 o o2 n read e b l came x =
     let same = b ∙ since_front p octets begun_since since in
     let means : MeansHere d h u p octets m
     = e ∙ ap (λ (y : Result (Option Value) TpduFault). step_of d (stage_in p []) h y) read ∙ step_front d p octets h (first_unit (units_of u)) in record {
       at = ap (λ (y : Lined). y.at) l;
       handshake = came ∙ ap (λ (y : Lined). shaken y.handshake r) l ∙ ap (λ (y : Result (Option Value) TpduFault). shaken come y) read;
       stage = ap (λ (y : Lined). y.stage) l ∙ moves d h u p octets at m n means;
+      hasty = ap (λ (y : Lined). y.hasty) l ∙ notes d h u p octets hasty at m n means;
       begun_since = ap (λ (y : Lined). y.begun_since) l ∙ same;
       packets = ap (λ (y : Lined). y.packets) l;
       reference = ap (λ (y : Lined). y.reference) l ∙ names d h u p octets known m n means;
@@ -143,6 +155,7 @@ settled_whole d unit since n h t mid new o new_o l p x f k u e = whole unit n l 
   met = ap (λ (x : Tapped). x.line.met) e;
   handshake = ap (λ (x : Tapped). x.line.handshake) e ∙ u.handshake;
   stage = ap (λ (x : Tapped). x.line.stage) e ∙ u.stage;
+  hasty = ap (λ (x : Tapped). x.line.hasty) e ∙ u.hasty;
   begun_since = ap (λ (x : Tapped). x.line.begun_since) e ∙ u.begun_since;
   octets = ap (λ (x : Tapped). x.octets) e ∙ k;
   packets = ap (λ (x : Tapped). x.line.packets) e ∙ ap (λ (x : ℕ). offset_of (x + 1)) u.packets;

@@ -1,5 +1,5 @@
 -- One more packet of a side passes: the state of its transport, and the TSDU that the packet ends.
-use Rattle.std.proofs.Common.{◌≡◌, ◌∙◌, refl, sym, ap, ℕ, ◌+◌, ◌<◌, ◌⊎◌, inl, inr, Bool, true, false, if◌then◌else◌, List, [], ◌∷◌, ◌++◌, length, Option, Some, None, Result, Ok, Err, arith}
+use Rattle.std.proofs.Common.{◌≡◌, ◌∙◌, refl, sym, ap, ℕ, ◌+◌, ◌<◌, ◌⊎◌, inl, inr, Bool, true, false, if◌then◌else◌, List, [], ◌∷◌, ◌++◌, length, Option, Some, None, option_map, Result, Ok, Err, arith}
 use Rattle.std.proofs.lemmas.List.{append-nil, append_assoc, length-append}
 use Rattle.osi_tpkt.specs.Packet.{IsPacket}
 use Rattle.osi_tpkt.specs.Stream.{ArePackets, offset_of}
@@ -9,9 +9,9 @@ use Rattle.osi_tpdu.specs.declared.faults.TpduFault.{TpduFault}
 use Rattle.osi_judge.specs.declared.directions.Direction.{Direction}
 use Rattle.osi_judge.specs.declared.stops.Stop.TheVariants.{TsduTooLong}
 use Rattle.osi_judge.specs.Captures.{Capture, stream}
-use Rattle.osi_judge.specs.Transport.{Handshake, first_unit, packet_length, Move, asks, opens, adds, refuses, ignores, stops, unit_step, step_of}
+use Rattle.osi_judge.specs.Transport.{Handshake, first_unit, packet_length, Move, asks, opens, adds, hurries, refuses, ignores, stops, unit_step, step_of}
 use Rattle.osi_judge.specs.Transport.{Stage, opening, asking, between, within, refused, stopped, begun, first_of, is_too_long, added, moved, stage_behind}
-use Rattle.osi_judge.specs.Transport.{Sent, ended, brought, sent_by, stage_from, sent_from}
+use Rattle.osi_judge.specs.Transport.{Sent, ended, brought, sent_by, stage_from, sent_from, noted, hasty_behind, hasty_from}
 use Rattle.osi_judge.specs.Tapping.{had_passed, heard}
 use Rattle.osi_judge.specs.Feeding.{since_at}
 use Rattle.osi_judge.specs.Following.{shown, IsSince}
@@ -56,6 +56,13 @@ sent_more d met s at (v ∷ us) u =
     ap (λ (x : List Sent). sent_by d (met at) s at v ++ x) (sent_more d met t on us u)
     ∙ sym (append_assoc (sent_by d (met at) s at v) (sent_from d met t on us) (sent_by d (met (offset_from on us)) (stage_from d met t on us) (offset_from on us) u))
 
+pub hasty_more : (d : Direction) (met : ℕ → Handshake) (s : Stage) (hasty : Option ℕ) (at : ℕ) (us : List (List ℕ)) (u : List ℕ)
+    → hasty_from d met s hasty at (us ++ u ∷ [])
+    ≡ hasty_behind d (met (offset_from at us)) (stage_from d met s at us) (hasty_from d met s hasty at us) (offset_from at us) u
+hasty_more d met s hasty at [] u = refl
+hasty_more d met s hasty at (v ∷ us) u =
+    hasty_more d met (stage_behind d (met at) s at v) (hasty_behind d (met at) s hasty at v) (at + packet_length v) us u
+
 -- ---- offsets as they are kept
 
 shown_if : (long : Bool) (s t s2 t2 : Stage) → shown s ≡ s2 → shown t ≡ t2 → shown (if long then s else t) ≡ (if long then s2 else t2)
@@ -71,30 +78,34 @@ shown_added (refused packet) at false octets = refl
 shown_added (within first begun) at false octets = refl
 shown_added (stopped stop packet) at false octets = refl
 
+shown_adds : (s : Stage) (at : ℕ) (end : Bool) (octets : List ℕ) → shown (moved s at (adds end octets)) ≡ moved (shown s) (offset_of at) (adds end octets)
+shown_adds opening at end octets =
+    shown_if (is_too_long opening octets) (stopped TsduTooLong at) (added opening at end octets) (stopped TsduTooLong (offset_of at)) (added opening (offset_of at) end octets)
+    refl (shown_added opening at end octets)
+shown_adds asking at end octets =
+    shown_if (is_too_long asking octets) (stopped TsduTooLong at) (added asking at end octets) (stopped TsduTooLong (offset_of at)) (added asking (offset_of at) end octets)
+    refl (shown_added asking at end octets)
+shown_adds between at end octets =
+    shown_if (is_too_long between octets) (stopped TsduTooLong at) (added between at end octets) (stopped TsduTooLong (offset_of at)) (added between (offset_of at) end octets)
+    refl (shown_added between at end octets)
+shown_adds (within first begun) at end octets =
+    shown_if (is_too_long (within first begun) octets) (stopped TsduTooLong at) (added (within first begun) at end octets) (stopped TsduTooLong (offset_of at)) (added (within (offset_of first) begun) (offset_of at) end octets)
+    refl (shown_added (within first begun) at end octets)
+shown_adds (refused packet) at end octets =
+    shown_if (is_too_long (refused packet) octets) (stopped TsduTooLong at) (added (refused packet) at end octets) (stopped TsduTooLong (offset_of at)) (added (refused (offset_of packet)) (offset_of at) end octets)
+    refl (shown_added (refused packet) at end octets)
+shown_adds (stopped stop packet) at end octets =
+    shown_if (is_too_long (stopped stop packet) octets) (stopped TsduTooLong at) (added (stopped stop packet) at end octets) (stopped TsduTooLong (offset_of at)) (added (stopped stop (offset_of packet)) (offset_of at) end octets)
+    refl (shown_added (stopped stop packet) at end octets)
+
 shown_moved : (s : Stage) (at : ℕ) (m : Move) → shown (moved s at m) ≡ moved (shown s) (offset_of at) m
 shown_moved s at (asks reference) = refl
 shown_moved s at (opens reference) = refl
 shown_moved s at refuses = refl
 shown_moved s at ignores = refl
 shown_moved s at (stops stop) = refl
-shown_moved opening at (adds end octets) =
-    shown_if (is_too_long opening octets) (stopped TsduTooLong at) (added opening at end octets) (stopped TsduTooLong (offset_of at)) (added opening (offset_of at) end octets)
-    refl (shown_added opening at end octets)
-shown_moved asking at (adds end octets) =
-    shown_if (is_too_long asking octets) (stopped TsduTooLong at) (added asking at end octets) (stopped TsduTooLong (offset_of at)) (added asking (offset_of at) end octets)
-    refl (shown_added asking at end octets)
-shown_moved between at (adds end octets) =
-    shown_if (is_too_long between octets) (stopped TsduTooLong at) (added between at end octets) (stopped TsduTooLong (offset_of at)) (added between (offset_of at) end octets)
-    refl (shown_added between at end octets)
-shown_moved (within first begun) at (adds end octets) =
-    shown_if (is_too_long (within first begun) octets) (stopped TsduTooLong at) (added (within first begun) at end octets) (stopped TsduTooLong (offset_of at)) (added (within (offset_of first) begun) (offset_of at) end octets)
-    refl (shown_added (within first begun) at end octets)
-shown_moved (refused packet) at (adds end octets) =
-    shown_if (is_too_long (refused packet) octets) (stopped TsduTooLong at) (added (refused packet) at end octets) (stopped TsduTooLong (offset_of at)) (added (refused (offset_of packet)) (offset_of at) end octets)
-    refl (shown_added (refused packet) at end octets)
-shown_moved (stopped stop packet) at (adds end octets) =
-    shown_if (is_too_long (stopped stop packet) octets) (stopped TsduTooLong at) (added (stopped stop packet) at end octets) (stopped TsduTooLong (offset_of at)) (added (stopped stop (offset_of packet)) (offset_of at) end octets)
-    refl (shown_added (stopped stop packet) at end octets)
+shown_moved s at (adds end octets) = shown_adds s at end octets
+shown_moved s at (hurries end octets) = shown_adds s at end octets
 
 -- what a packet means doesn't depend on offsets
 unit_shown : (d : Direction) (s : Stage) (h : Handshake) (v : Value) → unit_step d s h v ≡ unit_step d (shown s) h v
@@ -124,6 +135,32 @@ shown_behind d h (within first octets) at u = shown_by d h (within first octets)
 shown_behind d h (refused packet) at u = shown_by d h (refused packet) at u
 shown_behind d h (stopped stop packet) at u = refl
 
+shown_noted : (hasty : Option ℕ) (at : ℕ) (m : Move) → option_map offset_of (noted hasty at m) ≡ noted (option_map offset_of hasty) (offset_of at) m
+shown_noted (Some packet) at m = refl
+shown_noted None at (asks reference) = refl
+shown_noted None at (opens reference) = refl
+shown_noted None at (adds end octets) = refl
+shown_noted None at (hurries end octets) = refl
+shown_noted None at refuses = refl
+shown_noted None at ignores = refl
+shown_noted None at (stops stop) = refl
+
+hasty_by : (d : Direction) (h : Handshake) (s : Stage) (hasty : Option ℕ) (at : ℕ) (u : List ℕ)
+    → option_map offset_of (noted hasty at (step_of d s h (first_unit (units_of u))))
+    ≡ noted (option_map offset_of hasty) (offset_of at) (step_of d (shown s) h (first_unit (units_of u)))
+hasty_by d h s hasty at u =
+    shown_noted hasty at (step_of d s h (first_unit (units_of u)))
+    ∙ ap (noted (option_map offset_of hasty) (offset_of at)) (step_shown d s h (first_unit (units_of u)))
+
+pub hasty_shown : (d : Direction) (h : Handshake) (s : Stage) (hasty : Option ℕ) (at : ℕ) (u : List ℕ)
+    → option_map offset_of (hasty_behind d h s hasty at u) ≡ hasty_behind d h (shown s) (option_map offset_of hasty) (offset_of at) u
+hasty_shown d h opening hasty at u = hasty_by d h opening hasty at u
+hasty_shown d h asking hasty at u = hasty_by d h asking hasty at u
+hasty_shown d h between hasty at u = hasty_by d h between hasty at u
+hasty_shown d h (within first octets) hasty at u = hasty_by d h (within first octets) hasty at u
+hasty_shown d h (refused packet) hasty at u = hasty_by d h (refused packet) hasty at u
+hasty_shown d h (stopped stop packet) hasty at u = refl
+
 -- the octets of a TSDU are the same
 heard_if : (long : Bool) (x y : List Sent) → heard x ≡ heard y → heard (if long then [] else x) ≡ heard (if long then [] else y)
 heard_if true x y e = refl
@@ -138,24 +175,29 @@ heard_ended (refused packet) at u true octets = refl
 heard_ended (within first begun) at u true octets = refl
 heard_ended (stopped stop packet) at u true octets = refl
 
+heard_adds : (s : Stage) (at : ℕ) (u : List ℕ) (end : Bool) (octets : List ℕ)
+    → heard (brought s at u (adds end octets)) ≡ heard (brought (shown s) (offset_of at) u (adds end octets))
+heard_adds opening at u end octets =
+    heard_if (is_too_long opening octets) (ended opening at u end octets) (ended opening (offset_of at) u end octets) (heard_ended opening at u end octets)
+heard_adds asking at u end octets =
+    heard_if (is_too_long asking octets) (ended asking at u end octets) (ended asking (offset_of at) u end octets) (heard_ended asking at u end octets)
+heard_adds between at u end octets =
+    heard_if (is_too_long between octets) (ended between at u end octets) (ended between (offset_of at) u end octets) (heard_ended between at u end octets)
+heard_adds (within first begun) at u end octets =
+    heard_if (is_too_long (within first begun) octets) (ended (within first begun) at u end octets) (ended (within (offset_of first) begun) (offset_of at) u end octets) (heard_ended (within first begun) at u end octets)
+heard_adds (refused packet) at u end octets =
+    heard_if (is_too_long (refused packet) octets) (ended (refused packet) at u end octets) (ended (refused (offset_of packet)) (offset_of at) u end octets) (heard_ended (refused packet) at u end octets)
+heard_adds (stopped stop packet) at u end octets =
+    heard_if (is_too_long (stopped stop packet) octets) (ended (stopped stop packet) at u end octets) (ended (stopped stop (offset_of packet)) (offset_of at) u end octets) (heard_ended (stopped stop packet) at u end octets)
+
 heard_brought : (s : Stage) (at : ℕ) (u : List ℕ) (m : Move) → heard (brought s at u m) ≡ heard (brought (shown s) (offset_of at) u m)
 heard_brought s at u (asks reference) = refl
 heard_brought s at u (opens reference) = refl
 heard_brought s at u refuses = refl
 heard_brought s at u ignores = refl
 heard_brought s at u (stops stop) = refl
-heard_brought opening at u (adds end octets) =
-    heard_if (is_too_long opening octets) (ended opening at u end octets) (ended opening (offset_of at) u end octets) (heard_ended opening at u end octets)
-heard_brought asking at u (adds end octets) =
-    heard_if (is_too_long asking octets) (ended asking at u end octets) (ended asking (offset_of at) u end octets) (heard_ended asking at u end octets)
-heard_brought between at u (adds end octets) =
-    heard_if (is_too_long between octets) (ended between at u end octets) (ended between (offset_of at) u end octets) (heard_ended between at u end octets)
-heard_brought (within first begun) at u (adds end octets) =
-    heard_if (is_too_long (within first begun) octets) (ended (within first begun) at u end octets) (ended (within (offset_of first) begun) (offset_of at) u end octets) (heard_ended (within first begun) at u end octets)
-heard_brought (refused packet) at u (adds end octets) =
-    heard_if (is_too_long (refused packet) octets) (ended (refused packet) at u end octets) (ended (refused (offset_of packet)) (offset_of at) u end octets) (heard_ended (refused packet) at u end octets)
-heard_brought (stopped stop packet) at u (adds end octets) =
-    heard_if (is_too_long (stopped stop packet) octets) (ended (stopped stop packet) at u end octets) (ended (stopped stop (offset_of packet)) (offset_of at) u end octets) (heard_ended (stopped stop packet) at u end octets)
+heard_brought s at u (adds end octets) = heard_adds s at u end octets
+heard_brought s at u (hurries end octets) = heard_adds s at u end octets
 
 heard_by : (d : Direction) (h : Handshake) (s : Stage) (at : ℕ) (u : List ℕ)
     → heard (brought s at u (step_of d s h (first_unit (units_of u)))) ≡ heard (brought (shown s) (offset_of at) u (step_of d (shown s) h (first_unit (units_of u))))
@@ -203,6 +245,7 @@ brought_one s at u refuses = inl refl
 brought_one s at u ignores = inl refl
 brought_one s at u (stops stop) = inl refl
 brought_one s at u (adds end octets) = ended_one s at u (is_too_long s octets) end octets
+brought_one s at u (hurries end octets) = ended_one s at u (is_too_long s octets) end octets
 
 pub sent_one : (d : Direction) (h : Handshake) (s : Stage) (at : ℕ) (u : List ℕ) → OneOrNone s at u (sent_by d h s at u)
 sent_one d h opening at u = brought_one opening at u (step_of d opening h (first_unit (units_of u)))
@@ -238,6 +281,7 @@ since_moved d c others s at since refuses l e = tt
 since_moved d c others s at since ignores l e = since_ignored d c others s at since l e
 since_moved d c others s at since (stops stop) l e = tt
 since_moved d c others s at since (adds end octets) l e = since_added d c others s at since (is_too_long s octets) end octets l e
+since_moved d c others s at since (hurries end octets) l e = since_added d c others s at since (is_too_long s octets) end octets l e
 
 pub since_behind : (d : Direction) (h : Handshake) (c : Capture) (others : List Sent) (s : Stage) (at since : ℕ) (u : List ℕ) → first_of s at < length (stream d c)
     → since ≡ had_passed d c (first_of s at) others → IsSince d c others (stage_behind d h s at u) since

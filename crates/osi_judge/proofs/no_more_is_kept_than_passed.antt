@@ -18,8 +18,8 @@ use Rattle.osi_judge.specs.declared.stops.Stop.TheVariants.{NoOpening, OtherClas
 use Rattle.osi_judge.specs.Captures.{Capture, other, stream}
 use Rattle.osi_judge.specs.Following.{shown, Follows, Judged, half_of, Taps, kept_in, kept_of}
 use Rattle.osi_judge.specs.Tapping.{octets_of, heard, told}
-use Rattle.osi_judge.specs.Transport.{Handshake, silent, asked, asked_again, agreed, denied, astray, first_unit, met_before, Move, asks, opens, adds, refuses, ignores, stops}
-use Rattle.osi_judge.specs.Transport.{misplaced, next_step, asking_step, answering_step, has_asked, first_step, closing_step, later_step, refused_step, unit_step, step_of}
+use Rattle.osi_judge.specs.Transport.{Handshake, silent, asked, asked_again, agreed, denied, astray, first_unit, met_before, Move, asks, opens, adds, hurries, refuses, ignores, stops}
+use Rattle.osi_judge.specs.Transport.{misplaced, next_step, asking_step, answering_step, has_asked, first_step, hasty_step, closing_step, later_step, refused_step, unit_step, step_of}
 use Rattle.osi_judge.specs.Transport.{Stage, opening, asking, between, within, refused, stopped, begun, is_too_long, added, moved, stage_behind}
 use Rattle.osi_judge.specs.Transport.{Sent, ended, brought, sent_by, stage_from, sent_from}
 use Rattle.osi_judge.proofs.SideLaws.{few_by}
@@ -30,6 +30,7 @@ use Rattle.osi_judge.proofs.UnitLaws.{packet_octets}
 -- what a packet of so many octets adds to a TSDU
 abbrev IsShort : ℕ → Move → Type 0
 IsShort n (adds end octets) = length octets + 3 ≤ n
+IsShort n (hurries end octets) = length octets + 3 ≤ n
 IsShort n m = Unit {0}
 
 abbrev FoundUnits : Type 0
@@ -101,6 +102,16 @@ next_short octets (data2 destination number end user) vs h = tt
 next_short octets (acknowledge credit destination number) vs h = tt
 next_short octets (error destination cause) vs h = tt
 
+hasty_short : (octets : List ℕ) (v : Value) (vs : List Value) → AreUnits (v ∷ vs) octets → IsShort (length octets) (hasty_step v)
+hasty_short octets (data0 end user) vs h = data_short end user vs octets h
+hasty_short octets (request c) vs h = tt
+hasty_short octets (confirm destination c) vs h = tt
+hasty_short octets (disconnect destination source reason user) vs h = tt
+hasty_short octets (disconnected destination source) vs h = tt
+hasty_short octets (data2 destination number end user) vs h = tt
+hasty_short octets (acknowledge credit destination number) vs h = tt
+hasty_short octets (error destination cause) vs h = tt
+
 closing_short : (n destination source : ℕ) (v : Value) → IsShort n (closing_step destination source v)
 closing_short n destination source (disconnected d s) = either_short n ((d == source) && (s == destination)) refuses (stops NothingToAnswer) tt tt
 closing_short n destination source (request c) = tt
@@ -112,7 +123,7 @@ closing_short n destination source (acknowledge credit d number) = tt
 closing_short n destination source (error d cause) = tt
 
 later_short : (octets : List ℕ) (h : Handshake) (v : Value) (vs : List Value) → AreUnits (v ∷ vs) octets → IsShort (length octets) (later_step h v)
-later_short octets silent v vs u = misplaced_short (length octets) v
+later_short octets silent v vs u = hasty_short octets v vs u
 later_short octets agreed v vs u = next_short octets v vs u
 later_short octets (denied destination source) v vs u = closing_short (length octets) destination source v
 later_short octets asked v vs u = tt
@@ -162,6 +173,7 @@ move_keeps s at unit (opens reference) h = omega arith
 move_keeps s at unit refuses h = omega arith
 move_keeps s at unit ignores h = omega arith
 move_keeps s at unit (adds end octets) h = adds_keeps s at unit octets end (is_too_long s octets) h
+move_keeps s at unit (hurries end octets) h = adds_keeps s at unit octets end (is_too_long s octets) h
 move_keeps s at unit (stops stop) h = omega arith
 
 keeps_by : FoundUnits → (d : Direction) (h : Handshake) (s : Stage) (at : ℕ) (unit : List ℕ) → IsOctets unit

@@ -23,7 +23,7 @@ use Rattle.osi_judge.specs.Judging.{Watched, Keeps, WatchesBy, Watches}
 use Rattle.osi_judge.specs.Onward.{StandsFor, StandsBehind}
 use Rattle.osi_judge.specs.Walking.{Ever}
 use Rattle.osi_judge.specs.Transport.{Handshake, silent, asked, asked_again, agreed, denied, astray, first_unit, packet_length, met_before}
-use Rattle.osi_judge.specs.Transport.{Move, asks, opens, adds, refuses, ignores, stops, misplaced, asking_step, answering_step, has_asked, first_step, refused_step, step_of}
+use Rattle.osi_judge.specs.Transport.{Move, asks, opens, adds, hurries, refuses, ignores, stops, misplaced, asking_step, answering_step, has_asked, first_step, refused_step, step_of}
 use Rattle.osi_judge.specs.Transport.{given_by, reference_in, Stage, opening, asking, between, within, refused, stopped, moved, stage_behind}
 use Rattle.osi_judge.specs.Transport.{Sent, brought, sent_by, sent_from, ArePacketsOf, IsSent}
 use Rattle.osi_judge.specs.Tapping.{begin_of, heard, told, IsFoundIn, IsStoppedIn, IsReadIn, IsReferenceIn, IsPlaceIn, IsCountIn}
@@ -203,6 +203,7 @@ brings_none s at u (stops stop) h = refl
 brings_none s at u (asks reference) h = absurd h
 brings_none s at u (opens reference) h = absurd h
 brings_none s at u (adds end octets) h = absurd h
+brings_none s at u (hurries end octets) h = absurd h
 
 over_moved : (place at : ℕ) (m : Move) → IsLast m → IsOver (moved (refused place) at m)
 over_moved place at refuses h = tt
@@ -211,6 +212,7 @@ over_moved place at (stops stop) h = tt
 over_moved place at (asks reference) h = absurd h
 over_moved place at (opens reference) h = absurd h
 over_moved place at (adds end octets) h = absurd h
+over_moved place at (hurries end octets) h = absurd h
 
 over_sends : (d : Direction) (h : Handshake) (s : Stage) (at : ℕ) (u : List ℕ) → IsOver s → (sent_by d h s at u ≡ []) × IsOver (stage_behind d h s at u)
 over_sends d h (refused place) at u o =
@@ -236,6 +238,7 @@ ends_is_last ignores h = absurd h
 ends_is_last (asks reference) h = absurd h
 ends_is_last (opens reference) h = absurd h
 ends_is_last (adds end octets) h = absurd h
+ends_is_last (hurries end octets) h = absurd h
 
 ends_is_over : (s : Stage) (at : ℕ) (m : Move) → Ends m → IsOver (moved s at m)
 ends_is_over s at refuses h = tt
@@ -244,6 +247,7 @@ ends_is_over s at ignores h = absurd h
 ends_is_over s at (asks reference) h = absurd h
 ends_is_over s at (opens reference) h = absurd h
 ends_is_over s at (adds end octets) h = absurd h
+ends_is_over s at (hurries end octets) h = absurd h
 
 nameless_sends : (d : Direction) (met : ℕ → Handshake) (us : List (List ℕ)) → reference_in d us ≡ None → sent_from d met opening 0 us ≡ []
 nameless_sends d met [] h = refl

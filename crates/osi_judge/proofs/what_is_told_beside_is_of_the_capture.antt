@@ -15,8 +15,8 @@ use Rattle.osi_judge.specs.declared.stops.Stop.TheVariants.{NoOpening, OtherClas
 use Rattle.osi_judge.specs.Captures.{Capture}
 use Rattle.osi_judge.specs.Explaining.{Told}
 use Rattle.osi_judge.specs.Judging.{Watched, WatchesBy, Watches, FoundNext}
-use Rattle.osi_judge.specs.Transport.{Handshake, silent, asked, asked_again, agreed, denied, astray, first_unit, packet_length, Move, asks, opens, adds, refuses, ignores, stops}
-use Rattle.osi_judge.specs.Transport.{misplaced, next_step, asking_step, answering_step, has_asked, first_step, closing_step, later_step, refused_step, unit_step, step_of}
+use Rattle.osi_judge.specs.Transport.{Handshake, silent, asked, asked_again, agreed, denied, astray, first_unit, packet_length, Move, asks, opens, adds, hurries, refuses, ignores, stops}
+use Rattle.osi_judge.specs.Transport.{misplaced, next_step, asking_step, answering_step, has_asked, first_step, hasty_step, closing_step, later_step, refused_step, unit_step, step_of}
 use Rattle.osi_judge.specs.Transport.{given_by, reference_in, Stage, opening, asking, between, within, refused, stopped, is_too_long, added, moved, stage_behind}
 use Rattle.osi_judge.specs.Transport.{Sent, packets_length, last_packet, sent_by, stage_from}
 use Rattle.osi_judge.specs.Tapping.{heard, tell, told, IsPlace}
@@ -54,6 +54,16 @@ next_nameless (data2 destination number end user) = λ known. refl
 next_nameless (acknowledge credit destination number) = λ known. refl
 next_nameless (error destination cause) = λ known. refl
 
+hasty_nameless : (v : Value) → IsNameless (hasty_step v)
+hasty_nameless (request c) = λ known. refl
+hasty_nameless (confirm destination c) = λ known. refl
+hasty_nameless (disconnect destination source reason user) = λ known. refl
+hasty_nameless (disconnected destination source) = λ known. refl
+hasty_nameless (data0 end user) = λ known. refl
+hasty_nameless (data2 destination number end user) = λ known. refl
+hasty_nameless (acknowledge credit destination number) = λ known. refl
+hasty_nameless (error destination cause) = λ known. refl
+
 closing_nameless : (destination source : ℕ) (v : Value) → IsNameless (closing_step destination source v)
 closing_nameless destination source (disconnected d s) =
     either_nameless ((d == source) && (s == destination)) refuses (stops NothingToAnswer) (λ known. refl) (λ known. refl)
@@ -66,7 +76,7 @@ closing_nameless destination source (acknowledge credit d number) = λ known. re
 closing_nameless destination source (error d cause) = λ known. refl
 
 later_nameless : (h : Handshake) (v : Value) → IsNameless (later_step h v)
-later_nameless silent v = misplaced_nameless v
+later_nameless silent v = hasty_nameless v
 later_nameless agreed v = next_nameless v
 later_nameless (denied destination source) v = closing_nameless destination source v
 later_nameless asked v = λ known. refl
@@ -111,6 +121,7 @@ begun_moved s at refuses b = tt
 begun_moved s at ignores b = b refl
 begun_moved s at (stops stop) b = tt
 begun_moved s at (adds end octets) b = begun_added s at (is_too_long s octets) end octets
+begun_moved s at (hurries end octets) b = begun_added s at (is_too_long s octets) end octets
 
 -- the first packet is always judged
 abbrev IsJudged : Move → Type 0
@@ -185,6 +196,7 @@ named_first : (m : Move) → named None m ≡ given_by m
 named_first (asks reference) = refl
 named_first (opens reference) = refl
 named_first (adds end octets) = refl
+named_first (hurries end octets) = refl
 named_first refuses = refl
 named_first ignores = refl
 named_first (stops stop) = refl

@@ -18,6 +18,7 @@ use Rattle.osi_judge.specs.declared.lines.Half.{Half}
 use Rattle.osi_judge.specs.Explaining.{Told}
 use Rattle.osi_judge.specs.Judging.{Watched, Watches, FoundNext}
 use Rattle.osi_judge.specs.Sides.{watched}
+use Rattle.osi_judge.specs.Tapping.{or_hasty}
 use Rattle.osi_tpdu.specs.Packet.{units_of}
 use Rattle.osi_tpdu.specs.Value.{Value}
 use Rattle.osi_tpdu.specs.View.{value}
@@ -26,7 +27,7 @@ use Rattle.osi_tpdu.specs.declared.unit.Tpdu.{Tpdu}
 use Rattle.osi_judge.specs.declared.findings.Finding.{Finding}
 use Rattle.osi_judge.specs.declared.findings.Finding.TheVariants.{Kept}
 use Rattle.osi_judge.specs.Transport.{Handshake, silent, asked, asked_again, agreed, denied, astray, first_unit, shaken}
-use Rattle.osi_judge.specs.Transport.{Move, asks, opens, step_of, Stage, opening, asking, between, within, refused, stopped, stage_behind, Sent, sent_by}
+use Rattle.osi_judge.specs.Transport.{Move, asks, opens, step_of, Stage, opening, asking, between, within, refused, stopped, stage_behind, hasty_behind, Sent, sent_by}
 
 -- the first unit of a packet
 abbrev pub front : Result (Option Tpdu) TpduFault → Result (Option Value) TpduFault
@@ -50,8 +51,8 @@ stage_in (Refused at) octets = refused at
 stage_in (Stopped stop at) octets = stopped stop at
 
 -- The TSDUs of a side as far as they were read: the offset of the unfinished packet, how many of the other side's TSDUs had
--- passed before it, and how far that side had come; how far this side has come, and how it stands; and how many had passed
--- before the first packet of the unfinished TSDU. And how many packets were read, the reference of the CR or CC, and the
+-- passed before it, and how far that side had come; how far this side has come, and how it stands; the first packet with a DT
+-- before the connection was open; and how many had passed before the first packet of the unfinished TSDU. And how many packets were read, the reference of the CR or CC, and the
 -- packet that ended the TSDU at which the side broke the protocol.
 pub record Lined : Type 0 where
   pub at : ℕ
@@ -59,6 +60,7 @@ pub record Lined : Type 0 where
   pub met : Handshake
   pub handshake : Handshake
   pub stage : Stage
+  pub hasty : Option ℕ
   pub begun_since : ℕ
   pub packets : ℕ
   pub reference : Option ℕ
@@ -71,6 +73,7 @@ lined l = record {
   met = handshake_in l.met;
   handshake = handshake_in l.handshake;
   stage = stage_in l.progress l.begun.items;
+  hasty = l.hasty;
   begun_since = l.begun_since;
   packets = l.packets;
   reference = l.reference;
@@ -140,6 +143,7 @@ pub record TakesUnit (d : Direction) (unit : List ℕ) (since : ℕ) (h : Handsh
   pub at : new.at ≡ old.at
   pub handshake : new.handshake ≡ shaken old.handshake (first_unit (units_of unit))
   pub stage : new.stage ≡ stage_behind d h old.stage old.at unit
+  pub hasty : new.hasty ≡ hasty_behind d h old.stage old.hasty old.at unit
   pub begun_since : new.begun_since ≡ since_at old.stage old.begun_since since
   pub packets : new.packets ≡ old.packets
   pub reference : new.reference ≡ named_behind d h old.stage old.reference unit
@@ -155,6 +159,7 @@ pub record TakesPacket (d : Direction) (unit : List ℕ) (since : ℕ) (h : Hand
   pub met : new.line.met ≡ h
   pub handshake : new.line.handshake ≡ shaken old.line.handshake (first_unit (units_of unit))
   pub stage : new.line.stage ≡ stage_behind d h old.line.stage old.line.at unit
+  pub hasty : new.line.hasty ≡ hasty_behind d h old.line.stage old.line.hasty old.line.at unit
   pub begun_since : new.line.begun_since ≡ since_at old.line.stage old.line.begun_since since
   pub octets : new.octets ≡ old.octets
   pub packets : new.line.packets ≡ offset_of (old.line.packets + 1)
@@ -225,7 +230,7 @@ stopped_by (refused at) fault offset = Some (record { stop = Refusal; offset = a
 stopped_by stage fault offset = stopped_packet fault offset
 
 abbrev pub stopped_of : Tapped → Option StoppedAt
-stopped_of t = stopped_by t.line.stage t.fault t.line.at
+stopped_of t = or_hasty t.line.hasty (stopped_by t.line.stage t.fault t.line.at)
 
 -- by its session, or by its transport
 abbrev pub has_broken : Tapped → Bool

@@ -1,5 +1,5 @@
 -- What is known of a judge that was fed a capture.
-use Rattle.std.specs.Prelude.{◌≡◌, ◌≤◌, ◌<◌, ◌+◌, ◌-◌, ℕ, List, [], ◌∷◌, ◌++◌, length, Bool, true, false, Option, Some, None}
+use Rattle.std.specs.Prelude.{◌≡◌, ◌≤◌, ◌<◌, ◌+◌, ◌-◌, ℕ, List, [], ◌∷◌, ◌++◌, length, Bool, true, false, Option, Some, None, option_map}
 use Rattle.osi_tpkt.specs.Packet.{IsPartial, IsFaultOf}
 use Rattle.osi_tpkt.specs.Stream.{ArePackets, offset_of}
 use Rattle.osi_tpkt.specs.declared.faults.TpktFault.{TpktFault}
@@ -8,7 +8,7 @@ use Rattle.osi_judge.specs.declared.directions.Direction.TheVariants.{Left, Righ
 use Rattle.osi_judge.specs.declared.judge.Judge.{Judge}
 use Rattle.osi_judge.specs.declared.lines.Half.{Half}
 use Rattle.osi_judge.specs.Captures.{Capture, other, stream}
-use Rattle.osi_judge.specs.Transport.{silent, handshake_from, met_before, Stage, opening, asking, between, within, refused, stopped, begun, reference_in, Sent, stage_from, sent_from}
+use Rattle.osi_judge.specs.Transport.{silent, handshake_from, met_before, Stage, opening, asking, between, within, refused, stopped, begun, reference_in, Sent, stage_from, sent_from, hasty_from}
 use Rattle.osi_judge.specs.Tapping.{begin_of, had_passed, heard, told, IsPlace}
 use Rattle.osi_judge.specs.Feeding.{Tapped, tapped, has_broken}
 use Rattle.osi_judge.specs.Judging.{Watches}
@@ -76,6 +76,7 @@ pub record Follows (d : Direction) (capture : Capture) (t : Tapped) (units besid
   pub met : t.fault ≡ None → 0 < length rest → t.line.met ≡ met_before d capture beside (length (stream d capture) - length rest)
   pub sent : mine ≡ sent_from d (met_before d capture beside) opening 0 units
   pub stage : t.line.stage ≡ shown (stage_from d (met_before d capture beside) opening 0 units)
+  pub hasty : t.line.hasty ≡ option_map offset_of (hasty_from d (met_before d capture beside) opening None 0 units)
   pub since : t.fault ≡ None → 0 < length rest → t.line.since ≡ had_passed d capture (length (stream d capture) - length rest) others
   pub begun : IsSince d capture others (stage_from d (met_before d capture beside) opening 0 units) t.line.begun_since
   pub octets : t.octets ≡ offset_of (length (stream d capture))

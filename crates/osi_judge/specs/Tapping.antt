@@ -10,11 +10,11 @@ use Rattle.osi_tpkt.specs.Stream.{Cuts, Ending, offset_of}
 use Rattle.osi_tpkt.specs.Stream.Ending.{Faulty, Rest}
 use Rattle.osi_tpkt.specs.declared.faults.TpktFault.{TpktFault}
 use Rattle.osi_tpkt.specs.declared.faults.TpktFault.TheVariants.{BadVersion, BadLength, OutOfMemory}
-use Rattle.osi_judge.specs.declared.stops.Stop.TheVariants.{BadPacket, Refused}
+use Rattle.osi_judge.specs.declared.stops.Stop.TheVariants.{BadPacket, Refused, UnexpectedUnit}
 use Rattle.osi_judge.specs.declared.stops.Stopped.{Stopped as StoppedAt}
 use Rattle.osi_judge.specs.Stops.{breaks, broke_session}
 use Rattle.osi_judge.specs.Captures.{Capture, other, stream, passed_before}
-use Rattle.osi_judge.specs.Transport.{Stage, opening, refused, stopped, met_before, reference_in, Sent, packets_length, last_packet, stage_from, ArePacketsOf, IsSent}
+use Rattle.osi_judge.specs.Transport.{Stage, opening, refused, stopped, met_before, reference_in, Sent, packets_length, last_packet, stage_from, hasty_from, ArePacketsOf, IsSent}
 use Rattle.osi_judge.specs.Explaining.{Told, remarks, Explains}
 use Rattle.osi_judge.specs.Walking.{Ever}
 use Rattle.osi_judge.specs.Onward.{StandsBehind}
@@ -52,8 +52,9 @@ pub record IsFoundIn (d : Direction) (capture : Capture) (finding : Finding) : T
   pub is_others : IsSent (other d) capture others
   pub found : IsFound (begin_of d) (heard others) (told d capture mine others) finding
 
--- Where the transport of a side of a capture is not read any further: at a packet that has no place in class 0 after what
--- had passed before it, at a refusal, or at octets with which no packet begins.
+-- Where the transport of a side of a capture first broke its rules, or is not read any further: at a DT before the connection
+-- was open; at a packet that has no place in class 0 after what had passed before it; at a refusal; or at octets with which
+-- no packet begins.
 abbrev pub fault_offset : TpktFault → ℕ
 fault_offset (BadVersion at) = at
 fault_offset (BadLength at) = at
@@ -65,13 +66,19 @@ stop_in (refused at) ending = Some (record { stop = Refused; offset = offset_of 
 stop_in stage (Faulty fault) = Some (record { stop = BadPacket fault; offset = fault_offset fault })
 stop_in stage (Rest n) = None
 
+-- a DT before the connection was open comes before all that stops it
+abbrev pub or_hasty : Option ℕ → Option StoppedAt → Option StoppedAt
+or_hasty (Some packet) stop = Some (record { stop = UnexpectedUnit; offset = packet })
+or_hasty None stop = stop
+
 pub record IsStoppedIn (d : Direction) (capture : Capture) (result : Option StoppedAt) : Type 0 where
   pub units : List (List ℕ)
   pub ending : Ending
   pub cut : Cuts (stream d capture) units ending
   pub others : List (List ℕ)
   pub are_others : ArePacketsOf (other d) capture others
-  pub stops : result ≡ stop_in (stage_from d (met_before d capture others) opening 0 units) ending
+  pub stops : result ≡ or_hasty (option_map offset_of (hasty_from d (met_before d capture others) opening None 0 units))
+      (stop_in (stage_from d (met_before d capture others) opening 0 units) ending)
 
 -- ---- what is told beside it
 

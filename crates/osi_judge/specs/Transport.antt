@@ -12,7 +12,7 @@ use Rattle.osi_judge.specs.declared.directions.Direction.TheVariants.{Left, Righ
 use Rattle.osi_judge.specs.declared.stops.Stop.{Stop}
 use Rattle.osi_judge.specs.declared.stops.Stop.TheVariants.{NoOpening, OtherClass, MoreConnections, BadUnit, UnexpectedUnit, WrongForm, NothingToAnswer, TsduTooLong}
 use Rattle.osi_judge.specs.declared.steps.Step.{Step}
-use Rattle.osi_judge.specs.declared.steps.Step.TheVariants.{Asks, Opens, Adds, Refuses, Ignores, Stops}
+use Rattle.osi_judge.specs.declared.steps.Step.TheVariants.{Asks, Opens, Adds, Hurries, Refuses, Ignores, Stops}
 use Rattle.osi_judge.specs.Captures.{Capture, other, stream, passed_before}
 
 -- ---- what had passed of the other side
@@ -72,12 +72,13 @@ met_before d capture others k = handshake_from silent (complete_in (passed_befor
 
 -- ---- what a packet means
 
--- It has a CR or a CC, with the reference of its sender; it adds to a TSDU, and ends it or not; it is the last of a
--- connection that is refused; it is not judged; or nothing after it is looked at.
+-- It has a CR or a CC, with the reference of its sender; it adds to a TSDU, and ends it or not; it does so before the
+-- connection is open; it is the last of a connection that is refused; it is not judged; or nothing after it is looked at.
 pub data Move : Type 0 where
   asks : ℕ → Move
   opens : ℕ → Move
   adds : Bool → List ℕ → Move
+  hurries : Bool → List ℕ → Move
   refuses : Move
   ignores : Move
   stops : Stop → Move
@@ -86,6 +87,7 @@ abbrev pub step : Step → Move
 step (Asks reference) = asks reference
 step (Opens reference) = opens reference
 step (Adds end octets) = adds end octets.now
+step (Hurries end octets) = hurries end octets.now
 step Refuses = refuses
 step Ignores = ignores
 step (Stops stop) = stops stop
@@ -144,10 +146,15 @@ abbrev pub closing_step : (destination source : ℕ) → Value → Move
 closing_step destination source (disconnected d s) = if (d == source) && (s == destination) then refuses else stops NothingToAnswer
 closing_step destination source v = misplaced v
 
+-- a DT before the answer of right: a break, but right takes it once it has accepted the CR, which had passed before it
+abbrev pub hasty_step : Value → Move
+hasty_step (data0 end octets) = hurries end octets
+hasty_step v = misplaced v
+
 -- What left sends after its CR: DTs once the CC of right had passed, and a DC after its DR. Once right has strayed, left is
 -- not judged any further: an end may answer then what it would not answer else.
 abbrev pub later_step : Handshake → Value → Move
-later_step silent v = misplaced v
+later_step silent v = hasty_step v
 later_step agreed v = next_step v
 later_step (denied destination source) v = closing_step destination source v
 later_step h v = ignores
@@ -201,6 +208,7 @@ abbrev pub moved : Stage → ℕ → Move → Stage
 moved stage at (asks reference) = asking
 moved stage at (opens reference) = between
 moved stage at (adds end octets) = if is_too_long stage octets then stopped TsduTooLong at else added stage at end octets
+moved stage at (hurries end octets) = if is_too_long stage octets then stopped TsduTooLong at else added stage at end octets
 moved stage at refuses = refused at
 moved stage at ignores = stage
 moved stage at (stops stop) = stopped stop at
@@ -225,6 +233,7 @@ ended stage at unit true octets = record { octets = begun stage ++ octets; first
 
 abbrev pub brought : Stage → ℕ → List ℕ → Move → List Sent
 brought stage at unit (adds end octets) = if is_too_long stage octets then [] else ended stage at unit end octets
+brought stage at unit (hurries end octets) = if is_too_long stage octets then [] else ended stage at unit end octets
 brought stage at unit move = []
 
 -- the TSDU that a packet ends, if it ends one
@@ -242,6 +251,21 @@ abbrev pub sent_from : Direction → (met : ℕ → Handshake) → Stage → ℕ
 sent_from d met stage at [] = []
 sent_from d met stage at (u ∷ us) =
     sent_by d (met at) stage at u ++ sent_from d met (stage_behind d (met at) stage at u) (at + packet_length u) us
+
+-- the first packet with a DT before the connection was open
+abbrev pub noted : Option ℕ → ℕ → Move → Option ℕ
+noted (Some packet) at move = Some packet
+noted None at (hurries end octets) = Some at
+noted None at move = None
+
+abbrev pub hasty_behind : Direction → Handshake → Stage → Option ℕ → ℕ → List ℕ → Option ℕ
+hasty_behind d h (stopped stop packet) hasty at unit = hasty
+hasty_behind d h stage hasty at unit = noted hasty at (step_of d stage h (first_unit (units_of unit)))
+
+abbrev pub hasty_from : Direction → (met : ℕ → Handshake) → Stage → Option ℕ → ℕ → List (List ℕ) → Option ℕ
+hasty_from d met stage hasty at [] = hasty
+hasty_from d met stage hasty at (u ∷ us) =
+    hasty_from d met (stage_behind d (met at) stage at u) (hasty_behind d (met at) stage hasty at u) (at + packet_length u) us
 
 -- how many octets packets with these units have
 abbrev pub packets_length : List (List ℕ) → ℕ

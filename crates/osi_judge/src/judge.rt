@@ -183,7 +183,8 @@ impl Judge {
         self.half(direction).line.last
     }
 
-    /// Why and where the transport of a side is not read any further; `None` if it is.
+    /// Where the transport of a side broke its rules, or is not read any further, and why; `None` if neither. A side that
+    /// sent a DT before the connection was open broke the rules, and its TSDUs are still read: the other side takes them.
     pub fn stopped(&self, direction: Direction) -> Option<Stopped>
         ensures value { result ≡ stopped_of (half_of direction (judged self.now)) }
         ensures stopped { (capture : Capture) → Taps (judged self.now) capture → IsStoppedIn direction capture result }

@@ -13,14 +13,16 @@
 //!     rest = &rest[used..];
 //! }
 //! let finding = judge.finding(Direction::Left);        // kept the protocol, or broke it with its i-th TSDU
-//! let stopped = judge.stopped(Direction::Left);        // why its packets are not read any further
+//! let stopped = judge.stopped(Direction::Left);        // where its transport broke the rules, or is read no further
 //! let first = judge.first();                           // whose break passed first
 //! ```
 //!
 //! It reads one connection of class 0: a CR of left, a CC of right, and then DTs. A capture doesn't show when a side
 //! took what the other had sent. So a TSDU of the other side counts as taken or not, whichever helps the side that is
-//! judged; but only if its last octet had passed before the first octet of the packet in question. The judge doesn't
-//! look at references, nor at the size that a CC selects, nor whether a CC or a DT came too early.
+//! judged; but only if its last octet had passed before the first octet of the packet in question. Packets are judged
+//! in the same way: a DT of left is right if the CC had passed before it, a DR of right if a CR had, and a DC of left if
+//! a DR with its references had. The judge doesn't look at other references, nor at the size that a CC selects, nor
+//! whether the CR had passed before the CC.
 //!
 //! A [`Side`] is one side of a session by itself: you give it the TSDUs that it sent and those of the other side, in
 //! the order in which they passed. It keeps the states of all sessions that still explain what the side sent.

@@ -1,10 +1,10 @@
 //! What was read of one direction of a capture.
 
-ghost use Rattle.std.specs.Prelude.{◌≡◌, ◌≤◌, ◌<◌, ◌+◌, ◌++◌, ℕ, List, [], None, Some, false, IfOk, OnOk, OnErr, length, take};
+ghost use Rattle.std.specs.Prelude.{◌≡◌, ◌≤◌, ◌<◌, ◌+◌, ◌++◌, ℕ, Bool, List, [], None, Some, false, IfOk, OnOk, OnErr, length, take};
 ghost use Rattle.osi_tpkt.specs.Packet.{stated_length};
 ghost use Rattle.osi_tpkt.specs.Stream.{offset_of};
 ghost use Rattle.osi_judge.specs.Sides.{watched};
-ghost use Rattle.osi_judge.specs.Transport.{silent, opening, asking, between, refused, stopped, begun, added, moved, adds, brought, step as step_move};
+ghost use Rattle.osi_judge.specs.Transport.{silent, opening, asking, between, refused, stopped, begun, added, moved, adds, hurries, noted, brought, step as step_move};
 ghost use Rattle.osi_judge.specs.Feeding.{stage_in, handshake_in, lined, tapped, since_in, met_in, named, last_place, last_behind, Tells, hears, Passes};
 ghost use Rattle.osi_judge.specs.Feeding.{TakesUnit, Settles, Feeds, placed, stopped_packet, stopped_of, has_broken};
 
@@ -33,6 +33,8 @@ pub(crate) struct Line {
     /// How far this side has come.
     pub(crate) handshake: Handshake,
     pub(crate) progress: Progress,
+    /// The first packet with a DT before the connection was open.
+    pub(crate) hasty: Option<u64>,
     /// The octets of the unfinished TSDU.
     pub(crate) begun: Vec<u8>,
     /// How many of the other side's TSDUs had passed before its first packet.
@@ -58,7 +60,7 @@ pub(crate) struct Half {
 
 impl Line {
     fn new(alloc: Global) -> Line
-        ensures { lined result ≡ record { at = 0; since = 0; met = silent; handshake = silent; stage = opening; begun_since = 0; packets = 0; reference = None; last = 0 } }
+        ensures { lined result ≡ record { at = 0; since = 0; met = silent; handshake = silent; stage = opening; hasty = None; begun_since = 0; packets = 0; reference = None; last = 0 } }
     {
         Line {
             packets: 0,
@@ -67,6 +69,7 @@ impl Line {
             met: Handshake::Silent,
             handshake: Handshake::Silent,
             progress: Progress::Opening,
+            hasty: None,
             begun: Vec::new(alloc),
             begun_since: 0,
             reference: None,
@@ -109,6 +112,15 @@ impl Line {
         self.reference = Some(reference);
         self.begun_since = since;
         self.progress = Progress::Between;
+    }
+
+    /// The current packet has a DT before the connection is open.
+    fn note(&mut self)
+        ensures { (end : Bool) (octets : List ℕ) → lined self.new ≡ record (lined self.old) { hasty = noted (lined self.old).hasty (lined self.old).at (hurries end octets) } }
+    {
+        if self.hasty.is_none() {
+            self.hasty = Some(self.at);
+        }
     }
 
     /// The connection is refused by the current packet.
@@ -291,6 +303,7 @@ fn take_step(
 ) -> Result<(), AllocError>
     ensures line { (unit : List ℕ) → OnOk result (lined line.new ≡ record (lined line.old) {
       stage = moved (lined line.old).stage (lined line.old).at (step_move step.now);
+      hasty = noted (lined line.old).hasty (lined line.old).at (step_move step.now);
       begun_since = since;
       reference = named (lined line.old).reference (step_move step.now);
       last = last_behind (watched side.old).finding (brought (lined line.old).stage (lined line.old).at unit (step_move step.now)) (lined line.old).last;
@@ -321,6 +334,11 @@ fn take_step(
         }
         Step::Adds(end, octets) => {
             add(line, side, other, *end, octets, since)?;
+            Ok(())
+        }
+        Step::Hurries(end, octets) => {
+            add(line, side, other, *end, octets, since)?;
+            line.note();
             Ok(())
         }
     }
@@ -399,7 +417,7 @@ impl Half {
           held = [];
           octets = 0;
           fault = None;
-          line = record { at = 0; since = 0; met = silent; handshake = silent; stage = opening; begun_since = 0; packets = 0; reference = None; last = 0 };
+          line = record { at = 0; since = 0; met = silent; handshake = silent; stage = opening; hasty = None; begun_since = 0; packets = 0; reference = None; last = 0 };
           side = watched side;
         } }
     {
@@ -412,10 +430,16 @@ impl Half {
         }
     }
 
-    /// Why and where its transport is not read any further.
+    /// Where its transport first broke the rules, or is not read any further, and why.
     pub(crate) fn stopped(&self) -> Option<Stopped>
         ensures { result ≡ stopped_of (tapped self.now) }
     {
+        if let Some(offset) = self.line.hasty {
+            return Some(Stopped {
+                stop: Stop::UnexpectedUnit,
+                offset,
+            });
+        }
         match self.line.progress {
             Progress::Stopped(stop, offset) => Some(Stopped { stop, offset }),
             Progress::Refused(offset) => Some(Stopped {

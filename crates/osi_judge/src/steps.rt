@@ -6,7 +6,7 @@ ghost use Rattle.osi_class.specs.Negotiation.{proposes};
 ghost use Rattle.osi_tpdu.specs.View.{value, request_content};
 ghost use Rattle.osi_judge.specs.Feeding.{stage_in, handshake_in, front};
 ghost use Rattle.osi_judge.specs.Transport.{step, misplaced, next_step, asking_step, answering_step, first_step, closing_step};
-ghost use Rattle.osi_judge.specs.Transport.{later_step, refused_step, unit_step, step_of};
+ghost use Rattle.osi_judge.specs.Transport.{hasty_step, later_step, refused_step, unit_step, step_of};
 
 use crate::directions::Direction;
 use crate::handshakes::{First, Handshake};
@@ -23,6 +23,8 @@ pub(crate) enum Step<'a> {
     Opens(u16),
     /// It adds to a TSDU, and ends it or not.
     Adds(bool, &'a [u8]),
+    /// It adds to a TSDU, and ends it or not, before the connection is open.
+    Hurries(bool, &'a [u8]),
     /// It is the last of a connection that is refused.
     Refuses,
     /// It is not judged.
@@ -139,12 +141,22 @@ fn closing_unit<'a>(destination: u16, source: u16, unit: &Tpdu<'a>) -> Step<'a>
     }
 }
 
+/// A unit of left after its CR, before the answer of right.
+fn hasty_unit<'a>(unit: &Tpdu<'a>) -> Step<'a>
+    ensures { step result ≡ hasty_step (value unit.now) }
+{
+    match unit {
+        Tpdu::Dt0(data) => Step::Hurries(data.end, data.user),
+        _ => misplaced(unit),
+    }
+}
+
 /// A unit of left after its CR.
 fn later_unit<'a>(met: Handshake, unit: &Tpdu<'a>) -> Step<'a>
     ensures { step result ≡ later_step (handshake_in met) (value unit.now) }
 {
     match met {
-        Handshake::Silent => misplaced(unit),
+        Handshake::Silent => hasty_unit(unit),
         Handshake::Agreed => next_unit(unit),
         Handshake::Denied(destination, source) => closing_unit(destination, source, unit),
         Handshake::Asked | Handshake::AskedAgain | Handshake::Astray => Step::Ignores,

@@ -1,4 +1,4 @@
-//! Why the transport of a side is not read any further.
+//! Why the transport of a side broke its rules, or is not read any further.
 
 ghost use Rattle.std.specs.Prelude.{◌≡◌};
 ghost use Rattle.osi_judge.specs.Stops.{is_break, breaks};
@@ -6,7 +6,8 @@ ghost use Rattle.osi_judge.specs.Stops.{is_break, breaks};
 use osi_tpdu::TpduFault;
 use osi_tpkt::TpktFault;
 
-/// Why the packets of a side are not looked at any more. After this the side has no more TSDUs.
+/// Why the packets of a side are not looked at any more: after this the side has no more TSDUs, but for a DT of left that
+/// came before the answer to its CR.
 #[derive(Clone, Copy, PartialEq, Eq, Debug)]
 pub enum Stop {
     /// The first packet of left has no CR, or that of right no CC and no CR had passed before it: the capture begins in the
@@ -22,8 +23,8 @@ pub enum Stop {
     BadPacket(TpktFault),
     /// The units of a packet can't be read.
     BadUnit(TpduFault),
-    /// A unit that has no place there: after the CC of right a unit that is not a DT of class 0, before it one that
-    /// neither answers a CR nor refuses it, or one after a refusal (X.224 section 8).
+    /// A unit that has no place there: before the CC of right a DT, or any unit that neither accepts a CR nor refuses it;
+    /// after the CC a unit that is not a DT of class 0; or one after a refusal (X.224 section 8).
     UnexpectedUnit,
     /// A DR that refuses no CR: of left, after the CC of right, or after another DR.
     WrongForm,
@@ -47,7 +48,7 @@ impl Stop {
     }
 }
 
-/// Why and where the transport of a side is not read any further.
+/// Where the transport of a side broke its rules, or is not read any further, and why.
 #[derive(Clone, Copy, PartialEq, Eq, Debug)]
 pub struct Stopped {
     pub stop: Stop,

@@ -1,4 +1,4 @@
-use Rattle.std.proofs.Common.{◌∙◌, sym, ap, is_some}
+use Rattle.std.proofs.Common.{◌∙◌, sym, ap}
 use Rattle.osi_judge.specs.Following.{judged, half_of}
 use Rattle.osi_judge.specs.Stops.{broke_session}
 use Rattle.osi_judge.specs.declared.directions.Direction.TheVariants.{Right}
@@ -12,9 +12,9 @@ returns-then-is_refused-clause-told c =
     (sym (ap broke_session c.finding.ensures.value) ∙ sym c.is_blamed.ensures ∙ c.if-is_blamed.false)
     (sym (ap is_refused c.stopped.ensures.value) ∙ sym c.is_refused.ensures ∙ c.if-is_refused.true)
 
-pub returns-in-None-clause-told : goal.returns-in-None-clause-told
-returns-in-None-clause-told c =
+pub returns-then-is_unanswered-clause-told : goal.returns-then-is_unanswered-clause-told
+returns-then-is_unanswered-clause-told c =
     unanswered (half_of c.args.direction (judged c.args.judge.now)) (half_of Right (judged c.args.judge.now)) c.args.reference c.requires
     (sym (ap broke_session c.finding.ensures.value) ∙ sym c.is_blamed.ensures ∙ c.if-is_blamed.false)
     (sym (ap is_refused c.stopped.ensures.value) ∙ sym c.is_refused.ensures ∙ c.if-is_refused.false)
-    (ap is_some (sym c.in-None.ensures.value))
+    (sym c.is_unanswered.ensures ∙ c.if-is_unanswered.true)
