@@ -85,8 +85,8 @@ packet_stop : (d : Direction) (unit : List ℕ) (since : ℕ) (come : Handshake)
 packet_stop d unit since come t new o o2 n p h =
     hasty_still t.line.hasty new.line.hasty (stopped_by t.line.stage t.fault t.line.at) (stopped_by new.line.stage new.fault new.line.at)
     (λ a b k. ap (λ (x : Option TpktFault). breaks (stopped_by new.line.stage x new.line.at)) (p.fault ∙ n)
-        ∙ ap (λ (x : Stage). breaks (stopped_by x None new.line.at)) p.stage
-        ∙ stage_still d come t.line.stage t.line.at t.line.at new.line.at unit (no_fault t n k))
+    ∙ ap (λ (x : Stage). breaks (stopped_by x None new.line.at)) p.stage
+    ∙ stage_still d come t.line.stage t.line.at t.line.at new.line.at unit (no_fault t n k))
     (λ q e. p.hasty ∙ hasty_stays d come t.line.stage t.line.hasty t.line.at unit q e) h
 
 packet_still : (d : Direction) (unit : List ℕ) (since : ℕ) (come : Handshake) (t new : Tapped) (o o2 : Watched) → t.fault ≡ None
