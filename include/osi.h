@@ -640,7 +640,7 @@ typedef struct osi_judge {
 #define OSI_RULE_BAD_TOKENS 30u             /* it settles a token that the other side has settled */
 #define OSI_RULE_BAD_ENCLOSURE 31u          /* a part of data is out of its place */
 #define OSI_RULE_NO_FAULT 32u               /* it aborts for a protocol error that nobody made */
-#define OSI_RULE_NOTHING_TO_ANSWER 33u      /* AA without an AB */
+#define OSI_RULE_NOTHING_TO_ANSWER 33u      /* AA without an AB, or DC without a DR */
 #define OSI_RULE_OUTSIDE 34u                /* what this product leaves out */
 #define OSI_RULE_UNKNOWN_SI 40u             /* 40 to 46: the TSDU is no session units (X.225 section 8) */
 #define OSI_RULE_LENGTH_PAST_END 41u
@@ -649,10 +649,10 @@ typedef struct osi_judge {
 #define OSI_RULE_BAD_VALUE 44u
 #define OSI_RULE_BAD_CONCATENATION 45u
 #define OSI_RULE_TRAILING_OCTETS 46u
-#define OSI_RULE_NO_OPENING 50u             /* no break: the first packet has no CR, or no CC or DR */
+#define OSI_RULE_NO_OPENING 50u             /* no break: it begins in the middle of a connection */
 #define OSI_RULE_OTHER_CLASS 51u            /* no break: the connection is not of class 0 */
 #define OSI_RULE_MORE_CONNECTIONS 52u       /* no break: a second CR */
-#define OSI_RULE_REFUSED 53u                /* no break: a DR; it comes in no verdict */
+#define OSI_RULE_REFUSED 53u                /* no break: a refusal; it comes in no verdict */
 #define OSI_RULE_BAD_VERSION 54u            /* 54 and 55: no packet begins there (RFC 1006 section 6) */
 #define OSI_RULE_BAD_LENGTH 55u
 #define OSI_RULE_BAD_LI 56u                 /* 56 to 60: no transport unit (X.224 section 13) */
@@ -660,8 +660,8 @@ typedef struct osi_judge {
 #define OSI_RULE_BAD_TPDU_PARAMETER_LENGTH 58u
 #define OSI_RULE_BAD_TPDU_PARAMETER_VALUE 59u
 #define OSI_RULE_DUPLICATE_TPDU_PARAMETER 60u
-#define OSI_RULE_UNEXPECTED_UNIT 61u        /* a unit that is no DT of class 0 */
-#define OSI_RULE_WRONG_FORM 62u             /* a DR after the CC, which class 0 doesn't have */
+#define OSI_RULE_UNEXPECTED_UNIT 61u        /* a unit that has no place there, as data before the CC */
+#define OSI_RULE_WRONG_FORM 62u             /* a DR that refuses no CR */
 #define OSI_RULE_TSDU_TOO_LONG 63u          /* more than 1,048,576 octets */
 #define OSI_RULE_LIMIT 70u                  /* no break: more passed than a judge keeps */
 

@@ -630,7 +630,7 @@ enum class rule : std::uint32_t {
     bad_value = OSI_RULE_BAD_VALUE,
     bad_concatenation = OSI_RULE_BAD_CONCATENATION,
     trailing_octets = OSI_RULE_TRAILING_OCTETS,
-    no_opening = OSI_RULE_NO_OPENING,             /* no break: the first packet has no CR, or no CC or DR */
+    no_opening = OSI_RULE_NO_OPENING,             /* no break: it begins in the middle of a connection */
     other_class = OSI_RULE_OTHER_CLASS,           /* no break: the connection is not of class 0 */
     more_connections = OSI_RULE_MORE_CONNECTIONS, /* no break: a second CR */
     refused = OSI_RULE_REFUSED,                   /* in no verdict */

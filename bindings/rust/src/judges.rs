@@ -65,7 +65,7 @@ pub enum Rule {
     BadEnclosure = 31,
     /// It aborts for a protocol error that nobody made.
     NoFault = 32,
-    /// An AA, although no AB came.
+    /// An AA, although no AB came; or a DC, although no DR came.
     NothingToAnswer = 33,
     /// X.225 allows it, and this product leaves it out.
     Outside = 34,
@@ -83,13 +83,13 @@ pub enum Rule {
     BadConcatenation = 45,
     /// Octets are left after the last session unit.
     TrailingOctets = 46,
-    /// No break: the first packet has no CR, or no CC or DR. The capture begins in the middle of a connection.
+    /// No break: the capture begins in the middle of a connection. Its first packet has no CR.
     NoOpening = 50,
     /// No break: the connection is not of class 0.
     OtherClass = 51,
     /// No break: a second CR.
     MoreConnections = 52,
-    /// No break: a DR refuses the connection. It is in no verdict.
+    /// No break: the connection is refused. It is in no verdict.
     Refused = 53,
     /// No packet begins there: its version is not 3 (RFC 1006 section 6).
     BadVersion = 54,
@@ -105,9 +105,9 @@ pub enum Rule {
     BadTpduParameterValue = 59,
     /// A parameter of a transport unit occurs twice.
     DuplicateTpduParameter = 60,
-    /// A transport unit that is no DT of class 0.
+    /// A transport unit that has no place there, such as data before the CC.
     UnexpectedUnit = 61,
-    /// A DR after the CC, which class 0 doesn't have.
+    /// A DR that refuses no CR.
     WrongForm = 62,
     /// A TSDU of more than 1,048,576 octets.
     TsduTooLong = 63,

@@ -324,7 +324,7 @@ class Rule(IntEnum):
     NO_FAULT = 32
     """It aborts for a protocol error that nobody made."""
     NOTHING_TO_ANSWER = 33
-    """An AA, although no AB came."""
+    """An AA, although no AB came; or a DC, although no DR came."""
     OUTSIDE = 34
     """X.225 allows it, and this product leaves it out."""
     UNKNOWN_SI = 40
@@ -342,13 +342,13 @@ class Rule(IntEnum):
     TRAILING_OCTETS = 46
     """Octets are left after the last session unit."""
     NO_OPENING = 50
-    """No break: the first packet has no CR, or no CC or DR. The capture begins in the middle of a connection."""
+    """No break: the capture begins in the middle of a connection. Its first packet has no CR."""
     OTHER_CLASS = 51
     """No break: the connection is not of class 0."""
     MORE_CONNECTIONS = 52
     """No break: a second CR."""
     REFUSED = 53
-    """No break: a DR refuses the connection. It is in no verdict."""
+    """No break: the connection is refused. It is in no verdict."""
     BAD_VERSION = 54
     """No packet begins there: its version is not 3 (RFC 1006 section 6)."""
     BAD_LENGTH = 55
@@ -364,9 +364,9 @@ class Rule(IntEnum):
     DUPLICATE_TPDU_PARAMETER = 60
     """A parameter of a transport unit occurs twice."""
     UNEXPECTED_UNIT = 61
-    """A transport unit that is no DT of class 0."""
+    """A transport unit that has no place there, such as data before the CC."""
     WRONG_FORM = 62
-    """A DR after the CC, which class 0 doesn't have."""
+    """A DR that refuses no CR."""
     TSDU_TOO_LONG = 63
     """A TSDU of more than 1,048,576 octets."""
     LIMIT = 70
