@@ -13,7 +13,7 @@ returns-then-none_is_left-clause-watches c =
     let x : Told = record { octets = c.args.tsdu.now; before = c.args.before } in
     let new = c.in_ok-members.members.items in
     let none : new ≡ [] = nil_of new (ap is_empty (sym c.as_slice.ensures.value) ∙ sym c.none_is_left.ensures ∙ c.if-none_is_left.true) in
-    ends_ok c.end.result w (watched c.end.new.self) x new c.requires.order
+    ends_ok c.end.result w (watched c.end.new.self) x new c.requires.passed c.requires.order
     (gives_as w x new c.deref.result.now c.deref-2.result.now c.deref.ensures.value c.deref-2.ensures.value c.in_ok-members.ensures) none c.end.ensures.ends
 
 pub returns-then-opens_outside-clause-watches : goal.returns-then-opens_outside-clause-watches
