@@ -20,7 +20,7 @@ use Rattle.osi_dispute.specs.declared.verdicts.Connection.{Connection}
 use Rattle.osi_dispute.specs.declared.verdicts.Connection.TheVariants.{Session}
 use Rattle.osi_judge.specs.Stops.{breaks, broke_session}
 use Rattle.osi_judge.specs.Transport.{opening, reference_in, Sent, packets_length, last_packet, stage_from, IsSent}
-use Rattle.osi_judge.specs.Tapping.{IsReadIn, IsReferenceIn, IsStoppedIn, IsPlaceIn, IsCountIn, IsStandingIn, heard, stop_in}
+use Rattle.osi_judge.specs.Tapping.{IsReadIn, IsReferenceIn, IsStoppedIn, IsPlaceIn, IsCountIn, IsRuleIn, IsStandingIn, heard, stop_in}
 use Rattle.osi_dispute.specs.declared.verdicts.Told.{Told}
 use Rattle.osi_dispute.specs.declared.verdicts.Told.TheVariants as told
 use Rattle.osi_dispute.specs.declared.verdicts.Verdict.{Verdict}
@@ -30,7 +30,7 @@ use Rattle.osi_dispute.specs.Disputes.{IsJudgement}
 use Rattle.osi_dispute.specs.Texts.{verdict_text, verdict_status}
 use Rattle.osi_dispute.specs.Laws.{ChooseSame, SameChoices}
 use Rattle.osi_dispute.proofs.OneFinding.{HasOneList}
-use Rattle.osi_dispute.proofs.a_rule_tells_a_break_from_leaving.{HasOnePlace, same_found}
+use Rattle.osi_dispute.proofs.a_rule_tells_a_break_from_leaving.{HasOnePlace, one_rule, same_found}
 use Rattle.osi_dispute.proofs.OneText.{one_text}
 
 -- ---- of one side
@@ -88,7 +88,10 @@ pub record Same (f g : Facts) : Type 0 where
 
 alike : HasOneList → HasOnePlace → (d : Direction) (c : Capture) (f g : Facts) → AreFacts d c f → AreFacts d c g → ChooseSame f g → Same f g
 alike one place d c f g h k e =
-    let found = same_found one place d c f.found g.found f.members g.members f.by g.by h.found k.found h.rule k.rule e.judged e.by in
+    let found = same_found one place d c f.found g.found f.members g.members f.at g.at f.by g.by h.found k.found h.rule k.rule e.judged e.members e.at in
+    let rule = subst (λ (x : Finding). IsRuleIn d c g.members g.at x g.by) (sym found) k.rule in
+    let by = λ (x : broke_session f.found ≡ true).
+        one_rule one d c f.found f.members g.members f.at g.at f.by g.by h.found h.rule rule e.members (e.at x) x in
     let count = subst (λ (x : Finding). x ≡ Kept → IsCountIn d c g.count) (sym found) k.count in
     let offset = subst (λ (x : Finding). IsPlaceIn d c x g.offset) (sym found) k.offset in
     record {
@@ -97,7 +100,7 @@ alike one place d c f g h k e =
       stopped = one_stop d c f.stopped g.stopped h.stopped k.stopped;
       found = found;
       members = e.members;
-      told = one_told one d c f.found f.count g.count f.offset g.offset f.stands f.by g.by h.count count h.offset offset e.by
+      told = one_told one d c f.found f.count g.count f.offset g.offset f.stands f.by g.by h.count count h.offset offset by
           ∙ ap (λ (x : Finding). told_by x g.count g.offset f.stands g.by) found;
     }
 

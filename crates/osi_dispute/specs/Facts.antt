@@ -1,5 +1,5 @@
 -- What a verdict is made of: what is known of both sides of a capture, and what is told by it.
-use Rattle.std.specs.Prelude.{◌≡◌, ℕ, Bool, true, false, not, ◌&&◌, ◌||◌, is_some, List, Option, Some, None}
+use Rattle.std.specs.Prelude.{◌≡◌, ℕ, Bool, true, false, not, ◌&&◌, ◌||◌, is_some, List, [], Option, Some, None}
 use Rattle.osi_judge.specs.declared.directions.Direction.{Direction}
 use Rattle.osi_judge.specs.declared.directions.Direction.TheVariants.{Left, Right}
 use Rattle.osi_judge.specs.declared.findings.Finding.{Finding}
@@ -34,7 +34,8 @@ use Rattle.osi_dispute.specs.declared.verdicts.Verdict.{Verdict}
 
 -- What was read, the reference that it gave the connection, where its transport is looked at no further, what is found of it,
 -- how many TSDUs it sent, and in which packet the one ended at which it broke the protocol. The sessions that explain what it
--- sent, or what it sent before its break; by which of them it stands that kept the protocol, and by which rule it broke it.
+-- sent, or what it sent before the TSDU at which it broke the protocol, and before the unit of that TSDU (`at`); by which of
+-- them it stands that kept the protocol, and by which rule it broke it.
 pub record Facts : Type 0 where
   pub reading : Reading
   pub reference : Option ℕ
@@ -43,6 +44,7 @@ pub record Facts : Type 0 where
   pub count : ℕ
   pub offset : ℕ
   pub members : List Member
+  pub at : List Member
   pub stands : Stands
   pub by : Break
 
@@ -54,7 +56,7 @@ pub record AreFacts (d : Direction) (capture : Capture) (f : Facts) : Type 0 whe
   pub found : IsFoundIn d capture f.found
   pub count : f.found ≡ finding.Kept → IsCountIn d capture f.count
   pub offset : IsPlaceIn d capture f.found f.offset
-  pub rule : IsRuleIn d capture f.members f.found f.by
+  pub rule : IsRuleIn d capture f.members f.at f.found f.by
 
 -- by its session or by its transport
 abbrev pub is_broken : Facts → Bool
@@ -184,7 +186,7 @@ IsDetermined capture v = Determined capture v
 
 -- ---- what a judge knows
 
--- the facts of a side, by what is kept of it
+-- the facts of a side, by what is kept of it; the sessions before the unit at which it broke the protocol are not
 abbrev pub facts_of : Tapped → Stands → Facts
 facts_of t stands = record {
   reading = reading_of t;
@@ -194,6 +196,7 @@ facts_of t stands = record {
   count = t.side.told;
   offset = t.line.last;
   members = t.side.members;
+  at = [];
   stands = stands;
   by = t.side.by;
 }

@@ -13,12 +13,13 @@ IsDecided (Broke i) = Unit {0}
 IsDecided (Left i) = ⊥
 IsDecided TooMany = ⊥
 
--- What the definitions leave open of a side: whether there were too many sessions that explain it; which sessions are kept of
--- those that do, and in which order; and by which rule it broke the protocol, if it did. Two judgements choose the same there.
+-- What the definitions leave open of a side: whether there were too many sessions that explain it, and which sessions are kept of
+-- those that do, and in which order: those that explain what it sent, or what it sent before its break. Two judgements choose
+-- the same there.
 pub record ChooseSame (f g : Facts) : Type 0 where
   pub judged : is_judged f.found ≡ is_judged g.found
   pub members : f.members ≡ g.members
-  pub by : broke_session f.found ≡ true → f.by ≡ g.by
+  pub at : broke_session f.found ≡ true → f.at ≡ g.at
 
 -- They do so of both sides; and if both sides broke the protocol, they tell the same one as the first.
 pub record SameChoices (first second : Option Direction) (left right lefts rights : Facts) : Type 0 where

@@ -25,9 +25,8 @@ pub fn a_text_has_one_finding()
 }
 
 /// A capture has one verdict, and a text one judgement, but for what the definitions leave open. Of a side that is whether
-/// too many sessions explain it; which of the sessions that explain it are kept, and in which order; and by which rule it
-/// broke the protocol. If both sides broke it, it is also which was first. Judgements that choose the same there have the
-/// same lines and the same status.
+/// too many sessions explain it; and which of the sessions that explain it are kept, and in which order. If both sides broke
+/// the protocol, it is also which was first. Judgements that choose the same there have the same lines and the same status.
 pub fn a_text_has_one_judgement()
     ensures verdict { (capture : Capture) (v w : Verdict) (a : Determined capture v) (b : Determined capture w)
         → SameChoices a.first b.first a.left a.right b.left b.right → v ≡ w }

@@ -37,8 +37,9 @@ broke_heard w x told i k =
     (k.0, stands_heard w x told i k.0 k.1, breaks_heard w.heard x k.0.octets k.0.before w.members w.by k.1.passed k.2, k.3)
 
 left_heard : (w : Watched) (x : List ℕ) (told : List Told) (i : ℕ) → LeftBy w told i → LeftBy (record w { heard = w.heard ++ x ∷ [] }) told i
-left_heard w x told i (t, s, inl h) = (t, stands_heard w x told i t s, inl (breaks_heard w.heard x t.octets t.before w.members w.by s.passed h.0, h.1))
-left_heard w x told i (t, s, inr e) = (t, stands_heard w x told i t s, inr e)
+left_heard w x told i (t, s, inl (b, l, k)) =
+    (t, stands_heard w x told i t s, inl (breaks_heard w.heard x t.octets t.before w.members w.by s.passed b, l, (k.0, λ us e. k.1 us (extends_front us w.heard x e))))
+left_heard w x told i (t, s, inr (e, k)) = (t, stands_heard w x told i t s, inr (e, λ us h. k us (extends_front us w.heard x h)))
 
 heard_by : (f : Finding) (w : Watched) (x : List ℕ) (told : List Told) → WatchesBy f w told → WatchesBy f (record w { heard = w.heard ++ x ∷ [] }) told
 heard_by Kept w x told k = record {
@@ -128,7 +129,10 @@ broke_by_stays : (w : Watched) (told : List Told) (x : Told) (i : ℕ) → i < l
 broke_by_stays w told x i l k = (k.0, stood_stays w told x i k.0 l k.1, k.2, k.3)
 
 left_by_stays : (w : Watched) (told : List Told) (x : Told) (i : ℕ) → i < length told → LeftBy w told i → LeftBy w (told ++ x ∷ []) i
-left_by_stays w told x i l k = (k.0, stood_stays w told x i k.0 l k.1, k.2)
+left_by_stays w told x i l (t, s, inl (b, e, k)) = (t, stood_stays w told x i t l s, inl (b, e, broke_stays w.begin w.heard told x i k))
+left_by_stays w told x i l (t, s, inr (e, k)) =
+    let same = take_front told (x ∷ []) (i + 1) (omega arith) in
+    (t, stood_stays w told x i t l s, inr (e, λ us h. subst (λ (z : List Told). IsExplained w.begin us z) (sym same) (k us h)))
 
 stays_by : (f : Finding) (w : Watched) (told : List Told) (x : Told) → (f ≡ Kept → ⊥) → WatchesBy f w told → WatchesBy f w (told ++ x ∷ [])
 stays_by Kept w told x n k = absurd (n refl)
@@ -297,13 +301,22 @@ left_here w told x b p o z k =
       ),
     )
 
-pub leaves_as : (w n : Watched) (told : List Told) (x : Told) (b : Bool)
+pub leaves_as : (w n : Watched) (told : List Told) (x : Told) (new : List Member) (b : Bool) → w.before ≤ x.before → Gives w x new → is_empty new ≡ false
     → n ≡ record w { finding = Left w.told; by = selection_of x.before w.members }
     → x.before ≤ length w.heard → OpensBy w x b → b ≡ true → Keeps w told
     → Watches n (told ++ x ∷ [])
-leaves_as w n told x b e p o z k =
+leaves_as w n told x new b l g s e p o z k =
+    let m = length-append told (x ∷ []) in let c = k.count in
     let by = selection_of x.before w.members in
-    subst (λ (y : Watched). Watches y (told ++ x ∷ [])) (sym e) (left_here w told x b p o z k, (x, stands_here w (Left w.told) by told x p k, inr refl))
+    let whole = take_whole (told ++ x ∷ []) (w.told + 1) (omega arith) in
+    subst (λ (y : Watched). Watches y (told ++ x ∷ [])) (sym e) (
+      left_here w told x b p o z k,
+      (
+        x,
+        stands_here w (Left w.told) by told x p k,
+        inr (refl, λ us h. subst (λ (y : List Told). IsExplained w.begin us y) (sym whole) (explained_more w told x new us l g s k h)),
+      ),
+    )
 
 -- by something that no session sends
 left_broken : (begin : Seen) (heard : List (List ℕ)) (told : List Told) (i : ℕ) → BrokeFor begin heard told i → LeftFor begin heard told i
@@ -314,7 +327,8 @@ ends_by : (b : Bool) (w : Watched) (by : Break) (told : List Told) (x : Told) (n
     → BreaksAt w.heard x.octets x.before w.members by → x.before ≤ length w.heard → w.before ≤ x.before → Gives w x new → new ≡ [] → Keeps w told
     → WatchesBy (ended_at b w.told) (record w { finding = ended_at b w.told; by = by }) (told ++ x ∷ [])
 ends_by true w by told x new e h p l g z k =
-    (left_broken w.begin w.heard (told ++ x ∷ []) w.told (broke_here w told x new l g z k), (x, stands_here w (Left w.told) by told x p k, inl (h, e)))
+    let broke = broke_here w told x new l g z k in
+    (left_broken w.begin w.heard (told ++ x ∷ []) w.told broke, (x, stands_here w (Left w.told) by told x p k, inl (h, e, broke)))
 ends_by false w by told x new e h p l g z k = (broke_here w told x new l g z k, (x, stands_here w (Broke w.told) by told x p k, h, e))
 
 pub ends_as : (w n : Watched) (told : List Told) (x : Told) (new : List Member) → EndsAt x.octets x.before w n → x.before ≤ length w.heard

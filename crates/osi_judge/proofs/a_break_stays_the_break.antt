@@ -87,19 +87,19 @@ leads_heard : (heard : List (List ℕ)) (x : List ℕ) (octets before : ℕ) (me
     → Leads heard octets before members unit next → Leads (heard ++ x ∷ []) octets before members unit next
 leads_heard heard x octets before members next unit h = λ us more e b. h us more (extends_front us heard x e) b
 
-in_heard : (heard : List (List ℕ)) (x : List ℕ) (octets before : ℕ) (members : List Member) (units : Units) (by : Break) → before ≤ length heard
-    → BreaksIn heard octets before members units by → BreaksIn (heard ++ x ∷ []) octets before members units by
-in_heard heard x octets before members units by l (here m u us b h e) =
+in_heard : (heard : List (List ℕ)) (x : List ℕ) (octets before : ℕ) (members : List Member) (units : Units) (at : List Member) (by : Break)
+    → before ≤ length heard → BreaksIn heard octets before members units at by → BreaksIn (heard ++ x ∷ []) octets before members units at by
+in_heard heard x octets before members units at by l (here m u us b h e) =
     here m u us b (leads_heard heard x octets before m [] u h) (e ∙ same_break (a_unit u octets) heard x before m l)
-in_heard heard x octets before members units by l (last m u b e) = last m u b (e ∙ same_break (a_unit u octets) heard x before m l)
-in_heard heard x octets before members units by l (later m n u us b h s k) =
-    later m n u us b (leads_heard heard x octets before m n u h) s (in_heard heard x octets before n us b l k)
+in_heard heard x octets before members units at by l (last m u b e) = last m u b (e ∙ same_break (a_unit u octets) heard x before m l)
+in_heard heard x octets before members units at by l (later m n u us o b h s k) =
+    later m n u us o b (leads_heard heard x octets before m n u h) s (in_heard heard x octets before n us o b l k)
 
-read_heard : (heard : List (List ℕ)) (x : List ℕ) (octets before : ℕ) (members : List Member) (read : Result Units SpduFault) (by : Break)
-    → before ≤ length heard → BreaksAs heard octets before members read by → BreaksAs (heard ++ x ∷ []) octets before members read by
-read_heard heard x octets before members (Ok units) by l h = in_heard heard x octets before members (in_effect units) by l h
-read_heard heard x octets before members (Err fault) by l h = h ∙ same_break (unread fault) heard x before members l
+read_heard : (heard : List (List ℕ)) (x : List ℕ) (octets before : ℕ) (members : List Member) (read : Result Units SpduFault) (at : List Member)
+    (by : Break) → before ≤ length heard → BreaksAs heard octets before members read at by → BreaksAs (heard ++ x ∷ []) octets before members read at by
+read_heard heard x octets before members (Ok units) at by l h = in_heard heard x octets before members (in_effect units) at by l h
+read_heard heard x octets before members (Err fault) at by l h = (h.0, h.1 ∙ same_break (unread fault) heard x before members l)
 
 pub breaks_heard : (heard : List (List ℕ)) (x tsdu : List ℕ) (before : ℕ) (members : List Member) (by : Break) → before ≤ length heard
     → BreaksAt heard tsdu before members by → BreaksAt (heard ++ x ∷ []) tsdu before members by
-breaks_heard heard x tsdu before members by l h = read_heard heard x (length tsdu) before members (tsdu_at tsdu) by l h
+breaks_heard heard x tsdu before members by l h = (h.0, read_heard heard x (length tsdu) before members (tsdu_at tsdu) h.0 by l h.1)

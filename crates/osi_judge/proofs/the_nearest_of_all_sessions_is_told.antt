@@ -159,42 +159,49 @@ tried_next u us before all old new members i x l e n h =
 
 -- what breaks at the units that are left breaks at the whole
 abbrev pub Continues : List (List ℕ) → ℕ → ℕ → List Member → Units → List Member → Units → Type 0
-Continues heard octets before members whole now left = (by : Break) → BreaksIn heard octets before now left by → BreaksIn heard octets before members whole by
+Continues heard octets before members whole now left = (at : List Member) (by : Break) → BreaksIn heard octets before now left at by
+    → BreaksIn heard octets before members whole at by
 
 pub breaks_first : (heard : List (List ℕ)) (octets before : ℕ) (members now : List Member) (whole left : Units) → now ≡ members → left ≡ whole
     → Continues heard octets before members whole now left
-breaks_first heard octets before members now whole left e f = λ by h.
-    subst (λ (z : List Member). BreaksIn heard octets before z whole by) e (subst (λ (z : Units). BreaksIn heard octets before now z by) f h)
+breaks_first heard octets before members now whole left e f = λ at by h.
+    subst (λ (z : List Member). BreaksIn heard octets before z whole at by) e (subst (λ (z : Units). BreaksIn heard octets before now z at by) f h)
 
 pub breaks_later : (heard : List (List ℕ)) (octets before : ℕ) (members now next : List Member) (whole units left : Units) (first unit : Contents)
     → units ≡ unit ∷ left → Leads heard octets before now unit next → is_empty next ≡ false
     → Continues heard octets before members whole now (units ++ first ∷ []) → Continues heard octets before members whole next (left ++ first ∷ [])
-breaks_later heard octets before members now next whole units left first unit e l s k = λ by h.
-    k by (subst (λ (z : Units). BreaksIn heard octets before now (z ++ first ∷ []) by) (sym e) (later now next unit (left ++ first ∷ []) by l s h))
+breaks_later heard octets before members now next whole units left first unit e l s k = λ at by h.
+    k at by (subst (λ (z : Units). BreaksIn heard octets before now (z ++ first ∷ []) at by) (sym e) (later now next unit (left ++ first ∷ []) at by l s h))
 
 pub breaks_here : (heard : List (List ℕ)) (octets before : ℕ) (members now : List Member) (whole units left : Units) (first unit : Contents) (by : Break)
     → units ≡ unit ∷ left → Leads heard octets before now unit [] → by ≡ break_of (a_unit unit octets) heard before now
-    → Continues heard octets before members whole now (units ++ first ∷ []) → BreaksIn heard octets before members whole by
+    → Continues heard octets before members whole now (units ++ first ∷ []) → (at : List Member) × BreaksIn heard octets before members whole at by
 breaks_here heard octets before members now whole units left first unit by e l b k =
-    k by (subst (λ (z : Units). BreaksIn heard octets before now (z ++ first ∷ []) by) (sym e) (here now unit (left ++ first ∷ []) by l b))
+    (now, k now by (subst (λ (z : Units). BreaksIn heard octets before now (z ++ first ∷ []) now by) (sym e) (here now unit (left ++ first ∷ []) by l b)))
 
 pub breaks_last : (heard : List (List ℕ)) (octets before : ℕ) (members now : List Member) (whole units : Units) (first : Contents) (by : Break)
     → units ≡ [] → by ≡ break_of (a_unit first octets) heard before now
-    → Continues heard octets before members whole now (units ++ first ∷ []) → BreaksIn heard octets before members whole by
+    → Continues heard octets before members whole now (units ++ first ∷ []) → (at : List Member) × BreaksIn heard octets before members whole at by
 breaks_last heard octets before members now whole units first by e b k =
-    k by (subst (λ (z : Units). BreaksIn heard octets before now (z ++ first ∷ []) by) (sym e) (last now first by b))
+    (now, k now by (subst (λ (z : Units). BreaksIn heard octets before now (z ++ first ∷ []) now by) (sym e) (last now first by b)))
 
 pub breaks_last_ok : {E : Type 0} (r : Result Break E) (heard : List (List ℕ)) (octets before : ℕ) (members now deref : List Member) (whole units : Units)
     (first : Contents) → units ≡ [] → deref ≡ now → IfOk r (λ by. by ≡ break_of (a_unit first octets) heard before deref)
-    → Continues heard octets before members whole now (units ++ first ∷ []) → IfOk r (λ by. BreaksIn heard octets before members whole by)
+    → Continues heard octets before members whole now (units ++ first ∷ []) → IfOk r (λ by. (at : List Member) × BreaksIn heard octets before members whole at by)
 breaks_last_ok (Ok by) heard octets before members now deref whole units first e d b k =
     breaks_last heard octets before members now whole units first by e (b ∙ ap (break_of (a_unit first octets) heard before) d) k
 breaks_last_ok (Err x) heard octets before members now deref whole units first e d b k = tt
 
-pub breaks_as : (heard : List (List ℕ)) (octets before : ℕ) (members : List Member) (read : Result Units SpduFault) (units : Units) (by : Break)
-    → read ≡ Ok units → BreaksIn heard octets before members (in_effect units) by → BreaksAs heard octets before members read by
-breaks_as heard octets before members read units by e h = subst (λ (r : Result Units SpduFault). BreaksAs heard octets before members r by) (sym e) h
+pub breaks_as : {E : Type 0} (r : Result Break E) (heard : List (List ℕ)) (octets before : ℕ) (members : List Member) (read : Result Units SpduFault)
+    (units : Units) → read ≡ Ok units → IfOk r (λ by. (at : List Member) × BreaksIn heard octets before members (in_effect units) at by)
+    → IfOk r (λ by. (at : List Member) × BreaksAs heard octets before members read at by)
+breaks_as (Ok by) heard octets before members read units e h =
+    (h.0, subst (λ (r : Result Units SpduFault). BreaksAs heard octets before members r h.0 by) (sym e) h.1)
+breaks_as (Err x) heard octets before members read units e h = tt
 
-pub breaks_unread : (heard : List (List ℕ)) (octets before : ℕ) (members : List Member) (read : Result Units SpduFault) (fault : SpduFault) (by : Break)
-    → read ≡ Err fault → by ≡ break_of (unread fault) heard before members → BreaksAs heard octets before members read by
-breaks_unread heard octets before members read fault by e h = subst (λ (r : Result Units SpduFault). BreaksAs heard octets before members r by) (sym e) h
+pub breaks_unread : {E : Type 0} (r : Result Break E) (heard : List (List ℕ)) (octets before : ℕ) (members : List Member) (read : Result Units SpduFault)
+    (fault : SpduFault) → read ≡ Err fault → IfOk r (λ by. by ≡ break_of (unread fault) heard before members)
+    → IfOk r (λ by. (at : List Member) × BreaksAs heard octets before members read at by)
+breaks_unread (Ok by) heard octets before members read fault e h =
+    (members, subst (λ (r : Result Units SpduFault). BreaksAs heard octets before members r members by) (sym e) (refl, h))
+breaks_unread (Err x) heard octets before members read fault e h = tt

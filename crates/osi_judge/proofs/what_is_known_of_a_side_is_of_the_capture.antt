@@ -1,7 +1,7 @@
 -- How many TSDUs a side told, and how its session stands, is so in the capture; and a side without a reference told none.
 -- For the crate that writes what a judge found.
 use Rattle.std.proofs.Common.{◌≡◌, ◌∙◌, refl, sym, ap, subst, ℕ, ◌+◌, ◌==◌, Bool, true, false, if◌then◌else◌, List, [], ◌∷◌, ◌++◌}
-use Rattle.std.proofs.Common.{◌⊎◌, length, take, Option, Some, None, Result, Ok, Err}
+use Rattle.std.proofs.Common.{◌↔◌, inl, inr, length, take, Option, Some, None, Result, Ok, Err}
 use Rattle.std.proofs.lemmas.List.{append-nil}
 use Rattle.osi_tpkt.specs.Stream.{Cuts, Ending}
 use Rattle.osi_tpkt.proofs.Streams.{one_cut}
@@ -15,22 +15,20 @@ use Rattle.osi_judge.specs.declared.directions.Direction.TheVariants as side
 use Rattle.osi_judge.specs.declared.findings.Finding.{Finding}
 use Rattle.osi_judge.specs.declared.findings.Finding.TheVariants.{Kept, Broke, Left, TooMany}
 use Rattle.osi_judge.specs.declared.members.Member.{Member}
-use Rattle.osi_judge.specs.declared.rules.Break.{Break}
 use Rattle.osi_judge.specs.declared.standings.Stands.{Stands}
 use Rattle.osi_judge.specs.declared.stops.Stop.{Stop}
 use Rattle.osi_judge.specs.declared.stops.Stop.TheVariants.{NoOpening, OtherClass, Refused, BadUnit, UnexpectedUnit}
 use Rattle.osi_judge.specs.Captures.{Capture, other, stream}
-use Rattle.osi_judge.specs.Explaining.{Told, remarks, Explains}
-use Rattle.osi_judge.specs.Breaking.{BreaksAt, selection_of}
+use Rattle.osi_judge.specs.Explaining.{Told, remarks, Explains, IsExplained}
+use Rattle.osi_judge.specs.Breaking.{BreaksWith}
 use Rattle.osi_judge.specs.Foremost.{foremost}
 use Rattle.osi_judge.specs.Judging.{Watched, AreAll, Keeps, BrokeBy, LeftBy, WatchesBy, Watches}
-use Rattle.osi_judge.specs.Profiles.{leaves}
 use Rattle.osi_judge.specs.Onward.{StandsFor, StandsBehind}
 use Rattle.osi_judge.specs.Walking.{Ever}
 use Rattle.osi_judge.specs.Transport.{Move, opens, adds, stops, first_step, step_of, given_by, reference_in, Stage, opening, stopped}
 use Rattle.osi_judge.specs.Transport.{moved, Sent, brought, packet_length, sent_from, IsSent}
 use Rattle.osi_judge.specs.Tapping.{begin_of, heard, told, IsFoundIn, IsStoppedIn, IsReadIn, IsReferenceIn, IsPlaceIn, IsCountIn}
-use Rattle.osi_judge.specs.Tapping.{StandIn, IsStandingIn, IsBrokenBy, IsLeftBy, IsRuleIn, IsFirstIn}
+use Rattle.osi_judge.specs.Tapping.{StandIn, IsStandingIn, IsRuleIn, IsFirstIn}
 use Rattle.osi_judge.specs.Feeding.{Tapped, reading_of, stopped_of}
 use Rattle.osi_judge.specs.Following.{Follows, Judged, half_of, Taps, FirstIs}
 use Rattle.osi_judge.proofs.JudgeLaws.{is_sent, is_read, is_given, is_stopped, is_found, is_placed}
@@ -96,47 +94,64 @@ is_standing side.Right c j h e s k = standing_as side.Right c j.right j.left h.r
 
 -- ---- the rule by which a side broke the protocol
 
+-- some sessions before the unit at which the side broke the protocol
+abbrev pub HasRule : Direction → Capture → Tapped → Finding → Type 0
+HasRule d c t found = (at : List Member) × IsRuleIn d c t.side.members at found t.side.by
+
 broken_as : (d : Direction) (c : Capture) (t u : Tapped) (mine others : List Sent) (i : ℕ) → Follows d c t mine others
-    → Follows (other d) c u others mine → BrokeBy t.side (told d c mine others) i → IsBrokenBy d c t.side.members i t.side.by
-broken_as d c t u mine others i f g (x, s, b, l) = record {
+    → Follows (other d) c u others mine → BrokeBy t.side (told d c mine others) i → HasRule d c t (Broke i)
+broken_as d c t u mine others i f g (x, s, b, l) = (b.0, record {
   mine = mine;
   others = others;
   stand = stand_as d c t u mine others (take i (told d c mine others)) f g s.all;
   tsdu = x;
   is = s.is;
-  near = subst (λ (h : List (List ℕ)). BreaksAt h x.octets x.before t.side.members t.side.by) f.heard b;
+  near = subst (λ (h : List (List ℕ)). BreaksWith h x.octets x.before t.side.members b.0 t.side.by) f.heard b.1;
   breaks = l;
-}
+})
 
-left_rule : (us heard : List (List ℕ)) (x : Told) (members : List Member) (by : Break) → us ≡ heard
-    → ((BreaksAt us x.octets x.before members by × (leaves x.octets by ≡ true)) ⊎ (by ≡ selection_of x.before members))
-    → ((BreaksAt heard x.octets x.before members by × (leaves x.octets by ≡ true)) ⊎ (by ≡ selection_of x.before members))
-left_rule us heard x members by e k =
-    subst (λ (h : List (List ℕ)). (BreaksAt h x.octets x.before members by × (leaves x.octets by ≡ true)) ⊎ (by ≡ selection_of x.before members)) e k
+explained_in : (d : Direction) (c : Capture) (t : Tapped) (mine others : List Sent) (said : List Told) → Follows d c t mine others
+    → IsExplained t.side.begin t.side.heard said ↔ IsExplained (begin_of d) (heard others) said
+explained_in d c t mine others said f =
+    let a = f.begin in
+    let b = f.heard in
+    (subst (λ (p : Seen × List (List ℕ)). IsExplained p.0 p.1 said) (λ i. (a i, b i)),
+    subst (λ (p : Seen × List (List ℕ)). IsExplained p.0 p.1 said) (sym (λ i. (a i, b i))))
 
 left_as : (d : Direction) (c : Capture) (t u : Tapped) (mine others : List Sent) (i : ℕ) → Follows d c t mine others
-    → Follows (other d) c u others mine → LeftBy t.side (told d c mine others) i → IsLeftBy d c t.side.members i t.side.by
-left_as d c t u mine others i f g (x, s, b) = record {
+    → Follows (other d) c u others mine → LeftBy t.side (told d c mine others) i → HasRule d c t (Left i)
+left_as d c t u mine others i f g (x, s, inl (b, l, k)) = (b.0, record {
   mine = mine;
   others = others;
   stand = stand_as d c t u mine others (take i (told d c mine others)) f g s.all;
   tsdu = x;
   is = s.is;
-  near = left_rule t.side.heard (heard others) x t.side.members t.side.by f.heard b;
-}
+  near = inl (
+    subst (λ (h : List (List ℕ)). BreaksWith h x.octets x.before t.side.members b.0 t.side.by) f.heard b.1,
+    l,
+    λ e. (k.1 t.side.heard (λ j p. refl)).1 ((explained_in d c t mine others (take (i + 1) (told d c mine others)) f).1 e),
+  );
+})
+left_as d c t u mine others i f g (x, s, inr (b, k)) = ([], record {
+  mine = mine;
+  others = others;
+  stand = stand_as d c t u mine others (take i (told d c mine others)) f g s.all;
+  tsdu = x;
+  is = s.is;
+  near = inr (b, (explained_in d c t mine others (take (i + 1) (told d c mine others)) f).0 (k t.side.heard (λ j p. refl)));
+})
 
 rule_by : (found : Finding) (d : Direction) (c : Capture) (t u : Tapped) (mine others : List Sent) → Follows d c t mine others
-    → Follows (other d) c u others mine → WatchesBy found t.side (told d c mine others) → IsRuleIn d c t.side.members found t.side.by
-rule_by Kept d c t u mine others f g k = tt
+    → Follows (other d) c u others mine → WatchesBy found t.side (told d c mine others) → HasRule d c t found
+rule_by Kept d c t u mine others f g k = ([], tt)
 rule_by (Broke i) d c t u mine others f g k = broken_as d c t u mine others i f g k.1
 rule_by (Left i) d c t u mine others f g k = left_as d c t u mine others i f g k.1
-rule_by TooMany d c t u mine others f g k = tt
+rule_by TooMany d c t u mine others f g k = ([], tt)
 
 -- what is known of the rule by which a side broke the protocol
-pub is_rule : (d : Direction) (c : Capture) (j : Judged) → Taps j c
-    → IsRuleIn d c (half_of d j).side.members (half_of d j).side.finding (half_of d j).side.by
-is_rule side.Left c j h = rule_by j.left.side.finding side.Left c j.left j.right h.left h.right h.of_left h.of_right h.of_left.watches
-is_rule side.Right c j h = rule_by j.right.side.finding side.Right c j.right j.left h.right h.left h.of_right h.of_left h.of_right.watches
+pub has_rule : (d : Direction) (c : Capture) (j : Judged) → Taps j c → HasRule d c (half_of d j) (half_of d j).side.finding
+has_rule side.Left c j h = rule_by j.left.side.finding side.Left c j.left j.right h.left h.right h.of_left h.of_right h.of_left.watches
+has_rule side.Right c j h = rule_by j.right.side.finding side.Right c j.right j.left h.right h.left h.of_right h.of_left h.of_right.watches
 
 -- ---- what is known of a side
 
@@ -147,7 +162,7 @@ pub record KnownIn (d : Direction) (c : Capture) (t : Tapped) : Type 0 where
   pub found : IsFoundIn d c t.side.finding
   pub count : t.side.finding ≡ Kept → IsCountIn d c t.side.told
   pub place : IsPlaceIn d c t.side.finding t.line.last
-  pub rule : IsRuleIn d c t.side.members t.side.finding t.side.by
+  pub rule : HasRule d c t t.side.finding
 
 pub known_in : (d : Direction) (c : Capture) (j : Judged) → Taps j c → KnownIn d c (half_of d j)
 known_in d c j h = record {
@@ -157,7 +172,7 @@ known_in d c j h = record {
   found = is_found d c j h;
   count = λ e. is_counted d c j h e (half_of d j).side.told (λ said k f. count_kept (half_of d j).side said k f);
   place = is_placed d c j h;
-  rule = is_rule d c j h;
+  rule = has_rule d c j h;
 }
 
 -- ---- a side without a reference

@@ -28,30 +28,34 @@ LeavesBehind heard octets before members unit (behind.Members next) = Leads hear
 LeavesBehind heard octets before members unit (behind.Break by) =
     Leads heard octets before members unit [] × (by ≡ break_of (a_unit unit octets) heard before members)
 
--- The break within these units of a TSDU of so many octets, before which `before` TSDUs had passed.
-pub data BreaksIn (heard : List (List ℕ)) (octets before : ℕ) : List Member → Units → Break → Type 0 where
+-- The break within these units of a TSDU of so many octets, before which `before` TSDUs had passed: from the sessions that
+-- explain what was sent before these units, to those that explain what was sent before the unit that no session sends.
+pub data BreaksIn (heard : List (List ℕ)) (octets before : ℕ) : List Member → Units → List Member → Break → Type 0 where
   -- no session sends this one
   here : (members : List Member) (unit : Contents) (units : Units) (by : Break) → Leads heard octets before members unit []
-      → by ≡ break_of (a_unit unit octets) heard before members → BreaksIn heard octets before members (unit ∷ units) by
+      → by ≡ break_of (a_unit unit octets) heard before members → BreaksIn heard octets before members (unit ∷ units) members by
   -- it is the only one that is left
   last : (members : List Member) (unit : Contents) (by : Break) → by ≡ break_of (a_unit unit octets) heard before members
-      → BreaksIn heard octets before members (unit ∷ []) by
+      → BreaksIn heard octets before members (unit ∷ []) members by
   -- some send this one
-  later : (members next : List Member) (unit : Contents) (units : Units) (by : Break) → Leads heard octets before members unit next
-      → is_empty next ≡ false → BreaksIn heard octets before next units by → BreaksIn heard octets before members (unit ∷ units) by
+  later : (members next : List Member) (unit : Contents) (units : Units) (at : List Member) (by : Break) → Leads heard octets before members unit next
+      → is_empty next ≡ false → BreaksIn heard octets before next units at by → BreaksIn heard octets before members (unit ∷ units) at by
 
 -- the units of a TSDU in the order in which they take effect: the first one last
 abbrev pub in_effect : Units → Units
 in_effect [] = []
 in_effect (unit ∷ units) = units ++ unit ∷ []
 
-abbrev pub BreaksAs : (heard : List (List ℕ)) → (octets before : ℕ) → List Member → Result Units SpduFault → Break → Type 0
-BreaksAs heard octets before members (Ok units) by = BreaksIn heard octets before members (in_effect units) by
-BreaksAs heard octets before members (Err fault) by = by ≡ break_of (unread fault) heard before members
+abbrev pub BreaksAs : (heard : List (List ℕ)) → (octets before : ℕ) → List Member → Result Units SpduFault → (at : List Member) → Break → Type 0
+BreaksAs heard octets before members (Ok units) at by = BreaksIn heard octets before members (in_effect units) at by
+BreaksAs heard octets before members (Err fault) at by = (at ≡ members) × (by ≡ break_of (unread fault) heard before members)
 
 -- the break at a TSDU, of a side that these members explain up to there
+abbrev pub BreaksWith : (heard : List (List ℕ)) → (tsdu : List ℕ) → (before : ℕ) → List Member → (at : List Member) → Break → Type 0
+BreaksWith heard tsdu before members at by = BreaksAs heard (length tsdu) before members (tsdu_at tsdu) at by
+
 abbrev pub BreaksAt : (heard : List (List ℕ)) → (tsdu : List ℕ) → (before : ℕ) → List Member → Break → Type 0
-BreaksAt heard tsdu before members by = BreaksAs heard (length tsdu) before members (tsdu_at tsdu) by
+BreaksAt heard tsdu before members by = (at : List Member) × BreaksWith heard tsdu before members at by
 
 -- an AC that selects what the profile leaves out: by the foremost of these members
 abbrev pub selection_of : (before : ℕ) → List Member → Break

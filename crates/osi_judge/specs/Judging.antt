@@ -59,6 +59,10 @@ pub record Keeps (w : Watched) (told : List Told) : Type 0 where
   pub few : length w.members ≤ 4096
   pub inside : (us : List (List ℕ)) → Extends us w.heard → selects_outside us told ≡ false
 
+-- it is explained up to its i-th TSDU and with it
+abbrev pub ExplainedFor : Seen → List (List ℕ) → List Told → ℕ → Type 0
+ExplainedFor begin heard told i = (us : List (List ℕ)) → Extends us heard → IsExplained begin us (take (i + 1) told)
+
 -- the i-th TSDU of a side, and the sessions that explain those before it
 pub record StandsBefore (w : Watched) (told : List Told) (i : ℕ) (tsdu : Told) : Type 0 where
   pub is : tsdu ≡ get_or told i tsdu
@@ -74,7 +78,8 @@ BrokeBy w told i = (tsdu : Told) × StandsBefore w told i tsdu × BreaksAt w.hea
 -- It is outside of the profile; or the side selects what the profile leaves out.
 abbrev pub LeftBy : Watched → List Told → ℕ → Type 0
 LeftBy w told i = (tsdu : Told) × StandsBefore w told i tsdu
-    × ((BreaksAt w.heard tsdu.octets tsdu.before w.members w.by × (leaves tsdu.octets w.by ≡ true)) ⊎ (w.by ≡ selection_of tsdu.before w.members))
+    × ((BreaksAt w.heard tsdu.octets tsdu.before w.members w.by × (leaves tsdu.octets w.by ≡ true) × BrokeFor w.begin w.heard told i)
+      ⊎ ((w.by ≡ selection_of tsdu.before w.members) × ExplainedFor w.begin w.heard told i))
 
 -- This is what is known of a side that sent this, by what was found.
 abbrev pub WatchesBy : Finding → Watched → List Told → Type 0

@@ -1,5 +1,5 @@
 -- What is judged of a capture: each side by its TSDUs, and by those of the other that had passed before them.
-use Rattle.std.specs.Prelude.{◌≡◌, ◌⊎◌, ℕ, ◌-◌, List, ◌++◌, take, get_or, length, map, filter, nat_le, Bool, true, false, ◌||◌, Option, Some, None, option_map}
+use Rattle.std.specs.Prelude.{◌≡◌, ◌⊎◌, ℕ, ◌+◌, ◌-◌, List, ◌++◌, take, get_or, length, map, filter, nat_le, Bool, true, false, ◌||◌, Option, Some, None, option_map}
 use Rattle.osi_session.specs.Standing.{Seen, seen_calling, seen_called}
 use Rattle.osi_judge.specs.declared.directions.Direction.{Direction}
 use Rattle.osi_judge.specs.declared.directions.Direction.TheVariants.{Left, Right}
@@ -15,9 +15,9 @@ use Rattle.osi_judge.specs.declared.stops.Stopped.{Stopped as StoppedAt}
 use Rattle.osi_judge.specs.Stops.{breaks, broke_session}
 use Rattle.osi_judge.specs.Captures.{Capture, other, stream, passed_before}
 use Rattle.osi_judge.specs.Transport.{Stage, opening, stopped, reference_in, Sent, packets_length, last_packet, stage_from, IsSent}
-use Rattle.osi_judge.specs.Explaining.{Told, remarks, Explains}
+use Rattle.osi_judge.specs.Explaining.{Told, remarks, Explains, IsExplained}
 use Rattle.osi_judge.specs.Walking.{Ever}
-use Rattle.osi_judge.specs.Breaking.{BreaksAt, selection_of}
+use Rattle.osi_judge.specs.Breaking.{BreaksWith, selection_of}
 use Rattle.osi_judge.specs.Foremost.{foremost}
 use Rattle.osi_judge.specs.Onward.{StandsBehind}
 use Rattle.osi_judge.specs.Profiles.{leaves}
@@ -129,29 +129,31 @@ pub record IsStandingIn (d : Direction) (capture : Capture) (members : List Memb
   pub behind : StandsBehind (heard others) (foremost members) s
 
 -- The rule by which a side of a capture broke the protocol with its i-th TSDU: that of the one that came nearest, of the
--- sessions that explain what it sent before.
-pub record IsBrokenBy (d : Direction) (capture : Capture) (members : List Member) (i : ℕ) (by : Break) : Type 0 where
+-- sessions that explain what it sent before: `members` before the TSDU, `at` before the unit that no session sends.
+pub record IsBrokenBy (d : Direction) (capture : Capture) (members at : List Member) (i : ℕ) (by : Break) : Type 0 where
   pub mine : List Sent
   pub others : List Sent
   pub stand : StandIn d capture mine others (take i (told d capture mine others)) members
   pub tsdu : Told
   pub is : tsdu ≡ get_or (told d capture mine others) i tsdu
-  pub near : BreaksAt (heard others) tsdu.octets tsdu.before members by
+  pub near : BreaksWith (heard others) tsdu.octets tsdu.before members at by
   pub breaks : leaves tsdu.octets by ≡ false
 
 -- or left the profile
-pub record IsLeftBy (d : Direction) (capture : Capture) (members : List Member) (i : ℕ) (by : Break) : Type 0 where
+pub record IsLeftBy (d : Direction) (capture : Capture) (members at : List Member) (i : ℕ) (by : Break) : Type 0 where
   pub mine : List Sent
   pub others : List Sent
   pub stand : StandIn d capture mine others (take i (told d capture mine others)) members
   pub tsdu : Told
   pub is : tsdu ≡ get_or (told d capture mine others) i tsdu
-  pub near : (BreaksAt (heard others) tsdu.octets tsdu.before members by × (leaves tsdu.octets by ≡ true)) ⊎ (by ≡ selection_of tsdu.before members)
+  pub near : (BreaksWith (heard others) tsdu.octets tsdu.before members at by × (leaves tsdu.octets by ≡ true)
+      × (IsExplained (begin_of d) (heard others) (take (i + 1) (told d capture mine others)) → ⊥))
+    ⊎ ((by ≡ selection_of tsdu.before members) × IsExplained (begin_of d) (heard others) (take (i + 1) (told d capture mine others)))
 
-abbrev pub IsRuleIn : Direction → Capture → List Member → Finding → Break → Type 0
-IsRuleIn d capture members (outcome.Broke i) by = IsBrokenBy d capture members i by
-IsRuleIn d capture members (outcome.Left i) by = IsLeftBy d capture members i by
-IsRuleIn d capture members found by = Unit {0}
+abbrev pub IsRuleIn : Direction → Capture → (members at : List Member) → Finding → Break → Type 0
+IsRuleIn d capture members at (outcome.Broke i) by = IsBrokenBy d capture members at i by
+IsRuleIn d capture members at (outcome.Left i) by = IsLeftBy d capture members at i by
+IsRuleIn d capture members at found by = Unit {0}
 
 -- ---- the first break
 

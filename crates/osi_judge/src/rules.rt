@@ -1,9 +1,10 @@
 //! Which session came nearest to what its side sent, and why it may not send it.
 
-ghost use Rattle.std.specs.Prelude.{◌≡◌, ◌≤◌, IfOk, length};
+ghost use Rattle.std.specs.Prelude.{◌≡◌, ◌≤◌, IfOk, List, length};
 ghost use Rattle.std.specs.List.{fold};
 ghost use Rattle.osi_spdu.specs.Groups.{units_of};
 ghost use Rattle.osi_spdu.specs.Units.{said_by};
+ghost use Rattle.osi_judge.specs.declared.members.Member.{Member};
 ghost use Rattle.osi_judge.specs.Breaking.{LeavesBehind, BreaksIn, BreaksAt, in_effect, selection_of};
 ghost use Rattle.osi_judge.specs.Nearest.{call_place, place, is_nearer, a_unit, unsaid, kind_in, rule_for, tried, reached, far, nearest, break_of};
 
@@ -245,7 +246,7 @@ fn break_in(
     members: &[Member],
 ) -> Result<Break, AllocError>
     requires { before ≤ length heard.now }
-    ensures { IfOk result (λ by. BreaksIn heard.now octets before members.now (in_effect (units_of group.now)) by) }
+    ensures { IfOk result (λ by. (at : List Member) × BreaksIn heard.now octets before members.now (in_effect (units_of group.now)) at by) }
 {
     let first = *group.first();
     let mut behind = group.behind();
