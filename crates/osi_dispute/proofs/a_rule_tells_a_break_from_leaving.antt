@@ -157,7 +157,7 @@ broke_or_left : HasOneList → (d : Direction) (c : Capture) (m n at o : List Me
 broke_or_left one d c m n at o i b e f g h k p q =
     let s = one_strays one d c i (broke_at one d c m at i b f h) (left_at one d c n o i e g k) in
     let said = same_told d c h.mine h.others f.mine f.others (one d c h.mine f.mine h.stand.is_mine f.is_mine)
-        (one (other d) c h.others f.others h.stand.is_others f.is_others) in
+    (one (other d) c h.others f.others h.stand.is_others f.is_others) in
     let us = ap heard (one (other d) c h.others f.others h.stand.is_others f.is_others) in
     left_broken d (heard h.others) (heard k.others) (told d c h.mine h.others) (told d c k.mine k.others) i h.tsdu k.tsdu m n at o b e s.0 s.1 s.2 p q
     h.near h.breaks

@@ -91,7 +91,7 @@ alike one place d c f g h k e =
     let found = same_found one place d c f.found g.found f.members g.members f.at g.at f.by g.by h.found k.found h.rule k.rule e.judged e.members e.at in
     let rule = subst (λ (x : Finding). IsRuleIn d c g.members g.at x g.by) (sym found) k.rule in
     let by = λ (x : broke_session f.found ≡ true).
-        one_rule one d c f.found f.members g.members f.at g.at f.by g.by h.found h.rule rule e.members (e.at x) x in
+    one_rule one d c f.found f.members g.members f.at g.at f.by g.by h.found h.rule rule e.members (e.at x) x in
     let count = subst (λ (x : Finding). x ≡ Kept → IsCountIn d c g.count) (sym found) k.count in
     let offset = subst (λ (x : Finding). IsPlaceIn d c x g.offset) (sym found) k.offset in
     record {
@@ -195,9 +195,9 @@ stands_same : HasOneList → (c : Capture) (first : Option Direction) (m s : Fac
     → verdict_by first (standing_by m x) (standing_by s y) ≡ verdict_by first m s
 stands_same one c first m s x y h k p q =
     let left = one_connection one side.Left c m.members (left_first first side.Right s.found) m.reference (broke_session m.found) (is_refused s.stopped)
-        (is_some s.reference) m.found m.count m.offset x m.stands m.by h k in
+    (is_some s.reference) m.found m.count m.offset x m.stands m.by h k in
     let right = one_connection one side.Right c s.members (left_first first side.Left m.found) s.reference (broke_session s.found) (is_refused s.stopped)
-        (is_some s.reference) s.found s.count s.offset y s.stands s.by p q in
+    (is_some s.reference) s.found s.count s.offset y s.stands s.by p q in
     λ i. record {
       left = record { reading = m.reading; connection = left i; stopped = m.stopped };
       right = record { reading = s.reading; connection = right i; stopped = s.stopped };
@@ -212,9 +212,9 @@ one_verdict one place c v w a b e =
     let l = alike one place side.Left c a.left b.left h.of_left k.of_left e.of_left in
     let r = alike one place side.Right c a.right b.right h.of_right k.of_right e.of_right in
     let first = one_first a.first b.first a.left a.right b.left b.right h.first_of k.first_of (same_broken a.left b.left l)
-        (same_broken a.right b.right r) e.of_first in
+    (same_broken a.right b.right r) e.of_first in
     let one_side = h.tells ∙ verdicts_same a.first a.left a.right b.left b.right l r
-        ∙ ap (λ (x : Option Direction). verdict_by x (standing_by b.left a.left.stands) (standing_by b.right a.right.stands)) first in
+    ∙ ap (λ (x : Option Direction). verdict_by x (standing_by b.left a.left.stands) (standing_by b.right a.right.stands)) first in
     one_side ∙ stands_same one c b.first b.left b.right a.left.stands a.right.stands
     (subst (λ (x : Verdict). StandsIn side.Left c b.left.members x.left.connection) one_side
     (subst (λ (x : List Member). StandsIn side.Left c x v.left.connection) l.members a.left_stands))

@@ -100,46 +100,56 @@ HasRule d c t found = (at : List Member) × IsRuleIn d c t.side.members at found
 
 broken_as : (d : Direction) (c : Capture) (t u : Tapped) (mine others : List Sent) (i : ℕ) → Follows d c t mine others
     → Follows (other d) c u others mine → BrokeBy t.side (told d c mine others) i → HasRule d c t (Broke i)
-broken_as d c t u mine others i f g (x, s, b, l) = (b.0, record {
-  mine = mine;
-  others = others;
-  stand = stand_as d c t u mine others (take i (told d c mine others)) f g s.all;
-  tsdu = x;
-  is = s.is;
-  near = subst (λ (h : List (List ℕ)). BreaksWith h x.octets x.before t.side.members b.0 t.side.by) f.heard b.1;
-  breaks = l;
-})
+broken_as d c t u mine others i f g (x, s, b, l) = (
+  b.0,
+  record {
+    mine = mine;
+    others = others;
+    stand = stand_as d c t u mine others (take i (told d c mine others)) f g s.all;
+    tsdu = x;
+    is = s.is;
+    near = subst (λ (h : List (List ℕ)). BreaksWith h x.octets x.before t.side.members b.0 t.side.by) f.heard b.1;
+    breaks = l;
+  },
+)
 
 explained_in : (d : Direction) (c : Capture) (t : Tapped) (mine others : List Sent) (said : List Told) → Follows d c t mine others
     → IsExplained t.side.begin t.side.heard said ↔ IsExplained (begin_of d) (heard others) said
 explained_in d c t mine others said f =
     let a = f.begin in
-    let b = f.heard in
-    (subst (λ (p : Seen × List (List ℕ)). IsExplained p.0 p.1 said) (λ i. (a i, b i)),
-    subst (λ (p : Seen × List (List ℕ)). IsExplained p.0 p.1 said) (sym (λ i. (a i, b i))))
+    let b = f.heard in (
+      subst (λ (p : Seen × List (List ℕ)). IsExplained p.0 p.1 said) (λ i. (a i, b i)),
+      subst (λ (p : Seen × List (List ℕ)). IsExplained p.0 p.1 said) (sym (λ i. (a i, b i))),
+    )
 
 left_as : (d : Direction) (c : Capture) (t u : Tapped) (mine others : List Sent) (i : ℕ) → Follows d c t mine others
     → Follows (other d) c u others mine → LeftBy t.side (told d c mine others) i → HasRule d c t (Left i)
-left_as d c t u mine others i f g (x, s, inl (b, l, k)) = (b.0, record {
-  mine = mine;
-  others = others;
-  stand = stand_as d c t u mine others (take i (told d c mine others)) f g s.all;
-  tsdu = x;
-  is = s.is;
-  near = inl (
-    subst (λ (h : List (List ℕ)). BreaksWith h x.octets x.before t.side.members b.0 t.side.by) f.heard b.1,
-    l,
-    λ e. (k.1 t.side.heard (λ j p. refl)).1 ((explained_in d c t mine others (take (i + 1) (told d c mine others)) f).1 e),
-  );
-})
-left_as d c t u mine others i f g (x, s, inr (b, k)) = ([], record {
-  mine = mine;
-  others = others;
-  stand = stand_as d c t u mine others (take i (told d c mine others)) f g s.all;
-  tsdu = x;
-  is = s.is;
-  near = inr (b, (explained_in d c t mine others (take (i + 1) (told d c mine others)) f).0 (k t.side.heard (λ j p. refl)));
-})
+left_as d c t u mine others i f g (x, s, inl (b, l, k)) = (
+  b.0,
+  record {
+    mine = mine;
+    others = others;
+    stand = stand_as d c t u mine others (take i (told d c mine others)) f g s.all;
+    tsdu = x;
+    is = s.is;
+    near = inl (
+      subst (λ (h : List (List ℕ)). BreaksWith h x.octets x.before t.side.members b.0 t.side.by) f.heard b.1,
+      l,
+      λ e. (k.1 t.side.heard (λ j p. refl)).1 ((explained_in d c t mine others (take (i + 1) (told d c mine others)) f).1 e),
+    );
+  },
+)
+left_as d c t u mine others i f g (x, s, inr (b, k)) = (
+  [],
+  record {
+    mine = mine;
+    others = others;
+    stand = stand_as d c t u mine others (take i (told d c mine others)) f g s.all;
+    tsdu = x;
+    is = s.is;
+    near = inr (b, (explained_in d c t mine others (take (i + 1) (told d c mine others)) f).0 (k t.side.heard (λ j p. refl)));
+  },
+)
 
 rule_by : (found : Finding) (d : Direction) (c : Capture) (t u : Tapped) (mine others : List Sent) → Follows d c t mine others
     → Follows (other d) c u others mine → WatchesBy found t.side (told d c mine others) → HasRule d c t found

@@ -79,7 +79,7 @@ BrokeBy w told i = (tsdu : Told) × StandsBefore w told i tsdu × BreaksAt w.hea
 abbrev pub LeftBy : Watched → List Told → ℕ → Type 0
 LeftBy w told i = (tsdu : Told) × StandsBefore w told i tsdu
     × ((BreaksAt w.heard tsdu.octets tsdu.before w.members w.by × (leaves tsdu.octets w.by ≡ true) × BrokeFor w.begin w.heard told i)
-      ⊎ ((w.by ≡ selection_of tsdu.before w.members) × ExplainedFor w.begin w.heard told i))
+    ⊎ ((w.by ≡ selection_of tsdu.before w.members) × ExplainedFor w.begin w.heard told i))
 
 -- This is what is known of a side that sent this, by what was found.
 abbrev pub WatchesBy : Finding → Watched → List Told → Type 0

@@ -148,7 +148,7 @@ pub record IsLeftBy (d : Direction) (capture : Capture) (members at : List Membe
   pub is : tsdu ≡ get_or (told d capture mine others) i tsdu
   pub near : (BreaksWith (heard others) tsdu.octets tsdu.before members at by × (leaves tsdu.octets by ≡ true)
       × (IsExplained (begin_of d) (heard others) (take (i + 1) (told d capture mine others)) → ⊥))
-    ⊎ ((by ≡ selection_of tsdu.before members) × IsExplained (begin_of d) (heard others) (take (i + 1) (told d capture mine others)))
+      ⊎ ((by ≡ selection_of tsdu.before members) × IsExplained (begin_of d) (heard others) (take (i + 1) (told d capture mine others)))
 
 abbrev pub IsRuleIn : Direction → Capture → (members at : List Member) → Finding → Break → Type 0
 IsRuleIn d capture members at (outcome.Broke i) by = IsBrokenBy d capture members at i by
