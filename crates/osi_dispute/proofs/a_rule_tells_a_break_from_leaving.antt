@@ -1,6 +1,7 @@
 -- The sessions before a break determine its rule, and whether it breaks the protocol or leaves the profile: for the law that a
 -- text has one judgement.
-use Rattle.std.proofs.Common.{◌≡◌, ◌∙◌, refl, sym, ap, subst, ℕ, zero, suc, ◌+◌, ◌<◌, ◌⊎◌, inl, inr, true, false, Bool, List, [], ◌∷◌, length, take, get_or, Some, Option, arith}
+use Rattle.std.proofs.Common.{◌≡◌, ◌∙◌, refl, sym, ap, subst, ℕ, zero, suc, ◌+◌, ◌<◌, ◌⊎◌, inl, inr, true, false, Bool, List, [], ◌∷◌}
+use Rattle.std.proofs.Common.{length, take, get_or, Some, Option, arith}
 use Rattle.osi_judge.specs.declared.directions.Direction.{Direction}
 use Rattle.osi_judge.specs.declared.findings.Finding.{Finding}
 use Rattle.osi_judge.specs.declared.findings.Finding.TheVariants.{Kept, Broke, Left, TooMany}
@@ -39,7 +40,8 @@ same_told : (d : Direction) (c : Capture) (mine others yours theirs : List Sent)
     → told d c mine others ≡ told d c yours theirs
 same_told d c mine others yours theirs m o = λ j. told d c (m j) (o j)
 
-same_tsdu : (said others : List Told) (i : ℕ) (x y : Told) → said ≡ others → i < length said → x ≡ get_or said i x → y ≡ get_or others i y → x ≡ y
+same_tsdu : (said others : List Told) (i : ℕ) (x y : Told) → said ≡ others → i < length said → x ≡ get_or said i x → y ≡ get_or others i y
+    → x ≡ y
 same_tsdu said others i x y e l h k =
     one_element others i x y (subst (λ (z : List Told). i < length z) e l) (subst (λ (z : List Told). x ≡ get_or z i x) e h) k
 
@@ -62,20 +64,23 @@ pub record Strays (d : Direction) (c : Capture) (i : ℕ) : Type 0 where
   pub tsdu : Told
   pub is : tsdu ≡ get_or (told d c mine others) i tsdu
 
-one_strays : HasOneList → (d : Direction) (c : Capture) (i : ℕ) (h k : Strays d c i) → (told d c h.mine h.others ≡ told d c k.mine k.others) × (heard h.others ≡ heard k.others) × (h.tsdu ≡ k.tsdu)
+one_strays : HasOneList → (d : Direction) (c : Capture) (i : ℕ) (h k : Strays d c i)
+    → (told d c h.mine h.others ≡ told d c k.mine k.others) × (heard h.others ≡ heard k.others) × (h.tsdu ≡ k.tsdu)
 one_strays one d c i h k =
     let mine = one d c h.mine k.mine h.is_mine k.is_mine in
     let others = one (other d) c h.others k.others h.is_others k.is_others in
     let said = same_told d c h.mine h.others k.mine k.others mine others in
     (said, ap heard others, same_tsdu (told d c h.mine h.others) (told d c k.mine k.others) i h.tsdu k.tsdu said h.there h.is k.is)
 
-there_in : HasOneList → (d : Direction) (c : Capture) (i : ℕ) (mine others yours theirs : List Sent) → IsSent d c mine → IsSent (other d) c others
+there_in : HasOneList → (d : Direction) (c : Capture) (i : ℕ) (mine others yours theirs : List Sent) → IsSent d c mine
+    → IsSent (other d) c others
     → IsSent d c yours → IsSent (other d) c theirs → i < length (told d c mine others) → i < length (told d c yours theirs)
 there_in one d c i mine others yours theirs m o y t l =
     subst (λ (z : List Told). i < length z)
     (same_told d c mine others yours theirs (one d c mine yours m y) (one (other d) c others theirs o t)) l
 
-abbrev broke_at : HasOneList → (d : Direction) (c : Capture) (m at : List Member) (i : ℕ) (b : Break) → IsFoundIn d c (Broke i) → IsBrokenBy d c m at i b
+abbrev broke_at : HasOneList → (d : Direction) (c : Capture) (m at : List Member) (i : ℕ) (b : Break) → IsFoundIn d c (Broke i)
+    → IsBrokenBy d c m at i b
     → Strays d c i
 broke_at one d c m at i b f h = record {
   mine = h.mine;
@@ -87,7 +92,8 @@ broke_at one d c m at i b f h = record {
   is = h.is;
 }
 
-abbrev left_at : HasOneList → (d : Direction) (c : Capture) (m at : List Member) (i : ℕ) (b : Break) → IsFoundIn d c (Left i) → IsLeftBy d c m at i b
+abbrev left_at : HasOneList → (d : Direction) (c : Capture) (m at : List Member) (i : ℕ) (b : Break) → IsFoundIn d c (Left i)
+    → IsLeftBy d c m at i b
     → Strays d c i
 left_at one d c m at i b f h = record {
   mine = h.mine;
@@ -131,7 +137,8 @@ one_left : HasOneList → (d : Direction) (c : Capture) (m n at o : List Member)
     → IsLeftBy d c m at i b → IsLeftBy d c n o i e → m ≡ n → at ≡ o → b ≡ e
 one_left one d c m n at o i b e f h k p q =
     let s = one_strays one d c i (left_at one d c m at i b f h) (left_at one d c n o i e f k) in
-    left_same d (heard h.others) (heard k.others) (told d c h.mine h.others) (told d c k.mine k.others) i h.tsdu k.tsdu m n at o b e s.0 s.1 s.2 p q
+    left_same d (heard h.others) (heard k.others) (told d c h.mine h.others) (told d c k.mine k.others) i h.tsdu k.tsdu m n at o b e s.0
+    s.1 s.2 p q
     h.near k.near
 
 pub one_rule : HasOneList → (d : Direction) (c : Capture) (f : Finding) (m n at o : List Member) (b e : Break) → IsFoundIn d c f
@@ -149,7 +156,8 @@ left_broken : (d : Direction) (us vs : List (List ℕ)) (said others : List Told
     → (IsExplained (begin_of d) us (take (i + 1) said) → ⊥) → Leaves d vs others i y n o e → ⊥
 left_broken d us vs said others i x y m n at o b e s u t p q h l z (inl k) =
     let same = break_same us vs x y m n at o b e u t p q h k.0 in
-    not_both (leaves y.octets e) k.1 (subst (λ (w : Break). leaves y.octets w ≡ false) same (subst (λ (w : Told). leaves w.octets b ≡ false) t l))
+    not_both (leaves y.octets e) k.1 (subst (λ (w : Break). leaves y.octets w ≡ false) same
+    (subst (λ (w : Told). leaves w.octets b ≡ false) t l))
 left_broken d us vs said others i x y m n at o b e s u t p q h l z (inr k) = z (explained_same d vs us others said i (sym u) (sym s) k.1)
 
 broke_or_left : HasOneList → (d : Direction) (c : Capture) (m n at o : List Member) (i : ℕ) (b e : Break) → IsFoundIn d c (Broke i)
@@ -159,14 +167,18 @@ broke_or_left one d c m n at o i b e f g h k p q =
     let said = same_told d c h.mine h.others f.mine f.others (one d c h.mine f.mine h.stand.is_mine f.is_mine)
     (one (other d) c h.others f.others h.stand.is_others f.is_others) in
     let us = ap heard (one (other d) c h.others f.others h.stand.is_others f.is_others) in
-    left_broken d (heard h.others) (heard k.others) (told d c h.mine h.others) (told d c k.mine k.others) i h.tsdu k.tsdu m n at o b e s.0 s.1 s.2 p q
+    left_broken d (heard h.others) (heard k.others) (told d c h.mine h.others) (told d c k.mine k.others) i h.tsdu k.tsdu m n at o b e s.0
+    s.1 s.2 p q
     h.near h.breaks
-    (λ x. f.found.0.broke (explained_same d (heard h.others) (heard f.others) (told d c h.mine h.others) (told d c f.mine f.others) i us said x))
+    (λ x. f.found.0.broke (explained_same d (heard h.others) (heard f.others) (told d c h.mine h.others) (told d c f.mine f.others) i us
+    said x))
     k.near
 
 -- what is found of a side, if the sessions are the same that explain what it sent before
-pub same_found : HasOneList → HasOnePlace → (d : Direction) (c : Capture) (f g : Finding) (m n at o : List Member) (b e : Break) → IsFoundIn d c f
-    → IsFoundIn d c g → IsRuleIn d c m at f b → IsRuleIn d c n o g e → is_judged f ≡ is_judged g → m ≡ n → (broke_session f ≡ true → at ≡ o) → f ≡ g
+pub same_found : HasOneList → HasOnePlace → (d : Direction) (c : Capture) (f g : Finding) (m n at o : List Member) (b e : Break)
+    → IsFoundIn d c f
+    → IsFoundIn d c g → IsRuleIn d c m at f b → IsRuleIn d c n o g e → is_judged f ≡ is_judged g → m ≡ n
+    → (broke_session f ≡ true → at ≡ o) → f ≡ g
 same_found one place d c Kept Kept m n at o b e h k p q j s t = refl
 same_found one place d c Kept (Broke i) m n at o b e h k p q j s t = let x = place d c Kept (Broke i) refl refl h k in absurd (cc)
 same_found one place d c Kept (Left i) m n at o b e h k p q j s t = let x = place d c Kept (Left i) refl refl h k in absurd (cc)
@@ -176,12 +188,14 @@ same_found one place d c (Broke i) (Broke l) m n at o b e h k p q j s t =
     ap Broke (some_same i l (place d c (Broke i) (Broke l) refl refl h k))
 same_found one place d c (Broke i) (Left l) m n at o b e h k p q j s t =
     let here = sym (some_same i l (place d c (Broke i) (Left l) refl refl h k)) in
-    absurd (broke_or_left one d c m n at o i b e h (subst (λ (x : ℕ). IsFoundIn d c (Left x)) here k) p (subst (λ (x : ℕ). IsLeftBy d c n o x e) here q) s (t refl))
+    absurd (broke_or_left one d c m n at o i b e h (subst (λ (x : ℕ). IsFoundIn d c (Left x)) here k) p
+    (subst (λ (x : ℕ). IsLeftBy d c n o x e) here q) s (t refl))
 same_found one place d c (Broke i) TooMany m n at o b e h k p q j s t = absurd (cc)
 same_found one place d c (Left i) Kept m n at o b e h k p q j s t = let x = place d c (Left i) Kept refl refl h k in absurd (cc)
 same_found one place d c (Left i) (Broke l) m n at o b e h k p q j s t =
     let here = some_same i l (place d c (Left i) (Broke l) refl refl h k) in
-    absurd (broke_or_left one d c n m o at l e b k (subst (λ (x : ℕ). IsFoundIn d c (Left x)) here h) q (subst (λ (x : ℕ). IsLeftBy d c m at x b) here p)
+    absurd (broke_or_left one d c n m o at l e b k (subst (λ (x : ℕ). IsFoundIn d c (Left x)) here h) q
+    (subst (λ (x : ℕ). IsLeftBy d c m at x b) here p)
     (sym s) (sym (t refl)))
 same_found one place d c (Left i) (Left l) m n at o b e h k p q j s t = ap Left (some_same i l (place d c (Left i) (Left l) refl refl h k))
 same_found one place d c (Left i) TooMany m n at o b e h k p q j s t = absurd (cc)

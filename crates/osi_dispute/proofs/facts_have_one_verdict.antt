@@ -88,7 +88,8 @@ pub record Same (f g : Facts) : Type 0 where
 
 alike : HasOneList → HasOnePlace → (d : Direction) (c : Capture) (f g : Facts) → AreFacts d c f → AreFacts d c g → ChooseSame f g → Same f g
 alike one place d c f g h k e =
-    let found = same_found one place d c f.found g.found f.members g.members f.at g.at f.by g.by h.found k.found h.rule k.rule e.judged e.members e.at in
+    let found = same_found one place d c f.found g.found f.members g.members f.at g.at f.by g.by h.found k.found h.rule k.rule e.judged
+    e.members e.at in
     let rule = subst (λ (x : Finding). IsRuleIn d c g.members g.at x g.by) (sym found) k.rule in
     let by = λ (x : broke_session f.found ≡ true).
     one_rule one d c f.found f.members g.members f.at g.at f.by g.by h.found h.rule rule e.members (e.at x) x in
@@ -106,7 +107,8 @@ alike one place d c f g h k e =
 
 -- ---- the session that stands for a side
 
-one_standing : HasOneList → (d : Direction) (c : Capture) (m : List Member) (s t : Stands) → IsStandingIn d c m s → IsStandingIn d c m t → s ≡ t
+one_standing : HasOneList → (d : Direction) (c : Capture) (m : List Member) (s t : Stands) → IsStandingIn d c m s → IsStandingIn d c m t
+    → s ≡ t
 one_standing one d c m s t h k =
     let others = one (other d) c k.others h.others k.stand.is_others h.stand.is_others in
     one_stands (heard h.others) (foremost m) s t h.behind (subst (λ (z : List Sent). StandsBehind (heard z) (foremost m) t) others k.behind)
@@ -119,11 +121,13 @@ one_session one d c m r (Broke i) n o s t b h k = refl
 one_session one d c m r (Left i) n o s t b h k = refl
 one_session one d c m r TooMany n o s t b h k = refl
 
-one_connection : HasOneList → (d : Direction) (c : Capture) (m : List Member) (dropped : Bool) (r : Option ℕ) (blamed refused answered : Bool)
+one_connection : HasOneList
+    → (d : Direction) (c : Capture) (m : List Member) (dropped : Bool) (r : Option ℕ) (blamed refused answered : Bool)
     (f : Finding) (n o : ℕ) (s t : Stands) (b : Break)
     → StandsIn d c m (connection_by dropped r blamed refused answered (told_by f n o s b))
     → StandsIn d c m (connection_by dropped r blamed refused answered (told_by f n o t b))
-    → connection_by dropped r blamed refused answered (told_by f n o s b) ≡ connection_by dropped r blamed refused answered (told_by f n o t b)
+    → connection_by dropped r blamed refused answered (told_by f n o s b) ≡ connection_by dropped r blamed refused answered
+    (told_by f n o t b)
 one_connection one d c m true r blamed refused answered f n o s t b h k = refl
 one_connection one d c m false None blamed refused answered f n o s t b h k = refl
 one_connection one d c m false (Some r) true refused answered f n o s t b h k = one_session one d c m r f n o s t b h k
@@ -194,9 +198,11 @@ stands_same : HasOneList → (c : Capture) (first : Option Direction) (m s : Fac
     → StandsIn side.Right c s.members (verdict_by first m s).right.connection
     → verdict_by first (standing_by m x) (standing_by s y) ≡ verdict_by first m s
 stands_same one c first m s x y h k p q =
-    let left = one_connection one side.Left c m.members (left_first first side.Right s.found) m.reference (broke_session m.found) (is_refused s.stopped)
+    let left = one_connection one side.Left c m.members (left_first first side.Right s.found) m.reference (broke_session m.found)
+    (is_refused s.stopped)
     (is_some s.reference) m.found m.count m.offset x m.stands m.by h k in
-    let right = one_connection one side.Right c s.members (left_first first side.Left m.found) s.reference (broke_session s.found) (is_refused s.stopped)
+    let right = one_connection one side.Right c s.members (left_first first side.Left m.found) s.reference (broke_session s.found)
+    (is_refused s.stopped)
     (is_some s.reference) s.found s.count s.offset y s.stands s.by p q in
     λ i. record {
       left = record { reading = m.reading; connection = left i; stopped = m.stopped };

@@ -42,18 +42,21 @@ pub told_kept : (t : Tapped) (w : Watched) (n : ℕ) (s : Stands) → w ≡ t.si
     → IsToldOf t (told.Kept n s)
 told_kept t w n s e c k h = record {
   stands = s;
-  is = ap (λ (x : ℕ). told.Kept x s) (c ∙ ap (λ (x : Watched). x.told) e) ∙ sym (ap (λ (f : Finding). told_by f t.side.told t.line.last s t.side.by) k);
+  is = ap (λ (x : ℕ). told.Kept x s) (c ∙ ap (λ (x : Watched). x.told) e) ∙ sym
+      (ap (λ (f : Finding). told_by f t.side.told t.line.last s t.side.by) k);
   standing = (k, subst (λ (x : Watched). (said : List ToldOf) → Keeps x said → StandsFor x said s) e h);
 }
 
-pub told_broke : (t : Tapped) (o : ℕ) (b : Break) (i : ℕ) → o ≡ t.line.last → b ≡ t.side.by → t.side.finding ≡ Broke i → IsToldOf t (told.Broke o b)
+pub told_broke : (t : Tapped) (o : ℕ) (b : Break) (i : ℕ) → o ≡ t.line.last → b ≡ t.side.by → t.side.finding ≡ Broke i
+    → IsToldOf t (told.Broke o b)
 told_broke t o b i e q k = record {
   stands = no_stands;
   is = (λ i. told.Broke (e i) (q i)) ∙ sym (ap (λ (f : Finding). told_by f t.side.told t.line.last no_stands t.side.by) k);
   standing = tt;
 }
 
-pub told_left : (t : Tapped) (o : ℕ) (b : Break) (i : ℕ) → o ≡ t.line.last → b ≡ t.side.by → t.side.finding ≡ Left i → IsToldOf t (told.Left o b)
+pub told_left : (t : Tapped) (o : ℕ) (b : Break) (i : ℕ) → o ≡ t.line.last → b ≡ t.side.by → t.side.finding ≡ Left i
+    → IsToldOf t (told.Left o b)
 told_left t o b i e q k = record {
   stands = no_stands;
   is = (λ i. told.Left (e i) (q i)) ∙ sym (ap (λ (f : Finding). told_by f t.side.told t.line.last no_stands t.side.by) k);
@@ -72,14 +75,16 @@ told_many t k = record {
 pub dropped : (d : Bool) (t right : Tapped) → d ≡ true → Connects d t right Silent
 dropped d t right e = record {
   stands = no_stands;
-  is = sym (ap (λ (b : Bool). connection_by b t.line.reference (broke_session t.side.finding) (is_refused (stopped_of right)) (is_some right.line.reference) (told_of (facts_of t no_stands))) e);
+  is = sym (ap (λ (b : Bool). connection_by b t.line.reference (broke_session t.side.finding) (is_refused (stopped_of right))
+      (is_some right.line.reference) (told_of (facts_of t no_stands))) e);
   standing = tt;
 }
 
 pub nameless : (t right : Tapped) → t.line.reference ≡ None → Connects false t right Silent
 nameless t right e = record {
   stands = no_stands;
-  is = sym (ap (λ (r : Option ℕ). connection_by false r (broke_session t.side.finding) (is_refused (stopped_of right)) (is_some right.line.reference) (told_of (facts_of t no_stands))) e);
+  is = sym (ap (λ (r : Option ℕ). connection_by false r (broke_session t.side.finding) (is_refused (stopped_of right))
+      (is_some right.line.reference) (told_of (facts_of t no_stands))) e);
   standing = tt;
 }
 
@@ -111,7 +116,8 @@ pub blamed : (t right : Tapped) (r : ℕ) (c : Connection) (x : Told) → t.line
     → c ≡ Session r x → IsToldOf t x → Connects false t right c
 blamed t right r c x e b q h = subst (λ (y : Connection). Connects false t right y) (sym q) (record {
   stands = h.stands;
-  is = ap (Session r) h.is ∙ sym (connects_as t right r true (is_refused (stopped_of right)) (is_some right.line.reference) (told_of (facts_of t h.stands)) e b refl refl);
+  is = ap (Session r) h.is ∙ sym (connects_as t right r true (is_refused (stopped_of right)) (is_some right.line.reference)
+      (told_of (facts_of t h.stands)) e b refl refl);
   standing = h.standing;
 })
 
@@ -166,7 +172,8 @@ stands_session d c j r (told.Broke o b) t h = tt
 stands_session d c j r (told.Left o b) t h = tt
 stands_session d c j r told.TooMany t h = tt
 
-pub stands_in : (d : Direction) (c : Capture) (j : Judged) (x : Connection) → Taps j c → StandsBy (half_of d j) x → StandsIn d c (half_of d j).side.members x
+pub stands_in : (d : Direction) (c : Capture) (j : Judged) (x : Connection) → Taps j c → StandsBy (half_of d j) x
+    → StandsIn d c (half_of d j).side.members x
 stands_in d c j Silent t h = tt
 stands_in d c j (Refused r) t h = tt
 stands_in d c j (Unanswered r) t h = tt

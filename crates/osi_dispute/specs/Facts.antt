@@ -18,7 +18,8 @@ use Rattle.osi_judge.specs.Onward.{StandsFor}
 use Rattle.osi_judge.specs.Feeding.{Tapped, reading_of, stopped_of}
 use Rattle.osi_judge.specs.Following.{Judged as Both, half_of}
 use Rattle.osi_judge.specs.Stops.{breaks, broke_session}
-use Rattle.osi_judge.specs.Tapping.{IsFoundIn, IsStoppedIn, IsReadIn, IsReferenceIn, IsPlaceIn, IsCountIn, IsRuleIn, IsStandingIn, IsFirstIn}
+use Rattle.osi_judge.specs.Tapping.{IsFoundIn, IsStoppedIn, IsReadIn, IsReferenceIn, IsPlaceIn, IsCountIn, IsRuleIn, IsStandingIn}
+use Rattle.osi_judge.specs.Tapping.{IsFirstIn}
 use Rattle.osi_dispute.specs.declared.verdicts.Told.{Told}
 use Rattle.osi_dispute.specs.declared.verdicts.Told.TheVariants as told
 use Rattle.osi_dispute.specs.declared.verdicts.Connection.{Connection}

@@ -85,7 +85,8 @@ stands_for w told s a b k = record {
   behind = b;
 }
 
-pub stands_ok : {E : Type 0} (r : Result Stands E) (w : Watched) (heard : List (List ℕ)) (m : Member) → heard ≡ w.heard → m ≡ foremost w.members
+pub stands_ok : {E : Type 0} (r : Result Stands E) (w : Watched) (heard : List (List ℕ)) (m : Member) → heard ≡ w.heard
+    → m ≡ foremost w.members
     → (is_empty w.members ≡ false → IsAmong m w.members)
     → IfOk r (λ s. StandsBehind heard m s) → IfOk r (λ s. (told : List Told) → Keeps w told → StandsFor w told s)
 stands_ok (Ok s) w heard m e v a b = λ told k.

@@ -16,7 +16,8 @@ use Rattle.osi_judge.specs.declared.rules.Break.{Break}
 use Rattle.osi_judge.specs.Breaking.{BreaksAt, selection_of}
 use Rattle.osi_judge.specs.Sides.{ended_at, EndsAt}
 use Rattle.osi_judge.specs.Profiles.{offered_in, accepted_in, in_first, is_outside, selects_outside, leaves}
-use Rattle.osi_judge.specs.Judging.{Watched, is_empty, StandsBefore, BrokeBy, LeftBy, IsKept, IsAstray, BrokeFor, LeftFor, CrowdedFor, AreAll, Keeps, WatchesBy, Watches, IsFound}
+use Rattle.osi_judge.specs.Judging.{Watched, is_empty, StandsBefore, BrokeBy, LeftBy, IsKept, IsAstray, BrokeFor, LeftFor, CrowdedFor}
+use Rattle.osi_judge.specs.Judging.{AreAll, Keeps, WatchesBy, Watches, IsFound}
 use Rattle.osi_judge.proofs.a_break_stays_the_break.{extends_front, breaks_heard}
 
 -- ---- the TSDUs of the other side become more
@@ -32,13 +33,22 @@ stands_heard w x told i t k =
       some = k.some;
     }
 
-broke_heard : (w : Watched) (x : List ℕ) (told : List Told) (i : ℕ) → BrokeBy w told i → BrokeBy (record w { heard = w.heard ++ x ∷ [] }) told i
+broke_heard : (w : Watched) (x : List ℕ) (told : List Told) (i : ℕ) → BrokeBy w told i
+    → BrokeBy (record w { heard = w.heard ++ x ∷ [] }) told i
 broke_heard w x told i k =
     (k.0, stands_heard w x told i k.0 k.1, breaks_heard w.heard x k.0.octets k.0.before w.members w.by k.1.passed k.2, k.3)
 
-left_heard : (w : Watched) (x : List ℕ) (told : List Told) (i : ℕ) → LeftBy w told i → LeftBy (record w { heard = w.heard ++ x ∷ [] }) told i
-left_heard w x told i (t, s, inl (b, l, k)) =
-    (t, stands_heard w x told i t s, inl (breaks_heard w.heard x t.octets t.before w.members w.by s.passed b, l, (k.0, λ us e. k.1 us (extends_front us w.heard x e))))
+left_heard : (w : Watched) (x : List ℕ) (told : List Told) (i : ℕ) → LeftBy w told i
+    → LeftBy (record w { heard = w.heard ++ x ∷ [] }) told i
+left_heard w x told i (t, s, inl (b, l, k)) = (
+  t,
+  stands_heard w x told i t s,
+  inl (
+    breaks_heard w.heard x t.octets t.before w.members w.by s.passed b,
+    l,
+    (k.0, λ us e. k.1 us (extends_front us w.heard x e)),
+  ),
+)
 left_heard w x told i (t, s, inr (e, k)) = (t, stands_heard w x told i t s, inr (e, λ us h. k us (extends_front us w.heard x h)))
 
 heard_by : (f : Finding) (w : Watched) (x : List ℕ) (told : List Told) → WatchesBy f w told → WatchesBy f (record w { heard = w.heard ++ x ∷ [] }) told
@@ -301,7 +311,8 @@ left_here w told x b p o z k =
       ),
     )
 
-pub leaves_as : (w n : Watched) (told : List Told) (x : Told) (new : List Member) (b : Bool) → w.before ≤ x.before → Gives w x new → is_empty new ≡ false
+pub leaves_as : (w n : Watched) (told : List Told) (x : Told) (new : List Member) (b : Bool) → w.before ≤ x.before → Gives w x new
+    → is_empty new ≡ false
     → n ≡ record w { finding = Left w.told; by = selection_of x.before w.members }
     → x.before ≤ length w.heard → OpensBy w x b → b ≡ true → Keeps w told
     → Watches n (told ++ x ∷ [])
@@ -324,7 +335,8 @@ left_broken begin heard told i k = (k.0, λ us e. let y = k.1 us e in (y.0, inl 
 
 -- it is outside of the profile, or breaks the protocol
 ends_by : (b : Bool) (w : Watched) (by : Break) (told : List Told) (x : Told) (new : List Member) → leaves x.octets by ≡ b
-    → BreaksAt w.heard x.octets x.before w.members by → x.before ≤ length w.heard → w.before ≤ x.before → Gives w x new → new ≡ [] → Keeps w told
+    → BreaksAt w.heard x.octets x.before w.members by → x.before ≤ length w.heard → w.before ≤ x.before → Gives w x new → new ≡ []
+    → Keeps w told
     → WatchesBy (ended_at b w.told) (record w { finding = ended_at b w.told; by = by }) (told ++ x ∷ [])
 ends_by true w by told x new e h p l g z k =
     let broke = broke_here w told x new l g z k in
@@ -337,7 +349,8 @@ pub ends_as : (w n : Watched) (told : List Told) (x : Told) (new : List Member) 
 ends_as w n told x new e p l g z k =
     subst (λ (y : Watched). Watches y (told ++ x ∷ [])) (sym e.is) (ends_by (leaves x.octets n.by) w n.by told x new refl e.by p l g z k)
 
-pub ends_ok : {A E : Type 0} (r : Result A E) (w n : Watched) (x : Told) (new : List Member) → x.before ≤ length w.heard → w.before ≤ x.before
+pub ends_ok : {A E : Type 0} (r : Result A E) (w n : Watched) (x : Told) (new : List Member) → x.before ≤ length w.heard
+    → w.before ≤ x.before
     → Gives w x new → new ≡ [] → OnOk r (EndsAt x.octets x.before w n)
     → OnOk r ((told : List Told) → Keeps w told → Watches n (told ++ x ∷ []))
 ends_ok (Ok u) w n x new p l g z e = λ told k. ends_as w n told x new e p l g z k

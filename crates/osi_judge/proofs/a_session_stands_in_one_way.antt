@@ -1,9 +1,11 @@
 -- Of a session one state is found after all that passed, and one answer that it owes: for the law that a text has one
 -- judgement.
-use Rattle.std.proofs.Common.{◌≡◌, ◌∙◌, refl, sym, ap, subst, ℕ, ◌+◌, ◌<◌, true, false, inl, inr, List, [], length, get_or, Option, Some, None, arith}
+use Rattle.std.proofs.Common.{◌≡◌, ◌∙◌, refl, sym, ap, subst, ℕ, ◌+◌, ◌<◌, true, false, inl, inr, List, [], length, get_or, Option, Some}
+use Rattle.std.proofs.Common.{None, arith}
 use Rattle.osi_message.specs.Meanings.{Meaning, RF, AB, AA}
 use Rattle.osi_session.specs.declared.reactions.Reply.{Reply}
-use Rattle.osi_session.specs.declared.reactions.Reply.TheVariants.{VersionNotSupported, ImplementationRestriction, ProtocolError, AbortAccept}
+use Rattle.osi_session.specs.declared.reactions.Reply.TheVariants.{VersionNotSupported, ImplementationRestriction, ProtocolError}
+use Rattle.osi_session.specs.declared.reactions.Reply.TheVariants.{AbortAccept}
 use Rattle.osi_session.specs.Steps.{reply_of}
 use Rattle.osi_session.specs.Standing.{Seen, Count, Takes}
 use Rattle.osi_judge.specs.declared.members.Member.{Member}
@@ -23,20 +25,32 @@ apart m n a b h k e = sym h ∙ ap mark e ∙ k
 
 one_reply : (r q : Reply) → reply_of r ≡ reply_of q → r ≡ q
 one_reply VersionNotSupported VersionNotSupported e = refl
-one_reply VersionNotSupported ImplementationRestriction e = let n = apart (reply_of VersionNotSupported) (reply_of ImplementationRestriction) 132 134 refl refl e in absurd (omega arith)
-one_reply VersionNotSupported ProtocolError e = let n = apart (reply_of VersionNotSupported) (reply_of ProtocolError) 132 1 refl refl e in absurd (omega arith)
-one_reply VersionNotSupported AbortAccept e = let n = apart (reply_of VersionNotSupported) (reply_of AbortAccept) 132 2 refl refl e in absurd (omega arith)
-one_reply ImplementationRestriction VersionNotSupported e = let n = apart (reply_of ImplementationRestriction) (reply_of VersionNotSupported) 134 132 refl refl e in absurd (omega arith)
+one_reply VersionNotSupported ImplementationRestriction e =
+    let n = apart (reply_of VersionNotSupported) (reply_of ImplementationRestriction) 132 134 refl refl e in absurd (omega arith)
+one_reply VersionNotSupported ProtocolError e =
+    let n = apart (reply_of VersionNotSupported) (reply_of ProtocolError) 132 1 refl refl e in absurd (omega arith)
+one_reply VersionNotSupported AbortAccept e =
+    let n = apart (reply_of VersionNotSupported) (reply_of AbortAccept) 132 2 refl refl e in absurd (omega arith)
+one_reply ImplementationRestriction VersionNotSupported e =
+    let n = apart (reply_of ImplementationRestriction) (reply_of VersionNotSupported) 134 132 refl refl e in absurd (omega arith)
 one_reply ImplementationRestriction ImplementationRestriction e = refl
-one_reply ImplementationRestriction ProtocolError e = let n = apart (reply_of ImplementationRestriction) (reply_of ProtocolError) 134 1 refl refl e in absurd (omega arith)
-one_reply ImplementationRestriction AbortAccept e = let n = apart (reply_of ImplementationRestriction) (reply_of AbortAccept) 134 2 refl refl e in absurd (omega arith)
-one_reply ProtocolError VersionNotSupported e = let n = apart (reply_of ProtocolError) (reply_of VersionNotSupported) 1 132 refl refl e in absurd (omega arith)
-one_reply ProtocolError ImplementationRestriction e = let n = apart (reply_of ProtocolError) (reply_of ImplementationRestriction) 1 134 refl refl e in absurd (omega arith)
+one_reply ImplementationRestriction ProtocolError e =
+    let n = apart (reply_of ImplementationRestriction) (reply_of ProtocolError) 134 1 refl refl e in absurd (omega arith)
+one_reply ImplementationRestriction AbortAccept e =
+    let n = apart (reply_of ImplementationRestriction) (reply_of AbortAccept) 134 2 refl refl e in absurd (omega arith)
+one_reply ProtocolError VersionNotSupported e =
+    let n = apart (reply_of ProtocolError) (reply_of VersionNotSupported) 1 132 refl refl e in absurd (omega arith)
+one_reply ProtocolError ImplementationRestriction e =
+    let n = apart (reply_of ProtocolError) (reply_of ImplementationRestriction) 1 134 refl refl e in absurd (omega arith)
 one_reply ProtocolError ProtocolError e = refl
-one_reply ProtocolError AbortAccept e = let n = apart (reply_of ProtocolError) (reply_of AbortAccept) 1 2 refl refl e in absurd (omega arith)
-one_reply AbortAccept VersionNotSupported e = let n = apart (reply_of AbortAccept) (reply_of VersionNotSupported) 2 132 refl refl e in absurd (omega arith)
-one_reply AbortAccept ImplementationRestriction e = let n = apart (reply_of AbortAccept) (reply_of ImplementationRestriction) 2 134 refl refl e in absurd (omega arith)
-one_reply AbortAccept ProtocolError e = let n = apart (reply_of AbortAccept) (reply_of ProtocolError) 2 1 refl refl e in absurd (omega arith)
+one_reply ProtocolError AbortAccept e =
+    let n = apart (reply_of ProtocolError) (reply_of AbortAccept) 1 2 refl refl e in absurd (omega arith)
+one_reply AbortAccept VersionNotSupported e =
+    let n = apart (reply_of AbortAccept) (reply_of VersionNotSupported) 2 132 refl refl e in absurd (omega arith)
+one_reply AbortAccept ImplementationRestriction e =
+    let n = apart (reply_of AbortAccept) (reply_of ImplementationRestriction) 2 134 refl refl e in absurd (omega arith)
+one_reply AbortAccept ProtocolError e =
+    let n = apart (reply_of AbortAccept) (reply_of ProtocolError) 2 1 refl refl e in absurd (omega arith)
 one_reply AbortAccept AbortAccept e = refl
 
 some_same : (m n : Meaning) → Some m ≡ Some n → m ≡ n

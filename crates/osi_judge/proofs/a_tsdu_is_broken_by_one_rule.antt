@@ -1,5 +1,6 @@
 -- By the sessions that explain what was sent before it, a TSDU has one break: for the law that a text has one judgement.
-use Rattle.std.proofs.Common.{◌≡◌, ◌∙◌, refl, sym, ap, subst, ℕ, ◌≤◌, ◌⊎◌, ◌↔◌, inl, inr, false, List, [], ◌∷◌, length, Result, Ok, Err, arith}
+use Rattle.std.proofs.Common.{◌≡◌, ◌∙◌, refl, sym, ap, subst, ℕ, ◌≤◌, ◌⊎◌, ◌↔◌, inl, inr, false, List, [], ◌∷◌, length, Result, Ok, Err}
+use Rattle.std.proofs.Common.{arith}
 use Rattle.osi_spdu.specs.declared.faults.SpduFault.{SpduFault}
 use Rattle.osi_spdu.specs.Known.{Contents, Units}
 use Rattle.osi_spdu.specs.Reading.{tsdu_at}
@@ -27,7 +28,8 @@ AtFirst heard octets before members unit units at by =
 
 abbrev Later : List (List ℕ) → (octets before : ℕ) → List Member → Contents → Units → List Member → Break → Type 0
 Later heard octets before members unit units at by =
-    (next : List Member) × Leads heard octets before members unit next × (is_empty next ≡ false) × BreaksIn heard octets before next units at by
+    (next : List Member) × Leads heard octets before members unit next × (is_empty next ≡ false) × BreaksIn heard octets before next units
+    at by
 
 abbrev Broken : List (List ℕ) → (octets before : ℕ) → List Member → Units → List Member → Break → Type 0
 Broken heard octets before members [] at by = ⊥
@@ -66,12 +68,14 @@ none_left : (heard : List (List ℕ)) (octets before : ℕ) (members : List Memb
 none_left heard octets before members units at by e h =
     broken heard octets before members [] at by (subst (λ (z : Units). BreaksIn heard octets before members z at by) e h)
 
-first_later : (heard : List (List ℕ)) (octets before : ℕ) (m n : List Member) (unit : Contents) (units : Units) (at : List Member) (b e : Break)
+first_later : (heard : List (List ℕ)) (octets before : ℕ) (m n : List Member) (unit : Contents) (units : Units) (at : List Member)
+    (b e : Break)
     → Alike heard before m n → AtFirst heard octets before m unit units at b → Later heard octets before n unit units at e → ⊥
 first_later heard octets before m n unit units at b e a (_, _, inl h) (next, k, s, d) = not_led heard octets before m n next unit a h k s
 first_later heard octets before m n unit units at b e a (_, _, inr f) (next, k, s, d) = none_left heard octets before next units at e f d
 
-one_in : (heard : List (List ℕ)) (octets before : ℕ) (m n : List Member) (units : Units) (at : List Member) (b e : Break) → Alike heard before m n
+one_in : (heard : List (List ℕ)) (octets before : ℕ) (m n : List Member) (units : Units) (at : List Member) (b e : Break)
+    → Alike heard before m n
     → Broken heard octets before m units at b → Broken heard octets before n units at e → b ≡ e
 one_in heard octets before m n [] at b e a h k = absurd h
 one_in heard octets before m n (u ∷ us) at b e a (inl (p, f, _)) (inl (q, g, _)) =
@@ -83,7 +87,8 @@ one_in heard octets before m n (u ∷ us) at b e a (inr (next, h, s, x)) (inr (o
     one_in heard octets before next others us at b e (alike_next heard octets before m n next others u a h k)
     (broken heard octets before next us at b x) (broken heard octets before others us at e y)
 
-one_read : (heard : List (List ℕ)) (octets before : ℕ) (members : List Member) (read : Result Units SpduFault) (at : List Member) (b e : Break)
+one_read : (heard : List (List ℕ)) (octets before : ℕ) (members : List Member) (read : Result Units SpduFault) (at : List Member)
+    (b e : Break)
     → BreaksAs heard octets before members read at b → BreaksAs heard octets before members read at e → b ≡ e
 one_read heard octets before members (Ok units) at b e h k =
     one_in heard octets before members members (in_effect units) at b e (λ us more x y. (λ z. z, λ z. z))

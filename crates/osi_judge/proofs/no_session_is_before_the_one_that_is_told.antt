@@ -1,5 +1,6 @@
 -- No session of a list comes before the foremost, and none is nearer than the nearest: for the law that one session is told.
-use Rattle.std.proofs.Common.{◌≡◌, ◌∙◌, refl, sym, ap, subst, ℕ, ◌==◌, ◌&&◌, ◌||◌, ◌⊎◌, inl, inr, Bool, true, false, not, if◌then◌else◌, nat_lt, List, [], ◌∷◌, ◌++◌}
+use Rattle.std.proofs.Common.{◌≡◌, ◌∙◌, refl, sym, ap, subst, ℕ, ◌==◌, ◌&&◌, ◌||◌, ◌⊎◌, inl, inr, Bool, true, false, not, if◌then◌else◌}
+use Rattle.std.proofs.Common.{nat_lt, List, [], ◌∷◌, ◌++◌}
 use Rattle.std.proofs.Common.{Option, Some, None, arith}
 use Rattle.std.proofs.lemmas.Bool.Decides.{nat_tests}
 use Rattle.std.proofs.lemmas.List.{append-nil, append_assoc}
@@ -17,10 +18,12 @@ use Rattle.osi_judge.specs.Onward.{IsAmong, IsNearest}
 abbrev higher : (t c : ℕ) → Bool → (u d : ℕ) → Bool → Bool
 higher t c p u d q = nat_lt u t || ((t == u) && (nat_lt d c || ((c == d) && (p && not q))))
 
-carries : (t c : ℕ) (p : Bool) (u d : ℕ) (q : Bool) (v e : ℕ) (r : Bool) → higher t c p u d q ≡ true → higher u d q v e r ≡ true → higher t c p v e r ≡ true
+carries : (t c : ℕ) (p : Bool) (u d : ℕ) (q : Bool) (v e : ℕ) (r : Bool) → higher t c p u d q ≡ true → higher u d q v e r ≡ true
+    → higher t c p v e r ≡ true
 carries t c p u d q v e r h k = grind (arith, nat_tests)
 
-carries_past : (t c : ℕ) (p : Bool) (u d : ℕ) (q : Bool) (v e : ℕ) (r : Bool) → higher t c p u d q ≡ true → higher v e r u d q ≡ false → higher t c p v e r ≡ true
+carries_past : (t c : ℕ) (p : Bool) (u d : ℕ) (q : Bool) (v e : ℕ) (r : Bool) → higher t c p u d q ≡ true → higher v e r u d q ≡ false
+    → higher t c p v e r ≡ true
 carries_past t c p u d q v e r h k = grind (arith, nat_tests)
 
 before_trans : (m n o : Member) → is_before m n ≡ true → is_before n o ≡ true → is_before m o ≡ true
@@ -54,11 +57,13 @@ Looks xs = (best : Member) (front back seen : List Member) → seen ≡ front ++
     → IsForemost (fold before_of best xs) (seen ++ xs)
 
 by_test : (b : Bool) (x best : Member) (front back seen xs : List Member) → is_before x best ≡ b → seen ≡ front ++ best ∷ back
-    → PrecedesAll best front → FollowsNone best back → Looks xs → IsForemost (fold before_of (if b then x else best) xs) ((seen ++ x ∷ []) ++ xs)
+    → PrecedesAll best front → FollowsNone best back → Looks xs
+    → IsForemost (fold before_of (if b then x else best) xs) ((seen ++ x ∷ []) ++ xs)
 by_test true x best front back seen xs h e p f look =
     look x seen [] (seen ++ x ∷ []) refl (subst (λ (z : List Member). PrecedesAll x z) (sym e) (precedes_all x best front back h p f)) tt
 by_test false x best front back seen xs h e p f look =
-    look best front (back ++ x ∷ []) (seen ++ x ∷ []) (ap (λ (z : List Member). z ++ x ∷ []) e ∙ append_assoc front (best ∷ back) (x ∷ [])) p
+    look best front (back ++ x ∷ []) (seen ++ x ∷ []) (ap (λ (z : List Member). z ++ x ∷ []) e ∙ append_assoc front (best ∷ back)
+    (x ∷ [])) p
     (follows_more x best back h f)
 
 looks : (xs : List Member) → Looks xs
@@ -89,7 +94,8 @@ nearer_by a b c false y false f h k = grind (arith, nat_tests)
 
 nearer_trans : (m n o : Near) → is_nearer m n ≡ true → is_nearer n o ≡ true → is_nearer m o ≡ true
 nearer_trans m n o h k =
-    nearer_by (place m.rule) (place n.rule) (place o.rule) (is_before m.at n.at) (is_before n.at o.at) (is_before m.at o.at) (before_trans m.at n.at o.at) h k
+    nearer_by (place m.rule) (place n.rule) (place o.rule) (is_before m.at n.at) (is_before n.at o.at) (is_before m.at o.at)
+    (before_trans m.at n.at o.at) h k
 
 not_higher : (t c : ℕ) (p : Bool) → higher t c p t c p ≡ false
 not_higher t c true = grind (arith, nat_tests)
@@ -120,7 +126,8 @@ near m rule = record { at = m; rule = rule }
 
 -- none of these is nearer, and it is one of these or the first
 abbrev NoneNearer : Unsaid → List Member → Near → Type 0
-NoneNearer u seen best = (m : Member) (rule : Rule) → IsAmong m seen → rule_for u m.standing ≡ Some rule → is_nearer (near m rule) best ≡ false
+NoneNearer u seen best =
+    (m : Member) (rule : Rule) → IsAmong m seen → rule_for u m.standing ≡ Some rule → is_nearer (near m rule) best ≡ false
 
 abbrev IsOne : Unsaid → List Member → Near → Near → Type 0
 IsOne u seen first best = (best ≡ first) ⊎ (IsAmong best.at seen × (rule_for u best.at.standing ≡ Some best.rule))
@@ -150,7 +157,8 @@ some_rule r q e = cc
 same_near : (x m : Member) (rule q : Rule) (o : Option Rule) → m ≡ x → o ≡ Some q → o ≡ Some rule → near m rule ≡ near x q
 same_near x m rule q o e h k = let r = some_rule q rule (sym h ∙ k) in λ i. near (e i) (sym r i)
 
-one_more : (u : Unsaid) (x : Member) (seen : List Member) (first best : Near) → IsOne u seen first best → IsOne u (seen ++ x ∷ []) first best
+one_more : (u : Unsaid) (x : Member) (seen : List Member) (first best : Near) → IsOne u seen first best
+    → IsOne u (seen ++ x ∷ []) first best
 one_more u x seen first best (inl e) = inl e
 one_more u x seen first best (inr (h, k)) = inr (among_front best.at x seen h, k)
 
@@ -168,7 +176,8 @@ becomes_nearest : (u : Unsaid) (x : Member) (q : Rule) (seen : List Member) (bes
 becomes_nearest u x q seen best r h n = λ m rule a k. elim (among_more m x seen a) [
   | inl b ↦ nearer_still (near m rule) (near x q) best (n m rule b k) h
   | inr e ↦ subst (λ (z : Near). is_nearer z (near x q) ≡ false)
-      (sym (same_near x m rule q (rule_for u x.standing) e r (subst (λ (z : Member). rule_for u z.standing ≡ Some rule) e k))) (nearer_itself (near x q))
+      (sym (same_near x m rule q (rule_for u x.standing) e r (subst (λ (z : Member). rule_for u z.standing ≡ Some rule) e k)))
+      (nearer_itself (near x q))
 ]
 
 by_nearer : (b : Bool) (u : Unsaid) (x : Member) (q : Rule) (first best : Near) (seen xs : List Member) → rule_for u x.standing ≡ Some q

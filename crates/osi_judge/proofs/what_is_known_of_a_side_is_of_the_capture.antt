@@ -82,8 +82,10 @@ standing_as d c t u mine others f g e s k =
       mine = mine;
       others = others;
       stand = stand_as d c t u mine others said f g h.all;
-      has_said = subst (λ (b : Seen). Ever (heard others) t.side.before (λ us later. Explains us later m.taken m.standing → Explains us (remarks said ++ later) 0 b)) f.begin
-          (subst (λ (x : List (List ℕ)). Ever x t.side.before (λ us later. Explains us later m.taken m.standing → Explains us (remarks said ++ later) 0 t.side.begin)) f.heard h.has_said);
+      has_said = subst (λ (b : Seen). Ever (heard others) t.side.before
+          (λ us later. Explains us later m.taken m.standing → Explains us (remarks said ++ later) 0 b)) f.begin
+          (subst (λ (x : List (List ℕ)). Ever x t.side.before
+          (λ us later. Explains us later m.taken m.standing → Explains us (remarks said ++ later) 0 t.side.begin)) f.heard h.has_said);
       behind = subst (λ (x : List (List ℕ)). StandsBehind x m s) f.heard h.behind;
     }
 

@@ -24,7 +24,8 @@ Leads heard octets before members unit next =
 
 -- what is left behind a unit
 abbrev pub LeavesBehind : (heard : List (List ℕ)) → (octets before : ℕ) → List Member → Contents → Behind → Type 0
-LeavesBehind heard octets before members unit (behind.Members next) = Leads heard octets before members unit next.items × (is_empty next.items ≡ false)
+LeavesBehind heard octets before members unit (behind.Members next) =
+    Leads heard octets before members unit next.items × (is_empty next.items ≡ false)
 LeavesBehind heard octets before members unit (behind.Break by) =
     Leads heard octets before members unit [] × (by ≡ break_of (a_unit unit octets) heard before members)
 
@@ -38,7 +39,8 @@ pub data BreaksIn (heard : List (List ℕ)) (octets before : ℕ) : List Member 
   last : (members : List Member) (unit : Contents) (by : Break) → by ≡ break_of (a_unit unit octets) heard before members
       → BreaksIn heard octets before members (unit ∷ []) members by
   -- some send this one
-  later : (members next : List Member) (unit : Contents) (units : Units) (at : List Member) (by : Break) → Leads heard octets before members unit next
+  later : (members next : List Member) (unit : Contents) (units : Units) (at : List Member) (by : Break)
+      → Leads heard octets before members unit next
       → is_empty next ≡ false → BreaksIn heard octets before next units at by → BreaksIn heard octets before members (unit ∷ units) at by
 
 -- the units of a TSDU in the order in which they take effect: the first one last
@@ -46,7 +48,8 @@ abbrev pub in_effect : Units → Units
 in_effect [] = []
 in_effect (unit ∷ units) = units ++ unit ∷ []
 
-abbrev pub BreaksAs : (heard : List (List ℕ)) → (octets before : ℕ) → List Member → Result Units SpduFault → (at : List Member) → Break → Type 0
+abbrev pub BreaksAs : (heard : List (List ℕ)) → (octets before : ℕ) → List Member → Result Units SpduFault → (at : List Member) → Break
+    → Type 0
 BreaksAs heard octets before members (Ok units) at by = BreaksIn heard octets before members (in_effect units) at by
 BreaksAs heard octets before members (Err fault) at by = (at ≡ members) × (by ≡ break_of (unread fault) heard before members)
 

@@ -1,5 +1,6 @@
 -- An AC that selects functional units together that the profile leaves out.
-use Rattle.std.specs.Prelude.{ℕ, ◌==◌, ◌||◌, Bool, true, false, not, ◌&&◌, nat_lt, List, [], ◌∷◌, get_or, Option, Some, None, Result, Ok, Err}
+use Rattle.std.specs.Prelude.{ℕ, ◌==◌, ◌||◌, Bool, true, false, not, ◌&&◌, nat_lt, List, [], ◌∷◌, get_or, Option, Some, None, Result, Ok}
+use Rattle.std.specs.Prelude.{Err}
 use Rattle.std.specs.List.{slice_get}
 use Rattle.std.specs.Int.RustNames.{bit_and}
 use Rattle.osi_spdu.specs.declared.faults.SpduFault.{SpduFault}

@@ -1,5 +1,6 @@
 -- What is judged of a capture: each side by its TSDUs, and by those of the other that had passed before them.
-use Rattle.std.specs.Prelude.{◌≡◌, ◌⊎◌, ℕ, ◌+◌, ◌-◌, List, ◌++◌, take, get_or, length, map, filter, nat_le, Bool, true, false, ◌||◌, Option, Some, None, option_map}
+use Rattle.std.specs.Prelude.{◌≡◌, ◌⊎◌, ℕ, ◌+◌, ◌-◌, List, ◌++◌, take, get_or, length, map, filter, nat_le, Bool, true, false, ◌||◌}
+use Rattle.std.specs.Prelude.{Option, Some, None, option_map}
 use Rattle.osi_session.specs.Standing.{Seen, seen_calling, seen_called}
 use Rattle.osi_judge.specs.declared.directions.Direction.{Direction}
 use Rattle.osi_judge.specs.declared.directions.Direction.TheVariants.{Left, Right}
@@ -125,7 +126,8 @@ pub record IsStandingIn (d : Direction) (capture : Capture) (members : List Memb
   pub others : List Sent
   pub stand : StandIn d capture mine others (told d capture mine others) members
   pub has_said : Ever (heard others) stand.before (λ us later.
-      Explains us later (foremost members).taken (foremost members).standing → Explains us (remarks (told d capture mine others) ++ later) 0 (begin_of d))
+      Explains us later (foremost members).taken (foremost members).standing → Explains us (remarks (told d capture mine others) ++ later)
+      0 (begin_of d))
   pub behind : StandsBehind (heard others) (foremost members) s
 
 -- The rule by which a side of a capture broke the protocol with its i-th TSDU: that of the one that came nearest, of the

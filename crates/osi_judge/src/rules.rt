@@ -6,7 +6,8 @@ ghost use Rattle.osi_spdu.specs.Groups.{units_of};
 ghost use Rattle.osi_spdu.specs.Units.{said_by};
 ghost use Rattle.osi_judge.specs.declared.members.Member.{Member};
 ghost use Rattle.osi_judge.specs.Breaking.{LeavesBehind, BreaksIn, BreaksAt, in_effect, selection_of};
-ghost use Rattle.osi_judge.specs.Nearest.{call_place, place, is_nearer, a_unit, unsaid, kind_in, rule_for, tried, reached, far, nearest, break_of};
+ghost use Rattle.osi_judge.specs.Nearest.{call_place, place, is_nearer, a_unit, unsaid, kind_in, rule_for, tried, reached, far, nearest};
+ghost use Rattle.osi_judge.specs.Nearest.{break_of};
 
 use crate::members::{Member, none_is_left};
 use crate::standings::{Turn, first_of, foremost, is_before, take_next};

@@ -252,8 +252,10 @@ impl Side {
     /// neither.
     pub fn by(&self) -> Break
         ensures value { result ≡ (watched self.now).by }
-        ensures broke { (told : List Told) (i : ℕ) → Watches (watched self.now) told → (watched self.now).finding ≡ Finding.Broke i → BrokeBy (watched self.now) told i }
-        ensures left { (told : List Told) (i : ℕ) → Watches (watched self.now) told → (watched self.now).finding ≡ Finding.Left i → LeftBy (watched self.now) told i }
+        ensures broke { (told : List Told) (i : ℕ) → Watches (watched self.now) told → (watched self.now).finding ≡ Finding.Broke i
+            → BrokeBy (watched self.now) told i }
+        ensures left { (told : List Told) (i : ℕ) → Watches (watched self.now) told → (watched self.now).finding ≡ Finding.Left i
+            → LeftBy (watched self.now) told i }
     {
         self.by
     }

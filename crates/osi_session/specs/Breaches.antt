@@ -1,5 +1,6 @@
 -- Why a side may not send a word: the first rule that the word breaks, in the order in which the rules are tested.
-use Rattle.std.specs.Prelude.{ℕ, ◌+◌, Bool, not, ◌&&◌, ◌||◌, ◌==◌, if◌then◌else◌, nat_le, nat_lt, List, [], ◌∷◌, length, Option, Some, None, unwrap_or, is_none, Ok, Err}
+use Rattle.std.specs.Prelude.{ℕ, ◌+◌, Bool, not, ◌&&◌, ◌||◌, ◌==◌, if◌then◌else◌, nat_le, nat_lt, List, [], ◌∷◌, length, Option, Some}
+use Rattle.std.specs.Prelude.{None, unwrap_or, is_none, Ok, Err}
 use Rattle.osi_spdu.specs.declared.fields.TsduMaximumSize.{TsduMaximumSize}
 use Rattle.osi_spdu.specs.declared.settings.TokenSetting.{TokenSetting}
 use Rattle.osi_spdu.specs.Sizes.{are_sizes}
@@ -16,7 +17,8 @@ use Rattle.osi_session.specs.declared.faults.CallError.TheVariants as error
 use Rattle.osi_session.specs.declared.selected.FunctionalUnits.{FunctionalUnits}
 use Rattle.osi_session.specs.declared.state.State.{State}
 use Rattle.osi_session.specs.Allowed.{Answer, may_call, met, octets_of, most_of, most_data, has_right}
-use Rattle.osi_session.specs.Calls.{refusal_with, Call, Refuse, Data, Give, Please, Minor, MinorConfirm, Major, MajorConfirm, Restart, RestartConfirm, ReleaseAccept, ReleaseRefuse, Abort}
+use Rattle.osi_session.specs.Calls.{refusal_with, Call, Refuse, Data, Give, Please, Minor, MinorConfirm, Major, MajorConfirm, Restart}
+use Rattle.osi_session.specs.Calls.{RestartConfirm, ReleaseAccept, ReleaseRefuse, Abort}
 use Rattle.osi_session.specs.Joining.{begins_anew}
 use Rattle.osi_session.specs.Phases.{is_over, is_wait_transport, is_answering, is_ready}
 use Rattle.osi_session.specs.Respond.{has_no_effect, is_restart}

@@ -23,7 +23,8 @@ returns-in-Broke-clause-found c = λ capture k. (Broke c.in-Broke.field-0, (c.in
 pub returns-in-Left-clause-told : goal.returns-in-Left-clause-told
 returns-in-Left-clause-told c =
     told_left (half_of c.args.direction (judged c.args.judge.now)) c.offset-offset.result c.by-in-Left.result c.in-Left.field-0
-    c.offset-offset.ensures.value (c.by-in-Left.ensures.value ∙ ap (λ (w : Watched). w.by) c.side-side.ensures) (sym c.in-Left.ensures.value)
+    c.offset-offset.ensures.value (c.by-in-Left.ensures.value ∙ ap (λ (w : Watched). w.by) c.side-side.ensures)
+    (sym c.in-Left.ensures.value)
 
 pub returns-in-Left-clause-found : goal.returns-in-Left-clause-found
 returns-in-Left-clause-found c = λ capture k. (Left c.in-Left.field-0, (c.in-Left.field-0, refl), c.in-Left.ensures.found capture k.taps)

@@ -7,7 +7,8 @@ use Rattle.osi_judge.proofs.rules.break_in.Given as goal
 
 abbrev pub invariant-units : goal.invariant-units
 invariant-units l =
-    Continues l.heard l.octets l.before l.members (in_effect (units_of l.fn.group)) l.now.items (units_behind l.behind ++ said_by l.first ∷ [])
+    Continues l.heard l.octets l.before l.members (in_effect (units_of l.fn.group)) l.now.items
+    (units_behind l.behind ++ said_by l.first ∷ [])
 
 abbrev pub decreases-units : goal.decreases-units
 decreases-units l = length (units_behind l.behind)

@@ -9,12 +9,15 @@ takes-init c = record { comes = stays c.args.member; goes = refl }
 
 pub takes-preserved : goal.takes-preserved
 takes-preserved c = record {
-  comes = comes_next c.args.heard.now c.args.member c.takes.at c.in-Goes.next c.in_ok-next.field-0 c.in-Goes.is c.takes.invariant.comes c.in_ok-next.ensures;
-  goes = goes_next c.args.heard.now c.takes.at c.in-Goes.next c.args.member c.in_ok-next.field-0 c.takes-test.true c.in-Goes.is c.in_ok-next.ensures
+  comes = comes_next c.args.heard.now c.args.member c.takes.at c.in-Goes.next c.in_ok-next.field-0 c.in-Goes.is c.takes.invariant.comes
+      c.in_ok-next.ensures;
+  goes = goes_next c.args.heard.now c.takes.at c.in-Goes.next c.args.member c.in_ok-next.field-0 c.takes-test.true c.in-Goes.is
+      c.in_ok-next.ensures
       c.takes.invariant.goes;
 }
 
 pub returns-in-Stops : goal.returns-in-Stops
 returns-in-Stops c =
-    stands_stop c.args.heard.now c.args.member c.takes.at c.stands_at.result c.in-Stops.owes c.in_ok-next.field-0 c.stands_at.ensures c.takes-test.true
+    stands_stop c.args.heard.now c.args.member c.takes.at c.stands_at.result c.in-Stops.owes c.in_ok-next.field-0 c.stands_at.ensures
+    c.takes-test.true
     c.in-Stops.is c.in_ok-next.ensures c.takes.invariant.comes c.takes.invariant.goes

@@ -11,4 +11,5 @@ pub returns : goal.returns
 returns c =
     stands_ok c.stands_behind.result (watched c.args.self.now) c.deref.result.now c.foremost.result c.deref.ensures.value
     (c.foremost.ensures.value ∙ ap foremost c.deref-2.ensures.value)
-    (subst (λ (x : List Member). is_empty x ≡ false → IsAmong c.foremost.result x) c.deref-2.ensures.value c.foremost.ensures.among) c.stands_behind.ensures
+    (subst (λ (x : List Member). is_empty x ≡ false → IsAmong c.foremost.result x) c.deref-2.ensures.value c.foremost.ensures.among)
+    c.stands_behind.ensures
