@@ -5,5 +5,6 @@ pub mod OneText
 pub mod RowLaws
 pub mod text_added_in_two_parts_is_added_whole
 pub mod what_is_told_is_by_facts
+pub mod a_rule_tells_a_break_from_leaving
 pub mod facts_have_one_verdict
 pub mod a_last_line_is_never_empty

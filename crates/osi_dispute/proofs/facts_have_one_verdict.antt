@@ -1,5 +1,5 @@
 -- Two verdicts on one capture are one, if they choose the same where the definitions leave a choice: for the laws.
-use Rattle.std.proofs.Common.{◌≡◌, ◌∙◌, refl, sym, ap, subst, ℕ, ◌-◌, ◌⊎◌, inl, inr, Bool, true, false, is_some, ◌||◌, List, length, Option, Some, None}
+use Rattle.std.proofs.Common.{◌≡◌, ◌∙◌, refl, sym, ap, subst, ℕ, ◌-◌, Bool, true, false, is_some, ◌||◌, List, length, Option, Some, None}
 use Rattle.std.proofs.Common.{option_map}
 use Rattle.osi_tpkt.specs.Stream.{Ending, offset_of}
 use Rattle.osi_tpkt.proofs.Streams.{one_cut}
@@ -8,22 +8,28 @@ use Rattle.osi_judge.specs.declared.directions.Direction.TheVariants as side
 use Rattle.osi_judge.specs.declared.findings.Finding.{Finding}
 use Rattle.osi_judge.specs.declared.findings.Finding.TheVariants.{Kept, Broke, Left, TooMany}
 use Rattle.osi_judge.specs.declared.judge.Reading.{Reading}
+use Rattle.osi_judge.specs.declared.members.Member.{Member}
 use Rattle.osi_judge.specs.declared.rules.Break.{Break}
 use Rattle.osi_judge.specs.declared.standings.Stands.{Stands}
 use Rattle.osi_judge.specs.declared.stops.Stopped.{Stopped}
 use Rattle.osi_judge.specs.Captures.{Capture, other, stream}
 use Rattle.osi_judge.specs.Stops.{breaks, broke_session}
 use Rattle.osi_judge.specs.Transport.{met_before, opening, reference_in, Sent, packets_length, last_packet, stage_from, hasty_from, IsSent}
-use Rattle.osi_judge.specs.Tapping.{IsFoundIn, IsReadIn, IsReferenceIn, IsStoppedIn, IsPlaceIn, IsCountIn, stop_in, or_hasty}
+use Rattle.osi_judge.specs.Tapping.{IsFoundIn, IsReadIn, IsReferenceIn, IsStoppedIn, IsPlaceIn, IsCountIn, stop_in, or_hasty, IsRuleIn, IsStandingIn, heard}
 use Rattle.osi_dispute.specs.declared.verdicts.Told.{Told}
 use Rattle.osi_dispute.specs.declared.verdicts.Told.TheVariants as told
 use Rattle.osi_dispute.specs.declared.verdicts.Verdict.{Verdict}
-use Rattle.osi_dispute.specs.Facts.{Determined, is_broken, IsFirstOf, Facts, AreFacts, told_by, told_of, is_refused, is_unanswered, connection_by, left_first, outcome_by, verdict_by}
-use Rattle.osi_dispute.specs.Facts.{IsToldBy}
+use Rattle.osi_dispute.specs.Facts.{Determined, is_broken, IsFirstOf, Facts, AreFacts, told_by, told_of, is_refused, is_unanswered, connection_by, left_first, outcome_by, verdict_by, IsToldBy, StandsIn}
+use Rattle.osi_judge.specs.Foremost.{foremost}
+use Rattle.osi_judge.specs.Onward.{StandsBehind}
+use Rattle.osi_judge.proofs.a_session_stands_in_one_way.{one_stands}
+use Rattle.osi_dispute.specs.declared.verdicts.Connection.{Connection}
+use Rattle.osi_dispute.specs.declared.verdicts.Connection.TheVariants.{Session}
 use Rattle.osi_dispute.specs.Disputes.{IsJudgement}
 use Rattle.osi_dispute.specs.Texts.{verdict_text, verdict_status}
-use Rattle.osi_dispute.specs.Laws.{IsDecided, ChooseSame, SameChoices}
-use Rattle.osi_dispute.proofs.OneFinding.{HasOneList, one_finding}
+use Rattle.osi_dispute.specs.Laws.{ChooseSame, SameChoices}
+use Rattle.osi_dispute.proofs.OneFinding.{HasOneList}
+use Rattle.osi_dispute.proofs.a_rule_tells_a_break_from_leaving.{HasOnePlace, one_rule, same_found}
 use Rattle.osi_dispute.proofs.OneText.{one_text}
 
 -- ---- of one side
@@ -62,45 +68,76 @@ one_packet : (n m i : ℕ) (x y : List Sent) → x ≡ y → Some n ≡ option_m
     → Some m ≡ option_map offset_of (last_packet y i) → n ≡ m
 one_packet n m i x y e h k = some_same n m (h ∙ ap (λ (z : List Sent). option_map offset_of (last_packet z i)) e ∙ sym k)
 
-one_told : HasOneList → (d : Direction) (c : Capture) (f : Finding) (n m o p : ℕ) (s t : Stands) (b e : Break)
+one_told : HasOneList → (d : Direction) (c : Capture) (f : Finding) (n m o p : ℕ) (s : Stands) (b e : Break)
     → (f ≡ Kept → IsCountIn d c n) → (f ≡ Kept → IsCountIn d c m) → IsPlaceIn d c f o → IsPlaceIn d c f p
-    → (f ≡ Kept → s ≡ t) → ((f ≡ Kept → ⊥) → b ≡ e) → told_by f n o s b ≡ told_by f m p t e
-one_told one d c Kept n m o p s t b e h k x y q r =
-    let count = one_count one d c n m (h refl) (k refl) in let same = q refl in λ i. told.Kept (count i) (same i)
-one_told one d c (Broke j) n m o p s t b e h k x y q r =
+    → (broke_session f ≡ true → b ≡ e) → told_by f n o s b ≡ told_by f m p s e
+one_told one d c Kept n m o p s b e h k x y r =
+    let count = one_count one d c n m (h refl) (k refl) in λ i. told.Kept (count i) s
+one_told one d c (Broke j) n m o p s b e h k x y r =
     let place = one_packet o p j x.mine y.mine (one d c x.mine y.mine x.is_mine y.is_mine) x.place y.place in
-    let same = r (λ z. cc) in λ i. told.Broke (place i) (same i)
-one_told one d c (Left j) n m o p s t b e h k x y q r =
+    let same = r refl in λ i. told.Broke (place i) (same i)
+one_told one d c (Left j) n m o p s b e h k x y r =
     let place = one_packet o p j x.mine y.mine (one d c x.mine y.mine x.is_mine y.is_mine) x.place y.place in
-    let same = r (λ z. cc) in λ i. told.Left (place i) (same i)
-one_told one d c TooMany n m o p s t b e h k x y q r = refl
+    let same = r refl in λ i. told.Left (place i) (same i)
+one_told one d c TooMany n m o p s b e h k x y r = refl
 
-found_by : HasOneList → (d : Direction) (c : Capture) (f g : Finding) → IsFoundIn d c f → IsFoundIn d c g
-    → ((IsDecided f × IsDecided g) ⊎ (f ≡ g)) → f ≡ g
-found_by one d c f g h k (inl (a, b)) = one_finding one d c f g a b h k
-found_by one d c f g h k (inr e) = e
-
--- so of two facts of a side all is the same that is told
+-- so of two facts of a side all is the same that is told, but for the state of a session that kept the protocol
 pub record Same (f g : Facts) : Type 0 where
   pub reading : f.reading ≡ g.reading
   pub reference : f.reference ≡ g.reference
   pub stopped : f.stopped ≡ g.stopped
   pub found : f.found ≡ g.found
-  pub told : told_of f ≡ told_of g
+  pub members : f.members ≡ g.members
+  pub told : told_of f ≡ told_by g.found g.count g.offset f.stands g.by
 
-alike : HasOneList → (d : Direction) (c : Capture) (f g : Facts) → AreFacts d c f → AreFacts d c g → ChooseSame f g → Same f g
-alike one d c f g h k e =
-    let found = found_by one d c f.found g.found h.found k.found e.found in
+alike : HasOneList → HasOnePlace → (d : Direction) (c : Capture) (f g : Facts) → AreFacts d c f → AreFacts d c g → ChooseSame f g → Same f g
+alike one place d c f g h k e =
+    let found = same_found one place d c f.found g.found f.members g.members f.at g.at f.by g.by h.found k.found h.rule k.rule e.judged
+    e.members e.at in
+    let rule = subst (λ (x : Finding). IsRuleIn d c g.members g.at x g.by) (sym found) k.rule in
+    let by = λ (x : broke_session f.found ≡ true).
+    one_rule one d c f.found f.members g.members f.at g.at f.by g.by h.found h.rule rule e.members (e.at x) x in
     let count = subst (λ (x : Finding). x ≡ Kept → IsCountIn d c g.count) (sym found) k.count in
-    let place = subst (λ (x : Finding). IsPlaceIn d c x g.offset) (sym found) k.offset in
+    let offset = subst (λ (x : Finding). IsPlaceIn d c x g.offset) (sym found) k.offset in
     record {
       reading = one_reading d c f.reading g.reading h.reading k.reading;
       reference = one_reference d c f.reference g.reference h.reference k.reference;
       stopped = one_stop d c f.stopped g.stopped h.stopped k.stopped;
       found = found;
-      told = one_told one d c f.found f.count g.count f.offset g.offset f.stands g.stands f.by g.by h.count count h.offset place e.stands e.by
-          ∙ ap (λ (x : Finding). told_by x g.count g.offset g.stands g.by) found;
+      members = e.members;
+      told = one_told one d c f.found f.count g.count f.offset g.offset f.stands f.by g.by h.count count h.offset offset by
+          ∙ ap (λ (x : Finding). told_by x g.count g.offset f.stands g.by) found;
     }
+
+-- ---- the session that stands for a side
+
+one_standing : HasOneList → (d : Direction) (c : Capture) (m : List Member) (s t : Stands) → IsStandingIn d c m s → IsStandingIn d c m t
+    → s ≡ t
+one_standing one d c m s t h k =
+    let others = one (other d) c k.others h.others k.stand.is_others h.stand.is_others in
+    one_stands (heard h.others) (foremost m) s t h.behind (subst (λ (z : List Sent). StandsBehind (heard z) (foremost m) t) others k.behind)
+
+one_session : HasOneList → (d : Direction) (c : Capture) (m : List Member) (r : ℕ) (f : Finding) (n o : ℕ) (s t : Stands) (b : Break)
+    → StandsIn d c m (Session r (told_by f n o s b)) → StandsIn d c m (Session r (told_by f n o t b))
+    → Session r (told_by f n o s b) ≡ Session r (told_by f n o t b)
+one_session one d c m r Kept n o s t b h k = ap (λ (x : Stands). Session r (told.Kept n x)) (one_standing one d c m s t h k)
+one_session one d c m r (Broke i) n o s t b h k = refl
+one_session one d c m r (Left i) n o s t b h k = refl
+one_session one d c m r TooMany n o s t b h k = refl
+
+one_connection : HasOneList
+    → (d : Direction) (c : Capture) (m : List Member) (dropped : Bool) (r : Option ℕ) (blamed refused answered : Bool)
+    (f : Finding) (n o : ℕ) (s t : Stands) (b : Break)
+    → StandsIn d c m (connection_by dropped r blamed refused answered (told_by f n o s b))
+    → StandsIn d c m (connection_by dropped r blamed refused answered (told_by f n o t b))
+    → connection_by dropped r blamed refused answered (told_by f n o s b) ≡ connection_by dropped r blamed refused answered
+    (told_by f n o t b)
+one_connection one d c m true r blamed refused answered f n o s t b h k = refl
+one_connection one d c m false None blamed refused answered f n o s t b h k = refl
+one_connection one d c m false (Some r) true refused answered f n o s t b h k = one_session one d c m r f n o s t b h k
+one_connection one d c m false (Some r) false true answered f n o s t b h k = refl
+one_connection one d c m false (Some r) false false false f n o s t b h k = refl
+one_connection one d c m false (Some r) false false true f n o s t b h k = one_session one d c m r f n o s t b h k
 
 -- ---- the side that is told as the first
 
@@ -124,7 +161,12 @@ one_first (Some side.Right) (Some side.Left) l r m s h k a b g = g (a ∙ k) h
 
 -- ---- of both sides
 
-verdicts_same : (first : Option Direction) (l r m s : Facts) → Same l m → Same r s → verdict_by first l r ≡ verdict_by first m s
+-- the facts with the session of others
+abbrev standing_by : Facts → Stands → Facts
+standing_by f s = record f { stands = s }
+
+verdicts_same : (first : Option Direction) (l r m s : Facts) → Same l m → Same r s
+    → verdict_by first l r ≡ verdict_by first (standing_by m l.stands) (standing_by s r.stands)
 verdicts_same first l r m s a b =
     let left_reading = a.reading in
     let right_reading = b.reading in
@@ -152,24 +194,66 @@ verdicts_same first l r m s a b =
       outcome = outcome_by first (left_found i) (right_found i) (left_stop i) (right_stop i);
     }
 
-pub one_verdict : HasOneList → (c : Capture) (v w : Verdict) (first second : Option Direction) (l r m s : Facts) → IsToldBy c v first l r
-    → IsToldBy c w second m s → SameChoices first second l r m s → v ≡ w
-one_verdict one c v w first second l r m s h k e =
-    let a = alike one side.Left c l m h.of_left k.of_left e.of_left in
-    let b = alike one side.Right c r s h.of_right k.of_right e.of_right in
-    let same = one_first first second l r m s h.first_of k.first_of (same_broken l m a) (same_broken r s b) e.of_first in
-    h.tells ∙ verdicts_same first l r m s a b ∙ ap (λ (x : Option Direction). verdict_by x m s) same ∙ sym k.tells
+-- two sets of facts that differ in the session that stands for a side, and tell of it as the capture has it
+stands_same : HasOneList → (c : Capture) (first : Option Direction) (m s : Facts) (x y : Stands)
+    → StandsIn side.Left c m.members (verdict_by first (standing_by m x) (standing_by s y)).left.connection
+    → StandsIn side.Left c m.members (verdict_by first m s).left.connection
+    → StandsIn side.Right c s.members (verdict_by first (standing_by m x) (standing_by s y)).right.connection
+    → StandsIn side.Right c s.members (verdict_by first m s).right.connection
+    → verdict_by first (standing_by m x) (standing_by s y) ≡ verdict_by first m s
+stands_same one c first m s x y h k p q =
+    let left = one_connection one side.Left c m.members (left_first first side.Right s.found) m.reference (broke_session m.found)
+    (is_refused s.stopped)
+    (is_some s.reference) m.found m.count m.offset x m.stands m.by h k in
+    let right = one_connection one side.Right c s.members (left_first first side.Left m.found) s.reference (broke_session s.found)
+    (is_refused s.stopped)
+    (is_some s.reference) s.found s.count s.offset y s.stands s.by p q in
+    λ i. record {
+      left = record { reading = m.reading; connection = left i; stopped = m.stopped };
+      right = record { reading = s.reading; connection = right i; stopped = s.stopped };
+      outcome = outcome_by first m.found s.found m.stopped s.stopped;
+    }
+
+pub one_verdict : HasOneList → HasOnePlace → (c : Capture) (v w : Verdict) (a : Determined c v) (b : Determined c w)
+    → SameChoices a.first b.first a.left a.right b.left b.right → v ≡ w
+one_verdict one place c v w a b e =
+    let h = a.told in
+    let k = b.told in
+    let l = alike one place side.Left c a.left b.left h.of_left k.of_left e.of_left in
+    let r = alike one place side.Right c a.right b.right h.of_right k.of_right e.of_right in
+    let first = one_first a.first b.first a.left a.right b.left b.right h.first_of k.first_of (same_broken a.left b.left l)
+    (same_broken a.right b.right r) e.of_first in
+    let one_side = h.tells ∙ verdicts_same a.first a.left a.right b.left b.right l r
+    ∙ ap (λ (x : Option Direction). verdict_by x (standing_by b.left a.left.stands) (standing_by b.right a.right.stands)) first in
+    one_side ∙ stands_same one c b.first b.left b.right a.left.stands a.right.stands
+    (subst (λ (x : Verdict). StandsIn side.Left c b.left.members x.left.connection) one_side
+    (subst (λ (x : List Member). StandsIn side.Left c x v.left.connection) l.members a.left_stands))
+    (subst (λ (x : Verdict). StandsIn side.Left c b.left.members x.left.connection) k.tells b.left_stands)
+    (subst (λ (x : Verdict). StandsIn side.Right c b.right.members x.right.connection) one_side
+    (subst (λ (x : List Member). StandsIn side.Right c x v.right.connection) r.members a.right_stands))
+    (subst (λ (x : Verdict). StandsIn side.Right c b.right.members x.right.connection) k.tells b.right_stands)
+    ∙ sym k.tells
 
 -- ---- of a text
 
-pub one_judgement : HasOneList → (text lines others : List ℕ) (status other : ℕ) (one : IsJudgement text lines status)
+-- the same facts of a capture that is the same
+abbrev determined_in : (v : Verdict) (c e : Capture) → c ≡ e → Determined c v → Determined e v
+determined_in v c e p a = record {
+  first = a.first;
+  left = a.left;
+  right = a.right;
+  told = subst (λ (x : Capture). IsToldBy x v a.first a.left a.right) p a.told;
+  left_stands = subst (λ (x : Capture). StandsIn side.Left x a.left.members v.left.connection) p a.left_stands;
+  right_stands = subst (λ (x : Capture). StandsIn side.Right x a.right.members v.right.connection) p a.right_stands;
+}
+
+pub one_judgement : HasOneList → HasOnePlace → (text lines others : List ℕ) (status other : ℕ) (one : IsJudgement text lines status)
     (two : IsJudgement text others other) (a : Determined one.capture one.judged.verdict) (b : Determined two.capture two.judged.verdict)
     → SameChoices a.first b.first a.left a.right b.left b.right → (lines ≡ others) × (status ≡ other)
-one_judgement has text lines others status other one two a b same =
+one_judgement has place text lines others status other one two a b same =
     let v = one.judged.verdict in
     let w = two.judged.verdict in
     let capture = one_text text one.capture two.capture one.reads two.reads in
-    let told = subst (λ (c : Capture). IsToldBy c v a.first a.left a.right) capture a.told in
-    let e = one_verdict has two.capture v w a.first b.first a.left a.right b.left b.right told b.told same in
+    let e = one_verdict has place two.capture v w (determined_in v one.capture two.capture capture a) b same in
     let answered = ap (λ (x : Verdict). verdict_status x.outcome) e in
     (one.judged.told ∙ ap verdict_text e ∙ sym two.judged.told, one.judged.answered ∙ answered ∙ sym two.judged.answered)

@@ -1,15 +1,14 @@
 -- What is told of a side is told by what a judge keeps of it, and that is so of the capture: for the functions of `verdicts`.
 use Rattle.std.proofs.Common.{◌≡◌, ◌∙◌, refl, sym, ap, subst, ℕ, Bool, true, false, is_some, List, Option, Some, None}
 use Rattle.osi_session.specs.Standing.{seen_called}
-use Rattle.osi_session.specs.declared.breaches.Breach.TheVariants.{NoFault}
 use Rattle.osi_judge.specs.declared.directions.Direction.{Direction}
 use Rattle.osi_judge.specs.declared.directions.Direction.TheVariants as side
 use Rattle.osi_judge.specs.declared.findings.Finding.{Finding}
 use Rattle.osi_judge.specs.declared.findings.Finding.TheVariants.{Kept, Broke, Left, TooMany}
 use Rattle.osi_judge.specs.declared.judge.Judge.{Judge}
 use Rattle.osi_judge.specs.declared.judge.Reading.{Reading}
+use Rattle.osi_judge.specs.declared.members.Member.{Member}
 use Rattle.osi_judge.specs.declared.rules.Break.{Break}
-use Rattle.osi_judge.specs.declared.rules.Rule.TheVariants.{Breach}
 use Rattle.osi_judge.specs.declared.standings.Stands.{Stands}
 use Rattle.osi_judge.specs.declared.stops.Stopped.{Stopped}
 use Rattle.osi_judge.specs.Captures.{Capture, other}
@@ -32,12 +31,9 @@ use Rattle.osi_dispute.specs.Facts.{IsFirstOf, IsDetermined, StandsIn, facts_of,
 use Rattle.osi_dispute.specs.Facts.{outcome_in}
 use Rattle.osi_dispute.specs.Verdicts.{Knows}
 
--- a choice that is told nowhere
+-- what is told nowhere
 no_stands : Stands
 no_stands = record { taken = 0; standing = seen_called; owes = None }
-
-no_break : Break
-no_break = record { said = None; rule = Breach NoFault; before = 0; taken = 0; standing = seen_called }
 
 -- ---- of a session
 
@@ -46,32 +42,31 @@ pub told_kept : (t : Tapped) (w : Watched) (n : ℕ) (s : Stands) → w ≡ t.si
     → IsToldOf t (told.Kept n s)
 told_kept t w n s e c k h = record {
   stands = s;
-  by = no_break;
-  is = ap (λ (x : ℕ). told.Kept x s) (c ∙ ap (λ (x : Watched). x.told) e) ∙ sym (ap (λ (f : Finding). told_by f t.side.told t.line.last s no_break) k);
+  is = ap (λ (x : ℕ). told.Kept x s) (c ∙ ap (λ (x : Watched). x.told) e) ∙ sym
+      (ap (λ (f : Finding). told_by f t.side.told t.line.last s t.side.by) k);
   standing = (k, subst (λ (x : Watched). (said : List ToldOf) → Keeps x said → StandsFor x said s) e h);
 }
 
-pub told_broke : (t : Tapped) (o : ℕ) (b : Break) (i : ℕ) → o ≡ t.line.last → t.side.finding ≡ Broke i → IsToldOf t (told.Broke o b)
-told_broke t o b i e k = record {
+pub told_broke : (t : Tapped) (o : ℕ) (b : Break) (i : ℕ) → o ≡ t.line.last → b ≡ t.side.by → t.side.finding ≡ Broke i
+    → IsToldOf t (told.Broke o b)
+told_broke t o b i e q k = record {
   stands = no_stands;
-  by = b;
-  is = ap (λ (x : ℕ). told.Broke x b) e ∙ sym (ap (λ (f : Finding). told_by f t.side.told t.line.last no_stands b) k);
+  is = (λ i. told.Broke (e i) (q i)) ∙ sym (ap (λ (f : Finding). told_by f t.side.told t.line.last no_stands t.side.by) k);
   standing = tt;
 }
 
-pub told_left : (t : Tapped) (o : ℕ) (b : Break) (i : ℕ) → o ≡ t.line.last → t.side.finding ≡ Left i → IsToldOf t (told.Left o b)
-told_left t o b i e k = record {
+pub told_left : (t : Tapped) (o : ℕ) (b : Break) (i : ℕ) → o ≡ t.line.last → b ≡ t.side.by → t.side.finding ≡ Left i
+    → IsToldOf t (told.Left o b)
+told_left t o b i e q k = record {
   stands = no_stands;
-  by = b;
-  is = ap (λ (x : ℕ). told.Left x b) e ∙ sym (ap (λ (f : Finding). told_by f t.side.told t.line.last no_stands b) k);
+  is = (λ i. told.Left (e i) (q i)) ∙ sym (ap (λ (f : Finding). told_by f t.side.told t.line.last no_stands t.side.by) k);
   standing = tt;
 }
 
 pub told_many : (t : Tapped) → t.side.finding ≡ TooMany → IsToldOf t told.TooMany
 told_many t k = record {
   stands = no_stands;
-  by = no_break;
-  is = sym (ap (λ (f : Finding). told_by f t.side.told t.line.last no_stands no_break) k);
+  is = sym (ap (λ (f : Finding). told_by f t.side.told t.line.last no_stands t.side.by) k);
   standing = tt;
 }
 
@@ -80,16 +75,16 @@ told_many t k = record {
 pub dropped : (d : Bool) (t right : Tapped) → d ≡ true → Connects d t right Silent
 dropped d t right e = record {
   stands = no_stands;
-  by = no_break;
-  is = sym (ap (λ (b : Bool). connection_by b t.line.reference (broke_session t.side.finding) (is_refused (stopped_of right)) (is_unanswered right.line.reference (stopped_of right)) (told_of (facts_of t no_stands no_break))) e);
+  is = sym (ap (λ (b : Bool). connection_by b t.line.reference (broke_session t.side.finding) (is_refused (stopped_of right))
+      (is_unanswered right.line.reference (stopped_of right)) (told_of (facts_of t no_stands))) e);
   standing = tt;
 }
 
 pub nameless : (t right : Tapped) → t.line.reference ≡ None → Connects false t right Silent
 nameless t right e = record {
   stands = no_stands;
-  by = no_break;
-  is = sym (ap (λ (r : Option ℕ). connection_by false r (broke_session t.side.finding) (is_refused (stopped_of right)) (is_unanswered right.line.reference (stopped_of right)) (told_of (facts_of t no_stands no_break))) e);
+  is = sym (ap (λ (r : Option ℕ). connection_by false r (broke_session t.side.finding) (is_refused (stopped_of right))
+      (is_unanswered right.line.reference (stopped_of right)) (told_of (facts_of t no_stands))) e);
   standing = tt;
 }
 
@@ -104,8 +99,7 @@ pub refused : (t right : Tapped) (r : ℕ) → t.line.reference ≡ Some r → b
     → is_refused (stopped_of right) ≡ true → Connects false t right (Refused r)
 refused t right r e b f = record {
   stands = no_stands;
-  by = no_break;
-  is = sym (connects_as t right r false true (is_unanswered right.line.reference (stopped_of right)) (told_of (facts_of t no_stands no_break)) e b f refl);
+  is = sym (connects_as t right r false true (is_unanswered right.line.reference (stopped_of right)) (told_of (facts_of t no_stands)) e b f refl);
   standing = tt;
 }
 
@@ -114,8 +108,7 @@ pub unanswered : (t right : Tapped) (r : ℕ) → t.line.reference ≡ Some r �
     → Connects false t right (Unanswered r)
 unanswered t right r e b f a = record {
   stands = no_stands;
-  by = no_break;
-  is = sym (connects_as t right r false false true (told_of (facts_of t no_stands no_break)) e b f a);
+  is = sym (connects_as t right r false false true (told_of (facts_of t no_stands)) e b f a);
   standing = tt;
 }
 
@@ -123,8 +116,8 @@ pub blamed : (t right : Tapped) (r : ℕ) (c : Connection) (x : Told) → t.line
     → c ≡ Session r x → IsToldOf t x → Connects false t right c
 blamed t right r c x e b q h = subst (λ (y : Connection). Connects false t right y) (sym q) (record {
   stands = h.stands;
-  by = h.by;
-  is = ap (Session r) h.is ∙ sym (connects_as t right r true (is_refused (stopped_of right)) (is_unanswered right.line.reference (stopped_of right)) (told_of (facts_of t h.stands h.by)) e b refl refl);
+  is = ap (Session r) h.is ∙ sym (connects_as t right r true (is_refused (stopped_of right)) (is_unanswered right.line.reference (stopped_of right))
+      (told_of (facts_of t h.stands)) e b refl refl);
   standing = h.standing;
 })
 
@@ -133,8 +126,7 @@ pub answered : (t right : Tapped) (r : ℕ) (c : Connection) (x : Told) → t.li
     → is_unanswered right.line.reference (stopped_of right) ≡ false → c ≡ Session r x → IsToldOf t x → Connects false t right c
 answered t right r c x e b f a q h = subst (λ (y : Connection). Connects false t right y) (sym q) (record {
   stands = h.stands;
-  by = h.by;
-  is = ap (Session r) h.is ∙ sym (connects_as t right r false false false (told_of (facts_of t h.stands h.by)) e b f a);
+  is = ap (Session r) h.is ∙ sym (connects_as t right r false false false (told_of (facts_of t h.stands)) e b f a);
   standing = h.standing;
 })
 
@@ -145,37 +137,43 @@ pub accounted : (d : Bool) (t right : Tapped) (r : Reading) (c : Connection) (s 
     → Accounts d t right (record { reading = r; connection = c; stopped = s })
 accounted d t right r c s e f k = record {
   stands = k.stands;
-  by = k.by;
   is = λ i. record { reading = e i; connection = k.is i; stopped = f i };
   standing = k.standing;
 }
 
 -- ---- of the capture
 
-facts_known : (d : Direction) (c : Capture) (j : Judged) (s : Stands) (b : Break) → Taps j c → AreFacts d c (facts_of (half_of d j) s b)
-facts_known d c j s b t = let k = known_in d c j t in record {
+-- with the sessions before the unit at which the side broke the protocol
+abbrev facts_at : Tapped → Stands → List Member → Facts
+facts_at t s at = record (facts_of t s) { at = at }
+
+facts_known : (d : Direction) (c : Capture) (j : Judged) (s : Stands) (t : Taps j c)
+    → AreFacts d c (facts_at (half_of d j) s (known_in d c j t).rule.0)
+facts_known d c j s t = let k = known_in d c j t in record {
   reading = k.read;
   reference = k.given;
   stopped = k.stops;
   found = k.found;
   count = k.count;
   offset = k.place;
+  rule = k.rule.1;
 }
 
-first_known : (first : Option Direction) (j : Judged) (c : Capture) (s u : Stands) (b e : Break) → FirstIs first j c
-    → IsFirstOf first (facts_of j.left s b) (facts_of j.right u e)
-first_known None j c s u b e h = h
-first_known (Some side.Left) j c s u b e h = h.1
-first_known (Some side.Right) j c s u b e h = h.1
+first_known : (first : Option Direction) (j : Judged) (c : Capture) (s u : Stands) (m n : List Member) → FirstIs first j c
+    → IsFirstOf first (facts_at j.left s m) (facts_at j.right u n)
+first_known None j c s u m n h = h
+first_known (Some side.Left) j c s u m n h = h.1
+first_known (Some side.Right) j c s u m n h = h.1
 
 stands_session : (d : Direction) (c : Capture) (j : Judged) (r : ℕ) (x : Told) → Taps j c → StandsBy (half_of d j) (Session r x)
-    → StandsIn d c (Session r x)
+    → StandsIn d c (half_of d j).side.members (Session r x)
 stands_session d c j r (told.Kept n s) t h = is_standing d c j t h.0 s h.1
 stands_session d c j r (told.Broke o b) t h = tt
 stands_session d c j r (told.Left o b) t h = tt
 stands_session d c j r told.TooMany t h = tt
 
-pub stands_in : (d : Direction) (c : Capture) (j : Judged) (x : Connection) → Taps j c → StandsBy (half_of d j) x → StandsIn d c x
+pub stands_in : (d : Direction) (c : Capture) (j : Judged) (x : Connection) → Taps j c → StandsBy (half_of d j) x
+    → StandsIn d c (half_of d j).side.members x
 stands_in d c j Silent t h = tt
 stands_in d c j (Refused r) t h = tt
 stands_in d c j (Unanswered r) t h = tt
@@ -188,13 +186,14 @@ pub determined : (j : Judge) (c : Capture) (l r : Account) (o : Outcome) → Kno
 unfolding IsDetermined
 determined j c l r o k a b e = record {
   first = first_in j;
-  left = facts_of (judged j).left a.stands a.by;
-  right = facts_of (judged j).right b.stands b.by;
+  left = facts_at (judged j).left a.stands (known_in side.Left c (judged j) k.taps).rule.0;
+  right = facts_at (judged j).right b.stands (known_in side.Right c (judged j) k.taps).rule.0;
   told = record {
-    of_left = facts_known side.Left c (judged j) a.stands a.by k.taps;
-    of_right = facts_known side.Right c (judged j) b.stands b.by k.taps;
+    of_left = facts_known side.Left c (judged j) a.stands k.taps;
+    of_right = facts_known side.Right c (judged j) b.stands k.taps;
     is_first = is_first_in (first_in j) (judged j) c k.taps k.first;
-    first_of = first_known (first_in j) (judged j) c a.stands b.stands a.by b.by k.first;
+    first_of = first_known (first_in j) (judged j) c a.stands b.stands (known_in side.Left c (judged j) k.taps).rule.0
+        (known_in side.Right c (judged j) k.taps).rule.0 k.first;
     tells = λ i. record { left = a.is i; right = b.is i; outcome = e i };
   };
   left_stands = stands_in side.Left c (judged j) l.connection k.taps a.standing;

@@ -1,18 +1,18 @@
 //! Laws of judgements: what one text can be judged to be. Each function does nothing; its clauses are the laws.
 
-ghost use Rattle.std.specs.Prelude.{◌≡◌, ℕ, List, [], Option};
+ghost use Rattle.std.specs.Prelude.{◌≡◌, ℕ, List, []};
 ghost use Rattle.osi_judge.specs.declared.directions.Direction.{Direction};
 ghost use Rattle.osi_judge.specs.declared.findings.Finding.{Finding};
 ghost use Rattle.osi_judge.specs.Captures.{Capture};
 ghost use Rattle.osi_judge.specs.Tapping.{IsFoundIn};
 ghost use Rattle.osi_dispute.specs.declared.verdicts.Verdict.{Verdict};
 ghost use Rattle.osi_dispute.specs.Disputes.{IsJudgement};
-ghost use Rattle.osi_dispute.specs.Facts.{Facts, IsToldBy, Determined, IsDetermined};
+ghost use Rattle.osi_dispute.specs.Facts.{Determined, IsDetermined};
 ghost use Rattle.osi_dispute.specs.Laws.{IsDecided, SameChoices};
 ghost use Rattle.osi_dispute.specs.Rows.{IsCaptureOf};
 ghost use Rattle.osi_dispute.specs.Texts.{outcome_line};
 
-use osi_judge::laws::a_capture_has_one_reading;
+use osi_judge::laws::{a_capture_has_one_reading, a_side_is_found_in_one_way};
 
 /// A text is one capture, and one thing is found of each side of a capture: that it kept the protocol, or broke it
 /// with one of its TSDUs.
@@ -24,20 +24,19 @@ pub fn a_text_has_one_finding()
     a_capture_has_one_reading();
 }
 
-/// A capture has one verdict, and a text one judgement, but for what the definitions leave open. Of a side that is what is
-/// found, unless it is that the side kept the protocol or broke it; by which session it stands; and by which rule it broke
-/// the protocol. If both sides broke it, it is also which was first. Judgements that choose the same there have the same
-/// lines and the same status.
+/// A capture has one verdict, and a text one judgement, but for what the definitions leave open. Of a side that is whether
+/// too many sessions explain it; and which of the sessions that explain it are kept, and in which order. If both sides broke
+/// the protocol, it is also which was first. Judgements that choose the same there have the same lines and the same status.
 pub fn a_text_has_one_judgement()
-    ensures verdict { (capture : Capture) (v w : Verdict) (first second : Option Direction) (left right lefts rights : Facts)
-        → IsToldBy capture v first left right → IsToldBy capture w second lefts rights
-        → SameChoices first second left right lefts rights → v ≡ w }
+    ensures verdict { (capture : Capture) (v w : Verdict) (a : Determined capture v) (b : Determined capture w)
+        → SameChoices a.first b.first a.left a.right b.left b.right → v ≡ w }
     ensures text { (text lines others : List ℕ) (status other : ℕ)
         (one : IsJudgement text lines status) (two : IsJudgement text others other)
         (a : Determined one.capture one.judged.verdict) (b : Determined two.capture two.judged.verdict)
         → SameChoices a.first b.first a.left a.right b.left b.right → (lines ≡ others) × (status ≡ other) }
 {
     a_capture_has_one_reading();
+    a_side_is_found_in_one_way();
 }
 
 /// A verdict says who is to blame, that both sides kept the protocol, or why it isn't judged: its last line is never

@@ -2,8 +2,13 @@ pub mod MemberLaws
 pub mod WalkLaws
 pub mod FirstPlaceLaws
 pub mod TellingLaws
+pub mod the_nearest_of_all_sessions_is_told
+pub mod a_break_stays_the_break
 pub mod SideLaws
 pub mod OnwardLaws
+pub mod a_tsdu_is_broken_by_one_rule
+pub mod a_session_stands_in_one_way
+pub mod no_session_is_before_the_one_that_is_told
 pub mod CaptureLaws
 pub mod CountLaws
 pub mod UnitLaws

@@ -5,14 +5,17 @@ use Rattle.osi_session.specs.declared.reactions.Reply.{Reply}
 use Rattle.osi_session.specs.declared.standing.Taking.{Taking}
 use Rattle.osi_session.specs.Steps.{reply_of}
 use Rattle.osi_session.specs.Taking.{count_taken}
-use Rattle.osi_session.specs.Standing.{Seen, Takes, listens, after_count}
+use Rattle.osi_session.specs.Standing.{Seen, seen_called, Takes, listens, after_count}
 use Rattle.osi_judge.specs.declared.members.Member.{Member}
 use Rattle.osi_judge.specs.declared.standings.Turn.{Turn}
-use Rattle.osi_judge.specs.declared.standings.Turn.TheVariants.{Goes}
+use Rattle.osi_judge.specs.declared.standings.Turn.TheVariants.{Goes, Stops}
 use Rattle.osi_judge.specs.declared.standings.Stands.{Stands}
 use Rattle.osi_judge.specs.Explaining.{Told, Remark, Explains}
+use Rattle.osi_judge.specs.Foremost.{first_of, foremost}
 use Rattle.osi_judge.specs.Members.{SomeExplains}
 use Rattle.osi_judge.specs.Judging.{Watched, is_empty, Keeps}
+use Rattle.osi_judge.specs.Nearest.{goes_to}
+use Rattle.osi_judge.proofs.the_nearest_of_all_sessions_is_told.{goes_stop}
 use Rattle.osi_judge.specs.Onward.{StopsBy, Quietly, GoesOn, Comes, stays, goes, StandsBehind, IsAmong, StandsFor}
 
 -- what a session does with a TSDU that it takes
@@ -52,6 +55,16 @@ comes_on us m n t (goes k l o p c) q = goes m l t p (comes_on us l n t c q)
 pub comes_next : (us : List (List ℕ)) (m n t : Member) (turn : Turn) → turn ≡ Goes t → Comes us m n → GoesOn us n turn → Comes us m t
 comes_next us m n t turn e c g = comes_on us m n t c (subst (λ (x : Turn). GoesOn us n x) e g)
 
+-- the state before the TSDU that it stops at
+pub stands_stop : (us : List (List ℕ)) (m at : Member) (s : Stands) (owes : Option Reply) (turn : Turn)
+    → s ≡ record { taken = at.taken; standing = at.standing; owes = owes } → at.taken < length us → turn ≡ Stops owes → GoesOn us at turn
+    → Comes us m at → goes_to us at ≡ goes_to us m → StandsBehind us m s
+stands_stop us m at s owes turn e l t g c h = subst (λ (x : Stands). StandsBehind us m x) (sym e) (record {
+  comes = c;
+  goes = goes_stop us at m turn owes l t g h;
+  ends = inr (l, subst (λ (x : Turn). GoesOn us at x) t g);
+})
+
 -- ---- a session that explains a side
 
 pub among_at : (members : List Member) (i : ℕ) (x : Member) → i < length members → x ≡ get_or members i x → IsAmong x members
@@ -64,21 +77,37 @@ some_explains us later [] m a h = absurd a
 some_explains us later (n ∷ members) m (inl e) h = inl (subst (λ (x : Member). Explains us later x.taken x.standing) e h)
 some_explains us later (n ∷ members) m (inr a) h = inr (some_explains us later members m a h)
 
-pub stands_for : (w : Watched) (told : List Told) (m : Member) (s : Stands) → (is_empty w.members ≡ false → IsAmong m w.members) → StandsBehind w.heard m s → Keeps w told → StandsFor w told s
-stands_for w told m s a b k = record {
-  member = m;
-  has_said = λ us later e h p. (k.all us later e h).1 (some_explains us later w.members m (a k.some) p);
+pub stands_for : (w : Watched) (told : List Told) (s : Stands) → (is_empty w.members ≡ false → IsAmong (foremost w.members) w.members)
+    → StandsBehind w.heard (foremost w.members) s → Keeps w told → StandsFor w told s
+stands_for w told s a b k = record {
+  all = k.all;
+  has_said = λ us later e h p. (k.all us later e h).1 (some_explains us later w.members (foremost w.members) (a k.some) p);
   behind = b;
 }
 
-pub stands_ok : {E : Type 0} (r : Result Stands E) (w : Watched) (heard : List (List ℕ)) (m : Member) → heard ≡ w.heard → (is_empty w.members ≡ false → IsAmong m w.members)
+pub stands_ok : {E : Type 0} (r : Result Stands E) (w : Watched) (heard : List (List ℕ)) (m : Member) → heard ≡ w.heard
+    → m ≡ foremost w.members
+    → (is_empty w.members ≡ false → IsAmong m w.members)
     → IfOk r (λ s. StandsBehind heard m s) → IfOk r (λ s. (told : List Told) → Keeps w told → StandsFor w told s)
-stands_ok (Ok s) w heard m e a b = λ told k. stands_for w told m s a (subst (λ (x : List (List ℕ)). StandsBehind x m s) e b) k
-stands_ok (Err x) w heard m e a b = tt
+stands_ok (Ok s) w heard m e v a b = λ told k.
+    stands_for w told s (λ some. subst (λ (y : Member). IsAmong y w.members) v (a some))
+    (subst (λ (y : Member). StandsBehind w.heard y s) v (subst (λ (x : List (List ℕ)). StandsBehind x m s) e b)) k
+stands_ok (Err x) w heard m e v a b = tt
 
 pub first_among : (members : List Member) (m : Member) → Some m ≡ slice_get members 0 → is_empty members ≡ false → IsAmong m members
 first_among [] m e s = absurd (cc)
 first_among (n ∷ members) m e s = inl (cc)
+
+pub first_is : (members : List Member) (m : Member) → Some m ≡ slice_get members 0 → m ≡ first_of members
+first_is [] m e = absurd (cc)
+first_is (n ∷ members) m e = cc
+
+abbrev pub fresh : Seen → Member
+fresh s = record { taken = 0; standing = s }
+
+pub first_none : (members : List Member) (s : Seen) → s ≡ seen_called → None ≡ slice_get members 0 → fresh s ≡ first_of members
+first_none [] s e n = ap fresh e
+first_none (m ∷ members) s e n = absurd (cc)
 
 pub among_next : (members : List Member) (best next : Member) (i : ℕ) (x : Member) → i < length members → x ≡ get_or members i x → (next ≡ best) ⊎ (next ≡ x)
     → (is_empty members ≡ false → IsAmong best members) → is_empty members ≡ false → IsAmong next members

@@ -12,31 +12,56 @@ use Rattle.osi_judge.specs.declared.findings.Finding.TheVariants.{Kept, Broke, L
 use Rattle.osi_judge.specs.Explaining.{Remark, remark, Told, read_as, remarks_of, remarks, Explains, done, IsExplained}
 use Rattle.osi_judge.specs.Members.{SomeExplains, Extends, IsBehind}
 use Rattle.osi_judge.specs.Walking.{Ever}
-use Rattle.osi_judge.specs.Sides.{EndsAt}
-use Rattle.osi_judge.specs.Profiles.{offered_in, accepted_in, in_first, is_outside, selects_outside}
-use Rattle.osi_judge.specs.Judging.{Watched, is_empty, IsKept, IsAstray, BrokeFor, LeftFor, CrowdedFor, AreAll, Keeps, WatchesBy, Watches, IsFound}
+use Rattle.osi_judge.specs.declared.rules.Break.{Break}
+use Rattle.osi_judge.specs.Breaking.{BreaksAt, selection_of}
+use Rattle.osi_judge.specs.Sides.{ended_at, EndsAt}
+use Rattle.osi_judge.specs.Profiles.{offered_in, accepted_in, in_first, is_outside, selects_outside, leaves}
+use Rattle.osi_judge.specs.Judging.{Watched, is_empty, StandsBefore, BrokeBy, LeftBy, IsKept, IsAstray, BrokeFor, LeftFor, CrowdedFor}
+use Rattle.osi_judge.specs.Judging.{AreAll, Keeps, WatchesBy, Watches, IsFound}
+use Rattle.osi_judge.proofs.a_break_stays_the_break.{extends_front, breaks_heard}
 
 -- ---- the TSDUs of the other side become more
 
-get_front : (xs ys : List (List ℕ)) (i : ℕ) → i < length xs → get_or (xs ++ ys) i [] ≡ get_or xs i []
-get_front [] ys i l = absurd (omega arith)
-get_front (x ∷ xs) ys zero l = refl
-get_front (x ∷ xs) ys (suc i) l = get_front xs ys i (omega arith)
+stands_heard : (w : Watched) (x : List ℕ) (told : List Told) (i : ℕ) (t : Told) → StandsBefore w told i t
+    → StandsBefore (record w { heard = w.heard ++ x ∷ [] }) told i t
+stands_heard w x told i t k =
+    let n = length-append w.heard (x ∷ []) in
+    let p = k.passed in record {
+      is = k.is;
+      passed = omega arith;
+      all = λ us later e h. k.all us later (extends_front us w.heard x e) h;
+      some = k.some;
+    }
 
-extends_less : (us heard : List (List ℕ)) (x : List ℕ) → Extends us (heard ++ x ∷ []) → Extends us heard
-extends_less us heard x h = λ i l. let n = length-append heard (x ∷ []) in h i (omega arith) ∙ get_front heard (x ∷ []) i l
+broke_heard : (w : Watched) (x : List ℕ) (told : List Told) (i : ℕ) → BrokeBy w told i
+    → BrokeBy (record w { heard = w.heard ++ x ∷ [] }) told i
+broke_heard w x told i k =
+    (k.0, stands_heard w x told i k.0 k.1, breaks_heard w.heard x k.0.octets k.0.before w.members w.by k.1.passed k.2, k.3)
+
+left_heard : (w : Watched) (x : List ℕ) (told : List Told) (i : ℕ) → LeftBy w told i
+    → LeftBy (record w { heard = w.heard ++ x ∷ [] }) told i
+left_heard w x told i (t, s, inl (b, l, k)) = (
+  t,
+  stands_heard w x told i t s,
+  inl (
+    breaks_heard w.heard x t.octets t.before w.members w.by s.passed b,
+    l,
+    (k.0, λ us e. k.1 us (extends_front us w.heard x e)),
+  ),
+)
+left_heard w x told i (t, s, inr (e, k)) = (t, stands_heard w x told i t s, inr (e, λ us h. k us (extends_front us w.heard x h)))
 
 heard_by : (f : Finding) (w : Watched) (x : List ℕ) (told : List Told) → WatchesBy f w told → WatchesBy f (record w { heard = w.heard ++ x ∷ [] }) told
 heard_by Kept w x told k = record {
   count = k.count;
-  all = λ us later e h. k.all us later (extends_less us w.heard x e) h;
+  all = λ us later e h. k.all us later (extends_front us w.heard x e) h;
   some = k.some;
   few = k.few;
-  inside = λ us e. k.inside us (extends_less us w.heard x e);
+  inside = λ us e. k.inside us (extends_front us w.heard x e);
 }
-heard_by (Broke i) w x told k = (k.0, λ us e. k.1 us (extends_less us w.heard x e))
-heard_by (Left i) w x told k = (k.0, λ us e. k.1 us (extends_less us w.heard x e))
-heard_by TooMany w x told k = (k.0, λ us e. k.1 us (extends_less us w.heard x e))
+heard_by (Broke i) w x told k = ((k.0.0, λ us e. k.0.1 us (extends_front us w.heard x e)), broke_heard w x told i k.1)
+heard_by (Left i) w x told k = ((k.0.0, λ us e. k.0.1 us (extends_front us w.heard x e)), left_heard w x told i k.1)
+heard_by TooMany w x told k = (k.0, λ us e. k.1 us (extends_front us w.heard x e))
 
 pub hears : (w : Watched) (x : List ℕ) (told : List Told) → Watches w told → Watches (record w { heard = w.heard ++ x ∷ [] }) told
 hears w x told k = heard_by w.finding w x told k
@@ -95,10 +120,34 @@ crowded_stays begin heard told x i k =
     let b = take_front told (x ∷ []) (i + 1) (omega arith) in
     (omega arith, λ us e. kept_still begin us (take (i + 1) (told ++ x ∷ [])) (take (i + 1) told) b (k.1 us e))
 
+told_front : (xs ys : List Told) (i : ℕ) (t : Told) → i < length xs → get_or (xs ++ ys) i t ≡ get_or xs i t
+told_front [] ys i t l = absurd (omega arith)
+told_front (x ∷ xs) ys zero t l = refl
+told_front (x ∷ xs) ys (suc i) t l = told_front xs ys i t (omega arith)
+
+-- what is known of the sessions that explain what was said before stays
+stood_stays : (w : Watched) (told : List Told) (x : Told) (i : ℕ) (t : Told) → i < length told → StandsBefore w told i t
+    → StandsBefore w (told ++ x ∷ []) i t
+stood_stays w told x i t l k = record {
+  is = k.is ∙ sym (told_front told (x ∷ []) i t l);
+  passed = k.passed;
+  all = subst (λ (z : List Told). AreAll w.begin w.heard w.before w.members z) (sym (take_front told (x ∷ []) i (omega arith))) k.all;
+  some = k.some;
+}
+
+broke_by_stays : (w : Watched) (told : List Told) (x : Told) (i : ℕ) → i < length told → BrokeBy w told i → BrokeBy w (told ++ x ∷ []) i
+broke_by_stays w told x i l k = (k.0, stood_stays w told x i k.0 l k.1, k.2, k.3)
+
+left_by_stays : (w : Watched) (told : List Told) (x : Told) (i : ℕ) → i < length told → LeftBy w told i → LeftBy w (told ++ x ∷ []) i
+left_by_stays w told x i l (t, s, inl (b, e, k)) = (t, stood_stays w told x i t l s, inl (b, e, broke_stays w.begin w.heard told x i k))
+left_by_stays w told x i l (t, s, inr (e, k)) =
+    let same = take_front told (x ∷ []) (i + 1) (omega arith) in
+    (t, stood_stays w told x i t l s, inr (e, λ us h. subst (λ (z : List Told). IsExplained w.begin us z) (sym same) (k us h)))
+
 stays_by : (f : Finding) (w : Watched) (told : List Told) (x : Told) → (f ≡ Kept → ⊥) → WatchesBy f w told → WatchesBy f w (told ++ x ∷ [])
 stays_by Kept w told x n k = absurd (n refl)
-stays_by (Broke i) w told x n k = broke_stays w.begin w.heard told x i k
-stays_by (Left i) w told x n k = left_stays w.begin w.heard told x i k
+stays_by (Broke i) w told x n k = (broke_stays w.begin w.heard told x i k.0, broke_by_stays w told x i k.0.0 k.1)
+stays_by (Left i) w told x n k = (left_stays w.begin w.heard told x i k.0, left_by_stays w told x i k.0.0 k.1)
 stays_by TooMany w told x n k = crowded_stays w.begin w.heard told x w.told k
 
 -- what was found of a side that is judged no further stays
@@ -228,9 +277,23 @@ broke_here w told x new l g z k =
       ),
     )
 
-pub breaks_as : (w n : Watched) (told : List Told) (x : Told) (new : List Member) → n ≡ record w { finding = Broke w.told } → w.before ≤ x.before → Gives w x new → new ≡ [] → Keeps w told
-    → Watches n (told ++ x ∷ [])
-breaks_as w n told x new e l g z k = subst (λ (y : Watched). Watches y (told ++ x ∷ [])) (sym e) (broke_here w told x new l g z k)
+last_told : (told : List Told) (x : Told) (i : ℕ) → i ≡ length told → x ≡ get_or (told ++ x ∷ []) i x
+last_told [] x zero e = refl
+last_told [] x (suc i) e = absurd (omega arith)
+last_told (t ∷ told) x zero e = absurd (omega arith)
+last_told (t ∷ told) x (suc i) e = last_told told x i (omega arith)
+
+-- the sessions that explain what was said before the new TSDU
+stands_here : (w : Watched) (f : Finding) (by : Break) (told : List Told) (x : Told) → x.before ≤ length w.heard → Keeps w told
+    → StandsBefore (record w { finding = f; by = by }) (told ++ x ∷ []) w.told x
+stands_here w f by told x p k =
+    let m = length-append told (x ∷ []) in let c = k.count in
+    let front = take_front told (x ∷ []) w.told (omega arith) ∙ take_whole told w.told (omega arith) in record {
+      is = last_told told x w.told c;
+      passed = p;
+      all = subst (λ (z : List Told). AreAll w.begin w.heard w.before w.members z) (sym front) k.all;
+      some = k.some;
+    }
 
 -- ---- a side that leaves the profile
 
@@ -248,25 +311,50 @@ left_here w told x b p o z k =
       ),
     )
 
-pub leaves_as : (w n : Watched) (told : List Told) (x : Told) (b : Bool) → n ≡ record w { finding = Left w.told }
+pub leaves_as : (w n : Watched) (told : List Told) (x : Told) (new : List Member) (b : Bool) → w.before ≤ x.before → Gives w x new
+    → is_empty new ≡ false
+    → n ≡ record w { finding = Left w.told; by = selection_of x.before w.members }
     → x.before ≤ length w.heard → OpensBy w x b → b ≡ true → Keeps w told
     → Watches n (told ++ x ∷ [])
-leaves_as w n told x b e p o z k = subst (λ (y : Watched). Watches y (told ++ x ∷ [])) (sym e) (left_here w told x b p o z k)
+leaves_as w n told x new b l g s e p o z k =
+    let m = length-append told (x ∷ []) in let c = k.count in
+    let by = selection_of x.before w.members in
+    let whole = take_whole (told ++ x ∷ []) (w.told + 1) (omega arith) in
+    subst (λ (y : Watched). Watches y (told ++ x ∷ [])) (sym e) (
+      left_here w told x b p o z k,
+      (
+        x,
+        stands_here w (Left w.told) by told x p k,
+        inr (refl, λ us h. subst (λ (y : List Told). IsExplained w.begin us y) (sym whole) (explained_more w told x new us l g s k h)),
+      ),
+    )
 
 -- by something that no session sends
 left_broken : (begin : Seen) (heard : List (List ℕ)) (told : List Told) (i : ℕ) → BrokeFor begin heard told i → LeftFor begin heard told i
 left_broken begin heard told i k = (k.0, λ us e. let y = k.1 us e in (y.0, inl y.1))
 
-pub ends_as : (w n : Watched) (told : List Told) (x : Told) (new : List Member) → EndsAt w n → w.before ≤ x.before → Gives w x new → new ≡ [] → Keeps w told
-    → Watches n (told ++ x ∷ [])
-ends_as w n told x new (inl e) l g z k = breaks_as w n told x new e l g z k
-ends_as w n told x new (inr e) l g z k =
-    subst (λ (y : Watched). Watches y (told ++ x ∷ [])) (sym e) (left_broken w.begin w.heard (told ++ x ∷ []) w.told (broke_here w told x new l g z k))
+-- it is outside of the profile, or breaks the protocol
+ends_by : (b : Bool) (w : Watched) (by : Break) (told : List Told) (x : Told) (new : List Member) → leaves x.octets by ≡ b
+    → BreaksAt w.heard x.octets x.before w.members by → x.before ≤ length w.heard → w.before ≤ x.before → Gives w x new → new ≡ []
+    → Keeps w told
+    → WatchesBy (ended_at b w.told) (record w { finding = ended_at b w.told; by = by }) (told ++ x ∷ [])
+ends_by true w by told x new e h p l g z k =
+    let broke = broke_here w told x new l g z k in
+    (left_broken w.begin w.heard (told ++ x ∷ []) w.told broke, (x, stands_here w (Left w.told) by told x p k, inl (h, e, broke)))
+ends_by false w by told x new e h p l g z k = (broke_here w told x new l g z k, (x, stands_here w (Broke w.told) by told x p k, h, e))
 
-pub ends_ok : {A E : Type 0} (r : Result A E) (w n : Watched) (x : Told) (new : List Member) → w.before ≤ x.before → Gives w x new → new ≡ [] → OnOk r (EndsAt w n)
+pub ends_as : (w n : Watched) (told : List Told) (x : Told) (new : List Member) → EndsAt x.octets x.before w n → x.before ≤ length w.heard
+    → w.before ≤ x.before → Gives w x new → new ≡ [] → Keeps w told
+    → Watches n (told ++ x ∷ [])
+ends_as w n told x new e p l g z k =
+    subst (λ (y : Watched). Watches y (told ++ x ∷ [])) (sym e.is) (ends_by (leaves x.octets n.by) w n.by told x new refl e.by p l g z k)
+
+pub ends_ok : {A E : Type 0} (r : Result A E) (w n : Watched) (x : Told) (new : List Member) → x.before ≤ length w.heard
+    → w.before ≤ x.before
+    → Gives w x new → new ≡ [] → OnOk r (EndsAt x.octets x.before w n)
     → OnOk r ((told : List Told) → Keeps w told → Watches n (told ++ x ∷ []))
-ends_ok (Ok u) w n x new l g z e = λ told k. ends_as w n told x new e l g z k
-ends_ok (Err f) w n x new l g z e = tt
+ends_ok (Ok u) w n x new p l g z e = λ told k. ends_as w n told x new e p l g z k
+ends_ok (Err f) w n x new p l g z e = tt
 
 -- ---- the beginning, and what was found
 
@@ -290,12 +378,19 @@ begins w m h s t b o f = subst (λ (y : Finding). WatchesBy y w []) (sym f) (rec
 
 found_by : (f : Finding) (w : Watched) (told : List Told) → WatchesBy f w told → IsFound w.begin w.heard told f
 found_by Kept w told k = kept_so_far w told w.heard (λ i l. refl) k
-found_by (Broke i) w told k = let y = k.1 w.heard (λ j l. refl) in (record { there = k.0; so_far = y.0.0; broke = y.1 }, y.0.1)
-found_by (Left i) w told k = let y = k.1 w.heard (λ j l. refl) in (k.0, y.0, y.1)
+found_by (Broke i) w told k = let y = k.0.1 w.heard (λ j l. refl) in (record { there = k.0.0; so_far = y.0.0; broke = y.1 }, y.0.1)
+found_by (Left i) w told k = let y = k.0.1 w.heard (λ j l. refl) in (k.0.0, y.0, y.1)
 found_by TooMany w told k = (w.told, k.0, k.1 w.heard (λ j l. refl))
 
 pub few_by : (w : Watched) (told : List Told) → w.finding ≡ Kept → Watches w told → length w.members ≤ 4096
 few_by w told f k = let kept : Keeps w told = subst (λ (g : Finding). WatchesBy g w told) f k in kept.few
+
+-- the rule by which it broke the protocol, or left the profile
+pub broke_by : (w : Watched) (told : List Told) (i : ℕ) → Watches w told → w.finding ≡ Broke i → BrokeBy w told i
+broke_by w told i k f = let b : WatchesBy (Broke i) w told = subst (λ (g : Finding). WatchesBy g w told) f k in b.1
+
+pub left_by : (w : Watched) (told : List Told) (i : ℕ) → Watches w told → w.finding ≡ Left i → LeftBy w told i
+left_by w told i k f = let b : WatchesBy (Left i) w told = subst (λ (g : Finding). WatchesBy g w told) f k in b.1
 
 pub found_as : (w : Watched) (told : List Told) → Watches w told → IsFound w.begin w.heard told w.finding
 found_as w told k = found_by w.finding w told k

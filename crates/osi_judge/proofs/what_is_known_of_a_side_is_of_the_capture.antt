@@ -1,7 +1,7 @@
 -- How many TSDUs a side told, and how its session stands, is so in the capture; and a side without a reference told none.
 -- For the crate that writes what a judge found.
 use Rattle.std.proofs.Common.{◌≡◌, ◌∙◌, refl, sym, ap, subst, ℕ, ◌+◌, ◌==◌, Bool, true, false, if◌then◌else◌, List, [], ◌∷◌, ◌++◌}
-use Rattle.std.proofs.Common.{length, Option, Some, None, Result, Ok, Err}
+use Rattle.std.proofs.Common.{◌↔◌, inl, inr, length, take, Option, Some, None, Result, Ok, Err}
 use Rattle.std.proofs.lemmas.List.{append-nil}
 use Rattle.osi_tpkt.specs.Stream.{Cuts, Ending}
 use Rattle.osi_tpkt.proofs.Streams.{one_cut}
@@ -13,13 +13,16 @@ use Rattle.osi_session.specs.Standing.{Seen}
 use Rattle.osi_judge.specs.declared.directions.Direction.{Direction}
 use Rattle.osi_judge.specs.declared.directions.Direction.TheVariants as side
 use Rattle.osi_judge.specs.declared.findings.Finding.{Finding}
-use Rattle.osi_judge.specs.declared.findings.Finding.TheVariants.{Kept}
+use Rattle.osi_judge.specs.declared.findings.Finding.TheVariants.{Kept, Broke, Left, TooMany}
+use Rattle.osi_judge.specs.declared.members.Member.{Member}
 use Rattle.osi_judge.specs.declared.standings.Stands.{Stands}
 use Rattle.osi_judge.specs.declared.stops.Stop.{Stop}
 use Rattle.osi_judge.specs.declared.stops.Stop.TheVariants.{NoOpening, OtherClass, Refused, BadUnit, UnexpectedUnit}
 use Rattle.osi_judge.specs.Captures.{Capture, other, stream}
-use Rattle.osi_judge.specs.Explaining.{Told, remarks, Explains}
-use Rattle.osi_judge.specs.Judging.{Watched, Keeps, WatchesBy, Watches}
+use Rattle.osi_judge.specs.Explaining.{Told, remarks, Explains, IsExplained}
+use Rattle.osi_judge.specs.Breaking.{BreaksWith}
+use Rattle.osi_judge.specs.Foremost.{foremost}
+use Rattle.osi_judge.specs.Judging.{Watched, AreAll, Keeps, BrokeBy, LeftBy, WatchesBy, Watches}
 use Rattle.osi_judge.specs.Onward.{StandsFor, StandsBehind}
 use Rattle.osi_judge.specs.Walking.{Ever}
 use Rattle.osi_judge.specs.Transport.{Handshake, silent, asked, asked_again, agreed, denied, astray, first_unit, packet_length, met_before}
@@ -27,7 +30,7 @@ use Rattle.osi_judge.specs.Transport.{Move, asks, opens, adds, hurries, refuses,
 use Rattle.osi_judge.specs.Transport.{given_by, reference_in, Stage, opening, asking, between, within, refused, stopped, moved, stage_behind}
 use Rattle.osi_judge.specs.Transport.{Sent, brought, sent_by, sent_from, ArePacketsOf, IsSent}
 use Rattle.osi_judge.specs.Tapping.{begin_of, heard, told, IsFoundIn, IsStoppedIn, IsReadIn, IsReferenceIn, IsPlaceIn, IsCountIn}
-use Rattle.osi_judge.specs.Tapping.{IsStandingIn, IsFirstIn}
+use Rattle.osi_judge.specs.Tapping.{StandIn, IsStandingIn, IsRuleIn, IsFirstIn}
 use Rattle.osi_judge.specs.Feeding.{Tapped, reading_of, stopped_of}
 use Rattle.osi_judge.specs.Following.{Follows, Judged, half_of, Taps, FirstIs}
 use Rattle.osi_judge.proofs.JudgeLaws.{cut_as, packets_of, is_sent, is_read, is_given, is_stopped, is_found, is_placed}
@@ -61,27 +64,110 @@ is_counted side.Left c j h e n k = counted_as side.Left c j.left h.left_units h.
 is_counted side.Right c j h e n k = counted_as side.Right c j.right h.right_units h.left_units h.right h.left h.of_right
     (cut_as side.Left c j.left h.left_units h.right_units h.left h.right h.of_left) e n k
 
+-- the sessions that explain what a side said
+abbrev stand_as : (d : Direction) (c : Capture) (t u : Tapped) (us bs : List (List ℕ)) (mine others : List Sent) (said : List Told) → Follows d c t us bs mine others
+    → Follows (other d) c u bs us others mine → AreAll t.side.begin t.side.heard t.side.before t.side.members said
+    → StandIn d c mine others said t.side.members
+stand_as d c t u us bs mine others said f g a = record {
+  is_mine = is_sent d c t us bs mine others f (cut_as (other d) c u bs us others mine g);
+  is_others = is_sent (other d) c u bs us others mine g (packets_of d c us (cut_as d c t us bs mine others f));
+  before = t.side.before;
+  all = subst (λ (b : Seen). AreAll b (heard others) t.side.before t.side.members said) f.begin
+      (subst (λ (x : List (List ℕ)). AreAll t.side.begin x t.side.before t.side.members said) f.heard a);
+}
+
 standing_as : (d : Direction) (c : Capture) (t u : Tapped) (us bs : List (List ℕ)) (mine others : List Sent) → Follows d c t us bs mine others
     → Follows (other d) c u bs us others mine → t.side.finding ≡ Kept
-    → (s : Stands) → StandsHere t.side s → IsStandingIn d c s
+    → (s : Stands) → StandsHere t.side s → IsStandingIn d c t.side.members s
 standing_as d c t u us bs mine others f g e s k =
     let said = told d c mine others in
+    let m = foremost t.side.members in
     let h = k said (keeps_as t.side said f.watches e) in record {
       mine = mine;
       others = others;
-      is_mine = is_sent d c t us bs mine others f (cut_as (other d) c u bs us others mine g);
-      is_others = is_sent (other d) c u bs us others mine g (packets_of d c us (cut_as d c t us bs mine others f));
-      member = h.member;
-      before = t.side.before;
-      has_said = subst (λ (b : Seen). Ever (heard others) t.side.before (λ us later. Explains us later h.member.taken h.member.standing → Explains us (remarks said ++ later) 0 b)) f.begin
-          (subst (λ (x : List (List ℕ)). Ever x t.side.before (λ us later. Explains us later h.member.taken h.member.standing → Explains us (remarks said ++ later) 0 t.side.begin)) f.heard h.has_said);
-      behind = subst (λ (x : List (List ℕ)). StandsBehind x h.member s) f.heard h.behind;
+      stand = stand_as d c t u us bs mine others said f g h.all;
+      has_said = subst (λ (b : Seen). Ever (heard others) t.side.before
+          (λ us later. Explains us later m.taken m.standing → Explains us (remarks said ++ later) 0 b)) f.begin
+          (subst (λ (x : List (List ℕ)). Ever x t.side.before
+          (λ us later. Explains us later m.taken m.standing → Explains us (remarks said ++ later) 0 t.side.begin)) f.heard h.has_said);
+      behind = subst (λ (x : List (List ℕ)). StandsBehind x m s) f.heard h.behind;
     }
 
 pub is_standing : (d : Direction) (c : Capture) (j : Judged) → Taps j c → (half_of d j).side.finding ≡ Kept → (s : Stands)
-    → StandsHere (half_of d j).side s → IsStandingIn d c s
+    → StandsHere (half_of d j).side s → IsStandingIn d c (half_of d j).side.members s
 is_standing side.Left c j h e s k = standing_as side.Left c j.left j.right h.left_units h.right_units h.left h.right h.of_left h.of_right e s k
 is_standing side.Right c j h e s k = standing_as side.Right c j.right j.left h.right_units h.left_units h.right h.left h.of_right h.of_left e s k
+
+-- ---- the rule by which a side broke the protocol
+
+-- some sessions before the unit at which the side broke the protocol
+abbrev pub HasRule : Direction → Capture → Tapped → Finding → Type 0
+HasRule d c t found = (at : List Member) × IsRuleIn d c t.side.members at found t.side.by
+
+broken_as : (d : Direction) (c : Capture) (t u : Tapped) (us bs : List (List ℕ)) (mine others : List Sent) (i : ℕ) → Follows d c t us bs mine others
+    → Follows (other d) c u bs us others mine → BrokeBy t.side (told d c mine others) i → HasRule d c t (Broke i)
+broken_as d c t u us bs mine others i f g (x, s, b, l) = (
+  b.0,
+  record {
+    mine = mine;
+    others = others;
+    stand = stand_as d c t u us bs mine others (take i (told d c mine others)) f g s.all;
+    tsdu = x;
+    is = s.is;
+    near = subst (λ (h : List (List ℕ)). BreaksWith h x.octets x.before t.side.members b.0 t.side.by) f.heard b.1;
+    breaks = l;
+  },
+)
+
+explained_in : (d : Direction) (c : Capture) (t : Tapped) (us bs : List (List ℕ)) (mine others : List Sent) (said : List Told) → Follows d c t us bs mine others
+    → IsExplained t.side.begin t.side.heard said ↔ IsExplained (begin_of d) (heard others) said
+explained_in d c t us bs mine others said f =
+    let a = f.begin in
+    let b = f.heard in (
+      subst (λ (p : Seen × List (List ℕ)). IsExplained p.0 p.1 said) (λ i. (a i, b i)),
+      subst (λ (p : Seen × List (List ℕ)). IsExplained p.0 p.1 said) (sym (λ i. (a i, b i))),
+    )
+
+left_as : (d : Direction) (c : Capture) (t u : Tapped) (us bs : List (List ℕ)) (mine others : List Sent) (i : ℕ) → Follows d c t us bs mine others
+    → Follows (other d) c u bs us others mine → LeftBy t.side (told d c mine others) i → HasRule d c t (Left i)
+left_as d c t u us bs mine others i f g (x, s, inl (b, l, k)) = (
+  b.0,
+  record {
+    mine = mine;
+    others = others;
+    stand = stand_as d c t u us bs mine others (take i (told d c mine others)) f g s.all;
+    tsdu = x;
+    is = s.is;
+    near = inl (
+      subst (λ (h : List (List ℕ)). BreaksWith h x.octets x.before t.side.members b.0 t.side.by) f.heard b.1,
+      l,
+      λ e. (k.1 t.side.heard (λ j p. refl)).1 ((explained_in d c t us bs mine others (take (i + 1) (told d c mine others)) f).1 e),
+    );
+  },
+)
+left_as d c t u us bs mine others i f g (x, s, inr (b, k)) = (
+  [],
+  record {
+    mine = mine;
+    others = others;
+    stand = stand_as d c t u us bs mine others (take i (told d c mine others)) f g s.all;
+    tsdu = x;
+    is = s.is;
+    near = inr (b, (explained_in d c t us bs mine others (take (i + 1) (told d c mine others)) f).0 (k t.side.heard (λ j p. refl)));
+  },
+)
+
+rule_by : (found : Finding) (d : Direction) (c : Capture) (t u : Tapped) (us bs : List (List ℕ)) (mine others : List Sent) → Follows d c t us bs mine others
+    → Follows (other d) c u bs us others mine → WatchesBy found t.side (told d c mine others) → HasRule d c t found
+rule_by Kept d c t u us bs mine others f g k = ([], tt)
+rule_by (Broke i) d c t u us bs mine others f g k = broken_as d c t u us bs mine others i f g k.1
+rule_by (Left i) d c t u us bs mine others f g k = left_as d c t u us bs mine others i f g k.1
+rule_by TooMany d c t u us bs mine others f g k = ([], tt)
+
+-- what is known of the rule by which a side broke the protocol
+pub has_rule : (d : Direction) (c : Capture) (j : Judged) → Taps j c → HasRule d c (half_of d j) (half_of d j).side.finding
+has_rule side.Left c j h = rule_by j.left.side.finding side.Left c j.left j.right h.left_units h.right_units h.left h.right h.of_left h.of_right h.of_left.watches
+has_rule side.Right c j h = rule_by j.right.side.finding side.Right c j.right j.left h.right_units h.left_units h.right h.left h.of_right h.of_left h.of_right.watches
 
 -- ---- what is known of a side
 
@@ -92,6 +178,7 @@ pub record KnownIn (d : Direction) (c : Capture) (t : Tapped) : Type 0 where
   pub found : IsFoundIn d c t.side.finding
   pub count : t.side.finding ≡ Kept → IsCountIn d c t.side.told
   pub place : IsPlaceIn d c t.side.finding t.line.last
+  pub rule : HasRule d c t t.side.finding
 
 pub known_in : (d : Direction) (c : Capture) (j : Judged) → Taps j c → KnownIn d c (half_of d j)
 known_in d c j h = record {
@@ -101,6 +188,7 @@ known_in d c j h = record {
   found = is_found d c j h;
   count = λ e. is_counted d c j h e (half_of d j).side.told (λ said k f. count_kept (half_of d j).side said k f);
   place = is_placed d c j h;
+  rule = has_rule d c j h;
 }
 
 -- ---- a side without a reference

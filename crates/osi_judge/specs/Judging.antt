@@ -1,16 +1,19 @@
 -- What is known of a side of which so much was heard and told, and what is found of it.
-use Rattle.std.specs.Prelude.{◌≡◌, ◌<◌, ◌≤◌, ◌↔◌, ◌⊎◌, ◌++◌, ◌+◌, ℕ, Bool, true, false, List, [], ◌∷◌, length, take}
+use Rattle.std.specs.Prelude.{◌≡◌, ◌<◌, ◌≤◌, ◌↔◌, ◌⊎◌, ◌++◌, ◌+◌, ℕ, Bool, true, false, List, [], ◌∷◌, length, take, get_or}
 use Rattle.osi_session.specs.Standing.{Seen}
 use Rattle.osi_judge.specs.declared.members.Member.{Member}
 use Rattle.osi_judge.specs.declared.findings.Finding.{Finding}
 use Rattle.osi_judge.specs.declared.findings.Finding.TheVariants.{Kept, Broke, Left, TooMany}
 use Rattle.osi_judge.specs.Explaining.{Told, Explains, remarks, IsExplained, IsBlamed}
-use Rattle.osi_judge.specs.Profiles.{selects_outside}
+use Rattle.osi_judge.specs.declared.rules.Break.{Break}
+use Rattle.osi_judge.specs.Breaking.{BreaksAt, selection_of}
+use Rattle.osi_judge.specs.Profiles.{selects_outside, leaves}
 use Rattle.osi_judge.specs.Members.{SomeExplains, Extends}
 use Rattle.osi_judge.specs.Walking.{Ever}
+pub use Rattle.osi_judge.specs.Members.{is_empty}
 
 -- a side: the TSDUs of the other side, the sessions that still explain it, how many TSDUs it sent, how many had passed
--- before the last, and what was found
+-- before the last, what was found, and the rule by which it broke the protocol
 pub record Watched : Type 0 where
   pub begin : Seen
   pub heard : List (List ℕ)
@@ -18,10 +21,7 @@ pub record Watched : Type 0 where
   pub told : ℕ
   pub before : ℕ
   pub finding : Finding
-
-abbrev pub is_empty : List Member → Bool
-is_empty [] = true
-is_empty (m ∷ members) = false
+  pub by : Break
 
 -- A side that said this, where the other side said that, kept the protocol: it is explained, and selects nothing that the
 -- profile leaves out.
@@ -59,11 +59,33 @@ pub record Keeps (w : Watched) (told : List Told) : Type 0 where
   pub few : length w.members ≤ 4096
   pub inside : (us : List (List ℕ)) → Extends us w.heard → selects_outside us told ≡ false
 
+-- it is explained up to its i-th TSDU and with it
+abbrev pub ExplainedFor : Seen → List (List ℕ) → List Told → ℕ → Type 0
+ExplainedFor begin heard told i = (us : List (List ℕ)) → Extends us heard → IsExplained begin us (take (i + 1) told)
+
+-- the i-th TSDU of a side, and the sessions that explain those before it
+pub record StandsBefore (w : Watched) (told : List Told) (i : ℕ) (tsdu : Told) : Type 0 where
+  pub is : tsdu ≡ get_or told i tsdu
+  pub passed : tsdu.before ≤ length w.heard
+  pub all : AreAll w.begin w.heard w.before w.members (take i told)
+  pub some : is_empty w.members ≡ false
+
+-- The rule by which the side broke the protocol is that of these sessions: that of the one that came nearest.
+abbrev pub BrokeBy : Watched → List Told → ℕ → Type 0
+BrokeBy w told i = (tsdu : Told) × StandsBefore w told i tsdu × BreaksAt w.heard tsdu.octets tsdu.before w.members w.by
+    × (leaves tsdu.octets w.by ≡ false)
+
+-- It is outside of the profile; or the side selects what the profile leaves out.
+abbrev pub LeftBy : Watched → List Told → ℕ → Type 0
+LeftBy w told i = (tsdu : Told) × StandsBefore w told i tsdu
+    × ((BreaksAt w.heard tsdu.octets tsdu.before w.members w.by × (leaves tsdu.octets w.by ≡ true) × BrokeFor w.begin w.heard told i)
+    ⊎ ((w.by ≡ selection_of tsdu.before w.members) × ExplainedFor w.begin w.heard told i))
+
 -- This is what is known of a side that sent this, by what was found.
 abbrev pub WatchesBy : Finding → Watched → List Told → Type 0
 WatchesBy Kept w told = Keeps w told
-WatchesBy (Broke i) w told = BrokeFor w.begin w.heard told i
-WatchesBy (Left i) w told = LeftFor w.begin w.heard told i
+WatchesBy (Broke i) w told = BrokeFor w.begin w.heard told i × BrokeBy w told i
+WatchesBy (Left i) w told = LeftFor w.begin w.heard told i × LeftBy w told i
 WatchesBy TooMany w told = CrowdedFor w.begin w.heard told w.told
 
 abbrev pub Watches : Watched → List Told → Type 0

@@ -4,7 +4,10 @@ pub mod Transport
 pub mod Explaining
 pub mod Profiles
 pub mod Members
+pub mod Foremost
+pub mod Nearest
 pub mod Walking
+pub mod Breaking
 pub mod Judging
 pub mod Sides
 pub mod Tapping

@@ -1,7 +1,11 @@
 -- The sessions that still explain a side, each with how many TSDUs it has taken.
-use Rattle.std.specs.Prelude.{◌≡◌, ◌≤◌, ◌<◌, ◌⊎◌, ℕ, List, [], ◌∷◌, length, get_or}
+use Rattle.std.specs.Prelude.{◌≡◌, ◌≤◌, ◌<◌, ◌⊎◌, ℕ, Bool, true, false, List, [], ◌∷◌, length, get_or}
 use Rattle.osi_judge.specs.declared.members.Member.{Member}
 use Rattle.osi_judge.specs.Explaining.{Remark, Explains}
+
+abbrev pub is_empty : List Member → Bool
+is_empty [] = true
+is_empty (m ∷ members) = false
 
 -- one of them explains what is sent from here on
 abbrev pub SomeExplains : List (List ℕ) → List Member → List Remark → Type 0

@@ -9,7 +9,11 @@ use Rattle.osi_judge.specs.declared.standings.Turn.{Turn}
 use Rattle.osi_judge.specs.declared.standings.Turn.TheVariants.{Goes, Stops}
 use Rattle.osi_session.specs.Steady.{Hears}
 use Rattle.osi_judge.specs.Explaining.{Told, remarks, Explains}
-use Rattle.osi_judge.specs.Judging.{Watched}
+use Rattle.osi_judge.specs.Foremost.{foremost}
+use Rattle.osi_judge.specs.declared.rules.Near.{Near}
+use Rattle.osi_judge.specs.declared.rules.Rule.{Rule}
+use Rattle.osi_judge.specs.Nearest.{Unsaid, rule_for, is_nearer, goes_to}
+use Rattle.osi_judge.specs.Judging.{Watched, AreAll}
 use Rattle.osi_judge.specs.Walking.{Ever}
 
 -- it takes the next TSDU, and sends nothing
@@ -48,6 +52,7 @@ standing_of s = record { taken = s.taken; standing = s.standing }
 -- The state of a session that took what it could of these TSDUs, and the answer that it still owes.
 pub record StandsBehind (us : List (List ℕ)) (m : Member) (s : Stands) : Type 0 where
   pub comes : Comes us m (standing_of s)
+  pub goes : standing_of s ≡ goes_to us m
   pub ends : IsAtEnd us (standing_of s) s.owes
 
 -- one of these
@@ -55,9 +60,17 @@ abbrev pub IsAmong : Member → List Member → Type 0
 IsAmong m [] = ⊥
 IsAmong m (n ∷ members) = (m ≡ n) ⊎ IsAmong m members
 
--- How a side stands that said this and kept the protocol: by a session that said it all, so that whatever is explained from
--- there on is explained for the side, and that took what it could of what was heard.
+-- What it is to be the nearest of these: none that does not send it is nearer, and it is one of these, or none of them was
+-- tried.
+pub record IsNearest (u : Unsaid) (sessions : List Member) (first best : Near) : Type 0 where
+  pub none_nearer : (m : Member) (rule : Rule) → IsAmong m sessions → rule_for u m.standing ≡ Some rule
+      → is_nearer (record { at = m; rule = rule }) best ≡ false
+  pub is_one : (best ≡ first) ⊎ (IsAmong best.at sessions × (rule_for u best.at.standing ≡ Some best.rule))
+
+-- How a side stands that said this and kept the protocol: by the foremost of the sessions that explain it, which took what it
+-- could of what was heard. That session said it all, so that whatever is explained from there on is explained for the side.
 pub record StandsFor (w : Watched) (told : List Told) (s : Stands) : Type 0 where
-  pub member : Member
-  pub has_said : Ever w.heard w.before (λ us later. Explains us later member.taken member.standing → Explains us (remarks told ++ later) 0 w.begin)
-  pub behind : StandsBehind w.heard member s
+  pub all : AreAll w.begin w.heard w.before w.members told
+  pub has_said : Ever w.heard w.before (λ us later.
+      Explains us later (foremost w.members).taken (foremost w.members).standing → Explains us (remarks told ++ later) 0 w.begin)
+  pub behind : StandsBehind w.heard (foremost w.members) s

@@ -1,11 +1,18 @@
 -- An AC that selects functional units together that the profile leaves out.
-use Rattle.std.specs.Prelude.{ℕ, Bool, false, not, ◌&&◌, nat_lt, List, [], ◌∷◌, get_or, Option, Some, None, Result, Ok, Err}
+use Rattle.std.specs.Prelude.{ℕ, ◌==◌, ◌||◌, Bool, true, false, not, ◌&&◌, nat_lt, List, [], ◌∷◌, get_or, Option, Some, None, Result, Ok}
+use Rattle.std.specs.Prelude.{Err}
+use Rattle.std.specs.List.{slice_get}
 use Rattle.std.specs.Int.RustNames.{bit_and}
 use Rattle.osi_spdu.specs.declared.faults.SpduFault.{SpduFault}
+use Rattle.osi_spdu.specs.declared.faults.SpduFault.TheVariants.{UnknownSi}
 use Rattle.osi_message.specs.Meanings.{Meaning, CN, AC}
 use Rattle.osi_message.specs.Reading.{said_at}
 use Rattle.osi_message.specs.Words.{Words, as_message}
 use Rattle.osi_session.specs.Units.{is_profile}
+use Rattle.osi_session.specs.declared.breaches.Breach.TheVariants.{Outside}
+use Rattle.osi_judge.specs.declared.rules.Break.{Break}
+use Rattle.osi_judge.specs.declared.rules.Rule.{Rule}
+use Rattle.osi_judge.specs.declared.rules.Rule.TheVariants.{Breach, Fault}
 use Rattle.osi_judge.specs.Explaining.{Told}
 
 -- the functional units that a CN offers
@@ -35,3 +42,18 @@ abbrev pub selects_outside : List (List ℕ) → List Told → Bool
 selects_outside us [] = false
 selects_outside us (t ∷ told) =
     nat_lt 0 t.before && is_outside (in_first offered_in (said_at (get_or us 0 []))) (in_first accepted_in (said_at t.octets))
+
+-- ---- a TSDU that no session sends, and that is outside of the profile rather than a break
+
+-- a unit with this SI: PREPARE, or connect data that continues
+abbrev pub is_left_out : Option ℕ → Bool
+is_left_out None = false
+is_left_out (Some si) = (si == 7) || ((si == 15) || (si == 16))
+
+abbrev pub leaves_by : (tsdu : List ℕ) → Rule → Bool
+leaves_by tsdu (Breach Outside) = true
+leaves_by tsdu (Fault (UnknownSi at)) = is_left_out (slice_get tsdu at)
+leaves_by tsdu rule = false
+
+abbrev pub leaves : (tsdu : List ℕ) → Break → Bool
+leaves tsdu by = leaves_by tsdu by.rule

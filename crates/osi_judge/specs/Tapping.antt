@@ -1,5 +1,6 @@
 -- What is judged of a capture: each side by its TSDUs, and by those of the other that had passed before them.
-use Rattle.std.specs.Prelude.{◌≡◌, ℕ, ◌-◌, List, ◌++◌, length, map, filter, nat_le, Bool, true, false, ◌||◌, Option, Some, None, option_map}
+use Rattle.std.specs.Prelude.{◌≡◌, ◌⊎◌, ℕ, ◌+◌, ◌-◌, List, ◌++◌, take, get_or, length, map, filter, nat_le, Bool, true, false, ◌||◌}
+use Rattle.std.specs.Prelude.{Option, Some, None, option_map}
 use Rattle.osi_session.specs.Standing.{Seen, seen_calling, seen_called}
 use Rattle.osi_judge.specs.declared.directions.Direction.{Direction}
 use Rattle.osi_judge.specs.declared.directions.Direction.TheVariants.{Left, Right}
@@ -15,12 +16,16 @@ use Rattle.osi_judge.specs.declared.stops.Stopped.{Stopped as StoppedAt}
 use Rattle.osi_judge.specs.Stops.{breaks, broke_session}
 use Rattle.osi_judge.specs.Captures.{Capture, other, stream, passed_before}
 use Rattle.osi_judge.specs.Transport.{Stage, opening, refused, stopped, met_before, reference_in, Sent, packets_length, last_packet, stage_from, hasty_from, ArePacketsOf, IsSent}
-use Rattle.osi_judge.specs.Explaining.{Told, remarks, Explains}
+use Rattle.osi_judge.specs.Explaining.{Told, remarks, Explains, IsExplained}
 use Rattle.osi_judge.specs.Walking.{Ever}
+use Rattle.osi_judge.specs.Breaking.{BreaksWith, selection_of}
+use Rattle.osi_judge.specs.Foremost.{foremost}
 use Rattle.osi_judge.specs.Onward.{StandsBehind}
+use Rattle.osi_judge.specs.Profiles.{leaves}
+use Rattle.osi_judge.specs.declared.rules.Break.{Break}
 use Rattle.osi_judge.specs.declared.members.Member.{Member}
 use Rattle.osi_judge.specs.declared.standings.Stands.{Stands}
-use Rattle.osi_judge.specs.Judging.{IsFound}
+use Rattle.osi_judge.specs.Judging.{AreAll, IsFound}
 
 -- left calls
 abbrev pub begin_of : Direction → Seen
@@ -115,18 +120,52 @@ pub record IsCountIn (d : Direction) (capture : Capture) (count : ℕ) : Type 0 
   pub is_mine : IsSent d capture mine
   pub counted : count ≡ length mine
 
--- How a side of a capture stands that kept the protocol: by a session that said all that the side sent, so that whatever is
--- explained from there on is explained for the side, and that took what it could of what the other side sent.
-pub record IsStandingIn (d : Direction) (capture : Capture) (s : Stands) : Type 0 where
-  pub mine : List Sent
-  pub others : List Sent
+-- Sessions that explain what is sent from here on exactly if the side of a capture is explained up to there, and of what it
+-- sent these TSDUs.
+pub record StandIn (d : Direction) (capture : Capture) (mine others : List Sent) (said : List Told) (members : List Member) : Type 0 where
   pub is_mine : IsSent d capture mine
   pub is_others : IsSent (other d) capture others
-  pub member : Member
   pub before : ℕ
-  pub has_said : Ever (heard others) before (λ us later.
-      Explains us later member.taken member.standing → Explains us (remarks (told d capture mine others) ++ later) 0 (begin_of d))
-  pub behind : StandsBehind (heard others) member s
+  pub all : AreAll (begin_of d) (heard others) before members said
+
+-- How a side of a capture stands that kept the protocol: by the foremost of the sessions that explain it, which took what it
+-- could of what the other side sent. That session said all that the side sent, so that whatever is explained from there on is
+-- explained for the side.
+pub record IsStandingIn (d : Direction) (capture : Capture) (members : List Member) (s : Stands) : Type 0 where
+  pub mine : List Sent
+  pub others : List Sent
+  pub stand : StandIn d capture mine others (told d capture mine others) members
+  pub has_said : Ever (heard others) stand.before (λ us later.
+      Explains us later (foremost members).taken (foremost members).standing → Explains us (remarks (told d capture mine others) ++ later)
+      0 (begin_of d))
+  pub behind : StandsBehind (heard others) (foremost members) s
+
+-- The rule by which a side of a capture broke the protocol with its i-th TSDU: that of the one that came nearest, of the
+-- sessions that explain what it sent before: `members` before the TSDU, `at` before the unit that no session sends.
+pub record IsBrokenBy (d : Direction) (capture : Capture) (members at : List Member) (i : ℕ) (by : Break) : Type 0 where
+  pub mine : List Sent
+  pub others : List Sent
+  pub stand : StandIn d capture mine others (take i (told d capture mine others)) members
+  pub tsdu : Told
+  pub is : tsdu ≡ get_or (told d capture mine others) i tsdu
+  pub near : BreaksWith (heard others) tsdu.octets tsdu.before members at by
+  pub breaks : leaves tsdu.octets by ≡ false
+
+-- or left the profile
+pub record IsLeftBy (d : Direction) (capture : Capture) (members at : List Member) (i : ℕ) (by : Break) : Type 0 where
+  pub mine : List Sent
+  pub others : List Sent
+  pub stand : StandIn d capture mine others (take i (told d capture mine others)) members
+  pub tsdu : Told
+  pub is : tsdu ≡ get_or (told d capture mine others) i tsdu
+  pub near : (BreaksWith (heard others) tsdu.octets tsdu.before members at by × (leaves tsdu.octets by ≡ true)
+      × (IsExplained (begin_of d) (heard others) (take (i + 1) (told d capture mine others)) → ⊥))
+      ⊎ ((by ≡ selection_of tsdu.before members) × IsExplained (begin_of d) (heard others) (take (i + 1) (told d capture mine others)))
+
+abbrev pub IsRuleIn : Direction → Capture → (members at : List Member) → Finding → Break → Type 0
+IsRuleIn d capture members at (outcome.Broke i) by = IsBrokenBy d capture members at i by
+IsRuleIn d capture members at (outcome.Left i) by = IsLeftBy d capture members at i by
+IsRuleIn d capture members at found by = Unit {0}
 
 -- ---- the first break
 

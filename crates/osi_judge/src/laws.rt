@@ -7,7 +7,14 @@ ghost use Rattle.osi_session.specs.Standing.{seen_called, seen_calling};
 ghost use Rattle.osi_judge.specs.declared.directions.Direction.{Direction};
 ghost use Rattle.osi_judge.specs.declared.findings.Finding.{Finding};
 ghost use Rattle.osi_judge.specs.Captures.{Capture, piece, stream};
+ghost use Rattle.std.specs.List.{flat_map};
+ghost use Rattle.osi_judge.specs.declared.members.Member.{Member};
+ghost use Rattle.osi_judge.specs.declared.standings.Stands.{Stands};
 ghost use Rattle.osi_judge.specs.Explaining.{Told, IsExplained};
+ghost use Rattle.osi_judge.specs.Foremost.{foremost, IsForemost};
+ghost use Rattle.osi_judge.specs.Members.{is_empty};
+ghost use Rattle.osi_judge.specs.Nearest.{Unsaid, reached, far, nearest};
+ghost use Rattle.osi_judge.specs.Onward.{IsNearest, StandsBehind};
 ghost use Rattle.osi_judge.specs.Following.{Judged, Taps, half_of, kept_of};
 ghost use Rattle.osi_judge.specs.Stops.{broke_session, is_judged, place_of};
 ghost use Rattle.osi_judge.specs.Running.{IsSentFrom, IsHonestIn};
@@ -30,6 +37,16 @@ pub fn a_side_is_found_in_one_way()
 {
     a_capture_has_one_reading();
 }
+
+/// Of a side that kept the protocol the foremost of the sessions that explain it is told: no other comes before it. Of a side
+/// that broke the protocol the nearest is told, of all sessions that those become which explain what it sent before: none is
+/// nearer. And a session has one state after all that passed.
+pub fn a_side_is_told_by_one_session()
+    ensures foremost { (members : List Member) → is_empty members ≡ false → IsForemost (foremost members) members }
+    ensures nearest { (u : Unsaid) (us : List (List ℕ)) (before : ℕ) (members : List Member)
+        → IsNearest u (flat_map (reached us before) members) (far members) (nearest u us before members) }
+    ensures stands { (us : List (List ℕ)) (m : Member) (s t : Stands) → StandsBehind us m s → StandsBehind us m t → s ≡ t }
+{}
 
 /// What is kept of the TSDUs of a side is no more than what passed of it, even if each TSDU that was heard
 /// counts for seven octets more than it has. And of a side that kept the protocol at most 4,096 sessions are

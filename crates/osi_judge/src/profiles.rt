@@ -1,12 +1,13 @@
 //! What X.225 allows and the profile of this library leaves out.
 
 ghost use Rattle.std.specs.Prelude.{◌≡◌, ◌≤◌, ◌∷◌, [], length, option_map};
+ghost use Rattle.std.specs.List.{slice_get};
 ghost use Rattle.osi_message.specs.Meanings.{meant_by};
 ghost use Rattle.osi_message.specs.Reading.{said_at, word};
 ghost use Rattle.osi_message.specs.Words.{as_message};
 ghost use Rattle.osi_spdu.specs.Fields.{unit_bits};
 ghost use Rattle.osi_spdu.specs.Units.{said_by};
-ghost use Rattle.osi_judge.specs.Profiles.{offered_in, accepted_in, in_first, is_outside, selects_outside};
+ghost use Rattle.osi_judge.specs.Profiles.{offered_in, accepted_in, in_first, is_outside, selects_outside, is_left_out, leaves};
 
 use crate::first_places::tsdu_at;
 use crate::rules::{Break, Rule};
@@ -100,7 +101,9 @@ pub(crate) fn selects_outside(heard: &[Octets], tsdu: &[u8], before: usize) -> b
 
 /// Whether the unit that begins here in a TSDU is one that the profile leaves out: PREPARE, or connect data that
 /// continues (SI 7, 15 and 16).
-fn is_left_out(tsdu: &[u8], at: usize) -> bool {
+fn is_left_out(tsdu: &[u8], at: usize) -> bool
+    ensures { result ≡ is_left_out (slice_get tsdu.now at) }
+{
     match tsdu.get(at) {
         Some(si) => matches!(*si, 7 | 15 | 16),
         None => false,
@@ -108,7 +111,9 @@ fn is_left_out(tsdu: &[u8], at: usize) -> bool {
 }
 
 /// Whether something that no session sends is outside of the profile rather than a break.
-pub(crate) fn leaves(tsdu: &[u8], by: &Break) -> bool {
+pub(crate) fn leaves(tsdu: &[u8], by: &Break) -> bool
+    ensures { result ≡ leaves tsdu.now by.now }
+{
     match by.rule {
         Rule::Breach(Breach::Outside) => true,
         Rule::Fault(SpduFault::UnknownSi(at)) => is_left_out(tsdu, at),

@@ -1,8 +1,15 @@
 //! Which session came nearest to what its side sent, and why it may not send it.
 
-ghost use Rattle.std.specs.Prelude.{◌≤◌, length};
+ghost use Rattle.std.specs.Prelude.{◌≡◌, ◌≤◌, IfOk, List, length};
+ghost use Rattle.std.specs.List.{fold};
+ghost use Rattle.osi_spdu.specs.Groups.{units_of};
+ghost use Rattle.osi_spdu.specs.Units.{said_by};
+ghost use Rattle.osi_judge.specs.declared.members.Member.{Member};
+ghost use Rattle.osi_judge.specs.Breaking.{LeavesBehind, BreaksIn, BreaksAt, in_effect, selection_of};
+ghost use Rattle.osi_judge.specs.Nearest.{call_place, place, is_nearer, a_unit, unsaid, kind_in, rule_for, tried, reached, far, nearest};
+ghost use Rattle.osi_judge.specs.Nearest.{break_of};
 
-use crate::members::Member;
+use crate::members::{Member, none_is_left};
 use crate::standings::{Turn, first_of, foremost, is_before, take_next};
 use crate::telling::behind_unit;
 use osi_message::Octets;
@@ -56,7 +63,9 @@ enum Question<'a> {
 
 impl Question<'_> {
     /// Which unit it is.
-    fn said(&self) -> Option<Kind> {
+    fn said(&self) -> Option<Kind>
+        ensures { result ≡ kind_in (unsaid self.now) }
+    {
         match self {
             Question::Unit(unit, _) => Some(unit.kind()),
             Question::Fault(_) => None,
@@ -64,11 +73,13 @@ impl Question<'_> {
     }
 
     /// Why a session in this state does not send it; `None` if it does.
-    fn refused_by(&self, standing: &Standing) -> Option<Rule> {
+    fn refused_by(&self, standing: &Standing) -> Option<Rule>
+        ensures { result ≡ rule_for (unsaid self.now) standing.now }
+    {
         match self {
-            Question::Unit(unit, octets) => match standing.say(unit, *octets) {
-                Ok(_) => None,
-                Err(breach) => Some(Rule::Breach(breach)),
+            Question::Unit(unit, octets) => match standing.breach(unit, *octets) {
+                None => None,
+                Some(breach) => Some(Rule::Breach(breach)),
             },
             Question::Fault(fault) => Some(Rule::Fault(*fault)),
         }
@@ -83,7 +94,9 @@ struct Near {
 }
 
 /// The place of a rule in the order in which the rules are tested.
-fn place(rule: Rule) -> u8 {
+fn place(rule: Rule) -> u8
+    ensures { result ≡ place rule }
+{
     match rule {
         Rule::Breach(Breach::Call(error)) => place_of_call(error),
         Rule::Breach(Breach::NothingToAnswer) => 12,
@@ -95,7 +108,9 @@ fn place(rule: Rule) -> u8 {
     }
 }
 
-fn place_of_call(error: CallError) -> u8 {
+fn place_of_call(error: CallError) -> u8
+    ensures { result ≡ call_place error }
+{
     match error {
         CallError::NoSuchConnection => 0,
         CallError::Ended => 1,
@@ -113,7 +128,9 @@ fn place_of_call(error: CallError) -> u8 {
 
 /// Whether one session came nearer than the other: it fails at a later rule, or at the same rule and is before the
 /// other.
-fn is_nearer(one: &Near, other: &Near) -> bool {
+fn is_nearer(one: &Near, other: &Near) -> bool
+    ensures { result ≡ is_nearer one.now other.now }
+{
     let (here, there) = (place(one.rule), place(other.rule));
     if here != there {
         return here > there;
@@ -122,7 +139,9 @@ fn is_nearer(one: &Near, other: &Near) -> bool {
 }
 
 /// The nearer of two sessions; the first if neither is nearer, and if the member sends what is asked.
-fn nearer(question: &Question, best: Near, at: Member) -> Near {
+fn nearer(question: &Question, best: Near, at: Member) -> Near
+    ensures { result ≡ tried (unsaid question.now) best at }
+{
     let Some(rule) = question.refused_by(&at.standing) else {
         return best;
     };
@@ -135,7 +154,9 @@ fn nearer(question: &Question, best: Near, at: Member) -> Near {
 }
 
 /// The distance before any session was tried.
-fn far(members: &[Member]) -> Near {
+fn far(members: &[Member]) -> Near
+    ensures { result ≡ far members.now }
+{
     Near {
         at: first_of(members),
         rule: Rule::Breach(Breach::Call(CallError::NoSuchConnection)),
@@ -152,17 +173,18 @@ fn nearest_on(
     best: &Near,
 ) -> Result<Near, AllocError>
     requires { before ≤ length heard.now }
+    ensures { IfOk result (λ found. found ≡ fold (tried (unsaid question.now)) best.now (reached heard.now before member)) }
 {
     let mut at = member;
-    let mut best = *best;
+    let mut found = *best;
     'takes: while at.taken < before {
-        best = nearer(question, best, at);
+        found = nearer(question, found, at);
         match take_next(alloc, heard, &at)? {
             Turn::Goes(next) => at = next,
-            Turn::Stops(_) => return Ok(best),
+            Turn::Stops(_) => return Ok(found),
         }
     }
-    Ok(nearer(question, best, at))
+    Ok(nearer(question, found, at))
 }
 
 /// The nearest of the sessions that these members become as they take TSDUs.
@@ -174,6 +196,7 @@ fn nearest(
     members: &[Member],
 ) -> Result<Break, AllocError>
     requires { before ≤ length heard.now }
+    ensures { IfOk result (λ by. by ≡ break_of (unsaid question.now) heard.now before members.now) }
 {
     let mut best = far(members);
     'members: for member in members {
@@ -203,9 +226,10 @@ fn behind_or_break(
     members: &[Member],
 ) -> Result<Behind, AllocError>
     requires { before ≤ length heard.now }
+    ensures { IfOk result (λ b. LeavesBehind heard.now octets before members.now (said_by unit.now) b) }
 {
     let next = behind_unit(alloc, heard, unit, octets, before, members)?;
-    if !next.is_empty() {
+    if !none_is_left(next.as_slice()) {
         return Ok(Behind::Members(next));
     }
     let question = Question::Unit(*unit, octets);
@@ -223,6 +247,7 @@ fn break_in(
     members: &[Member],
 ) -> Result<Break, AllocError>
     requires { before ≤ length heard.now }
+    ensures { IfOk result (λ by. (at : List Member) × BreaksIn heard.now octets before members.now (in_effect (units_of group.now)) at by) }
 {
     let first = *group.first();
     let mut behind = group.behind();
@@ -246,6 +271,7 @@ pub(crate) fn break_at(
     members: &[Member],
 ) -> Result<Break, AllocError>
     requires { before ≤ length heard.now }
+    ensures { IfOk result (λ by. BreaksAt heard.now tsdu.now before members.now by) }
 {
     match read_tsdu(tsdu) {
         Ok(group) => break_in(alloc, heard, &group, tsdu.len(), before, members),
@@ -254,7 +280,9 @@ pub(crate) fn break_at(
 }
 
 /// The break of an AC whose selection is outside of the profile, by the foremost of these members.
-pub(crate) fn selection_at(before: usize, members: &[Member]) -> Break {
+pub(crate) fn selection_at(before: usize, members: &[Member]) -> Break
+    ensures { result ≡ selection_of before members.now }
+{
     let at = foremost(members);
     Break {
         said: Some(Kind::Accept),

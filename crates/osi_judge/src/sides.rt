@@ -1,12 +1,13 @@
 //! One side of a connection, judged by what it sent and by what it may have taken.
 
-ghost use Rattle.std.specs.Prelude.{◌≡◌, ◌<◌, ◌≤◌, ◌⊎◌, ◌++◌, ◌∷◌, ◌+◌, [], false, Err, IfOk, OnOk, OnErr, List, length, take};
+ghost use Rattle.std.specs.Prelude.{◌≡◌, ◌<◌, ◌≤◌, ◌⊎◌, ◌++◌, ◌∷◌, ◌+◌, [], false, Err, IfOk, OnOk, OnErr, List, ℕ, length, take};
 ghost use Rattle.osi_session.specs.Standing.{seen_called, seen_calling};
 ghost use Rattle.osi_judge.specs.Explaining.{Told};
-ghost use Rattle.osi_judge.specs.Judging.{Watches, Keeps, IsFound, FoundNext};
+ghost use Rattle.osi_judge.specs.Breaking.{selection_of};
+ghost use Rattle.osi_judge.specs.Judging.{Watches, Keeps, BrokeBy, LeftBy, IsFound, FoundNext};
 ghost use Rattle.osi_judge.specs.Onward.{StandsFor};
 ghost use Rattle.osi_judge.specs.Profiles.{selects_outside};
-ghost use Rattle.osi_judge.specs.Sides.{watched, blame_of, EndsAt};
+ghost use Rattle.osi_judge.specs.Sides.{watched, EndsAt};
 
 use crate::findings::Finding;
 use crate::members::{Member, none_is_left};
@@ -210,7 +211,7 @@ impl Side {
     /// A TSDU of this side that no session says.
     fn end(&mut self, tsdu: &[u8], before: usize) -> Result<(), AllocError>
         requires { before ≤ length (watched self.old).heard }
-        ensures ends { OnOk result (EndsAt (watched self.old) (watched self.new)) }
+        ensures ends { OnOk result (EndsAt tsdu.now before (watched self.old) (watched self.new)) }
         ensures err { OnErr result (watched self.new ≡ watched self.old) }
     {
         let by = break_at(self.alloc, &self.heard, tsdu, before, &self.members)?;
@@ -226,7 +227,8 @@ impl Side {
 
     /// An AC of this side that selects what the profile leaves out.
     fn leave(&mut self, before: usize)
-        ensures { watched self.new ≡ record (watched self.old) { finding = Finding.Left (watched self.old).told } }
+        ensures { watched self.new ≡ record (watched self.old)
+            { finding = Finding.Left (watched self.old).told; by = selection_of before (watched self.old).members } }
     {
         self.finding = Finding::Left(self.told);
         self.by = selection_at(before, &self.members);
@@ -249,7 +251,11 @@ impl Side {
     /// The rule by which the side broke the protocol, or left the profile. It has no meaning for a side that did
     /// neither.
     pub fn by(&self) -> Break
-        ensures { result ≡ blame_of self.now }
+        ensures value { result ≡ (watched self.now).by }
+        ensures broke { (told : List Told) (i : ℕ) → Watches (watched self.now) told → (watched self.now).finding ≡ Finding.Broke i
+            → BrokeBy (watched self.now) told i }
+        ensures left { (told : List Told) (i : ℕ) → Watches (watched self.now) told → (watched self.now).finding ≡ Finding.Left i
+            → LeftBy (watched self.now) told i }
     {
         self.by
     }

@@ -1,6 +1,7 @@
 //! The state of a side that kept the protocol.
 
 ghost use Rattle.std.specs.Prelude.{◌≡◌, ◌<◌, ◌⊎◌, false, length, IfOk};
+ghost use Rattle.osi_judge.specs.Foremost.{is_ahead, is_before, before_of, first_of, foremost};
 ghost use Rattle.osi_judge.specs.Judging.{is_empty};
 ghost use Rattle.osi_judge.specs.Onward.{IsAmong, GoesOn, StandsBehind};
 
@@ -23,7 +24,9 @@ pub struct Stands {
 }
 
 /// Whether a session comes before another that has taken as many TSDUs: by the higher V(A), then by the answer flag.
-fn is_ahead(one: &Standing, other: &Standing) -> bool {
+fn is_ahead(one: &Standing, other: &Standing) -> bool
+    ensures { result ≡ is_ahead one.now other.now }
+{
     let one = one.numbers();
     let other = other.numbers();
     if one.confirmed != other.confirmed {
@@ -33,7 +36,9 @@ fn is_ahead(one: &Standing, other: &Standing) -> bool {
 }
 
 /// Whether a member comes before another: it has taken more TSDUs, or as many and is ahead.
-pub(crate) fn is_before(one: &Member, other: &Member) -> bool {
+pub(crate) fn is_before(one: &Member, other: &Member) -> bool
+    ensures { result ≡ is_before one.now other.now }
+{
     if one.taken != other.taken {
         return one.taken > other.taken;
     }
@@ -42,8 +47,10 @@ pub(crate) fn is_before(one: &Member, other: &Member) -> bool {
 
 /// The member that comes before all others: it has taken most, and of these it has the highest V(A), then
 /// the flag on.
+#[tactic(auto, unfolding(crate::specs::Foremost::foremost))]
 pub(crate) fn foremost(members: &[Member]) -> Member
-    ensures { is_empty members.now ≡ false → IsAmong result members.now }
+    ensures value { result ≡ foremost members.now }
+    ensures among { is_empty members.now ≡ false → IsAmong result members.now }
 {
     let mut best = first_of(members);
     'members: for member in members {
@@ -54,7 +61,8 @@ pub(crate) fn foremost(members: &[Member]) -> Member
 
 /// The one of two members that comes before the other; the first where neither does.
 fn before_of(best: Member, member: &Member) -> Member
-    ensures { (result ≡ best) ⊎ (result ≡ member.now) }
+    ensures value { result ≡ before_of best member.now }
+    ensures either { (result ≡ best) ⊎ (result ≡ member.now) }
 {
     if is_before(member, &best) {
         return *member;
@@ -64,7 +72,8 @@ fn before_of(best: Member, member: &Member) -> Member
 
 /// The first member; where there is none, a session that has just begun.
 pub(crate) fn first_of(members: &[Member]) -> Member
-    ensures { is_empty members.now ≡ false → IsAmong result members.now }
+    ensures value { result ≡ first_of members.now }
+    ensures among { is_empty members.now ≡ false → IsAmong result members.now }
 {
     match members.first() {
         Some(member) => *member,

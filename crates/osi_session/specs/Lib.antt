@@ -20,6 +20,7 @@ pub mod Sides
 pub mod Sizes
 pub mod Sound
 pub mod Standing
+pub mod Breaches
 pub mod Steady
 pub mod State
 pub mod Steps

@@ -1,5 +1,7 @@
 //! One side of a session as an observer sees it.
 
+mod breaking;
+
 ghost use Rattle.std.specs.Prelude.{◌≡◌, ◌≢◌, [], MatchBool, ◌+◌, ◌||◌, true, false, not, is_none, unwrap_or, IfOk, IfSome, IfNone};
 ghost use Rattle.osi_message.specs.Reading.{word};
 ghost use Rattle.osi_session.specs.Standing.{Seen, seen_called, seen_calling, listens, Takes, after_count, answers, answers_word, goes, said, said_within, parting, SaysAs};

@@ -1,5 +1,6 @@
-use Rattle.std.proofs.Common.{sym, refl}
+use Rattle.std.proofs.Common.{◌∙◌, sym, ap, refl}
 use Rattle.osi_judge.specs.declared.findings.Finding.TheVariants.{Broke, Left}
+use Rattle.osi_judge.specs.Judging.{Watched}
 use Rattle.osi_judge.specs.Following.{judged, half_of}
 use Rattle.osi_judge.specs.Sides.{watched}
 use Rattle.osi_dispute.proofs.what_is_told_is_by_facts.{told_kept, told_broke, told_left, told_many}
@@ -13,6 +14,7 @@ returns-in_ok-stands-in-Kept-clause-told c =
 pub returns-in-Broke-clause-told : goal.returns-in-Broke-clause-told
 returns-in-Broke-clause-told c =
     told_broke (half_of c.args.direction (judged c.args.judge.now)) c.offset-offset.result c.by.result c.in-Broke.field-0 c.offset-offset.ensures.value
+    (c.by.ensures.value ∙ ap (λ (w : Watched). w.by) c.side-side.ensures)
     (sym c.in-Broke.ensures.value)
 
 pub returns-in-Broke-clause-found : goal.returns-in-Broke-clause-found
@@ -21,7 +23,8 @@ returns-in-Broke-clause-found c = λ capture k. (Broke c.in-Broke.field-0, (c.in
 pub returns-in-Left-clause-told : goal.returns-in-Left-clause-told
 returns-in-Left-clause-told c =
     told_left (half_of c.args.direction (judged c.args.judge.now)) c.offset-offset.result c.by-in-Left.result c.in-Left.field-0
-    c.offset-offset.ensures.value (sym c.in-Left.ensures.value)
+    c.offset-offset.ensures.value (c.by-in-Left.ensures.value ∙ ap (λ (w : Watched). w.by) c.side-side.ensures)
+    (sym c.in-Left.ensures.value)
 
 pub returns-in-Left-clause-found : goal.returns-in-Left-clause-found
 returns-in-Left-clause-found c = λ capture k. (Left c.in-Left.field-0, (c.in-Left.field-0, refl), c.in-Left.ensures.found capture k.taps)

@@ -1,5 +1,11 @@
-use Rattle.std.proofs.Common.{◌-◌}
+use Rattle.std.proofs.Common.{◌≡◌, ◌-◌}
+use Rattle.osi_judge.specs.Nearest.{unsaid}
+use Rattle.osi_judge.proofs.the_nearest_of_all_sessions_is_told.{tries}
 use Rattle.osi_judge.proofs.rules.nearest_on.Given as goal
+
+abbrev pub invariant-takes : goal.invariant-takes
+invariant-takes l =
+    tries (unsaid l.question) l.heard l.before l.found l.at ≡ tries (unsaid l.question) l.heard l.before l.fn.best l.fn.member
 
 abbrev pub decreases-takes : goal.decreases-takes
 decreases-takes l = l.before - l.at.taken

@@ -1,9 +1,23 @@
+use Rattle.std.proofs.Common.{refl}
 use Rattle.osi_judge.specs.Onward.{stays}
-use Rattle.osi_judge.proofs.OnwardLaws.{comes_next}
+use Rattle.osi_judge.proofs.OnwardLaws.{comes_next, stands_stop}
+use Rattle.osi_judge.proofs.the_nearest_of_all_sessions_is_told.{goes_next}
 use Rattle.osi_judge.proofs.standings.stands_behind.Goals as goal
 
 pub takes-init : goal.takes-init
-takes-init c = stays c.args.member
+takes-init c = record { comes = stays c.args.member; goes = refl }
 
 pub takes-preserved : goal.takes-preserved
-takes-preserved c = comes_next c.args.heard.now c.args.member c.takes.at c.in-Goes.next c.in_ok-next.field-0 c.in-Goes.is c.takes.invariant c.in_ok-next.ensures
+takes-preserved c = record {
+  comes = comes_next c.args.heard.now c.args.member c.takes.at c.in-Goes.next c.in_ok-next.field-0 c.in-Goes.is c.takes.invariant.comes
+      c.in_ok-next.ensures;
+  goes = goes_next c.args.heard.now c.takes.at c.in-Goes.next c.args.member c.in_ok-next.field-0 c.takes-test.true c.in-Goes.is
+      c.in_ok-next.ensures
+      c.takes.invariant.goes;
+}
+
+pub returns-in-Stops : goal.returns-in-Stops
+returns-in-Stops c =
+    stands_stop c.args.heard.now c.args.member c.takes.at c.stands_at.result c.in-Stops.owes c.in_ok-next.field-0 c.stands_at.ensures
+    c.takes-test.true
+    c.in-Stops.is c.in_ok-next.ensures c.takes.invariant.comes c.takes.invariant.goes

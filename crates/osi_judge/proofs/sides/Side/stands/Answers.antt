@@ -1,5 +1,6 @@
-use Rattle.std.proofs.Common.{◌≡◌, false, subst, List, ℕ}
+use Rattle.std.proofs.Common.{◌≡◌, ◌∙◌, ap, false, subst, List, ℕ}
 use Rattle.osi_judge.specs.declared.members.Member.{Member}
+use Rattle.osi_judge.specs.Foremost.{foremost}
 use Rattle.osi_judge.specs.Judging.{is_empty}
 use Rattle.osi_judge.specs.Onward.{IsAmong, StandsBehind}
 use Rattle.osi_judge.specs.Sides.{watched}
@@ -9,4 +10,6 @@ use Rattle.osi_judge.proofs.sides.Side.stands.Goals as goal
 pub returns : goal.returns
 returns c =
     stands_ok c.stands_behind.result (watched c.args.self.now) c.deref.result.now c.foremost.result c.deref.ensures.value
-    (subst (λ (x : List Member). is_empty x ≡ false → IsAmong c.foremost.result x) c.deref-2.ensures.value c.foremost.ensures) c.stands_behind.ensures
+    (c.foremost.ensures.value ∙ ap foremost c.deref-2.ensures.value)
+    (subst (λ (x : List Member). is_empty x ≡ false → IsAmong c.foremost.result x) c.deref-2.ensures.value c.foremost.ensures.among)
+    c.stands_behind.ensures

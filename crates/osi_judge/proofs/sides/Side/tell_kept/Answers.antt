@@ -13,14 +13,18 @@ returns-then-none_is_left-clause-watches c =
     let x : Told = record { octets = c.args.tsdu.now; before = c.args.before } in
     let new = c.in_ok-members.members.items in
     let none : new ≡ [] = nil_of new (ap is_empty (sym c.as_slice.ensures.value) ∙ sym c.none_is_left.ensures ∙ c.if-none_is_left.true) in
-    ends_ok c.end.result w (watched c.end.new.self) x new c.requires.order
+    ends_ok c.end.result w (watched c.end.new.self) x new c.requires.passed c.requires.order
     (gives_as w x new c.deref.result.now c.deref-2.result.now c.deref.ensures.value c.deref-2.ensures.value c.in_ok-members.ensures) none c.end.ensures.ends
 
 pub returns-then-opens_outside-clause-watches : goal.returns-then-opens_outside-clause-watches
 returns-then-opens_outside-clause-watches c = λ told k.
     let w = watched c.args.self.now in
     let x : Told = record { octets = c.args.tsdu.now; before = c.args.before } in
-    leaves_as w (watched c.leave.new.self) told x c.opens_outside.result c.leave.ensures c.requires.passed (c.opens_outside.ensures.first, c.opens_outside.ensures.later) c.if-opens_outside.true k
+    let new = c.in_ok-members.members.items in
+    let some : is_empty new ≡ false = ap is_empty (sym c.as_slice.ensures.value) ∙ sym c.none_is_left.ensures ∙ c.if-none_is_left.false in
+    leaves_as w (watched c.leave.new.self) told x new c.opens_outside.result c.requires.order
+    (gives_as w x new c.deref.result.now c.deref-2.result.now c.deref.ensures.value c.deref-2.ensures.value c.in_ok-members.ensures) some
+    c.leave.ensures c.requires.passed (c.opens_outside.ensures.first, c.opens_outside.ensures.later) c.if-opens_outside.true k
 
 pub returns-then-is_crowd-clause-watches : goal.returns-then-is_crowd-clause-watches
 returns-then-is_crowd-clause-watches c = λ told k.

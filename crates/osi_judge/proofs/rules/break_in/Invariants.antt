@@ -1,0 +1,14 @@
+use Rattle.std.proofs.Common.{◌∷◌, [], ◌++◌, length}
+use Rattle.osi_spdu.specs.Groups.{units_behind, units_of}
+use Rattle.osi_spdu.specs.Units.{said_by}
+use Rattle.osi_judge.specs.Breaking.{in_effect}
+use Rattle.osi_judge.proofs.the_nearest_of_all_sessions_is_told.{Continues}
+use Rattle.osi_judge.proofs.rules.break_in.Given as goal
+
+abbrev pub invariant-units : goal.invariant-units
+invariant-units l =
+    Continues l.heard l.octets l.before l.members (in_effect (units_of l.fn.group)) l.now.items
+    (units_behind l.behind ++ said_by l.first ∷ [])
+
+abbrev pub decreases-units : goal.decreases-units
+decreases-units l = length (units_behind l.behind)

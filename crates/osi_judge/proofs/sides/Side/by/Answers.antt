@@ -1,0 +1,9 @@
+use Rattle.osi_judge.specs.Sides.{watched}
+use Rattle.osi_judge.proofs.SideLaws.{broke_by, left_by}
+use Rattle.osi_judge.proofs.sides.Side.by.Goals as goal
+
+pub returns-clause-broke : goal.returns-clause-broke
+returns-clause-broke c = broke_by (watched c.args.self.now)
+
+pub returns-clause-left : goal.returns-clause-left
+returns-clause-left c = left_by (watched c.args.self.now)

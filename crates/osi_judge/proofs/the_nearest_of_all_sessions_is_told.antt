@@ -1,0 +1,239 @@
+-- The sessions that a member becomes are tried one after the other, and the nearest is told: for the functions of `rules`.
+use Rattle.std.proofs.Common.{◌≡◌, ◌∙◌, refl, sym, ap, subst, ℕ, zero, suc, ◌+◌, ◌-◌, ◌<◌, ◌≤◌, Bool, false, if◌then◌else◌, List, [], ◌∷◌}
+use Rattle.std.proofs.Common.{◌++◌}
+use Rattle.std.proofs.Common.{length, get_or, drop, replicate, Option, Some, None, is_none, option_map, Result, Ok, Err, IfOk, inl, inr}
+use Rattle.std.proofs.Common.{arith}
+use Rattle.std.proofs.lemmas.List.{append-nil, append_assoc, length-append, length-replicate}
+use Rattle.std.proofs.lemmas.List.Sums.{fold-append}
+use Rattle.std.specs.List.{fold, flat_map}
+use Rattle.osi_spdu.specs.declared.faults.SpduFault.{SpduFault}
+use Rattle.osi_spdu.specs.Known.{Contents, Units}
+use Rattle.osi_session.specs.declared.reactions.Reply.{Reply}
+use Rattle.osi_session.specs.Steps.{reply_of}
+use Rattle.osi_session.specs.Standing.{Seen, Count, Takes, listens, after_count}
+use Rattle.osi_judge.specs.declared.members.Member.{Member}
+use Rattle.osi_judge.specs.declared.rules.Break.{Break}
+use Rattle.osi_judge.specs.declared.rules.Near.{Near}
+use Rattle.osi_judge.specs.declared.standings.Turn.{Turn}
+use Rattle.osi_judge.specs.declared.standings.Turn.TheVariants.{Goes, Stops}
+use Rattle.osi_judge.specs.Breaking.{Leads, BreaksIn, here, last, later, BreaksAs, in_effect}
+use Rattle.osi_judge.specs.Members.{is_empty}
+use Rattle.osi_judge.specs.Nearest.{Unsaid, a_unit, unread, tried, count_at, quiet_by, next_of, becomes, reached, last_in, goes_to, far}
+use Rattle.osi_judge.specs.Nearest.{nearest, break_of}
+use Rattle.osi_judge.specs.Onward.{Quietly, OwesTo, StopsBy, GoesOn}
+
+-- ---- the next TSDU
+
+so_many : (n : Option ℕ) → option_map (length {A = ℕ}) (option_map (λ (k : ℕ). replicate {A = ℕ} k 0) n) ≡ n
+so_many None = refl
+so_many (Some n) = ap Some (length-replicate {A = ℕ} n 0)
+
+pub count_is : (s : Seen) (u : List ℕ) (c : Count) → Takes s u c → count_at s u ≡ c
+unfolding count_at
+count_is s u c h = h (option_map (λ (k : ℕ). replicate {A = ℕ} k 0) s.joined) (so_many s.joined)
+
+abbrev taken_by : Member → Count → Member
+taken_by m c = record { taken = m.taken + 1; standing = after_count m.standing c }
+
+pub next_goes : (us : List (List ℕ)) (m t : Member) → Quietly us m t → next_of us m ≡ Some t
+next_goes us m t q =
+    let u = get_or us m.taken [] in
+    let c = q.follows.count in
+    let listening = q.follows.listening in
+    let next : taken_by m c ≡ t = let a = q.taken in let b = q.follows.next in λ i. record { taken = sym a i; standing = sym b i } in
+    ap (λ (b : Bool). if b then quiet_by m (count_at m.standing u) else None) listening
+    ∙ ap (quiet_by m) (count_is m.standing u c q.follows.taken)
+    ∙ ap (λ (r : Option _). if is_none r then Some (taken_by m c) else None) q.follows.quiet ∙ ap Some next
+
+next_owes : (us : List (List ℕ)) (m : Member) (reply : Reply) → OwesTo m.standing (get_or us m.taken []) reply → next_of us m ≡ None
+next_owes us m reply o =
+    let u = get_or us m.taken [] in
+    ap (λ (b : Bool). if b then quiet_by m (count_at m.standing u) else None) o.listening ∙ ap (quiet_by m)
+    (count_is m.standing u o.count o.taken)
+    ∙ ap (λ (r : Option _). if is_none r then Some (taken_by m o.count) else None) o.sent
+
+pub next_stops : (us : List (List ℕ)) (m : Member) (owes : Option Reply) → StopsBy m.standing (get_or us m.taken []) owes
+    → next_of us m ≡ None
+next_stops us m None h = ap (λ (b : Bool). if b then quiet_by m (count_at m.standing (get_or us m.taken [])) else None) h
+next_stops us m (Some reply) h = next_owes us m reply h
+
+-- ---- the sessions that one becomes
+
+becomes_none : (us : List (List ℕ)) (n : ℕ) → becomes us n None ≡ []
+becomes_none us zero = refl
+becomes_none us (suc n) = refl
+
+reached_end : (us : List (List ℕ)) (before : ℕ) (m : Member) → before ≤ m.taken → reached us before m ≡ m ∷ []
+reached_end us before m l = let e : before - m.taken ≡ 0 = omega arith in ap (λ (n : ℕ). becomes us n (Some m)) e
+
+reached_some : (us : List (List ℕ)) (before : ℕ) (m : Member) → m.taken < before
+    → reached us before m ≡ m ∷ becomes us (before - (m.taken + 1)) (next_of us m)
+reached_some us before m l =
+    let e : before - m.taken ≡ suc (before - (m.taken + 1)) = omega arith in ap (λ (n : ℕ). becomes us n (Some m)) e
+
+reached_next : (us : List (List ℕ)) (before : ℕ) (m t : Member) → m.taken < before → Quietly us m t
+    → reached us before m ≡ m ∷ reached us before t
+reached_next us before m t l q =
+    let e = q.taken in
+    reached_some us before m l ∙ ap (λ (o : Option Member). m ∷ becomes us (before - (m.taken + 1)) o) (next_goes us m t q)
+    ∙ ap (λ (n : ℕ). m ∷ becomes us (before - n) (Some t)) (sym e)
+
+reached_stops : (us : List (List ℕ)) (before : ℕ) (m : Member) (owes : Option Reply) → m.taken < before
+    → StopsBy m.standing (get_or us m.taken []) owes
+    → reached us before m ≡ m ∷ []
+reached_stops us before m owes l h =
+    reached_some us before m l ∙ ap (λ (o : Option Member). m ∷ becomes us (before - (m.taken + 1)) o) (next_stops us m owes h)
+    ∙ ap (λ (ms : List Member). m ∷ ms) (becomes_none us (before - (m.taken + 1)))
+
+-- ---- what a session is after all that passed
+
+last_any : (us : List (List ℕ)) (n : ℕ) (a t : Member) → last_in a (becomes us n (Some t)) ≡ last_in t (becomes us n (Some t))
+last_any us zero a t = refl
+last_any us (suc n) a t = refl
+
+pub goes_next : (us : List (List ℕ)) (m t first : Member) (turn : Turn) → m.taken < length us → turn ≡ Goes t → GoesOn us m turn
+    → goes_to us m ≡ goes_to us first → goes_to us t ≡ goes_to us first
+goes_next us m t first turn l e g h =
+    sym (ap (λ (ms : List Member). last_in m ms) (reached_next us (length us) m t l (subst (λ (x : Turn). GoesOn us m x) e g))
+    ∙ last_any us (length us - t.taken) m t) ∙ h
+
+pub goes_stop : (us : List (List ℕ)) (m first : Member) (turn : Turn) (owes : Option Reply) → m.taken < length us → turn ≡ Stops owes
+    → GoesOn us m turn
+    → goes_to us m ≡ goes_to us first → m ≡ goes_to us first
+goes_stop us m first turn owes l e g h =
+    sym (ap (λ (ms : List Member). last_in m ms) (reached_stops us (length us) m owes l (subst (λ (x : Turn). GoesOn us m x) e g))) ∙ h
+
+pub goes_end : (us : List (List ℕ)) (m first : Member) → length us ≤ m.taken → goes_to us m ≡ goes_to us first → m ≡ goes_to us first
+goes_end us m first l h = sym (ap (λ (ms : List Member). last_in m ms) (reached_end us (length us) m l)) ∙ h
+
+-- ---- a walk of one member
+
+abbrev pub tries : Unsaid → List (List ℕ) → ℕ → Near → Member → Near
+tries u us before best m = fold (tried u) best (reached us before m)
+
+pub tries_next : (u : Unsaid) (us : List (List ℕ)) (before : ℕ) (old new all : Near) (m t : Member) (turn : Turn) → m.taken < before
+    → turn ≡ Goes t
+    → GoesOn us m turn → new ≡ tried u old m → tries u us before old m ≡ all → tries u us before new t ≡ all
+tries_next u us before old new all m t turn l e g n h =
+    ap (λ (x : Near). tries u us before x t) n
+    ∙ sym (ap (λ (ms : List Member). fold (tried u) old ms) (reached_next us before m t l (subst (λ (x : Turn). GoesOn us m x) e g))) ∙ h
+
+pub tries_stop : (u : Unsaid) (us : List (List ℕ)) (before : ℕ) (old new all : Near) (m : Member) (turn : Turn) (owes : Option Reply)
+    → m.taken < before
+    → turn ≡ Stops owes → GoesOn us m turn → new ≡ tried u old m → tries u us before old m ≡ all → new ≡ all
+tries_stop u us before old new all m turn owes l e g n h =
+    n ∙ sym (ap (λ (ms : List Member). fold (tried u) old ms)
+    (reached_stops us before m owes l (subst (λ (x : Turn). GoesOn us m x) e g))) ∙ h
+
+pub tries_end : (u : Unsaid) (us : List (List ℕ)) (before : ℕ) (old new all : Near) (m : Member) → before ≤ m.taken → new ≡ tried u old m
+    → tries u us before old m ≡ all → new ≡ all
+tries_end u us before old new all m l n h =
+    n ∙ sym (ap (λ (ms : List Member). fold (tried u) old ms) (reached_end us before m l)) ∙ h
+
+-- ---- one element of a list after the other
+
+pub one_more : {S : Type 0} (f : S → Member → S) (s : S) (members : List Member) (i : ℕ) (x : Member) → i < length members
+    → x ≡ get_or members i x
+    → fold f s (drop i members) ≡ fold f (f s x) (drop (i + 1) members)
+one_more f s [] i x l e = absurd (omega arith)
+one_more f s (m ∷ members) zero x l e = ap (λ (z : Member). fold f (f s z) members) (sym e)
+one_more f s (m ∷ members) (suc i) x l e =
+    let n : suc (i + 1) ≡ suc i + 1 = omega arith in
+    one_more f s members i x (omega arith) e ∙ ap (λ (k : ℕ). fold f (f s x) (drop k (m ∷ members))) n
+
+pub no_more : (members : List Member) (i : ℕ) → length members ≤ i → drop i members ≡ []
+no_more [] zero l = refl
+no_more [] (suc i) l = refl
+no_more (m ∷ members) zero l = absurd (omega arith)
+no_more (m ∷ members) (suc i) l = no_more members i (omega arith)
+
+fold_flat : (u : Unsaid) (us : List (List ℕ)) (before : ℕ) (best : Near) (members : List Member)
+    → fold (tried u) best (flat_map (reached us before) members) ≡ fold (tries u us before) best members
+fold_flat u us before best [] = refl
+fold_flat u us before best (m ∷ members) =
+    fold-append (tried u) best (reached us before m) (flat_map (reached us before) members) ∙ fold_flat u us before
+    (tries u us before best m) members
+
+-- ---- all members
+
+pub all_tried : (u : Unsaid) (us : List (List ℕ)) (before : ℕ) (first best : Near) (members : List Member) (i : ℕ) → length members ≤ i
+    → first ≡ far members
+    → fold (tries u us before) best (drop i members) ≡ fold (tries u us before) first members → best ≡ nearest u us before members
+unfolding nearest
+all_tried u us before first best members i l f h =
+    sym (ap (λ (ms : List Member). fold (tries u us before) best ms) (no_more members i l)) ∙ h
+    ∙ ap (λ (n : Near). fold (tries u us before) n members) f ∙ sym (fold_flat u us before (far members) members)
+
+pub tried_next : (u : Unsaid) (us : List (List ℕ)) (before : ℕ) (all old new : Near) (members : List Member) (i : ℕ) (x : Member)
+    → i < length members
+    → x ≡ get_or members i x → new ≡ tries u us before old x → fold (tries u us before) old (drop i members) ≡ all
+    → fold (tries u us before) new (drop (i + 1) members) ≡ all
+tried_next u us before all old new members i x l e n h =
+    ap (λ (z : Near). fold (tries u us before) z (drop (i + 1) members)) n ∙ sym (one_more (tries u us before) old members i x l e) ∙ h
+
+-- ---- the units of a TSDU
+
+-- what breaks at the units that are left breaks at the whole
+abbrev pub Continues : List (List ℕ) → ℕ → ℕ → List Member → Units → List Member → Units → Type 0
+Continues heard octets before members whole now left = (at : List Member) (by : Break) → BreaksIn heard octets before now left at by
+    → BreaksIn heard octets before members whole at by
+
+pub breaks_first : (heard : List (List ℕ)) (octets before : ℕ) (members now : List Member) (whole left : Units) → now ≡ members
+    → left ≡ whole
+    → Continues heard octets before members whole now left
+breaks_first heard octets before members now whole left e f = λ at by h.
+    subst (λ (z : List Member). BreaksIn heard octets before z whole at by) e
+    (subst (λ (z : Units). BreaksIn heard octets before now z at by) f h)
+
+pub breaks_later : (heard : List (List ℕ)) (octets before : ℕ) (members now next : List Member) (whole units left : Units)
+    (first unit : Contents)
+    → units ≡ unit ∷ left → Leads heard octets before now unit next → is_empty next ≡ false
+    → Continues heard octets before members whole now (units ++ first ∷ [])
+    → Continues heard octets before members whole next (left ++ first ∷ [])
+breaks_later heard octets before members now next whole units left first unit e l s k = λ at by h.
+    k at by (subst (λ (z : Units). BreaksIn heard octets before now (z ++ first ∷ []) at by) (sym e)
+    (later now next unit (left ++ first ∷ []) at by l s h))
+
+pub breaks_here : (heard : List (List ℕ)) (octets before : ℕ) (members now : List Member) (whole units left : Units)
+    (first unit : Contents) (by : Break)
+    → units ≡ unit ∷ left → Leads heard octets before now unit [] → by ≡ break_of (a_unit unit octets) heard before now
+    → Continues heard octets before members whole now (units ++ first ∷ [])
+    → (at : List Member) × BreaksIn heard octets before members whole at by
+breaks_here heard octets before members now whole units left first unit by e l b k = (
+  now,
+  k now by (subst (λ (z : Units). BreaksIn heard octets before now (z ++ first ∷ []) now by) (sym e)
+      (here now unit (left ++ first ∷ []) by l b)),
+)
+
+pub breaks_last : (heard : List (List ℕ)) (octets before : ℕ) (members now : List Member) (whole units : Units) (first : Contents)
+    (by : Break)
+    → units ≡ [] → by ≡ break_of (a_unit first octets) heard before now
+    → Continues heard octets before members whole now (units ++ first ∷ [])
+    → (at : List Member) × BreaksIn heard octets before members whole at by
+breaks_last heard octets before members now whole units first by e b k =
+    (now, k now by (subst (λ (z : Units). BreaksIn heard octets before now (z ++ first ∷ []) now by) (sym e) (last now first by b)))
+
+pub breaks_last_ok : {E : Type 0} (r : Result Break E) (heard : List (List ℕ)) (octets before : ℕ) (members now deref : List Member)
+    (whole units : Units)
+    (first : Contents) → units ≡ [] → deref ≡ now → IfOk r (λ by. by ≡ break_of (a_unit first octets) heard before deref)
+    → Continues heard octets before members whole now (units ++ first ∷ [])
+    → IfOk r (λ by. (at : List Member) × BreaksIn heard octets before members whole at by)
+breaks_last_ok (Ok by) heard octets before members now deref whole units first e d b k =
+    breaks_last heard octets before members now whole units first by e (b ∙ ap (break_of (a_unit first octets) heard before) d) k
+breaks_last_ok (Err x) heard octets before members now deref whole units first e d b k = tt
+
+pub breaks_as : {E : Type 0} (r : Result Break E) (heard : List (List ℕ)) (octets before : ℕ) (members : List Member)
+    (read : Result Units SpduFault)
+    (units : Units) → read ≡ Ok units → IfOk r (λ by. (at : List Member) × BreaksIn heard octets before members (in_effect units) at by)
+    → IfOk r (λ by. (at : List Member) × BreaksAs heard octets before members read at by)
+breaks_as (Ok by) heard octets before members read units e h =
+    (h.0, subst (λ (r : Result Units SpduFault). BreaksAs heard octets before members r h.0 by) (sym e) h.1)
+breaks_as (Err x) heard octets before members read units e h = tt
+
+pub breaks_unread : {E : Type 0} (r : Result Break E) (heard : List (List ℕ)) (octets before : ℕ) (members : List Member)
+    (read : Result Units SpduFault)
+    (fault : SpduFault) → read ≡ Err fault → IfOk r (λ by. by ≡ break_of (unread fault) heard before members)
+    → IfOk r (λ by. (at : List Member) × BreaksAs heard octets before members read at by)
+breaks_unread (Ok by) heard octets before members read fault e h =
+    (members, subst (λ (r : Result Units SpduFault). BreaksAs heard octets before members r members by) (sym e) (refl, h))
+breaks_unread (Err x) heard octets before members read fault e h = tt
