@@ -13,6 +13,7 @@ use Rattle.osi_judge.specs.declared.directions.Direction.TheVariants.{Left, Righ
 use Rattle.osi_judge.specs.Captures.{Capture, other, piece, stream}
 use Rattle.osi_judge.specs.Explaining.{Told}
 use Rattle.osi_judge.specs.Judging.{Watched, Watches}
+use Rattle.osi_judge.specs.Outlines.{outline, outlines}
 use Rattle.osi_judge.specs.Transport.{Stage, opening, between, within, stopped, reference_in, first_of, stage_behind, Sent, packet_length, sent_by, stage_from}
 use Rattle.osi_judge.specs.Tapping.{begin_of, had_passed, octets_of, heard, tell, told, IsPlace}
 use Rattle.osi_judge.specs.Feeding.{Tapped, since_at, named_behind, last_behind, with_count, Tells, hears, Passes, TakesPacket, Settles, goes_on, faulty, whole, since_in, since_of, IsWithin, with_octets, Feeds, ignored, looked_at}
@@ -21,6 +22,7 @@ use Rattle.osi_judge.proofs.CaptureLaws.{stream_fed, stream_beside}
 use Rattle.osi_judge.proofs.CountLaws.{stays_passed, not_yet_passed, all_had_passed, told_stays, told_beside, begin_later, end_later, begin_more, end_more}
 use Rattle.osi_judge.proofs.UnitLaws.{packets_on, packet_on, offset_from, packet_octets, offset_of_rest, stage_more, sent_more, shown_behind, heard_shown, since_shown, OneOrNone, sent_one, since_behind}
 use Rattle.osi_judge.proofs.SideLaws as side
+use Rattle.osi_judge.proofs.alike_tsdus_explain_the_same.{length_outlines}
 use Rattle.osi_judge.proofs.what_is_told_beside_is_of_the_capture.{named_more, named_shown, place_behind, count_told}
 
 -- ---- positions
@@ -63,7 +65,7 @@ since_known d c octets t mine others f e n l =
     let x = had_passed d (c ++ piece d octets) k others in
     let fresh : f.rest ≡ [] → length t.side.heard ≡ x
     = λ z. let y = ap (λ (w : List ℕ). length w) z in
-    ap (λ (w : List (List ℕ)). length w) f.heard ∙ length_heard others ∙ sym (all_had_passed d c octets k others (omega arith) (omega arith) e) in
+    ap (λ (w : List (List ℕ)). length w) f.heard ∙ length_outlines (heard others) ∙ length_heard others ∙ sym (all_had_passed d c octets k others (omega arith) (omega arith) e) in
     let going : 0 < length f.rest → t.line.since ≡ x
     = λ z. f.since n z ∙ sym (stays_passed d c (piece d octets) k others (omega arith)) in
     ap (λ (w : List ℕ). since_in w (length t.side.heard) t.line.since) h.0 ∙ since_case f.rest (length t.side.heard) t.line.since x fresh going
@@ -177,9 +179,10 @@ hearing_follows d c t mine others u f l = record {
   begins = f.begins;
   ends = f.ends;
   begin = f.begin;
-  heard = ap (λ (x : List (List ℕ)). x ++ u.octets ∷ []) f.heard ∙ sym (map-append octets_of others (u ∷ []));
+  heard = ap (λ (x : List (List ℕ)). x ++ outline u.octets ∷ []) f.heard ∙ sym (map-append outline (heard others) (u.octets ∷ []))
+      ∙ ap outlines (sym (map-append octets_of others (u ∷ [])));
   watches = subst (λ (x : List Told). Watches (hears t.side u.octets) x) (sym (told_beside d c mine others u l))
-      (side.hears t.side u.octets (told d c mine others) f.watches);
+      (side.hears t.side (outline u.octets) (told d c mine others) f.watches);
 }
 
 -- ---- a packet becomes complete
@@ -239,7 +242,7 @@ pub record Grown (d : Direction) (c : Capture) (mine others : List Sent) (new : 
   pub begins : BeginBefore (length (stream d c)) mine
   pub ends : EndBy (length (stream d c)) mine
   pub begin : new.begin ≡ begin_of d
-  pub heard : new.heard ≡ heard others
+  pub heard : new.heard ≡ outlines (heard others)
   pub watches : Watches new (told d c mine others)
 
 told_one_more : (d : Direction) (c : Capture) (mine others : List Sent) (u : Sent) (at before : ℕ) → u.first ≡ at → before ≡ had_passed d c at others

@@ -16,10 +16,13 @@ use Rattle.osi_judge.specs.declared.directions.Direction.TheVariants.{Left, Righ
 use Rattle.osi_judge.specs.declared.findings.Finding.TheVariants.{Kept}
 use Rattle.osi_judge.specs.declared.stops.Stop.TheVariants.{OtherClass, TsduTooLong}
 use Rattle.osi_judge.specs.Captures.{Capture, other, stream}
-use Rattle.osi_judge.specs.Following.{shown, Follows, Judged, half_of, Taps, kept_in, kept_of}
+use Rattle.osi_judge.specs.Following.{shown, Follows, Judged, half_of, Taps, kept_of}
+use Rattle.osi_judge.specs.Keeping.{is_same, kept_in, once, once_behind}
+use Rattle.osi_judge.specs.Outlines.{outline, outlines}
 use Rattle.osi_judge.specs.Tapping.{octets_of, heard, told}
 use Rattle.osi_judge.specs.Transport.{Move, opens, adds, stops, first_step, next_step, step_of, Stage, opening, between, within, stopped, is_open, begun, is_too_long, added, moved, stage_behind, Sent, ended, brought, sent_by, stage_from, sent_from}
 use Rattle.osi_judge.proofs.SideLaws.{few_by}
+use Rattle.osi_judge.proofs.an_outline_is_taken_alike.{outline_no_longer}
 use Rattle.osi_judge.proofs.UnitLaws.{packet_octets}
 
 -- ---- a packet
@@ -126,13 +129,32 @@ shown_begun between = refl
 shown_begun (within first octets) = refl
 shown_begun (stopped stop at) = refl
 
+behind_by : (b : Bool) (x : List ℕ) (xs : List (List ℕ)) (n : ℕ) → kept_in xs ≤ n → kept_in (if b then xs else x ∷ xs) ≤ length x + 7 + n
+behind_by true x xs n l = omega (arith, l)
+behind_by false x xs n l = omega (arith, l)
+
+behind_less : (before : List ℕ) (xs : List (List ℕ)) → kept_in (once_behind before xs) ≤ kept_in xs
+behind_less before [] = omega arith
+behind_less before (x ∷ xs) = behind_by (is_same before x) x (once_behind x xs) (kept_in xs) (behind_less x xs)
+
+once_less : (xs : List (List ℕ)) → kept_in (once xs) ≤ kept_in xs
+once_less [] = omega arith
+once_less (x ∷ xs) = let l = behind_less x xs in omega (arith, l)
+
+outlines_less : (xs : List (List ℕ)) → kept_in (outlines xs) ≤ kept_in xs
+outlines_less [] = omega arith
+outlines_less (x ∷ xs) = let l = outlines_less xs in let m = outline_no_longer x in omega (arith, l, m)
+
 side_keeps : FoundUnits → (d : Direction) (c : Capture) (j : Judged) (mine others : List Sent) → Follows d c (half_of d j) mine others
-    → (half_of (other d) j).side.heard ≡ heard mine → kept_of d j ≤ length (stream d c)
+    → (half_of (other d) j).side.heard ≡ outlines (heard mine) → kept_of d j ≤ length (stream d c)
 side_keeps found d c j mine others f h =
     let kept = stream_keeps found d opening 0 f.units (stream d c) f.rest f.packets in
-    let same = ap kept_in (h ∙ ap heard f.sent) in
+    let less = once_less (half_of (other d) j).side.heard in
+    let bare = ap kept_in h in
+    let lesser = outlines_less (heard mine) in
+    let same = ap kept_in (ap heard f.sent) in
     let way = ap (λ (x : List ℕ). length x) (ap begun f.stage ∙ shown_begun (stage_from d opening 0 f.units)) in
-    omega (arith, kept, same, way)
+    omega (arith, kept, less, bare, lesser, same, way)
 
 pub no_more_kept : FoundUnits → (d : Direction) (c : Capture) (j : Judged) → Taps j c → kept_of d j ≤ length (stream d c)
 no_more_kept found Left c j h = side_keeps found Left c j h.left h.right h.of_left h.of_right.heard

@@ -30,6 +30,7 @@ use Rattle.osi_judge.specs.Feeding.{Tapped, reading_of, stopped_of}
 use Rattle.osi_judge.specs.Following.{Follows, Judged, half_of, Taps, FirstIs}
 use Rattle.osi_judge.proofs.JudgeLaws.{is_sent, is_read, is_given, is_stopped, is_found, is_placed}
 use Rattle.osi_judge.proofs.FirstLaws.{first_told}
+use Rattle.osi_judge.proofs.alike_tsdus_explain_the_same.{said_of_tsdus, stands_of_tsdus}
 use Rattle.osi_judge.proofs.what_is_told_beside_is_of_the_capture.{count_kept, count_told}
 
 -- ---- a side that kept the protocol
@@ -70,8 +71,9 @@ standing_as d c t u mine others f g e s k =
       member = h.member;
       before = t.side.before;
       has_said = subst (λ (b : Seen). Ever (heard others) t.side.before (λ us later. Explains us later h.member.taken h.member.standing → Explains us (remarks said ++ later) 0 b)) f.begin
-          (subst (λ (x : List (List ℕ)). Ever x t.side.before (λ us later. Explains us later h.member.taken h.member.standing → Explains us (remarks said ++ later) 0 t.side.begin)) f.heard h.has_said);
-      behind = subst (λ (x : List (List ℕ)). StandsBehind x h.member s) f.heard h.behind;
+          (said_of_tsdus (heard others) t.side.before h.member.taken h.member.standing (remarks said) t.side.begin
+          (subst (λ (x : List (List ℕ)). Ever x t.side.before (λ us later. Explains us later h.member.taken h.member.standing → Explains us (remarks said ++ later) 0 t.side.begin)) f.heard h.has_said));
+      behind = stands_of_tsdus (heard others) h.member s (subst (λ (x : List (List ℕ)). StandsBehind x h.member s) f.heard h.behind);
     }
 
 pub is_standing : (d : Direction) (c : Capture) (j : Judged) → Taps j c → (half_of d j).side.finding ≡ Kept → (s : Stands)

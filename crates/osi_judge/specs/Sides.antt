@@ -6,7 +6,7 @@ use Rattle.osi_judge.specs.declared.findings.Finding.TheVariants.{Broke, Left}
 use Rattle.osi_judge.specs.Judging.{Watched}
 
 abbrev pub watched : Side → Watched
-watched s = record { begin = s.begin; heard = s.heard.items; members = s.members.items; told = s.told; before = s.before; finding = s.finding }
+watched s = record { begin = s.begin; heard = s.heard; members = s.members.items; told = s.told; before = s.before; finding = s.finding }
 
 -- by which rule it broke the protocol or left the profile, and which session came nearest
 abbrev pub blame_of : Side → Break

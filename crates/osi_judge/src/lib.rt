@@ -33,10 +33,12 @@
 mod directions;
 mod findings;
 mod first_places;
+mod heard;
 mod judge;
 pub mod laws;
 mod lines;
 mod members;
+mod outlines;
 mod profiles;
 mod rules;
 mod sides;

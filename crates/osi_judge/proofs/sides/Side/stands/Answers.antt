@@ -1,4 +1,4 @@
-use Rattle.std.proofs.Common.{◌≡◌, false, subst, List, ℕ}
+use Rattle.std.proofs.Common.{◌≡◌, false, refl, subst, List, ℕ}
 use Rattle.osi_judge.specs.declared.members.Member.{Member}
 use Rattle.osi_judge.specs.Judging.{is_empty}
 use Rattle.osi_judge.specs.Onward.{IsAmong, StandsBehind}
@@ -8,5 +8,5 @@ use Rattle.osi_judge.proofs.sides.Side.stands.Goals as goal
 
 pub returns : goal.returns
 returns c =
-    stands_ok c.stands_behind.result (watched c.args.self.now) c.deref.result.now c.foremost.result c.deref.ensures.value
-    (subst (λ (x : List Member). is_empty x ≡ false → IsAmong c.foremost.result x) c.deref-2.ensures.value c.foremost.ensures) c.stands_behind.ensures
+    stands_ok c.stands_behind.result (watched c.args.self.now) c.args.self.now.heard c.foremost.result refl
+    (subst (λ (x : List Member). is_empty x ≡ false → IsAmong c.foremost.result x) c.deref.ensures.value c.foremost.ensures) c.stands_behind.ensures
