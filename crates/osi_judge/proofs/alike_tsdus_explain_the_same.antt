@@ -1,6 +1,7 @@
 -- What is explained, found and taken where outlines were heard is so where the TSDUs themselves were.
 -- For the judge, which keeps outlines, and says what holds of the TSDUs of a capture.
-use Rattle.std.proofs.Common.{◌≡◌, ◌∙◌, refl, sym, ap, subst, ℕ, zero, suc, ◌+◌, ◌<◌, ◌⊎◌, inl, inr, Bool, true, false, ◌&&◌, nat_le, nat_lt, List, [], ◌∷◌, ◌++◌, length, take, map, get_or}
+use Rattle.std.proofs.Common.{◌≡◌, ◌∙◌, refl, sym, ap, subst, ℕ, zero, suc, ◌+◌, ◌<◌, ◌⊎◌, inl, inr, Bool, true, false, ◌&&◌, nat_le}
+use Rattle.std.proofs.Common.{nat_lt, List, [], ◌∷◌, ◌++◌, length, take, map, get_or}
 use Rattle.std.proofs.Common.{Option, Some, None, Result, Ok, Err, IfSome, if◌then◌else◌, arith}
 use Rattle.osi_spdu.specs.declared.faults.SpduFault.{SpduFault}
 use Rattle.osi_spdu.specs.Reading.{tsdu_at, unit_at}
@@ -39,12 +40,14 @@ Alike us vs = (i : ℕ) → AreAlike (get_or us i []) (get_or vs i [])
 back : (us vs : List (List ℕ)) → Alike us vs → Alike vs us
 back us vs h = λ i t. sym (h i t)
 
-explains_as : (us vs : List (List ℕ)) → Alike us vs → (ms : List Remark) (taken : ℕ) (s : Seen) → Explains us ms taken s → Explains vs ms taken s
+explains_as : (us vs : List (List ℕ)) → Alike us vs → (ms : List Remark) (taken : ℕ) (s : Seen) → Explains us ms taken s
+    → Explains vs ms taken s
 explains_as us vs h ms n z (done taken s) = done taken s
 explains_as us vs h ns n z (takes m ms taken s c l k t q e) =
     takes m ms taken s c l k (takes_as s (get_or us taken []) (get_or vs taken []) c (h taken) t) q (explains_as us vs h _ _ _ e)
 explains_as us vs h ns n z (answers m ms taken s c reply w l k t q o a e) =
-    answers m ms taken s c reply w l k (takes_as s (get_or us taken []) (get_or vs taken []) c (h taken) t) q o a (explains_as us vs h _ _ _ e)
+    answers m ms taken s c reply w l k (takes_as s (get_or us taken []) (get_or vs taken []) c (h taken) t) q o a
+    (explains_as us vs h _ _ _ e)
 explains_as us vs h ns n z (sends m ms taken s next w o c e) = sends m ms taken s next w o c (explains_as us vs h _ _ _ e)
 
 -- ---- outlines
@@ -84,7 +87,8 @@ either_offer : (b : Bool) (short tsdu : List ℕ) (o : Option ℕ) → Offer sho
 either_offer true short tsdu o h k = h
 either_offer false short tsdu o h k = k
 
-outline_offer : (tsdu : List ℕ) (m : Option Meaning) (o : Option ℕ) → Offer tsdu ≡ o → IfSome m (λ n. Offer (written n) ≡ o) → Offer (outline_as tsdu m) ≡ o
+outline_offer : (tsdu : List ℕ) (m : Option Meaning) (o : Option ℕ) → Offer tsdu ≡ o → IfSome m (λ n. Offer (written n) ≡ o)
+    → Offer (outline_as tsdu m) ≡ o
 outline_offer tsdu None o h k = h
 outline_offer tsdu (Some n) o h k = either_offer (nat_le (length (written n)) (length tsdu)) (written n) tsdu o k h
 
@@ -93,14 +97,14 @@ alone_offer : (m : Meaning) (o : Option Meaning) → Bared m o → IfSome o (λ 
 alone_offer m None b h e = tt
 alone_offer m (Some n) b h e =
     ap (λ (r : Result Words SpduFault). in_first offered_in r)
-      (read_again n b.4 ∙ ap (λ (x : Bool). Ok (map says (if x then behind (GT no_token) n else alone n))) (b.3 ∙ e)) ∙ h
+    (read_again n b.4 ∙ ap (λ (x : Bool). Ok (map says (if x then behind (GT no_token) n else alone n))) (b.3 ∙ e)) ∙ h
 
 pair_offer : (item m : Meaning) (o : Option Meaning) → Bared m o → has_no_effect item ≡ true → is_second m ≡ true
     → IfSome o (λ n. Offer (written n) ≡ offered_in item)
 pair_offer item m None b i e = tt
 pair_offer item m (Some n) b i e =
     ap (λ (r : Result Words SpduFault). in_first offered_in r)
-      (read_again n b.4 ∙ ap (λ (x : Bool). Ok (map says (if x then behind (GT no_token) n else alone n))) (b.3 ∙ e)) ∙ idle_offer item i
+    (read_again n b.4 ∙ ap (λ (x : Bool). Ok (map says (if x then behind (GT no_token) n else alone n))) (b.3 ∙ e)) ∙ idle_offer item i
 
 one_offer : (b : Bool) (tsdu : List ℕ) (m : Meaning) → is_second m ≡ b → said_at tsdu ≡ Ok (says m ∷ [])
     → Offer (if b then tsdu else outline_as tsdu (bare m)) ≡ offered_in m
@@ -109,7 +113,8 @@ one_offer false tsdu m e h =
     outline_offer tsdu (bare m) (offered_in m) (ap (λ (r : Result Words SpduFault). in_first offered_in r) h)
     (alone_offer m (bare m) (bared m (numbered_at tsdu (says m ∷ []) h).0) (bare_offer m) e)
 
-second_offer : (b : Bool) (tsdu : List ℕ) (item m : Meaning) → has_no_effect item ≡ true → is_second m ≡ b → said_at tsdu ≡ Ok (says item ∷ says m ∷ [])
+second_offer : (b : Bool) (tsdu : List ℕ) (item m : Meaning) → has_no_effect item ≡ true → is_second m ≡ b
+    → said_at tsdu ≡ Ok (says item ∷ says m ∷ [])
     → Offer (if b then outline_as tsdu (bare m) else tsdu) ≡ offered_in item
 second_offer false tsdu item m i e h = ap (λ (r : Result Words SpduFault). in_first offered_in r) h
 second_offer true tsdu item m i e h =
@@ -120,7 +125,8 @@ behind_offer : (tsdu : List ℕ) (item : Meaning) (w : Word) → has_no_effect i
     → Offer (outline_behind tsdu w) ≡ offered_in item
 behind_offer tsdu item (says m) i h = second_offer (is_second m) tsdu item m i refl h
 behind_offer tsdu item (part place octets) i h =
-    either_offer (nat_le (length (part_octets place (no_data octets))) (length tsdu)) (part_octets place (no_data octets)) tsdu (offered_in item)
+    either_offer (nat_le (length (part_octets place (no_data octets))) (length tsdu)) (part_octets place (no_data octets)) tsdu
+    (offered_in item)
     (ap (λ (r : Result Words SpduFault). in_first offered_in r) (part_again place (no_data octets)) ∙ idle_offer item i)
     (ap (λ (r : Result Words SpduFault). in_first offered_in r) h)
 
@@ -142,27 +148,32 @@ pub same_selection : (us : List (List ℕ)) (told : List Told) → selects_outsi
 same_selection us [] = refl
 same_selection us (t ∷ told) =
     ap (λ (o : Option ℕ). nat_lt 0 t.before && is_outside o (in_first accepted_in (said_at t.octets)))
-      (ap Offer (outlines_at us 0) ∙ same_offer (get_or us 0 []))
+    (ap Offer (outlines_at us 0) ∙ same_offer (get_or us 0 []))
 
 -- ---- what is found
 
 kept_of_tsdus : (begin : Seen) (us : List (List ℕ)) (told : List Told) → IsKept begin (outlines us) told → IsKept begin us told
 kept_of_tsdus begin us told h = (explains_as (outlines us) us (outlines_alike us) _ _ _ h.0, sym (same_selection us told) ∙ h.1)
 
-not_explained : (begin : Seen) (us : List (List ℕ)) (told : List Told) → (IsExplained begin (outlines us) told → ⊥) → IsExplained begin us told → ⊥
+not_explained : (begin : Seen) (us : List (List ℕ)) (told : List Told) → (IsExplained begin (outlines us) told → ⊥)
+    → IsExplained begin us told → ⊥
 not_explained begin us told h k = h (explains_as us (outlines us) (back (outlines us) us (outlines_alike us)) _ _ _ k)
 
 astray : (begin : Seen) (us : List (List ℕ)) (told : List Told) → IsAstray begin (outlines us) told → IsAstray begin us told
 astray begin us told (inl h) = inl (not_explained begin us told h)
 astray begin us told (inr h) = inr (sym (same_selection us told) ∙ h)
 
-pub found_of_tsdus : (begin : Seen) (us : List (List ℕ)) (told : List Told) (f : Finding) → IsFound begin (outlines us) told f → IsFound begin us told f
+pub found_of_tsdus : (begin : Seen) (us : List (List ℕ)) (told : List Told) (f : Finding) → IsFound begin (outlines us) told f
+    → IsFound begin us told f
 found_of_tsdus begin us told Kept h = kept_of_tsdus begin us told h
-found_of_tsdus begin us told (Broke i) h = (record {
-  there = h.0.there;
-  so_far = explains_as (outlines us) us (outlines_alike us) _ _ _ h.0.so_far;
-  broke = not_explained begin us (take (i + 1) told) h.0.broke;
-}, sym (same_selection us (take i told)) ∙ h.1)
+found_of_tsdus begin us told (Broke i) h = (
+  record {
+    there = h.0.there;
+    so_far = explains_as (outlines us) us (outlines_alike us) _ _ _ h.0.so_far;
+    broke = not_explained begin us (take (i + 1) told) h.0.broke;
+  },
+  sym (same_selection us (take i told)) ∙ h.1,
+)
 found_of_tsdus begin us told (Left i) h = (h.0, kept_of_tsdus begin us (take i told) h.1, astray begin us (take (i + 1) told) h.2)
 found_of_tsdus begin us told TooMany (i, l, h) = (i, l, kept_of_tsdus begin us (take (i + 1) told) h)
 
@@ -184,23 +195,33 @@ said_of_tsdus heard before taken s said begin h = λ us later x b k.
     (h (outlines us) later (extends_as us heard x) b (explains_as us (outlines us) (back (outlines us) us (outlines_alike us)) _ _ _ k))
 
 hears_as : (s t : Seen) (a b : List ℕ) → AreAlike a b → Hears s a t → Hears s b t
-hears_as s t a b h k = record { count = k.count; listening = k.listening; taken = takes_as s a b k.count h k.taken; quiet = k.quiet; next = k.next }
+hears_as s t a b h k =
+    record { count = k.count; listening = k.listening; taken = takes_as s a b k.count h k.taken; quiet = k.quiet; next = k.next }
 
 comes_as : (us vs : List (List ℕ)) → Alike us vs → (m n : Member) → Comes us m n → Comes vs m n
 comes_as us vs h m n (stays x) = stays x
 comes_as us vs h m n (goes x y t q k) =
-    goes x y t (record { taken = q.taken; follows = hears_as x.standing y.standing (get_or us x.taken []) (get_or vs x.taken []) (h x.taken) q.follows })
+    goes x y t (record {
+      taken = q.taken;
+      follows =
+          hears_as x.standing y.standing (get_or us x.taken []) (get_or vs x.taken []) (h x.taken) q.follows;
+    })
     (comes_as us vs h y t k)
 
 stops_as : (s : Seen) (a b : List ℕ) (owes : Option Reply) → AreAlike a b → StopsBy s a owes → StopsBy s b owes
 stops_as s a b None h k = k
-stops_as s a b (Some reply) h k = record { count = k.count; listening = k.listening; taken = takes_as s a b k.count h k.taken; sent = k.sent }
+stops_as s a b (Some reply) h k =
+    record { count = k.count; listening = k.listening; taken = takes_as s a b k.count h k.taken; sent = k.sent }
 
 ends_as : (us : List (List ℕ)) (m : Member) (owes : Option Reply) → IsAtEnd (outlines us) m owes → IsAtEnd us m owes
 ends_as us m owes (inl k) = let n = length_outlines us in inl (omega (arith, n, k.0), k.1)
 ends_as us m owes (inr k) =
     let n = length_outlines us in
-    inr (omega (arith, n, k.0), stops_as m.standing (get_or (outlines us) m.taken []) (get_or us m.taken []) owes (outlines_alike us m.taken) k.1)
+    inr (
+      omega (arith, n, k.0),
+      stops_as m.standing (get_or (outlines us) m.taken []) (get_or us m.taken []) owes
+          (outlines_alike us m.taken) k.1,
+    )
 
 pub stands_of_tsdus : (us : List (List ℕ)) (m : Member) (s : Stands) → StandsBehind (outlines us) m s → StandsBehind us m s
 stands_of_tsdus us m s h = record {

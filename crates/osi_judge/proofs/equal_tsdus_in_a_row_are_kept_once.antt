@@ -1,8 +1,10 @@
 -- TSDUs of which equal ones in a row are kept once: how many there are, which one has a place, one more, and one fewer.
 -- For the value Heard.
-use Rattle.std.proofs.Common.{◌≡◌, ◌∙◌, refl, sym, ap, subst, ℕ, zero, suc, ◌+◌, ◌-◌, ◌<◌, ◌≤◌, ◌≢◌, List, [], ◌∷◌, ◌++◌, length, get_or, take, append_assoc, arith, Bool, true, false, ◌&&◌, ◌==◌, if◌then◌else◌, MatchBool, nat_eq, rules}
+use Rattle.std.proofs.Common.{◌≡◌, ◌∙◌, refl, sym, ap, subst, ℕ, zero, suc, ◌+◌, ◌-◌, ◌<◌, ◌≤◌, ◌≢◌, List, [], ◌∷◌, ◌++◌, length, get_or}
+use Rattle.std.proofs.Common.{take, append_assoc, arith, Bool, true, false, ◌&&◌, ◌==◌, if◌then◌else◌, MatchBool, nat_eq, rules}
 use Rattle.std.specs.Prelude.{replicate}
-use Rattle.std.proofs.lemmas.List.{get_or_append_left, get_or-append_right, get_or-replicate, length-append, length-replicate, append-nil, replicate_more}
+use Rattle.std.proofs.lemmas.List.{get_or_append_left, get_or-append_right, get_or-replicate, length-append, length-replicate, append-nil}
+use Rattle.std.proofs.lemmas.List.{replicate_more}
 use Rattle.std.proofs.Math.Seq.{take-append_seam}
 use Rattle.std.proofs.lemmas.Bool.{eq-eqb, eqb-true}
 use Rattle.std.specs.Prelude.{eqb}
@@ -24,7 +26,8 @@ spread_length at (r ∷ runs) count h =
 pub all_counted : (runs : List Run) (count : ℕ) → AreFrom 0 runs count → count ≡ length (spread runs count)
 all_counted runs count h = let n = spread_length 0 runs count h in omega (arith, n)
 
-pub counted_in : (runs : List Run) (count : ℕ) (value : List (List ℕ)) → AreFrom 0 runs count → spread runs count ≡ value → count ≡ length value
+pub counted_in : (runs : List Run) (count : ℕ) (value : List (List ℕ)) → AreFrom 0 runs count → spread runs count ≡ value
+    → count ≡ length value
 counted_in runs count value h v = all_counted runs count h ∙ ap (λ (x : List (List ℕ)). length x) v
 
 some_runs : (runs : List Run) (count : ℕ) → AreFrom 0 runs count → 0 < count → 0 < length runs
@@ -64,16 +67,19 @@ found_from at place (r ∷ runs) count zero h l b e =
     let first = begin_first runs count in
     let within : place < n = omega (arith, first, e, h.0, h.1) in
     let many = length-replicate n r.tsdu in
-    get_or_append_left (replicate n r.tsdu) (spread runs count) [] place (omega (arith, within, many)) ∙ get_or-replicate n place r.tsdu [] within
+    get_or_append_left (replicate n r.tsdu) (spread runs count) [] place
+    (omega (arith, within, many)) ∙ get_or-replicate n place r.tsdu [] within
 found_from at place (r ∷ runs) count (suc i) h l b e =
     let n = begin_in runs count - r.from in
     let many = length-replicate n r.tsdu in
     let later = begin_later (begin_in runs count) runs count i h.2 in
     let behind : n ≤ place = omega (arith, later, b, h.0, h.1) in
     get_or-append_right (replicate n r.tsdu) (spread runs count) n place [] many behind
-    ∙ found_from (begin_in runs count) (place - n) runs count i h.2 (omega (arith, l)) (omega (arith, behind, b, h.0, h.1)) (omega (arith, behind, e, h.0, h.1))
+    ∙ found_from (begin_in runs count) (place - n) runs count i h.2 (omega (arith, l)) (omega (arith, behind, b, h.0, h.1))
+    (omega (arith, behind, e, h.0, h.1))
 
-pub found : (runs : List Run) (count place i : ℕ) → AreFrom 0 runs count → HasPlace runs count place i → get_or (spread runs count) place [] ≡ tsdu_at runs i
+pub found : (runs : List Run) (count place i : ℕ) → AreFrom 0 runs count → HasPlace runs count place i
+    → get_or (spread runs count) place [] ≡ tsdu_at runs i
 found runs count place i h p =
     let b = p.begun in let e = p.ends in
     found_from 0 place runs count i h p.there (omega (arith, b)) (omega (arith, e))
@@ -102,7 +108,8 @@ begin_kept : (runs : List Run) (x : Run) (count : ℕ) → x.from ≡ count → 
 begin_kept [] x count e = e
 begin_kept (r ∷ runs) x count e = refl
 
-pub one_added : (runs : List Run) (x : Run) (count : ℕ) → x.from ≡ count → spread (runs ++ x ∷ []) (count + 1) ≡ spread runs count ++ x.tsdu ∷ []
+pub one_added : (runs : List Run) (x : Run) (count : ℕ) → x.from ≡ count
+    → spread (runs ++ x ∷ []) (count + 1) ≡ spread runs count ++ x.tsdu ∷ []
 one_added [] x count e =
     let n : count + 1 - x.from ≡ 1 = omega (arith, e) in ap (λ (y : ℕ). replicate y x.tsdu ++ []) n
 one_added (r ∷ runs) x count e =
@@ -110,15 +117,21 @@ one_added (r ∷ runs) x count e =
     ∙ ap (λ (y : List (List ℕ)). replicate (begin_in runs count - r.from) r.tsdu ++ y) (one_added runs x count e)
     ∙ sym (append_assoc (replicate (begin_in runs count - r.from) r.tsdu) (spread runs count) (x.tsdu ∷ []))
 
-pub a_run_begins : (at : ℕ) (runs : List Run) (x : Run) (count : ℕ) → AreFrom at runs count → x.from ≡ count → AreFrom at (runs ++ x ∷ []) (count + 1)
+pub a_run_begins : (at : ℕ) (runs : List Run) (x : Run) (count : ℕ) → AreFrom at runs count → x.from ≡ count
+    → AreFrom at (runs ++ x ∷ []) (count + 1)
 a_run_begins at [] x count h e = (e ∙ sym h, omega (arith, h), refl)
 a_run_begins at (r ∷ runs) x count h e =
-    let same = begin_kept runs x count e in
-    (h.0, omega (arith, same, h.1), subst (λ (y : ℕ). AreFrom y (runs ++ x ∷ []) (count + 1)) (sym same) (a_run_begins (begin_in runs count) runs x count h.2 e))
+    let same = begin_kept runs x count e in (
+      h.0,
+      omega (arith, same, h.1),
+      subst (λ (y : ℕ). AreFrom y (runs ++ x ∷ []) (count + 1)) (sym same)
+          (a_run_begins (begin_in runs count) runs x count h.2 e),
+    )
 
 -- ---- one fewer
 
-pub last_stays : (at : ℕ) (runs : List Run) (count : ℕ) → AreFrom at runs (count + 1) → 0 < length runs → last_from runs ≢ count → AreFrom at runs count
+pub last_stays : (at : ℕ) (runs : List Run) (count : ℕ) → AreFrom at runs (count + 1) → 0 < length runs → last_from runs ≢ count
+    → AreFrom at runs count
 last_stays at [] count h l n = absurd (omega (arith, l))
 last_stays at (r ∷ []) count h l n = (h.0, omega (arith, h.0, h.1, n), refl)
 last_stays at (r ∷ s ∷ runs) count h l n = (h.0, h.1, last_stays s.from (s ∷ runs) count h.2 (omega arith) n)
@@ -164,7 +177,8 @@ same_by_pairs [] (y ∷ ys) = refl
 same_by_pairs (x ∷ xs) [] = refl
 same_by_pairs (x ∷ xs) (y ∷ ys) = ap (λ (b : Bool). (x == y) && b) (same_by_pairs xs ys)
 
-pub apart_more : (runs : List Run) (x : Run) → AreApart runs → (0 < length runs → is_same (last_in runs) x.tsdu ≡ false) → AreApart (runs ++ x ∷ [])
+pub apart_more : (runs : List Run) (x : Run) → AreApart runs → (0 < length runs → is_same (last_in runs) x.tsdu ≡ false)
+    → AreApart (runs ++ x ∷ [])
 apart_more [] x h n = (tt, tt)
 apart_more (r ∷ []) x h n = (n (omega arith), (tt, tt))
 apart_more (r ∷ s ∷ runs) x h n = (h.0, apart_more (s ∷ runs) x h.1 (λ l. n (omega arith)))
@@ -190,7 +204,9 @@ kept_behind at before [] count h o a = refl
 kept_behind at before (r ∷ runs) count h o a =
     let n = begin_in runs count - r.from in
     ap (λ (x : List (List ℕ)). length (once_behind before (x ++ spread runs count))) (one_then n r.tsdu (omega (arith, h.0, h.1)))
-    ∙ ap (λ (b : Bool). length (if b then once_behind r.tsdu (replicate (n - 1) r.tsdu ++ spread runs count) else r.tsdu ∷ once_behind r.tsdu (replicate (n - 1) r.tsdu ++ spread runs count))) o
+    ∙ ap (λ (b : Bool). length
+    (if b then once_behind r.tsdu (replicate (n - 1) r.tsdu ++ spread runs count) else r.tsdu
+    ∷ once_behind r.tsdu (replicate (n - 1) r.tsdu ++ spread runs count))) o
     ∙ ap (λ (x : List (List ℕ)). suc (length x)) (skipped (n - 1) r.tsdu (spread runs count))
     ∙ ap (λ (k : ℕ). suc k) (kept_behind (begin_in runs count) r.tsdu runs count h.2 a.0 a.1)
 
@@ -210,7 +226,8 @@ halves_begin [] count place h l = absurd (omega (arith, h, l))
 halves_begin (r ∷ runs) count place h l =
     let e = begin_end (r ∷ runs) count in (omega arith, omega arith, omega (arith, h.0), omega (arith, e, l))
 
-last_read : (runs : List Run) (r : Run) → 0 < length runs → r ≡ get_or runs (length runs - 1) r → (r.tsdu ≡ last_in runs) × (r.from ≡ last_from runs)
+last_read : (runs : List Run) (r : Run) → 0 < length runs → r ≡ get_or runs (length runs - 1) r → (r.tsdu ≡ last_in runs)
+    × (r.from ≡ last_from runs)
 last_read [] r l e = absurd (omega (arith, l))
 last_read (x ∷ []) r l e = (ap (λ (y : Run). y.tsdu) e, ap (λ (y : Run). y.from) e)
 last_read (x ∷ y ∷ runs) r l e =
@@ -223,7 +240,8 @@ last_tsdu runs r l e = (last_read runs r l e).0
 pub last_begin : (runs : List Run) (r : Run) → 0 < length runs → r ≡ get_or runs (length runs - 1) r → r.from ≡ last_from runs
 last_begin runs r l e = (last_read runs r l e).1
 
-pub once_more : (runs : List Run) (count : ℕ) (value : List (List ℕ)) (tsdu : List ℕ) → AreFrom 0 runs count → 0 < length runs → is_same (last_in runs) tsdu ≡ true
+pub once_more : (runs : List Run) (count : ℕ) (value : List (List ℕ)) (tsdu : List ℕ) → AreFrom 0 runs count → 0 < length runs
+    → is_same (last_in runs) tsdu ≡ true
     → spread runs count ≡ value → spread runs (count + 1) ≡ value ++ tsdu ∷ []
 once_more runs count value tsdu h l s v =
     let t = one_of (last_in runs) tsdu s in more_of_last 0 runs count h l ∙ (λ i. v i ++ t i ∷ [])
@@ -233,17 +251,20 @@ pub a_run_more : (runs new : List Run) (x : Run) (count : ℕ) → AreFrom 0 run
 a_run_more runs new x count h a f n e =
     subst (λ (y : List Run). AreFrom 0 y (count + 1) × AreApart y) (sym e) (a_run_begins 0 runs x count h f, apart_more runs x a n)
 
-pub added_in : (runs new : List Run) (x : Run) (count : ℕ) (value : List (List ℕ)) → x.from ≡ count → new ≡ runs ++ x ∷ [] → spread runs count ≡ value
+pub added_in : (runs new : List Run) (x : Run) (count : ℕ) (value : List (List ℕ)) → x.from ≡ count → new ≡ runs ++ x ∷ []
+    → spread runs count ≡ value
     → spread new (count + 1) ≡ value ++ x.tsdu ∷ []
 added_in runs new x count value f e v =
     ap (λ (y : List Run). spread y (count + 1)) e ∙ one_added runs x count f ∙ ap (λ (y : List (List ℕ)). y ++ x.tsdu ∷ []) v
 
-pub stays_shorter : (runs : List Run) (count : ℕ) → AreFrom 0 runs count → 0 < count → last_from runs ≢ count - 1 → AreFrom 0 runs (count - 1)
+pub stays_shorter : (runs : List Run) (count : ℕ) → AreFrom 0 runs count → 0 < count → last_from runs ≢ count - 1
+    → AreFrom 0 runs (count - 1)
 stays_shorter runs count h l n =
     let e : count ≡ (count - 1) + 1 = omega (arith, l) in
     last_stays 0 runs (count - 1) (subst (λ (x : ℕ). AreFrom 0 runs x) e h) (some_runs runs count h l) n
 
-pub one_fewer : (runs : List Run) (count : ℕ) (value : List (List ℕ)) → AreFrom 0 runs count → 0 < count → last_from runs ≢ count - 1 → spread runs count ≡ value
+pub one_fewer : (runs : List Run) (count : ℕ) (value : List (List ℕ)) → AreFrom 0 runs count → 0 < count → last_from runs ≢ count - 1
+    → spread runs count ≡ value
     → spread runs (count - 1) ≡ take (length value - 1) value
 one_fewer runs count value h l n v =
     let e : count ≡ (count - 1) + 1 = omega (arith, l) in
@@ -264,7 +285,8 @@ pub record Popped (new : List Run) (count : ℕ) (value : List (List ℕ)) : Typ
   pub apart : AreApart new
   pub rest : spread new (count - 1) ≡ take (length value - 1) value
 
-pub popped : (runs new : List Run) (count : ℕ) (value : List (List ℕ)) → AreFrom 0 runs count → AreApart runs → 0 < count → last_from runs ≡ count - 1
+pub popped : (runs new : List Run) (count : ℕ) (value : List (List ℕ)) → AreFrom 0 runs count → AreApart runs → 0 < count
+    → last_from runs ≡ count - 1
     → new ≡ take (length runs - 1) runs → spread runs count ≡ value → Popped new count value
 popped runs new count value h a l f n v =
     let p = split_last runs (some_runs runs count h l) in
@@ -278,7 +300,8 @@ popped runs new count value h a l f n v =
           (sym v ∙ ap (λ (y : List Run). spread y count) e ∙ ap (λ (k : ℕ). spread (new ++ x ∷ []) k) c ∙ one_added new x (count - 1) g);
     }
 
-pub place_in : (runs same : List Run) (count place i : ℕ) (r : Run) (value : List (List ℕ)) → AreFrom 0 runs count → same ≡ runs → HasPlace same count place i
+pub place_in : (runs same : List Run) (count place i : ℕ) (r : Run) (value : List (List ℕ)) → AreFrom 0 runs count → same ≡ runs
+    → HasPlace same count place i
     → r ≡ get_or same i r → spread runs count ≡ value → r.tsdu ≡ get_or value place []
 place_in runs same count place i r value h e p g v =
     let q = subst (λ (y : List Run). HasPlace y count place i) e p in

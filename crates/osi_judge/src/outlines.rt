@@ -10,7 +10,7 @@ ghost use Rattle.osi_spdu.specs.Groups.{units_of};
 ghost use Rattle.osi_spdu.specs.Units.{said_by};
 ghost use Rattle.osi_judge.specs.Outlines.{bare, no_data, outline_as, outline_behind, outline_by, outline};
 
-use osi_message::{Message, Octets, Place, Sent, Tsdus};
+use osi_message::{Message, Octets, Place, PlainUnit, Sent, Tsdus, data_head};
 use osi_spdu::{Group, Spdu, read_tsdu};
 use std::alloc::{AllocError, Global};
 
@@ -56,7 +56,9 @@ fn bare_second<'a>(message: &Message<'a>) -> Message<'a>
     match *message {
         Message::Data { .. } => Message::Data { user_data },
         Message::MinorPoint {
-            confirm, number, ..
+            confirm,
+            number,
+            ..
         } => Message::MinorPoint {
             confirm,
             number,
@@ -240,11 +242,14 @@ fn outline_of(alloc: Global, tsdu: &[u8], group: &Group) -> Result<Octets, Alloc
     outline_behind(alloc, tsdu, group.first(), &unit)
 }
 
-/// The outline of a TSDU.
+/// The outline of a TSDU. Data in its written form is looked at first, because it is the most frequent.
 #[tactic(auto, unfolding(osi_message::specs::Reading::said_at, crate::specs::Outlines::outline))]
 pub(crate) fn outline(alloc: Global, tsdu: &[u8]) -> Result<Octets, AllocError>
     ensures { IfOk result (λ o. o ≡ outline tsdu.now) }
 {
+    if let Some(_user_data) = PlainUnit::data(tsdu) {
+        return Octets::copy(alloc, data_head());
+    }
     match read_tsdu(tsdu) {
         Ok(group) => outline_of(alloc, tsdu, &group),
         Err(_) => Octets::copy(alloc, tsdu),

@@ -1,12 +1,12 @@
 //! One side of a connection, judged by what it sent and by what it may have taken.
 
-ghost use Rattle.std.specs.Prelude.{◌≡◌, ◌<◌, ◌≤◌, ◌⊎◌, ◌++◌, ◌∷◌, ◌+◌, ◌-◌, [], false, Err, IfOk, OnOk, OnErr, List, length, take};
+ghost use Rattle.std.specs.Prelude.{◌≡◌, ◌<◌, ◌≤◌, ◌⊎◌, ◌++◌, ◌∷◌, ◌+◌, ◌-◌, [], false, Err, IfOk, OnOk, OnErr, ℕ, List, length, take};
 ghost use Rattle.osi_session.specs.Standing.{seen_called, seen_calling};
 ghost use Rattle.osi_judge.specs.Explaining.{Told};
 ghost use Rattle.osi_judge.specs.Judging.{Watches, Keeps, IsFound, FoundNext};
 ghost use Rattle.osi_judge.specs.Keeping.{once};
 ghost use Rattle.osi_judge.specs.Onward.{StandsFor};
-ghost use Rattle.osi_judge.specs.Outlines.{outline};
+ghost use Rattle.osi_judge.specs.Outlines.{outline, outlines};
 ghost use Rattle.osi_judge.specs.Profiles.{selects_outside};
 ghost use Rattle.osi_judge.specs.Sides.{watched, blame_of, EndsAt};
 
@@ -286,6 +286,8 @@ impl Side {
     pub fn finding(&self) -> Finding
         ensures value { result ≡ (watched self.now).finding }
         ensures found { (told : List Told) → Watches (watched self.now) told → IsFound (watched self.now).begin (watched self.now).heard told result }
+        ensures found_of { (us : List (List ℕ)) (told : List Told) → (watched self.now).heard ≡ outlines us → Watches (watched self.now) told
+            → IsFound (watched self.now).begin us told result }
     {
         self.finding
     }

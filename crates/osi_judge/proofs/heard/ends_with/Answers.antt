@@ -10,5 +10,6 @@ pub returns-clause-same : goal.returns-clause-same
 returns-clause-same c = λ l.
     let runs = c.args.runs.now in
     let last = c.index-runs-runs.result in
-    c.eq.ensures ∙ ap (λ (x : List ℕ). pointwise eqb x c.args.tsdu.now) (c.as_slice.ensures ∙ sym (ap (λ (r : Run). r.tsdu) c.index-runs-runs.is) ∙ last_tsdu runs last l c.index-runs-runs.is)
+    c.eq.ensures ∙ ap (λ (x : List ℕ). pointwise eqb x c.args.tsdu.now)
+    (c.as_slice.ensures ∙ sym (ap (λ (r : Run). r.tsdu) c.index-runs-runs.is) ∙ last_tsdu runs last l c.index-runs-runs.is)
     ∙ same_by_pairs (last_in runs) c.args.tsdu.now

@@ -16,9 +16,10 @@ returns-then-ends_with-clause-ok c =
     let runs = c.self.inside.runs.items in
     let some = c.ends_with.ensures.some c.if-ends_with.true in
     let same = sym (c.ends_with.ensures.same some) ∙ c.if-ends_with.true in
-    once_more runs c.self.inside.count c.args.self.now c.args.tsdu c.self.invariant.0 (subst (λ (r : List Run). 0 < length r) c.deref.ensures.value some)
+    once_more runs c.self.inside.count c.args.self.now c.args.tsdu c.self.invariant.0
+    (subst (λ (r : List Run). 0 < length r) c.deref.ensures.value some)
     (subst (λ (t : List ℕ). is_same (last_in runs) t ≡ true) c.as_slice.ensures
-      (subst (λ (r : List Run). is_same (last_in r) c.as_slice.result.now ≡ true) c.deref.ensures.value same)) c.self.view_is
+    (subst (λ (r : List Run). is_same (last_in r) c.as_slice.result.now ≡ true) c.deref.ensures.value same)) c.self.view_is
 
 pub invariant_of-self-2 : goal.invariant_of-self-2
 invariant_of-self-2 c =
@@ -26,11 +27,12 @@ invariant_of-self-2 c =
     let x : Run = record { tsdu = c.args.tsdu; from = c.self.inside.count } in
     a_run_more runs c.push.new.self.items x c.self.inside.count c.self.invariant.0 c.self.invariant.1 refl
     (λ l. subst (λ (t : List ℕ). is_same (last_in runs) t ≡ false) c.as_slice.ensures
-      (subst (λ (r : List Run). is_same (last_in r) c.as_slice.result.now ≡ false) c.deref.ensures.value
-      (sym (c.ends_with.ensures.same (subst (λ (r : List Run). 0 < length r) (sym c.deref.ensures.value) l)) ∙ c.if-ends_with.false)))
+    (subst (λ (r : List Run). is_same (last_in r) c.as_slice.result.now ≡ false) c.deref.ensures.value
+    (sym (c.ends_with.ensures.same (subst (λ (r : List Run). 0 < length r) (sym c.deref.ensures.value) l)) ∙ c.if-ends_with.false)))
     c.in_ok-push.ensures.items
 
 pub returns-clause-ok : goal.returns-clause-ok
 returns-clause-ok c =
     let x : Run = record { tsdu = c.args.tsdu; from = c.self.inside.count } in
-    added_in c.self.inside.runs.items c.push.new.self.items x c.self.inside.count c.args.self.now refl c.in_ok-push.ensures.items c.self.view_is
+    added_in c.self.inside.runs.items c.push.new.self.items x c.self.inside.count c.args.self.now refl c.in_ok-push.ensures.items
+    c.self.view_is
