@@ -15,7 +15,9 @@ use Rattle.osi_judge.specs.Explaining.{Told}
 use Rattle.osi_judge.specs.Judging.{Watched, Watches}
 use Rattle.osi_tpdu.specs.Packet.{units_of}
 use Rattle.osi_judge.specs.Transport.{Handshake, silent, first_unit, shaken, handshake_from, packet_length, met_before, reference_in}
-use Rattle.osi_judge.specs.Transport.{Stage, opening, asking, between, within, refused, stopped, first_of, stage_behind, Sent, packets_length, sent_by, stage_from, sent_from, hasty_behind, hasty_from}
+use Rattle.osi_judge.specs.Transport.{Stage, opening, asking, between, within, refused, stopped, first_of, stage_behind, Sent}
+use Rattle.osi_judge.specs.Transport.{packets_length, sent_by, stage_from, sent_from, hasty_behind, hasty_from}
+use Rattle.osi_judge.specs.Outlines.{outline, outlines}
 use Rattle.osi_judge.specs.Tapping.{begin_of, had_passed, octets_of, heard, tell, told, IsPlace}
 use Rattle.osi_judge.specs.Feeding.{Tapped, since_at, named_behind, last_behind, with_count, Tells, hears, Passes, TakesPacket, Settles, goes_on, faulty, whole, since_in, since_of, met_in, met_of, IsWithin, with_octets, Feeds, ignored, looked_at}
 use Rattle.osi_judge.specs.Following.{shown, IsRest, BeginBefore, EndBy, IsSince, Follows, Judged, Taps}
@@ -25,6 +27,7 @@ use Rattle.osi_judge.proofs.UnitLaws.{packets_on, packet_on, offset_from, packet
 use Rattle.osi_judge.proofs.HandshakeLaws.{handshake_more, met_stays, met_not_yet, met_now, MeetAlike, stage_stays, sent_stays, hasty_stays}
 use Rattle.osi_judge.proofs.SideLaws as side
 use Rattle.osi_judge.proofs.what_is_told_beside_is_of_the_capture.{named_more, named_shown, offset_sum, place_behind, count_told}
+use Rattle.osi_judge.proofs.alike_tsdus_explain_the_same.{length_outlines}
 
 -- ---- positions
 
@@ -66,7 +69,7 @@ since_known d c octets t us bs mine others f e n l =
     let x = had_passed d (c ++ piece d octets) k others in
     let fresh : f.rest ≡ [] → length t.side.heard ≡ x
     = λ z. let y = ap (λ (w : List ℕ). length w) z in
-    ap (λ (w : List (List ℕ)). length w) f.heard ∙ length_heard others ∙ sym (all_had_passed d c octets k others (omega arith) (omega arith) e) in
+    ap (λ (w : List (List ℕ)). length w) f.heard ∙ length_outlines (heard others) ∙ length_heard others ∙ sym (all_had_passed d c octets k others (omega arith) (omega arith) e) in
     let going : 0 < length f.rest → t.line.since ≡ x
     = λ z. f.since n z ∙ sym (stays_passed d c (piece d octets) k others (omega arith)) in
     ap (λ (w : List ℕ). since_in w (length t.side.heard) t.line.since) h.0 ∙ since_case f.rest (length t.side.heard) t.line.since x fresh going
@@ -250,9 +253,10 @@ hearing_follows d c t us bs mine others u f l = record {
   begins = f.begins;
   ends = f.ends;
   begin = f.begin;
-  heard = ap (λ (x : List (List ℕ)). x ++ u.octets ∷ []) f.heard ∙ sym (map-append octets_of others (u ∷ []));
+  heard = ap (λ (x : List (List ℕ)). x ++ outline u.octets ∷ []) f.heard ∙ sym (map-append outline (heard others) (u.octets ∷ []))
+      ∙ ap outlines (sym (map-append octets_of others (u ∷ [])));
   watches = subst (λ (x : List Told). Watches (hears t.side u.octets) x) (sym (told_beside d c mine others u l))
-      (side.hears t.side u.octets (told d c mine others) f.watches);
+      (side.hears t.side (outline u.octets) (told d c mine others) f.watches);
 }
 
 -- ---- a packet becomes complete
@@ -316,7 +320,7 @@ pub record Grown (d : Direction) (c : Capture) (mine others : List Sent) (new : 
   pub begins : BeginBefore (length (stream d c)) mine
   pub ends : EndBy (length (stream d c)) mine
   pub begin : new.begin ≡ begin_of d
-  pub heard : new.heard ≡ heard others
+  pub heard : new.heard ≡ outlines (heard others)
   pub watches : Watches new (told d c mine others)
 
 told_one_more : (d : Direction) (c : Capture) (mine others : List Sent) (u : Sent) (at before : ℕ) → u.first ≡ at → before ≡ had_passed d c at others

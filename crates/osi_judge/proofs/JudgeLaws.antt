@@ -21,6 +21,7 @@ use Rattle.osi_judge.specs.Tapping.{begin_of, heard, told, IsFoundIn, stop_in, o
 use Rattle.osi_judge.specs.Feeding.{Tapped, reading_of, stopped_by, stopped_of}
 use Rattle.osi_judge.specs.Following.{shown, IsRest, Follows, Judged, half_of, Taps}
 use Rattle.osi_judge.proofs.SideLaws.{found_as}
+use Rattle.osi_judge.proofs.alike_tsdus_explain_the_same.{found_of_tsdus}
 use Rattle.osi_judge.proofs.UnitLaws.{offset_of_rest}
 use Rattle.osi_judge.proofs.what_is_told_beside_is_of_the_capture.{offset_sum}
 
@@ -117,7 +118,8 @@ found_of d c t u us bs mine others f g = record {
   is_mine = is_sent d c t us bs mine others f (cut_as (other d) c u bs us others mine g);
   is_others = is_sent (other d) c u bs us others mine g (packets_of d c us (cut_as d c t us bs mine others f));
   found = subst (λ (b : Seen). IsFound b (heard others) (told d c mine others) t.side.finding) f.begin
-      (subst (λ (x : List (List ℕ)). IsFound t.side.begin x (told d c mine others) t.side.finding) f.heard (found_as t.side (told d c mine others) f.watches));
+      (found_of_tsdus t.side.begin (heard others) (told d c mine others) t.side.finding
+      (subst (λ (x : List (List ℕ)). IsFound t.side.begin x (told d c mine others) t.side.finding) f.heard (found_as t.side (told d c mine others) f.watches)));
 }
 
 pub is_found : (d : Direction) (c : Capture) (j : Judged) → Taps j c → IsFoundIn d c (half_of d j).side.finding

@@ -21,6 +21,10 @@ pub mod what_is_known_of_a_side_is_of_the_capture
 pub mod what_was_broken_stays_broken
 pub mod FirstLaws
 pub mod a_tsdu_has_one_count
+pub mod equal_tsdus_in_a_row_are_kept_once
+pub mod an_outline_is_taken_alike
+pub mod alike_tsdus_explain_the_same
+pub mod a_rule_of_outlines_is_one_of_tsdus
 pub mod a_call_may_be_said
 pub mod what_is_said_is_explained
 pub mod a_call_is_explained

@@ -1,6 +1,7 @@
 -- What a line of a capture keeps, as packets and TSDUs pass: for what a judge is fed.
-use Rattle.std.proofs.Common.{◌≡◌, ◌∙◌, refl, sym, ap, subst, ℕ, suc, zero, ◌+◌, ◌<◌, ◌≤◌, min, List, [], ◌∷◌, ◌++◌, length, take, Option, Some, None, Result, Ok, Err, arith}
-use Rattle.std.proofs.lemmas.List.{length-take-le}
+use Rattle.std.proofs.Common.{◌≡◌, ◌∙◌, refl, sym, ap, subst, ℕ, suc, zero, ◌+◌, ◌<◌, ◌≤◌, min, List, [], ◌∷◌, ◌++◌, length, take}
+use Rattle.std.proofs.Common.{Option, Some, None, Result, Ok, Err, arith, ◌-◌}
+use Rattle.std.proofs.lemmas.List.{length-take-le, length-append}
 use Rattle.osi_tpkt.specs.Packet.{IsPacket, stated_length}
 use Rattle.osi_tpkt.specs.Stream.{offset_of}
 use Rattle.osi_tpkt.specs.declared.faults.TpktFault.{TpktFault}
@@ -12,9 +13,11 @@ use Rattle.osi_judge.specs.declared.stops.Stop.{Stop}
 use Rattle.osi_judge.specs.declared.progress.Progress.{Progress}
 use Rattle.osi_judge.specs.declared.progress.Progress.TheVariants.{Opening, Asking, Between, Within, Refused, Stopped}
 use Rattle.osi_judge.specs.Judging.{Watched}
-use Rattle.osi_judge.specs.Transport.{Handshake, first_unit, shaken, Move, unit_step, step_of, Stage, opening, asking, between, within, refused, moved, stage_behind}
-use Rattle.osi_judge.specs.Transport.{Sent, brought, sent_by, noted, hasty_behind}
-use Rattle.osi_judge.specs.Feeding.{stage_in, Lined, Tapped, since_at, named, named_behind, last_behind, hears, Passes, TakesUnit, Settles, whole, since_of, met_of, IsWithin, with_octets, Feeds, looked_at}
+use Rattle.osi_judge.specs.Transport.{Handshake, first_unit, shaken, Move, unit_step, step_of, Stage, opening, asking, between, within}
+use Rattle.osi_judge.specs.Transport.{refused, moved, stage_behind, Sent, brought, sent_by, noted, hasty_behind, is_open}
+use Rattle.osi_judge.specs.Feeding.{stage_in, Lined, Tapped, since_at, named, named_behind, last_behind, hears, Passes, TakesUnit}
+use Rattle.osi_judge.specs.Feeding.{Settles, whole, since_of, met_of, IsWithin, with_octets, Feeds, looked_at}
+use Rattle.osi_judge.specs.Outlines.{outline}
 
 -- ---- a TSDU that is taken back
 
@@ -24,9 +27,16 @@ take_back [] x (suc n) e = absurd (omega arith)
 take_back (y ∷ xs) x zero e = absurd (omega arith)
 take_back (y ∷ xs) x (suc n) e = ap (λ (z : List (List ℕ)). y ∷ z) (take_back xs x n (omega arith))
 
-pub unheard : (w mid last : Watched) (x : List ℕ) (n : ℕ) → mid ≡ hears w x → last ≡ record mid { heard = take n mid.heard } → n ≡ length w.heard → last ≡ w
-unheard w mid last x n e f l =
-    f ∙ ap (λ (y : Watched). record y { heard = take n y.heard }) e ∙ ap (λ (h : List (List ℕ)). record w { heard = h }) (take_back w.heard x n l)
+pub unheard : (w mid last : Watched) (x : List ℕ) → mid ≡ hears w x → last ≡ record mid { heard = take (length mid.heard - 1) mid.heard } → last ≡ w
+unheard w mid last x e f =
+    let n = length-append w.heard (outline x ∷ []) in
+    f ∙ ap (λ (y : Watched). record y { heard = take (length y.heard - 1) y.heard }) e
+    ∙ ap (λ (h : List (List ℕ)). record w { heard = h }) (take_back w.heard (outline x) (length (w.heard ++ outline x ∷ []) - 1) (omega (arith, n)))
+
+pub some_heard : (w mid : Watched) (x : List ℕ) → mid ≡ hears w x → 0 < length mid.heard
+some_heard w mid x e =
+    let n = length-append w.heard (outline x ∷ []) in
+    let m = ap (λ (y : Watched). length y.heard) e in omega (arith, n, m)
 
 -- ---- a unit
 

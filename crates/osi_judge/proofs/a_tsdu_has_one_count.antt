@@ -19,7 +19,7 @@ use Rattle.osi_session.specs.Standing.{Count, counted}
 use Rattle.osi_session.proofs.CountingLaws.{count_then, heard_counted}
 
 -- as many octets are joined
-abbrev AsMany : Option (List ℕ) → Option (List ℕ) → Type 0
+abbrev pub AsMany : Option (List ℕ) → Option (List ℕ) → Type 0
 AsMany j k = option_map length j ≡ option_map length k
 
 one_none : (j k : Option (List ℕ)) → AsMany j k → is_none j ≡ is_none k
@@ -57,7 +57,7 @@ verdict_alike s j k (part place o) e =
     λ i. if is_over s.phase then over else if drops s (DT o) then dropped else if not (is_expected s.phase (DT o)) then faulty (Unexpected (si (DT o)))
     else by_fault (first_fault (si (DT o)) (conditions s (DT o) ++ (at i, BadEnclosure) ∷ (nat_le (total i) most_data, DataTooLong) ∷ []))
 
-heard_alike : (j k : Option (List ℕ)) (o : Outcome) → AsMany j k → counted (heard j o) ≡ counted (heard k o)
+pub heard_alike : (j k : Option (List ℕ)) (o : Outcome) → AsMany j k → counted (heard j o) ≡ counted (heard k o)
 heard_alike j k o e = heard_counted j o ∙ ap (λ (n : Option ℕ). count_by n o) e ∙ sym (heard_counted k o)
 
 good_alike : (s : State) (j k : Option (List ℕ)) (w : Word) → AsMany j k → counted (enacted_word (taker_with s j) w fine) ≡ counted (enacted_word (taker_with s k) w fine)
@@ -79,7 +79,7 @@ word_alike s j k w e = ap (λ (v : Verdict). counted (enacted_word (taker_with s
 -- ---- words one after the other
 
 -- a bad word is the last
-abbrev behind_by : Bool → Hearing → Words → Hearing
+abbrev pub behind_by : Bool → Hearing → Words → Hearing
 behind_by last h ws = if last then h else heard_then h (respond_words h.next ws)
 
 behind_alike : (b : Bool) (h g : Hearing) (ws : Words) → counted h ≡ counted g → counted (respond_words h.next ws) ≡ counted (respond_words g.next ws) → counted (behind_by b h ws) ≡ counted (behind_by b g ws)
@@ -87,11 +87,11 @@ behind_alike true h g ws e f = e
 behind_alike false h g ws e f = λ i. count_then (e i) (f i)
 
 -- the same for two sessions in one state, if it holds for the words after it
-takers_alike : (ws : Words) (t u : Taker) → ((s : State) (j k : Option (List ℕ)) → AsMany j k → counted (respond_words (taker_with s j) ws) ≡ counted (respond_words (taker_with s k) ws))
+pub takers_alike : (ws : Words) (t u : Taker) → ((s : State) (j k : Option (List ℕ)) → AsMany j k → counted (respond_words (taker_with s j) ws) ≡ counted (respond_words (taker_with s k) ws))
     → t.state ≡ u.state → AsMany t.joined u.joined → counted (respond_words t ws) ≡ counted (respond_words u ws)
 takers_alike ws t u more p e = ap (λ (s : State). counted (respond_words (taker_with s t.joined) ws)) p ∙ more u.state t.joined u.joined e
 
-words_alike : (ws : Words) (s : State) (j k : Option (List ℕ)) → AsMany j k → counted (respond_words (taker_with s j) ws) ≡ counted (respond_words (taker_with s k) ws)
+pub words_alike : (ws : Words) (s : State) (j k : Option (List ℕ)) → AsMany j k → counted (respond_words (taker_with s j) ws) ≡ counted (respond_words (taker_with s k) ws)
 unfolding respond_words
 words_alike [] s j k e = λ i. record { state = s; joined = e i; reply = None; closes = false }
 words_alike (w ∷ ws) s j k e =

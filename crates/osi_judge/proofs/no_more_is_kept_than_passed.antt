@@ -16,13 +16,16 @@ use Rattle.osi_judge.specs.declared.directions.Direction.TheVariants.{Left, Righ
 use Rattle.osi_judge.specs.declared.findings.Finding.TheVariants.{Kept}
 use Rattle.osi_judge.specs.declared.stops.Stop.TheVariants.{NoOpening, OtherClass, NothingToAnswer, TsduTooLong}
 use Rattle.osi_judge.specs.Captures.{Capture, other, stream}
-use Rattle.osi_judge.specs.Following.{shown, Follows, Judged, half_of, Taps, kept_in, kept_of}
+use Rattle.osi_judge.specs.Following.{shown, Follows, Judged, half_of, Taps, kept_of}
+use Rattle.osi_judge.specs.Keeping.{is_same, kept_in, once, once_behind}
+use Rattle.osi_judge.specs.Outlines.{outline, outlines}
 use Rattle.osi_judge.specs.Tapping.{octets_of, heard, told}
 use Rattle.osi_judge.specs.Transport.{Handshake, silent, asked, asked_again, agreed, denied, astray, first_unit, met_before, Move, asks, opens, adds, hurries, refuses, ignores, stops}
 use Rattle.osi_judge.specs.Transport.{misplaced, next_step, asking_step, answering_step, has_asked, first_step, hasty_step, closing_step, later_step, refused_step, unit_step, step_of}
 use Rattle.osi_judge.specs.Transport.{Stage, opening, asking, between, within, refused, stopped, begun, is_too_long, added, moved, stage_behind}
 use Rattle.osi_judge.specs.Transport.{Sent, ended, brought, sent_by, stage_from, sent_from}
 use Rattle.osi_judge.proofs.SideLaws.{few_by}
+use Rattle.osi_judge.proofs.an_outline_is_taken_alike.{outline_no_longer}
 use Rattle.osi_judge.proofs.UnitLaws.{packet_octets}
 
 -- ---- a packet
@@ -223,14 +226,34 @@ shown_begun (refused at) = refl
 shown_begun (within first octets) = refl
 shown_begun (stopped stop at) = refl
 
-side_keeps : FoundUnits → (d : Direction) (c : Capture) (j : Judged) (us bs : List (List ℕ)) (mine others : List Sent) → Follows d c (half_of d j) us bs mine others
-    → (half_of (other d) j).side.heard ≡ heard mine → kept_of d j ≤ length (stream d c)
+behind_by : (b : Bool) (x : List ℕ) (xs : List (List ℕ)) (n : ℕ) → kept_in xs ≤ n → kept_in (if b then xs else x ∷ xs) ≤ length x + 7 + n
+behind_by true x xs n l = omega (arith, l)
+behind_by false x xs n l = omega (arith, l)
+
+behind_less : (before : List ℕ) (xs : List (List ℕ)) → kept_in (once_behind before xs) ≤ kept_in xs
+behind_less before [] = omega arith
+behind_less before (x ∷ xs) = behind_by (is_same before x) x (once_behind x xs) (kept_in xs) (behind_less x xs)
+
+once_less : (xs : List (List ℕ)) → kept_in (once xs) ≤ kept_in xs
+once_less [] = omega arith
+once_less (x ∷ xs) = let l = behind_less x xs in omega (arith, l)
+
+outlines_less : (xs : List (List ℕ)) → kept_in (outlines xs) ≤ kept_in xs
+outlines_less [] = omega arith
+outlines_less (x ∷ xs) = let l = outlines_less xs in let m = outline_no_longer x in omega (arith, l, m)
+
+side_keeps : FoundUnits → (d : Direction) (c : Capture) (j : Judged) (us bs : List (List ℕ)) (mine others : List Sent)
+    → Follows d c (half_of d j) us bs mine others
+    → (half_of (other d) j).side.heard ≡ outlines (heard mine) → kept_of d j ≤ length (stream d c)
 side_keeps found d c j us bs mine others f h =
     let met = met_before d c bs in
     let kept = stream_keeps found d met opening 0 us (stream d c) f.rest f.packets in
-    let same = ap kept_in (h ∙ ap heard f.sent) in
+    let less = once_less (half_of (other d) j).side.heard in
+    let bare = ap kept_in h in
+    let lesser = outlines_less (heard mine) in
+    let same = ap kept_in (ap heard f.sent) in
     let way = ap (λ (x : List ℕ). length x) (ap begun f.stage ∙ shown_begun (stage_from d met opening 0 us)) in
-    omega (arith, kept, same, way)
+    omega (arith, kept, less, bare, lesser, same, way)
 
 pub no_more_kept : FoundUnits → (d : Direction) (c : Capture) (j : Judged) → Taps j c → kept_of d j ≤ length (stream d c)
 no_more_kept found Left c j h = side_keeps found Left c j h.left_units h.right_units h.left h.right h.of_left h.of_right.heard

@@ -36,6 +36,8 @@ use Rattle.osi_judge.specs.Following.{Follows, Judged, half_of, Taps, FirstIs}
 use Rattle.osi_judge.proofs.JudgeLaws.{cut_as, packets_of, is_sent, is_read, is_given, is_stopped, is_found, is_placed}
 use Rattle.osi_judge.proofs.FirstLaws.{first_told}
 use Rattle.osi_judge.proofs.what_is_told_beside_is_of_the_capture.{count_kept, count_told, opening_given}
+use Rattle.osi_judge.proofs.a_rule_of_outlines_is_one_of_tsdus.{all_of_tsdus, explained_of_outlines, rule_of_tsdus}
+use Rattle.osi_judge.proofs.alike_tsdus_explain_the_same.{said_of_tsdus, stands_of_tsdus}
 
 -- ---- a side that kept the protocol
 
@@ -73,7 +75,8 @@ stand_as d c t u us bs mine others said f g a = record {
   is_others = is_sent (other d) c u bs us others mine g (packets_of d c us (cut_as d c t us bs mine others f));
   before = t.side.before;
   all = subst (λ (b : Seen). AreAll b (heard others) t.side.before t.side.members said) f.begin
-      (subst (λ (x : List (List ℕ)). AreAll t.side.begin x t.side.before t.side.members said) f.heard a);
+      (all_of_tsdus t.side.begin (heard others) t.side.before t.side.members said
+      (subst (λ (x : List (List ℕ)). AreAll t.side.begin x t.side.before t.side.members said) f.heard a));
 }
 
 standing_as : (d : Direction) (c : Capture) (t u : Tapped) (us bs : List (List ℕ)) (mine others : List Sent) → Follows d c t us bs mine others
@@ -88,9 +91,10 @@ standing_as d c t u us bs mine others f g e s k =
       stand = stand_as d c t u us bs mine others said f g h.all;
       has_said = subst (λ (b : Seen). Ever (heard others) t.side.before
           (λ us later. Explains us later m.taken m.standing → Explains us (remarks said ++ later) 0 b)) f.begin
+          (said_of_tsdus (heard others) t.side.before m.taken m.standing (remarks said) t.side.begin
           (subst (λ (x : List (List ℕ)). Ever x t.side.before
-          (λ us later. Explains us later m.taken m.standing → Explains us (remarks said ++ later) 0 t.side.begin)) f.heard h.has_said);
-      behind = subst (λ (x : List (List ℕ)). StandsBehind x m s) f.heard h.behind;
+          (λ us later. Explains us later m.taken m.standing → Explains us (remarks said ++ later) 0 t.side.begin)) f.heard h.has_said));
+      behind = stands_of_tsdus (heard others) m s (subst (λ (x : List (List ℕ)). StandsBehind x m s) f.heard h.behind);
     }
 
 pub is_standing : (d : Direction) (c : Capture) (j : Judged) → Taps j c → (half_of d j).side.finding ≡ Kept → (s : Stands)
@@ -104,6 +108,12 @@ is_standing side.Right c j h e s k = standing_as side.Right c j.right j.left h.r
 abbrev pub HasRule : Direction → Capture → Tapped → Finding → Type 0
 HasRule d c t found = (at : List Member) × IsRuleIn d c t.side.members at found t.side.by
 
+rule_in : (d : Direction) (c : Capture) (t : Tapped) (us bs : List (List ℕ)) (mine others : List Sent) (x : Told) (at : List Member)
+    → Follows d c t us bs mine others → BreaksWith t.side.heard x.octets x.before t.side.members at t.side.by
+    → BreaksWith (heard others) x.octets x.before t.side.members at t.side.by
+rule_in d c t us bs mine others x at f h = rule_of_tsdus (heard others) x.octets x.before t.side.members at t.side.by
+    (subst (λ (h : List (List ℕ)). BreaksWith h x.octets x.before t.side.members at t.side.by) f.heard h)
+
 broken_as : (d : Direction) (c : Capture) (t u : Tapped) (us bs : List (List ℕ)) (mine others : List Sent) (i : ℕ) → Follows d c t us bs mine others
     → Follows (other d) c u bs us others mine → BrokeBy t.side (told d c mine others) i → HasRule d c t (Broke i)
 broken_as d c t u us bs mine others i f g (x, s, b, l) = (
@@ -114,7 +124,7 @@ broken_as d c t u us bs mine others i f g (x, s, b, l) = (
     stand = stand_as d c t u us bs mine others (take i (told d c mine others)) f g s.all;
     tsdu = x;
     is = s.is;
-    near = subst (λ (h : List (List ℕ)). BreaksWith h x.octets x.before t.side.members b.0 t.side.by) f.heard b.1;
+    near = rule_in d c t us bs mine others x b.0 f b.1;
     breaks = l;
   },
 )
@@ -123,9 +133,10 @@ explained_in : (d : Direction) (c : Capture) (t : Tapped) (us bs : List (List �
     → IsExplained t.side.begin t.side.heard said ↔ IsExplained (begin_of d) (heard others) said
 explained_in d c t us bs mine others said f =
     let a = f.begin in
-    let b = f.heard in (
-      subst (λ (p : Seen × List (List ℕ)). IsExplained p.0 p.1 said) (λ i. (a i, b i)),
-      subst (λ (p : Seen × List (List ℕ)). IsExplained p.0 p.1 said) (sym (λ i. (a i, b i))),
+    let b = f.heard in
+    let e = explained_of_outlines (heard others) (remarks said) 0 (begin_of d) in (
+      λ k. e.0 (subst (λ (p : Seen × List (List ℕ)). IsExplained p.0 p.1 said) (λ i. (a i, b i)) k),
+      λ k. subst (λ (p : Seen × List (List ℕ)). IsExplained p.0 p.1 said) (sym (λ i. (a i, b i))) (e.1 k),
     )
 
 left_as : (d : Direction) (c : Capture) (t u : Tapped) (us bs : List (List ℕ)) (mine others : List Sent) (i : ℕ) → Follows d c t us bs mine others
@@ -139,7 +150,7 @@ left_as d c t u us bs mine others i f g (x, s, inl (b, l, k)) = (
     tsdu = x;
     is = s.is;
     near = inl (
-      subst (λ (h : List (List ℕ)). BreaksWith h x.octets x.before t.side.members b.0 t.side.by) f.heard b.1,
+      rule_in d c t us bs mine others x b.0 f b.1,
       l,
       λ e. (k.1 t.side.heard (λ j p. refl)).1 ((explained_in d c t us bs mine others (take (i + 1) (told d c mine others)) f).1 e),
     );

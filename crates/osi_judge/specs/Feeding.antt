@@ -16,6 +16,7 @@ use Rattle.osi_judge.specs.declared.handshakes.Handshake.TheVariants.{Silent, As
 use Rattle.osi_judge.specs.declared.lines.Line.{Line}
 use Rattle.osi_judge.specs.declared.lines.Half.{Half}
 use Rattle.osi_judge.specs.Explaining.{Told}
+use Rattle.osi_judge.specs.Outlines.{outline}
 use Rattle.osi_judge.specs.Judging.{Watched, Watches, FoundNext}
 use Rattle.osi_judge.specs.Sides.{watched}
 use Rattle.osi_judge.specs.Tapping.{or_hasty}
@@ -109,8 +110,9 @@ pub record Tells (tsdu : List ℕ) (before : ℕ) (old new : Watched) : Type 0 w
   pub finding : FoundNext old.finding old.told new.finding
   pub watches : (told : List Told) → Watches old told → Watches new (told ++ record { octets = tsdu; before = before } ∷ [])
 
+-- its outline is kept
 abbrev pub hears : Watched → List ℕ → Watched
-hears w tsdu = record w { heard = w.heard ++ tsdu ∷ [] }
+hears w tsdu = record w { heard = w.heard ++ outline tsdu ∷ [] }
 
 -- the TSDU that a packet ends passes, if it ends one
 abbrev pub Passes : List Sent → ℕ → Watched → Watched → Watched → Watched → Type 0

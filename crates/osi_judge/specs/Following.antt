@@ -12,6 +12,8 @@ use Rattle.osi_judge.specs.Transport.{silent, handshake_from, met_before, Stage,
 use Rattle.osi_judge.specs.Tapping.{begin_of, had_passed, heard, told, IsPlace}
 use Rattle.osi_judge.specs.Feeding.{Tapped, tapped, has_broken}
 use Rattle.osi_judge.specs.Judging.{Watches}
+use Rattle.osi_judge.specs.Keeping.{kept_in, once}
+use Rattle.osi_judge.specs.Outlines.{outlines}
 
 pub record Judged : Type 0 where
   pub left : Tapped
@@ -86,7 +88,7 @@ pub record Follows (d : Direction) (capture : Capture) (t : Tapped) (units besid
   pub begins : BeginBefore (length (stream d capture)) mine
   pub ends : EndBy (length (stream d capture)) mine
   pub begin : t.side.begin ≡ begin_of d
-  pub heard : t.side.heard ≡ heard others
+  pub heard : t.side.heard ≡ outlines (heard others)
   pub watches : Watches t.side (told d capture mine others)
 
 -- the packets and the TSDUs of both sides, and what is kept of them
@@ -115,11 +117,7 @@ FirstIs (Some d) j capture = BrokeFirst d capture × (has_broken (half_of d j) �
 
 -- ---- what is kept
 
--- the octets of TSDUs, each with the seven that a packet and a DT begin with
-abbrev pub kept_in : List (List ℕ) → ℕ
-kept_in [] = 0
-kept_in (tsdu ∷ tsdus) = length tsdu + 7 + kept_in tsdus
-
--- of the TSDUs of a side: those that the other side heard, and the octets of the unfinished one
+-- of the TSDUs of a side: the outlines that the other side heard, of which equal ones in a row are kept once, and the
+-- octets of the unfinished TSDU
 abbrev pub kept_of : Direction → Judged → ℕ
-kept_of d j = kept_in (half_of (other d) j).side.heard + length (begun (half_of d j).line.stage)
+kept_of d j = kept_in (once (half_of (other d) j).side.heard) + length (begun (half_of d j).line.stage)

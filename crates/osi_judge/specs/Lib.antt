@@ -2,6 +2,9 @@ pub mod Captures
 pub mod Stops
 pub mod Transport
 pub mod Explaining
+pub mod Outlines
+pub mod Keeping
+pub mod Runs
 pub mod Profiles
 pub mod Members
 pub mod Foremost

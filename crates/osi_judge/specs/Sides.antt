@@ -10,7 +10,7 @@ use Rattle.osi_judge.specs.Profiles.{leaves}
 abbrev pub watched : Side → Watched
 watched s = record {
   begin = s.begin;
-  heard = s.heard.items;
+  heard = s.heard;
   members = s.members.items;
   told = s.told;
   before = s.before;

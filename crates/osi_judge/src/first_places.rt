@@ -1,24 +1,27 @@
 //! A session sends a steady unit at the first point at which it may.
 
-ghost use Rattle.std.specs.Prelude.{◌≡◌, ◌<◌, ◌≤◌, ◌↔◌, ◌∷◌, IfOk, [], get_or, length, true};
+ghost use Rattle.std.specs.Prelude.{◌≡◌, ◌<◌, ◌≤◌, ◌+◌, ◌↔◌, ◌∷◌, IfOk, [], get_or, length, true};
 ghost use Rattle.osi_message.specs.Reading.{word};
 ghost use Rattle.osi_session.specs.Steady.{is_steady};
 ghost use Rattle.osi_spdu.specs.Units.{said_by};
 ghost use Rattle.osi_judge.specs.Explaining.{Explains};
 ghost use Rattle.osi_judge.specs.Walking.{the_remark, SaysTo, HearsTo, MovesTo, StepsTo, IsNext, OneExplains, Ever};
 
+use crate::heard::Heard;
 use crate::members::Member;
-use osi_message::Octets;
 use osi_session::Standing;
 use osi_spdu::Spdu;
 use std::alloc::{AllocError, Global};
 
 /// The octets of one of these TSDUs.
-pub(crate) fn tsdu_at(heard: &[Octets], place: usize) -> &[u8]
+pub(crate) fn tsdu_at(heard: &Heard, place: usize) -> &[u8]
     requires { place < length heard.now }
-    ensures { result.now ≡ get_or heard.now place [] }
+    ensures octets { result.now ≡ get_or heard.now place [] }
+    ensures counted { place + 1 < 18446744073709551616 }
 {
-    heard[place].as_slice()
+    // Named so that the proof sees that TSDUs are counted.
+    let _count = heard.len();
+    heard.at(place)
 }
 
 /// The state of a session after it took this TSDU and sent nothing; `None` if it answers it, or takes nothing.
@@ -39,7 +42,7 @@ pub(crate) fn hears(
 }
 
 /// The member after it took the next TSDU and sent nothing, if it can.
-fn moves(alloc: Global, heard: &[Octets], at: &Member) -> Result<Option<Member>, AllocError>
+fn moves(alloc: Global, heard: &Heard, at: &Member) -> Result<Option<Member>, AllocError>
     requires { at.now.taken < length heard.now }
     ensures { IfOk result (λ r. MovesTo heard.now at.now r) }
 {
@@ -80,7 +83,7 @@ pub(crate) enum Step {
 /// The next step of a session that has not taken all TSDUs.
 fn next_step(
     alloc: Global,
-    heard: &[Octets],
+    heard: &Heard,
     unit: &Spdu,
     octets: usize,
     at: &Member,
@@ -103,7 +106,7 @@ fn next_step(
 /// unit.
 pub(crate) fn first_place(
     alloc: Global,
-    heard: &[Octets],
+    heard: &Heard,
     unit: &Spdu,
     octets: usize,
     before: usize,

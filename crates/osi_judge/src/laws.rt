@@ -1,7 +1,13 @@
 //! Laws of captures. Each function does nothing: its contract is the law.
 
-ghost use Rattle.std.specs.Prelude.{◌≡◌, ◌≤◌, ◌++◌, ℕ, List, None, true, false, length};
+ghost use Rattle.std.specs.Prelude.{◌≡◌, ◌≤◌, ◌+◌, ◌++◌, ◌∷◌, [], ℕ, List, None, Ok, Some, true, false, length, replicate};
+ghost use Rattle.osi_message.specs.declared.places.Place.{Place};
+ghost use Rattle.osi_message.specs.Meanings.{Meaning, DT};
+ghost use Rattle.osi_message.specs.Reading.{said_at};
+ghost use Rattle.osi_message.specs.Words.{part, part_octets, says};
+ghost use Rattle.osi_message.specs.Written.{is_second, written};
 ghost use Rattle.osi_session.specs.declared.opening.Opening.{Opening};
+ghost use Rattle.osi_session.specs.Respond.{has_no_effect};
 ghost use Rattle.osi_session.specs.Sessions.{awaits, opens, refusal_of};
 ghost use Rattle.osi_session.specs.Standing.{seen_called, seen_calling};
 ghost use Rattle.osi_judge.specs.declared.directions.Direction.{Direction};
@@ -16,6 +22,7 @@ ghost use Rattle.osi_judge.specs.Members.{is_empty};
 ghost use Rattle.osi_judge.specs.Nearest.{Unsaid, reached, far, nearest};
 ghost use Rattle.osi_judge.specs.Onward.{IsNearest, StandsBehind};
 ghost use Rattle.osi_judge.specs.Following.{Judged, Taps, half_of, kept_of};
+ghost use Rattle.osi_judge.specs.Outlines.{AreAlike, bare, outline};
 ghost use Rattle.osi_judge.specs.Stops.{broke_session, is_judged, place_of};
 ghost use Rattle.osi_judge.specs.Running.{IsSentFrom, IsHonestIn};
 ghost use Rattle.osi_judge.specs.Tapping.{IsFoundIn};
@@ -48,9 +55,9 @@ pub fn a_side_is_told_by_one_session()
     ensures stands { (us : List (List ℕ)) (m : Member) (s t : Stands) → StandsBehind us m s → StandsBehind us m t → s ≡ t }
 {}
 
-/// What is kept of the TSDUs of a side is no more than what passed of it, even if each TSDU that was heard
-/// counts for seven octets more than it has. And of a side that kept the protocol at most 4,096 sessions are
-/// kept that explain it.
+/// What is kept of the TSDUs of a side is no more than what passed of it: of each TSDU its outline, of equal
+/// outlines in a row only one, even if each counts for seven octets more than it has. And of a side that kept
+/// the protocol at most 4,096 sessions are kept that explain it.
 pub fn no_more_is_kept_than_passed()
     ensures sessions { (d : Direction) (capture : Capture) (j : Judged) → Taps j capture → (half_of d j).side.finding ≡ Finding.Kept
         → length (half_of d j).side.members ≤ 4096 }
@@ -58,6 +65,23 @@ pub fn no_more_is_kept_than_passed()
 {
     osi_tpdu::laws::whole_packet();
 }
+
+/// The outline of a TSDU has the same effect on every session as the TSDU itself, but for what is shown to its
+/// user. The user data of a message is not in it: the outline has at most as many octets as the message without
+/// user data is sent in. So data and parts of data, which a TSDU brings after an item that names no token, have
+/// one outline each for their place and length.
+pub fn an_outline_has_no_user_data()
+    ensures alike { (tsdu : List ℕ) → AreAlike (outline tsdu) tsdu }
+    ensures no_longer { (tsdu : List ℕ) → length (outline tsdu) ≤ length tsdu }
+    ensures alone { (tsdu : List ℕ) (m n : Meaning) → said_at tsdu ≡ Ok (says m ∷ []) → is_second m ≡ false → bare m ≡ Some n
+        → length (outline tsdu) ≤ length (written n) }
+    ensures behind { (tsdu : List ℕ) (item m n : Meaning) → said_at tsdu ≡ Ok (says item ∷ says m ∷ []) → has_no_effect item ≡ true
+        → is_second m ≡ true → bare m ≡ Some n → length (outline tsdu) ≤ length (written n) }
+    ensures data_outline { (tsdu octets : List ℕ) (item : Meaning) → said_at tsdu ≡ Ok (says item ∷ says (DT octets) ∷ []) → has_no_effect item ≡ true
+        → 4 ≤ length tsdu → outline tsdu ≡ 1 ∷ 0 ∷ 1 ∷ 0 ∷ [] }
+    ensures part_outline { (tsdu octets : List ℕ) (place : Place) (item : Meaning) → said_at tsdu ≡ Ok (says item ∷ part place octets ∷ [])
+        → has_no_effect item ≡ true → 7 + length octets ≤ length tsdu → outline tsdu ≡ part_octets place (replicate (length octets) 0) }
+{}
 
 /// An honest session is explained, whatever the other side sends and its own user calls, at whatever times: any
 /// octets and any calls, refusals, and a transport connection that is refused or lost at any time. It is explained

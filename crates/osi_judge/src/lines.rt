@@ -199,12 +199,11 @@ fn pass(side: &mut Side, other: &mut Side, tsdu: &[u8], before: usize) -> Result
     ensures hears { OnOk result (watched other.new ≡ hears (watched other.old) tsdu.now) }
     ensures err { OnErr result ((watched side.new ≡ watched side.old) × (watched other.new ≡ watched other.old)) }
 {
-    let heard = other.heard();
     other.hear(tsdu)?;
     match side.tell(tsdu, before) {
         Ok(()) => Ok(()),
         Err(_) => {
-            other.unhear(heard);
+            other.unhear();
             Err(AllocError)
         }
     }

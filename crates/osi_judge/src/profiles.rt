@@ -10,9 +10,10 @@ ghost use Rattle.osi_spdu.specs.Units.{said_by};
 ghost use Rattle.osi_judge.specs.Profiles.{offered_in, accepted_in, in_first, is_outside, selects_outside, is_left_out, leaves};
 
 use crate::first_places::tsdu_at;
+use crate::heard::Heard;
 use crate::rules::{Break, Rule};
 use bitflags::Flags;
-use osi_message::{Message, Octets};
+use osi_message::Message;
 use osi_session::{Breach, is_profile};
 use osi_spdu::{Requirements, Spdu, SpduFault, read_tsdu};
 
@@ -88,7 +89,7 @@ fn is_outside(offered: Option<Requirements>, accepted: Option<Requirements>) -> 
 
 /// Whether the first TSDU of a side is an AC that selects functional units that are not selected here: it
 /// answers a CN, the first TSDU that was heard.
-pub(crate) fn selects_outside(heard: &[Octets], tsdu: &[u8], before: usize) -> bool
+pub(crate) fn selects_outside(heard: &Heard, tsdu: &[u8], before: usize) -> bool
     requires { before ≤ length heard.now }
     ensures { result ≡ selects_outside heard.now (record { octets = tsdu.now; before = before } ∷ []) }
 {

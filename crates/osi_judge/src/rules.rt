@@ -9,10 +9,10 @@ ghost use Rattle.osi_judge.specs.Breaking.{LeavesBehind, BreaksIn, BreaksAt, in_
 ghost use Rattle.osi_judge.specs.Nearest.{call_place, place, is_nearer, a_unit, unsaid, kind_in, rule_for, tried, reached, far, nearest};
 ghost use Rattle.osi_judge.specs.Nearest.{break_of};
 
+use crate::heard::Heard;
 use crate::members::{Member, none_is_left};
 use crate::standings::{Turn, first_of, foremost, is_before, take_next};
 use crate::telling::behind_unit;
-use osi_message::Octets;
 use osi_session::{Breach, CallError, Standing};
 use osi_spdu::{Group, Kind, Spdu, SpduFault, read_tsdu};
 use std::alloc::{AllocError, Global};
@@ -166,7 +166,7 @@ fn far(members: &[Member]) -> Near
 /// The nearest of the sessions that one member becomes as it takes TSDUs, and of those before.
 fn nearest_on(
     alloc: Global,
-    heard: &[Octets],
+    heard: &Heard,
     question: &Question,
     before: usize,
     member: Member,
@@ -190,7 +190,7 @@ fn nearest_on(
 /// The nearest of the sessions that these members become as they take TSDUs.
 fn nearest(
     alloc: Global,
-    heard: &[Octets],
+    heard: &Heard,
     question: &Question,
     before: usize,
     members: &[Member],
@@ -219,7 +219,7 @@ enum Behind {
 
 fn behind_or_break(
     alloc: Global,
-    heard: &[Octets],
+    heard: &Heard,
     unit: &Spdu,
     octets: usize,
     before: usize,
@@ -240,7 +240,7 @@ fn behind_or_break(
 /// The break at the first unit that no session sends, in the order in which units take effect.
 fn break_in(
     alloc: Global,
-    heard: &[Octets],
+    heard: &Heard,
     group: &Group,
     octets: usize,
     before: usize,
@@ -265,7 +265,7 @@ fn break_in(
 /// The break at a TSDU that is sent by no session that explains what the side sent before.
 pub(crate) fn break_at(
     alloc: Global,
-    heard: &[Octets],
+    heard: &Heard,
     tsdu: &[u8],
     before: usize,
     members: &[Member],

@@ -1,21 +1,24 @@
 //! One side of a connection, judged by what it sent and by what it may have taken.
 
-ghost use Rattle.std.specs.Prelude.{◌≡◌, ◌<◌, ◌≤◌, ◌⊎◌, ◌++◌, ◌∷◌, ◌+◌, [], false, Err, IfOk, OnOk, OnErr, List, ℕ, length, take};
+ghost use Rattle.std.specs.Prelude.{◌≡◌, ◌<◌, ◌≤◌, ◌⊎◌, ◌++◌, ◌∷◌, ◌+◌, [], false, Err, IfOk, OnOk, OnErr, List, ℕ, length, take, ◌-◌};
 ghost use Rattle.osi_session.specs.Standing.{seen_called, seen_calling};
 ghost use Rattle.osi_judge.specs.Explaining.{Told};
 ghost use Rattle.osi_judge.specs.Breaking.{selection_of};
 ghost use Rattle.osi_judge.specs.Judging.{Watches, Keeps, BrokeBy, LeftBy, IsFound, FoundNext};
+ghost use Rattle.osi_judge.specs.Keeping.{once};
 ghost use Rattle.osi_judge.specs.Onward.{StandsFor};
+ghost use Rattle.osi_judge.specs.Outlines.{outline, outlines};
 ghost use Rattle.osi_judge.specs.Profiles.{selects_outside};
 ghost use Rattle.osi_judge.specs.Sides.{watched, EndsAt};
 
 use crate::findings::Finding;
+use crate::heard::Heard;
 use crate::members::{Member, none_is_left};
+use crate::outlines::outline;
 use crate::profiles::{leaves, selects_outside};
 use crate::rules::{Break, break_at, selection_at};
 use crate::standings::{Stands, foremost, stands_behind};
 use crate::telling::behind_tsdu;
-use osi_message::Octets;
 use osi_session::Standing;
 use std::alloc::{AllocError, Global};
 use thiserror::Error;
@@ -42,7 +45,7 @@ pub enum TellError {
 pub struct Side {
     alloc: Global,
     begin: Standing,
-    heard: Vec<Octets>,
+    heard: Heard,
     members: Vec<Member>,
     told: usize,
     before: usize,
@@ -87,7 +90,7 @@ impl Side {
         Ok(Side {
             alloc,
             begin,
-            heard: Vec::new(alloc),
+            heard: Heard::new(alloc),
             members,
             told: 0,
             before: 0,
@@ -96,24 +99,25 @@ impl Side {
         })
     }
 
-    /// A TSDU of the other side, which has passed completely. `Err` changes nothing.
+    /// A TSDU of the other side, which has passed completely. Its outline is kept. `Err` changes nothing.
     pub fn hear(&mut self, tsdu: &[u8]) -> Result<(), AllocError>
-        ensures all { OnOk result (watched self.new ≡ record (watched self.old) { heard = (watched self.old).heard ++ tsdu.now ∷ [] }) }
-        ensures heard { OnOk result ((watched self.new).heard ≡ (watched self.old).heard ++ tsdu.now ∷ []) }
+        ensures all { OnOk result (watched self.new ≡ record (watched self.old) { heard = (watched self.old).heard ++ outline tsdu.now ∷ [] }) }
+        ensures heard { OnOk result ((watched self.new).heard ≡ (watched self.old).heard ++ outline tsdu.now ∷ []) }
         ensures others { OnOk result (((watched self.new).begin ≡ (watched self.old).begin) × ((watched self.new).before ≡ (watched self.old).before)) }
         ensures watches { OnOk result ((told : List Told) → Watches (watched self.old) told → Watches (watched self.new) told) }
         ensures err { OnErr result (watched self.new ≡ watched self.old) }
     {
-        let octets = Octets::copy(self.alloc, tsdu)?;
-        self.heard.push(octets)?;
+        let kept = outline(self.alloc, tsdu)?;
+        self.heard.push(kept)?;
         Ok(())
     }
 
-    /// Keeps only the first `count` TSDUs of the other side.
-    pub(crate) fn unhear(&mut self, count: usize)
-        ensures { watched self.new ≡ record (watched self.old) { heard = take count (watched self.old).heard } }
+    /// Takes the last TSDU of the other side back.
+    pub(crate) fn unhear(&mut self)
+        requires { 0 < length (watched self.old).heard }
+        ensures { watched self.new ≡ record (watched self.old) { heard = take (length (watched self.old).heard - 1) (watched self.old).heard } }
     {
-        self.heard.truncate(count);
+        self.heard.take_back();
     }
 
     /// A TSDU of this side; `before` TSDUs of the other side had passed completely before its first octet: at least as
@@ -241,6 +245,13 @@ impl Side {
         self.heard.len()
     }
 
+    /// How many of their outlines are kept: of equal ones in a row only one.
+    pub fn kept(&self) -> usize
+        ensures { result ≡ length (once (watched self.now).heard) }
+    {
+        self.heard.kept()
+    }
+
     /// How many of them had passed before the last TSDU that it sent.
     pub fn before(&self) -> usize
         ensures { result ≡ (watched self.now).before }
@@ -281,6 +292,8 @@ impl Side {
     pub fn finding(&self) -> Finding
         ensures value { result ≡ (watched self.now).finding }
         ensures found { (told : List Told) → Watches (watched self.now) told → IsFound (watched self.now).begin (watched self.now).heard told result }
+        ensures found_of { (us : List (List ℕ)) (told : List Told) → (watched self.now).heard ≡ outlines us → Watches (watched self.now) told
+            → IsFound (watched self.now).begin us told result }
     {
         self.finding
     }

@@ -6,8 +6,8 @@ ghost use Rattle.osi_judge.specs.Judging.{is_empty};
 ghost use Rattle.osi_judge.specs.Onward.{IsAmong, GoesOn, StandsBehind};
 
 use crate::first_places::tsdu_at;
+use crate::heard::Heard;
 use crate::members::Member;
-use osi_message::Octets;
 use osi_session::{Reply, Standing};
 use std::alloc::{AllocError, Global};
 
@@ -90,7 +90,7 @@ pub(crate) enum Turn {
     Stops(Option<Reply>),
 }
 
-pub(crate) fn take_next(alloc: Global, heard: &[Octets], at: &Member) -> Result<Turn, AllocError>
+pub(crate) fn take_next(alloc: Global, heard: &Heard, at: &Member) -> Result<Turn, AllocError>
     requires { at.now.taken < length heard.now }
     ensures { IfOk result (λ turn. GoesOn heard.now at.now turn) }
 {
@@ -110,7 +110,7 @@ pub(crate) fn take_next(alloc: Global, heard: &[Octets], at: &Member) -> Result<
 /// The state of a member after all TSDUs that passed.
 pub(crate) fn stands_behind(
     alloc: Global,
-    heard: &[Octets],
+    heard: &Heard,
     member: Member,
 ) -> Result<Stands, AllocError>
     ensures { IfOk result (λ stands. StandsBehind heard.now member stands) }

@@ -9,9 +9,9 @@ ghost use Rattle.osi_judge.specs.Explaining.{Remark, Told, remarks_of};
 ghost use Rattle.osi_judge.specs.Members.{SomeExplains};
 ghost use Rattle.osi_judge.specs.Walking.{the_remark, remarked, Ever};
 
+use crate::heard::Heard;
 use crate::members::Member;
 use crate::walks::walk;
-use osi_message::Octets;
 use osi_session::is_restart_unit;
 use osi_spdu::{Group, Spdu, read_tsdu};
 use std::alloc::{AllocError, Global};
@@ -19,7 +19,7 @@ use std::alloc::{AllocError, Global};
 /// The members after a unit of a TSDU of this many octets.
 pub(crate) fn behind_unit(
     alloc: Global,
-    heard: &[Octets],
+    heard: &Heard,
     unit: &Spdu,
     octets: usize,
     before: usize,
@@ -46,7 +46,7 @@ fn either(one: bool, other: bool) -> bool
 /// after those that follow it, and not at all if one of them is an RS.
 fn behind_units(
     alloc: Global,
-    heard: &[Octets],
+    heard: &Heard,
     group: &Group,
     octets: usize,
     before: usize,
@@ -75,7 +75,7 @@ fn behind_units(
 #[tactic(auto, unfolding(osi_message::specs::Reading::said_at))]
 pub(crate) fn behind_tsdu(
     alloc: Global,
-    heard: &[Octets],
+    heard: &Heard,
     tsdu: &[u8],
     before: usize,
     members: &[Member],

@@ -10,8 +10,8 @@ ghost use Rattle.osi_judge.specs.Members.{SomeExplains};
 ghost use Rattle.osi_judge.specs.Walking.{the_remark, SaysIt, Answers, MayFollow, Turns, Ever};
 
 use crate::first_places::{first_place, hears, tsdu_at};
+use crate::heard::Heard;
 use crate::members::{Member, add};
-use osi_message::Octets;
 use osi_session::{Reply, Standing, is_steady};
 use osi_spdu::Spdu;
 use std::alloc::{AllocError, Global};
@@ -93,7 +93,7 @@ fn follow(
 /// TSDU. `None` if it can't continue.
 fn turn(
     alloc: Global,
-    heard: &[Octets],
+    heard: &Heard,
     unit: &Spdu,
     octets: usize,
     walker: Walker,
@@ -127,7 +127,7 @@ fn turn(
 /// same state, one member stands for both.
 fn walk_through(
     alloc: Global,
-    heard: &[Octets],
+    heard: &Heard,
     unit: &Spdu,
     octets: usize,
     before: usize,
@@ -155,7 +155,7 @@ fn walk_through(
 /// The members after a unit, from one member.
 pub(crate) fn walk(
     alloc: Global,
-    heard: &[Octets],
+    heard: &Heard,
     unit: &Spdu,
     octets: usize,
     before: usize,

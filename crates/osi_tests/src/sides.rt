@@ -301,3 +301,44 @@ fn who_says_what_no_session_could_is_found(rt: HostRuntime) -> Result<(), Fail> 
     }
     Ok(())
 }
+
+/// Data with other octets, and with more of them.
+const OTHER_DT: &[u8] = &[0x01, 0x00, 0x01, 0x00, 0x01, 0x00, 0x01, 0x00];
+
+/// A part with another octet, and one with two.
+const OTHER_PART: &[u8] = &[0x01, 0x00, 0x01, 0x03, 0x19, 0x01, 0x01, 0x65];
+const LONGER_PART: &[u8] = &[0x01, 0x00, 0x01, 0x03, 0x19, 0x01, 0x01, 0x64, 0x65];
+
+/// The first point with user data.
+const MIP_1_AND_DATA: &[u8] = &[
+    0x01, 0x00, 0x31, 0x06, 0x2A, 0x01, 0x31, 0xC1, 0x01, 0x64,
+];
+
+/// TSDUs in a row, and how many of them are kept: those that differ in user data alone are kept once.
+const ROWS: &[(&[&[u8]], usize)] = &[
+    (&[], 0),
+    (&[DT, OTHER_DT, DT], 1),
+    (&[DT, MIP_1, MIP_1_AND_DATA, MIP_2, DT], 4),
+    (&[FIRST_PART, OTHER_PART, LONGER_PART], 2),
+    (&[CN, AC, AC, OTHER_AC], 3),
+    (&[GT_AND_DT, GT_AND_DT, GT, DT], 3),
+];
+
+fn is_kept(rt: &HostRuntime, tsdus: &[&[u8]], wanted: usize) -> Result<(), Fail> {
+    let mut side = caller(rt)?;
+    for tsdu in tsdus {
+        hears(&mut side, *tsdu)?;
+    }
+    if side.kept() != wanted || side.heard() != tsdus.len() {
+        return Err(Fail::from("another number is kept"));
+    }
+    Ok(())
+}
+
+#[test]
+fn what_differs_in_user_data_alone_is_kept_once(rt: HostRuntime) -> Result<(), Fail> {
+    for (tsdus, wanted) in ROWS {
+        is_kept(&rt, *tsdus, *wanted)?;
+    }
+    Ok(())
+}

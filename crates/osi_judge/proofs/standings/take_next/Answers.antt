@@ -19,7 +19,7 @@ returns-then-is_some c =
       taken = at_some (λ (x : Taking). Takes s u (count_taken x)) o t e k.counted;
       next = at_some (λ (x : Taking). x.next ≡ after_count s (count_taken x)) o t e k.sent;
     } in
-    stops s u _ t c.tsdu_at-tsdu.ensures (sym c.is_some.ensures ∙ c.if-is_some.true) took
+    stops s u _ t c.tsdu_at-tsdu.ensures.octets (sym c.is_some.ensures ∙ c.if-is_some.true) took
 
 pub returns : goal.returns
 returns c =
@@ -34,4 +34,4 @@ returns c =
       taken = at_some (λ (x : Taking). Takes s u (count_taken x)) o t e k.counted;
       next = at_some (λ (x : Taking). x.next ≡ after_count s (count_taken x)) o t e k.sent;
     } in
-    goes_quietly c.args.heard.now c.args.at.now u t c.tsdu_at-tsdu.ensures (sym c.is_some.ensures ∙ c.if-is_some.false) took
+    goes_quietly c.args.heard.now c.args.at.now u t c.tsdu_at-tsdu.ensures.octets (sym c.is_some.ensures ∙ c.if-is_some.false) took

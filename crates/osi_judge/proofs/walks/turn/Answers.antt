@@ -24,7 +24,7 @@ returns-in-Some-reply-clause-turns c = λ before b us later x h.
     let t = c.in-Some.taking in
     let e = c.in-Some.is in
     let next : Member = record { taken = at.taken + 1; standing = t.next } in
-    let tsdu : get_or us at.taken [] ≡ c.tsdu_at-tsdu.result.now = x at.taken c.requires ∙ sym c.tsdu_at-tsdu.ensures in
+    let tsdu : get_or us at.taken [] ≡ c.tsdu_at-tsdu.result.now = x at.taken c.requires ∙ sym c.tsdu_at-tsdu.ensures.octets in
     let took : Took us at next (count_taken t) = record {
       listening = at_some (λ (y : Taking). listens at.standing ≡ true) o t e k.listens;
       taken = subst (λ (u : List ℕ). Takes at.standing u (count_taken t)) (sym tsdu) (at_some (λ (y : Taking). Takes at.standing c.tsdu_at-tsdu.result.now (count_taken y)) o t e k.counted);
@@ -43,7 +43,7 @@ returns-clause-turns c = λ before b us later x h.
     let e = c.in-Some.is in
     let next : Member = record { taken = at.taken + 1; standing = t.next } in
     let now : Walker = record { at = next; said_before = c.in_ok-said_before.said_before } in
-    let tsdu : get_or us at.taken [] ≡ c.tsdu_at-tsdu.result.now = x at.taken c.requires ∙ sym c.tsdu_at-tsdu.ensures in
+    let tsdu : get_or us at.taken [] ≡ c.tsdu_at-tsdu.result.now = x at.taken c.requires ∙ sym c.tsdu_at-tsdu.ensures.octets in
     let took : Took us at next (count_taken t) = record {
       listening = at_some (λ (y : Taking). listens at.standing ≡ true) o t e k.listens;
       taken = subst (λ (u : List ℕ). Takes at.standing u (count_taken t)) (sym tsdu) (at_some (λ (y : Taking). Takes at.standing c.tsdu_at-tsdu.result.now (count_taken y)) o t e k.counted);

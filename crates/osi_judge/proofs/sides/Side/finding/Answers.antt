@@ -1,6 +1,15 @@
+use Rattle.std.proofs.Common.{◌≡◌, subst, ℕ, List}
+use Rattle.osi_judge.specs.Judging.{IsFound}
 use Rattle.osi_judge.specs.Sides.{watched}
 use Rattle.osi_judge.proofs.SideLaws.{found_as}
+use Rattle.osi_judge.proofs.alike_tsdus_explain_the_same.{found_of_tsdus}
 use Rattle.osi_judge.proofs.sides.Side.finding.Goals as goal
 
 pub returns-clause-found : goal.returns-clause-found
 returns-clause-found c = λ told k. found_as (watched c.args.self.now) told k
+
+-- of the TSDUs whose outlines were heard
+pub returns-clause-found_of : goal.returns-clause-found_of
+returns-clause-found_of c = λ us told e k.
+    let w = watched c.args.self.now in
+    found_of_tsdus w.begin us told w.finding (subst (λ (x : List (List ℕ)). IsFound w.begin x told w.finding) e (found_as w told k))

@@ -1,5 +1,6 @@
-use Rattle.std.proofs.Common.{◌≡◌, ◌++◌, ◌∷◌, [], rules}
+use Rattle.std.proofs.Common.{◌≡◌, ◌++◌, ◌∷◌, [], rules, ◌∙◌, ap, List, ℕ}
 use Rattle.osi_judge.specs.Judging.{Watched}
+use Rattle.osi_judge.specs.Outlines.{outline}
 use Rattle.osi_judge.specs.Sides.{watched}
 use Rattle.osi_judge.proofs.SideLaws.{hears_as}
 use Rattle.osi_judge.proofs.sides.Side.hear.Goals as goal
@@ -7,5 +8,5 @@ use Rattle.osi_judge.proofs.sides.Side.hear.Goals as goal
 pub returns-clause-watches : goal.returns-clause-watches
 returns-clause-watches c = λ told k.
     let w = watched c.args.self.now in
-    let more : c.push.new.self.items ≡ w.heard ++ c.args.tsdu.now ∷ [] = search rules in
-    hears_as w (record w { heard = c.push.new.self.items }) c.args.tsdu.now told (λ i. record w { heard = more i }) k
+    hears_as w (record w { heard = c.push.new.self }) (outline c.args.tsdu.now) told
+    (ap (λ (h : List (List ℕ)). record w { heard = h }) (c.in_ok-push.ensures.ok ∙ ap (λ (o : List ℕ). w.heard ++ o ∷ []) c.in_ok-kept.ensures)) k

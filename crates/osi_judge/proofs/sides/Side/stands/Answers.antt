@@ -1,4 +1,4 @@
-use Rattle.std.proofs.Common.{◌≡◌, ◌∙◌, ap, false, subst, List, ℕ}
+use Rattle.std.proofs.Common.{◌≡◌, ◌∙◌, ap, false, subst, List, ℕ, refl}
 use Rattle.osi_judge.specs.declared.members.Member.{Member}
 use Rattle.osi_judge.specs.Foremost.{foremost}
 use Rattle.osi_judge.specs.Judging.{is_empty}
@@ -9,7 +9,7 @@ use Rattle.osi_judge.proofs.sides.Side.stands.Goals as goal
 
 pub returns : goal.returns
 returns c =
-    stands_ok c.stands_behind.result (watched c.args.self.now) c.deref.result.now c.foremost.result c.deref.ensures.value
-    (c.foremost.ensures.value ∙ ap foremost c.deref-2.ensures.value)
-    (subst (λ (x : List Member). is_empty x ≡ false → IsAmong c.foremost.result x) c.deref-2.ensures.value c.foremost.ensures.among)
+    stands_ok c.stands_behind.result (watched c.args.self.now) c.args.self.now.heard c.foremost.result refl
+    (c.foremost.ensures.value ∙ ap foremost c.deref.ensures.value)
+    (subst (λ (x : List Member). is_empty x ≡ false → IsAmong c.foremost.result x) c.deref.ensures.value c.foremost.ensures.among)
     c.stands_behind.ensures

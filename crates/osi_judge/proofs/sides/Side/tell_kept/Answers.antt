@@ -14,7 +14,7 @@ returns-then-none_is_left-clause-watches c =
     let new = c.in_ok-members.members.items in
     let none : new ≡ [] = nil_of new (ap is_empty (sym c.as_slice.ensures.value) ∙ sym c.none_is_left.ensures ∙ c.if-none_is_left.true) in
     ends_ok c.end.result w (watched c.end.new.self) x new c.requires.passed c.requires.order
-    (gives_as w x new c.deref.result.now c.deref-2.result.now c.deref.ensures.value c.deref-2.ensures.value c.in_ok-members.ensures) none c.end.ensures.ends
+    (gives_as w x new w.heard c.deref.result.now refl c.deref.ensures.value c.in_ok-members.ensures) none c.end.ensures.ends
 
 pub returns-then-opens_outside-clause-watches : goal.returns-then-opens_outside-clause-watches
 returns-then-opens_outside-clause-watches c = λ told k.
@@ -33,7 +33,7 @@ returns-then-is_crowd-clause-watches c = λ told k.
     let new = c.in_ok-members.members.items in
     let some : is_empty new ≡ false = ap is_empty (sym c.as_slice.ensures.value) ∙ sym c.none_is_left.ensures ∙ c.if-none_is_left.false in
     crowds_as w (record w { finding = TooMany }) told x new c.opens_outside.result refl c.requires.order
-    (gives_as w x new c.deref.result.now c.deref-2.result.now c.deref.ensures.value c.deref-2.ensures.value c.in_ok-members.ensures) some
+    (gives_as w x new w.heard c.deref.result.now refl c.deref.ensures.value c.in_ok-members.ensures) some
     c.requires.passed (c.opens_outside.ensures.first, c.opens_outside.ensures.later) c.if-opens_outside.false k
 
 pub returns-clause-watches : goal.returns-clause-watches
@@ -44,5 +44,5 @@ returns-clause-watches c = λ told k.
     let some : is_empty new ≡ false = ap is_empty (sym c.as_slice.ensures.value) ∙ sym c.none_is_left.ensures ∙ c.if-none_is_left.false in
     let few : length new ≤ 4096 = subst (λ (m : List Member). length m ≤ 4096) c.as_slice-2.ensures.value (c.is_crowd.ensures.few c.if-is_crowd.false) in
     kept_as w (record w { members = new; told = w.told + 1; before = c.args.before }) told x new c.opens_outside.result refl c.requires.kept c.requires.order
-    (gives_as w x new c.deref.result.now c.deref-2.result.now c.deref.ensures.value c.deref-2.ensures.value c.in_ok-members.ensures) some few
+    (gives_as w x new w.heard c.deref.result.now refl c.deref.ensures.value c.in_ok-members.ensures) some few
     c.requires.passed (c.opens_outside.ensures.first, c.opens_outside.ensures.later) c.if-opens_outside.false k

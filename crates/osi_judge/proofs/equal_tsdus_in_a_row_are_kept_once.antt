@@ -1,0 +1,315 @@
+-- TSDUs of which equal ones in a row are kept once: how many there are, which one has a place, one more, and one fewer.
+-- For the value Heard.
+use Rattle.std.proofs.Common.{◌≡◌, ◌∙◌, refl, sym, ap, subst, ℕ, zero, suc, ◌+◌, ◌-◌, ◌<◌, ◌≤◌, ◌≢◌, List, [], ◌∷◌, ◌++◌, length, get_or}
+use Rattle.std.proofs.Common.{take, append_assoc, arith, Bool, true, false, ◌&&◌, ◌==◌, if◌then◌else◌, MatchBool, nat_eq, rules}
+use Rattle.std.specs.Prelude.{replicate}
+use Rattle.std.proofs.lemmas.List.{get_or_append_left, get_or-append_right, get_or-replicate, length-append, length-replicate, append-nil}
+use Rattle.std.proofs.lemmas.List.{replicate_more}
+use Rattle.std.proofs.Math.Seq.{take-append_seam}
+use Rattle.std.proofs.lemmas.Bool.{eq-eqb, eqb-true}
+use Rattle.std.specs.Prelude.{eqb}
+use lib.Pointwise.{pointwise}
+use Rattle.osi_judge.specs.declared.heard.Run.{Run}
+use Rattle.osi_judge.specs.Keeping.{is_same, once, once_behind}
+use Rattle.osi_judge.specs.Runs.{AreApart, AreFrom, HasPlace, IsOther, begin_at, begin_in, last_from, last_in, spread, tsdu_at}
+
+-- ---- how many there are
+
+spread_length : (at : ℕ) (runs : List Run) (count : ℕ) → AreFrom at runs count → at + length (spread runs count) ≡ count
+spread_length at [] count h = omega (arith, h)
+spread_length at (r ∷ runs) count h =
+    let more = spread_length (begin_in runs count) runs count h.2 in
+    let both = length-append (replicate (begin_in runs count - r.from) r.tsdu) (spread runs count) in
+    let here = length-replicate (begin_in runs count - r.from) r.tsdu in
+    omega (arith, more, both, here, h.0, h.1)
+
+pub all_counted : (runs : List Run) (count : ℕ) → AreFrom 0 runs count → count ≡ length (spread runs count)
+all_counted runs count h = let n = spread_length 0 runs count h in omega (arith, n)
+
+pub counted_in : (runs : List Run) (count : ℕ) (value : List (List ℕ)) → AreFrom 0 runs count → spread runs count ≡ value
+    → count ≡ length value
+counted_in runs count value h v = all_counted runs count h ∙ ap (λ (x : List (List ℕ)). length x) v
+
+some_runs : (runs : List Run) (count : ℕ) → AreFrom 0 runs count → 0 < count → 0 < length runs
+some_runs [] count h l = absurd (omega (arith, h, l))
+some_runs (r ∷ runs) count h l = omega arith
+
+-- ---- which one has a place
+
+begin_first : (runs : List Run) (count : ℕ) → begin_at runs count zero ≡ begin_in runs count
+begin_first [] count = refl
+begin_first (r ∷ runs) count = refl
+
+begin_later : (at : ℕ) (runs : List Run) (count i : ℕ) → AreFrom at runs count → at ≤ begin_at runs count i
+begin_later at [] count i h = omega (arith, h)
+begin_later at (r ∷ runs) count zero h = omega (arith, h.0)
+begin_later at (r ∷ runs) count (suc i) h = let l = begin_later (begin_in runs count) runs count i h.2 in omega (arith, l, h.1)
+
+pub begin_end : (runs : List Run) (count : ℕ) → begin_at runs count (length runs) ≡ count
+begin_end [] count = refl
+begin_end (r ∷ runs) count = begin_end runs count
+
+pub begin_read : (runs : List Run) (count i : ℕ) (r : Run) → i < length runs → r ≡ get_or runs i r → r.from ≡ begin_at runs count i
+begin_read [] count i r l e = absurd (omega (arith, l))
+begin_read (x ∷ runs) count zero r l e = ap (λ (y : Run). y.from) e
+begin_read (x ∷ runs) count (suc i) r l e = begin_read runs count i r (omega (arith, l)) e
+
+pub tsdu_read : (runs : List Run) (i : ℕ) (r : Run) → i < length runs → r ≡ get_or runs i r → r.tsdu ≡ tsdu_at runs i
+tsdu_read [] i r l e = absurd (omega (arith, l))
+tsdu_read (x ∷ runs) zero r l e = ap (λ (y : Run). y.tsdu) e
+tsdu_read (x ∷ runs) (suc i) r l e = tsdu_read runs i r (omega (arith, l)) e
+
+found_from : (at place : ℕ) (runs : List Run) (count i : ℕ) → AreFrom at runs count → i < length runs → begin_at runs count i ≤ at + place
+    → at + place < begin_at runs count (suc i) → get_or (spread runs count) place [] ≡ tsdu_at runs i
+found_from at place [] count i h l b e = absurd (omega (arith, l))
+found_from at place (r ∷ runs) count zero h l b e =
+    let n = begin_in runs count - r.from in
+    let first = begin_first runs count in
+    let within : place < n = omega (arith, first, e, h.0, h.1) in
+    let many = length-replicate n r.tsdu in
+    get_or_append_left (replicate n r.tsdu) (spread runs count) [] place
+    (omega (arith, within, many)) ∙ get_or-replicate n place r.tsdu [] within
+found_from at place (r ∷ runs) count (suc i) h l b e =
+    let n = begin_in runs count - r.from in
+    let many = length-replicate n r.tsdu in
+    let later = begin_later (begin_in runs count) runs count i h.2 in
+    let behind : n ≤ place = omega (arith, later, b, h.0, h.1) in
+    get_or-append_right (replicate n r.tsdu) (spread runs count) n place [] many behind
+    ∙ found_from (begin_in runs count) (place - n) runs count i h.2 (omega (arith, l)) (omega (arith, behind, b, h.0, h.1))
+    (omega (arith, behind, e, h.0, h.1))
+
+pub found : (runs : List Run) (count place i : ℕ) → AreFrom 0 runs count → HasPlace runs count place i
+    → get_or (spread runs count) place [] ≡ tsdu_at runs i
+found runs count place i h p =
+    let b = p.begun in let e = p.ends in
+    found_from 0 place runs count i h p.there (omega (arith, b)) (omega (arith, e))
+
+-- ---- one more
+
+pub more_of_last : (at : ℕ) (runs : List Run) (count : ℕ) → AreFrom at runs count → 0 < length runs
+    → spread runs (count + 1) ≡ spread runs count ++ last_in runs ∷ []
+more_of_last at [] count h l = absurd (omega (arith, l))
+more_of_last at (r ∷ []) count h l =
+    let n : count + 1 - r.from ≡ (count - r.from) + 1 = omega (arith, h.0, h.1) in
+    append-nil (replicate (count + 1 - r.from) r.tsdu)
+    ∙ ap (λ (x : ℕ). replicate x r.tsdu) n
+    ∙ sym (replicate_more (count - r.from) r.tsdu)
+    ∙ ap (λ (x : List (List ℕ)). x ++ r.tsdu ∷ []) (sym (append-nil (replicate (count - r.from) r.tsdu)))
+more_of_last at (r ∷ s ∷ runs) count h l =
+    ap (λ (x : List (List ℕ)). replicate (s.from - r.from) r.tsdu ++ x) (more_of_last s.from (s ∷ runs) count h.2 (omega arith))
+    ∙ sym (append_assoc (replicate (s.from - r.from) r.tsdu) (spread (s ∷ runs) count) (last_in (s ∷ runs) ∷ []))
+
+pub last_goes_on : (at : ℕ) (runs : List Run) (count : ℕ) → AreFrom at runs count → 0 < length runs → AreFrom at runs (count + 1)
+last_goes_on at [] count h l = absurd (omega (arith, l))
+last_goes_on at (r ∷ []) count h l = (h.0, omega (arith, h.1), refl)
+last_goes_on at (r ∷ s ∷ runs) count h l = (h.0, h.1, last_goes_on s.from (s ∷ runs) count h.2 (omega arith))
+
+begin_kept : (runs : List Run) (x : Run) (count : ℕ) → x.from ≡ count → begin_in (runs ++ x ∷ []) (count + 1) ≡ begin_in runs count
+begin_kept [] x count e = e
+begin_kept (r ∷ runs) x count e = refl
+
+pub one_added : (runs : List Run) (x : Run) (count : ℕ) → x.from ≡ count
+    → spread (runs ++ x ∷ []) (count + 1) ≡ spread runs count ++ x.tsdu ∷ []
+one_added [] x count e =
+    let n : count + 1 - x.from ≡ 1 = omega (arith, e) in ap (λ (y : ℕ). replicate y x.tsdu ++ []) n
+one_added (r ∷ runs) x count e =
+    ap (λ (y : ℕ). replicate (y - r.from) r.tsdu ++ spread (runs ++ x ∷ []) (count + 1)) (begin_kept runs x count e)
+    ∙ ap (λ (y : List (List ℕ)). replicate (begin_in runs count - r.from) r.tsdu ++ y) (one_added runs x count e)
+    ∙ sym (append_assoc (replicate (begin_in runs count - r.from) r.tsdu) (spread runs count) (x.tsdu ∷ []))
+
+pub a_run_begins : (at : ℕ) (runs : List Run) (x : Run) (count : ℕ) → AreFrom at runs count → x.from ≡ count
+    → AreFrom at (runs ++ x ∷ []) (count + 1)
+a_run_begins at [] x count h e = (e ∙ sym h, omega (arith, h), refl)
+a_run_begins at (r ∷ runs) x count h e =
+    let same = begin_kept runs x count e in (
+      h.0,
+      omega (arith, same, h.1),
+      subst (λ (y : ℕ). AreFrom y (runs ++ x ∷ []) (count + 1)) (sym same)
+          (a_run_begins (begin_in runs count) runs x count h.2 e),
+    )
+
+-- ---- one fewer
+
+pub last_stays : (at : ℕ) (runs : List Run) (count : ℕ) → AreFrom at runs (count + 1) → 0 < length runs → last_from runs ≢ count
+    → AreFrom at runs count
+last_stays at [] count h l n = absurd (omega (arith, l))
+last_stays at (r ∷ []) count h l n = (h.0, omega (arith, h.0, h.1, n), refl)
+last_stays at (r ∷ s ∷ runs) count h l n = (h.0, h.1, last_stays s.from (s ∷ runs) count h.2 (omega arith) n)
+
+last_of : (runs : List Run) (x : Run) → last_from (runs ++ x ∷ []) ≡ x.from
+last_of [] x = refl
+last_of (r ∷ []) x = refl
+last_of (r ∷ s ∷ runs) x = last_of (s ∷ runs) x
+
+pub a_run_ends : (at : ℕ) (runs : List Run) (x : Run) (count : ℕ) → AreFrom at (runs ++ x ∷ []) count → AreFrom at runs x.from
+a_run_ends at [] x count h = sym h.0
+a_run_ends at (r ∷ []) x count h = (h.0, h.1, refl)
+a_run_ends at (r ∷ s ∷ runs) x count h = (h.0, h.1, a_run_ends s.from (s ∷ runs) x count h.2)
+
+pub all_but_last : (old new : List (List ℕ)) (t : List ℕ) → old ≡ new ++ t ∷ [] → new ≡ take (length old - 1) old
+all_but_last old new t e =
+    let n = ap (λ (x : List (List ℕ)). length x) e in
+    let m = length-append new (t ∷ []) in
+    let k : length old - 1 ≡ length new = omega (arith, n, m) in
+    sym (ap (λ (x : List (List ℕ)). take (length old - 1) x) e ∙ ap (λ (i : ℕ). take i (new ++ t ∷ [])) k ∙ take-append_seam new (t ∷ []))
+
+-- ---- equal ones in a row
+
+same_as_itself : (t : List ℕ) → is_same t t ≡ true
+same_as_itself [] = refl
+same_as_itself (x ∷ t) = λ i. eq-eqb x x refl i && same_as_itself t i
+
+one_of : (xs ys : List ℕ) → is_same xs ys ≡ true → xs ≡ ys
+one_of [] [] e = refl
+one_of [] (y ∷ ys) e = absurd (cc)
+one_of (x ∷ xs) [] e = absurd (cc)
+one_of (x ∷ xs) (y ∷ ys) e =
+    let h = both_true (x == y) (is_same xs ys) e in
+    λ i. eqb-true x y h.0 i ∷ one_of xs ys h.1 i
+  where
+    both_true : (a b : Bool) → (a && b) ≡ true → (a ≡ true) × (b ≡ true)
+    both_true true b e = (refl, e)
+    both_true false b e = absurd (cc)
+
+pub same_by_pairs : (xs ys : List ℕ) → pointwise eqb xs ys ≡ is_same xs ys
+same_by_pairs [] [] = refl
+same_by_pairs [] (y ∷ ys) = refl
+same_by_pairs (x ∷ xs) [] = refl
+same_by_pairs (x ∷ xs) (y ∷ ys) = ap (λ (b : Bool). (x == y) && b) (same_by_pairs xs ys)
+
+pub apart_more : (runs : List Run) (x : Run) → AreApart runs → (0 < length runs → is_same (last_in runs) x.tsdu ≡ false)
+    → AreApart (runs ++ x ∷ [])
+apart_more [] x h n = (tt, tt)
+apart_more (r ∷ []) x h n = (n (omega arith), (tt, tt))
+apart_more (r ∷ s ∷ runs) x h n = (h.0, apart_more (s ∷ runs) x h.1 (λ l. n (omega arith)))
+
+pub apart_fewer : (runs : List Run) (x : Run) → AreApart (runs ++ x ∷ []) → AreApart runs
+apart_fewer [] x h = tt
+apart_fewer (r ∷ []) x h = (tt, tt)
+apart_fewer (r ∷ s ∷ runs) x h = (h.0, apart_fewer (s ∷ runs) x h.1)
+
+skipped : (n : ℕ) (t : List ℕ) (rest : List (List ℕ)) → once_behind t (replicate n t ++ rest) ≡ once_behind t rest
+skipped zero t rest = refl
+skipped (suc n) t rest =
+    ap (λ (b : Bool). if b then once_behind t (replicate n t ++ rest) else t ∷ once_behind t (replicate n t ++ rest)) (same_as_itself t)
+    ∙ skipped n t rest
+
+one_then : (n : ℕ) (t : List ℕ) → 0 < n → replicate n t ≡ t ∷ replicate (n - 1) t
+one_then zero t l = absurd (omega (arith, l))
+one_then (suc n) t l = let e : n ≡ suc n - 1 = omega arith in ap (λ (k : ℕ). t ∷ replicate k t) e
+
+kept_behind : (at : ℕ) (before : List ℕ) (runs : List Run) (count : ℕ) → AreFrom at runs count → IsOther before runs → AreApart runs
+    → length (once_behind before (spread runs count)) ≡ length runs
+kept_behind at before [] count h o a = refl
+kept_behind at before (r ∷ runs) count h o a =
+    let n = begin_in runs count - r.from in
+    ap (λ (x : List (List ℕ)). length (once_behind before (x ++ spread runs count))) (one_then n r.tsdu (omega (arith, h.0, h.1)))
+    ∙ ap (λ (b : Bool). length
+    (if b then once_behind r.tsdu (replicate (n - 1) r.tsdu ++ spread runs count) else r.tsdu
+    ∷ once_behind r.tsdu (replicate (n - 1) r.tsdu ++ spread runs count))) o
+    ∙ ap (λ (x : List (List ℕ)). suc (length x)) (skipped (n - 1) r.tsdu (spread runs count))
+    ∙ ap (λ (k : ℕ). suc k) (kept_behind (begin_in runs count) r.tsdu runs count h.2 a.0 a.1)
+
+pub kept_once : (runs : List Run) (count : ℕ) → AreFrom 0 runs count → AreApart runs → length runs ≡ length (once (spread runs count))
+kept_once [] count h a = refl
+kept_once (r ∷ runs) count h a =
+    let n = begin_in runs count - r.from in
+    sym (ap (λ (x : List (List ℕ)). length (once (x ++ spread runs count))) (one_then n r.tsdu (omega (arith, h.0, h.1)))
+    ∙ ap (λ (x : List (List ℕ)). suc (length x)) (skipped (n - 1) r.tsdu (spread runs count))
+    ∙ ap (λ (k : ℕ). suc k) (kept_behind (begin_in runs count) r.tsdu runs count h.2 a.0 a.1))
+
+-- ---- the steps of the value
+
+pub halves_begin : (runs : List Run) (count place : ℕ) → AreFrom 0 runs count → place < count
+    → (0 < length runs) × (length runs ≤ length runs) × (begin_at runs count 0 ≤ place) × (place < begin_at runs count (length runs))
+halves_begin [] count place h l = absurd (omega (arith, h, l))
+halves_begin (r ∷ runs) count place h l =
+    let e = begin_end (r ∷ runs) count in (omega arith, omega arith, omega (arith, h.0), omega (arith, e, l))
+
+last_read : (runs : List Run) (r : Run) → 0 < length runs → r ≡ get_or runs (length runs - 1) r → (r.tsdu ≡ last_in runs)
+    × (r.from ≡ last_from runs)
+last_read [] r l e = absurd (omega (arith, l))
+last_read (x ∷ []) r l e = (ap (λ (y : Run). y.tsdu) e, ap (λ (y : Run). y.from) e)
+last_read (x ∷ y ∷ runs) r l e =
+    let i : length (x ∷ y ∷ runs) - 1 ≡ suc (length (y ∷ runs) - 1) = omega arith in
+    last_read (y ∷ runs) r (omega arith) (e ∙ ap (λ (k : ℕ). get_or (x ∷ y ∷ runs) k r) i)
+
+pub last_tsdu : (runs : List Run) (r : Run) → 0 < length runs → r ≡ get_or runs (length runs - 1) r → r.tsdu ≡ last_in runs
+last_tsdu runs r l e = (last_read runs r l e).0
+
+pub last_begin : (runs : List Run) (r : Run) → 0 < length runs → r ≡ get_or runs (length runs - 1) r → r.from ≡ last_from runs
+last_begin runs r l e = (last_read runs r l e).1
+
+pub once_more : (runs : List Run) (count : ℕ) (value : List (List ℕ)) (tsdu : List ℕ) → AreFrom 0 runs count → 0 < length runs
+    → is_same (last_in runs) tsdu ≡ true
+    → spread runs count ≡ value → spread runs (count + 1) ≡ value ++ tsdu ∷ []
+once_more runs count value tsdu h l s v =
+    let t = one_of (last_in runs) tsdu s in more_of_last 0 runs count h l ∙ (λ i. v i ++ t i ∷ [])
+
+pub a_run_more : (runs new : List Run) (x : Run) (count : ℕ) → AreFrom 0 runs count → AreApart runs → x.from ≡ count
+    → (0 < length runs → is_same (last_in runs) x.tsdu ≡ false) → new ≡ runs ++ x ∷ [] → AreFrom 0 new (count + 1) × AreApart new
+a_run_more runs new x count h a f n e =
+    subst (λ (y : List Run). AreFrom 0 y (count + 1) × AreApart y) (sym e) (a_run_begins 0 runs x count h f, apart_more runs x a n)
+
+pub added_in : (runs new : List Run) (x : Run) (count : ℕ) (value : List (List ℕ)) → x.from ≡ count → new ≡ runs ++ x ∷ []
+    → spread runs count ≡ value
+    → spread new (count + 1) ≡ value ++ x.tsdu ∷ []
+added_in runs new x count value f e v =
+    ap (λ (y : List Run). spread y (count + 1)) e ∙ one_added runs x count f ∙ ap (λ (y : List (List ℕ)). y ++ x.tsdu ∷ []) v
+
+pub stays_shorter : (runs : List Run) (count : ℕ) → AreFrom 0 runs count → 0 < count → last_from runs ≢ count - 1
+    → AreFrom 0 runs (count - 1)
+stays_shorter runs count h l n =
+    let e : count ≡ (count - 1) + 1 = omega (arith, l) in
+    last_stays 0 runs (count - 1) (subst (λ (x : ℕ). AreFrom 0 runs x) e h) (some_runs runs count h l) n
+
+pub one_fewer : (runs : List Run) (count : ℕ) (value : List (List ℕ)) → AreFrom 0 runs count → 0 < count → last_from runs ≢ count - 1
+    → spread runs count ≡ value
+    → spread runs (count - 1) ≡ take (length value - 1) value
+one_fewer runs count value h l n v =
+    let e : count ≡ (count - 1) + 1 = omega (arith, l) in
+    all_but_last value (spread runs (count - 1)) (last_in runs)
+    (sym v ∙ ap (λ (x : ℕ). spread runs x) e ∙ more_of_last 0 runs (count - 1) (stays_shorter runs count h l n) (some_runs runs count h l))
+
+split_last : (runs : List Run) → 0 < length runs → (x : Run) × (runs ≡ take (length runs - 1) runs ++ x ∷ [])
+split_last [] l = absurd (omega (arith, l))
+split_last (r ∷ []) l = (r, refl)
+split_last (r ∷ s ∷ runs) l =
+    let p = split_last (s ∷ runs) (omega arith) in
+    let i : length (r ∷ s ∷ runs) - 1 ≡ suc (length (s ∷ runs) - 1) = omega arith in
+    (p.0, ap (λ (y : List Run). r ∷ y) p.1 ∙ ap (λ (k : ℕ). take k (r ∷ s ∷ runs) ++ p.0 ∷ []) (sym i))
+
+-- what is left once the last run is taken off
+pub record Popped (new : List Run) (count : ℕ) (value : List (List ℕ)) : Type 0 where
+  pub from : AreFrom 0 new (count - 1)
+  pub apart : AreApart new
+  pub rest : spread new (count - 1) ≡ take (length value - 1) value
+
+pub popped : (runs new : List Run) (count : ℕ) (value : List (List ℕ)) → AreFrom 0 runs count → AreApart runs → 0 < count
+    → last_from runs ≡ count - 1
+    → new ≡ take (length runs - 1) runs → spread runs count ≡ value → Popped new count value
+popped runs new count value h a l f n v =
+    let p = split_last runs (some_runs runs count h l) in
+    let x = p.0 in
+    let e : runs ≡ new ++ x ∷ [] = p.1 ∙ ap (λ (y : List Run). y ++ x ∷ []) (sym n) in
+    let g : x.from ≡ count - 1 = sym (last_of new x) ∙ ap last_from (sym e) ∙ f in
+    let c : count ≡ (count - 1) + 1 = omega (arith, l) in record {
+      from = subst (λ (k : ℕ). AreFrom 0 new k) g (a_run_ends 0 new x count (subst (λ (y : List Run). AreFrom 0 y count) e h));
+      apart = apart_fewer new x (subst AreApart e a);
+      rest = all_but_last value (spread new (count - 1)) x.tsdu
+          (sym v ∙ ap (λ (y : List Run). spread y count) e ∙ ap (λ (k : ℕ). spread (new ++ x ∷ []) k) c ∙ one_added new x (count - 1) g);
+    }
+
+pub place_in : (runs same : List Run) (count place i : ℕ) (r : Run) (value : List (List ℕ)) → AreFrom 0 runs count → same ≡ runs
+    → HasPlace same count place i
+    → r ≡ get_or same i r → spread runs count ≡ value → r.tsdu ≡ get_or value place []
+place_in runs same count place i r value h e p g v =
+    let q = subst (λ (y : List Run). HasPlace y count place i) e p in
+    tsdu_read runs i r q.there (subst (λ (y : List Run). r ≡ get_or y i r) e g)
+    ∙ sym (found runs count place i h q) ∙ ap (λ (x : List (List ℕ)). get_or x place []) v
+
+pub is_or_not : (a b n : ℕ) → a ≡ b → MatchBool (nat_eq a n) (b ≡ n) (b ≢ n)
+is_or_not a b n e = subst (λ (x : ℕ). MatchBool (nat_eq a n) (x ≡ n) (x ≢ n)) e (tests a n)
+  where
+    tests : (a n : ℕ) → MatchBool (nat_eq a n) (a ≡ n) (a ≢ n)
+    tests a n = search rules

@@ -1,0 +1,38 @@
+use Rattle.std.proofs.Common.{◌∙◌, refl, sym, ap, subst, ◌≡◌, ◌<◌, ℕ, true, false, List, length}
+use Rattle.osi_judge.specs.declared.heard.Run.{Run}
+use Rattle.osi_judge.specs.Keeping.{is_same}
+use Rattle.osi_judge.specs.Runs.{last_in}
+use Rattle.osi_judge.proofs.equal_tsdus_in_a_row_are_kept_once.{a_run_more, added_in, last_goes_on, once_more}
+use Rattle.osi_judge.proofs.heard.Heard.push.Goals as goal
+
+pub invariant_of-self : goal.invariant_of-self
+invariant_of-self c =
+    let runs = c.self.inside.runs.items in
+    let some = subst (λ (r : List Run). 0 < length r) c.deref.ensures.value (c.ends_with.ensures.some c.if-ends_with.true) in
+    (last_goes_on 0 runs c.self.inside.count c.self.invariant.0 some, c.self.invariant.1)
+
+pub returns-then-ends_with-clause-ok : goal.returns-then-ends_with-clause-ok
+returns-then-ends_with-clause-ok c =
+    let runs = c.self.inside.runs.items in
+    let some = c.ends_with.ensures.some c.if-ends_with.true in
+    let same = sym (c.ends_with.ensures.same some) ∙ c.if-ends_with.true in
+    once_more runs c.self.inside.count c.args.self.now c.args.tsdu c.self.invariant.0
+    (subst (λ (r : List Run). 0 < length r) c.deref.ensures.value some)
+    (subst (λ (t : List ℕ). is_same (last_in runs) t ≡ true) c.as_slice.ensures
+    (subst (λ (r : List Run). is_same (last_in r) c.as_slice.result.now ≡ true) c.deref.ensures.value same)) c.self.view_is
+
+pub invariant_of-self-2 : goal.invariant_of-self-2
+invariant_of-self-2 c =
+    let runs = c.self.inside.runs.items in
+    let x : Run = record { tsdu = c.args.tsdu; from = c.self.inside.count } in
+    a_run_more runs c.push.new.self.items x c.self.inside.count c.self.invariant.0 c.self.invariant.1 refl
+    (λ l. subst (λ (t : List ℕ). is_same (last_in runs) t ≡ false) c.as_slice.ensures
+    (subst (λ (r : List Run). is_same (last_in r) c.as_slice.result.now ≡ false) c.deref.ensures.value
+    (sym (c.ends_with.ensures.same (subst (λ (r : List Run). 0 < length r) (sym c.deref.ensures.value) l)) ∙ c.if-ends_with.false)))
+    c.in_ok-push.ensures.items
+
+pub returns-clause-ok : goal.returns-clause-ok
+returns-clause-ok c =
+    let x : Run = record { tsdu = c.args.tsdu; from = c.self.inside.count } in
+    added_in c.self.inside.runs.items c.push.new.self.items x c.self.inside.count c.args.self.now refl c.in_ok-push.ensures.items
+    c.self.view_is

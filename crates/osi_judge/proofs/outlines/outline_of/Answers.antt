@@ -1,0 +1,14 @@
+use Rattle.std.proofs.Common.{◌∙◌, sym, Ok}
+use Rattle.osi_message.specs.Reading.{said_by_units}
+use Rattle.osi_spdu.specs.Groups.{behind_of, first_of, units_of}
+use Rattle.osi_judge.specs.Outlines.{outline_by}
+use Rattle.osi_judge.proofs.an_outline_is_taken_alike.{as_well, more_stay}
+use Rattle.osi_judge.proofs.outlines.outline_of.Goals as goal
+
+pub returns-in-Some-next : goal.returns-in-Some-next
+returns-in-Some-next c =
+    let group = c.args.group.now in
+    as_well c.copy.result c.args.tsdu.now (outline_by c.args.tsdu.now (Ok (said_by_units (units_of group))))
+    (more_stay c.args.tsdu.now (first_of group) _ _ (behind_of group) _ _
+    (sym c.behind-behind.ensures ∙ c.in-Some.ensures.steps) c.in-Some-next.ensures.steps)
+    c.copy.ensures

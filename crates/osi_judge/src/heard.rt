@@ -1,0 +1,142 @@
+//! The TSDUs of the other side of a connection, in order, without their user data.
+
+ghost use Rattle.std.specs.Prelude.{◌≡◌, ◌<◌, ◌≤◌, ◌+◌, ◌++◌, ◌∷◌, ◌-◌, ◌≢◌, [], true, MatchBool, OnOk, OnErr, get_or, length, take};
+ghost use Rattle.osi_judge.specs.Keeping.{is_same, once};
+ghost use Rattle.osi_judge.specs.Runs.{AreFrom, HasPlace, last_from, last_in};
+
+use osi_message::Octets;
+use std::alloc::{AllocError, Global};
+use std::marker::Model;
+
+/// Equal TSDUs in a row.
+#[derive(Drop)]
+struct Run {
+    tsdu: Octets,
+    /// The place of the first of them.
+    from: usize,
+}
+
+/// TSDUs in order. Equal ones in a row are kept once.
+#[derive(Drop)]
+pub(crate) struct Heard {
+    runs: Vec<Run>,
+    count: usize,
+}
+
+impl Model for Heard {
+    ghost use Rattle.std.specs.Prelude.{ℕ, List};
+
+    ghost Value = { List (List ℕ) };
+
+    ghost use Rattle.osi_judge.specs.Runs.{spread, AreApart, AreFrom};
+
+    ghost view = { λ h. spread h.runs.items h.count };
+
+    ghost invariant = { λ h. AreFrom 0 h.runs.items h.count × AreApart h.runs.items };
+}
+
+/// The run that has a place, found by bisection.
+fn run_at(runs: &[Run], count: usize, place: usize) -> usize
+    requires runs { AreFrom 0 runs.now count }
+    requires there { place < count }
+    ensures { HasPlace runs.now count place result }
+{
+    let mut low = 0;
+    let mut high = runs.len();
+    'halves: while high - low > 1 {
+        let middle = low + (high - low) / 2;
+        if runs[middle].from <= place {
+            low = middle;
+        } else {
+            high = middle;
+        }
+    }
+    low
+}
+
+/// Whether the last run is of this TSDU.
+fn ends_with(runs: &[Run], tsdu: &[u8]) -> bool
+    ensures some { result ≡ true → 0 < length runs.now }
+    ensures same { 0 < length runs.now → result ≡ is_same (last_in runs.now) tsdu.now }
+{
+    if runs.is_empty() {
+        return false;
+    }
+    runs[runs.len() - 1].tsdu.as_slice() == tsdu
+}
+
+/// Whether the last run begins at this place.
+fn last_begins_at(runs: &[Run], place: usize) -> bool
+    requires { 0 < length runs.now }
+    ensures { MatchBool result (last_from runs.now ≡ place) (last_from runs.now ≢ place) }
+{
+    runs[runs.len() - 1].from == place
+}
+
+impl Heard {
+    /// No TSDU.
+    pub(crate) fn new(alloc: Global) -> Heard
+        ensures { result ≡ [] }
+    {
+        Heard {
+            runs: Vec::new(alloc),
+            count: 0,
+        }
+    }
+
+    /// How many TSDUs there are.
+    pub(crate) fn len(&self) -> usize
+        ensures { result ≡ length self.now }
+    {
+        self.count
+    }
+
+    /// How many of them are kept: of equal ones in a row only one.
+    pub(crate) fn kept(&self) -> usize
+        ensures { result ≡ length (once self.now) }
+    {
+        self.runs.len()
+    }
+
+    /// The TSDU at this place, counted from 0.
+    pub(crate) fn at(&self, place: usize) -> &[u8]
+        requires { place < length self.now }
+        ensures { result.now ≡ get_or self.now place [] }
+    {
+        let runs = self.runs.as_slice();
+        let at = run_at(runs, self.count, place);
+        runs[at].tsdu.as_slice()
+    }
+
+    /// One more TSDU. `Err` changes nothing.
+    pub(crate) fn push(&mut self, tsdu: Octets) -> Result<(), AllocError>
+        ensures ok { OnOk result (self.new ≡ self.old ++ tsdu ∷ []) }
+        ensures err { OnErr result (self.new ≡ self.old) }
+    {
+        let from = self.count;
+        if from == usize::MAX {
+            return Err(AllocError);
+        }
+        if ends_with(&self.runs, tsdu.as_slice()) {
+            self.count = from + 1;
+            return Ok(());
+        }
+        self.runs.push(Run { tsdu, from })?;
+        self.count = from + 1;
+        Ok(())
+    }
+
+    /// Takes the last TSDU back.
+    pub(crate) fn take_back(&mut self)
+        requires { 0 < length self.old }
+        ensures { self.new ≡ take (length self.old - 1) self.old }
+    {
+        let count = self.count - 1;
+        if !last_begins_at(&self.runs, count) {
+            self.count = count;
+            return;
+        }
+        self.runs.pop();
+        self.count = count;
+    }
+}
