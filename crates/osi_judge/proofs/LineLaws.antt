@@ -14,7 +14,7 @@ use Rattle.osi_judge.specs.declared.progress.Progress.{Progress}
 use Rattle.osi_judge.specs.declared.progress.Progress.TheVariants.{Opening, Asking, Between, Within, Refused, Stopped}
 use Rattle.osi_judge.specs.Judging.{Watched}
 use Rattle.osi_judge.specs.Transport.{Handshake, first_unit, shaken, Move, unit_step, step_of, Stage, opening, asking, between, within}
-use Rattle.osi_judge.specs.Transport.{refused, moved, stage_behind, Sent, brought, sent_by, noted, hasty_behind, is_open}
+use Rattle.osi_judge.specs.Transport.{refused, moved, stage_behind, Sent, brought, sent_by, noted, hasty_behind}
 use Rattle.osi_judge.specs.Feeding.{stage_in, Lined, Tapped, since_at, named, named_behind, last_behind, hears, Passes, TakesUnit}
 use Rattle.osi_judge.specs.Feeding.{Settles, whole, since_of, met_of, IsWithin, with_octets, Feeds, looked_at}
 use Rattle.osi_judge.specs.Outlines.{outline}

@@ -15,10 +15,12 @@ use Rattle.osi_judge.specs.Breaking.{Leads, BreaksIn, here, last, later, BreaksA
 use Rattle.osi_judge.specs.Explaining.{Told, Remark, remarks, Explains, IsExplained}
 use Rattle.osi_judge.specs.Judging.{AreAll}
 use Rattle.osi_judge.specs.Members.{SomeExplains, is_empty}
-use Rattle.osi_judge.specs.Nearest.{Unsaid, a_unit, unread, count_at, quiet_by, next_of, becomes, reached, far, tried, nearest, break_by, break_of}
+use Rattle.osi_judge.specs.Nearest.{Unsaid, a_unit, unread, count_at, quiet_by, next_of, becomes, reached, last_in, far, tried, nearest, break_by, break_of}
+use Rattle.osi_judge.specs.declared.standings.Stands.{Stands}
+use Rattle.osi_judge.specs.Onward.{StandsBehind}
 use Rattle.osi_judge.specs.Outlines.{AreAlike, outlines}
 use Rattle.osi_judge.specs.Walking.{the_remark, Ever}
-use Rattle.osi_judge.proofs.alike_tsdus_explain_the_same.{Alike, back, explains_as, outlines_alike, extends_as}
+use Rattle.osi_judge.proofs.alike_tsdus_explain_the_same.{Alike, back, explains_as, outlines_alike, extends_as, length_outlines, stands_of_tsdus}
 
 -- ---- the sessions that one becomes
 
@@ -54,10 +56,17 @@ break_as : (us vs : List (List ℕ)) → Alike us vs → (u : Unsaid) (before : 
     → break_of u us before members ≡ break_of u vs before members
 break_as us vs h u before members = ap (break_by u before) (nearest_as us vs h u before members)
 
+pub stands_of_outlines : (us : List (List ℕ)) (m : Member) (s : Stands) → StandsBehind (outlines us) m s → StandsBehind us m s
+stands_of_outlines us m s h =
+    let b = becomes_as (outlines us) us (outlines_alike us) (length (outlines us) - m.taken) (Some m) in
+    stands_of_tsdus us m s h (h.goes ∙ ap (last_in m) b
+    ∙ ap (λ (n : ℕ). last_in m (becomes us (n - m.taken) (Some m))) (length_outlines us))
+
 -- ---- what the sessions explain
 
 some_as : (us vs : List (List ℕ)) → Alike us vs → (members : List Member) (ms : List Remark) → SomeExplains us members ms
     → SomeExplains vs members ms
+some_as us vs h [] ms k = elim k [ ]
 some_as us vs h (m ∷ members) ms (inl k) = inl (explains_as us vs h ms m.taken m.standing k)
 some_as us vs h (m ∷ members) ms (inr k) = inr (some_as us vs h members ms k)
 

@@ -23,6 +23,7 @@ use Rattle.osi_judge.specs.Explaining.{Explains, Remark, Told, IsBlamed, IsExpla
 use Rattle.osi_judge.specs.Judging.{IsAstray, IsFound, IsKept}
 use Rattle.osi_judge.specs.Members.{Extends}
 use Rattle.osi_judge.specs.Onward.{Comes, IsAtEnd, OwesTo, Quietly, StandsBehind, StopsBy, goes, standing_of, stays}
+use Rattle.osi_judge.specs.Nearest.{goes_to}
 use Rattle.osi_judge.specs.Outlines.{AreAlike, bare, no_data, outline, outline_as, outline_behind, outline_by, outlines}
 use Rattle.osi_judge.specs.Profiles.{in_first, is_outside, accepted_in, offered_in, selects_outside}
 use Rattle.osi_judge.specs.Walking.{Ever}
@@ -223,8 +224,10 @@ ends_as us m owes (inr k) =
           (outlines_alike us m.taken) k.1,
     )
 
-pub stands_of_tsdus : (us : List (List ℕ)) (m : Member) (s : Stands) → StandsBehind (outlines us) m s → StandsBehind us m s
-stands_of_tsdus us m s h = record {
+pub stands_of_tsdus : (us : List (List ℕ)) (m : Member) (s : Stands) → StandsBehind (outlines us) m s → standing_of s ≡ goes_to us m
+    → StandsBehind us m s
+stands_of_tsdus us m s h g = record {
   comes = comes_as (outlines us) us (outlines_alike us) m (standing_of s) h.comes;
+  goes = g;
   ends = ends_as us (standing_of s) s.owes h.ends;
 }

@@ -36,8 +36,8 @@ use Rattle.osi_judge.specs.Following.{Follows, Judged, half_of, Taps, FirstIs}
 use Rattle.osi_judge.proofs.JudgeLaws.{cut_as, packets_of, is_sent, is_read, is_given, is_stopped, is_found, is_placed}
 use Rattle.osi_judge.proofs.FirstLaws.{first_told}
 use Rattle.osi_judge.proofs.what_is_told_beside_is_of_the_capture.{count_kept, count_told, opening_given}
-use Rattle.osi_judge.proofs.a_rule_of_outlines_is_one_of_tsdus.{all_of_tsdus, explained_of_outlines, rule_of_tsdus}
-use Rattle.osi_judge.proofs.alike_tsdus_explain_the_same.{said_of_tsdus, stands_of_tsdus}
+use Rattle.osi_judge.proofs.a_rule_of_outlines_is_one_of_tsdus.{all_of_tsdus, explained_of_outlines, rule_of_tsdus, stands_of_outlines}
+use Rattle.osi_judge.proofs.alike_tsdus_explain_the_same.{said_of_tsdus}
 
 -- ---- a side that kept the protocol
 
@@ -94,7 +94,7 @@ standing_as d c t u us bs mine others f g e s k =
           (said_of_tsdus (heard others) t.side.before m.taken m.standing (remarks said) t.side.begin
           (subst (λ (x : List (List ℕ)). Ever x t.side.before
           (λ us later. Explains us later m.taken m.standing → Explains us (remarks said ++ later) 0 t.side.begin)) f.heard h.has_said));
-      behind = stands_of_tsdus (heard others) m s (subst (λ (x : List (List ℕ)). StandsBehind x m s) f.heard h.behind);
+      behind = stands_of_outlines (heard others) m s (subst (λ (x : List (List ℕ)). StandsBehind x m s) f.heard h.behind);
     }
 
 pub is_standing : (d : Direction) (c : Capture) (j : Judged) → Taps j c → (half_of d j).side.finding ≡ Kept → (s : Stands)

@@ -23,7 +23,7 @@ returns-then-opens_outside-clause-watches c = λ told k.
     let new = c.in_ok-members.members.items in
     let some : is_empty new ≡ false = ap is_empty (sym c.as_slice.ensures.value) ∙ sym c.none_is_left.ensures ∙ c.if-none_is_left.false in
     leaves_as w (watched c.leave.new.self) told x new c.opens_outside.result c.requires.order
-    (gives_as w x new c.deref.result.now c.deref-2.result.now c.deref.ensures.value c.deref-2.ensures.value c.in_ok-members.ensures) some
+    (gives_as w x new w.heard c.deref.result.now refl c.deref.ensures.value c.in_ok-members.ensures) some
     c.leave.ensures c.requires.passed (c.opens_outside.ensures.first, c.opens_outside.ensures.later) c.if-opens_outside.true k
 
 pub returns-then-is_crowd-clause-watches : goal.returns-then-is_crowd-clause-watches
