@@ -12,3 +12,4 @@ pub mod Running
 pub mod Feeding
 pub mod Onward
 pub mod Following
+pub mod Between

@@ -1,13 +1,14 @@
 //! Laws of captures. Each function does nothing: its contract is the law.
 
-ghost use Rattle.std.specs.Prelude.{◌≡◌, ◌≤◌, ◌++◌, ℕ, List, None, true, false, length};
+ghost use Rattle.std.specs.Prelude.{◌≡◌, ◌≤◌, ◌++◌, ◌⊎◌, ℕ, List, None, true, false, length};
 ghost use Rattle.osi_session.specs.declared.opening.Opening.{Opening};
 ghost use Rattle.osi_session.specs.Sessions.{awaits, opens, refusal_of};
-ghost use Rattle.osi_session.specs.Standing.{seen_called, seen_calling};
+ghost use Rattle.osi_session.specs.Standing.{Seen, seen_called, seen_calling};
 ghost use Rattle.osi_judge.specs.declared.directions.Direction.{Direction};
 ghost use Rattle.osi_judge.specs.declared.findings.Finding.{Finding};
+ghost use Rattle.osi_judge.specs.Between.{seen_to};
 ghost use Rattle.osi_judge.specs.Captures.{Capture, piece, stream};
-ghost use Rattle.osi_judge.specs.Explaining.{Told, IsExplained};
+ghost use Rattle.osi_judge.specs.Explaining.{Remark, Told, Explains, IsExplained};
 ghost use Rattle.osi_judge.specs.Following.{Judged, Taps, half_of, kept_of};
 ghost use Rattle.osi_judge.specs.Stops.{broke_session, is_judged, place_of};
 ghost use Rattle.osi_judge.specs.Running.{IsSentFrom, IsHonestIn};
@@ -65,3 +66,12 @@ pub fn an_honest_side_is_not_blamed()
     a_capture_has_one_reading();
     an_honest_session_is_explained();
 }
+
+/// Take three sessions that are in the same state, except that their V(A) differ, and that have taken the same TSDUs.
+/// Whatever the one sends later whose V(A) lies between those of the others, whatever it takes in between, one of the
+/// others may send too: the one with the lowest V(A), which may confirm all that the others may and accepts all
+/// confirmations that they accept, or the one with the highest, which also finds each fault that the others find.
+pub fn what_lies_between()
+    ensures { (us : List (List ℕ)) (later : List Remark) (taken : ℕ) (s : Seen) (low between high : ℕ) → low ≤ between → between ≤ high
+        → Explains us later taken (seen_to between s) → Explains us later taken (seen_to low s) ⊎ Explains us later taken (seen_to high s) }
+{}
