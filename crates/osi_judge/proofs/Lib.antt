@@ -32,3 +32,6 @@ pub mod what_is_taken_between
 pub mod what_is_said_between
 pub mod what_ends_alike
 pub mod what_lies_between
+pub mod restarts_are_alike
+pub mod a_restart_waits
+pub mod a_walk_to_a_restart_keeps_two

@@ -25,10 +25,23 @@ pub record Counted (s : State) (n : Option ℕ) (w : Word) : Type 0 where
   pub count : Count
   pub counts : Counts s n w count
 
-part_counted : (s : State) (n : Option ℕ) (place : Place) (o : List ℕ) (v : Verdict) → word_verdict (taker_with s (no_octets n)) (part place o) ≡ v → Counted s n (part place o)
-part_counted s n place o over e = record { count = count_by n (nothing s); counts = dropped_counts s n (no_octets n) place o _ refl (sym (ap told_of e)) refl }
-part_counted s n place o dropped e = record { count = count_by n (nothing s); counts = dropped_counts s n (no_octets n) place o _ refl (sym (ap told_of e)) refl }
-part_counted s n place o (faulty fault) e = record { count = count_by n (bad s fault); counts = bad_counts s n (no_octets n) place o fault _ refl (sym (ap told_of e)) refl }
+part_counted : (s : State) (n : Option ℕ) (place : Place) (o : List ℕ) (v : Verdict)
+    → word_verdict (taker_with s (no_octets n)) (part place o) ≡ v → Counted s n (part place o)
+part_counted s n place o over e = record {
+  count = count_by n (nothing s);
+  counts = dropped_counts s n (no_octets n) place o _ refl (sym
+      (ap told_of e)) refl;
+}
+part_counted s n place o dropped e = record {
+  count = count_by n (nothing s);
+  counts = dropped_counts s n (no_octets n) place o _ refl (sym
+      (ap told_of e)) refl;
+}
+part_counted s n place o (faulty fault) e = record {
+  count = count_by n (bad s fault);
+  counts = bad_counts s n (no_octets n) place o fault
+      _ refl (sym (ap told_of e)) refl;
+}
 part_counted s n place o fine e = by (nat_le (unwrap_or n 0 + length o) most_data) refl
   where
     within : (m : ℕ) → nat_le m most_data ≡ true → m ≤ most_data
@@ -40,7 +53,8 @@ part_counted s n place o fine e = by (nat_le (unwrap_or n 0 + length o) most_dat
     by : (b : Bool) → nat_le (unwrap_or n 0 + length o) most_data ≡ b → Counted s n (part place o)
     by true h = record {
       count = count_by (if is_last place then None else Some (unwrap_or n 0 + length o)) (nothing s);
-      counts = good_counts s n (no_octets n) place o (unwrap_or n 0 + length o) _ refl (sym (ap told_of e)) (within (unwrap_or n 0 + length o) h) refl refl;
+      counts = good_counts s n (no_octets n) place o (unwrap_or n 0 + length o) _ refl (sym (ap told_of e)) (within (unwrap_or n 0 + length
+          o) h) refl refl;
     }
     by false h = record {
       count = count_by n (bad s (DataTooLong (si (DT o))));
@@ -62,7 +76,8 @@ then_words ws h = if replies_abort h.reply then h else heard_then h (respond_wor
 
 pub by_reply : (t : Taker) (w : Word) (ws : Words) → respond_words t (w ∷ ws) ≡ then_words ws (respond_word t w)
 unfolding respond_words
-by_reply t w ws = ap (λ (b : Bool). if b then respond_word t w else heard_then (respond_word t w) (respond_words (respond_word t w).next ws)) (sym (word_told t w (respond_word t w) (replies_abort (respond_word t w).reply) refl refl))
+by_reply t w ws = ap (λ (b : Bool). if b then respond_word t w else heard_then (respond_word t w) (respond_words (respond_word t w).next
+    ws)) (sym (word_told t w (respond_word t w) (replies_abort (respond_word t w).reply) refl refl))
 
 pub record CountedAll (s : State) (n : Option ℕ) (ws : Words) : Type 0 where
   pub count : Count
@@ -71,7 +86,8 @@ pub record CountedAll (s : State) (n : Option ℕ) (ws : Words) : Type 0 where
 abbrev count_words : Count → Count → Count
 count_words c d = if replies_abort c.reply then c else count_then c d
 
-then_counted : (h : Hearing) (ws : Words) (c d : Count) → counted h ≡ c → counted (respond_words h.next ws) ≡ d → counted (then_words ws h) ≡ count_words c d
+then_counted : (h : Hearing) (ws : Words) (c d : Count) → counted h ≡ c → counted (respond_words h.next ws) ≡ d
+    → counted (then_words ws h) ≡ count_words c d
 then_counted h ws c d e f = by (replies_abort h.reply) (replies_abort c.reply) (ap (λ (x : Count). replies_abort x.reply) e)
   where
     by : (a b : Bool) → a ≡ b → counted (if a then h else heard_then h (respond_words h.next ws)) ≡ (if b then c else count_then c d)
@@ -91,13 +107,16 @@ words_counted s n (w ∷ ws) =
     let more = words_counted one.count.state one.count.joined ws in
     record {
       count = count_words one.count more.count;
-      counts = λ j e. ap counted (by_reply (taker_with s j) w ws) ∙ then_counted (respond_word (taker_with s j) w) ws one.count more.count (one.counts j e)
+      counts = λ j e. ap counted (by_reply (taker_with s j) w ws) ∙ then_counted (respond_word (taker_with s j) w) ws one.count more.count
+          (one.counts j e)
           (next one.count more.count (respond_word (taker_with s j) w) more.counts (one.counts j e));
     }
   where
-    next : (c d : Count) (h : Hearing) → ((j : Option (List ℕ)) → option_map length j ≡ c.joined → counted (respond_words (taker_with c.state j) ws) ≡ d)
+    next : (c d : Count) (h : Hearing) → ((j : Option (List ℕ)) → option_map length j ≡ c.joined
+        → counted (respond_words (taker_with c.state j) ws) ≡ d)
         → counted h ≡ c → counted (respond_words h.next ws) ≡ d
-    next c d h k e = subst (λ (x : State). counted (respond_words (taker_with x h.next.joined) ws) ≡ d) (sym (ap (λ (x : Count). x.state) e)) (k h.next.joined (ap (λ (x : Count). x.joined) e))
+    next c d h k e = subst (λ (x : State). counted (respond_words (taker_with x h.next.joined) ws) ≡ d) (sym (ap (λ (x : Count). x.state)
+        e)) (k h.next.joined (ap (λ (x : Count). x.joined) e))
 
 -- ---- a TSDU
 

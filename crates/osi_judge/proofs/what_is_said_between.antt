@@ -36,7 +36,8 @@ all_pass : (ts : List Test) (a : Answer) → AllHold ts → first_error ts a ≡
 all_pass [] a h = refl
 all_pass (t ∷ ts) a h = rw h.0 (all_pass ts a h.1)
 
-may_leave : (s : State) (c : Call) → may_call s.phase c ≡ true → nat_le (length (octets_of c)) (most_of c) ≡ true → AllHold (needs s c) → calling s c ≡ Some (after s c)
+may_leave : (s : State) (c : Call) → may_call s.phase c ≡ true → nat_le (length (octets_of c)) (most_of c) ≡ true → AllHold (needs s c)
+    → calling s c ≡ Some (after s c)
 unfolding met
 may_leave s c p q h = let t = all_pass (needs s c) (Ok (record { next = after s c; sent = sends s c })) h in rw (p, q) (ap left_by t)
 
@@ -44,7 +45,8 @@ abbrev is_confirming : Call → Bool
 is_confirming (MinorConfirm n octets) = true
 is_confirming _ = false
 
-needs_at : (s : State) (c : Call) (n m : ℕ) → is_confirming c ≡ false → AllHold (needs (confirmed_to n s) c) → AllHold (needs (confirmed_to m s) c)
+needs_at : (s : State) (c : Call) (n m : ℕ) → is_confirming c ≡ false → AllHold (needs (confirmed_to n s) c)
+    → AllHold (needs (confirmed_to m s) c)
 needs_at s (MinorConfirm k o) n m e h = absurd (cc)
 needs_at s (Accept r i w z o) n m e h = h
 needs_at s (Data o) n m e h = h
@@ -101,7 +103,8 @@ pub record AnyGives (f : State → Option State) (s : State) (v : ℕ) (x : Stat
 abbrev id : ℕ → ℕ
 id n = n
 
-call_gives : (s : State) (c : Call) (v : ℕ) (x : State) → is_confirming c ≡ false → calling (confirmed_to v s) c ≡ Some x → AnyGives (λ y. calling y c) s v x
+call_gives : (s : State) (c : Call) (v : ℕ) (x : State) → is_confirming c ≡ false → calling (confirmed_to v s) c ≡ Some x
+    → AnyGives (λ y. calling y c) s v x
 call_gives s c v x e h =
     let l = call_leaves (confirmed_to v s) c x h in
     record {
@@ -112,11 +115,13 @@ call_gives s c v x e h =
       any = λ n. may_leave (confirmed_to n s) c l.phase l.short (needs_at s c v n e l.needed) ∙ ap Some (after_at s c n e);
     }
 
-where_gives : (b : Bool) (s : State) (c : Call) (v : ℕ) (x : State) → is_confirming c ≡ false → where_is b (calling (confirmed_to v s) c) ≡ Some x → AnyGives (λ y. where_is b (calling y c)) s v x
+where_gives : (b : Bool) (s : State) (c : Call) (v : ℕ) (x : State) → is_confirming c ≡ false
+    → where_is b (calling (confirmed_to v s) c) ≡ Some x → AnyGives (λ y. where_is b (calling y c)) s v x
 where_gives true s c v x e h = call_gives s c v x e h
 where_gives false s c v x e h = absurd (cc)
 
-plain_gives : (b : Bool) (from : State) (to : ℕ → ℕ) (s : State) (v : ℕ) (x : State) → ((n m : ℕ) → n ≤ m → to n ≤ to m) → (if b then Some (confirmed_to (to v) from) else None) ≡ Some x
+plain_gives : (b : Bool) (from : State) (to : ℕ → ℕ) (s : State) (v : ℕ) (x : State) → ((n m : ℕ) → n ≤ m → to n ≤ to m)
+    → (if b then Some (confirmed_to (to v) from) else None) ≡ Some x
     → AnyGives (λ y. if b then Some (confirmed_to (to y.numbers.confirmed) from) else None) s v x
 plain_gives true from to s v x r h = record { from = from; to = to; rises = r; is = some_is _ _ h; any = λ n. refl }
   where
@@ -130,31 +135,53 @@ same_rises k n m h = omega arith
 id_rises : (n m : ℕ) → n ≤ m → n ≤ m
 id_rises n m h = h
 
-pub message_gives : (s : State) (m : Meaning) (v : ℕ) (x : State) → confirms (says m) ≡ false → said_message (confirmed_to v s) m ≡ Some x → AnyGives (λ y. said_message y m) s v x
+pub message_gives : (s : State) (m : Meaning) (v : ℕ) (x : State) → confirms (says m) ≡ false
+    → said_message (confirmed_to v s) m ≡ Some x → AnyGives (λ y. said_message y m) s v x
 message_gives s (MIA k o) v x e h = absurd (cc)
 message_gives s (CN y r i w f t z o) v x e h =
     let g = plain_gives (is_wait_transport s.phase && (fits_user_data o && are_sizes z))
-        (record s { phase = Connecting; units = functional_units r; wishes = w; proposed = unwrap_or i 0; sizes = z }) id s v x id_rises h in
+    (record s { phase = Connecting; units = functional_units r; wishes = w; proposed = unwrap_or i 0; sizes = z }) id s v x id_rises h in
     record { from = g.from; to = g.to; rises = g.rises; is = g.is; any = g.any }
 message_gives s (AC y r i w z o) v x e h =
     let units = both_units s.units (functional_units r) in
     let base = agreed_base units i s.proposed in
-    let g = plain_gives (is_answering s.phase && (fits_user_data o && ((y && (has_data units && are_sizes z)) && answers_wishes units s.wishes w)))
-        (opened_with units (of_answerer units (stated units w)) base (smaller_sizes s.sizes z) s) (λ n. base) s v x (same_rises base) h in
+    let g = plain_gives (is_answering s.phase && (fits_user_data o && ((y && (has_data units && are_sizes z)) && answers_wishes units
+    s.wishes w)))
+    (opened_with units (of_answerer units (stated units w)) base (smaller_sizes s.sizes z) s) (λ n. base) s v x (same_rises base) h in
     record { from = g.from; to = g.to; rises = g.rises; is = g.is; any = g.any }
 message_gives s (RF reason o) v x e h = call_gives s (Refuse (refusal_with o)) v x refl h
 message_gives s (DT o) v x e h = call_gives s (Data o) v x refl h
 message_gives s (GT t) v x e h = call_gives s (Give t) v x refl h
 message_gives s (PT t o) v x e h = call_gives s (Please t o) v x refl h
-message_gives s (MIP c k o) v x e h = let g = where_gives (k == s.numbers.next) s (Minor c o) v x refl h in record { from = g.from; to = g.to; rises = g.rises; is = g.is; any = g.any }
-message_gives s (MAP k o) v x e h = let g = where_gives (k == s.numbers.next) s (Major o) v x refl h in record { from = g.from; to = g.to; rises = g.rises; is = g.is; any = g.any }
-message_gives s (MAA k o) v x e h = let g = where_gives (k + 1 == s.numbers.next) s (MajorConfirm o) v x refl h in record { from = g.from; to = g.to; rises = g.rises; is = g.is; any = g.any }
+message_gives s (MIP c k o) v x e h = let g = where_gives (k == s.numbers.next) s (Minor c o) v x refl h in record {
+  from = g.from;
+  to =
+      g.to;
+  rises = g.rises;
+  is = g.is;
+  any = g.any;
+}
+message_gives s (MAP k o) v x e h = let g = where_gives (k == s.numbers.next) s (Major o) v x refl h in record {
+  from = g.from;
+  to = g.to;
+  rises = g.rises;
+  is = g.is;
+  any = g.any;
+}
+message_gives s (MAA k o) v x e h = let g = where_gives (k + 1 == s.numbers.next) s (MajorConfirm o) v x refl h in record {
+  from = g.from;
+  to = g.to;
+  rises = g.rises;
+  is = g.is;
+  any = g.any;
+}
 message_gives s (RS t k w o) v x e h = where_gives (is_restart t) s (Restart k w o) v x refl h
 message_gives s (RA k w o) v x e h =
     let g = where_gives ((k == s.numbers.next) && answers_wishes s.units s.wishes w) s (RestartConfirm (stated s.units w) o) v x refl h in
     record { from = g.from; to = g.to; rises = g.rises; is = g.is; any = g.any }
 message_gives s (FN o) v x e h =
-    let g = plain_gives (is_ready s.phase && (fits_user_data o && each (has_right s))) (record s { phase = Releasing }) id s v x id_rises h in
+    let g = plain_gives (is_ready s.phase && (fits_user_data o && each (has_right s))) (record s { phase = Releasing }) id s v x id_rises h
+    in
     record { from = g.from; to = g.to; rises = g.rises; is = g.is; any = g.any }
 message_gives s (DN o) v x e h = call_gives s (ReleaseAccept o) v x refl h
 message_gives s (NF o) v x e h = call_gives s (ReleaseRefuse o) v x refl h
@@ -177,7 +204,8 @@ pub record SaysThree (s : Seen) (w : Word) (o a v c : ℕ) (next : Seen) : Type 
 abbrev pub SaysBetween : Seen → Word → (o a v c : ℕ) → Seen → Type 0
 SaysBetween s w o a v c next = SaysThree s w o a v c next ⊎ CanSay (seen_to a s) w o next
 
-pub can_say : (s : Seen) (w : Word) (o : ℕ) (next : Seen) → (not s.closed && is_in_size s.state o) ≡ true → said_within s w ≡ Some next → CanSay s w o next
+pub can_say : (s : Seen) (w : Word) (o : ℕ) (next : Seen) → (not s.closed && is_in_size s.state o) ≡ true → said_within s w ≡ Some next
+    → CanSay s w o next
 unfolding said
 can_say s w o next e h = rw e h
 
@@ -192,12 +220,14 @@ pub record AnySays (s : Seen) (w : Word) (v : ℕ) (next : Seen) : Type 0 where
 some_seen : (y z : Seen) → Some y ≡ Some z → z ≡ y
 some_seen y z h = cc
 
-part_says : (b : Bool) (from s : Seen) (w : Word) (v : ℕ) (next : Seen) → ((n : ℕ) → said_within (seen_to n s) w ≡ (if b then Some (seen_to n from) else None))
+part_says : (b : Bool) (from s : Seen) (w : Word) (v : ℕ) (next : Seen) → ((n : ℕ)
+    → said_within (seen_to n s) w ≡ (if b then Some (seen_to n from) else None))
     → said_within (seen_to v s) w ≡ Some next → AnySays s w v next
 part_says true from s w v next k h = record { from = from; to = id; rises = id_rises; is = some_seen _ _ (sym (k v) ∙ h); any = k }
 part_says false from s w v next k h = let e = sym (k v) ∙ h in absurd (cc)
 
-within_says : (e b : Bool) (s : Seen) (m : Meaning) (v : ℕ) (next : Seen) → confirms (says m) ≡ false → has_no_effect m ≡ e → (is_none s.sent || not (begins_anew m)) ≡ b
+within_says : (e b : Bool) (s : Seen) (m : Meaning) (v : ℕ) (next : Seen) → confirms (says m) ≡ false → has_no_effect m ≡ e
+    → (is_none s.sent || not (begins_anew m)) ≡ b
     → said_within (seen_to v s) (says m) ≡ Some next → AnySays s (says m) v next
 within_says true b s m v next c p q h = record {
   from = s;
@@ -231,11 +261,13 @@ any_says : (s : Seen) (w : Word) (v : ℕ) (next : Seen) → confirms w ≡ fals
 any_says s (says m) v next c h = within_says (has_no_effect m) (is_none s.sent || not (begins_anew m)) s m v next c refl refl h
 any_says s (part place octets) v next c h =
     part_says (not (limit_of s.state == 0) && (stands_in_place s.sent place && may_send s.state (unwrap_or s.sent 0 + length octets)))
-    (record s { sent = if is_last place then None else Some (unwrap_or s.sent 0 + length octets) }) s (part place octets) v next (λ n. refl) h
+    (record s { sent = if is_last place then None else Some (unwrap_or s.sent 0 + length octets) }) s (part place octets) v next (λ n.
+    refl) h
 
 -- ---- a confirmation of minor points
 
-mia_needs : (s : State) (k : ℕ) (o : List ℕ) (a v : ℕ) → a ≤ v → AllHold (needs (confirmed_to v s) (MinorConfirm k o)) → AllHold (needs (confirmed_to a s) (MinorConfirm k o))
+mia_needs : (s : State) (k : ℕ) (o : List ℕ) (a v : ℕ) → a ≤ v → AllHold (needs (confirmed_to v s) (MinorConfirm k o))
+    → AllHold (needs (confirmed_to a s) (MinorConfirm k o))
 mia_needs s k o a v l h =
     let p = and_parts s.numbers.answers (nat_le v k && nat_lt k s.numbers.next) h.1.0 in
     let q = and_parts (nat_le v k) (nat_lt k s.numbers.next) p.1 in
@@ -243,22 +275,26 @@ mia_needs s k o a v l h =
     let t = le-leb a k (omega arith) in
     (h.0, (rw (p.0, t, q.1) refl, tt))
 
-mia_says : (s : Seen) (k : ℕ) (o : List ℕ) (a v : ℕ) (next : Seen) → a ≤ v → said_within (seen_to v s) (says (MIA k o)) ≡ Some next → said_within (seen_to a s) (says (MIA k o)) ≡ Some next
+mia_says : (s : Seen) (k : ℕ) (o : List ℕ) (a v : ℕ) (next : Seen) → a ≤ v → said_within (seen_to v s) (says (MIA k o)) ≡ Some next
+    → said_within (seen_to a s) (says (MIA k o)) ≡ Some next
 unfolding minor_confirmed
 mia_says s k o a v next l h = by (is_none s.sent || true) h
   where
-    by : (b : Bool) → (if b then option_map (goes (seen_to v s)) (calling (confirmed_to v s.state) (MinorConfirm k o)) else None) ≡ Some next
+    by : (b : Bool) → (if b then option_map (goes (seen_to v s)) (calling (confirmed_to v s.state) (MinorConfirm k o)) else None) ≡ Some
+        next
         → (if b then option_map (goes (seen_to a s)) (calling (confirmed_to a s.state) (MinorConfirm k o)) else None) ≡ Some next
     by true e =
         let m = mapped (goes (seen_to v s)) (calling (confirmed_to v s.state) (MinorConfirm k o)) next e in
         let c = call_leaves (confirmed_to v s.state) (MinorConfirm k o) m.0 m.1 in
-        ap (option_map (goes (seen_to a s))) (may_leave (confirmed_to a s.state) (MinorConfirm k o) c.phase c.short (mia_needs s.state k o a v l c.needed))
+        ap (option_map (goes (seen_to a s))) (may_leave (confirmed_to a s.state) (MinorConfirm k o) c.phase c.short (mia_needs s.state k o
+        a v l c.needed))
         ∙ ap Some (sym (m.2 ∙ ap (goes (seen_to v s)) c.next))
     by false e = absurd (cc)
 
 -- ---- of three
 
-three_say : (s : Seen) (w : Word) (o a v c : ℕ) (next : Seen) → a ≤ v → v ≤ c → (not s.closed && is_in_size s.state o) ≡ true → AnySays s w v next → SaysThree s w o a v c next
+three_say : (s : Seen) (w : Word) (o a v c : ℕ) (next : Seen) → a ≤ v → v ≤ c → (not s.closed && is_in_size s.state o) ≡ true
+    → AnySays s w v next → SaysThree s w o a v c next
 three_say s w o a v c next l m e g = record {
   from = g.from;
   low = g.to a;
@@ -271,7 +307,8 @@ three_say s w o a v c next l m e g = record {
   three = can_say (seen_to c s) w o (seen_to (g.to c) g.from) e (g.any c);
 }
 
-pub says_between : (s : Seen) (w : Word) (o a v c : ℕ) (next : Seen) → a ≤ v → v ≤ c → CanSay (seen_to v s) w o next → SaysBetween s w o a v c next
+pub says_between : (s : Seen) (w : Word) (o a v c : ℕ) (next : Seen) → a ≤ v → v ≤ c → CanSay (seen_to v s) w o next
+    → SaysBetween s w o a v c next
 says_between s (says (MIA k d)) o a v c next l m h =
     let p = within (seen_to v s) next (says (MIA k d)) o h in
     inr (can_say (seen_to a s) (says (MIA k d)) o next p.0 (mia_says s k d a v next l p.1))

@@ -40,7 +40,8 @@ abbrev pub confirms : Word → Bool
 confirms (says (MIA n octets)) = true
 confirms _ = false
 
-verdict_alike : (s : State) (j : Option (List ℕ)) (w : Word) (n m : ℕ) → confirms w ≡ false → word_verdict (taker_with (confirmed_to n s) j) w ≡ word_verdict (taker_with (confirmed_to m s) j) w
+verdict_alike : (s : State) (j : Option (List ℕ)) (w : Word) (n m : ℕ) → confirms w ≡ false
+    → word_verdict (taker_with (confirmed_to n s) j) w ≡ word_verdict (taker_with (confirmed_to m s) j) w
 verdict_alike s j (says (MIA k o)) n m e = absurd (cc)
 verdict_alike s j (says (AC v r i w z o)) n m e = refl
 verdict_alike s j (says (DT o)) n m e = refl
@@ -73,11 +74,13 @@ if_to : (b : Bool) (n : ℕ) (x y : State) → (if b then confirmed_to n x else 
 if_to true n x y = refl
 if_to false n x y = refl
 
-if_low : (b : Bool) (n m : ℕ) (x y : State) → (if b then confirmed_to n x else confirmed_to m y) ≡ confirmed_to (if b then n else m) (if b then x else y)
+if_low : (b : Bool) (n m : ℕ) (x y : State) → (if b then confirmed_to n x else confirmed_to m y) ≡ confirmed_to (if b then n else m) (if b
+    then x else y)
 if_low true n m x y = refl
 if_low false n m x y = refl
 
-becomes_at : (s : State) (u : Meaning) (n : ℕ) → confirms (says u) ≡ false → becomes (confirmed_to n s) u ≡ confirmed_to (rise_by s u n) (becomes s u)
+becomes_at : (s : State) (u : Meaning) (n : ℕ) → confirms (says u) ≡ false
+    → becomes (confirmed_to n s) u ≡ confirmed_to (rise_by s u n) (becomes s u)
 unfolding point_taken major_confirmed restarted_at stands
 becomes_at s (CN v r i w f t z o) n e = if_to (is_acceptable v r z) n _ _
 becomes_at s (RS t k w o) n e = if_low (stands s k) (lower k n) n _ _
@@ -104,7 +107,8 @@ fine_at s j (part First o) n e = refl
 fine_at s j (part Middle o) n e = refl
 fine_at s j (part Last o) n e = refl
 
-over_at : (s : State) (n : ℕ) (b : Bool) (u : Meaning) → (if b then in_aborting (confirmed_to n s) u else in_ended (confirmed_to n s) u) ≡ outcome_to n (if b then in_aborting s u else in_ended s u)
+over_at : (s : State) (n : ℕ) (b : Bool) (u : Meaning) → (if b then in_aborting (confirmed_to n s) u else in_ended (confirmed_to n s) u) ≡
+    outcome_to n (if b then in_aborting s u else in_ended s u)
 over_at s n true (AB b o) = refl
 over_at s n true AA = refl
 over_at s n true _ = refl
@@ -200,11 +204,17 @@ WordDoes x y z = Three x y z ⊎ (Stops x y ⊎ Stops z y)
 -- ---- a confirmation of minor points
 
 abbrev mia_verdict : State → Option (List ℕ) → ℕ → List ℕ → Bool → Verdict
-mia_verdict s j k o b = if is_over s.phase then over else if drops s (MIA k o) then dropped else if not (takes_minor_ack s.phase) then faulty (Unexpected (si (MIA k o)))
-    else by_fault (first_fault (si (MIA k o)) ((s.units.minor, NotSelected) ∷ (not s.numbers.answers && (b && (if is_major_asked s.phase then nat_lt (k + 1) s.numbers.next else nat_lt k s.numbers.next)), BadNumber)
-        ∷ (is_none j || not (begins_anew (MIA k o)), BadEnclosure) ∷ []))
+mia_verdict s j k o b = if is_over s.phase then over else if drops s (MIA k o) then dropped else if not (takes_minor_ack s.phase) then
+    faulty (Unexpected (si (MIA k o)))
+    else by_fault (first_fault (si (MIA k o)) ((s.units.minor, NotSelected) ∷ (
+      not s.numbers.answers && (b && (if is_major_asked s.phase
+          then nat_lt (k + 1) s.numbers.next else nat_lt k s.numbers.next)),
+      BadNumber,
+    )
+    ∷ (is_none j || not (begins_anew (MIA k o)), BadEnclosure) ∷ []))
 
-over_any : (o d x : Bool) (u : UnitFault) (f g : Option UnitFault) → (if o then over else if d then dropped else if not x then faulty u else by_fault f) ≡ over
+over_any : (o d x : Bool) (u : UnitFault) (f g : Option UnitFault) → (if o then over else if d then dropped else if not x then faulty u
+    else by_fault f) ≡ over
     → (if o then over else if d then dropped else if not x then faulty u else by_fault g) ≡ over
 over_any true d x u f g h = refl
 over_any false true x u f g h = absurd (cc)
@@ -212,7 +222,8 @@ over_any false false false u f g h = absurd (cc)
 over_any false false true u None g h = absurd (cc)
 over_any false false true u (Some e) g h = absurd (cc)
 
-dropped_any : (o d x : Bool) (u : UnitFault) (f g : Option UnitFault) → (if o then over else if d then dropped else if not x then faulty u else by_fault f) ≡ dropped
+dropped_any : (o d x : Bool) (u : UnitFault) (f g : Option UnitFault) → (if o then over else if d then dropped else if not x then faulty u
+    else by_fault f) ≡ dropped
     → (if o then over else if d then dropped else if not x then faulty u else by_fault g) ≡ dropped
 dropped_any true d x u f g h = absurd (cc)
 dropped_any false true x u f g h = refl
@@ -233,7 +244,8 @@ module _ (s : State) (j : Option (List ℕ)) (k : ℕ) (o : List ℕ) where
   mia_dropped : (n m : ℕ) → word_verdict (at n) mia ≡ dropped → word_verdict (at m) mia ≡ dropped
   mia_dropped n m h = dropped_any (is_over s.phase) (drops s (MIA k o)) (takes_minor_ack s.phase) (Unexpected (si (MIA k o))) _ _ h
 
-  mia_rests : (v : Verdict) (n : ℕ) → is_fine v ≡ false → word_verdict (at n) mia ≡ v → respond_word (at n) mia ≡ moved_to n (enacted_word (taker_with s j) mia v)
+  mia_rests : (v : Verdict) (n : ℕ) → is_fine v ≡ false → word_verdict (at n) mia ≡ v
+      → respond_word (at n) mia ≡ moved_to n (enacted_word (taker_with s j) mia v)
   mia_rests v n e h = word_at (at n) mia v h ∙ rest_at s j mia v n e
 
   mia_fine : (n m : ℕ) → enacted_word (at n) mia fine ≡ enacted_word (at m) mia fine
@@ -245,17 +257,21 @@ module _ (s : State) (j : Option (List ℕ)) (k : ℕ) (o : List ℕ) where
       → (Stops (respond_word (at x) mia) (respond_word (at v) mia)) ⊎ ((d ≡ over) ⊎ (d ≡ dropped))
   mia_one x v over p q = inr (inl refl)
   mia_one x v dropped p q = inr (inr refl)
-  mia_one x v (faulty fault) p q = inl (inr (record {
-    from = enacted_word (taker_with s j) mia (faulty fault);
-    first = x;
-    second = v;
-    one = mia_rests (faulty fault) x refl p;
-    other = mia_rests (faulty fault) v refl q;
-    over = refl;
-  }, refl))
+  mia_one x v (faulty fault) p q = inl (inr (
+    record {
+      from = enacted_word (taker_with s j) mia (faulty fault);
+      first = x;
+      second = v;
+      one = mia_rests (faulty fault) x refl p;
+      other = mia_rests (faulty fault) v refl q;
+      over = refl;
+    },
+    refl,
+  ))
   mia_one x v fine p q = inl (inl (word_at (at x) mia fine p ∙ mia_fine x v ∙ sym (word_at (at v) mia fine q)))
 
-  mia_three : (a v c : ℕ) (d : Verdict) → a ≤ v → v ≤ c → is_fine d ≡ false → word_verdict (at a) mia ≡ d → word_verdict (at v) mia ≡ d → word_verdict (at c) mia ≡ d
+  mia_three : (a v c : ℕ) (d : Verdict) → a ≤ v → v ≤ c → is_fine d ≡ false → word_verdict (at a) mia ≡ d → word_verdict (at v) mia ≡ d
+      → word_verdict (at c) mia ≡ d
       → Three (respond_word (at a) mia) (respond_word (at v) mia) (respond_word (at c) mia)
   mia_three a v c d l m e p q r = record {
     from = enacted_word (taker_with s j) mia d;
@@ -297,7 +313,8 @@ module _ (s : State) (j : Option (List ℕ)) (k : ℕ) (o : List ℕ) where
 -- ---- one word
 
 word_three : (s : State) (j : Option (List ℕ)) (w : Word) (a v c : ℕ) → confirms w ≡ false → a ≤ v → v ≤ c
-    → Three (respond_word (taker_with (confirmed_to a s) j) w) (respond_word (taker_with (confirmed_to v s) j) w) (respond_word (taker_with (confirmed_to c s) j) w)
+    → Three (respond_word (taker_with (confirmed_to a s) j) w) (respond_word (taker_with (confirmed_to v s) j) w) (respond_word (taker_with
+    (confirmed_to c s) j) w)
 word_three s j w a v c e l m =
     let d = word_verdict (taker_with (confirmed_to v s) j) w in
     record {
@@ -313,7 +330,8 @@ word_three s j w a v c e l m =
     }
 
 word_between : (s : State) (j : Option (List ℕ)) (w : Word) (a v c : ℕ) → a ≤ v → v ≤ c
-    → WordDoes (respond_word (taker_with (confirmed_to a s) j) w) (respond_word (taker_with (confirmed_to v s) j) w) (respond_word (taker_with (confirmed_to c s) j) w)
+    → WordDoes (respond_word (taker_with (confirmed_to a s) j) w) (respond_word (taker_with (confirmed_to v s) j) w) (respond_word
+    (taker_with (confirmed_to c s) j) w)
 word_between s j (says (MIA k o)) a v c l m = mia_between s j k o a v c l m
 word_between s j (says u) a v c l m = inl (word_three s j (says u) a v c refl l m)
 word_between s j (part place o) a v c l m = inl (word_three s j (part place o) a v c refl l m)
@@ -322,9 +340,11 @@ word_between s j (part place o) a v c l m = inl (word_three s j (part place o) a
 
 among_at : (x y z p q r : Hearing) → x ≡ p → y ≡ q → z ≡ r → AmongThree p q r → AmongThree x y z
 among_at x y z p q r d e f h =
-    subst (λ (k : Hearing). AmongThree k y z) (sym d) (subst (λ (k : Hearing). AmongThree p k z) (sym e) (subst (λ (k : Hearing). AmongThree p q k) (sym f) h))
+    subst (λ (k : Hearing). AmongThree k y z) (sym d) (subst (λ (k : Hearing). AmongThree p k z) (sym e) (subst (λ (k : Hearing).
+    AmongThree p q k) (sym f) h))
 
-one_lifts : (from : Hearing) (l m : ℕ) (x y : Hearing) → OneDoes x y → OneDoes (heard_then (moved_to l from) x) (heard_then (moved_to m from) y)
+one_lifts : (from : Hearing) (l m : ℕ) (x y : Hearing) → OneDoes x y → OneDoes (heard_then (moved_to l from) x) (heard_then (moved_to m
+    from) y)
 one_lifts from l m x y (inl e) = inl (ap (heard_then from) e)
 one_lifts from l m x y (inr b) = inr (record {
   from = heard_then from b.from;
@@ -335,7 +355,8 @@ one_lifts from l m x y (inr b) = inr (record {
   over = b.over;
 })
 
-lifts : (from : Hearing) (l m h : ℕ) (x y z : Hearing) → AmongThree x y z → AmongThree (heard_then (moved_to l from) x) (heard_then (moved_to m from) y) (heard_then (moved_to h from) z)
+lifts : (from : Hearing) (l m h : ℕ) (x y z : Hearing) → AmongThree x y z
+    → AmongThree (heard_then (moved_to l from) x) (heard_then (moved_to m from) y) (heard_then (moved_to h from) z)
 lifts from l m h x y z (inl t) = inl (record {
   from = heard_then from t.from;
   low = t.low;
@@ -352,7 +373,8 @@ lifts from l m h x y z (inr (inr o)) = inr (inr (one_lifts from h m z y o))
 
 abbrev WordsDo : Words → Type 0
 WordsDo ws = (s : State) (j : Option (List ℕ)) (a v c : ℕ) → a ≤ v → v ≤ c
-    → AmongThree (respond_words (taker_with (confirmed_to a s) j) ws) (respond_words (taker_with (confirmed_to v s) j) ws) (respond_words (taker_with (confirmed_to c s) j) ws)
+    → AmongThree (respond_words (taker_with (confirmed_to a s) j) ws) (respond_words (taker_with (confirmed_to v s) j) ws) (respond_words
+    (taker_with (confirmed_to c s) j) ws)
 
 stopped : (ws : Words) (h : Hearing) → replies_abort h.reply ≡ true → then_words ws h ≡ h
 stopped ws h e = ap (λ (b : Bool). if b then h else heard_then h (respond_words h.next ws)) e
@@ -374,12 +396,27 @@ then_three ws x y z k t =
     (ap (then_words ws) t.one) (ap (then_words ws) t.two) (ap (then_words ws) t.three) (by (replies_abort t.from.reply))
   where
     after : ℕ → Bool → Hearing
-    after n b = if b then moved_to n t.from else heard_then (moved_to n t.from) (respond_words (taker_with (confirmed_to n t.from.next.state) t.from.next.joined) ws)
+    after n b = if b then moved_to n t.from else heard_then (moved_to n t.from) (respond_words (taker_with (confirmed_to n
+        t.from.next.state) t.from.next.joined) ws)
 
-    by : (b : Bool) → AmongThree (if b then moved_to t.low t.from else heard_then (moved_to t.low t.from) (respond_words (taker_with (confirmed_to t.low t.from.next.state) t.from.next.joined) ws))
-        (if b then moved_to t.mid t.from else heard_then (moved_to t.mid t.from) (respond_words (taker_with (confirmed_to t.mid t.from.next.state) t.from.next.joined) ws))
-        (if b then moved_to t.high t.from else heard_then (moved_to t.high t.from) (respond_words (taker_with (confirmed_to t.high t.from.next.state) t.from.next.joined) ws))
-    by true = inl (record { from = t.from; low = t.low; mid = t.mid; high = t.high; to_mid = t.to_mid; to_high = t.to_high; one = refl; two = refl; three = refl })
+    by : (b : Bool) → AmongThree (if b then moved_to t.low t.from else heard_then (moved_to t.low t.from) (respond_words (taker_with
+        (confirmed_to t.low t.from.next.state) t.from.next.joined) ws))
+        (if b then moved_to t.mid t.from else heard_then (moved_to t.mid t.from) (respond_words (taker_with (confirmed_to t.mid
+        t.from.next.state) t.from.next.joined) ws))
+        (if b then moved_to t.high t.from else heard_then (moved_to t.high t.from) (respond_words (taker_with (confirmed_to t.high
+        t.from.next.state) t.from.next.joined) ws))
+    by true = inl (record {
+      from = t.from;
+      low = t.low;
+      mid = t.mid;
+      high = t.high;
+      to_mid = t.to_mid;
+      to_high = t.to_high;
+      one = refl;
+      two
+          = refl;
+      three = refl;
+    })
     by false = lifts t.from t.low t.mid t.high _ _ _ (k t.from.next.state t.from.next.joined t.low t.mid t.high t.to_mid t.to_high)
 
 then_among : (ws : Words) (x y z : Hearing) → WordsDo ws → WordDoes x y z → AmongThree (then_words ws x) (then_words ws y) (then_words ws z)
@@ -389,23 +426,38 @@ then_among ws x y z k (inr (inr o)) = inr (inr (one_then ws z y o))
 
 words_between : (ws : Words) → WordsDo ws
 unfolding respond_words
-words_between [] = λ s j a v c l m. inl (record { from = idle (taker_with s j); low = a; mid = v; high = c; to_mid = l; to_high = m; one = refl; two = refl; three = refl })
+words_between [] = λ s j a v c l m. inl (record {
+  from = idle (taker_with s j);
+  low = a;
+  mid = v;
+  high = c;
+  to_mid = l;
+  to_high = m;
+  one =
+      refl;
+  two = refl;
+  three = refl;
+})
 words_between (w ∷ ws) = λ s j a v c l m.
-    among_at _ _ _ _ _ _ (by_reply (taker_with (confirmed_to a s) j) w ws) (by_reply (taker_with (confirmed_to v s) j) w ws) (by_reply (taker_with (confirmed_to c s) j) w ws)
+    among_at _ _ _ _ _ _ (by_reply (taker_with (confirmed_to a s) j) w ws) (by_reply (taker_with (confirmed_to v s) j) w ws) (by_reply
+    (taker_with (confirmed_to c s) j) w ws)
     (then_among ws _ _ _ (words_between ws) (word_between s j w a v c l m))
 
 -- ---- a TSDU
 
-fault_at : (s : State) (j : Option (List ℕ)) (fault : SpduFault) (n : ℕ) → heard j (respond_fault (confirmed_to n s) fault) ≡ moved_to n (heard j (respond_fault s fault))
+fault_at : (s : State) (j : Option (List ℕ)) (fault : SpduFault) (n : ℕ)
+    → heard j (respond_fault (confirmed_to n s) fault) ≡ moved_to n (heard j (respond_fault s fault))
 unfolding respond_fault
 fault_at s j fault n = by (is_over s.phase)
   where
-    by : (b : Bool) → heard j (if b then nothing (confirmed_to n s) else bad (confirmed_to n s) (Spelling fault)) ≡ moved_to n (heard j (if b then nothing s else bad s (Spelling fault)))
+    by : (b : Bool) → heard j (if b then nothing (confirmed_to n s) else bad (confirmed_to n s) (Spelling fault)) ≡ moved_to n (heard j (if
+        b then nothing s else bad s (Spelling fault)))
     by true = refl
     by false = refl
 
 came_between : (s : State) (j : Option (List ℕ)) (came : Result Words SpduFault) (a v c : ℕ) → a ≤ v → v ≤ c
-    → AmongThree (respond_came (taker_with (confirmed_to a s) j) came) (respond_came (taker_with (confirmed_to v s) j) came) (respond_came (taker_with (confirmed_to c s) j) came)
+    → AmongThree (respond_came (taker_with (confirmed_to a s) j) came) (respond_came (taker_with (confirmed_to v s) j) came) (respond_came
+    (taker_with (confirmed_to c s) j) came)
 came_between s j (Ok words) a v c l m = words_between (acting_words words) s j a v c l m
 came_between s j (Err fault) a v c l m = inl (record {
   from = heard j (respond_fault s fault);
@@ -458,7 +510,8 @@ takes_as s tsdu n h e =
     let o = one_count (seen_to n s) tsdu in
     subst (λ (x : Count). Takes (seen_to n s) tsdu x) (sym (o.taken (so_many s.joined) (so_many_are s.joined)) ∙ ap counted e) o.taken
 
-one_takes : (s : Seen) (tsdu : List ℕ) (x v : ℕ) (d : Count) → d ≡ counted (came_to s tsdu v) → OneDoes (came_to s tsdu x) (came_to s tsdu v) → TakesOne s tsdu x d
+one_takes : (s : Seen) (tsdu : List ℕ) (x v : ℕ) (d : Count) → d ≡ counted (came_to s tsdu v)
+    → OneDoes (came_to s tsdu x) (came_to s tsdu v) → TakesOne s tsdu x d
 one_takes s tsdu x v d e (inl h) = inl (subst (λ (y : Count). Takes (seen_to x s) tsdu y) (sym e) (takes_as s tsdu x (came_to s tsdu v) h))
 one_takes s tsdu x v d e (inr b) = inr (record {
   from = counted b.from;
@@ -469,7 +522,8 @@ one_takes s tsdu x v d e (inr b) = inr (record {
   over = b.over;
 })
 
-pub takes_between : (s : Seen) (tsdu : List ℕ) (a v c : ℕ) (d : Count) → a ≤ v → v ≤ c → Takes (seen_to v s) tsdu d → TakesBetween s tsdu a v c d
+pub takes_between : (s : Seen) (tsdu : List ℕ) (a v c : ℕ) (d : Count) → a ≤ v → v ≤ c → Takes (seen_to v s) tsdu d
+    → TakesBetween s tsdu a v c d
 takes_between s tsdu a v c d l m h = by (came_between s.state (so_many s.joined) (said_at tsdu) a v c l m)
   where
     is : d ≡ counted (came_to s tsdu v)

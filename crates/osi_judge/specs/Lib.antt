@@ -13,3 +13,4 @@ pub mod Feeding
 pub mod Onward
 pub mod Following
 pub mod Between
+pub mod Waiting

@@ -38,6 +38,7 @@ pub mod laws;
 mod lines;
 mod members;
 mod profiles;
+mod restarts;
 mod rules;
 mod sides;
 mod standings;
