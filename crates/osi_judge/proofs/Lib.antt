@@ -37,3 +37,11 @@ pub mod a_cn_is_answered_within_its_units
 pub mod an_honest_run_stays_in_the_profile
 pub mod a_side_strays_at_one_place
 pub mod no_more_is_kept_than_passed
+pub mod a_tsdu_leaves_one_count
+pub mod what_is_taken_between
+pub mod what_is_said_between
+pub mod what_ends_alike
+pub mod what_lies_between
+pub mod restarts_are_alike
+pub mod a_restart_waits
+pub mod a_walk_to_a_restart_keeps_two

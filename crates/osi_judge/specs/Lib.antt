@@ -18,3 +18,5 @@ pub mod Running
 pub mod Feeding
 pub mod Onward
 pub mod Following
+pub mod Between
+pub mod Waiting

@@ -42,7 +42,7 @@ pub(crate) fn hears(
 }
 
 /// The member after it took the next TSDU and sent nothing, if it can.
-fn moves(alloc: Global, heard: &Heard, at: &Member) -> Result<Option<Member>, AllocError>
+pub(crate) fn moves(alloc: Global, heard: &Heard, at: &Member) -> Result<Option<Member>, AllocError>
     requires { at.now.taken < length heard.now }
     ensures { IfOk result (λ r. MovesTo heard.now at.now r) }
 {
@@ -57,7 +57,7 @@ fn moves(alloc: Global, heard: &Heard, at: &Member) -> Result<Option<Member>, Al
 }
 
 /// The member after it sent the unit now, if it may.
-fn says(unit: &Spdu, octets: usize, at: &Member) -> Option<Member>
+pub(crate) fn says(unit: &Spdu, octets: usize, at: &Member) -> Option<Member>
     ensures { SaysTo at.now (word (said_by unit.now)) octets result }
 {
     match at.standing.say(unit, octets) {

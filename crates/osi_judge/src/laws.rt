@@ -1,6 +1,6 @@
 //! Laws of captures. Each function does nothing: its contract is the law.
 
-ghost use Rattle.std.specs.Prelude.{◌≡◌, ◌≤◌, ◌+◌, ◌++◌, ◌∷◌, [], ℕ, List, None, Ok, Some, true, false, length, replicate};
+ghost use Rattle.std.specs.Prelude.{◌≡◌, ◌≤◌, ◌+◌, ◌++◌, ◌∷◌, ◌⊎◌, [], ℕ, List, None, Ok, Some, true, false, length, replicate};
 ghost use Rattle.osi_message.specs.declared.places.Place.{Place};
 ghost use Rattle.osi_message.specs.Meanings.{Meaning, DT};
 ghost use Rattle.osi_message.specs.Reading.{said_at};
@@ -9,14 +9,15 @@ ghost use Rattle.osi_message.specs.Written.{is_second, written};
 ghost use Rattle.osi_session.specs.declared.opening.Opening.{Opening};
 ghost use Rattle.osi_session.specs.Respond.{has_no_effect};
 ghost use Rattle.osi_session.specs.Sessions.{awaits, opens, refusal_of};
-ghost use Rattle.osi_session.specs.Standing.{seen_called, seen_calling};
+ghost use Rattle.osi_session.specs.Standing.{Seen, seen_called, seen_calling};
 ghost use Rattle.osi_judge.specs.declared.directions.Direction.{Direction};
 ghost use Rattle.osi_judge.specs.declared.findings.Finding.{Finding};
+ghost use Rattle.osi_judge.specs.Between.{seen_to};
 ghost use Rattle.osi_judge.specs.Captures.{Capture, piece, stream};
 ghost use Rattle.std.specs.List.{flat_map};
 ghost use Rattle.osi_judge.specs.declared.members.Member.{Member};
 ghost use Rattle.osi_judge.specs.declared.standings.Stands.{Stands};
-ghost use Rattle.osi_judge.specs.Explaining.{Told, IsExplained};
+ghost use Rattle.osi_judge.specs.Explaining.{Remark, Told, Explains, IsExplained};
 ghost use Rattle.osi_judge.specs.Foremost.{foremost, IsForemost};
 ghost use Rattle.osi_judge.specs.Members.{is_empty};
 ghost use Rattle.osi_judge.specs.Nearest.{Unsaid, reached, far, nearest};
@@ -106,3 +107,12 @@ pub fn an_honest_side_is_not_blamed()
     a_capture_has_one_reading();
     an_honest_session_is_explained();
 }
+
+/// Take three sessions that are in the same state, except that their V(A) differ, and that have taken the same TSDUs.
+/// Whatever the one sends later whose V(A) lies between those of the others, whatever it takes in between, one of the
+/// others may send too: the one with the lowest V(A), which may confirm all that the others may and accepts all
+/// confirmations that they accept, or the one with the highest, which also finds each fault that the others find.
+pub fn what_lies_between()
+    ensures { (us : List (List ℕ)) (later : List Remark) (taken : ℕ) (s : Seen) (low between high : ℕ) → low ≤ between → between ≤ high
+        → Explains us later taken (seen_to between s) → Explains us later taken (seen_to low s) ⊎ Explains us later taken (seen_to high s) }
+{}

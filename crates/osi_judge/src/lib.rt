@@ -44,6 +44,7 @@ mod members;
 mod outlines;
 mod profiles;
 mod progress;
+mod restarts;
 mod rules;
 mod sides;
 mod standings;

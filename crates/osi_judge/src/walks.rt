@@ -3,6 +3,7 @@
 
 ghost use Rattle.std.specs.Prelude.{◌≡◌, ◌<◌, ◌≤◌, ◌+◌, ◌↔◌, ◌⊎◌, ◌∷◌, IfOk, OnOk, IfSome, length, true, List, ℕ, Some};
 ghost use Rattle.osi_message.specs.Reading.{word};
+ghost use Rattle.osi_session.specs.Joining.{is_restart_word};
 ghost use Rattle.osi_session.specs.Steps.{reply_of};
 ghost use Rattle.osi_spdu.specs.Units.{said_by};
 ghost use Rattle.osi_judge.specs.Explaining.{Remark, Explains};
@@ -12,7 +13,8 @@ ghost use Rattle.osi_judge.specs.Walking.{the_remark, SaysIt, Answers, MayFollow
 use crate::first_places::{first_place, hears, tsdu_at};
 use crate::heard::Heard;
 use crate::members::{Member, add};
-use osi_session::{Reply, Standing, is_steady};
+use crate::restarts::{restart_units, walk_with};
+use osi_session::{Reply, Standing, is_restart_unit, is_steady};
 use osi_spdu::Spdu;
 use std::alloc::{AllocError, Global};
 
@@ -152,6 +154,29 @@ fn walk_through(
     Ok(())
 }
 
+/// The members after a restart, from one member.
+fn walk_to_restart(
+    alloc: Global,
+    heard: &Heard,
+    unit: &Spdu,
+    octets: usize,
+    before: usize,
+    member: Member,
+    next: &mut Vec<Member>,
+) -> Result<(), AllocError>
+    requires passed { before ≤ length heard.now }
+    requires restart { is_restart_word (word (said_by unit.now)) ≡ true }
+    ensures { OnOk result (Ever heard.now before (λ us later.
+        (SomeExplains us next.old.items later
+        ⊎ Explains us (the_remark (word (said_by unit.now)) octets before ∷ later) member.taken member.standing)
+        ↔ SomeExplains us next.new.items later)) }
+{
+    match restart_units(*unit, &member.standing) {
+        Some(asking) => walk_with(alloc, heard, &asking, octets, before, member, next),
+        None => walk_through(alloc, heard, unit, octets, before, member, next),
+    }
+}
+
 /// The members after a unit, from one member.
 pub(crate) fn walk(
     alloc: Global,
@@ -166,6 +191,9 @@ pub(crate) fn walk(
     ensures { OnOk result (Ever heard.now before (λ us later.
         (SomeExplains us next.old.items later ⊎ Explains us (the_remark (word (said_by unit.now)) octets before ∷ later) member.taken member.standing) ↔ SomeExplains us next.new.items later)) }
 {
+    if is_restart_unit(unit) {
+        return walk_to_restart(alloc, heard, unit, octets, before, member, next);
+    }
     if !is_steady(unit) {
         return walk_through(alloc, heard, unit, octets, before, member, next);
     }

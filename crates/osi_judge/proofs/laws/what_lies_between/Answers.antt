@@ -1,0 +1,7 @@
+use Rattle.std.proofs.Common.{refl}
+use Rattle.osi_judge.specs.Between.{seen_to}
+use Rattle.osi_judge.proofs.what_lies_between.{lies_between}
+use Rattle.osi_judge.proofs.laws.what_lies_between.Goals as goal
+
+pub returns : goal.returns
+returns c = λ us later j s low between high p q e. lies_between us later j (seen_to between s) e s low between high refl p q

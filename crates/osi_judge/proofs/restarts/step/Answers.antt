@@ -1,0 +1,25 @@
+use Rattle.std.proofs.Common.{◌∙◌, sym, subst, Option}
+use Rattle.osi_message.specs.Reading.{word}
+use Rattle.osi_spdu.specs.Units.{said_by}
+use Rattle.osi_judge.specs.declared.members.Member.{Member}
+use Rattle.osi_judge.specs.declared.restarts.Asker.{Asker}
+use Rattle.osi_judge.specs.Walking.{MovesTo}
+use Rattle.osi_judge.proofs.a_walk_to_a_restart_keeps_two.{moves_none, steps_on, steps_out}
+use Rattle.osi_judge.proofs.restarts.step.Goals as goal
+
+pub returns-in_default-clause-gives : goal.returns-in_default-clause-gives
+returns-in_default-clause-gives c = λ before b us later x h.
+    steps_out us c.args.heard.now later (word (said_by c.args.asking.now.restart)) c.args.octets before c.args.asker c.args.next.now.items
+    c.ask.new.next.items c.keep.new.next.items c.in_ok-asked.asked
+    c.requires.restart (x c.args.asker.at.taken c.requires.taken) (moves_none c.args.heard.now c.args.asker.at c.in_ok-at.field-0
+    c.in_default.not-Some c.in_ok-at.ensures)
+    (c.in_ok-asked.ensures.gives us later) (c.in_ok-keep.ensures us later)
+
+pub returns-clause-gives : goal.returns-clause-gives
+returns-clause-gives c = λ before b us later x h.
+    let to : Asker = record { at = c.in-Some.at; asked = c.in_ok-asked-2.asked } in
+    let here = x c.args.asker.at.taken c.requires.taken in
+    steps_on us c.args.heard.now later (word (said_by c.args.asking.now.restart)) c.args.octets before c.args.asker to
+    c.args.next.now.items c.ask.new.next.items c.wait.new.next.items c.in_ok-asked.asked
+    c.requires.restart b here (subst (λ (r : Option Member). MovesTo c.args.heard.now c.args.asker.at r) c.in-Some.is c.in_ok-at.ensures)
+    (c.in_ok-asked.ensures.gives us later) (c.in_ok-asked-2.ensures.gives us later before b h (c.tsdu_at-tsdu.ensures ∙ sym here))
