@@ -126,18 +126,18 @@ one_session one d c m r (Left i) n o s t b h k = refl
 one_session one d c m r TooMany n o s t b h k = refl
 
 one_connection : HasOneList
-    → (d : Direction) (c : Capture) (m : List Member) (dropped : Bool) (r : Option ℕ) (blamed refused answered : Bool)
+    → (d : Direction) (c : Capture) (m : List Member) (dropped : Bool) (r : Option ℕ) (blamed refused unanswered : Bool)
     (f : Finding) (n o : ℕ) (s t : Stands) (b : Break)
-    → StandsIn d c m (connection_by dropped r blamed refused answered (told_by f n o s b))
-    → StandsIn d c m (connection_by dropped r blamed refused answered (told_by f n o t b))
-    → connection_by dropped r blamed refused answered (told_by f n o s b) ≡ connection_by dropped r blamed refused answered
+    → StandsIn d c m (connection_by dropped r blamed refused unanswered (told_by f n o s b))
+    → StandsIn d c m (connection_by dropped r blamed refused unanswered (told_by f n o t b))
+    → connection_by dropped r blamed refused unanswered (told_by f n o s b) ≡ connection_by dropped r blamed refused unanswered
     (told_by f n o t b)
-one_connection one d c m true r blamed refused answered f n o s t b h k = refl
-one_connection one d c m false None blamed refused answered f n o s t b h k = refl
-one_connection one d c m false (Some r) true refused answered f n o s t b h k = one_session one d c m r f n o s t b h k
-one_connection one d c m false (Some r) false true answered f n o s t b h k = refl
-one_connection one d c m false (Some r) false false false f n o s t b h k = refl
-one_connection one d c m false (Some r) false false true f n o s t b h k = one_session one d c m r f n o s t b h k
+one_connection one d c m true r blamed refused unanswered f n o s t b h k = refl
+one_connection one d c m false None blamed refused unanswered f n o s t b h k = refl
+one_connection one d c m false (Some r) true refused unanswered f n o s t b h k = one_session one d c m r f n o s t b h k
+one_connection one d c m false (Some r) false true unanswered f n o s t b h k = refl
+one_connection one d c m false (Some r) false false true f n o s t b h k = refl
+one_connection one d c m false (Some r) false false false f n o s t b h k = one_session one d c m r f n o s t b h k
 
 -- ---- the side that is told as the first
 

@@ -22,4 +22,4 @@ returns-clause-gives c = λ before b us later x h.
     steps_on us c.args.heard.now later (word (said_by c.args.asking.now.restart)) c.args.octets before c.args.asker to
     c.args.next.now.items c.ask.new.next.items c.wait.new.next.items c.in_ok-asked.asked
     c.requires.restart b here (subst (λ (r : Option Member). MovesTo c.args.heard.now c.args.asker.at r) c.in-Some.is c.in_ok-at.ensures)
-    (c.in_ok-asked.ensures.gives us later) (c.in_ok-asked-2.ensures.gives us later before b h (c.tsdu_at-tsdu.ensures ∙ sym here))
+    (c.in_ok-asked.ensures.gives us later) (c.in_ok-asked-2.ensures.gives us later before b h (c.tsdu_at-tsdu.ensures.octets ∙ sym here))
