@@ -58,6 +58,7 @@ const FN_IN_PARTS: &[u8] = &[
 ];
 
 const NO_PACKET: &[u8] = &[0x04, 0x00, 0x00, 0x07];
+
 use Direction::{Left, Right};
 
 /// What passes, what is found of both sides, whose break passed first, and why the transport of left is not read any
