@@ -14,7 +14,8 @@ use Rattle.osi_judge.specs.declared.stops.Stop.TheVariants.{BadPacket, Refused, 
 use Rattle.osi_judge.specs.declared.stops.Stopped.{Stopped as StoppedAt}
 use Rattle.osi_judge.specs.Stops.{breaks, broke_session}
 use Rattle.osi_judge.specs.Captures.{Capture, other, stream, passed_before}
-use Rattle.osi_judge.specs.Transport.{Stage, opening, refused, stopped, met_before, reference_in, Sent, packets_length, last_packet, stage_from, hasty_from, ArePacketsOf, IsSent}
+use Rattle.osi_judge.specs.Transport.{Stage, opening, refused, stopped, met_before, reference_in, Sent, packets_length}
+use Rattle.osi_judge.specs.Transport.{last_packet, stage_from, hasty_from, ArePacketsOf, IsSent}
 use Rattle.osi_judge.specs.Explaining.{Told, remarks, Explains}
 use Rattle.osi_judge.specs.Walking.{Ever}
 use Rattle.osi_judge.specs.Onward.{StandsBehind}

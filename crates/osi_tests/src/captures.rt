@@ -167,6 +167,22 @@ const CAPTURES: &[Capture] = &[
         first: None,
         stopped: None,
     },
+    // a CN before the CC: a break of left, and right takes it
+    Capture {
+        pieces: &[(Left, CR), (Left, CN), (Right, CC), (Right, AC)],
+        left: KEPT,
+        right: KEPT,
+        first: Some(Left),
+        stopped: Some(Stop::UnexpectedUnit),
+    },
+    // data before the CC: a break of right
+    Capture {
+        pieces: &[(Left, CR), (Right, DT), (Right, CC)],
+        left: KEPT,
+        right: KEPT,
+        first: Some(Right),
+        stopped: None,
+    },
     // the middle of a connection
     Capture {
         pieces: &[(Left, GT), (Right, DT)],
@@ -283,8 +299,10 @@ fn is_kept(judge: &Judge, told: usize) -> Result<(), Fail> {
 }
 
 fn a_long_capture_goes_on(judge: &mut Judge, octets: &[u8]) -> Result<(), Fail> {
-    feed(judge, Left, CR_AND_CN)?;
-    feed(judge, Right, CC_AND_AC)?;
+    feed(judge, Left, CR)?;
+    feed(judge, Right, CC)?;
+    feed(judge, Left, CN)?;
+    feed(judge, Right, AC)?;
     feed_a_thousand(judge)?;
     feed_the_longest(judge, octets)?;
     is_kept(judge, 1002)
