@@ -26,7 +26,8 @@ use Rattle.osi_judge.specs.declared.stops.Stop.TheVariants as stop
 use Rattle.osi_dispute.specs.Names.{side_name, unjudged_text}
 use Rattle.osi_dispute.specs.Texts.{first_text, broke_first, left_first as left_first_line, stopped_first, told_first, connection_first}
 use Rattle.osi_dispute.specs.Texts.{first_line, unjudged_line, line_by, outcome_line}
-use Rattle.osi_dispute.specs.Facts.{Facts, AreFacts, is_broken, told_by, told_of, is_refused, is_unanswered, connection_with, connection_by, is_first}
+use Rattle.osi_dispute.specs.Facts.{Facts, AreFacts, is_broken, told_by, told_of, is_refused, is_unanswered}
+use Rattle.osi_dispute.specs.Facts.{connection_with, connection_by, is_first}
 use Rattle.osi_dispute.specs.Facts.{is_left, left_first, account_by, keeps, unjudged, kept_outcome, outcome_by, verdict_by, IsFirstOf}
 use Rattle.osi_dispute.specs.Facts.{IsToldBy, IsDetermined}
 

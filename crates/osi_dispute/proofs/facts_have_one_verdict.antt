@@ -55,7 +55,8 @@ one_stop : (d : Direction) (c : Capture) (r q : Option Stopped) → IsStoppedIn 
 one_stop d c r q h k =
     let same = one_cut (stream d c) h.units k.units h.ending k.ending h.cut k.cut in
     let beside = (one_cut (stream (other d) c) h.others k.others h.are_others.0 k.are_others.0 h.are_others.1 k.are_others.1).0 in
-    h.stops ∙ ap (λ (us : List (List ℕ)). stop_at d c us h.others h.ending) same.0 ∙ ap (λ (e : Ending). stop_at d c k.units h.others e) same.1
+    h.stops ∙ ap (λ (us : List (List ℕ)). stop_at d c us h.others h.ending) same.0
+    ∙ ap (λ (e : Ending). stop_at d c k.units h.others e) same.1
     ∙ ap (λ (us : List (List ℕ)). stop_at d c k.units us k.ending) beside ∙ sym k.stops
 
 one_count : HasOneList → (d : Direction) (c : Capture) (n m : ℕ) → IsCountIn d c n → IsCountIn d c m → n ≡ m

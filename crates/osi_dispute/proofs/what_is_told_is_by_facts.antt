@@ -26,7 +26,8 @@ use Rattle.osi_dispute.specs.declared.verdicts.Connection.TheVariants.{Silent, R
 use Rattle.osi_dispute.specs.declared.verdicts.Account.{Account}
 use Rattle.osi_dispute.specs.declared.verdicts.Outcome.{Outcome}
 use Rattle.osi_dispute.specs.declared.verdicts.Verdict.{Verdict}
-use Rattle.osi_dispute.specs.Facts.{Facts, AreFacts, told_by, told_of, is_refused, is_unanswered, connection_by, account_by, left_first, verdict_by}
+use Rattle.osi_dispute.specs.Facts.{Facts, AreFacts, told_by, told_of, is_refused, is_unanswered, connection_by}
+use Rattle.osi_dispute.specs.Facts.{account_by, left_first, verdict_by}
 use Rattle.osi_dispute.specs.Facts.{IsFirstOf, IsDetermined, StandsIn, facts_of, IsStandingOf, StandsBy, IsToldOf, Connects, Accounts}
 use Rattle.osi_dispute.specs.Facts.{outcome_in}
 use Rattle.osi_dispute.specs.Verdicts.{Knows}

@@ -2,7 +2,8 @@
 
 ghost use Rattle.std.specs.Prelude.{◌≡◌, ◌<◌, true, false, Some, IfOk};
 ghost use Rattle.osi_dispute.specs.Disputes.{Judged};
-ghost use Rattle.osi_dispute.specs.Facts.{is_refused, is_unanswered, is_first, is_left, other_left, unjudged, keeps, kept_outcome_of, outcome_in};
+ghost use Rattle.osi_dispute.specs.Facts.{is_refused, is_unanswered, is_first, is_left, other_left, unjudged, keeps};
+ghost use Rattle.osi_dispute.specs.Facts.{kept_outcome_of, outcome_in};
 ghost use Rattle.osi_dispute.specs.Facts.{IsToldOf, Connects, Accounts};
 ghost use Rattle.osi_judge.specs.Captures.{Capture};
 ghost use Rattle.osi_judge.specs.Feeding.{stopped_of};

@@ -14,7 +14,8 @@ use Rattle.osi_class.specs.Limits.{longest_tsdu}
 use Rattle.osi_class.specs.Tsdus.{Part, tsdus_after}
 use Rattle.osi_judge.specs.declared.directions.Direction.{Direction}
 use Rattle.osi_judge.specs.Tapping.{octets_of}
-use Rattle.osi_judge.specs.Transport.{Handshake, first_unit, Sent, Stage, added, begun, between, brought, ended, moved, sent_by, sent_from, stage_behind, stage_from, step_of, within, packet_length}
+use Rattle.osi_judge.specs.Transport.{Handshake, first_unit, Sent, Stage, added, begun, between, brought, ended, moved}
+use Rattle.osi_judge.specs.Transport.{sent_by, sent_from, stage_behind, stage_from, step_of, within, packet_length}
 use Rattle.osi_stack.specs.Messages.{AreShort}
 use Rattle.osi_honest.specs.Parts.{Carry, units_put}
 use Rattle.osi_honest.specs.Stretches.{Brings}
@@ -27,15 +28,18 @@ record StepsPart (d : Direction) (h : Handshake) (stage : Stage) (at : ℕ) (u :
   stage_is : stage_behind d h stage at u ≡ added stage at last octets
   sent_is : sent_by d h stage at u ≡ ended stage at u last octets
 
-steps_part : (d : Direction) (h : Handshake) (stage : Stage) (b : List ℕ) (at : ℕ) (u : List ℕ) (last : Bool) (octets : List ℕ) → IsReading stage b →
+steps_part : (d : Direction) (h : Handshake) (stage : Stage) (b : List ℕ) (at : ℕ) (u : List ℕ) (last : Bool) (octets : List ℕ)
+    → IsReading stage b →
     IsPart u last octets b → StepsPart d h stage at u last octets
 steps_part d h _ _ at u last octets between_two p = record {
   stage_is = ap (λ (x : Result (List Value) TpduFault). moved between at (step_of d between h (first_unit x))) p.is ∙ rw (p.fits) refl;
   sent_is = ap (λ (x : Result (List Value) TpduFault). brought between at u (step_of d between h (first_unit x))) p.is ∙ rw (p.fits) refl;
 }
 steps_part d h _ _ at u last octets (in_one first o) p = record {
-  stage_is = ap (λ (x : Result (List Value) TpduFault). moved (within first o) at (step_of d (within first o) h (first_unit x))) p.is ∙ rw (p.fits) refl;
-  sent_is = ap (λ (x : Result (List Value) TpduFault). brought (within first o) at u (step_of d (within first o) h (first_unit x))) p.is ∙ rw (p.fits) refl;
+  stage_is = ap (λ (x : Result (List Value) TpduFault). moved (within first o) at (step_of d (within first o) h (first_unit x))) p.is
+      ∙ rw (p.fits) refl;
+  sent_is = ap (λ (x : Result (List Value) TpduFault). brought (within first o) at u (step_of d (within first o) h (first_unit x))) p.is
+      ∙ rw (p.fits) refl;
 }
 
 begun_is : (stage : Stage) (b : List ℕ) → IsReading stage b → begun stage ≡ b

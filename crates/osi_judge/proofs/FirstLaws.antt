@@ -20,16 +20,19 @@ passes_beside : (sent : List Sent) (before : ℕ) (w w2 o o2 : Watched) → Pass
 passes_beside [] before w w2 o o2 h = ap (λ (x : Watched). x.finding) h.1
 passes_beside (t ∷ sent) before w w2 o o2 h = ap (λ (x : Watched). x.finding) h.1
 
-settles_beside : (d : Direction) (since : ℕ) (h : Handshake) (t new : Tapped) (o o2 : Watched) → Settles d since h t new o o2 → o2.finding ≡ o.finding
+settles_beside : (d : Direction) (since : ℕ) (h : Handshake) (t new : Tapped) (o o2 : Watched) → Settles d since h t new o o2
+    → o2.finding ≡ o.finding
 settles_beside d since h t new o o2 (goes_on r i j) = ap (λ (x : Watched). x.finding) j
 settles_beside d since h t new o o2 (faulty f r i j) = ap (λ (x : Watched). x.finding) j
 settles_beside d since h t new o o2 (whole unit n l p x) = passes_beside _ _ t.side new.side o o2 x.passes
 
-found_beside : (d : Direction) (octets : List ℕ) (now : Handshake) (t new : Tapped) (o o2 : Watched) → Feeds d octets now t new o o2 → o2.finding ≡ o.finding
+found_beside : (d : Direction) (octets : List ℕ) (now : Handshake) (t new : Tapped) (o o2 : Watched) → Feeds d octets now t new o o2
+    → o2.finding ≡ o.finding
 found_beside d octets now t new o o2 (ignored f n i j) = ap (λ (x : Watched). x.finding) j
 found_beside d octets now t new o o2 (looked_at n w h) = settles_beside d _ _ _ new o o2 h
 
-pub broken_beside : (d : Direction) (octets : List ℕ) (now : Handshake) (t new u : Tapped) (o2 : Watched) → Feeds d octets now t new u.side o2 → has_broken (record u { side = o2 }) ≡ has_broken u
+pub broken_beside : (d : Direction) (octets : List ℕ) (now : Handshake) (t new u : Tapped) (o2 : Watched)
+    → Feeds d octets now t new u.side o2 → has_broken (record u { side = o2 }) ≡ has_broken u
 broken_beside d octets now t new u o2 h = ap (λ (f : Finding). broke_session f || breaks (stopped_of u)) (found_beside d octets now t new u.side o2 h)
 
 -- ---- the first break

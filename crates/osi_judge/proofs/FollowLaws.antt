@@ -1,5 +1,7 @@
 -- What is known of both sides of a capture stays known as octets pass: for what a judge is fed.
-use Rattle.std.proofs.Common.{◌≡◌, ◌∙◌, refl, sym, ap, subst, ℕ, suc, zero, ◌+◌, ◌-◌, ◌<◌, ◌≤◌, ◌⊎◌, inl, inr, min, leb, true, false, List, [], ◌∷◌, ◌++◌, length, take, drop, Option, Some, None, option_map, arith}
+use Rattle.std.proofs.Common.{◌≡◌, ◌∙◌, refl, sym, ap, subst, ℕ, suc, zero, ◌+◌, ◌-◌, ◌<◌, ◌≤◌, ◌⊎◌, inl, inr, min}
+use Rattle.std.proofs.Common.{leb, true, false, List, [], ◌∷◌, ◌++◌, length, take, drop, Option, Some, None}
+use Rattle.std.proofs.Common.{option_map, arith}
 use Rattle.std.proofs.lemmas.List.{append-nil, length-append, map-append, length-take-le, take-append-drop}
 use Rattle.std.proofs.lemmas.Bool.Decides.{leb_tells}
 use Rattle.osi_tpkt.specs.Packet.{IsPacket, IsPartial, IsBadVersion, IsBadLength, IsFaultOf, stated_length}
@@ -19,11 +21,15 @@ use Rattle.osi_judge.specs.Transport.{Stage, opening, asking, between, within, r
 use Rattle.osi_judge.specs.Transport.{packets_length, sent_by, stage_from, sent_from, hasty_behind, hasty_from}
 use Rattle.osi_judge.specs.Outlines.{outline, outlines}
 use Rattle.osi_judge.specs.Tapping.{begin_of, had_passed, octets_of, heard, tell, told, IsPlace}
-use Rattle.osi_judge.specs.Feeding.{Tapped, since_at, named_behind, last_behind, with_count, Tells, hears, Passes, TakesPacket, Settles, goes_on, faulty, whole, since_in, since_of, met_in, met_of, IsWithin, with_octets, Feeds, ignored, looked_at}
+use Rattle.osi_judge.specs.Feeding.{Tapped, since_at, named_behind, last_behind, with_count, Tells, hears, Passes}
+use Rattle.osi_judge.specs.Feeding.{TakesPacket, Settles, goes_on, faulty, whole, since_in, since_of, met_in, met_of}
+use Rattle.osi_judge.specs.Feeding.{IsWithin, with_octets, Feeds, ignored, looked_at}
 use Rattle.osi_judge.specs.Following.{shown, IsRest, BeginBefore, EndBy, IsSince, Follows, Judged, Taps}
 use Rattle.osi_judge.proofs.CaptureLaws.{stream_fed, stream_beside}
 use Rattle.osi_judge.proofs.CountLaws.{stays_passed, not_yet_passed, all_had_passed, told_stays, told_beside, begin_later, end_later, begin_more, end_more}
-use Rattle.osi_judge.proofs.UnitLaws.{packets_on, packet_on, offset_from, packet_octets, offset_of_rest, stage_more, sent_more, shown_behind, heard_shown, since_shown, OneOrNone, sent_one, since_behind, hasty_more, hasty_shown}
+use Rattle.osi_judge.proofs.UnitLaws.{packets_on, packet_on, offset_from, packet_octets, offset_of_rest, stage_more}
+use Rattle.osi_judge.proofs.UnitLaws.{sent_more, shown_behind, heard_shown, since_shown, OneOrNone, sent_one}
+use Rattle.osi_judge.proofs.UnitLaws.{since_behind, hasty_more, hasty_shown}
 use Rattle.osi_judge.proofs.HandshakeLaws.{handshake_more, met_stays, met_not_yet, met_now, MeetAlike, stage_stays, sent_stays, hasty_stays}
 use Rattle.osi_judge.proofs.SideLaws as side
 use Rattle.osi_judge.proofs.what_is_told_beside_is_of_the_capture.{named_more, named_shown, offset_sum, place_behind, count_told}
@@ -158,7 +164,8 @@ stream_past Left c octets = stream_beside Right c octets
 stream_past Right c octets = stream_beside Left c octets
 
 -- octets of the other side are no TSDU for a side
-pub beside_follows : (d : Direction) (c : Capture) (octets : List ℕ) (t : Tapped) (us bs : List (List ℕ)) (mine others : List Sent) → Follows d c t us bs mine others
+pub beside_follows : (d : Direction) (c : Capture) (octets : List ℕ) (t : Tapped) (us bs : List (List ℕ)) (mine others : List Sent)
+    → Follows d c t us bs mine others
     → Follows d (c ++ piece (other d) octets) t us bs mine others
 beside_follows d c octets t us bs mine others f =
     let c2 = c ++ piece (other d) octets in
@@ -195,7 +202,8 @@ beside_follows d c octets t us bs mine others f =
     }
 
 -- nor is a packet of it that ends after all that had passed
-pub passing_follows : (d : Direction) (c : Capture) (t : Tapped) (us bs : List (List ℕ)) (mine others : List Sent) (u : List ℕ) → Follows d c t us bs mine others
+pub passing_follows : (d : Direction) (c : Capture) (t : Tapped) (us bs : List (List ℕ)) (mine others : List Sent) (u : List ℕ)
+    → Follows d c t us bs mine others
     → length (stream (other d) c) < packets_length bs + packet_length u → Follows d c t us (bs ++ u ∷ []) mine others
 passing_follows d c t us bs mine others u f l =
     let more = bs ++ u ∷ [] in
@@ -232,7 +240,8 @@ since_beside d c others u (within first octets) since l h = (h.0, h.1 ∙ sym (n
 since_beside d c others u (stopped stop at) since l h = tt
 
 -- one more TSDU, which ends after all that had passed, reaches it
-pub hearing_follows : (d : Direction) (c : Capture) (t : Tapped) (us bs : List (List ℕ)) (mine others : List Sent) (u : Sent) → Follows d c t us bs mine others → length (stream (other d) c) < u.behind
+pub hearing_follows : (d : Direction) (c : Capture) (t : Tapped) (us bs : List (List ℕ)) (mine others : List Sent) (u : Sent)
+    → Follows d c t us bs mine others → length (stream (other d) c) < u.behind
     → Follows d c (record t { side = hears t.side u.octets }) us bs mine (others ++ u ∷ [])
 hearing_follows d c t us bs mine others u f l = record {
   rest = f.rest;
@@ -357,7 +366,8 @@ grown d c mine others sent w new o new_o s at before u (inr (t, e, i)) p h l m g
     subst (λ (x : List Sent). Grown d c (mine ++ x) others new) (sym e) (grown_one d c mine others w new t (first_of s at) before i.first h l n q.0 g)
 
 -- what it leaves of the other side
-heard_none : (d : Direction) (c : Capture) (t : Tapped) (us bs : List (List ℕ)) (mine others : List Sent) (new : Watched) → new ≡ t.side → Follows d c t us bs mine others
+heard_none : (d : Direction) (c : Capture) (t : Tapped) (us bs : List (List ℕ)) (mine others : List Sent) (new : Watched) → new ≡ t.side
+    → Follows d c t us bs mine others
     → Follows d c (record t { side = new }) us bs mine (others ++ [])
 heard_none d c t us bs mine others new e f =
     subst (λ (x : List Sent). Follows d c (record t { side = new }) us bs mine x) (sym (append-nil others))
@@ -416,18 +426,21 @@ stood d c octets u t new o new_o us bs mine others f now e inside shake n packet
     let longer : length (stream d c) ≤ length (stream d c2) = omega arith in
     let behind : at + packet_length u ≡ length (stream d c2) = omega arith in
     let front : 0 < length (f.rest ++ octets) = omega arith in
-    let known_met : met_of now t ≡ h = met_known d c octets t us bs mine others f now inside shake n front ∙ ap (λ (x : ℕ). met_before d c2 bs x) here in
+    let known_met : met_of now t ≡ h = met_known d c octets t us bs mine others f now inside shake n front
+    ∙ ap (λ (x : ℕ). met_before d c2 bs x) here in
     let p : TakesPacket d u since h (with_octets t octets) new o new_o
     = subst (λ (x : Handshake). TakesPacket d u since x (with_octets t octets) new o new_o) known_met taken in
     let kept_at : t.line.at ≡ offset_of at = f.at ∙ ap offset_of here in
     let same_heard : heard (sent_by d h t.line.stage t.line.at u) ≡ heard (sent_by d h s at u)
-    = ap (λ (x : Stage). heard (sent_by d h x t.line.at u)) kept_stage ∙ ap (λ (x : ℕ). heard (sent_by d h (shown s) x u)) kept_at ∙ sym (heard_shown d h s at u) in
+    = ap (λ (x : Stage). heard (sent_by d h x t.line.at u)) kept_stage ∙ ap (λ (x : ℕ). heard (sent_by d h (shown s) x u)) kept_at
+    ∙ sym (heard_shown d h s at u) in
     let same_since : since_at t.line.stage t.line.begun_since since ≡ before
     = ap (λ (x : Stage). since_at x t.line.begun_since since) kept_stage ∙ since_shown s t.line.begun_since since in
     let passes : Passes (sent_by d h s at u) before t.side new.side o new_o
     = subst (λ (x : ℕ). Passes (sent_by d h s at u) x t.side new.side o new_o) same_since
     (passes_as (sent_by d h t.line.stage t.line.at u) (sent_by d h s at u) (since_at t.line.stage t.line.begun_since since) t.side new.side o new_o same_heard p.passes) in
-    let known : since ≡ had_passed d c2 at others = since_known d c octets t us bs mine others f e n front ∙ ap (λ (x : ℕ). had_passed d c2 x others) here in
+    let known : since ≡ had_passed d c2 at others = since_known d c octets t us bs mine others f e n front
+    ∙ ap (λ (x : ℕ). had_passed d c2 x others) here in
     let before_known : before ≡ had_passed d c2 (first_of s at) others = counted d c (piece d octets) others s at t.line.begun_since since kept_begun known in
     let at_there : at < length (stream d c2) = omega arith in
     let there : first_of s at < length (stream d c2) = first_there d c others s at t.line.begun_since (length (stream d c2)) kept_begun longer at_there in
@@ -441,13 +454,16 @@ stood d c octets u t new o new_o us bs mine others f now e inside shake n packet
     let within_it : at + packet_length u ≤ length (stream d c2) = omega arith in
     let g = grown d c2 mine others (sent_by d h s at u) t.side new.side o new_o s at before u (sent_one d h s at u) passes before_known there within_it was in
     let new_stage : new.line.stage ≡ shown (stage_behind d h s at u)
-    = p.stage ∙ ap (λ (x : Stage). stage_behind d h x t.line.at u) kept_stage ∙ ap (λ (x : ℕ). stage_behind d h (shown s) x u) kept_at ∙ sym (shown_behind d h s at u) in
+    = p.stage ∙ ap (λ (x : Stage). stage_behind d h x t.line.at u) kept_stage ∙ ap (λ (x : ℕ). stage_behind d h (shown s) x u) kept_at
+    ∙ sym (shown_behind d h s at u) in
     let noted_before = hasty_from d (met_before d c2 bs) opening None 0 us in
     let kept_hasty : t.line.hasty ≡ option_map offset_of noted_before
     = f.hasty ∙ ap (option_map offset_of) (hasty_stays d c us f.rest f.packets (met_before d c bs) (met_before d c2 bs) alike) in
     let new_hasty : new.line.hasty ≡ option_map offset_of (hasty_behind d h s noted_before at u)
-    = p.hasty ∙ ap (λ (x : Stage). hasty_behind d h x t.line.hasty t.line.at u) kept_stage ∙ ap (λ (x : Option ℕ). hasty_behind d h (shown s) x t.line.at u) kept_hasty
-    ∙ ap (λ (x : ℕ). hasty_behind d h (shown s) (option_map offset_of noted_before) x u) kept_at ∙ sym (hasty_shown d h s noted_before at u) in
+    = p.hasty ∙ ap (λ (x : Stage). hasty_behind d h x t.line.hasty t.line.at u) kept_stage
+    ∙ ap (λ (x : Option ℕ). hasty_behind d h (shown s) x t.line.at u) kept_hasty
+    ∙ ap (λ (x : ℕ). hasty_behind d h (shown s) (option_map offset_of noted_before) x u) kept_at
+    ∙ sym (hasty_shown d h s noted_before at u) in
     let held_length : length (t.held ++ octets) ≡ packet_length u = ap (λ (x : List ℕ). length (x ++ octets)) held.0 ∙ whole_length in
     let new_at : new.line.at ≡ offset_of (length (stream d c2))
     = p.at ∙ ap (λ (x : ℕ). offset_of (t.line.at + x)) held_length ∙ ap (λ (x : ℕ). offset_of (x + packet_length u)) kept_at ∙ offset_on at (packet_length u) ∙ ap offset_of behind in
@@ -474,8 +490,10 @@ stood d c octets u t new o new_o us bs mine others f now e inside shake n packet
         begun = subst (λ (x : Stage). IsSince d c2 others x new.line.begun_since) (sym (stage_more d (met_before d c2 bs) opening 0 us u))
             (since_behind d h c2 others s at new.line.begun_since u there (new_since ∙ before_known));
         octets = p.octets ∙ octets_fed d c octets t.octets f.octets;
-        counted = p.packets ∙ ap (λ (x : ℕ). offset_of (x + 1)) f.counted ∙ offset_on (length us) 1 ∙ ap offset_of (sym (length-append us (u ∷ [])));
-        reference = p.reference ∙ ap (λ (x : Stage). named_behind d h x t.line.reference u) kept_stage ∙ ap (λ (x : Option ℕ). named_behind d h (shown s) x u) f.reference
+        counted = p.packets ∙ ap (λ (x : ℕ). offset_of (x + 1)) f.counted ∙ offset_on (length us) 1
+            ∙ ap offset_of (sym (length-append us (u ∷ [])));
+        reference = p.reference ∙ ap (λ (x : Stage). named_behind d h x t.line.reference u) kept_stage
+            ∙ ap (λ (x : Option ℕ). named_behind d h (shown s) x u) f.reference
             ∙ named_shown d h s (reference_in d us) u ∙ named_more d (met_before d c2 bs) us u;
         place = subst (λ (x : ℕ). IsPlace new.side.finding (mine ++ sent_by d h s at u) x) (sym new_last)
             (place_behind mine (sent_by d h s at u) kept t.side new.side o new_o s (shown s) at before t.line.last u (sent_one d h s at u) (sent_one d h (shown s) (offset_of at) u)
@@ -504,16 +522,19 @@ pub record AreOthers (d e : Direction) : Type 0 where
   pub one : other d ≡ e
   pub two : other e ≡ d
 
-beside : (d e : Direction) → AreOthers d e → (c : Capture) (octets : List ℕ) (u : Tapped) (us bs : List (List ℕ)) (mine others : List Sent) → Follows e c u bs us others mine
+beside : (d e : Direction) → AreOthers d e → (c : Capture) (octets : List ℕ) (u : Tapped) (us bs : List (List ℕ)) (mine others : List Sent)
+    → Follows e c u bs us others mine
     → Follows e (c ++ piece d octets) u bs us others mine
 beside d e o c octets u us bs mine others g =
     subst (λ (x : Direction). Follows e (c ++ piece x octets) u bs us others mine) o.two (beside_follows e c octets u bs us others mine g)
 
-other_ends : (d e : Direction) → AreOthers d e → (c : Capture) (u : Tapped) (us bs : List (List ℕ)) (mine others : List Sent) → Follows e c u bs us others mine → EndBy (length (stream (other d) c)) others
+other_ends : (d e : Direction) → AreOthers d e → (c : Capture) (u : Tapped) (us bs : List (List ℕ)) (mine others : List Sent)
+    → Follows e c u bs us others mine → EndBy (length (stream (other d) c)) others
 other_ends d e o c u us bs mine others g = subst (λ (x : Direction). EndBy (length (stream x c)) others) (sym o.one) g.ends
 
 -- the packets of the other side are within what it sent
-other_within : (d e : Direction) → AreOthers d e → (c : Capture) (u : Tapped) (us bs : List (List ℕ)) (mine others : List Sent) → Follows e c u bs us others mine
+other_within : (d e : Direction) → AreOthers d e → (c : Capture) (u : Tapped) (us bs : List (List ℕ)) (mine others : List Sent)
+    → Follows e c u bs us others mine
     → packets_length bs ≤ length (stream (other d) c)
 other_within d e o c u us bs mine others g =
     let p = place e c bs g.rest g.packets in
@@ -523,7 +544,8 @@ other_within d e o c u us bs mine others g =
 
 front_fed : (d e : Direction) → AreOthers d e → (c : Capture) (octets : List ℕ) (t u new : Tapped) (new_o : Watched) (us bs : List (List ℕ)) (mine others : List Sent) (f : Follows d c t us bs mine others)
     → Follows e c u bs us others mine
-    → (held : List ℕ) (fault : Option TpktFault) (since : ℕ) (h : Handshake) → new ≡ with_front t (length octets) held fault since h → new_o ≡ u.side → IsRest fault held (f.rest ++ octets)
+    → (held : List ℕ) (fault : Option TpktFault) (since : ℕ) (h : Handshake) → new ≡ with_front t (length octets) held fault since h
+    → new_o ≡ u.side → IsRest fault held (f.rest ++ octets)
     → (fault ≡ None → 0 < length (f.rest ++ octets) → since ≡ had_passed d (c ++ piece d octets) (length (stream d c) - length f.rest) others)
     → (fault ≡ None → 0 < length (f.rest ++ octets) → h ≡ met_before d (c ++ piece d octets) bs (length (stream d c) - length f.rest))
     → Fed d e (c ++ piece d octets) new (record u { side = new_o })
@@ -553,8 +575,11 @@ faulty_on r more (BadVersion o) h = (version_on r more h.0, h.1)
 faulty_on r more (BadLength o) h = (length_on r more h.0, h.1)
 faulty_on r more OutOfMemory h = absurd h
 
-settled : (d e : Direction) → AreOthers d e → (c : Capture) (octets : List ℕ) (t u new : Tapped) (new_o : Watched) (us bs : List (List ℕ)) (mine others : List Sent) → Follows d c t us bs mine others
-    → Follows e c u bs us others mine → t.fault ≡ None → IsWithin t.held (length octets) → Settles d (since_of t) (met_of u.line.handshake t) (with_octets t octets) new u.side new_o
+settled : (d e : Direction) → AreOthers d e
+    → (c : Capture) (octets : List ℕ) (t u new : Tapped) (new_o : Watched) (us bs : List (List ℕ)) (mine others : List Sent)
+    → Follows d c t us bs mine others
+    → Follows e c u bs us others mine → t.fault ≡ None → IsWithin t.held (length octets)
+    → Settles d (since_of t) (met_of u.line.handshake t) (with_octets t octets) new u.side new_o
     → Fed d e (c ++ piece d octets) new (record u { side = new_o })
 settled d e o c octets t u new new_o us bs mine others f g n w (goes_on r i j) =
     let held = held_rest t f.rest n f.is_rest in
@@ -602,24 +627,30 @@ settled d e o c octets t u new new_o us bs mine others f g n w (whole unit k l p
           (passing_follows e c (record u { side = new_o }) bs us others (mine ++ sent) unit heard_now far_unit);
     }
 
-with_same : (t : Tapped) (n : ℕ) (x : TpktFault) → t.fault ≡ Some x → with_count t n ≡ with_front t n t.held (Some x) t.line.since t.line.met
+with_same : (t : Tapped) (n : ℕ) (x : TpktFault) → t.fault ≡ Some x
+    → with_count t n ≡ with_front t n t.held (Some x) t.line.since t.line.met
 with_same t n x e = ap (λ (y : Option TpktFault). with_front t n t.held y t.line.since t.line.met) e
 
-pub fed : (d e : Direction) → AreOthers d e → (c : Capture) (octets : List ℕ) (t u new : Tapped) (new_o : Watched) (us bs : List (List ℕ)) (mine others : List Sent) → Follows d c t us bs mine others
-    → Follows e c u bs us others mine → Feeds d octets u.line.handshake t new u.side new_o → Fed d e (c ++ piece d octets) new (record u { side = new_o })
+pub fed : (d e : Direction) → AreOthers d e
+    → (c : Capture) (octets : List ℕ) (t u new : Tapped) (new_o : Watched) (us bs : List (List ℕ)) (mine others : List Sent)
+    → Follows d c t us bs mine others
+    → Follows e c u bs us others mine → Feeds d octets u.line.handshake t new u.side new_o
+    → Fed d e (c ++ piece d octets) new (record u { side = new_o })
 fed d e o c octets t u new new_o us bs mine others f g (ignored x n i j) =
     let r = subst (λ (y : Option TpktFault). IsRest y t.held f.rest) n f.is_rest in
     front_fed d e o c octets t u new new_o us bs mine others f g t.held (Some x) t.line.since t.line.met (i ∙ with_same t (length octets) x n) j
     (faulty_on f.rest octets x r) (λ z l. absurd (cc)) (λ z l. absurd (cc))
 fed d e o c octets t u new new_o us bs mine others f g (looked_at n w s) = settled d e o c octets t u new new_o us bs mine others f g n w s
 
-pub fed_left : (c : Capture) (octets : List ℕ) (j : Judged) (new : Tapped) (new_o : Watched) → Feeds Left octets j.right.line.handshake j.left new j.right.side new_o → Taps j c
+pub fed_left : (c : Capture) (octets : List ℕ) (j : Judged) (new : Tapped) (new_o : Watched)
+    → Feeds Left octets j.right.line.handshake j.left new j.right.side new_o → Taps j c
     → Taps (record { left = new; right = record j.right { side = new_o } }) (c ++ piece Left octets)
 fed_left c octets j new new_o h t =
     let k = fed Left Right (record { one = refl; two = refl }) c octets j.left j.right new new_o t.left_units t.right_units t.left t.right t.of_left t.of_right h in
     record { left_units = k.units; right_units = k.besides; left = k.mine; right = k.others; of_left = k.of_mine; of_right = k.of_other }
 
-pub fed_right : (c : Capture) (octets : List ℕ) (j : Judged) (new : Tapped) (new_o : Watched) → Feeds Right octets j.left.line.handshake j.right new j.left.side new_o → Taps j c
+pub fed_right : (c : Capture) (octets : List ℕ) (j : Judged) (new : Tapped) (new_o : Watched)
+    → Feeds Right octets j.left.line.handshake j.right new j.left.side new_o → Taps j c
     → Taps (record { left = record j.left { side = new_o }; right = new }) (c ++ piece Right octets)
 fed_right c octets j new new_o h t =
     let k = fed Right Left (record { one = refl; two = refl }) c octets j.right j.left new new_o t.right_units t.left_units t.right t.left t.of_right t.of_left h in

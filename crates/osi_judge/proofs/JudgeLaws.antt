@@ -16,8 +16,10 @@ use Rattle.osi_judge.specs.declared.findings.Finding.{Finding}
 use Rattle.osi_judge.specs.declared.findings.Finding.TheVariants.{Kept}
 use Rattle.osi_judge.specs.declared.judge.Reading.{Reading}
 use Rattle.osi_judge.specs.declared.stops.Stopped.{Stopped as StoppedAt}
-use Rattle.osi_judge.specs.Transport.{silent, met_before, Stage, opening, asking, between, within, refused, stopped, Sent, packets_length, stage_from, sent_from, hasty_from, ArePacketsOf, IsSent}
-use Rattle.osi_judge.specs.Tapping.{begin_of, heard, told, IsFoundIn, stop_in, or_hasty, IsStoppedIn, IsReadIn, IsReferenceIn, IsPlace, IsPlaceIn}
+use Rattle.osi_judge.specs.Transport.{silent, met_before, Stage, opening, asking, between, within, refused, stopped}
+use Rattle.osi_judge.specs.Transport.{Sent, packets_length, stage_from, sent_from, hasty_from, ArePacketsOf, IsSent}
+use Rattle.osi_judge.specs.Tapping.{begin_of, heard, told, IsFoundIn, stop_in, or_hasty, IsStoppedIn, IsReadIn}
+use Rattle.osi_judge.specs.Tapping.{IsReferenceIn, IsPlace, IsPlaceIn}
 use Rattle.osi_judge.specs.Feeding.{Tapped, reading_of, stopped_by, stopped_of}
 use Rattle.osi_judge.specs.Following.{shown, IsRest, Follows, Judged, half_of, Taps}
 use Rattle.osi_judge.proofs.SideLaws.{found_as}
@@ -39,7 +41,8 @@ fresh_half w = record {
 place_kept : (f : Finding) (last : ℕ) → f ≡ Kept → IsPlace f [] last
 place_kept f last e = subst (λ (x : Finding). IsPlace x [] last) (sym e) tt
 
-pub nothing_follows : (d : Direction) (w : Watched) → w.begin ≡ begin_of d → w.heard ≡ [] → w.finding ≡ Kept → Watches w [] → Follows d [] (fresh_half w) [] [] [] []
+pub nothing_follows : (d : Direction) (w : Watched) → w.begin ≡ begin_of d → w.heard ≡ [] → w.finding ≡ Kept → Watches w []
+    → Follows d [] (fresh_half w) [] [] [] []
 nothing_follows d w b h y k = record {
   rest = [];
   packets = refl;
@@ -86,12 +89,14 @@ ending_of at None held rest h = (Rest (length rest), (h.1, refl))
 ending_of at (Some f) held rest h = let g = fault_at at rest f h in (Faulty g.0, g.1)
 
 -- a stream is cut where the packets end that were read
-pub cut_as : (d : Direction) (c : Capture) (t : Tapped) (us bs : List (List ℕ)) (mine others : List Sent) → Follows d c t us bs mine others → ArePacketsOf d c us
+pub cut_as : (d : Direction) (c : Capture) (t : Tapped) (us bs : List (List ℕ)) (mine others : List Sent) → Follows d c t us bs mine others
+    → ArePacketsOf d c us
 cut_as d c t us bs mine others f =
     let e = ending_of (offset_of (0 + (length (stream d c) - length f.rest))) t.fault t.held f.rest f.is_rest in
     (e.0, (f.rest, f.packets, e.1))
 
-pub is_sent : (d : Direction) (c : Capture) (t : Tapped) (us bs : List (List ℕ)) (mine others : List Sent) → Follows d c t us bs mine others → ArePacketsOf (other d) c bs → IsSent d c mine
+pub is_sent : (d : Direction) (c : Capture) (t : Tapped) (us bs : List (List ℕ)) (mine others : List Sent)
+    → Follows d c t us bs mine others → ArePacketsOf (other d) c bs → IsSent d c mine
 is_sent d c t us bs mine others f b = (us, bs, cut_as d c t us bs mine others f, b, f.sent)
 
 -- a side has one list of TSDUs
@@ -110,7 +115,8 @@ other_twice Right = refl
 pub packets_of : (d : Direction) (c : Capture) (us : List (List ℕ)) → ArePacketsOf d c us → ArePacketsOf (other (other d)) c us
 packets_of d c us h = subst (λ (x : Direction). ArePacketsOf x c us) (sym (other_twice d)) h
 
-found_of : (d : Direction) (c : Capture) (t u : Tapped) (us bs : List (List ℕ)) (mine others : List Sent) → Follows d c t us bs mine others → Follows (other d) c u bs us others mine
+found_of : (d : Direction) (c : Capture) (t u : Tapped) (us bs : List (List ℕ)) (mine others : List Sent) → Follows d c t us bs mine others
+    → Follows (other d) c u bs us others mine
     → IsFoundIn d c t.side.finding
 found_of d c t u us bs mine others f g = record {
   mine = mine;
@@ -155,7 +161,8 @@ zero_plus n = omega arith
 abbrev stopped_of_stage : Tapped → Option StoppedAt
 stopped_of_stage t = stopped_by t.line.stage t.fault t.line.at
 
-stopped_as : (d : Direction) (c : Capture) (t : Tapped) (us bs : List (List ℕ)) (mine others : List Sent) → Follows d c t us bs mine others → ArePacketsOf (other d) c bs
+stopped_as : (d : Direction) (c : Capture) (t : Tapped) (us bs : List (List ℕ)) (mine others : List Sent) → Follows d c t us bs mine others
+    → ArePacketsOf (other d) c bs
     → IsStoppedIn d c (stopped_of t)
 stopped_as d c t us bs mine others f b =
     let s = stage_from d (met_before d c bs) opening 0 us in
@@ -184,7 +191,8 @@ is_stopped Right c j h =
 abbrev pub with_rest : (packets octets rest : ℕ) → Reading
 with_rest packets octets rest = record { packets = packets; octets = octets; rest = rest }
 
-read_as : (d : Direction) (c : Capture) (t : Tapped) (us bs : List (List ℕ)) (mine others : List Sent) → Follows d c t us bs mine others → IsReadIn d c (reading_of t)
+read_as : (d : Direction) (c : Capture) (t : Tapped) (us bs : List (List ℕ)) (mine others : List Sent) → Follows d c t us bs mine others
+    → IsReadIn d c (reading_of t)
 read_as d c t us bs mine others f =
     let e = cut_as d c t us bs mine others f in
     let place = offset_of_rest 0 us (stream d c) f.rest f.packets in
@@ -202,7 +210,8 @@ pub is_read : (d : Direction) (c : Capture) (j : Judged) → Taps j c → IsRead
 is_read Left c j h = read_as Left c j.left h.left_units h.right_units h.left h.right h.of_left
 is_read Right c j h = read_as Right c j.right h.right_units h.left_units h.right h.left h.of_right
 
-given_as : (d : Direction) (c : Capture) (t : Tapped) (us bs : List (List ℕ)) (mine others : List Sent) → Follows d c t us bs mine others → IsReferenceIn d c t.line.reference
+given_as : (d : Direction) (c : Capture) (t : Tapped) (us bs : List (List ℕ)) (mine others : List Sent) → Follows d c t us bs mine others
+    → IsReferenceIn d c t.line.reference
 given_as d c t us bs mine others f =
     let e = cut_as d c t us bs mine others f in record { units = us; ending = e.0; cut = e.1; given = f.reference }
 
@@ -210,7 +219,8 @@ pub is_given : (d : Direction) (c : Capture) (j : Judged) → Taps j c → IsRef
 is_given Left c j h = given_as Left c j.left h.left_units h.right_units h.left h.right h.of_left
 is_given Right c j h = given_as Right c j.right h.right_units h.left_units h.right h.left h.of_right
 
-placed_as : (d : Direction) (c : Capture) (t : Tapped) (us bs : List (List ℕ)) (mine others : List Sent) → Follows d c t us bs mine others → ArePacketsOf (other d) c bs
+placed_as : (d : Direction) (c : Capture) (t : Tapped) (us bs : List (List ℕ)) (mine others : List Sent) → Follows d c t us bs mine others
+    → ArePacketsOf (other d) c bs
     → IsPlaceIn d c t.side.finding t.line.last
 placed_as d c t us bs mine others f b = record { mine = mine; is_mine = is_sent d c t us bs mine others f b; place = f.place }
 

@@ -41,7 +41,8 @@ some_heard w mid x e =
 -- ---- a unit
 
 -- what a packet means doesn't depend on the octets of an unfinished TSDU
-unit_front : (d : Direction) (p : Progress) (octets : List ℕ) (h : Handshake) (v : Value) → unit_step d (stage_in p []) h v ≡ unit_step d (stage_in p octets) h v
+unit_front : (d : Direction) (p : Progress) (octets : List ℕ) (h : Handshake) (v : Value)
+    → unit_step d (stage_in p []) h v ≡ unit_step d (stage_in p octets) h v
 unit_front d Opening octets h v = refl
 unit_front d Asking octets h v = refl
 unit_front d Between octets h v = refl
@@ -138,7 +139,8 @@ pub unit_taken : (d : Direction) (h : Handshake) (u : List ℕ) (p : Progress) (
 unit_taken d h u p octets at kept begun_since since before packets last met come after hasty known r m mid w w2 o o2 n read e b l came x =
     let same = b ∙ since_front p octets begun_since since in
     let means : MeansHere d h u p octets m
-    = e ∙ ap (λ (y : Result (Option Value) TpduFault). step_of d (stage_in p []) h y) read ∙ step_front d p octets h (first_unit (units_of u)) in record {
+    = e ∙ ap (λ (y : Result (Option Value) TpduFault). step_of d (stage_in p []) h y) read
+    ∙ step_front d p octets h (first_unit (units_of u)) in record {
       at = ap (λ (y : Lined). y.at) l;
       handshake = came ∙ ap (λ (y : Lined). shaken y.handshake r) l ∙ ap (λ (y : Result (Option Value) TpduFault). shaken come y) read;
       stage = ap (λ (y : Lined). y.stage) l ∙ moves d h u p octets at m n means;
@@ -153,14 +155,16 @@ unit_taken d h u p octets at kept begun_since since before packets last met come
 
 -- ---- a packet
 
-pub settled_whole : (d : Direction) (unit : List ℕ) (since n : ℕ) (h : Handshake) (t mid new : Tapped) (o new_o : Watched) → n ≤ length t.held → IsPacket unit (take n t.held) → mid.held ≡ t.held → mid.fault ≡ t.fault
+pub settled_whole : (d : Direction) (unit : List ℕ) (since n : ℕ) (h : Handshake) (t mid new : Tapped) (o new_o : Watched)
+    → n ≤ length t.held → IsPacket unit (take n t.held) → mid.held ≡ t.held → mid.fault ≡ t.fault
     → mid.octets ≡ t.octets → TakesUnit d unit since h t.line mid.line t.side mid.side o new_o
     → new ≡ record mid { held = []; line = record mid.line { packets = offset_of (mid.line.packets + 1); at = offset_of (mid.line.at + length mid.held); since = since; met = h } }
     → Settles d since h t new o new_o
 settled_whole d unit since n h t mid new o new_o l p x f k u e = whole unit n l p (record {
   held = ap (λ (x : Tapped). x.held) e;
   fault = ap (λ (x : Tapped). x.fault) e ∙ f;
-  at = ap (λ (x : Tapped). x.line.at) e ∙ ap (λ (x : ℕ). offset_of (x + length mid.held)) u.at ∙ ap (λ (x : List ℕ). offset_of (t.line.at + length x)) x;
+  at = ap (λ (x : Tapped). x.line.at) e ∙ ap (λ (x : ℕ). offset_of (x + length mid.held)) u.at
+      ∙ ap (λ (x : List ℕ). offset_of (t.line.at + length x)) x;
   counted = ap (λ (x : Tapped). x.line.since) e;
   met = ap (λ (x : Tapped). x.line.met) e;
   handshake = ap (λ (x : Tapped). x.line.handshake) e ∙ u.handshake;
@@ -186,8 +190,10 @@ within_wanted held piece wanted used e h p =
     let n = length-take-le used piece l in
     record { header = λ z. let k = h z in omega arith; packet = λ z y. let k = p z y in omega arith }
 
-pub looked : (d : Direction) (octets held : List ℕ) (since count : ℕ) (now met : Handshake) (t new : Tapped) (o new_o : Watched) → t.fault ≡ None → held ≡ t.held ++ octets → since ≡ since_of t → met ≡ met_of now t
-    → IsWithin t.held (length octets) → count ≡ offset_of (t.octets + length octets) → Settles d since met (record t { held = held; octets = count }) new o new_o → Feeds d octets now t new o new_o
+pub looked : (d : Direction) (octets held : List ℕ) (since count : ℕ) (now met : Handshake) (t new : Tapped) (o new_o : Watched)
+    → t.fault ≡ None → held ≡ t.held ++ octets → since ≡ since_of t → met ≡ met_of now t
+    → IsWithin t.held (length octets) → count ≡ offset_of (t.octets + length octets)
+    → Settles d since met (record t { held = held; octets = count }) new o new_o → Feeds d octets now t new o new_o
 looked d octets held since count now met t new o new_o n e s m w k h =
     looked_at n w (subst (λ (x : Handshake). Settles d (since_of t) x (with_octets t octets) new o new_o) m
     (subst (λ (x : ℕ). Settles d x met (with_octets t octets) new o new_o) s

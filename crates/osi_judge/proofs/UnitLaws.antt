@@ -1,5 +1,6 @@
 -- One more packet of a side passes: the state of its transport, and the TSDU that the packet ends.
-use Rattle.std.proofs.Common.{◌≡◌, ◌∙◌, refl, sym, ap, ℕ, ◌+◌, ◌<◌, ◌⊎◌, inl, inr, Bool, true, false, if◌then◌else◌, List, [], ◌∷◌, ◌++◌, length, Option, Some, None, option_map, Result, Ok, Err, arith}
+use Rattle.std.proofs.Common.{◌≡◌, ◌∙◌, refl, sym, ap, ℕ, ◌+◌, ◌<◌, ◌⊎◌, inl, inr, Bool, true, false, if◌then◌else◌}
+use Rattle.std.proofs.Common.{List, [], ◌∷◌, ◌++◌, length, Option, Some, None, option_map, Result, Ok, Err, arith}
 use Rattle.std.proofs.lemmas.List.{append-nil, append_assoc, length-append}
 use Rattle.osi_tpkt.specs.Packet.{IsPacket}
 use Rattle.osi_tpkt.specs.Stream.{ArePackets, offset_of}
@@ -9,8 +10,10 @@ use Rattle.osi_tpdu.specs.declared.faults.TpduFault.{TpduFault}
 use Rattle.osi_judge.specs.declared.directions.Direction.{Direction}
 use Rattle.osi_judge.specs.declared.stops.Stop.TheVariants.{TsduTooLong}
 use Rattle.osi_judge.specs.Captures.{Capture, stream}
-use Rattle.osi_judge.specs.Transport.{Handshake, first_unit, packet_length, Move, asks, opens, adds, hurries, refuses, ignores, stops, unit_step, step_of}
-use Rattle.osi_judge.specs.Transport.{Stage, opening, asking, between, within, refused, stopped, begun, first_of, is_too_long, added, moved, stage_behind}
+use Rattle.osi_judge.specs.Transport.{Handshake, first_unit, packet_length, Move, asks, opens, adds, hurries, refuses}
+use Rattle.osi_judge.specs.Transport.{ignores, stops, unit_step, step_of}
+use Rattle.osi_judge.specs.Transport.{Stage, opening, asking, between, within, refused, stopped, begun, first_of}
+use Rattle.osi_judge.specs.Transport.{is_too_long, added, moved, stage_behind}
 use Rattle.osi_judge.specs.Transport.{Sent, ended, brought, sent_by, stage_from, sent_from, noted, hasty_behind, hasty_from}
 use Rattle.osi_judge.specs.Tapping.{had_passed, heard}
 use Rattle.osi_judge.specs.Feeding.{since_at}
@@ -78,7 +81,8 @@ shown_added (refused packet) at false octets = refl
 shown_added (within first begun) at false octets = refl
 shown_added (stopped stop packet) at false octets = refl
 
-shown_adds : (s : Stage) (at : ℕ) (end : Bool) (octets : List ℕ) → shown (moved s at (adds end octets)) ≡ moved (shown s) (offset_of at) (adds end octets)
+shown_adds : (s : Stage) (at : ℕ) (end : Bool) (octets : List ℕ)
+    → shown (moved s at (adds end octets)) ≡ moved (shown s) (offset_of at) (adds end octets)
 shown_adds opening at end octets =
     shown_if (is_too_long opening octets) (stopped TsduTooLong at) (added opening at end octets) (stopped TsduTooLong (offset_of at)) (added opening (offset_of at) end octets)
     refl (shown_added opening at end octets)
@@ -116,7 +120,8 @@ unit_shown d (within first octets) h v = refl
 unit_shown d (refused packet) h v = refl
 unit_shown d (stopped stop packet) h v = refl
 
-pub step_shown : (d : Direction) (s : Stage) (h : Handshake) (r : Result (Option Value) TpduFault) → step_of d s h r ≡ step_of d (shown s) h r
+pub step_shown : (d : Direction) (s : Stage) (h : Handshake) (r : Result (Option Value) TpduFault)
+    → step_of d s h r ≡ step_of d (shown s) h r
 step_shown d s h (Err fault) = refl
 step_shown d s h (Ok None) = refl
 step_shown d s h (Ok (Some v)) = unit_shown d s h v
@@ -124,7 +129,8 @@ step_shown d s h (Ok (Some v)) = unit_shown d s h v
 shown_by : (d : Direction) (h : Handshake) (s : Stage) (at : ℕ) (u : List ℕ)
     → shown (moved s at (step_of d s h (first_unit (units_of u)))) ≡ moved (shown s) (offset_of at) (step_of d (shown s) h (first_unit (units_of u)))
 shown_by d h s at u =
-    shown_moved s at (step_of d s h (first_unit (units_of u))) ∙ ap (moved (shown s) (offset_of at)) (step_shown d s h (first_unit (units_of u)))
+    shown_moved s at (step_of d s h (first_unit (units_of u)))
+    ∙ ap (moved (shown s) (offset_of at)) (step_shown d s h (first_unit (units_of u)))
 
 pub shown_behind : (d : Direction) (h : Handshake) (s : Stage) (at : ℕ) (u : List ℕ)
     → shown (stage_behind d h s at u) ≡ stage_behind d h (shown s) (offset_of at) u
@@ -135,7 +141,8 @@ shown_behind d h (within first octets) at u = shown_by d h (within first octets)
 shown_behind d h (refused packet) at u = shown_by d h (refused packet) at u
 shown_behind d h (stopped stop packet) at u = refl
 
-shown_noted : (hasty : Option ℕ) (at : ℕ) (m : Move) → option_map offset_of (noted hasty at m) ≡ noted (option_map offset_of hasty) (offset_of at) m
+shown_noted : (hasty : Option ℕ) (at : ℕ) (m : Move)
+    → option_map offset_of (noted hasty at m) ≡ noted (option_map offset_of hasty) (offset_of at) m
 shown_noted (Some packet) at m = refl
 shown_noted None at (asks reference) = refl
 shown_noted None at (opens reference) = refl
@@ -205,7 +212,8 @@ heard_by d h s at u =
     heard_brought s at u (step_of d s h (first_unit (units_of u)))
     ∙ ap (λ (m : Move). heard (brought (shown s) (offset_of at) u m)) (step_shown d s h (first_unit (units_of u)))
 
-pub heard_shown : (d : Direction) (h : Handshake) (s : Stage) (at : ℕ) (u : List ℕ) → heard (sent_by d h s at u) ≡ heard (sent_by d h (shown s) (offset_of at) u)
+pub heard_shown : (d : Direction) (h : Handshake) (s : Stage) (at : ℕ) (u : List ℕ)
+    → heard (sent_by d h s at u) ≡ heard (sent_by d h (shown s) (offset_of at) u)
 heard_shown d h opening at u = heard_by d h opening at u
 heard_shown d h asking at u = heard_by d h asking at u
 heard_shown d h between at u = heard_by d h between at u
@@ -283,7 +291,8 @@ since_moved d c others s at since (stops stop) l e = tt
 since_moved d c others s at since (adds end octets) l e = since_added d c others s at since (is_too_long s octets) end octets l e
 since_moved d c others s at since (hurries end octets) l e = since_added d c others s at since (is_too_long s octets) end octets l e
 
-pub since_behind : (d : Direction) (h : Handshake) (c : Capture) (others : List Sent) (s : Stage) (at since : ℕ) (u : List ℕ) → first_of s at < length (stream d c)
+pub since_behind : (d : Direction) (h : Handshake) (c : Capture) (others : List Sent) (s : Stage) (at since : ℕ) (u : List ℕ)
+    → first_of s at < length (stream d c)
     → since ≡ had_passed d c (first_of s at) others → IsSince d c others (stage_behind d h s at u) since
 since_behind d h c others opening at since u l e = since_moved d c others opening at since (step_of d opening h (first_unit (units_of u))) l e
 since_behind d h c others asking at since u l e = since_moved d c others asking at since (step_of d asking h (first_unit (units_of u))) l e

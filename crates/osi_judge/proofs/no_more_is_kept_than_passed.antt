@@ -1,6 +1,7 @@
 -- The octets of the TSDUs of a side, and of the unfinished one, are no more than those of its packets.
 -- For the law that no more is kept than passed.
-use Rattle.std.proofs.Common.{◌≡◌, ◌∙◌, refl, ap, subst, ℕ, ◌+◌, ◌≤◌, ◌==◌, ◌&&◌, Bool, true, false, if◌then◌else◌, List, [], ◌∷◌, ◌++◌, length, map, Result, Ok, Err, arith}
+use Rattle.std.proofs.Common.{◌≡◌, ◌∙◌, refl, ap, subst, ℕ, ◌+◌, ◌≤◌, ◌==◌, ◌&&◌, Bool, true, false, if◌then◌else◌}
+use Rattle.std.proofs.Common.{List, [], ◌∷◌, ◌++◌, length, map, Result, Ok, Err, arith}
 use Rattle.std.proofs.lemmas.List.{length-append, map-append}
 use Rattle.osi_tpkt.specs.Octets.{IsOctets}
 use Rattle.osi_tpkt.specs.Packet.{IsPacket}
@@ -20,9 +21,12 @@ use Rattle.osi_judge.specs.Following.{shown, Follows, Judged, half_of, Taps, kep
 use Rattle.osi_judge.specs.Keeping.{is_same, kept_in, once, once_behind}
 use Rattle.osi_judge.specs.Outlines.{outline, outlines}
 use Rattle.osi_judge.specs.Tapping.{octets_of, heard, told}
-use Rattle.osi_judge.specs.Transport.{Handshake, silent, asked, asked_again, agreed, denied, astray, first_unit, met_before, Move, asks, opens, adds, hurries, refuses, ignores, stops}
-use Rattle.osi_judge.specs.Transport.{misplaced, next_step, asking_step, answering_step, has_asked, first_step, hasty_step, closing_step, later_step, refused_step, unit_step, step_of}
-use Rattle.osi_judge.specs.Transport.{Stage, opening, asking, between, within, refused, stopped, begun, is_too_long, added, moved, stage_behind}
+use Rattle.osi_judge.specs.Transport.{Handshake, silent, asked, asked_again, agreed, denied, astray, first_unit}
+use Rattle.osi_judge.specs.Transport.{met_before, Move, asks, opens, adds, hurries, refuses, ignores, stops}
+use Rattle.osi_judge.specs.Transport.{misplaced, next_step, asking_step, answering_step, has_asked, first_step}
+use Rattle.osi_judge.specs.Transport.{hasty_step, closing_step, later_step, refused_step, unit_step, step_of}
+use Rattle.osi_judge.specs.Transport.{Stage, opening, asking, between, within, refused, stopped, begun, is_too_long}
+use Rattle.osi_judge.specs.Transport.{added, moved, stage_behind}
 use Rattle.osi_judge.specs.Transport.{Sent, ended, brought, sent_by, stage_from, sent_from}
 use Rattle.osi_judge.proofs.SideLaws.{few_by}
 use Rattle.osi_judge.proofs.an_outline_is_taken_alike.{outline_no_longer}
@@ -125,7 +129,8 @@ closing_short n destination source (data2 d number end user) = tt
 closing_short n destination source (acknowledge credit d number) = tt
 closing_short n destination source (error d cause) = tt
 
-later_short : (octets : List ℕ) (h : Handshake) (v : Value) (vs : List Value) → AreUnits (v ∷ vs) octets → IsShort (length octets) (later_step h v)
+later_short : (octets : List ℕ) (h : Handshake) (v : Value) (vs : List Value) → AreUnits (v ∷ vs) octets
+    → IsShort (length octets) (later_step h v)
 later_short octets silent v vs u = hasty_short octets v vs u
 later_short octets agreed v vs u = next_short octets v vs u
 later_short octets (denied destination source) v vs u = closing_short (length octets) destination source v
@@ -202,7 +207,8 @@ kept_append : (xs ys : List (List ℕ)) → kept_in (xs ++ ys) ≡ kept_in xs + 
 kept_append [] ys = omega arith
 kept_append (x ∷ xs) ys = let e = kept_append xs ys in omega (arith, e)
 
-stream_keeps : FoundUnits → (d : Direction) (met : ℕ → Handshake) (s : Stage) (at : ℕ) (us : List (List ℕ)) (octets rest : List ℕ) → ArePackets us octets rest
+stream_keeps : FoundUnits → (d : Direction) (met : ℕ → Handshake) (s : Stage) (at : ℕ) (us : List (List ℕ)) (octets rest : List ℕ)
+    → ArePackets us octets rest
     → kept_by (sent_from d met s at us) + length (begun (stage_from d met s at us)) ≤ length (begun s) + length octets
 stream_keeps found d met s at [] octets rest h = omega arith
 stream_keeps found d met s at (u ∷ us) octets rest (b, t, p, e, h) =

@@ -26,8 +26,10 @@ use Rattle.osi_judge.specs.Judging.{Watched, AreAll, Keeps, BrokeBy, LeftBy, Wat
 use Rattle.osi_judge.specs.Onward.{StandsFor, StandsBehind}
 use Rattle.osi_judge.specs.Walking.{Ever}
 use Rattle.osi_judge.specs.Transport.{Handshake, silent, asked, asked_again, agreed, denied, astray, first_unit, packet_length, met_before}
-use Rattle.osi_judge.specs.Transport.{Move, asks, opens, adds, hurries, refuses, ignores, stops, misplaced, asking_step, answering_step, has_asked, first_step, refused_step, step_of}
-use Rattle.osi_judge.specs.Transport.{given_by, reference_in, Stage, opening, asking, between, within, refused, stopped, moved, stage_behind}
+use Rattle.osi_judge.specs.Transport.{Move, asks, opens, adds, hurries, refuses, ignores, stops, misplaced}
+use Rattle.osi_judge.specs.Transport.{asking_step, answering_step, has_asked, first_step, refused_step, step_of}
+use Rattle.osi_judge.specs.Transport.{given_by, reference_in, Stage, opening, asking, between, within, refused}
+use Rattle.osi_judge.specs.Transport.{stopped, moved, stage_behind}
 use Rattle.osi_judge.specs.Transport.{Sent, brought, sent_by, sent_from, ArePacketsOf, IsSent}
 use Rattle.osi_judge.specs.Tapping.{begin_of, heard, told, IsFoundIn, IsStoppedIn, IsReadIn, IsReferenceIn, IsPlaceIn, IsCountIn}
 use Rattle.osi_judge.specs.Tapping.{StandIn, IsStandingIn, IsRuleIn, IsFirstIn}
@@ -51,7 +53,8 @@ StandsHere w s = (said : List Told) → Keeps w said → StandsFor w said s
 keeps_as : (w : Watched) (said : List Told) → Watches w said → w.finding ≡ Kept → Keeps w said
 keeps_as w said k e = subst (λ (f : Finding). WatchesBy f w said) e k
 
-counted_as : (d : Direction) (c : Capture) (t : Tapped) (us bs : List (List ℕ)) (mine others : List Sent) → Follows d c t us bs mine others → ArePacketsOf (other d) c bs → t.side.finding ≡ Kept
+counted_as : (d : Direction) (c : Capture) (t : Tapped) (us bs : List (List ℕ)) (mine others : List Sent) → Follows d c t us bs mine others
+    → ArePacketsOf (other d) c bs → t.side.finding ≡ Kept
     → (n : ℕ) → Counts t.side n → IsCountIn d c n
 counted_as d c t us bs mine others f b e n k = record {
   mine = mine;
@@ -221,11 +224,13 @@ Ends refuses = Unit {0}
 Ends (stops stop) = Unit {0}
 Ends m = ⊥
 
-asks_or_ends : (b : Bool) (source : ℕ) → given_by (if b then asks source else stops OtherClass) ≡ None → Ends (if b then asks source else stops OtherClass)
+asks_or_ends : (b : Bool) (source : ℕ) → given_by (if b then asks source else stops OtherClass) ≡ None
+    → Ends (if b then asks source else stops OtherClass)
 asks_or_ends true source h = absurd (cc)
 asks_or_ends false source h = tt
 
-opens_or_ends : (b : Bool) (source : ℕ) → given_by (if b then opens source else stops OtherClass) ≡ None → Ends (if b then opens source else stops OtherClass)
+opens_or_ends : (b : Bool) (source : ℕ) → given_by (if b then opens source else stops OtherClass) ≡ None
+    → Ends (if b then opens source else stops OtherClass)
 opens_or_ends true source h = absurd (cc)
 opens_or_ends false source h = tt
 
@@ -267,7 +272,8 @@ first_ends side.Right h (data2 destination number end user) n = answered_ends h 
 first_ends side.Right h (acknowledge credit destination number) n = answered_ends h (acknowledge credit destination number)
 first_ends side.Right h (error destination cause) n = answered_ends h (error destination cause)
 
-nameless_ends : (d : Direction) (h : Handshake) (r : Result (Option Value) TpduFault) → given_by (step_of d opening h r) ≡ None → Ends (step_of d opening h r)
+nameless_ends : (d : Direction) (h : Handshake) (r : Result (Option Value) TpduFault) → given_by (step_of d opening h r) ≡ None
+    → Ends (step_of d opening h r)
 nameless_ends d h (Err fault) n = tt
 nameless_ends d h (Ok None) n = tt
 nameless_ends d h (Ok (Some v)) n = first_ends d h v n
@@ -313,7 +319,8 @@ over_moved place at (opens reference) h = absurd h
 over_moved place at (adds end octets) h = absurd h
 over_moved place at (hurries end octets) h = absurd h
 
-over_sends : (d : Direction) (h : Handshake) (s : Stage) (at : ℕ) (u : List ℕ) → IsOver s → (sent_by d h s at u ≡ []) × IsOver (stage_behind d h s at u)
+over_sends : (d : Direction) (h : Handshake) (s : Stage) (at : ℕ) (u : List ℕ) → IsOver s
+    → (sent_by d h s at u ≡ []) × IsOver (stage_behind d h s at u)
 over_sends d h (refused place) at u o =
     let l = step_last d place h (first_unit (units_of u)) in
     let m = step_of d (refused place) h (first_unit (units_of u)) in (brings_none (refused place) at u m l, over_moved place at m l)
@@ -361,7 +368,8 @@ nameless_sends d met (u ∷ us) h =
 pub nameless_said_nothing : (d : Direction) (c : Capture) (mine : List Sent) → IsSent d c mine → IsReferenceIn d c None → mine ≡ []
 nameless_said_nothing d c mine (units, others, (ending, cut), are_others, sent) g =
     let same = (one_cut (stream d c) units g.units ending g.ending cut g.cut).0 in
-    sent ∙ ap (λ (us : List (List ℕ)). sent_from d (met_before d c others) opening 0 us) same ∙ nameless_sends d (met_before d c others) g.units (sym g.given)
+    sent ∙ ap (λ (us : List (List ℕ)). sent_from d (met_before d c others) opening 0 us) same
+    ∙ nameless_sends d (met_before d c others) g.units (sym g.given)
 
 -- the side that broke the protocol first
 pub is_first_in : (first : Option Direction) (j : Judged) (c : Capture) → Taps j c → FirstIs first j c → IsFirstIn c first

@@ -1,5 +1,6 @@
 -- The reference of a side, and the packet of its break, follow the packets that passed: for what a judge is fed.
-use Rattle.std.proofs.Common.{◌≡◌, ◌∙◌, refl, sym, ap, subst, ℕ, suc, zero, ◌+◌, ◌==◌, ◌&&◌, Bool, true, false, if◌then◌else◌, List, [], ◌∷◌, ◌++◌}
+use Rattle.std.proofs.Common.{◌≡◌, ◌∙◌, refl, sym, ap, subst, ℕ, suc, zero, ◌+◌, ◌==◌, ◌&&◌, Bool, true, false}
+use Rattle.std.proofs.Common.{if◌then◌else◌, List, [], ◌∷◌, ◌++◌}
 use Rattle.std.proofs.Common.{length, map, Option, Some, None, option_map, Result, Ok, Err, inl, inr, arith}
 use Rattle.std.proofs.lemmas.List.{append-nil}
 use Rattle.osi_tpkt.specs.Stream.{offset_of}
@@ -15,9 +16,12 @@ use Rattle.osi_judge.specs.declared.stops.Stop.TheVariants.{NoOpening, OtherClas
 use Rattle.osi_judge.specs.Captures.{Capture}
 use Rattle.osi_judge.specs.Explaining.{Told}
 use Rattle.osi_judge.specs.Judging.{Watched, WatchesBy, Watches, FoundNext}
-use Rattle.osi_judge.specs.Transport.{Handshake, silent, asked, asked_again, agreed, denied, astray, first_unit, packet_length, Move, asks, opens, adds, hurries, refuses, ignores, stops}
-use Rattle.osi_judge.specs.Transport.{misplaced, next_step, asking_step, answering_step, has_asked, first_step, hasty_step, closing_step, later_step, refused_step, unit_step, step_of}
-use Rattle.osi_judge.specs.Transport.{given_by, reference_in, Stage, opening, asking, between, within, refused, stopped, is_too_long, added, moved, stage_behind}
+use Rattle.osi_judge.specs.Transport.{Handshake, silent, asked, asked_again, agreed, denied, astray, first_unit}
+use Rattle.osi_judge.specs.Transport.{packet_length, Move, asks, opens, adds, hurries, refuses, ignores, stops}
+use Rattle.osi_judge.specs.Transport.{misplaced, next_step, asking_step, answering_step, has_asked, first_step}
+use Rattle.osi_judge.specs.Transport.{hasty_step, closing_step, later_step, refused_step, unit_step, step_of}
+use Rattle.osi_judge.specs.Transport.{given_by, reference_in, Stage, opening, asking, between, within, refused}
+use Rattle.osi_judge.specs.Transport.{stopped, is_too_long, added, moved, stage_behind}
 use Rattle.osi_judge.specs.Transport.{Sent, packets_length, last_packet, sent_by, stage_from}
 use Rattle.osi_judge.specs.Tapping.{heard, tell, told, IsPlace}
 use Rattle.osi_judge.specs.Feeding.{named, named_behind, last_place, last_behind, Passes}
@@ -109,7 +113,8 @@ later_named d s h (Err fault) b = λ known. refl
 later_named d s h (Ok None) b = λ known. refl
 later_named d s h (Ok (Some v)) b = unit_nameless d s h v b
 
-begun_added : (s : Stage) (at : ℕ) (long end : Bool) (octets : List ℕ) → HasBegun (if long then stopped TsduTooLong at else added s at end octets)
+begun_added : (s : Stage) (at : ℕ) (long end : Bool) (octets : List ℕ)
+    → HasBegun (if long then stopped TsduTooLong at else added s at end octets)
 begun_added s at true end octets = tt
 begun_added s at false true octets = tt
 begun_added s at false false octets = tt
@@ -179,7 +184,8 @@ begun_behind d h (within first octets) at u = begun_moved (within first octets) 
 begun_behind d h (refused packet) at u = begun_moved (refused packet) at (step_of d (refused packet) h (first_unit (units_of u))) (λ e. tt)
 begun_behind d h (stopped stop packet) at u = tt
 
-begun_from : (d : Direction) (met : ℕ → Handshake) (s : Stage) (at : ℕ) (us : List (List ℕ)) → HasBegun s → HasBegun (stage_from d met s at us)
+begun_from : (d : Direction) (met : ℕ → Handshake) (s : Stage) (at : ℕ) (us : List (List ℕ)) → HasBegun s
+    → HasBegun (stage_from d met s at us)
 begun_from d met s at [] b = b
 begun_from d met s at (u ∷ us) b = begun_from d met (stage_behind d (met at) s at u) (at + packet_length u) us (begun_behind d (met at) s at u)
 
@@ -231,19 +237,22 @@ first_given side.Right h (data2 destination number end user) = answered_given h 
 first_given side.Right h (acknowledge credit destination number) = answered_given h (acknowledge credit destination number)
 first_given side.Right h (error destination cause) = answered_given h (error destination cause)
 
-pub opening_given : (d : Direction) (h : Handshake) (r : Result (Option Value) TpduFault) → given_by (step_of d opening h r) ≡ given_by (step_of d opening silent r)
+pub opening_given : (d : Direction) (h : Handshake) (r : Result (Option Value) TpduFault)
+    → given_by (step_of d opening h r) ≡ given_by (step_of d opening silent r)
 opening_given d h (Err fault) = refl
 opening_given d h (Ok None) = refl
 opening_given d h (Ok (Some v)) = first_given d h v
 
 pub named_more : (d : Direction) (met : ℕ → Handshake) (us : List (List ℕ)) (u : List ℕ)
     → named_behind d (met (offset_from 0 us)) (stage_from d met opening 0 us) (reference_in d us) u ≡ reference_in d (us ++ u ∷ [])
-named_more d met [] u = named_first (step_of d opening (met 0) (first_unit (units_of u))) ∙ opening_given d (met 0) (first_unit (units_of u))
+named_more d met [] u = named_first (step_of d opening (met 0) (first_unit (units_of u)))
+    ∙ opening_given d (met 0) (first_unit (units_of u))
 named_more d met (x ∷ us) u =
     named_open d (met (offset_from (0 + packet_length x) us)) (stage_from d met (stage_behind d (met 0) opening 0 x) (0 + packet_length x) us) (reference_in d (x ∷ us)) u
     (begun_from d met (stage_behind d (met 0) opening 0 x) (0 + packet_length x) us (begun_behind d (met 0) opening 0 x))
 
-pub named_shown : (d : Direction) (h : Handshake) (s : Stage) (known : Option ℕ) (u : List ℕ) → named_behind d h (shown s) known u ≡ named_behind d h s known u
+pub named_shown : (d : Direction) (h : Handshake) (s : Stage) (known : Option ℕ) (u : List ℕ)
+    → named_behind d h (shown s) known u ≡ named_behind d h s known u
 named_shown d h opening known u = refl
 named_shown d h asking known u = refl
 named_shown d h between known u = refl

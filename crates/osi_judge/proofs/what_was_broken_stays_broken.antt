@@ -9,7 +9,8 @@ use Rattle.osi_judge.specs.Stops.{breaks, broke_session}
 use Rattle.osi_judge.specs.Tapping.{or_hasty}
 use Rattle.osi_judge.specs.declared.stops.Stopped.{Stopped as StoppedAt}
 use Rattle.osi_tpdu.specs.Packet.{units_of}
-use Rattle.osi_judge.specs.Transport.{Handshake, first_unit, Move, step_of, noted, hasty_behind, Stage, opening, asking, between, within, refused, stopped, stage_behind, Sent}
+use Rattle.osi_judge.specs.Transport.{Handshake, first_unit, Move, step_of, noted, hasty_behind, Stage, opening}
+use Rattle.osi_judge.specs.Transport.{asking, between, within, refused, stopped, stage_behind, Sent}
 use Rattle.osi_judge.specs.Feeding.{Tapped, Passes, TakesPacket, Settles, goes_on, faulty, whole, with_octets, Feeds, ignored}
 use Rattle.osi_judge.specs.Feeding.{looked_at, stopped_by, stopped_of, has_broken}
 
@@ -58,7 +59,8 @@ fault_still (within first octets) f at h = absurd (cc)
 fault_still (stopped stop packet) f at h = h
 
 -- a DT before the connection was open stays one
-hasty_still : (h k : Option ℕ) (a b : Option StoppedAt) → (h ≡ None → k ≡ None → breaks a ≡ true → breaks b ≡ true) → ((p : ℕ) → h ≡ Some p → k ≡ Some p)
+hasty_still : (h k : Option ℕ) (a b : Option StoppedAt) → (h ≡ None → k ≡ None → breaks a ≡ true → breaks b ≡ true)
+    → ((p : ℕ) → h ≡ Some p → k ≡ Some p)
     → breaks (or_hasty h a) ≡ true → breaks (or_hasty k b) ≡ true
 hasty_still (Some p) k a b f g e = ap (λ (x : Option ℕ). breaks (or_hasty x b)) (g p refl)
 hasty_still None (Some p) a b f g e = refl
@@ -68,7 +70,8 @@ noted_stays : (h : Option ℕ) (at : ℕ) (m : Move) (p : ℕ) → h ≡ Some p 
 noted_stays (Some q) at m p e = e
 noted_stays None at m p e = absurd (cc)
 
-hasty_stays : (d : Direction) (come : Handshake) (s : Stage) (h : Option ℕ) (at : ℕ) (u : List ℕ) (p : ℕ) → h ≡ Some p → hasty_behind d come s h at u ≡ Some p
+hasty_stays : (d : Direction) (come : Handshake) (s : Stage) (h : Option ℕ) (at : ℕ) (u : List ℕ) (p : ℕ) → h ≡ Some p
+    → hasty_behind d come s h at u ≡ Some p
 hasty_stays d come opening h at u p e = noted_stays h at (step_of d opening come (first_unit (units_of u))) p e
 hasty_stays d come asking h at u p e = noted_stays h at (step_of d asking come (first_unit (units_of u))) p e
 hasty_stays d come between h at u p e = noted_stays h at (step_of d between come (first_unit (units_of u))) p e
@@ -76,7 +79,8 @@ hasty_stays d come (within first octets) h at u p e = noted_stays h at (step_of 
 hasty_stays d come (refused packet) h at u p e = noted_stays h at (step_of d (refused packet) come (first_unit (units_of u))) p e
 hasty_stays d come (stopped stop packet) h at u p e = e
 
-no_fault : (t : Tapped) → t.fault ≡ None → breaks (stopped_by t.line.stage t.fault t.line.at) ≡ true → breaks (stopped_by t.line.stage None t.line.at) ≡ true
+no_fault : (t : Tapped) → t.fault ≡ None → breaks (stopped_by t.line.stage t.fault t.line.at) ≡ true
+    → breaks (stopped_by t.line.stage None t.line.at) ≡ true
 no_fault t n h = ap (λ (x : Option TpktFault). breaks (stopped_by t.line.stage x t.line.at)) (sym n) ∙ h
 
 packet_stop : (d : Direction) (unit : List ℕ) (since : ℕ) (come : Handshake) (t new : Tapped) (o o2 : Watched) → t.fault ≡ None
@@ -97,7 +101,8 @@ packet_still d unit since come t new o o2 n p (inl h) =
 packet_still d unit since come t new o o2 n p (inr h) =
     two (broke_session new.side.finding) (breaks (stopped_of new)) (packet_stop d unit since come t new o o2 n p h)
 
-faulty_stop : (t : Tapped) (f : TpktFault) → t.fault ≡ None → breaks (stopped_of t) ≡ true → breaks (or_hasty t.line.hasty (stopped_by t.line.stage (Some f) t.line.at)) ≡ true
+faulty_stop : (t : Tapped) (f : TpktFault) → t.fault ≡ None → breaks (stopped_of t) ≡ true
+    → breaks (or_hasty t.line.hasty (stopped_by t.line.stage (Some f) t.line.at)) ≡ true
 faulty_stop t f n h =
     hasty_still t.line.hasty t.line.hasty (stopped_by t.line.stage t.fault t.line.at) (stopped_by t.line.stage (Some f) t.line.at)
     (λ a b k. fault_still t.line.stage f t.line.at (no_fault t n k)) (λ q e. e) h
@@ -108,13 +113,16 @@ faulty_still t f n (inl h) = one (broke_session t.side.finding) (breaks (or_hast
 faulty_still t f n (inr h) =
     two (broke_session t.side.finding) (breaks (or_hasty t.line.hasty (stopped_by t.line.stage (Some f) t.line.at))) (faulty_stop t f n h)
 
-settles_still : (d : Direction) (since : ℕ) (come : Handshake) (t new : Tapped) (o o2 : Watched) → t.fault ≡ None → Settles d since come t new o o2
+settles_still : (d : Direction) (since : ℕ) (come : Handshake) (t new : Tapped) (o o2 : Watched) → t.fault ≡ None
+    → Settles d since come t new o o2
     → has_broken t ≡ true → has_broken new ≡ true
 settles_still d since come t new o o2 n (goes_on r i j) h = ap has_broken i ∙ h
-settles_still d since come t new o o2 n (faulty f r i j) h = ap has_broken i ∙ faulty_still t f n (either (broke_session t.side.finding) (breaks (stopped_of t)) h)
+settles_still d since come t new o o2 n (faulty f r i j) h = ap has_broken i
+    ∙ faulty_still t f n (either (broke_session t.side.finding) (breaks (stopped_of t)) h)
 settles_still d since come t new o o2 n (whole unit k l p x) h = packet_still d unit since come t new o o2 n x (either (broke_session t.side.finding) (breaks (stopped_of t)) h)
 
-pub broken_still : (d : Direction) (octets : List ℕ) (come : Handshake) (t new : Tapped) (o o2 : Watched) → Feeds d octets come t new o o2 → has_broken t ≡ true
+pub broken_still : (d : Direction) (octets : List ℕ) (come : Handshake) (t new : Tapped) (o o2 : Watched) → Feeds d octets come t new o o2
+    → has_broken t ≡ true
     → has_broken new ≡ true
 broken_still d octets come t new o o2 (ignored f n i j) h = ap has_broken i ∙ h
 broken_still d octets come t new o o2 (looked_at n w s) h = settles_still d _ _ (with_octets t octets) new o o2 n s h

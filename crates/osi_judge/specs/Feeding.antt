@@ -1,5 +1,6 @@
 -- What octets of a side do to what is kept of it.
-use Rattle.std.specs.Prelude.{◌≡◌, ◌≤◌, ◌<◌, ℕ, ◌+◌, ◌-◌, List, [], ◌∷◌, ◌++◌, length, take, Bool, ◌||◌, Option, Some, None, option_map, Result, Ok, Err}
+use Rattle.std.specs.Prelude.{◌≡◌, ◌≤◌, ◌<◌, ℕ, ◌+◌, ◌-◌, List, [], ◌∷◌, ◌++◌, length, take, Bool, ◌||◌, Option, Some}
+use Rattle.std.specs.Prelude.{None, option_map, Result, Ok, Err}
 use Rattle.osi_tpkt.specs.Packet.{IsPacket, IsPartial, IsFaultOf, stated_length}
 use Rattle.osi_tpkt.specs.Stream.{offset_of}
 use Rattle.osi_tpkt.specs.declared.faults.TpktFault.{TpktFault}
@@ -28,7 +29,8 @@ use Rattle.osi_tpdu.specs.declared.unit.Tpdu.{Tpdu}
 use Rattle.osi_judge.specs.declared.findings.Finding.{Finding}
 use Rattle.osi_judge.specs.declared.findings.Finding.TheVariants.{Kept}
 use Rattle.osi_judge.specs.Transport.{Handshake, silent, asked, asked_again, agreed, denied, astray, first_unit, shaken}
-use Rattle.osi_judge.specs.Transport.{Move, asks, opens, step_of, Stage, opening, asking, between, within, refused, stopped, stage_behind, hasty_behind, Sent, sent_by}
+use Rattle.osi_judge.specs.Transport.{Move, asks, opens, step_of, Stage, opening, asking, between, within, refused}
+use Rattle.osi_judge.specs.Transport.{stopped, stage_behind, hasty_behind, Sent, sent_by}
 
 -- the first unit of a packet
 abbrev pub front : Result (Option Tpdu) TpduFault → Result (Option Value) TpduFault
@@ -53,8 +55,8 @@ stage_in (Stopped stop at) octets = stopped stop at
 
 -- The TSDUs of a side as far as they were read: the offset of the unfinished packet, how many of the other side's TSDUs had
 -- passed before it, and how far that side had come; how far this side has come, and how it stands; the first packet with a DT
--- before the connection was open; and how many had passed before the first packet of the unfinished TSDU. And how many packets were read, the reference of the CR or CC, and the
--- packet that ended the TSDU at which the side broke the protocol.
+-- before the connection was open; and how many had passed before the first packet of the unfinished TSDU. And how many
+-- packets were read, the reference of the CR or CC, and the packet that ended the TSDU at which the side broke the protocol.
 pub record Lined : Type 0 where
   pub at : ℕ
   pub since : ℕ
@@ -172,12 +174,15 @@ pub record TakesPacket (d : Direction) (unit : List ℕ) (since : ℕ) (h : Hand
 -- The octets that are held of the current packet are looked at.
 pub data Settles (d : Direction) (since : ℕ) (h : Handshake) (old new : Tapped) (other new_other : Watched) : Type 0 where
   -- the packet continues
-  goes_on : IsPartial old.held → new ≡ record old { line = record old.line { since = since; met = h } } → new_other ≡ other → Settles d since h old new other new_other
+  goes_on : IsPartial old.held → new ≡ record old { line = record old.line { since = since; met = h } } → new_other ≡ other
+      → Settles d since h old new other new_other
   -- no packet begins with them
-  faulty : (f : TpktFault) → IsFaultOf 0 old.held f → new ≡ record old { fault = Some f; line = record old.line { since = since; met = h } } → new_other ≡ other
+  faulty : (f : TpktFault) → IsFaultOf 0 old.held f
+      → new ≡ record old { fault = Some f; line = record old.line { since = since; met = h } } → new_other ≡ other
       → Settles d since h old new other new_other
   -- a packet is at their front
-  whole : (unit : List ℕ) (n : ℕ) → n ≤ length old.held → IsPacket unit (take n old.held) → TakesPacket d unit since h old new other new_other
+  whole : (unit : List ℕ) (n : ℕ) → n ≤ length old.held → IsPacket unit (take n old.held)
+      → TakesPacket d unit since h old new other new_other
       → Settles d since h old new other new_other
 
 -- how many had passed before the current packet: all, if it has not begun
@@ -211,9 +216,11 @@ with_octets t octets = record t { held = t.held ++ octets; octets = offset_of (t
 -- Octets of a side pass; the other side has come so far.
 pub data Feeds (d : Direction) (octets : List ℕ) (now : Handshake) (old new : Tapped) (other new_other : Watched) : Type 0 where
   -- they are not looked at
-  ignored : (f : TpktFault) → old.fault ≡ Some f → new ≡ with_count old (length octets) → new_other ≡ other → Feeds d octets now old new other new_other
+  ignored : (f : TpktFault) → old.fault ≡ Some f → new ≡ with_count old (length octets) → new_other ≡ other
+      → Feeds d octets now old new other new_other
   -- they belong to the unfinished packet
-  looked_at : old.fault ≡ None → IsWithin old.held (length octets) → Settles d (since_of old) (met_of now old) (with_octets old octets) new other new_other → Feeds d octets now old new other new_other
+  looked_at : old.fault ≡ None → IsWithin old.held (length octets)
+      → Settles d (since_of old) (met_of now old) (with_octets old octets) new other new_other → Feeds d octets now old new other new_other
 
 -- ---- where it is not read any further
 

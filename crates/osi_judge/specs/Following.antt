@@ -8,7 +8,8 @@ use Rattle.osi_judge.specs.declared.directions.Direction.TheVariants.{Left, Righ
 use Rattle.osi_judge.specs.declared.judge.Judge.{Judge}
 use Rattle.osi_judge.specs.declared.lines.Half.{Half}
 use Rattle.osi_judge.specs.Captures.{Capture, other, stream}
-use Rattle.osi_judge.specs.Transport.{silent, handshake_from, met_before, Stage, opening, asking, between, within, refused, stopped, begun, reference_in, Sent, stage_from, sent_from, hasty_from}
+use Rattle.osi_judge.specs.Transport.{silent, handshake_from, met_before, Stage, opening, asking, between, within}
+use Rattle.osi_judge.specs.Transport.{refused, stopped, begun, reference_in, Sent, stage_from, sent_from, hasty_from}
 use Rattle.osi_judge.specs.Tapping.{begin_of, had_passed, heard, told, IsPlace}
 use Rattle.osi_judge.specs.Feeding.{Tapped, tapped, has_broken}
 use Rattle.osi_judge.specs.Judging.{Watches}

@@ -3,7 +3,9 @@ use Rattle.std.specs.Prelude.{ℕ, Bool, true, false, Option, Some, None}
 use Rattle.osi_judge.specs.declared.findings.Finding.{Finding}
 use Rattle.osi_judge.specs.declared.findings.Finding.TheVariants.{Broke, Left, TooMany}
 use Rattle.osi_judge.specs.declared.stops.Stop.{Stop}
-use Rattle.osi_judge.specs.declared.stops.Stop.TheVariants.{NoOpening, OtherClass, Refused, MoreConnections, BadPacket, BadUnit, UnexpectedUnit, WrongForm, NothingToAnswer, TsduTooLong}
+use Rattle.osi_judge.specs.declared.stops.Stop.TheVariants.{NoOpening, OtherClass, Refused, MoreConnections, BadPacket}
+use Rattle.osi_judge.specs.declared.stops.Stop.TheVariants.{BadUnit, UnexpectedUnit, WrongForm, NothingToAnswer}
+use Rattle.osi_judge.specs.declared.stops.Stop.TheVariants.{TsduTooLong}
 use Rattle.osi_judge.specs.declared.stops.Stopped.{Stopped}
 
 -- if not, the connection is one that is not judged

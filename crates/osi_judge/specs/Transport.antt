@@ -1,5 +1,6 @@
 -- The transport of one side in class 0 (X.224 sections 6.5 to 6.7 and 8): a CR of left, the answer of right, and then DTs.
-use Rattle.std.specs.Prelude.{◌≡◌, ℕ, zero, suc, ◌+◌, ◌-◌, ◌==◌, ◌&&◌, ◌||◌, Bool, true, false, List, [], ◌∷◌, ◌++◌, length, nat_lt, nat_le, Option, Some, None}
+use Rattle.std.specs.Prelude.{◌≡◌, ℕ, zero, suc, ◌+◌, ◌-◌, ◌==◌, ◌&&◌, ◌||◌, Bool, true, false, List, [], ◌∷◌, ◌++◌}
+use Rattle.std.specs.Prelude.{length, nat_lt, nat_le, Option, Some, None}
 use Rattle.std.specs.Prelude.{Result, Ok, Err, if◌then◌else◌}
 use Rattle.osi_tpkt.specs.Stream.{Cuts, Ending}
 use Rattle.osi_tpdu.specs.Value.{Value, request, confirm, disconnect, disconnected, data0, error}
@@ -10,7 +11,8 @@ use Rattle.osi_class.specs.Negotiation.{proposes}
 use Rattle.osi_judge.specs.declared.directions.Direction.{Direction}
 use Rattle.osi_judge.specs.declared.directions.Direction.TheVariants.{Left, Right}
 use Rattle.osi_judge.specs.declared.stops.Stop.{Stop}
-use Rattle.osi_judge.specs.declared.stops.Stop.TheVariants.{NoOpening, OtherClass, MoreConnections, BadUnit, UnexpectedUnit, WrongForm, NothingToAnswer, TsduTooLong}
+use Rattle.osi_judge.specs.declared.stops.Stop.TheVariants.{NoOpening, OtherClass, MoreConnections, BadUnit}
+use Rattle.osi_judge.specs.declared.stops.Stop.TheVariants.{UnexpectedUnit, WrongForm, NothingToAnswer, TsduTooLong}
 use Rattle.osi_judge.specs.declared.steps.Step.{Step}
 use Rattle.osi_judge.specs.declared.steps.Step.TheVariants.{Asks, Opens, Adds, Hurries, Refuses, Ignores, Stops}
 use Rattle.osi_judge.specs.Captures.{Capture, other, stream, passed_before}
@@ -65,8 +67,8 @@ abbrev pub complete_in : ℕ → List (List ℕ) → List (List ℕ)
 complete_in n [] = []
 complete_in n (u ∷ us) = if nat_le (packet_length u) n then u ∷ complete_in (n - packet_length u) us else []
 
--- how far the other side, with these packets, had come before octet k of a side: by those of its packets of which all
--- octets had passed
+-- how far the other side, which has these packets, had come before octet k of a side: by the packets of which all octets had
+-- passed
 abbrev pub met_before : Direction → Capture → (others : List (List ℕ)) → ℕ → Handshake
 met_before d capture others k = handshake_from silent (complete_in (passed_before d capture k) others)
 
@@ -119,12 +121,12 @@ abbrev pub next_step : Value → Move
 next_step (data0 end octets) = adds end octets
 next_step v = misplaced v
 
--- a CR
+-- the first unit of left: a CR
 abbrev pub asking_step : Value → Move
 asking_step (request c) = if proposes c 0 then asks c.source else stops OtherClass
 asking_step v = stops NoOpening
 
--- the answer of right, if a CR had passed: a DR or an ER refuses it
+-- the answer of right to a CR that had passed, if it is no CC: a DR or an ER refuses it
 abbrev pub answering_step : Value → Move
 answering_step (disconnect destination source reason user) = refuses
 answering_step (error destination cause) = refuses
@@ -146,13 +148,13 @@ abbrev pub closing_step : (destination source : ℕ) → Value → Move
 closing_step destination source (disconnected d s) = if (d == source) && (s == destination) then refuses else stops NothingToAnswer
 closing_step destination source v = misplaced v
 
--- a DT before the answer of right: a break, but right takes it once it has accepted the CR, which had passed before it
+-- a DT before the answer of right: a break, but a right that accepts the CR takes it
 abbrev pub hasty_step : Value → Move
 hasty_step (data0 end octets) = hurries end octets
 hasty_step v = misplaced v
 
--- What left sends after its CR: DTs once the CC of right had passed, and a DC after its DR. Once right has strayed, left is
--- not judged any further: an end may answer then what it would not answer else.
+-- What left sends after its CR: DTs once the CC of right had passed, and a DC after the DR of right. Once right has strayed,
+-- left is not judged any further: it may then send what it would not send otherwise.
 abbrev pub later_step : Handshake → Value → Move
 later_step silent v = hasty_step v
 later_step agreed v = next_step v

@@ -4,8 +4,10 @@ ghost use Rattle.std.specs.Prelude.{◌≡◌, ◌≤◌, ◌<◌, ◌+◌, ◌+
 ghost use Rattle.osi_tpkt.specs.Packet.{stated_length};
 ghost use Rattle.osi_tpkt.specs.Stream.{offset_of};
 ghost use Rattle.osi_judge.specs.Sides.{watched};
-ghost use Rattle.osi_judge.specs.Transport.{silent, opening, asking, between, refused, stopped, begun, added, moved, adds, hurries, noted, brought, step as step_move};
-ghost use Rattle.osi_judge.specs.Feeding.{stage_in, handshake_in, lined, tapped, since_in, met_in, named, last_place, last_behind, Tells, hears, Passes};
+ghost use Rattle.osi_judge.specs.Transport.{silent, opening, asking, between, refused, stopped, begun, added, moved};
+ghost use Rattle.osi_judge.specs.Transport.{adds, hurries, noted, brought, step as step_move};
+ghost use Rattle.osi_judge.specs.Feeding.{stage_in, handshake_in, lined, tapped, since_in, met_in, named, last_place};
+ghost use Rattle.osi_judge.specs.Feeding.{last_behind, Tells, hears, Passes};
 ghost use Rattle.osi_judge.specs.Feeding.{TakesUnit, Settles, Feeds, placed, stopped_packet, stopped_of, has_broken};
 
 use crate::directions::Direction;

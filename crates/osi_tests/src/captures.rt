@@ -58,6 +58,7 @@ const FN_IN_PARTS: &[u8] = &[
 ];
 
 const NO_PACKET: &[u8] = &[0x04, 0x00, 0x00, 0x07];
+
 use Direction::{Left, Right};
 
 /// What passes, what is found of both sides, whose break passed first, and why the transport of left is not read any
@@ -164,6 +165,22 @@ const CAPTURES: &[Capture] = &[
         left: KEPT,
         right: KEPT,
         first: None,
+        stopped: None,
+    },
+    // a CN before the CC: a break of left, and right takes it
+    Capture {
+        pieces: &[(Left, CR), (Left, CN), (Right, CC), (Right, AC)],
+        left: KEPT,
+        right: KEPT,
+        first: Some(Left),
+        stopped: Some(Stop::UnexpectedUnit),
+    },
+    // data before the CC: a break of right
+    Capture {
+        pieces: &[(Left, CR), (Right, DT), (Right, CC)],
+        left: KEPT,
+        right: KEPT,
+        first: Some(Right),
         stopped: None,
     },
     // the middle of a connection
@@ -282,8 +299,10 @@ fn is_kept(judge: &Judge, told: usize) -> Result<(), Fail> {
 }
 
 fn a_long_capture_goes_on(judge: &mut Judge, octets: &[u8]) -> Result<(), Fail> {
-    feed(judge, Left, CR_AND_CN)?;
-    feed(judge, Right, CC_AND_AC)?;
+    feed(judge, Left, CR)?;
+    feed(judge, Right, CC)?;
+    feed(judge, Left, CN)?;
+    feed(judge, Right, AC)?;
     feed_a_thousand(judge)?;
     feed_the_longest(judge, octets)?;
     is_kept(judge, 1002)

@@ -24,7 +24,8 @@ returns-in-Ok-clause-feeds c =
     let header = subst (λ (x : List ℕ). length x < 4 → length x + w ≤ 4) seen c.wanted.ensures.header in
     let packet = subst (λ (x : List ℕ). 4 ≤ length x → length x < stated_length x → length x + w ≤ stated_length x) seen c.wanted.ensures.packet in
     let since = c.since_packet-since.ensures ∙ ap (λ (x : List ℕ). since_in x c.heard.result half.line.since) c.as_slice-2.ensures.value ∙ ap (λ (x : ℕ). since_in half.held.items x half.line.since) c.heard.ensures in
-    let met = c.met_packet-met.ensures ∙ ap (λ (x : List ℕ). met_in x (handshake_in c.args.now) (handshake_in half.line.met)) c.as_slice-3.ensures.value in
+    let met = c.met_packet-met.ensures
+    ∙ ap (λ (x : List ℕ). met_in x (handshake_in c.args.now) (handshake_in half.line.met)) c.as_slice-3.ensures.value in
     let within : used ≤ length c.args.piece.now = omega arith in
     let count = c.saturating_add-half-2.ensures ∙ ap (λ (x : ℕ). offset_of (half.octets + x)) (sym (length-take-le used c.args.piece.now within)) in
     looked c.args.direction (take used c.args.piece.now) c.extend_from_slice.new.self.items c.since_packet-since.result c.saturating_add-half-2.result (handshake_in c.args.now) (handshake_in c.met_packet-met.result) (tapped half) (tapped c.settle.new.half) (watched c.args.other.now) (watched c.settle.new.other)
