@@ -18,7 +18,7 @@ use Rattle.osi_judge.specs.declared.stops.Stop.TheVariants.{OtherClass, TsduTooL
 use Rattle.osi_judge.specs.Captures.{Capture, other, stream}
 use Rattle.osi_judge.specs.Following.{shown, Follows, Judged, half_of, Taps, kept_of}
 use Rattle.osi_judge.specs.Keeping.{is_same, kept_in, once, once_behind}
-use Rattle.osi_judge.specs.Outlines.{outline, outlines}
+use Rattle.osi_judge.specs.Outlines.{outlines}
 use Rattle.osi_judge.specs.Tapping.{octets_of, heard, told}
 use Rattle.osi_judge.specs.Transport.{Move, opens, adds, stops, first_step, next_step, step_of, Stage, opening, between, within, stopped, is_open, begun, is_too_long, added, moved, stage_behind, Sent, ended, brought, sent_by, stage_from, sent_from}
 use Rattle.osi_judge.proofs.SideLaws.{few_by}

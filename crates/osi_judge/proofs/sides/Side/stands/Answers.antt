@@ -1,7 +1,7 @@
-use Rattle.std.proofs.Common.{◌≡◌, false, refl, subst, List, ℕ}
+use Rattle.std.proofs.Common.{◌≡◌, false, refl, subst, List}
 use Rattle.osi_judge.specs.declared.members.Member.{Member}
 use Rattle.osi_judge.specs.Judging.{is_empty}
-use Rattle.osi_judge.specs.Onward.{IsAmong, StandsBehind}
+use Rattle.osi_judge.specs.Onward.{IsAmong}
 use Rattle.osi_judge.specs.Sides.{watched}
 use Rattle.osi_judge.proofs.OnwardLaws.{stands_ok}
 use Rattle.osi_judge.proofs.sides.Side.stands.Goals as goal
