@@ -1,13 +1,12 @@
 -- What is explained, found and taken where outlines were heard is so where the TSDUs themselves were.
 -- For the judge, which keeps outlines, and says what holds of the TSDUs of a capture.
-use Rattle.std.proofs.Common.{◌≡◌, ◌∙◌, refl, sym, ap, subst, ℕ, zero, suc, ◌+◌, ◌<◌, ◌⊎◌, inl, inr, Bool, true, false, ◌&&◌, nat_le}
+use Rattle.std.proofs.Common.{◌≡◌, ◌∙◌, refl, sym, ap, subst, ℕ, zero, suc, ◌+◌, inl, inr, Bool, true, false, ◌&&◌, nat_le}
 use Rattle.std.proofs.Common.{nat_lt, List, [], ◌∷◌, ◌++◌, length, take, map, get_or}
-use Rattle.std.proofs.Common.{Option, Some, None, Result, Ok, Err, IfSome, if◌then◌else◌, arith}
+use Rattle.std.proofs.Common.{Option, Some, None, Result, Ok, IfSome, if◌then◌else◌, arith}
 use Rattle.osi_spdu.specs.declared.faults.SpduFault.{SpduFault}
 use Rattle.osi_spdu.specs.Reading.{tsdu_at, unit_at}
 use Rattle.osi_message.specs.Meanings.{Meaning, CN, AC, GT, PT}
 use Rattle.osi_message.specs.Reading.{alone, behind, said_at}
-use Rattle.osi_message.specs.Sendable.{IsSendable, words_of}
 use Rattle.osi_message.specs.Tokens.{no_token}
 use Rattle.osi_message.specs.Words.{Word, Words, part, part_octets, says}
 use Rattle.osi_message.specs.Written.{is_second, written}
@@ -19,7 +18,7 @@ use Rattle.osi_judge.specs.declared.findings.Finding.{Finding}
 use Rattle.osi_judge.specs.declared.findings.Finding.TheVariants.{Kept, Broke, Left, TooMany}
 use Rattle.osi_judge.specs.declared.members.Member.{Member}
 use Rattle.osi_judge.specs.declared.standings.Stands.{Stands}
-use Rattle.osi_judge.specs.Explaining.{Explains, Remark, Told, IsBlamed, IsExplained, done, takes, answers, says as sends}
+use Rattle.osi_judge.specs.Explaining.{Explains, Remark, Told, IsExplained, done, takes, answers, says as sends}
 use Rattle.osi_judge.specs.Judging.{IsAstray, IsFound, IsKept}
 use Rattle.osi_judge.specs.Members.{Extends}
 use Rattle.osi_judge.specs.Onward.{Comes, IsAtEnd, OwesTo, Quietly, StandsBehind, StopsBy, goes, standing_of, stays}

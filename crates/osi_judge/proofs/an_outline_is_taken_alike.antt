@@ -1,8 +1,8 @@
 -- A TSDU and its outline have the same effect on every session, but for what its user is shown.
 -- For the judge, which keeps outlines, and says what holds of the TSDUs.
 use Rattle.std.proofs.Common.{◌≡◌, ◌∙◌, refl, sym, ap, subst, ℕ, ◌+◌, ◌<◌, ◌≤◌, Bool, true, false, not, ◌&&◌, ◌||◌, nat_le, List, [], ◌∷◌}
-use Rattle.std.proofs.Common.{◌++◌, length, map, get_or, IfOk, IfSome}
-use Rattle.std.proofs.Common.{Option, Some, None, option_map, Result, Ok, Err, if◌then◌else◌, arith}
+use Rattle.std.proofs.Common.{◌++◌, length, map, IfOk, IfSome}
+use Rattle.std.proofs.Common.{Option, Some, None, Result, Ok, Err, if◌then◌else◌, arith}
 use Rattle.std.proofs.lemmas.Bool.{le-leb, leb-false, leb-true}
 use Rattle.std.proofs.lemmas.List.{append-nil, length-append, length-replicate}
 use Rattle.osi_spdu.specs.declared.faults.SpduFault.{SpduFault}
@@ -13,30 +13,28 @@ use Rattle.osi_spdu.proofs.Digits.{numeral_digits}
 use Rattle.osi_spdu.proofs.MadeLaws.{few_fit}
 use Rattle.osi_spdu.proofs.UnitsLaws.{tsdu_read}
 use Rattle.osi_spdu.proofs.WrittenLaws.{units_written}
-use Rattle.osi_message.specs.Meanings.{Meaning, CN, AC, RF, DT, GT, PT, MIP, MIA, MAP, MAA, RS, RA, FN, DN, NF, AB, AA}
+use Rattle.osi_message.specs.Meanings.{Meaning, CN, AC, DT, GT, PT}
 use Rattle.osi_message.specs.Plain.{data_octets}
-use Rattle.osi_message.specs.Numbered.{IsNumbered, IsNumberedWord, AreNumberedWords}
+use Rattle.osi_message.specs.Numbered.{IsNumbered, AreNumberedWords}
 use Rattle.osi_message.specs.Reading.{alone, behind, said_at, said_if_read, said_by_units, word}
 use Rattle.osi_message.specs.Sendable.{IsSendable, words_of}
 use Rattle.osi_message.specs.Tokens.{is_empty, no_token}
 use Rattle.osi_message.specs.declared.places.Place.{Place}
 use Rattle.osi_message.specs.declared.places.Place.TheVariants.{First, Middle, Last}
-use Rattle.osi_message.specs.Words.{Word, Words, as_message, part, part_octets, says}
+use Rattle.osi_message.specs.Words.{Word, Words, part, part_octets, says}
 use Rattle.osi_message.specs.Written.{is_second, spelled, user_data_of, written}
 use Rattle.osi_message.proofs.FittingLaws.{spelled_fits, spelled_formed}
 use Rattle.osi_message.proofs.NumberLaws.{units_numbered}
 use Rattle.osi_message.proofs.PartLaws.{part_said}
 use Rattle.osi_message.proofs.PlainLaws.{data_written}
 use Rattle.osi_message.proofs.SendingLaws.{said_again}
-use Rattle.osi_session.specs.declared.state.State.{State}
 use Rattle.osi_session.specs.declared.faults.UnitFault.TheVariants.{BadEnclosure, DataTooLong, Unexpected}
 use Rattle.osi_session.specs.Allowed.{most_data}
-use Rattle.osi_session.specs.Counting.{taker_with}
-use Rattle.osi_session.specs.Joining.{Taker, Hearing, acting_words, begins_anew, enacted_word, heard, is_in_place, is_restart_word}
-use Rattle.osi_session.specs.Joining.{joined_octets, respond_came, respond_tsdu, respond_word, respond_words, word_conditions}
+use Rattle.osi_session.specs.Joining.{Taker, Hearing, acting_words, enacted_word, is_in_place, is_restart_word}
+use Rattle.osi_session.specs.Joining.{joined_octets, respond_came, respond_word, respond_words, word_conditions}
 use Rattle.osi_session.specs.Joining.{word_verdict}
 use Rattle.osi_session.specs.Phases.{is_over, is_restarting}
-use Rattle.osi_session.specs.Respond.{Verdict, bad, by_fault, conditions, dropped, drops, faulty, fine, first_fault, has_no_effect}
+use Rattle.osi_session.specs.Respond.{Verdict, by_fault, conditions, dropped, drops, faulty, fine, first_fault, has_no_effect}
 use Rattle.osi_session.specs.Respond.{is_expected, is_faulty, nothing, over, passes_restarting, si}
 use Rattle.osi_session.specs.Standing.{Count, counted}
 use Rattle.osi_session.proofs.CountingLaws.{count_then}

@@ -19,7 +19,7 @@ use Rattle.osi_judge.specs.declared.stops.Stop.TheVariants.{NoOpening, OtherClas
 use Rattle.osi_judge.specs.Captures.{Capture, other, stream}
 use Rattle.osi_judge.specs.Following.{shown, Follows, Judged, half_of, Taps, kept_of}
 use Rattle.osi_judge.specs.Keeping.{is_same, kept_in, once, once_behind}
-use Rattle.osi_judge.specs.Outlines.{outline, outlines}
+use Rattle.osi_judge.specs.Outlines.{outlines}
 use Rattle.osi_judge.specs.Tapping.{octets_of, heard, told}
 use Rattle.osi_judge.specs.Transport.{Handshake, silent, asked, asked_again, agreed, denied, astray, first_unit}
 use Rattle.osi_judge.specs.Transport.{met_before, Move, asks, opens, adds, hurries, refuses, ignores, stops}

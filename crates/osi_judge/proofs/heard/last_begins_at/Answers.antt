@@ -1,4 +1,4 @@
-use Rattle.std.proofs.Common.{◌∙◌, sym, ap, subst, nat_eq, ℕ, MatchBool, ◌≡◌, ◌≢◌, length, get_or, ◌-◌}
+use Rattle.std.proofs.Common.{◌∙◌, sym, ap, length, get_or, ◌-◌}
 use Rattle.osi_judge.specs.declared.heard.Run.{Run}
 use Rattle.osi_judge.specs.Runs.{last_from}
 use Rattle.osi_judge.proofs.equal_tsdus_in_a_row_are_kept_once.{is_or_not, last_begin}

@@ -1,4 +1,4 @@
-use Rattle.std.proofs.Common.{◌∙◌, refl, sym, ap, subst, ◌≡◌, ◌<◌, ℕ, true, false, List, length}
+use Rattle.std.proofs.Common.{◌∙◌, refl, sym, subst, ◌≡◌, ◌<◌, ℕ, true, false, List, length}
 use Rattle.osi_judge.specs.declared.heard.Run.{Run}
 use Rattle.osi_judge.specs.Keeping.{is_same}
 use Rattle.osi_judge.specs.Runs.{last_in}

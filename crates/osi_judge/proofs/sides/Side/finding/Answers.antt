@@ -1,4 +1,4 @@
-use Rattle.std.proofs.Common.{◌≡◌, subst, ℕ, List}
+use Rattle.std.proofs.Common.{subst, ℕ, List}
 use Rattle.osi_judge.specs.Judging.{IsFound}
 use Rattle.osi_judge.specs.Sides.{watched}
 use Rattle.osi_judge.proofs.SideLaws.{found_as}
