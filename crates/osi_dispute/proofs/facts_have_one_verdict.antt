@@ -16,12 +16,10 @@ use Rattle.osi_judge.specs.Captures.{Capture, other, stream}
 use Rattle.osi_judge.specs.Foremost.{foremost}
 use Rattle.osi_judge.specs.Onward.{StandsBehind}
 use Rattle.osi_judge.proofs.a_session_stands_in_one_way.{one_stands}
-use Rattle.osi_dispute.specs.declared.verdicts.Connection.{Connection}
 use Rattle.osi_dispute.specs.declared.verdicts.Connection.TheVariants.{Session}
 use Rattle.osi_judge.specs.Stops.{breaks, broke_session}
-use Rattle.osi_judge.specs.Transport.{opening, reference_in, Sent, packets_length, last_packet, stage_from, IsSent}
+use Rattle.osi_judge.specs.Transport.{opening, reference_in, Sent, packets_length, last_packet, stage_from}
 use Rattle.osi_judge.specs.Tapping.{IsReadIn, IsReferenceIn, IsStoppedIn, IsPlaceIn, IsCountIn, IsRuleIn, IsStandingIn, heard, stop_in}
-use Rattle.osi_dispute.specs.declared.verdicts.Told.{Told}
 use Rattle.osi_dispute.specs.declared.verdicts.Told.TheVariants as told
 use Rattle.osi_dispute.specs.declared.verdicts.Verdict.{Verdict}
 use Rattle.osi_dispute.specs.Facts.{Determined, is_broken, IsFirstOf, Facts, AreFacts, told_by, told_of, is_refused, connection_by, left_first, outcome_by, verdict_by}

@@ -11,7 +11,7 @@ use Rattle.osi_judge.specs.declared.members.Member.{Member}
 use Rattle.osi_judge.specs.declared.rules.Break.{Break}
 use Rattle.osi_judge.specs.declared.standings.Stands.{Stands}
 use Rattle.osi_judge.specs.declared.stops.Stopped.{Stopped}
-use Rattle.osi_judge.specs.Captures.{Capture, other}
+use Rattle.osi_judge.specs.Captures.{Capture}
 use Rattle.osi_judge.specs.Explaining.{Told as ToldOf}
 use Rattle.osi_judge.specs.Feeding.{Tapped, reading_of, stopped_of}
 use Rattle.osi_judge.specs.Following.{Judged, judged, half_of, first_in, Taps, FirstIs}
@@ -25,9 +25,8 @@ use Rattle.osi_dispute.specs.declared.verdicts.Connection.{Connection}
 use Rattle.osi_dispute.specs.declared.verdicts.Connection.TheVariants.{Silent, Refused, Unanswered, Session}
 use Rattle.osi_dispute.specs.declared.verdicts.Account.{Account}
 use Rattle.osi_dispute.specs.declared.verdicts.Outcome.{Outcome}
-use Rattle.osi_dispute.specs.declared.verdicts.Verdict.{Verdict}
-use Rattle.osi_dispute.specs.Facts.{Facts, AreFacts, told_by, told_of, is_refused, connection_by, account_by, left_first, verdict_by}
-use Rattle.osi_dispute.specs.Facts.{IsFirstOf, IsDetermined, StandsIn, facts_of, IsStandingOf, StandsBy, IsToldOf, Connects, Accounts}
+use Rattle.osi_dispute.specs.Facts.{Facts, AreFacts, told_by, told_of, is_refused, connection_by, left_first}
+use Rattle.osi_dispute.specs.Facts.{IsFirstOf, IsDetermined, StandsIn, facts_of, StandsBy, IsToldOf, Connects, Accounts}
 use Rattle.osi_dispute.specs.Facts.{outcome_in}
 use Rattle.osi_dispute.specs.Verdicts.{Knows}
 

@@ -1,5 +1,4 @@
 use Rattle.std.proofs.Common.{◌≡◌, ◌++◌, ◌∷◌, [], rules}
-use Rattle.osi_judge.specs.Judging.{Watched}
 use Rattle.osi_judge.specs.Sides.{watched}
 use Rattle.osi_judge.proofs.SideLaws.{hears_as}
 use Rattle.osi_judge.proofs.sides.Side.hear.Goals as goal

@@ -1,8 +1,8 @@
-use Rattle.std.proofs.Common.{◌≡◌, ◌∙◌, ap, false, subst, List, ℕ}
+use Rattle.std.proofs.Common.{◌≡◌, ◌∙◌, ap, false, subst, List}
 use Rattle.osi_judge.specs.declared.members.Member.{Member}
 use Rattle.osi_judge.specs.Foremost.{foremost}
 use Rattle.osi_judge.specs.Judging.{is_empty}
-use Rattle.osi_judge.specs.Onward.{IsAmong, StandsBehind}
+use Rattle.osi_judge.specs.Onward.{IsAmong}
 use Rattle.osi_judge.specs.Sides.{watched}
 use Rattle.osi_judge.proofs.OnwardLaws.{stands_ok}
 use Rattle.osi_judge.proofs.sides.Side.stands.Goals as goal
