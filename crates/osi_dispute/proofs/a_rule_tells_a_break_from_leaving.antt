@@ -1,7 +1,7 @@
 -- The sessions before a break determine its rule, and whether it breaks the protocol or leaves the profile: for the law that a
 -- text has one judgement.
 use Rattle.std.proofs.Common.{◌≡◌, ◌∙◌, refl, sym, ap, subst, ℕ, zero, suc, ◌+◌, ◌<◌, ◌⊎◌, inl, inr, true, false, Bool, List, [], ◌∷◌}
-use Rattle.std.proofs.Common.{length, take, get_or, Some, Option, arith}
+use Rattle.std.proofs.Common.{length, take, get_or, Some, arith}
 use Rattle.osi_judge.specs.declared.directions.Direction.{Direction}
 use Rattle.osi_judge.specs.declared.findings.Finding.{Finding}
 use Rattle.osi_judge.specs.declared.findings.Finding.TheVariants.{Kept, Broke, Left, TooMany}

@@ -23,7 +23,6 @@ use Rattle.osi_dispute.specs.Facts.{Determined, is_broken, IsFirstOf, Facts, Are
 use Rattle.osi_judge.specs.Foremost.{foremost}
 use Rattle.osi_judge.specs.Onward.{StandsBehind}
 use Rattle.osi_judge.proofs.a_session_stands_in_one_way.{one_stands}
-use Rattle.osi_dispute.specs.declared.verdicts.Connection.{Connection}
 use Rattle.osi_dispute.specs.declared.verdicts.Connection.TheVariants.{Session}
 use Rattle.osi_dispute.specs.Disputes.{IsJudgement}
 use Rattle.osi_dispute.specs.Texts.{verdict_text, verdict_status}

@@ -11,7 +11,7 @@ use Rattle.osi_judge.specs.declared.members.Member.{Member}
 use Rattle.osi_judge.specs.declared.rules.Break.{Break}
 use Rattle.osi_judge.specs.declared.standings.Stands.{Stands}
 use Rattle.osi_judge.specs.declared.stops.Stopped.{Stopped}
-use Rattle.osi_judge.specs.Captures.{Capture, other}
+use Rattle.osi_judge.specs.Captures.{Capture}
 use Rattle.osi_judge.specs.Explaining.{Told as ToldOf}
 use Rattle.osi_judge.specs.Feeding.{Tapped, reading_of, stopped_of}
 use Rattle.osi_judge.specs.Following.{Judged, judged, half_of, first_in, Taps, FirstIs}

@@ -2,7 +2,7 @@
 -- side.
 use Rattle.std.proofs.Common.{◌≡◌, ◌∙◌, refl, sym, ap, subst, ℕ, zero, suc, ◌+◌, ◌-◌, ◌<◌, ◌≤◌, Bool, true, false, if◌then◌else◌, List}
 use Rattle.std.proofs.Common.{[], ◌∷◌, ◌++◌}
-use Rattle.std.proofs.Common.{length, get_or, take, Option, Some, None, is_none, Result, Ok, Err, inl, inr, arith}
+use Rattle.std.proofs.Common.{length, get_or, Option, Some, None, is_none, Result, Ok, Err, arith}
 use Rattle.std.proofs.lemmas.List.{length-append}
 use Rattle.std.specs.List.{fold, flat_map}
 use Rattle.osi_spdu.specs.declared.faults.SpduFault.{SpduFault}

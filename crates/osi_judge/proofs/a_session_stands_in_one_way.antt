@@ -1,16 +1,16 @@
 -- Of a session one state is found after all that passed, and one answer that it owes: for the law that a text has one
 -- judgement.
-use Rattle.std.proofs.Common.{◌≡◌, ◌∙◌, refl, sym, ap, subst, ℕ, ◌+◌, ◌<◌, true, false, inl, inr, List, [], length, get_or, Option, Some}
+use Rattle.std.proofs.Common.{◌≡◌, ◌∙◌, refl, sym, ap, subst, ℕ, inl, inr, List, [], get_or, Option, Some}
 use Rattle.std.proofs.Common.{None, arith}
 use Rattle.osi_message.specs.Meanings.{Meaning, RF, AB, AA}
 use Rattle.osi_session.specs.declared.reactions.Reply.{Reply}
 use Rattle.osi_session.specs.declared.reactions.Reply.TheVariants.{VersionNotSupported, ImplementationRestriction, ProtocolError}
 use Rattle.osi_session.specs.declared.reactions.Reply.TheVariants.{AbortAccept}
 use Rattle.osi_session.specs.Steps.{reply_of}
-use Rattle.osi_session.specs.Standing.{Seen, Count, Takes}
+use Rattle.osi_session.specs.Standing.{Seen, Count}
 use Rattle.osi_judge.specs.declared.members.Member.{Member}
 use Rattle.osi_judge.specs.declared.standings.Stands.{Stands}
-use Rattle.osi_judge.specs.Onward.{OwesTo, StopsBy, IsAtEnd, standing_of, StandsBehind}
+use Rattle.osi_judge.specs.Onward.{StopsBy, IsAtEnd, standing_of, StandsBehind}
 use Rattle.osi_judge.proofs.WalkLaws.{takes_one}
 
 -- answers that are sent alike are the same: they differ in what they are, or in their reason

@@ -1,5 +1,5 @@
 -- By the sessions that explain what was sent before it, a TSDU has one break: for the law that a text has one judgement.
-use Rattle.std.proofs.Common.{◌≡◌, ◌∙◌, refl, sym, ap, subst, ℕ, ◌≤◌, ◌⊎◌, ◌↔◌, inl, inr, false, List, [], ◌∷◌, length, Result, Ok, Err}
+use Rattle.std.proofs.Common.{◌≡◌, ◌∙◌, refl, sym, ap, subst, ℕ, ◌⊎◌, ◌↔◌, inl, inr, false, List, [], ◌∷◌, length, Result, Ok, Err}
 use Rattle.std.proofs.Common.{arith}
 use Rattle.osi_spdu.specs.declared.faults.SpduFault.{SpduFault}
 use Rattle.osi_spdu.specs.Known.{Contents, Units}

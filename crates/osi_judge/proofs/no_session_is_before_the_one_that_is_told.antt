@@ -10,7 +10,7 @@ use Rattle.osi_judge.specs.declared.rules.Near.{Near}
 use Rattle.osi_judge.specs.declared.rules.Rule.{Rule}
 use Rattle.osi_judge.specs.Foremost.{is_before, before_of, foremost, PrecedesAll, FollowsNone, IsForemost}
 use Rattle.osi_judge.specs.Members.{is_empty}
-use Rattle.osi_judge.specs.Nearest.{place, is_nearer, Unsaid, rule_for, nearer_of, tried_by, tried, reached, far, nearest}
+use Rattle.osi_judge.specs.Nearest.{place, is_nearer, Unsaid, rule_for, tried_by, tried, reached, far, nearest}
 use Rattle.osi_judge.specs.Onward.{IsAmong, IsNearest}
 
 -- ---- the order of sessions

@@ -1,16 +1,15 @@
 -- The sessions that a member becomes are tried one after the other, and the nearest is told: for the functions of `rules`.
 use Rattle.std.proofs.Common.{◌≡◌, ◌∙◌, refl, sym, ap, subst, ℕ, zero, suc, ◌+◌, ◌-◌, ◌<◌, ◌≤◌, Bool, false, if◌then◌else◌, List, [], ◌∷◌}
 use Rattle.std.proofs.Common.{◌++◌}
-use Rattle.std.proofs.Common.{length, get_or, drop, replicate, Option, Some, None, is_none, option_map, Result, Ok, Err, IfOk, inl, inr}
+use Rattle.std.proofs.Common.{length, get_or, drop, replicate, Option, Some, None, is_none, option_map, Result, Ok, Err, IfOk}
 use Rattle.std.proofs.Common.{arith}
-use Rattle.std.proofs.lemmas.List.{append-nil, append_assoc, length-append, length-replicate}
+use Rattle.std.proofs.lemmas.List.{length-replicate}
 use Rattle.std.proofs.lemmas.List.Sums.{fold-append}
 use Rattle.std.specs.List.{fold, flat_map}
 use Rattle.osi_spdu.specs.declared.faults.SpduFault.{SpduFault}
 use Rattle.osi_spdu.specs.Known.{Contents, Units}
 use Rattle.osi_session.specs.declared.reactions.Reply.{Reply}
-use Rattle.osi_session.specs.Steps.{reply_of}
-use Rattle.osi_session.specs.Standing.{Seen, Count, Takes, listens, after_count}
+use Rattle.osi_session.specs.Standing.{Seen, Count, Takes, after_count}
 use Rattle.osi_judge.specs.declared.members.Member.{Member}
 use Rattle.osi_judge.specs.declared.rules.Break.{Break}
 use Rattle.osi_judge.specs.declared.rules.Near.{Near}

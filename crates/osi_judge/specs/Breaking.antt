@@ -11,7 +11,6 @@ use Rattle.osi_judge.specs.declared.rules.Break.{Break}
 use Rattle.osi_judge.specs.declared.rules.Rule.TheVariants.{Breach}
 use Rattle.osi_session.specs.declared.breaches.Breach.TheVariants.{Outside}
 use Rattle.osi_spdu.specs.declared.kinds.Kind.TheVariants.{Accept}
-use Rattle.osi_judge.specs.Explaining.{Remark}
 use Rattle.osi_judge.specs.Foremost.{foremost}
 use Rattle.osi_judge.specs.Members.{SomeExplains, is_empty}
 use Rattle.osi_judge.specs.Nearest.{a_unit, unread, break_of}

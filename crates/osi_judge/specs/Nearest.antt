@@ -1,16 +1,14 @@
 -- Of all sessions that may have sent what a side did, which came nearest to what it sent next, and by which rule it may not
 -- send it.
-use Rattle.std.specs.Prelude.{◌≡◌, ℕ, zero, suc, ◌+◌, ◌-◌, Bool, true, false, ◌&&◌, ◌||◌, ◌==◌, if◌then◌else◌, nat_lt, is_none, List, []}
-use Rattle.std.specs.Prelude.{◌∷◌, ◌++◌}
-use Rattle.std.specs.Prelude.{length, get_or, replicate, Option, Some, None, option_map, Result, Ok, Err}
+use Rattle.std.specs.Prelude.{ℕ, zero, suc, ◌+◌, ◌-◌, Bool, ◌&&◌, ◌||◌, ◌==◌, if◌then◌else◌, nat_lt, is_none, List, []}
+use Rattle.std.specs.Prelude.{◌∷◌}
+use Rattle.std.specs.Prelude.{length, get_or, replicate, Option, Some, None, option_map}
 use Rattle.std.specs.List.{fold, flat_map}
 use Rattle.osi_spdu.specs.declared.faults.SpduFault.{SpduFault}
 use Rattle.osi_spdu.specs.declared.kinds.Kind.{Kind}
-use Rattle.osi_spdu.specs.Known.{Contents, Units}
-use Rattle.osi_spdu.specs.Reading.{tsdu_at}
+use Rattle.osi_spdu.specs.Known.{Contents}
 use Rattle.osi_spdu.specs.Units.{said_by}
 use Rattle.osi_message.specs.Reading.{word, said_at}
-use Rattle.osi_session.specs.declared.breaches.Breach.{Breach as AnyBreach}
 use Rattle.osi_session.specs.declared.breaches.Breach.TheVariants as breach
 use Rattle.osi_session.specs.declared.faults.CallError.{CallError}
 use Rattle.osi_session.specs.declared.faults.CallError.TheVariants as error
@@ -24,7 +22,7 @@ use Rattle.osi_judge.specs.declared.rules.Question.{Question}
 use Rattle.osi_judge.specs.declared.rules.Question.TheVariants as question
 use Rattle.osi_judge.specs.declared.rules.Rule.{Rule}
 use Rattle.osi_judge.specs.declared.rules.Rule.TheVariants.{Breach, Fault}
-use Rattle.osi_judge.specs.Foremost.{is_before, first_of, foremost}
+use Rattle.osi_judge.specs.Foremost.{is_before, first_of}
 
 -- ---- the rules, by the order in which they are tested
 

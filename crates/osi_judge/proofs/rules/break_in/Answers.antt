@@ -1,4 +1,4 @@
-use Rattle.std.proofs.Common.{subst, List, [], ap}
+use Rattle.std.proofs.Common.{subst, List}
 use Rattle.osi_spdu.specs.Groups.{units_behind, units_of}
 use Rattle.osi_spdu.specs.Units.{said_by}
 use Rattle.osi_judge.specs.declared.members.Member.{Member}

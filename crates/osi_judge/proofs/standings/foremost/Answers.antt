@@ -1,7 +1,7 @@
-use Rattle.std.proofs.Common.{◌≡◌, ◌∙◌, refl, sym, ap, ◌+◌, drop, arith, List}
+use Rattle.std.proofs.Common.{◌∙◌, sym, ap, ◌+◌, drop, List}
 use Rattle.std.specs.List.{fold}
 use Rattle.osi_judge.specs.declared.members.Member.{Member}
-use Rattle.osi_judge.specs.Foremost.{before_of, first_of, foremost}
+use Rattle.osi_judge.specs.Foremost.{before_of, foremost}
 use Rattle.osi_judge.proofs.OnwardLaws.{among_next}
 use Rattle.osi_judge.proofs.the_nearest_of_all_sessions_is_told.{one_more, no_more}
 use Rattle.osi_judge.proofs.standings.foremost.Goals as goal
