@@ -1,6 +1,6 @@
 //! Pieces of a line of the listing.
 
-ghost use Rattle.std.specs.Prelude.{◌≡◌, ◌++◌, ◌<◌, ◌^◌, ◌+◌, ◌∷◌, [], length, option_copied, OnOk};
+ghost use Rattle.std.specs.Prelude.{◌≡◌, ◌++◌, ◌<◌, ◌≤◌, ◌^◌, ◌+◌, ◌∷◌, [], length, option_copied, OnOk};
 ghost use Rattle.std.specs.Fmt.{decimal};
 ghost use Rattle.hex.specs.Hex.{encode_lower};
 ghost use Rattle.osi_listing.specs.Lines.{code_end, packet_line, fault_line, rest_line, unit_fault_line, tsdu_line, too_long_line, number_field, reference_field, octet_field, octets_field};
@@ -28,6 +28,9 @@ pub fn push_decimal(text: &mut Vec<u8>, number: u64) -> Result<(), AllocError>
     if number < 10 {
         return push_digit(text, number as u8);
     }
+    if number < 100 {
+        return push_two_digits(text, number as u8);
+    }
     push_long_decimal(text, number)
 }
 
@@ -42,7 +45,18 @@ fn push_digit(text: &mut Vec<u8>, number: u8) -> Result<(), AllocError>
     Ok(())
 }
 
-/// Adds a number of several digits.
+/// Adds a number of two digits.
+#[inline(always)]
+#[tactic(auto, using(crate::proofs::Fields::two_digits))]
+fn push_two_digits(text: &mut Vec<u8>, number: u8) -> Result<(), AllocError>
+    requires at_least { 10 ≤ number }
+    requires at_most { number < 100 }
+    ensures { OnOk result (text.new.items ≡ text.old.items ++ decimal number) }
+{
+    text.extend_from_slice(&[b'0' + number / 10, b'0' + number % 10])
+}
+
+/// Adds a number of any length.
 fn push_long_decimal(text: &mut Vec<u8>, number: u64) -> Result<(), AllocError>
     ensures { OnOk result (text.new.items ≡ text.old.items ++ decimal number) }
 {
