@@ -1,4 +1,5 @@
 pub mod Digits
+pub mod OctetsOfDigits
 pub mod Fields
 pub mod Joining
 pub mod Listings

@@ -1,7 +1,7 @@
 -- The text of a capture: hexadecimal digits, blanks and comments.
-use Rattle.std.specs.Prelude.{◌≡◌, ℕ, ◌==◌, ◌||◌, not, Bool, true, false, List, [], ◌∷◌, filter, Ok, IsErr}
+use Rattle.std.specs.Prelude.{◌≡◌, ℕ, ◌+◌, ◌*◌, ◌==◌, ◌||◌, not, Bool, true, false, List, [], ◌∷◌, ◌++◌, filter, Option, Some, None, Ok, IsErr}
 use Rattle.std.specs.List.{before_first, flat_map, slice_split}
-use Rattle.hex.specs.Hex.{decode_of}
+use Rattle.hex.specs.Hex.{decode_of, hex_digit_value}
 
 -- the character that begins a comment, and the end of a line
 abbrev pub is_comment_sign : ℕ → Bool
@@ -39,3 +39,24 @@ later (line ∷ lines) = lines
 abbrev pub digits_left : Bool → List ℕ → List ℕ
 digits_left false text = digits_of text
 digits_left true text = digits_of_lines (later (slice_split is_line_feed text))
+
+-- octets, and after them those that follow, if there are any to be had
+abbrev pub after_octets : List ℕ → Option (List ℕ) → Option (List ℕ)
+after_octets octets None = None
+after_octets octets (Some more) = Some (octets ++ more)
+
+-- what a digit gives: the first one of an octet is kept for what follows, and the second one completes the octet
+abbrev pub with_digit : Option ℕ → ℕ → (Option ℕ → Option (List ℕ)) → Option (List ℕ)
+with_digit None digit following = following (Some digit)
+with_digit (Some high) digit following = after_octets ((high * 16 + digit) ∷ []) (following None)
+
+-- the value of a character, if it is a digit, taken further
+abbrev pub if_digit : Option ℕ → (ℕ → Option (List ℕ)) → Option (List ℕ)
+if_digit None following = None
+if_digit (Some digit) following = following digit
+
+-- the octets of digits, after the first digit of an octet or after none; nothing if there is another character, or half an octet
+abbrev pub octets_from : List ℕ → Option ℕ → Option (List ℕ)
+octets_from [] None = Some []
+octets_from [] (Some high) = None
+octets_from (c ∷ digits) high = if_digit (hex_digit_value c) (λ digit. with_digit high digit (octets_from digits))

@@ -1,15 +1,19 @@
 //! Pieces of a line of the listing.
 
-ghost use Rattle.std.specs.Prelude.{◌≡◌, ◌++◌, ◌<◌, ◌^◌, ◌+◌, ◌∷◌, [], length, option_copied, OnOk};
+ghost use Rattle.std.specs.Prelude.{◌≡◌, ◌++◌, ◌<◌, ◌≤◌, ◌^◌, ◌+◌, ◌∷◌, [], length, option_copied, OnOk};
 ghost use Rattle.std.specs.Fmt.{decimal};
 ghost use Rattle.hex.specs.Hex.{encode_lower};
 ghost use Rattle.osi_listing.specs.Lines.{code_end, packet_line, fault_line, rest_line, unit_fault_line, tsdu_line, too_long_line, number_field, reference_field, octet_field, octets_field};
 
 use osi_tpdu::TpduFault;
 use osi_tpkt::TpktFault;
-use std::alloc::{AllocError, Global};
+use std::alloc::AllocError;
+
+/// The digits of octets in hexadecimal.
+const DIGITS: &[u8; 16] = b"0123456789abcdef";
 
 /// Adds words to a text.
+#[inline(always)]
 pub fn push_words(text: &mut Vec<u8>, words: &str) -> Result<(), AllocError>
     ensures { OnOk result (text.new.items ≡ text.old.items ++ words.now) }
 {
@@ -17,7 +21,43 @@ pub fn push_words(text: &mut Vec<u8>, words: &str) -> Result<(), AllocError>
 }
 
 /// Adds a number in decimal.
+#[inline(always)]
 pub fn push_decimal(text: &mut Vec<u8>, number: u64) -> Result<(), AllocError>
+    ensures { OnOk result (text.new.items ≡ text.old.items ++ decimal number) }
+{
+    if number < 10 {
+        return push_digit(text, number as u8);
+    }
+    if number < 100 {
+        return push_two_digits(text, number as u8);
+    }
+    push_long_decimal(text, number)
+}
+
+/// Adds a number of one digit.
+#[inline(always)]
+#[tactic(auto, using(std::proofs::lemmas::Fmt::decimal_digit))]
+fn push_digit(text: &mut Vec<u8>, number: u8) -> Result<(), AllocError>
+    requires { number < 10 }
+    ensures { OnOk result (text.new.items ≡ text.old.items ++ decimal number) }
+{
+    text.push(b'0' + number)?;
+    Ok(())
+}
+
+/// Adds a number of two digits.
+#[inline(always)]
+#[tactic(auto, using(crate::proofs::Fields::two_digits))]
+fn push_two_digits(text: &mut Vec<u8>, number: u8) -> Result<(), AllocError>
+    requires at_least { 10 ≤ number }
+    requires at_most { number < 100 }
+    ensures { OnOk result (text.new.items ≡ text.old.items ++ decimal number) }
+{
+    text.extend_from_slice(&[b'0' + number / 10, b'0' + number % 10])
+}
+
+/// Adds a number of any length.
+fn push_long_decimal(text: &mut Vec<u8>, number: u64) -> Result<(), AllocError>
     ensures { OnOk result (text.new.items ≡ text.old.items ++ decimal number) }
 {
     let mut buffer = itoa::Buffer::new();
@@ -25,23 +65,31 @@ pub fn push_decimal(text: &mut Vec<u8>, number: u64) -> Result<(), AllocError>
 }
 
 /// Adds octets in hexadecimal.
-pub(crate) fn push_hex(alloc: Global, text: &mut Vec<u8>, octets: &[u8]) -> Result<(), AllocError>
+#[tactic(auto, using(crate::proofs::Fields::encode_lower_cons))]
+pub(crate) fn push_hex(text: &mut Vec<u8>, octets: &[u8]) -> Result<(), AllocError>
     ensures { OnOk result (text.new.items ≡ text.old.items ++ encode_lower octets.now) }
 {
-    let digits = hex::encode(alloc, octets)?;
-    text.extend_from_slice(digits.as_bytes())
+    'octets: for octet in octets {
+        push_octet(text, *octet)?;
+    }
+    Ok(())
 }
 
 /// Adds an octet in hexadecimal.
+#[inline(always)]
+#[tactic(auto, unfolding(hex::specs::Hex::encode_with))]
 pub fn push_octet(text: &mut Vec<u8>, octet: u8) -> Result<(), AllocError>
     ensures { OnOk result (text.new.items ≡ text.old.items ++ encode_lower (octet ∷ [])) }
 {
-    let mut digits = [0; 2];
-    let _ = hex::encode_to_slice([octet].as_slice(), &mut digits);
+    let digits = [
+        DIGITS[usize::from(octet / 16)],
+        DIGITS[usize::from(octet % 16)],
+    ];
     text.extend_from_slice(&digits)
 }
 
 /// Adds a word and a number.
+#[inline(always)]
 pub fn push_number_field(text: &mut Vec<u8>, word: &str, number: u64) -> Result<(), AllocError>
     ensures { OnOk result (text.new.items ≡ text.old.items ++ number_field word.now number) }
 {
@@ -50,6 +98,7 @@ pub fn push_number_field(text: &mut Vec<u8>, word: &str, number: u64) -> Result<
 }
 
 /// Adds a word and a reference.
+#[inline(always)]
 pub(crate) fn push_reference_field(
     text: &mut Vec<u8>,
     word: &str,
@@ -58,10 +107,8 @@ pub(crate) fn push_reference_field(
     ensures { OnOk result (text.new.items ≡ text.old.items ++ reference_field word.now reference) }
 {
     push_words(text, word)?;
-    let mut digits = [0; 4];
-    let octets = [(reference / 256) as u8, (reference % 256) as u8];
-    let _ = hex::encode_to_slice(octets.as_slice(), &mut digits);
-    text.extend_from_slice(&digits)
+    push_octet(text, (reference / 256) as u8)?;
+    push_octet(text, (reference % 256) as u8)
 }
 
 /// Adds a word and an octet, if there is one.
@@ -83,7 +130,6 @@ pub(crate) fn push_octet_field(
 
 /// Adds a word and octets, if there are any.
 pub(crate) fn push_octets_field(
-    alloc: Global,
     text: &mut Vec<u8>,
     word: &str,
     octets: Option<&[u8]>,
@@ -95,7 +141,7 @@ pub(crate) fn push_octets_field(
         None => Ok(()),
         Some(octets) => {
             push_words(text, word)?;
-            push_hex(alloc, text, octets)
+            push_hex(text, octets)
         }
     }
 }

@@ -98,15 +98,14 @@ fn list_unit(
     ensures holds { OnOk result ((earlier : List Part) → Holds streams.old earlier →
         Holds streams.new (earlier ++ option_to_list (part_of (value unit.now)))) }
 {
-    push_unit(alloc, text, unit)?;
+    push_unit(text, unit)?;
     counts.add_unit();
     let outcome = streams.take(alloc, unit)?;
-    list_outcome(alloc, text, counts, &outcome)
+    list_outcome(text, counts, &outcome)
 }
 
 /// Lists what a unit added to its stream.
 fn list_outcome(
-    alloc: Global,
     text: &mut Vec<u8>,
     counts: &mut Counts,
     outcome: &Outcome,
@@ -116,7 +115,7 @@ fn list_outcome(
 {
     match outcome {
         Outcome::Nothing => Ok(()),
-        Outcome::Whole(tsdu) => list_tsdu(alloc, text, counts, tsdu.as_slice()),
+        Outcome::Whole(tsdu) => list_tsdu(text, counts, tsdu.as_slice()),
         Outcome::TooLong => {
             counts.add_refused();
             push_too_long(text)
@@ -125,19 +124,14 @@ fn list_outcome(
 }
 
 /// Lists a complete TSDU, and its session units or only their fault.
-fn list_tsdu(
-    alloc: Global,
-    text: &mut Vec<u8>,
-    counts: &mut Counts,
-    tsdu: &[u8],
-) -> Result<(), AllocError>
+fn list_tsdu(text: &mut Vec<u8>, counts: &mut Counts, tsdu: &[u8]) -> Result<(), AllocError>
     ensures { OnOk result (Says text.old.items text.new.items counts.old counts.new
         (Tsdu tsdu.now ∷ session_entries (tsdu_at tsdu.now))) }
 {
     push_tsdu(text, tsdu.len() as u64)?;
     counts.add_tsdu();
     match read_tsdu(tsdu) {
-        Ok(group) => list_group(alloc, text, counts, &group),
+        Ok(group) => list_group(text, counts, &group),
         Err(fault) => {
             counts.add_refused();
             push_session_fault(text, fault)
@@ -146,20 +140,15 @@ fn list_tsdu(
 }
 
 /// Lists the session units of a TSDU.
-fn list_group(
-    alloc: Global,
-    text: &mut Vec<u8>,
-    counts: &mut Counts,
-    group: &Group,
-) -> Result<(), AllocError>
+fn list_group(text: &mut Vec<u8>, counts: &mut Counts, group: &Group) -> Result<(), AllocError>
     ensures { OnOk result (Says text.old.items text.new.items counts.old counts.new
         (map SessionUnit (units_in group.now))) }
 {
-    push_session_unit(alloc, text, group.first())?;
+    push_session_unit(text, group.first())?;
     counts.add_session_unit();
     let mut behind = group.behind();
     'units: while let Some(unit) = behind.next() {
-        push_session_unit(alloc, text, &unit)?;
+        push_session_unit(text, &unit)?;
         counts.add_session_unit();
     }
     Ok(())

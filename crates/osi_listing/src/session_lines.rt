@@ -8,20 +8,16 @@ ghost use Rattle.osi_listing.specs.SessionLines.{kind_name, value_field, member_
 
 use crate::lines::{push_decimal, push_hex, push_number_field, push_words};
 use osi_spdu::{Code, Kind, Spdu, SpduFault, Value};
-use std::alloc::{AllocError, Global};
+use std::alloc::AllocError;
 
 /// Adds the line of a session unit.
 #[tactic(auto, unfolding(crate::specs::SessionLines::session_line))]
-pub(crate) fn push_session_unit(
-    alloc: Global,
-    text: &mut Vec<u8>,
-    unit: &Spdu,
-) -> Result<(), AllocError>
+pub(crate) fn push_session_unit(text: &mut Vec<u8>, unit: &Spdu) -> Result<(), AllocError>
     ensures { OnOk result (text.new.items ≡ text.old.items ++ session_line (said_by unit.now)) }
 {
     push_words(text, "    ")?;
     push_words(text, name(unit.kind()))?;
-    push_parameters(alloc, text, unit)?;
+    push_parameters(text, unit)?;
     push_information(text, unit)?;
     push_words(text, "\n")
 }
@@ -54,35 +50,25 @@ fn name(kind: Kind) -> &'static str
 
 /// The parameters and groups of a unit, in rising order of code.
 #[tactic(auto, unfolding(crate::specs::SessionLines::session_fields))]
-fn push_parameters(alloc: Global, text: &mut Vec<u8>, unit: &Spdu) -> Result<(), AllocError>
+fn push_parameters(text: &mut Vec<u8>, unit: &Spdu) -> Result<(), AllocError>
     ensures { OnOk result (text.new.items ≡ text.old.items ++ session_fields (said_by unit.now)) }
 {
-    push_each(alloc, text, unit, unit.kind().codes())
+    push_each(text, unit, unit.kind().codes())
 }
 
 /// The parameters and groups of these codes.
-fn push_each(
-    alloc: Global,
-    text: &mut Vec<u8>,
-    unit: &Spdu,
-    codes: &[Code],
-) -> Result<(), AllocError>
+fn push_each(text: &mut Vec<u8>, unit: &Spdu, codes: &[Code]) -> Result<(), AllocError>
     ensures { OnOk result (text.new.items ≡ text.old.items
         ++ flat_map (λ c. parameter_field (said_by unit.now) c ((said_by unit.now).known c)) codes.now) }
 {
     'codes: for code in codes {
-        push_parameter(alloc, text, unit, *code)?;
+        push_parameter(text, unit, *code)?;
     }
     Ok(())
 }
 
 /// A parameter or a group, if it is present.
-fn push_parameter(
-    alloc: Global,
-    text: &mut Vec<u8>,
-    unit: &Spdu,
-    code: Code,
-) -> Result<(), AllocError>
+fn push_parameter(text: &mut Vec<u8>, unit: &Spdu, code: Code) -> Result<(), AllocError>
     ensures { OnOk result (text.new.items ≡ text.old.items
         ++ parameter_field (said_by unit.now) code ((said_by unit.now).known code)) }
 {
@@ -91,51 +77,45 @@ fn push_parameter(
     };
     push_words(text, " ")?;
     if code.is_group() {
-        return push_group(alloc, text, unit, code);
+        return push_group(text, unit, code);
     }
-    push_value(alloc, text, unit.written_code(code), value)
+    push_value(text, unit.written_code(code), value)
 }
 
 /// A code and its value.
-fn push_value(alloc: Global, text: &mut Vec<u8>, code: Code, value: Value) -> Result<(), AllocError>
+fn push_value(text: &mut Vec<u8>, code: Code, value: Value) -> Result<(), AllocError>
     ensures { OnOk result (text.new.items ≡ text.old.items ++ value_field code (octets_of value.entry)) }
 {
     push_decimal(text, u64::from(code.number()))?;
     push_words(text, "=")?;
-    push_hex(alloc, text, value.made())?;
-    push_hex(alloc, text, value.lent())
+    push_hex(text, value.made())?;
+    push_hex(text, value.lent())
 }
 
 /// A group, by its code and the parameters in it.
-fn push_group(alloc: Global, text: &mut Vec<u8>, unit: &Spdu, code: Code) -> Result<(), AllocError>
+fn push_group(text: &mut Vec<u8>, unit: &Spdu, code: Code) -> Result<(), AllocError>
     ensures { OnOk result (text.new.items ≡ text.old.items ++ group_field (said_by unit.now) code) }
 {
     push_decimal(text, u64::from(code.number()))?;
     push_words(text, "(")?;
-    push_members(alloc, text, unit, unit.kind().members(code))?;
+    push_members(text, unit, unit.kind().members(code))?;
     push_words(text, ")")
 }
 
 /// The parameters of a group, with a blank between each two.
-fn push_members(
-    alloc: Global,
-    text: &mut Vec<u8>,
-    unit: &Spdu,
-    members: &[Code],
-) -> Result<(), AllocError>
+fn push_members(text: &mut Vec<u8>, unit: &Spdu, members: &[Code]) -> Result<(), AllocError>
     ensures { OnOk result (text.new.items
         ≡ text.old.items ++ members_text (said_by unit.now).known members.now) }
 {
     let mut is_first = true;
     'members: for member in members {
-        is_first = push_member(alloc, text, unit, *member, is_first)?;
+        is_first = push_member(text, unit, *member, is_first)?;
     }
     Ok(())
 }
 
 /// A parameter of a group, if it is present. Returns whether the next one is the first.
 fn push_member(
-    alloc: Global,
     text: &mut Vec<u8>,
     unit: &Spdu,
     member: Code,
@@ -149,7 +129,7 @@ fn push_member(
         return Ok(is_first);
     };
     push_words(text, separator(is_first))?;
-    push_value(alloc, text, member, value)?;
+    push_value(text, member, value)?;
     Ok(false)
 }
 

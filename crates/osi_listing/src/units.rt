@@ -12,25 +12,25 @@ use crate::lines::{
 use osi_tpdu::{
     ConnectConfirm, ConnectFields, ConnectParameters, ConnectRequest, Selector, SizeCode, Tpdu,
 };
-use std::alloc::{AllocError, Global};
+use std::alloc::AllocError;
 
 /// Adds the line of a transport unit.
 #[tactic(auto, unfolding(crate::specs::Lines::unit_line))]
-pub(crate) fn push_unit(alloc: Global, text: &mut Vec<u8>, unit: &Tpdu) -> Result<(), AllocError>
+pub(crate) fn push_unit(text: &mut Vec<u8>, unit: &Tpdu) -> Result<(), AllocError>
     ensures { OnOk result (text.new.items ≡ text.old.items ++ unit_line (value unit.now)) }
 {
     push_words(text, "  ")?;
-    push_unit_fields(alloc, text, unit)?;
+    push_unit_fields(text, unit)?;
     push_words(text, "\n")
 }
 
 #[tactic(auto, unfolding(crate::specs::Lines::unit_fields))]
-fn push_unit_fields(alloc: Global, text: &mut Vec<u8>, unit: &Tpdu) -> Result<(), AllocError>
+fn push_unit_fields(text: &mut Vec<u8>, unit: &Tpdu) -> Result<(), AllocError>
     ensures { OnOk result (text.new.items ≡ text.old.items ++ unit_fields (value unit.now)) }
 {
     match unit {
-        Tpdu::Cr(request) => push_request(alloc, text, request),
-        Tpdu::Cc(confirm) => push_confirm(alloc, text, confirm),
+        Tpdu::Cr(request) => push_request(text, request),
+        Tpdu::Cc(confirm) => push_confirm(text, confirm),
         Tpdu::Dr(request) => {
             push_reference_field(text, "DR dst ", request.destination)?;
             push_reference_field(text, " src ", request.source)?;
@@ -65,32 +65,24 @@ fn push_unit_fields(alloc: Global, text: &mut Vec<u8>, unit: &Tpdu) -> Result<()
 
 /// A CR. It has no DST-REF of its own, so 0000 is printed.
 #[tactic(auto, unfolding(crate::specs::Lines::unit_fields))]
-fn push_request(
-    alloc: Global,
-    text: &mut Vec<u8>,
-    request: &ConnectRequest,
-) -> Result<(), AllocError>
+fn push_request(text: &mut Vec<u8>, request: &ConnectRequest) -> Result<(), AllocError>
     ensures { OnOk result (text.new.items
         ≡ text.old.items ++ unit_fields (a_request (request_content request.now))) }
 {
     push_words(text, "CR")?;
     push_connect_fields(text, 0, &request.fields)?;
-    push_parameter_fields(alloc, text, &request.fields.parameters)
+    push_parameter_fields(text, &request.fields.parameters)
 }
 
 /// A CC.
 #[tactic(auto, unfolding(crate::specs::Lines::unit_fields))]
-fn push_confirm(
-    alloc: Global,
-    text: &mut Vec<u8>,
-    confirm: &ConnectConfirm,
-) -> Result<(), AllocError>
+fn push_confirm(text: &mut Vec<u8>, confirm: &ConnectConfirm) -> Result<(), AllocError>
     ensures { OnOk result (text.new.items
         ≡ text.old.items ++ unit_fields (a_confirm confirm.now.destination (confirm_content confirm.now))) }
 {
     push_words(text, "CC")?;
     push_connect_fields(text, confirm.destination, &confirm.fields)?;
-    push_parameter_fields(alloc, text, &confirm.fields.parameters)
+    push_parameter_fields(text, &confirm.fields.parameters)
 }
 
 /// The fixed part of a CR or CC, with this DST-REF.
@@ -111,7 +103,6 @@ fn push_connect_fields(
 
 #[tactic(auto, unfolding(crate::specs::Lines::parameter_fields))]
 fn push_parameter_fields(
-    alloc: Global,
     text: &mut Vec<u8>,
     parameters: &ConnectParameters,
 ) -> Result<(), AllocError>
@@ -119,10 +110,10 @@ fn push_parameter_fields(
         ≡ text.old.items ++ parameter_fields (parameter_values parameters.now)) }
 {
     push_octet_field(text, " size ", size_octet(parameters.size))?;
-    push_octets_field(alloc, text, " calling ", selector_slice(parameters.calling))?;
-    push_octets_field(alloc, text, " called ", selector_slice(parameters.called))?;
+    push_octets_field(text, " calling ", selector_slice(parameters.calling))?;
+    push_octets_field(text, " called ", selector_slice(parameters.called))?;
     push_octet_field(text, " more ", parameters.additional_options)?;
-    push_octets_field(alloc, text, " also ", parameters.alternative_classes)
+    push_octets_field(text, " also ", parameters.alternative_classes)
 }
 
 fn size_octet(size: Option<SizeCode>) -> Option<u8>

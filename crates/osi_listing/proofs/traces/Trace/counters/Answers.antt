@@ -1,4 +1,4 @@
-use Rattle.std.proofs.Common.{◌≤◌, ℕ, List, length, sym, subst, lit<, arith}
+use Rattle.std.proofs.Common.{◌≤◌, ℕ, List, length, sym, subst, arith}
 use Rattle.osi_listing.proofs.traces.Trace.counters.Goals as goal
 
 pub returns-clause-bounded : goal.returns-clause-bounded

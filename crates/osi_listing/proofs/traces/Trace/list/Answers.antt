@@ -1,6 +1,5 @@
-use Rattle.std.proofs.Common.{◌++◌, ℕ, List, inl, inr, subst}
+use Rattle.std.proofs.Common.{◌++◌, inl, inr}
 use Rattle.std.specs.Prelude.{vec_capacity}
-use Rattle.osi_listing.specs.Fed.{Feeds}
 use Rattle.osi_listing.specs.Traced.{unfetched}
 use Rattle.osi_listing.proofs.Tracing.{stops_lines, stops_for, kept}
 use Rattle.osi_listing.proofs.traces.Trace.list.Goals as goal
