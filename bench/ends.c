@@ -10,8 +10,8 @@
 #include <string.h>
 
 /* A slice is passed as a pointer and a length; the allocator passes nothing. */
-uint64_t osi_bench_stacks(const uint8_t *data, size_t length, size_t rounds, uint16_t connections, bool class_two,
-                          bool points, uint16_t size);
+uint64_t osi_bench_stacks(const uint8_t *data, size_t length, size_t rounds, uint16_t connections, uint16_t first,
+                          bool class_two, bool points, uint16_t size);
 
 static osi_end caller = OSI_END, called = OSI_END;
 static uint64_t messages, octets_shown;
@@ -103,7 +103,7 @@ int main(int count, char **words)
     memset(data, 0x41, sizeof data);
     uint64_t seen = strcmp(words[1], "c") == 0
         ? over_c(data, length, rounds, connections, class_two, points)
-        : osi_bench_stacks(data, length, rounds, connections, class_two, points, 0);
+        : osi_bench_stacks(data, length, rounds, connections, 1, class_two, points, 0);
     printf("%zu operations\n", rounds);
     return seen == 0 || refused != 0;
 }

@@ -7,8 +7,8 @@
 #include "timer.h"
 
 /* A slice is passed as a pointer and a length; the allocator passes nothing. */
-uint64_t osi_bench_stacks(const uint8_t *data, size_t length, size_t rounds, uint16_t connections, bool class_two, bool points,
-                          uint16_t size);
+uint64_t osi_bench_stacks(const uint8_t *data, size_t length, size_t rounds, uint16_t connections, uint16_t first,
+                          bool class_two, bool points, uint16_t size);
 
 /* The one pending indication: no later input is read before it is fetched. */
 struct stack {
@@ -177,9 +177,9 @@ static bool one_round(struct ends *e, unsigned reference, struct slice data, boo
     return true;
 }
 
-/* This many rounds over connections that take turns. */
-static uint64_t stacks_by_hand(const uint8_t *octets, size_t length, size_t rounds, uint16_t connections, bool class_two,
-                               bool points)
+/* This many rounds over connections that take turns: those from the first one given here to the last. */
+static uint64_t on_stacks_by_hand(const uint8_t *octets, size_t length, size_t rounds, uint16_t connections, uint16_t first,
+                                  bool class_two, bool points)
 {
     struct ends *e = calloc(1, sizeof *e);
     struct slice data = {octets, length};
@@ -188,7 +188,7 @@ static uint64_t stacks_by_hand(const uint8_t *octets, size_t length, size_t roun
         abort();
     open_stack(&e->caller, connections, class_two, true);
     open_stack(&e->called, connections, class_two, false);
-    for (size_t i = 0; i < rounds && one_round(e, (unsigned)(i % connections) + 1, data, points); i++)
+    for (size_t i = 0; i < rounds && one_round(e, first + (unsigned)(i % (connections - first + 1u)), data, points); i++)
         continue;
     answer = e->messages * 1000003 + e->octets;
     close_carrier(e->caller.carrier);
@@ -197,22 +197,39 @@ static uint64_t stacks_by_hand(const uint8_t *octets, size_t length, size_t roun
     return answer;
 }
 
+static uint64_t stacks_by_hand(const uint8_t *data, size_t length, size_t rounds, uint16_t connections, bool class_two,
+                               bool points)
+{
+    return on_stacks_by_hand(data, length, rounds, connections, 1, class_two, points);
+}
+
 /* No limit to the octets of a TSDU. */
 static uint64_t proved(const uint8_t *data, size_t length, size_t rounds, uint16_t connections, bool class_two, bool points)
 {
-    return osi_bench_stacks(data, length, rounds, connections, class_two, points, 0);
+    return osi_bench_stacks(data, length, rounds, connections, 1, class_two, points, 0);
+}
+
+/* Of these connections only the last is used, so that looking it up in the order of the connections costs most. */
+static uint64_t proved_last(const uint8_t *data, size_t length, size_t rounds, uint16_t connections, bool class_two, bool points)
+{
+    return osi_bench_stacks(data, length, rounds, connections, connections, class_two, points, 0);
+}
+
+static uint64_t last_by_hand(const uint8_t *data, size_t length, size_t rounds, uint16_t connections, bool class_two, bool points)
+{
+    return on_stacks_by_hand(data, length, rounds, connections, connections, class_two, points);
 }
 
 /* The largest limit: data of 100,000 octets leaves in two parts. */
 static uint64_t in_parts(const uint8_t *data, size_t length, size_t rounds, uint16_t connections, bool class_two, bool points)
 {
-    return osi_bench_stacks(data, length, rounds, connections, class_two, points, 65535);
+    return osi_bench_stacks(data, length, rounds, connections, 1, class_two, points, 65535);
 }
 
 /* A small limit: data of 1,000 octets leaves in five parts, so that the cost of a part is most of it. */
 static uint64_t in_short_parts(const uint8_t *data, size_t length, size_t rounds, uint16_t connections, bool class_two, bool points)
 {
-    return osi_bench_stacks(data, length, rounds, connections, class_two, points, 256);
+    return osi_bench_stacks(data, length, rounds, connections, 1, class_two, points, 256);
 }
 
 typedef uint64_t job(const uint8_t *, size_t, size_t, uint16_t, bool, bool);
@@ -285,11 +302,14 @@ static job *job_of(char **words)
         return in_parts;
     if (strcmp(words[4], "short-parts") == 0)
         return in_short_parts;
-    return strcmp(words[1], "proved") == 0 ? proved : stacks_by_hand;
+    bool ours = strcmp(words[1], "proved") == 0;
+    if (strcmp(words[4], "last") == 0)
+        return ours ? proved_last : last_by_hand;
+    return ours ? proved : stacks_by_hand;
 }
 
-/* With the words `job class connections data|points|parts|short-parts octets rounds` one job runs once, to be counted; it
-   prints the number of rounds. */
+/* With the words `job class connections data|points|last|parts|short-parts octets rounds` one job runs once, to be counted;
+   it prints the number of rounds. */
 static int once(char **words, const uint8_t *data)
 {
     size_t n = strtoul(words[5], NULL, 10), rounds = strtoul(words[6], NULL, 10);

@@ -116,6 +116,9 @@ def are_in_order(pieces, run, side):
     return True
 
 
+# Where a script stops, and the side of a verdict that broke the protocol or left the profile first.
+STOPS = re.compile(r"^# (left|right) packet (\d+): .+\n\Z", re.M)
+FIRST = re.compile(r"^(left|right) (?:broke the protocol|leaves the profile) first, packet (\d+): .+\n\Z", re.M)
 # What is not compared of a unit of a foreign end: what a CN offers and its addresses.
 OFFERED = re.compile(r"(?<=    CN )(.*?)( 20=\w+)?( 51=\w*)?( 52=\w*)?(?= 193|$)")
 # What may come too early without a word of the judge.
@@ -163,6 +166,9 @@ class Witnesses:
         may_stop = UNFINISHED.search(script) if name in BEYOND_CALLS else EARLY.search(script)
         self.check(f"{name}: both kept the protocol, and the script stops", judged != 0 or status == 0 or may_stop)
         self.check(f"{name}: the script is not played to its end", self.osi(["pair"], script)[0] == 0)
+        first, stops = FIRST.search(verdict), STOPS.search(script)
+        self.check(f"{name}: the script stops elsewhere than the verdict says\n{verdict}by\n{script}",
+                   (stops is not None) == (status == 1) and (first is None or stops and first.groups() == stops.groups()))
         run = played(script)
         sent = {side: self.listed(run.sent[side]) for side in SIDES}
         had = {side: self.listed(stream) for side, stream in streams(pieces).items()}

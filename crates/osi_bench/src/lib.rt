@@ -142,19 +142,30 @@ pub extern "C" fn osi_bench_carriers(
 }
 
 /// Does this many rounds over a pair of stacks with this many connections, in class 2 or class 0, and returns a
-/// checksum of what their users received. A round sends data and, if points are made, a point and its confirmation. A
-/// TSDU has at most `size` octets, 0 for no limit: longer data is sent in parts.
+/// checksum of what their users received. A round sends data and, if points are made, a point and its confirmation. The
+/// rounds take turns over the connections from the `first` to the last; the first of all is 1. A TSDU has at most
+/// `size` octets, 0 for no limit: longer data is sent in parts.
 #[unsafe(no_mangle)]
 pub extern "C" fn osi_bench_stacks(
     alloc: Global,
     data: &[u8],
     rounds: usize,
     connections: u16,
+    first: u16,
     class_two: bool,
     points: bool,
     size: u16,
 ) -> u64 {
-    match stacks::over_stacks(alloc, data, rounds, connections, class_two, points, size) {
+    match stacks::over_stacks(
+        alloc,
+        data,
+        rounds,
+        connections,
+        first,
+        class_two,
+        points,
+        size,
+    ) {
         Some(number) => number,
         None => 0,
     }

@@ -232,22 +232,23 @@ fn open_all(ends: &mut Ends, connections: u16, size: u16) -> Option<()> {
     Some(())
 }
 
-/// This many rounds over this many connections, in turn.
+/// This many rounds over the connections from the first to the last of these, in turn.
 fn take_turns(
     ends: &mut Ends,
     user_data: &[u8],
     rounds: usize,
-    connections: u16,
+    first: u16,
+    last: u16,
     points: bool,
 ) -> Option<()> {
-    let mut reference = 0u16;
+    let mut reference = first;
     for _ in 0..rounds {
-        reference = if reference < connections {
+        round(ends, Ref(reference), user_data, points)?;
+        reference = if reference < last {
             reference + 1
         } else {
-            1
+            first
         };
-        round(ends, Ref(reference), user_data, points)?;
     }
     Some(())
 }
@@ -258,27 +259,37 @@ fn over_ends(
     user_data: &[u8],
     rounds: usize,
     connections: u16,
+    first: u16,
     points: bool,
     size: u16,
 ) -> Option<u64> {
     open_all(ends, connections, size)?;
-    take_turns(ends, user_data, rounds, connections, points)?;
+    take_turns(ends, user_data, rounds, first, connections, points)?;
     let Shown { messages, octets } = ends.shown;
     Some(messages.wrapping_mul(1_000_003).wrapping_add(octets))
 }
 
-/// This many rounds over a pair of stacks with this many connections, at most 64, in turn; a checksum of what their
-/// users received. A TSDU has at most `size` octets, 0 for no limit.
+/// This many rounds over a pair of stacks with this many connections, at most 64: those from the `first` to the last are
+/// used, in turn. A checksum of what their users received. A TSDU has at most `size` octets, 0 for no limit.
 pub(crate) fn over_stacks(
     alloc: Global,
     user_data: &[u8],
     rounds: usize,
     connections: u16,
+    first: u16,
     class_two: bool,
     points: bool,
     size: u16,
 ) -> Option<u64> {
     let local = local(class_two)?;
     let mut ends = fresh(alloc, local);
-    over_ends(&mut ends, user_data, rounds, connections, points, size)
+    over_ends(
+        &mut ends,
+        user_data,
+        rounds,
+        connections,
+        first,
+        points,
+        size,
+    )
 }

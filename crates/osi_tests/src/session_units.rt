@@ -60,6 +60,28 @@ fn sets_of_units(rt: HostRuntime) {
     assert!(rt; Requirements::from_bits_retain(0xFFFF).bits() == 0xFFFF);
 }
 
+/// The bits of the functional units (X.225 section 8, session user requirements).
+const BITS: [(Requirements, u16); 11] = [
+    (Requirements::HALF_DUPLEX, 0x0001),
+    (Requirements::DUPLEX, 0x0002),
+    (Requirements::EXPEDITED, 0x0004),
+    (Requirements::MINOR, 0x0008),
+    (Requirements::MAJOR, 0x0010),
+    (Requirements::RESYNCHRONIZE, 0x0020),
+    (Requirements::ACTIVITY, 0x0040),
+    (Requirements::NEGOTIATED_RELEASE, 0x0080),
+    (Requirements::CAPABILITY, 0x0100),
+    (Requirements::EXCEPTIONS, 0x0200),
+    (Requirements::TYPED_DATA, 0x0400),
+];
+
+#[test]
+fn each_functional_unit_has_its_bit(rt: HostRuntime) {
+    for (units, bits) in BITS {
+        assert!(rt; units.bits() == bits, "{bits}");
+    }
+}
+
 #[test]
 fn numbers_selectors_sizes_and_wishes(rt: HostRuntime) {
     assert!(rt; Serial::new(999_999).is_some() && Serial::new(1_000_000).is_none());
