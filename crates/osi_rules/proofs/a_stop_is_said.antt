@@ -15,8 +15,8 @@ use Rattle.osi_rules.specs.declared.routes.Route.{Route}
 use Rattle.osi_rules.specs.declared.routes.Route.TheVariants.{Asks, Named, Only, Unnamed}
 use Rattle.osi_rules.specs.Reaches.{reach_of, is_applied}
 use Rattle.osi_rules.specs.Rows.{first_failed}
-use Rattle.osi_rules.specs.Sides.{is_live, is_free, is_named}
-use Rattle.osi_rules.specs.Traffic.{State, Outcome, class_for, course_after, course_after_none, found_on, reached, unnamed, none_told, one_told, unnamed_told, at_found, at_place, asks_kept, asks_by, asks_of, request_tests, routed, route, is_stopped, stops_by, takes}
+use Rattle.osi_rules.specs.Sides.{is_live, is_named}
+use Rattle.osi_rules.specs.Traffic.{State, Outcome, class_for, course_after, course_after_none, found_on, reached, unnamed, none_told, one_told, unnamed_told, at_found, at_place, asks_by, asks_of, request_tests, routed, route, is_stopped, stops_by, takes}
 
 reached_says : (d : Direction) (r : Reach) (c : Course) (e : Direction) → is_stopped e (reached d r c) ≡ (stops_by d r e || is_stopped e c)
 reached_says d reach.Nothing c e = refl

@@ -5,14 +5,13 @@ use Rattle.std.specs.Prelude.{slice_get, position}
 use Rattle.osi_tpdu.specs.Value.{Value, Connect, request, confirm, disconnect, disconnected, data0, data2, acknowledge, error}
 use Rattle.osi_rules.specs.declared.connections.Connection.{Connection}
 use Rattle.osi_rules.specs.declared.directions.Direction.{Direction}
-use Rattle.osi_rules.specs.declared.directions.Direction.TheVariants.{Left}
 use Rattle.osi_rules.specs.declared.findings.Finding.{Finding}
 use Rattle.osi_rules.specs.declared.findings.Finding.TheVariants.{Kept, Broke, Outside, TooMany, NotJudged}
 use Rattle.osi_rules.specs.declared.routes.Route.{Route}
 use Rattle.osi_rules.specs.declared.routes.Route.TheVariants.{Asks, Named, Only, Unnamed}
 use Rattle.osi_rules.specs.Rows.{first_failed}
 use Rattle.osi_rules.specs.Sides.{is_live, is_free, is_named}
-use Rattle.osi_rules.specs.Traffic.{State, Outcome, none_told, one_told, at_found, at_place, asked_by, asks_kept, asks_by, asks_of, request_tests, routed, route, is_stopped, takes}
+use Rattle.osi_rules.specs.Traffic.{State, Outcome, none_told, at_found, at_place, asked_by, asks_kept, asks_by, asks_of, request_tests, routed, route, is_stopped, takes}
 
 get_other : {X : Type 0} (xs : List X) (i p : ℕ) (x : X) → Some p ≢ Some i → slice_get (set xs p x) i ≡ slice_get xs i
 get_other [] i p x h = refl

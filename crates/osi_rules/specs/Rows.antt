@@ -1,8 +1,7 @@
 -- When a unit is right, by what its sender has sent and by what had passed of the other side before the packet of the
 -- unit began: a row for each kind of unit. A row lists its tests, and what is found if the first of them fails; those that
 -- the taker passes over come last.
-use Rattle.std.specs.Prelude.{ℕ, ◌+◌, ◌%◌, Bool, true, false, not, ◌&&◌, ◌||◌, ◌==◌, nat_le, nat_lt, List, [], ◌∷◌, length, Option, Some, None, is_none, if◌then◌else◌}
-use Rattle.std.specs.List.{list_all}
+use Rattle.std.specs.Prelude.{ℕ, ◌+◌, ◌%◌, Bool, true, false, not, ◌&&◌, ◌||◌, ◌==◌, nat_le, nat_lt, List, [], ◌∷◌, Option, Some, None, is_none, if◌then◌else◌}
 use Rattle.osi_tpdu.specs.Value.{Connect}
 use Rattle.osi_class.specs.Flow.{steps_before}
 use Rattle.osi_class.specs.Limits.{longest_tsdu}
@@ -11,7 +10,6 @@ use Rattle.osi_class.specs.declared.terms.Class.{Class}
 use Rattle.osi_rules.specs.declared.connections.Connection.{Connection}
 use Rattle.osi_rules.specs.declared.connections.Offer.{Offer}
 use Rattle.osi_rules.specs.declared.directions.Direction.{Direction}
-use Rattle.osi_rules.specs.declared.directions.Direction.TheVariants.{Left, Right}
 use Rattle.osi_rules.specs.declared.findings.Finding.{Finding}
 use Rattle.osi_rules.specs.declared.findings.Finding.TheVariants.{Kept, Broke, Outside, NotJudged}
 use Rattle.osi_rules.specs.declared.findings.Rule.TheVariants as rule

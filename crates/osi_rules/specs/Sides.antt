@@ -1,5 +1,5 @@
 -- What a side has sent on a connection, and how much of that the other side may know.
-use Rattle.std.specs.Prelude.{ℕ, Bool, true, false, not, ◌&&◌, ◌||◌, ◌==◌, Option, if◌then◌else◌}
+use Rattle.std.specs.Prelude.{ℕ, Bool, true, false, not, ◌&&◌, ◌||◌, ◌==◌}
 use Rattle.osi_rules.specs.declared.directions.Direction.{Direction}
 use Rattle.osi_rules.specs.declared.directions.Direction.TheVariants.{Left, Right}
 use Rattle.osi_rules.specs.declared.halves.Phase.{Phase}

@@ -1,4 +1,4 @@
-use Rattle.std.proofs.Common.{ℕ, ◌<◌, length, ap, arith}
+use Rattle.std.proofs.Common.{◌<◌, length, ap, arith}
 use Rattle.osi_rules.specs.Sides.{begins}
 use Rattle.osi_rules.proofs.each_item_is_changed_in_turn.{changed_step}
 use Rattle.osi_rules.proofs.traffic.begin_each.Goals as goal
