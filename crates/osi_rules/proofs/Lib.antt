@@ -1,0 +1,3 @@
+pub mod each_item_is_changed_in_turn
+pub mod a_unit_changes_one_connection
+pub mod a_stop_is_said

@@ -1,0 +1,7 @@
+use Rattle.std.proofs.Common.{◌≡◌, ◌++◌, map, take, drop}
+use Rattle.osi_rules.specs.Sides.{begins}
+use Rattle.osi_rules.proofs.traffic.begin_each.Given as goal
+
+abbrev pub invariant-loop-connection : goal.invariant-loop-connection
+invariant-loop-connection l =
+    l.connection-items ≡ map (begins l.direction) (take l.connection-index l.fn.connections.items) ++ drop l.connection-index l.fn.connections.items

@@ -1,0 +1,4 @@
+pub mod Sides
+pub mod Reaches
+pub mod Rows
+pub mod Traffic

@@ -1,0 +1,87 @@
+//! What has passed on a byte connection apart from its connections.
+
+ghost use Rattle.std.specs.Prelude.{◌≡◌};
+ghost use Rattle.osi_rules.specs.Traffic.{fresh_course, is_stopped, class_for, course_begins, reached};
+
+use crate::directions::Direction;
+use crate::findings::Reach;
+use osi_class::Class;
+
+/// What has passed on a byte connection apart from its connections.
+#[derive(Clone, Copy, PartialEq, Eq, Debug)]
+pub struct Course {
+    /// The class that a CC has selected.
+    pub(crate) class: Option<Class>,
+    /// The class that a CC had selected when left's current packet began.
+    pub(crate) class_seen: Option<Class>,
+    /// A DR has passed that does not just close an open connection.
+    pub(crate) strays: bool,
+    /// A connection is not judged any more: units may have references that it got since.
+    pub(crate) loose: bool,
+    /// Nothing more of left is judged.
+    pub(crate) left_stopped: bool,
+    /// Nothing more of right is judged.
+    pub(crate) right_stopped: bool,
+}
+
+impl Course {
+    /// Nothing has passed.
+    pub(crate) fn new() -> Course
+        ensures { result ≡ fresh_course }
+    {
+        Course {
+            class: None,
+            class_seen: None,
+            strays: false,
+            loose: false,
+            left_stopped: false,
+            right_stopped: false,
+        }
+    }
+
+    /// Whether nothing more of this side is judged.
+    pub(crate) fn is_stopped(&self, direction: Direction) -> bool
+        ensures { result ≡ is_stopped direction self.now }
+    {
+        match direction {
+            Direction::Left => self.left_stopped,
+            Direction::Right => self.right_stopped,
+        }
+    }
+
+    /// The class, as far as this side may know it.
+    pub(crate) fn class_for(&self, direction: Direction) -> Option<Class>
+        ensures { result ≡ class_for direction self.now }
+    {
+        match direction {
+            Direction::Left => self.class_seen,
+            Direction::Right => self.class,
+        }
+    }
+
+    /// A packet of this side begins.
+    pub(crate) fn begin(&mut self, direction: Direction)
+        ensures { self.new ≡ course_begins direction self.old }
+    {
+        match direction {
+            Direction::Left => self.class_seen = self.class,
+            Direction::Right => {}
+        }
+    }
+
+    /// After a unit of this side so much is not judged any more.
+    pub(crate) fn reach(&mut self, direction: Direction, reach: Reach)
+        ensures { self.new ≡ reached direction reach self.old }
+    {
+        match (reach, direction) {
+            (Reach::Nothing, _) => {}
+            (Reach::Connection, _) => self.loose = true,
+            (Reach::Side, Direction::Left) => self.left_stopped = true,
+            (Reach::Side, Direction::Right) => self.right_stopped = true,
+            (Reach::Everything, _) => {
+                self.left_stopped = true;
+                self.right_stopped = true;
+            }
+        }
+    }
+}

@@ -1,0 +1,23 @@
+//! The two sides of a byte connection.
+
+ghost use Rattle.std.specs.Prelude.{◌≡◌};
+ghost use Rattle.osi_rules.specs.Sides.{other};
+
+/// Who sent something. Left is the side that calls.
+#[derive(Clone, Copy, PartialEq, Eq, Debug)]
+pub enum Direction {
+    Left,
+    Right,
+}
+
+impl Direction {
+    /// The other direction.
+    pub fn other(self) -> Direction
+        ensures { result ≡ other self }
+    {
+        match self {
+            Direction::Left => Direction::Right,
+            Direction::Right => Direction::Left,
+        }
+    }
+}

@@ -1,0 +1,26 @@
+//! What holds of all units and connections. Each law is the contract of a function that does nothing.
+
+ghost use Rattle.std.specs.Prelude.{◌≡◌, ◌<◌, ◌≢◌, ◌||◌, ℕ, Some, true, length, slice_get};
+ghost use Rattle.osi_tpdu.specs.Value.{Value};
+ghost use Rattle.osi_rules.specs.Traffic.{State, is_stopped, none_told, stops_by, takes};
+
+use crate::directions::Direction;
+use crate::findings::Finding;
+
+/// A unit changes the connection at the place that is told of it, and no other: a break on one connection leaves all others
+/// as they were.
+pub fn a_unit_changes_one_connection()
+    ensures { (d : Direction) (v : Value) (s : State) (i : ℕ) → i < length s.connections → (takes d v s).told.place ≢ Some i
+        → slice_get (takes d v s).state.connections i ≡ slice_get s.connections i }
+{}
+
+/// A stop is said: nothing more of a side is judged after a unit exactly if that was so before it, or its reach says so.
+pub fn a_stop_is_said()
+    ensures { (d : Direction) (v : Value) (s : State) (e : Direction)
+        → is_stopped e (takes d v s).state.course ≡ (stops_by d (takes d v s).told.reach e || is_stopped e s.course) }
+{}
+
+/// A side of which nothing more is judged changes nothing.
+pub fn a_stop_lasts()
+    ensures { (d : Direction) (v : Value) (s : State) → is_stopped d s.course ≡ true → takes d v s ≡ none_told d Finding.NotJudged s }
+{}

@@ -1,0 +1,110 @@
+//! For which connection a unit is.
+
+ghost use Rattle.std.specs.Prelude.{◌≡◌};
+ghost use Rattle.osi_tpdu.specs.View.{value};
+ghost use Rattle.osi_rules.specs.Sides.{other};
+ghost use Rattle.osi_rules.specs.Traffic.{route_before, route_zero, route_two, route, unnamed, unnamed_by};
+
+use crate::courses::Course;
+use crate::directions::Direction;
+use crate::findings::{Finding, Rule};
+use osi_class::Class;
+use osi_tpdu::Tpdu;
+
+/// For which connection a unit is.
+#[derive(Clone, Copy, PartialEq, Eq, Debug)]
+pub enum Route {
+    /// A CR of left: for a new one.
+    Asks,
+    /// For the connection to which the other side gave this reference.
+    Named(u16),
+    /// For the one connection of class 0.
+    Only,
+    /// For none; this is found of it.
+    Unnamed(Finding),
+}
+
+/// A unit that breaks a rule whatever connections there are.
+fn broke(rule: Rule) -> Route
+    ensures { result ≡ Route.Unnamed (Finding.Broke rule) }
+{
+    Route::Unnamed(Finding::Broke(rule))
+}
+
+/// Before the class is known: a CR, and the answers to it.
+fn route_before(direction: Direction, unit: &Tpdu<'_>) -> Route
+    ensures { result ≡ route_before direction (value unit.now) }
+{
+    match (direction, unit) {
+        (Direction::Left, Tpdu::Cr(_)) => Route::Asks,
+        (Direction::Right, Tpdu::Cc(answer)) => Route::Named(answer.destination),
+        (Direction::Right, Tpdu::Dr(request)) => Route::Named(request.destination),
+        (Direction::Right, Tpdu::Er(report)) => Route::Named(report.destination),
+        (_, Tpdu::Dc(confirm)) => Route::Named(confirm.destination),
+        _ => broke(Rule::UnexpectedUnit),
+    }
+}
+
+/// Class 0 has only DTs after its CC; an ER may report a break of the other side.
+fn route_zero(direction: Direction, other_stopped: bool, unit: &Tpdu<'_>) -> Route
+    ensures { result ≡ route_zero direction other_stopped (value unit.now) }
+{
+    match (direction, unit) {
+        (Direction::Left, Tpdu::Cr(_)) => broke(Rule::OneConnection),
+        (Direction::Right, Tpdu::Cr(_)) => broke(Rule::UnexpectedUnit),
+        (_, Tpdu::Dt0(_)) => Route::Only,
+        (_, Tpdu::Dc(confirm)) => Route::Named(confirm.destination),
+        (_, Tpdu::Er(_)) => {
+            if other_stopped {
+                return Route::Unnamed(Finding::Kept);
+            }
+            broke(Rule::WrongForm)
+        }
+        _ => broke(Rule::WrongForm),
+    }
+}
+
+/// Class 2: by reference.
+fn route_two(direction: Direction, unit: &Tpdu<'_>) -> Route
+    ensures { result ≡ route_two direction (value unit.now) }
+{
+    match (direction, unit) {
+        (Direction::Left, Tpdu::Cr(_)) => Route::Asks,
+        (Direction::Right, Tpdu::Cr(_)) | (_, Tpdu::Dt0(_)) => broke(Rule::UnexpectedUnit),
+        (_, Tpdu::Cc(answer)) => Route::Named(answer.destination),
+        (_, Tpdu::Dr(request)) => Route::Named(request.destination),
+        (_, Tpdu::Dc(confirm)) => Route::Named(confirm.destination),
+        (_, Tpdu::Dt2(data)) => Route::Named(data.destination),
+        (_, Tpdu::Ak(ack)) => Route::Named(ack.destination),
+        (_, Tpdu::Er(report)) => Route::Named(report.destination),
+    }
+}
+
+/// For which connection a unit is, by the class as far as its sender may know it.
+pub(crate) fn route_for(direction: Direction, course: &Course, unit: &Tpdu<'_>) -> Route
+    ensures { result ≡ route direction course.now (value unit.now) }
+{
+    match course.class_for(direction) {
+        None => route_before(direction, unit),
+        Some(Class::Zero) => route_zero(direction, course.is_stopped(direction.other()), unit),
+        Some(Class::Two) => route_two(direction, unit),
+    }
+}
+
+/// What is found of a unit for a reference of no connection.
+pub(crate) fn unnamed(course: &Course, unit: &Tpdu<'_>) -> Finding
+    ensures { result ≡ unnamed course.now (value unit.now) }
+{
+    if course.loose {
+        return Finding::NotJudged;
+    }
+    match unit {
+        Tpdu::Dc(_) => {
+            if course.strays {
+                return Finding::NotJudged;
+            }
+            Finding::Broke(Rule::NothingToAnswer)
+        }
+        _ => Finding::Broke(Rule::UnknownReference),
+    }
+}
