@@ -83,9 +83,11 @@ named d c f h b e =
     s.2 (nameless_said_nothing d c s.0 s.1 (subst (λ (r : Option ℕ). IsReferenceIn d c r) e h.reference))
 
 -- a side that broke the protocol, and gave a reference if its session did
-side_words : (d : Direction) (f : Finding) (count offset : ℕ) (stands : Stands) (by : Break) (stopped : Option Stopped) (reference : Option ℕ) (refused answered : Bool)
+side_words : (d : Direction) (f : Finding) (count offset : ℕ) (stands : Stands) (by : Break) (stopped : Option Stopped)
+    (reference : Option ℕ) (refused answered : Bool)
     → (broke_session f || breaks stopped) ≡ true → (broke_session f ≡ true → reference ≡ None → ⊥)
-    → HasWords (connection_first d stopped (connection_by false reference (broke_session f) refused answered (told_by f count offset stands by)))
+    → HasWords (connection_first d stopped
+    (connection_by false reference (broke_session f) refused answered (told_by f count offset stands by)))
 side_words d (Broke i) count offset stands by stopped None refused answered h n = absurd (n refl refl)
 side_words d (Broke i) count offset stands by stopped (Some r) refused answered h n = broke_words d offset by
 side_words d (Left i) count offset stands by stopped None refused answered h n = absurd (n refl refl)
@@ -102,7 +104,8 @@ side_words d TooMany count offset stands by stopped (Some r) false false h n = s
 account_words : (d : Direction) (c : Capture) (f right : Facts) → AreFacts d c f → is_broken f ≡ true
     → HasWords (first_line d (account_by false f right))
 account_words d c f right h b =
-    side_words d f.found f.count f.offset f.stands f.by f.stopped f.reference (is_refused right.stopped) (is_some right.reference) b (named d c f h)
+    side_words d f.found f.count f.offset f.stands f.by f.stopped f.reference (is_refused right.stopped) (is_some right.reference) b
+    (named d c f h)
 
 -- ---- the last line
 
@@ -114,11 +117,13 @@ kept_words v true None None = λ e. absurd (cc)
 
 words_by : (c : Capture) (first : Option Direction) (l r : Facts) → AreFacts side.Left c l → AreFacts side.Right c r
     → IsFirstOf first l r → HasWords (outcome_line (verdict_by first l r))
-words_by c None l r a b f = kept_words (verdict_by None l r) (keeps l.found l.stopped && keeps r.found r.stopped) (unjudged l.stopped) (unjudged r.stopped)
+words_by c None l r a b f =
+    kept_words (verdict_by None l r) (keeps l.found l.stopped && keeps r.found r.stopped) (unjudged l.stopped) (unjudged r.stopped)
 words_by c (Some side.Left) l r a b f = account_words side.Left c l r a f
 words_by c (Some side.Right) l r a b f = account_words side.Right c r r b f
 
 pub last_words : (c : Capture) (v : Verdict) → IsDetermined c v → HasWords (outcome_line v)
 unfolding IsDetermined
 last_words c v h =
-    subst (λ (w : Verdict). HasWords (outcome_line w)) (sym h.told.tells) (words_by c h.first h.left h.right h.told.of_left h.told.of_right h.told.first_of)
+    subst (λ (w : Verdict). HasWords (outcome_line w)) (sym h.told.tells)
+    (words_by c h.first h.left h.right h.told.of_left h.told.of_right h.told.first_of)

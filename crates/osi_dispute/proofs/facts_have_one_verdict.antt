@@ -1,5 +1,6 @@
 -- Two verdicts on one capture are one, if they choose the same where the definitions leave a choice: for the laws.
-use Rattle.std.proofs.Common.{◌≡◌, ◌∙◌, refl, sym, ap, subst, ℕ, ◌-◌, ◌⊎◌, inl, inr, Bool, true, false, is_some, ◌||◌, List, length, Option, Some, None}
+use Rattle.std.proofs.Common.{◌≡◌, ◌∙◌, refl, sym, ap, subst, ℕ, ◌-◌, ◌⊎◌, inl, inr, Bool, true, false, is_some, ◌||◌, List, length}
+use Rattle.std.proofs.Common.{Option, Some, None}
 use Rattle.std.proofs.Common.{option_map}
 use Rattle.osi_tpkt.specs.Stream.{Ending, offset_of}
 use Rattle.osi_tpkt.proofs.Streams.{one_cut}
@@ -18,13 +19,14 @@ use Rattle.osi_judge.specs.Tapping.{IsFoundIn, IsReadIn, IsReferenceIn, IsStoppe
 use Rattle.osi_dispute.specs.declared.verdicts.Told.{Told}
 use Rattle.osi_dispute.specs.declared.verdicts.Told.TheVariants as told
 use Rattle.osi_dispute.specs.declared.verdicts.Verdict.{Verdict}
-use Rattle.osi_dispute.specs.Facts.{Determined, is_broken, IsFirstOf, Facts, AreFacts, told_by, told_of, is_refused, connection_by, left_first, outcome_by, verdict_by}
+use Rattle.osi_dispute.specs.Facts.{Determined, is_broken, IsFirstOf, Facts, AreFacts, told_by, told_of, is_refused, connection_by}
+use Rattle.osi_dispute.specs.Facts.{left_first, outcome_by, verdict_by}
 use Rattle.osi_dispute.specs.Facts.{IsToldBy}
 use Rattle.osi_dispute.specs.Disputes.{IsJudgement}
 use Rattle.osi_dispute.specs.Texts.{verdict_text, verdict_status}
 use Rattle.osi_dispute.specs.Laws.{IsDecided, ChooseSame, SameChoices}
-use Rattle.osi_dispute.proofs.OneFinding.{HasOneList, one_finding}
-use Rattle.osi_dispute.proofs.OneText.{one_text}
+use Rattle.osi_dispute.proofs.a_capture_has_one_finding.{HasOneList, one_finding}
+use Rattle.osi_dispute.proofs.a_text_is_one_capture.{one_text}
 
 -- ---- of one side
 
@@ -93,7 +95,8 @@ alike one d c f g h k e =
       reference = one_reference d c f.reference g.reference h.reference k.reference;
       stopped = one_stop d c f.stopped g.stopped h.stopped k.stopped;
       found = found;
-      told = one_told one d c f.found f.count g.count f.offset g.offset f.stands g.stands f.by g.by h.count count h.offset place e.stands e.by
+      told = one_told one d c f.found f.count g.count f.offset g.offset f.stands g.stands f.by g.by h.count count h.offset place e.stands
+          e.by
           ∙ ap (λ (x : Finding). told_by x g.count g.offset g.stands g.by) found;
     }
 

@@ -47,7 +47,8 @@ pub told_kept : (t : Tapped) (w : Watched) (n : ℕ) (s : Stands) → w ≡ t.si
 told_kept t w n s e c k h = record {
   stands = s;
   by = no_break;
-  is = ap (λ (x : ℕ). told.Kept x s) (c ∙ ap (λ (x : Watched). x.told) e) ∙ sym (ap (λ (f : Finding). told_by f t.side.told t.line.last s no_break) k);
+  is = ap (λ (x : ℕ). told.Kept x s) (c ∙ ap (λ (x : Watched). x.told) e) ∙ sym
+      (ap (λ (f : Finding). told_by f t.side.told t.line.last s no_break) k);
   standing = (k, subst (λ (x : Watched). (said : List ToldOf) → Keeps x said → StandsFor x said s) e h);
 }
 
@@ -81,7 +82,8 @@ pub dropped : (d : Bool) (t right : Tapped) → d ≡ true → Connects d t righ
 dropped d t right e = record {
   stands = no_stands;
   by = no_break;
-  is = sym (ap (λ (b : Bool). connection_by b t.line.reference (broke_session t.side.finding) (is_refused (stopped_of right)) (is_some right.line.reference) (told_of (facts_of t no_stands no_break))) e);
+  is = sym (ap (λ (b : Bool). connection_by b t.line.reference (broke_session t.side.finding) (is_refused (stopped_of right))
+      (is_some right.line.reference) (told_of (facts_of t no_stands no_break))) e);
   standing = tt;
 }
 
@@ -89,7 +91,8 @@ pub nameless : (t right : Tapped) → t.line.reference ≡ None → Connects fal
 nameless t right e = record {
   stands = no_stands;
   by = no_break;
-  is = sym (ap (λ (r : Option ℕ). connection_by false r (broke_session t.side.finding) (is_refused (stopped_of right)) (is_some right.line.reference) (told_of (facts_of t no_stands no_break))) e);
+  is = sym (ap (λ (r : Option ℕ). connection_by false r (broke_session t.side.finding) (is_refused (stopped_of right))
+      (is_some right.line.reference) (told_of (facts_of t no_stands no_break))) e);
   standing = tt;
 }
 
@@ -97,7 +100,8 @@ nameless t right e = record {
 connects_as : (t right : Tapped) (r : ℕ) (blamed refused answered : Bool) (x : Told) → t.line.reference ≡ Some r
     → broke_session t.side.finding ≡ blamed → is_refused (stopped_of right) ≡ refused
     → is_some right.line.reference ≡ answered
-    → connection_by false t.line.reference (broke_session t.side.finding) (is_refused (stopped_of right)) (is_some right.line.reference) x ≡ connection_by false (Some r) blamed refused answered x
+    → connection_by false t.line.reference (broke_session t.side.finding) (is_refused (stopped_of right)) (is_some right.line.reference) x
+    ≡ connection_by false (Some r) blamed refused answered x
 connects_as t right r blamed refused answered x e b f a = λ i. connection_by false (e i) (b i) (f i) (a i) x
 
 pub refused : (t right : Tapped) (r : ℕ) → t.line.reference ≡ Some r → broke_session t.side.finding ≡ false
@@ -124,7 +128,9 @@ pub blamed : (t right : Tapped) (r : ℕ) (c : Connection) (x : Told) → t.line
 blamed t right r c x e b q h = subst (λ (y : Connection). Connects false t right y) (sym q) (record {
   stands = h.stands;
   by = h.by;
-  is = ap (Session r) h.is ∙ sym (connects_as t right r true (is_refused (stopped_of right)) (is_some right.line.reference) (told_of (facts_of t h.stands h.by)) e b refl refl);
+  is = ap (Session r) h.is ∙ sym
+      (connects_as t right r true (is_refused (stopped_of right)) (is_some right.line.reference)
+      (told_of (facts_of t h.stands h.by)) e b refl refl);
   standing = h.standing;
 })
 
