@@ -1,6 +1,7 @@
 -- What passed of a piece, and what is left of it, turn by turn, until all passed, there is no more room or memory ran out.
 -- For `take_piece`.
-use Rattle.std.proofs.Common.{◌≡◌, ◌∙◌, refl, sym, ap, subst, ℕ, ◌<◌, ◌≤◌, ◌+◌, ◌-◌, Bool, arith, length, List, [], ◌∷◌, ◌++◌, take, drop, true, false, not, ◌==◌}
+use Rattle.std.proofs.Common.{◌≡◌, ◌∙◌, refl, sym, ap, subst, ℕ, ◌<◌, ◌≤◌, ◌+◌, ◌-◌, Bool, arith, length, List, [], ◌∷◌, ◌++◌, take, drop}
+use Rattle.std.proofs.Common.{true, false, not, ◌==◌}
 use Rattle.std.proofs.lemmas.List.{append-nil, append_assoc, map-append, length-append, take-append-drop, take-append-le}
 use Rattle.std.proofs.Math.Seq.{take-append_seam, take-length}
 use Rattle.osi_judge.specs.declared.directions.Direction.{Direction}
@@ -17,7 +18,8 @@ Knows_more d octets old new = (capture : Capture) → Knows old capture → Know
 knows_none : (d : Direction) (j : Judge) → Knows_more d [] j j
 knows_none d j = λ capture k. subst (λ (c : Capture). Knows j c) (sym (append-nil capture)) k
 
-knows_both : (d : Direction) (old now new : Judge) (a b : List ℕ) → Knows_more d a old now → Knows_more d b now new → Knows_more d (a ++ b) old new
+knows_both : (d : Direction) (old now new : Judge) (a b : List ℕ) → Knows_more d a old now → Knows_more d b now new
+    → Knows_more d (a ++ b) old new
 knows_both d old now new a b p q = λ capture k.
     subst (λ (z : Capture). Knows new z)
     (append_assoc capture (piece d a) (piece d b) ∙ ap (λ (z : Capture). capture ++ z) (sym (map-append (of d) a b)))
@@ -35,7 +37,8 @@ none_passes d w = record {
   right = refl;
 }
 
-both_pass : (d : Direction) (old now new : Watch) (a b : List ℕ) → Passes d a old now → Passes d b now new → 0 < room_in old → Passes d (a ++ b) old new
+both_pass : (d : Direction) (old now new : Watch) (a b : List ℕ) → Passes d a old now → Passes d b now new → 0 < room_in old
+    → Passes d (a ++ b) old new
 both_pass d old now new a b p q room = record {
   knows = knows_both d old.judge now.judge new.judge a b p.knows q.knows;
   counted = grind (arith, p.counted, q.counted, length-append a b);
@@ -93,7 +96,8 @@ some_left (x ∷ xs) false e t = grind (arith)
 fed_is : (d : Direction) (piece rest : List ℕ) (old now : Watch) (p : IsPassing d piece rest old now) → take (length p.fed) piece ≡ p.fed
 fed_is d piece rest old now p = ap (take (length p.fed)) p.parts ∙ take-append_seam p.fed rest
 
-counted : (d : Direction) (piece rest : List ℕ) (old now : Watch) (p : IsPassing d piece rest old now) → length piece ≡ length p.fed + length rest
+counted : (d : Direction) (piece rest : List ℕ) (old now : Watch) (p : IsPassing d piece rest old now)
+    → length piece ≡ length p.fed + length rest
 counted d piece rest old now p = ap length p.parts ∙ length-append p.fed rest
 
 -- all passed
@@ -130,12 +134,14 @@ no_room d piece rest old now some none p =
     }
 
 -- memory ran out
-pub refused : (d : Direction) (piece rest : List ℕ) (old now new : Watch) (n : ℕ) → n ≡ length piece - length rest → IsPassing d piece rest old now
+pub refused : (d : Direction) (piece rest : List ℕ) (old now new : Watch) (n : ℕ) → n ≡ length piece - length rest
+    → IsPassing d piece rest old now
     → Passes d [] now new → new.is_full ≡ now.is_full → 0 < room_in now → TakesPiece d piece n old new
 refused d piece rest old now new n is p q full room =
     let m = counted d piece rest old now p in record {
       count = length p.fed;
-      passes = subst (λ (o : List ℕ). Passes d o old new) (append-nil p.fed ∙ sym (fed_is d piece rest old now p)) (both_pass d old now new p.fed [] p.passes q (p.room room));
+      passes = subst (λ (o : List ℕ). Passes d o old new) (append-nil p.fed ∙ sym (fed_is d piece rest old now p))
+          (both_pass d old now new p.fed [] p.passes q (p.room room));
       first = grind (arith, m, is);
       within = grind (arith, m, is);
       judged = λ same. full ∙ p.full;

@@ -1,5 +1,5 @@
 -- A slot of a judge, its handle, and the box whose pointer it is: what each owns, and the word that it is in memory.
--- For the proofs by hand of `WatchHandle` and of `OsiJudge::get_mut`; Boxed.antt has the same of an end.
+-- For the proofs by hand of `WatchHandle` and of `OsiJudge::get_mut`; a_slot_holds_a_box has the same of an end.
 use Rattle.std.proofs.Common.{◌≡◌, List, [], ◌∷◌, ◌++◌, refl, sym, subst, lit<}
 use lib.Dec.{T}
 use seplogic.Ra.Ura.{Ura}
@@ -34,7 +34,12 @@ use Rattle.osi_c.specs.contracts.judges.OsiJudge as slot
 
 -- the box of an end
 abbrev pub E : Bx
-E = record { row = end.the_row; laws = end_laws.the_row_laws; al = record { row = heap.the_row; laws = heap_laws.the_row_laws; g = ghosts; d = impl [] tnil dnil; drops = impl [] tnil dnil } }
+E = record {
+  row = end.the_row;
+  laws = end_laws.the_row_laws;
+  al =
+      record { row = heap.the_row; laws = heap_laws.the_row_laws; g = ghosts; d = impl [] tnil dnil; drops = impl [] tnil dnil };
+}
 
 -- the box's pointer as a handle holds it
 abbrev pub at_word : Ptr → Val
@@ -77,7 +82,8 @@ module _ {M : Type 1} {𝓤 : Ura M} {𝓛 : Logic 𝓤} {K : Type 0} {Γ : List
       → (vs ≡ slot_word s.full s.inner.at ∷ [] → Seq K 𝓛 (‵ (may_own s.inner.at s.inner.value) ∷ Γ) G)
       → Seq K 𝓛 (‵ (slot.the_row.own_val s vs) ∷ Γ) G
   slot_out t s vs k =
-      fpick t (λ vss. fsplit t $ feq_l t (λ ev. fsplit t $ feq_l t (λ eb. fsplit t $ handle_out t s.inner vss.1.0 (λ eh. move t (1 ∷ []) $ drop t $
+      fpick t (λ vss. fsplit t $ feq_l t
+      (λ ev. fsplit t $ feq_l t (λ eb. fsplit t $ handle_out t s.inner vss.1.0 (λ eh. move t (1 ∷ []) $ drop t $
       k (subst (λ (us : List Val). vs ≡ vstruct (of_list ((vbool s.full ∷ []) ++ (us ++ []))) ∷ []) eh
       (subst (λ (us : List Val). vs ≡ vstruct (of_list (us ++ (vss.1.0 ++ []))) ∷ []) eb ev))))))
 
@@ -87,5 +93,6 @@ module _ {M : Type 1} {𝓤 : Ura M} {𝓛 : Logic 𝓤} {K : Type 0} {Γ : List
       handle_in t s.inner.at s.inner.value $ nothing t $ move t (1 ∷ 0 ∷ []) $ fjoin t $
       feq_i t (List Val) (vbool s.full ∷ []) (vbool s.full ∷ []) refl $ fjoin t $
       feq_i t (List Val) (slot_word s.full s.inner.at ∷ []) (slot_word s.full s.inner.at ∷ []) refl $ fjoin t $
-      fpack t (Valss (bool ∷ handle.the_row ∷ [])) (within (declared.shape slot.the_type) (s.full, (s.inner, tt)) (slot_word s.full s.inner.at ∷ []))
+      fpack t (Valss (bool ∷ handle.the_row ∷ []))
+      (within (declared.shape slot.the_type) (s.full, (s.inner, tt)) (slot_word s.full s.inner.at ∷ []))
       (vbool s.full ∷ [], (at_word s.inner.at ∷ [], tt)) $ k)

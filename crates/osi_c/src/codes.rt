@@ -3,6 +3,7 @@
 ghost use Rattle.std.specs.Prelude.{◌≡◌, Some};
 ghost use Rattle.osi_c.specs.Codes.{answer_of, asked_of, phase_of, reason_of, detail_of, Refused};
 
+use crate::header;
 use osi_carrier::{CarrierFault, EndReason, OpenError};
 use osi_class::LinkFault;
 use osi_session::{CallError, Phase};
@@ -29,16 +30,16 @@ pub(crate) fn refusal(error: CallError) -> u32
 {
     match error {
         CallError::OutOfMemory => NO_MEMORY,
-        CallError::NoSuchConnection => 10,
-        CallError::Ended => 11,
-        CallError::BadState => 12,
-        CallError::NotSelected => 13,
-        CallError::TokenNotHeld => 14,
-        CallError::TokenAlreadyHeld => 15,
-        CallError::BadNumber => 16,
-        CallError::SerialsUsedUp => 17,
-        CallError::Empty => 18,
-        CallError::TooLong => 19,
+        CallError::NoSuchConnection => header::NO_SUCH_CONNECTION,
+        CallError::Ended => header::ENDED,
+        CallError::BadState => header::BAD_STATE,
+        CallError::NotSelected => header::NOT_SELECTED,
+        CallError::TokenNotHeld => header::TOKEN_NOT_HELD,
+        CallError::TokenAlreadyHeld => header::TOKEN_ALREADY_HELD,
+        CallError::BadNumber => header::BAD_NUMBER,
+        CallError::SerialsUsedUp => header::SERIALS_USED_UP,
+        CallError::Empty => header::EMPTY,
+        CallError::TooLong => header::TOO_LONG,
     }
 }
 
@@ -48,14 +49,14 @@ pub(crate) fn connect_refusal(error: ConnectError) -> u32
 {
     match error {
         ConnectError::Open(OpenError::OutOfMemory) => NO_MEMORY,
-        ConnectError::Open(OpenError::Ended) => 11,
-        ConnectError::NotSelected => 13,
-        ConnectError::TooLong => 19,
-        ConnectError::Open(OpenError::NotCaller) => 20,
-        ConnectError::Open(OpenError::Negotiating) => 21,
-        ConnectError::Open(OpenError::OneConnection) => 22,
-        ConnectError::Open(OpenError::TooMany) => 23,
-        ConnectError::Open(OpenError::ReferencesUsedUp) => 24,
+        ConnectError::Open(OpenError::Ended) => header::ENDED,
+        ConnectError::NotSelected => header::NOT_SELECTED,
+        ConnectError::TooLong => header::TOO_LONG,
+        ConnectError::Open(OpenError::NotCaller) => header::NOT_CALLER,
+        ConnectError::Open(OpenError::Negotiating) => header::NEGOTIATING,
+        ConnectError::Open(OpenError::OneConnection) => header::ONE_CONNECTION,
+        ConnectError::Open(OpenError::TooMany) => header::TOO_MANY,
+        ConnectError::Open(OpenError::ReferencesUsedUp) => header::REFERENCES_USED_UP,
     }
 }
 
@@ -64,20 +65,20 @@ pub(crate) fn phase_code(phase: Option<Phase>) -> u32
     ensures { phase_of result ≡ Some phase }
 {
     match phase {
-        None => 0,
-        Some(Phase::WaitTransport) => 1,
-        Some(Phase::WaitCn) => 2,
-        Some(Phase::Connecting) => 3,
-        Some(Phase::Answering) => 4,
-        Some(Phase::Ready) => 5,
-        Some(Phase::MajorAsked) => 6,
-        Some(Phase::MajorDue) => 7,
-        Some(Phase::Releasing) => 8,
-        Some(Phase::ReleaseDue) => 9,
-        Some(Phase::Restarting) => 10,
-        Some(Phase::RestartDue) => 11,
-        Some(Phase::Aborting) => 12,
-        Some(Phase::Ended) => 13,
+        None => header::PHASE_NONE,
+        Some(Phase::WaitTransport) => header::PHASE_WAIT_TRANSPORT,
+        Some(Phase::WaitCn) => header::PHASE_WAIT_CN,
+        Some(Phase::Connecting) => header::PHASE_CONNECTING,
+        Some(Phase::Answering) => header::PHASE_ANSWERING,
+        Some(Phase::Ready) => header::PHASE_READY,
+        Some(Phase::MajorAsked) => header::PHASE_MAJOR_ASKED,
+        Some(Phase::MajorDue) => header::PHASE_MAJOR_DUE,
+        Some(Phase::Releasing) => header::PHASE_RELEASING,
+        Some(Phase::ReleaseDue) => header::PHASE_RELEASE_DUE,
+        Some(Phase::Restarting) => header::PHASE_RESTARTING,
+        Some(Phase::RestartDue) => header::PHASE_RESTART_DUE,
+        Some(Phase::Aborting) => header::PHASE_ABORTING,
+        Some(Phase::Ended) => header::PHASE_ENDED,
     }
 }
 
@@ -100,14 +101,20 @@ pub(crate) fn end_code(ended: Option<EndReason>) -> Coded
     ensures detail { result.detail ≡ detail_of ended }
 {
     match ended {
-        None => told(0, 0),
-        Some(EndReason::Broken) => told(1, 0),
-        Some(EndReason::Closed) => told(2, 0),
-        Some(EndReason::PeerClosed(reason)) => told(3, u64::from(reason)),
-        Some(EndReason::NoMemory) => told(4, 0),
-        Some(EndReason::Fault(CarrierFault::UnknownReference)) => told(5, 0),
-        Some(EndReason::Fault(CarrierFault::BadAnswer)) => told(6, 0),
-        Some(EndReason::Fault(CarrierFault::UnexpectedUnit)) => told(7, 0),
+        None => told(header::END_NONE, 0),
+        Some(EndReason::Broken) => told(header::END_BROKEN, 0),
+        Some(EndReason::Closed) => told(header::END_CLOSED, 0),
+        Some(EndReason::PeerClosed(reason)) => told(header::END_PEER_CLOSED, u64::from(reason)),
+        Some(EndReason::NoMemory) => told(header::END_NO_MEMORY, 0),
+        Some(EndReason::Fault(CarrierFault::UnknownReference)) => told(
+            header::END_UNKNOWN_REFERENCE,
+            0,
+        ),
+        Some(EndReason::Fault(CarrierFault::BadAnswer)) => told(header::END_BAD_ANSWER, 0),
+        Some(EndReason::Fault(CarrierFault::UnexpectedUnit)) => told(
+            header::END_UNEXPECTED_UNIT,
+            0,
+        ),
         Some(EndReason::Fault(CarrierFault::Tpkt(fault))) => packet_fault(fault),
         Some(EndReason::Fault(CarrierFault::Tpdu(fault))) => unit_fault(fault),
         Some(EndReason::Fault(CarrierFault::Link(fault))) => told(link_fault(fault), 0),
@@ -119,9 +126,9 @@ fn packet_fault(fault: TpktFault) -> Coded
     ensures detail { result.detail ≡ detail_of (Some (EndReason.Fault (CarrierFault.Tpkt fault))) }
 {
     match fault {
-        TpktFault::BadVersion(offset) => told(10, offset),
-        TpktFault::BadLength(offset) => told(11, offset),
-        TpktFault::OutOfMemory => told(12, 0),
+        TpktFault::BadVersion(offset) => told(header::END_BAD_VERSION, offset),
+        TpktFault::BadLength(offset) => told(header::END_BAD_LENGTH, offset),
+        TpktFault::OutOfMemory => told(header::END_NO_MEMORY_FOR_PACKET, 0),
     }
 }
 
@@ -130,11 +137,20 @@ fn unit_fault(fault: TpduFault) -> Coded
     ensures detail { result.detail ≡ detail_of (Some (EndReason.Fault (CarrierFault.Tpdu fault))) }
 {
     match fault {
-        TpduFault::BadLi(offset) => told(13, offset as u64),
-        TpduFault::UnknownCode(offset) => told(14, offset as u64),
-        TpduFault::BadParameterLength(offset) => told(15, offset as u64),
-        TpduFault::BadParameterValue(offset) => told(16, offset as u64),
-        TpduFault::DuplicateParameter(offset) => told(17, offset as u64),
+        TpduFault::BadLi(offset) => told(header::END_BAD_LI, offset as u64),
+        TpduFault::UnknownCode(offset) => told(header::END_UNKNOWN_CODE, offset as u64),
+        TpduFault::BadParameterLength(offset) => told(
+            header::END_BAD_PARAMETER_LENGTH,
+            offset as u64,
+        ),
+        TpduFault::BadParameterValue(offset) => told(
+            header::END_BAD_PARAMETER_VALUE,
+            offset as u64,
+        ),
+        TpduFault::DuplicateParameter(offset) => told(
+            header::END_DUPLICATE_PARAMETER,
+            offset as u64,
+        ),
     }
 }
 
@@ -142,10 +158,10 @@ fn link_fault(fault: LinkFault) -> u32
     ensures { reason_of result 0 ≡ Some (Some (EndReason.Fault (CarrierFault.Link fault))) }
 {
     match fault {
-        LinkFault::WrongForm => 18,
-        LinkFault::OutOfSequence => 19,
-        LinkFault::CreditReduced => 20,
-        LinkFault::TsduTooLong => 21,
-        LinkFault::OutOfMemory => 22,
+        LinkFault::WrongForm => header::END_WRONG_FORM,
+        LinkFault::OutOfSequence => header::END_OUT_OF_SEQUENCE,
+        LinkFault::CreditReduced => header::END_CREDIT_REDUCED,
+        LinkFault::TsduTooLong => header::END_TSDU_TOO_LONG,
+        LinkFault::OutOfMemory => header::END_NO_MEMORY_FOR_TSDU,
     }
 }

@@ -97,7 +97,7 @@ fn ask(end: &mut OsiEnd, connect: &Connect, reference: &mut u16) -> u32
 }
 
 /// Requests a connection, and stores its reference.
-#[tactic(auto, using(crate::proofs::Asking::asks_by))]
+#[tactic(auto, using(crate::proofs::a_connection_is_the_one_named::asks_by))]
 #[unsafe(no_mangle)]
 pub extern "C" fn osi_connect(end: &mut OsiEnd, asked: &OsiOpening<'_>, reference: &mut u16) -> u32
     ensures value { Asks asked.now (asked_of result) end.old.inner.value reference.new end.new.inner.value }

@@ -15,6 +15,7 @@ mod calls;
 mod codes;
 mod ends;
 mod handles;
+mod header;
 mod indications;
 mod judges;
 mod judging;

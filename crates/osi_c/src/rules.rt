@@ -4,6 +4,7 @@ ghost use Rattle.std.specs.Prelude.{◌≡◌};
 ghost use Rattle.osi_c.specs.Ruled.{said_code, stopped_at_code, IsBreach, spelling_code, IsRule, packet_code, unit_code, stop_code};
 
 use crate::codes::{NO_MEMORY, refusal};
+use crate::header;
 use osi_judge::{Rule, Stop};
 use osi_session::Breach;
 use osi_spdu::{Kind, SpduFault};
@@ -15,24 +16,24 @@ pub(crate) fn said_code(said: Option<Kind>) -> u32
     ensures { result ≡ said_code said }
 {
     match said {
-        Some(Kind::Connect) => 1,
-        Some(Kind::Accept) => 2,
-        Some(Kind::Refuse) => 3,
-        Some(Kind::DataTransfer) => 4,
-        Some(Kind::GiveTokens) => 5,
-        Some(Kind::PleaseTokens) => 6,
-        Some(Kind::MinorSyncPoint) => 7,
-        Some(Kind::MinorSyncAck) => 8,
-        Some(Kind::MajorSyncPoint) => 9,
-        Some(Kind::MajorSyncAck) => 10,
-        Some(Kind::Resynchronize) => 11,
-        Some(Kind::ResynchronizeAck) => 12,
-        Some(Kind::Finish) => 13,
-        Some(Kind::Disconnect) => 14,
-        Some(Kind::NotFinished) => 15,
-        Some(Kind::Abort) => 16,
-        Some(Kind::AbortAccept) => 17,
-        None => 18,
+        Some(Kind::Connect) => header::SAID_CN,
+        Some(Kind::Accept) => header::SAID_AC,
+        Some(Kind::Refuse) => header::SAID_RF,
+        Some(Kind::DataTransfer) => header::SAID_DT,
+        Some(Kind::GiveTokens) => header::SAID_GT,
+        Some(Kind::PleaseTokens) => header::SAID_PT,
+        Some(Kind::MinorSyncPoint) => header::SAID_MIP,
+        Some(Kind::MinorSyncAck) => header::SAID_MIA,
+        Some(Kind::MajorSyncPoint) => header::SAID_MAP,
+        Some(Kind::MajorSyncAck) => header::SAID_MAA,
+        Some(Kind::Resynchronize) => header::SAID_RS,
+        Some(Kind::ResynchronizeAck) => header::SAID_RA,
+        Some(Kind::Finish) => header::SAID_FN,
+        Some(Kind::Disconnect) => header::SAID_DN,
+        Some(Kind::NotFinished) => header::SAID_NF,
+        Some(Kind::Abort) => header::SAID_AB,
+        Some(Kind::AbortAccept) => header::SAID_AA,
+        None => header::SAID_TSDU,
     }
 }
 
@@ -41,10 +42,10 @@ pub(crate) fn stopped_at_code(stop: Stop) -> u32
     ensures { result ≡ stopped_at_code stop }
 {
     match stop {
-        Stop::BadPacket(_) => 19,
-        Stop::TsduTooLong => 21,
-        Stop::WrongForm => 22,
-        _ => 20,
+        Stop::BadPacket(_) => header::SAID_TPKT,
+        Stop::TsduTooLong => header::SAID_TRANSPORT_DT,
+        Stop::WrongForm => header::SAID_TRANSPORT_DR,
+        _ => header::SAID_TPDU,
     }
 }
 
@@ -53,11 +54,11 @@ fn breach_code(breach: Breach) -> u32
 {
     match breach {
         Breach::Call(error) => refusal(error),
-        Breach::BadTokens => 30,
-        Breach::BadEnclosure => 31,
-        Breach::NoFault => 32,
-        Breach::NothingToAnswer => 33,
-        Breach::Outside => 34,
+        Breach::BadTokens => header::RULE_BAD_TOKENS,
+        Breach::BadEnclosure => header::RULE_BAD_ENCLOSURE,
+        Breach::NoFault => header::RULE_NO_FAULT,
+        Breach::NothingToAnswer => header::RULE_NOTHING_TO_ANSWER,
+        Breach::Outside => header::RULE_OUTSIDE,
     }
 }
 
@@ -65,13 +66,13 @@ fn spelling_code(fault: SpduFault) -> u32
     ensures { result ≡ spelling_code fault }
 {
     match fault {
-        SpduFault::UnknownSi(_) => 40,
-        SpduFault::LengthPastEnd(_) => 41,
-        SpduFault::MissingParameter(..) => 42,
-        SpduFault::DuplicateParameter(..) => 43,
-        SpduFault::BadValue(..) => 44,
-        SpduFault::BadConcatenation(_) => 45,
-        SpduFault::TrailingOctets(_) => 46,
+        SpduFault::UnknownSi(_) => header::RULE_UNKNOWN_SI,
+        SpduFault::LengthPastEnd(_) => header::RULE_LENGTH_PAST_END,
+        SpduFault::MissingParameter(..) => header::RULE_MISSING_PARAMETER,
+        SpduFault::DuplicateParameter(..) => header::RULE_DUPLICATE_PARAMETER,
+        SpduFault::BadValue(..) => header::RULE_BAD_VALUE,
+        SpduFault::BadConcatenation(_) => header::RULE_BAD_CONCATENATION,
+        SpduFault::TrailingOctets(_) => header::RULE_TRAILING_OCTETS,
     }
 }
 
@@ -89,8 +90,8 @@ fn packet_code(fault: TpktFault) -> u32
     ensures { result ≡ packet_code fault }
 {
     match fault {
-        TpktFault::BadVersion(_) => 54,
-        TpktFault::BadLength(_) => 55,
+        TpktFault::BadVersion(_) => header::RULE_BAD_VERSION,
+        TpktFault::BadLength(_) => header::RULE_BAD_LENGTH,
         TpktFault::OutOfMemory => NO_MEMORY,
     }
 }
@@ -99,11 +100,11 @@ fn unit_code(fault: TpduFault) -> u32
     ensures { result ≡ unit_code fault }
 {
     match fault {
-        TpduFault::BadLi(_) => 56,
-        TpduFault::UnknownCode(_) => 57,
-        TpduFault::BadParameterLength(_) => 58,
-        TpduFault::BadParameterValue(_) => 59,
-        TpduFault::DuplicateParameter(_) => 60,
+        TpduFault::BadLi(_) => header::RULE_BAD_LI,
+        TpduFault::UnknownCode(_) => header::RULE_UNKNOWN_CODE,
+        TpduFault::BadParameterLength(_) => header::RULE_BAD_TPDU_PARAMETER_LENGTH,
+        TpduFault::BadParameterValue(_) => header::RULE_BAD_TPDU_PARAMETER_VALUE,
+        TpduFault::DuplicateParameter(_) => header::RULE_DUPLICATE_TPDU_PARAMETER,
     }
 }
 
@@ -112,15 +113,15 @@ pub(crate) fn stop_code(stop: Stop) -> u32
     ensures { result ≡ stop_code stop }
 {
     match stop {
-        Stop::NoOpening => 50,
-        Stop::OtherClass => 51,
-        Stop::MoreConnections => 52,
-        Stop::Refused => 53,
+        Stop::NoOpening => header::RULE_NO_OPENING,
+        Stop::OtherClass => header::RULE_OTHER_CLASS,
+        Stop::MoreConnections => header::RULE_MORE_CONNECTIONS,
+        Stop::Refused => header::RULE_REFUSED,
         Stop::BadPacket(fault) => packet_code(fault),
         Stop::BadUnit(fault) => unit_code(fault),
-        Stop::UnexpectedUnit => 61,
-        Stop::WrongForm => 62,
-        Stop::TsduTooLong => 63,
-        Stop::NothingToAnswer => 33,
+        Stop::UnexpectedUnit => header::RULE_UNEXPECTED_UNIT,
+        Stop::WrongForm => header::RULE_WRONG_FORM,
+        Stop::TsduTooLong => header::RULE_TSDU_TOO_LONG,
+        Stop::NothingToAnswer => header::RULE_NOTHING_TO_ANSWER,
     }
 }

@@ -7,6 +7,7 @@ ghost use Rattle.osi_c.specs.Told as told;
 ghost use Rattle.osi_c.specs.Told.{is_common, is_opening, is_restart, Says, Tells};
 
 use crate::arguments::OsiSides;
+use crate::header;
 use bitflags::Flags;
 use osi_message::Octets;
 use osi_session::{AbortCause, Indication, Sides, UnitFault};
@@ -167,7 +168,7 @@ fn plain(reference: u16, tag: u32, user_data: &[u8]) -> OsiIndication<'_>
 pub(crate) fn nothing<'a>() -> OsiIndication<'a>
     ensures { Tells result None }
 {
-    plain(0, 0, &[])
+    plain(0, header::NONE, &[])
 }
 
 fn opening<'a>(
@@ -198,17 +199,17 @@ fn tell_abort<'a>(reference: u16, cause: &AbortCause, shown: &mut OsiIndication<
     ensures { Says shown.new reference (abort_shown cause.now) }
 {
     match cause {
-        AbortCause::Lost => *shown = plain(reference, 18, &[]),
+        AbortCause::Lost => *shown = plain(reference, header::LOST, &[]),
         AbortCause::Peer(bits) => {
             *shown = OsiIndication {
                 reason: *bits,
-                ..plain(reference, 19, &[])
+                ..plain(reference, header::PEER_ABORT, &[])
             };
         }
         AbortCause::Unit(fault) => {
             *shown = OsiIndication {
                 fault: fault_codes(*fault),
-                ..plain(reference, 20, &[])
+                ..plain(reference, header::BAD_UNIT, &[])
             };
         }
     }
@@ -226,7 +227,7 @@ fn tell_opening<'a>(reference: u16, indication: &'a Indication, shown: &mut OsiI
             sizes,
             user_data,
         } => {
-            let plain = plain(reference, 1, user_data.as_slice());
+            let plain = plain(reference, header::CONNECT, user_data.as_slice());
             *shown = opening(*requirements, *serial, wish_codes(*wishes), *sizes, plain);
         }
         Indication::Connected {
@@ -236,19 +237,19 @@ fn tell_opening<'a>(reference: u16, indication: &'a Indication, shown: &mut OsiI
             sizes,
             user_data,
         } => {
-            let plain = plain(reference, 2, user_data.as_slice());
+            let plain = plain(reference, header::CONNECTED, user_data.as_slice());
             *shown = opening(*requirements, *serial, side_codes(*sides), *sizes, plain);
         }
         Indication::RefusedByTransport { reason } => {
             *shown = OsiIndication {
                 reason: *reason,
-                ..plain(reference, 3, &[])
+                ..plain(reference, header::REFUSED_BY_TRANSPORT, &[])
             };
         }
         Indication::RefusedBySession { reason, user_data } => {
             *shown = OsiIndication {
                 reason: *reason,
-                ..plain(reference, 4, user_data.as_slice())
+                ..plain(reference, header::REFUSED_BY_SESSION, user_data.as_slice())
             };
         }
         _ => *shown = nothing(),
@@ -269,7 +270,7 @@ fn tell_restart<'a>(reference: u16, indication: &'a Indication, shown: &mut OsiI
             *shown = OsiIndication {
                 number: *number,
                 sides: wish_codes(*wishes),
-                ..plain(reference, 12, user_data.as_slice())
+                ..plain(reference, header::RESTART, user_data.as_slice())
             };
         }
         Indication::Restarted {
@@ -280,7 +281,7 @@ fn tell_restart<'a>(reference: u16, indication: &'a Indication, shown: &mut OsiI
             *shown = OsiIndication {
                 number: *number,
                 sides: side_codes(*sides),
-                ..plain(reference, 13, user_data.as_slice())
+                ..plain(reference, header::RESTARTED, user_data.as_slice())
             };
         }
         _ => *shown = nothing(),
@@ -297,33 +298,45 @@ fn tell_other<'a>(reference: u16, indication: &'a Indication, shown: &mut OsiInd
         Indication::Given { tokens } => {
             *shown = OsiIndication {
                 tokens: tokens.bits(),
-                ..plain(reference, 6, &[])
+                ..plain(reference, header::GIVEN, &[])
             };
         }
         Indication::Asked { tokens, user_data } => {
             *shown = OsiIndication {
                 tokens: tokens.bits(),
-                ..plain(reference, 7, user_data.as_slice())
+                ..plain(reference, header::ASKED, user_data.as_slice())
             };
         }
         Indication::Major { number, user_data } => {
             *shown = OsiIndication {
                 number: *number,
-                ..plain(reference, 10, user_data.as_slice())
+                ..plain(reference, header::MAJOR, user_data.as_slice())
             };
         }
         Indication::MajorConfirmed { user_data } => {
-            *shown = plain(reference, 11, user_data.as_slice());
+            *shown = plain(reference, header::MAJOR_CONFIRMED, user_data.as_slice());
         }
         Indication::Restart { .. } | Indication::Restarted { .. } => {
             tell_restart(reference, indication, shown);
         }
-        Indication::Release { user_data } => *shown = plain(reference, 14, user_data.as_slice()),
-        Indication::Released { user_data } => *shown = plain(reference, 15, user_data.as_slice()),
+        Indication::Release { user_data } => *shown = plain(
+            reference,
+            header::RELEASE,
+            user_data.as_slice(),
+        ),
+        Indication::Released { user_data } => *shown = plain(
+            reference,
+            header::RELEASED,
+            user_data.as_slice(),
+        ),
         Indication::ReleaseRefused { user_data } => {
-            *shown = plain(reference, 16, user_data.as_slice());
+            *shown = plain(reference, header::RELEASE_REFUSED, user_data.as_slice());
         }
-        Indication::Aborted { user_data } => *shown = plain(reference, 17, user_data.as_slice()),
+        Indication::Aborted { user_data } => *shown = plain(
+            reference,
+            header::ABORTED,
+            user_data.as_slice(),
+        ),
         Indication::ProviderAbort { cause } => tell_abort(reference, cause, shown),
         _ => tell_opening(reference, indication, shown),
     }
@@ -334,7 +347,11 @@ pub(crate) fn tell<'a>(reference: u16, indication: &'a Indication, shown: &mut O
     ensures { Says shown.new reference (shown_by indication.now) }
 {
     match indication {
-        Indication::Data { user_data } => *shown = plain(reference, 5, user_data.as_slice()),
+        Indication::Data { user_data } => *shown = plain(
+            reference,
+            header::DATA,
+            user_data.as_slice(),
+        ),
         Indication::Minor {
             number,
             confirm,
@@ -343,13 +360,13 @@ pub(crate) fn tell<'a>(reference: u16, indication: &'a Indication, shown: &mut O
             *shown = OsiIndication {
                 number: *number,
                 confirm: if *confirm { 1 } else { 0 },
-                ..plain(reference, 8, user_data.as_slice())
+                ..plain(reference, header::MINOR, user_data.as_slice())
             };
         }
         Indication::MinorConfirmed { number, user_data } => {
             *shown = OsiIndication {
                 number: *number,
-                ..plain(reference, 9, user_data.as_slice())
+                ..plain(reference, header::MINOR_CONFIRMED, user_data.as_slice())
             };
         }
         _ => tell_other(reference, indication, shown),

@@ -1,8 +1,8 @@
 pub mod what_is_fed_piece_by_piece_passes_whole
 pub mod digits_are_counted_one_by_one
-pub mod OneFinding
-pub mod OneText
-pub mod RowLaws
+pub mod a_capture_has_one_finding
+pub mod a_text_is_one_capture
+pub mod rows_come_one_after_the_other
 pub mod text_added_in_two_parts_is_added_whole
 pub mod what_is_told_is_by_facts
 pub mod a_rule_tells_a_break_from_leaving

@@ -116,11 +116,13 @@ kept_words v true None None = λ e. absurd (cc)
 
 words_by : (c : Capture) (first : Option Direction) (l r : Facts) → AreFacts side.Left c l → AreFacts side.Right c r
     → IsFirstOf first l r → HasWords (outcome_line (verdict_by first l r))
-words_by c None l r a b f = kept_words (verdict_by None l r) (keeps l.found l.stopped && keeps r.found r.stopped) (unjudged l.stopped) (unjudged r.stopped)
+words_by c None l r a b f =
+    kept_words (verdict_by None l r) (keeps l.found l.stopped && keeps r.found r.stopped) (unjudged l.stopped) (unjudged r.stopped)
 words_by c (Some side.Left) l r a b f = account_words side.Left c l r a f
 words_by c (Some side.Right) l r a b f = account_words side.Right c r r b f
 
 pub last_words : (c : Capture) (v : Verdict) → IsDetermined c v → HasWords (outcome_line v)
 unfolding IsDetermined
 last_words c v h =
-    subst (λ (w : Verdict). HasWords (outcome_line w)) (sym h.told.tells) (words_by c h.first h.left h.right h.told.of_left h.told.of_right h.told.first_of)
+    subst (λ (w : Verdict). HasWords (outcome_line w)) (sym h.told.tells)
+    (words_by c h.first h.left h.right h.told.of_left h.told.of_right h.told.first_of)

@@ -27,9 +27,9 @@ use Rattle.osi_dispute.specs.declared.verdicts.Connection.TheVariants.{Session}
 use Rattle.osi_dispute.specs.Disputes.{IsJudgement}
 use Rattle.osi_dispute.specs.Texts.{verdict_text, verdict_status}
 use Rattle.osi_dispute.specs.Laws.{ChooseSame, SameChoices}
-use Rattle.osi_dispute.proofs.OneFinding.{HasOneList}
+use Rattle.osi_dispute.proofs.a_capture_has_one_finding.{HasOneList}
 use Rattle.osi_dispute.proofs.a_rule_tells_a_break_from_leaving.{HasOnePlace, one_rule, same_found}
-use Rattle.osi_dispute.proofs.OneText.{one_text}
+use Rattle.osi_dispute.proofs.a_text_is_one_capture.{one_text}
 
 -- ---- of one side
 

@@ -179,7 +179,7 @@ fn run_case(alloc: Global, tally: &mut Tally, case: Case) {
 /// Feeds it to ends with each class.
 fn run_with(alloc: Global, tally: &mut Tally, case: Case, past: Past) {
     for classes in CLASSES {
-        tally.add(goes_well(alloc, case, past, classes));
+        tally.add(ends_of_classes_behave(alloc, case, past, classes));
     }
 }
 
@@ -193,26 +193,35 @@ fn has(lines: &[u8], word: &str) -> bool {
 
 /// Whether two ends with these classes, one fed in one piece and the other octet by octet, behave as they should and
 /// end in the same state.
-fn goes_well(alloc: Global, case: Case, past: Past, classes: (bool, bool)) -> bool {
+fn ends_of_classes_behave(alloc: Global, case: Case, past: Past, classes: (bool, bool)) -> bool {
     match local(classes) {
-        Some(local) => goes_well_from(alloc, case, past, local),
+        Some(local) => ends_behave(alloc, case, past, local),
         None => false,
     }
 }
 
-fn goes_well_from(alloc: Global, case: Case, past: Past, local: Local) -> bool {
+/// The same of ends with this configuration.
+fn ends_behave(alloc: Global, case: Case, past: Past, local: Local) -> bool {
     let mut whole = fresh(alloc, past, local);
-    goes_as(alloc, &mut whole, case, past, local)
+    behaves_octet_by_octet(alloc, &mut whole, case, past, local)
 }
 
-fn goes_as(alloc: Global, whole: &mut Stack, case: Case, past: Past, local: Local) -> bool {
+/// The same of this end, fed in one piece, and of a second one, fed octet by octet.
+fn behaves_octet_by_octet(
+    alloc: Global,
+    whole: &mut Stack,
+    case: Case,
+    past: Past,
+    local: Local,
+) -> bool {
     let mut single = fresh(alloc, past, local);
-    go_well(whole, &mut single, case, past)
+    both_behave(whole, &mut single, case, past)
 }
 
-fn go_well(whole: &mut Stack, single: &mut Stack, case: Case, past: Past) -> bool {
-    does_well(whole, case, past, usize::MAX)
-        && does_well(single, case, past, 1)
+/// Whether the two behave as they should and end in the same state.
+fn both_behave(whole: &mut Stack, single: &mut Stack, case: Case, past: Past) -> bool {
+    behaves(whole, case, past, usize::MAX)
+        && behaves(single, case, past, 1)
         && is_as_far(whole, single)
 }
 
@@ -225,7 +234,7 @@ fn is_as_far(one: &Stack, other: &Stack) -> bool {
 }
 
 /// Feeds an end with this past, in pieces of at most this many octets; false if it does not behave as it should.
-fn does_well(stack: &mut Stack, case: Case, past: Past, piece: usize) -> bool {
+fn behaves(stack: &mut Stack, case: Case, past: Past, piece: usize) -> bool {
     if !begins(stack, case, past) || feed(stack, case.octets, piece).is_none() {
         return false;
     }

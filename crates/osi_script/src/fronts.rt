@@ -67,7 +67,7 @@ pub(crate) enum Front<'l> {
 
 /// The text after the word that asks for octets to be carried, if a line begins with it.
 #[inline(always)]
-#[tactic(auto, using(crate::proofs::Beginnings::carry_first))]
+#[tactic(auto, using(crate::proofs::the_beginning_of_a_line_is_read_word_by_word::carry_first))]
 fn behind_carry(line: &[u8]) -> Option<&[u8]>
     ensures { IfSome result (λ rest. words_of line.now ≡ codes "carry" ∷ words_of rest.now) }
 {
@@ -79,7 +79,7 @@ fn behind_carry(line: &[u8]) -> Option<&[u8]>
 
 /// The side at the front of a text, and the text after it.
 #[inline(always)]
-#[tactic(auto, using(crate::proofs::Beginnings::left_first, crate::proofs::Beginnings::right_first))]
+#[tactic(auto, using(crate::proofs::the_beginning_of_a_line_is_read_word_by_word::left_first, crate::proofs::the_beginning_of_a_line_is_read_word_by_word::right_first))]
 fn behind_side(text: &[u8]) -> Option<(Side, &[u8])>
     ensures { IfSome result (λ first. words_of text.now ≡ side_name first.0 ∷ words_of first.1.now) }
 {
@@ -92,7 +92,7 @@ fn behind_side(text: &[u8]) -> Option<(Side, &[u8])>
 
 /// The verb at the front of a text, if it is a frequent one, and the text after it.
 #[inline(always)]
-#[tactic(auto, using(crate::proofs::Beginnings::data_first, crate::proofs::Beginnings::minor_first, crate::proofs::Beginnings::minorconfirm_first), unfolding(crate::specs::Names::verb_name))]
+#[tactic(auto, using(crate::proofs::the_beginning_of_a_line_is_read_word_by_word::data_first, crate::proofs::the_beginning_of_a_line_is_read_word_by_word::minor_first, crate::proofs::the_beginning_of_a_line_is_read_word_by_word::minorconfirm_first), unfolding(crate::specs::Names::verb_name))]
 fn behind_frequent_verb(text: &[u8]) -> Option<(Verb, &[u8])>
     ensures { IfSome result (λ first. words_of text.now ≡ verb_name first.0 ∷ words_of first.1.now) }
 {
@@ -121,7 +121,7 @@ fn behind_frequent_verb(text: &[u8]) -> Option<(Verb, &[u8])>
 
 /// A minor point: whether it is to be confirmed, and the text after that.
 #[inline(always)]
-#[tactic(auto, using(crate::proofs::Frequents::minor_read))]
+#[tactic(auto, using(crate::proofs::a_frequent_call_is_read_by_its_last_word::minor_read))]
 fn minor(text: &[u8]) -> Option<(Frequent, &[u8])>
     ensures { IfSome result (λ call. call_of Verb.Minor (words_of text.now) (spelled (data_behind Verb.Minor (words_of text.now)))
         ≡ option_map (made call.0) (data_of call.1.now)) }
@@ -133,7 +133,7 @@ fn minor(text: &[u8]) -> Option<(Frequent, &[u8])>
 
 /// A confirmation of minor points: its number, and the text after that.
 #[inline(always)]
-#[tactic(auto, using(crate::proofs::Frequents::minor_confirm_read))]
+#[tactic(auto, using(crate::proofs::a_frequent_call_is_read_by_its_last_word::minor_confirm_read))]
 fn minor_confirm(text: &[u8]) -> Option<(Frequent, &[u8])>
     ensures { IfSome result (λ call. call_of Verb.MinorConfirm (words_of text.now) (spelled (data_behind Verb.MinorConfirm (words_of text.now)))
         ≡ option_map (made call.0) (data_of call.1.now)) }
@@ -146,7 +146,7 @@ fn minor_confirm(text: &[u8]) -> Option<(Frequent, &[u8])>
 /// A frequent call and its user data word, from the text after its verb. A text with a blank spells no octets, since a
 /// call with one word too many asks for nothing.
 #[inline(always)]
-#[tactic(auto, using(crate::proofs::Frequents::data_read))]
+#[tactic(auto, using(crate::proofs::a_frequent_call_is_read_by_its_last_word::data_read))]
 fn read_frequent(verb: Verb, text: &[u8]) -> Option<(Frequent, &[u8])>
     ensures { IfSome result (λ call. call_of verb (words_of text.now) (spelled (data_behind verb (words_of text.now)))
         ≡ option_map (made call.0) (data_of call.1.now)) }
@@ -211,7 +211,7 @@ fn behind_verb(text: &[u8]) -> Option<(Verb, Words<'_>)>
 /// The side whose octets a line carries, and how many, or all if there are fewer: most lines that are not calls ask for
 /// this. `None` if a line does not begin in this way; it may still ask for something.
 #[inline(always)]
-#[tactic(auto, using(crate::proofs::Beginnings::carry_read))]
+#[tactic(auto, using(crate::proofs::the_beginning_of_a_line_is_read_word_by_word::carry_read))]
 pub fn read_carry(line: &[u8]) -> Option<(Side, u32)>
     ensures { IfSome result (λ carry. Some (Carry carry.0 carry.1) ≡ command_of line.now) }
 {

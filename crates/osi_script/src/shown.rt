@@ -445,7 +445,7 @@ fn put_head(text: Vec<u8>, side: Side, reference: u16, indication: &Indication) 
 
 /// Adds the line of an indication that the user of a side receives for a connection. If memory runs out, the transcript
 /// is unchanged.
-#[tactic(auto, using(crate::proofs::Pieces::line_joined), unfolding(crate::specs::Shown::shown_line, crate::specs::Shown::shown_text))]
+#[tactic(auto, using(crate::proofs::texts_added_in_turn_are_added_whole::line_joined), unfolding(crate::specs::Shown::shown_line, crate::specs::Shown::shown_text))]
 pub fn push_indication(
     alloc: Global,
     out: &mut Vec<u8>,

@@ -25,7 +25,7 @@ fn first_blank(line: &[u8]) -> Option<usize>
 }
 
 /// The first word of a line, and the text after the blank that ends it, if there is one.
-#[tactic(auto, using(crate::proofs::Blanks::no_blank, crate::proofs::Blanks::first_blank, crate::proofs::Blanks::blank_within))]
+#[tactic(auto, using(crate::proofs::the_first_and_last_blank_part_a_line::no_blank, crate::proofs::the_first_and_last_blank_part_a_line::first_blank, crate::proofs::the_first_and_last_blank_part_a_line::blank_within))]
 pub(crate) fn first_word(line: &[u8]) -> (&[u8], Option<&[u8]>)
     ensures { words_of line.now
         ≡ result.0.now ∷ option_map_or (λ rest. words_of rest.now) result.1 [] }
@@ -52,7 +52,7 @@ pub(crate) fn parted(line: &[u8]) -> Option<(&[u8], &[u8])>
 }
 
 /// The last word of a line: the text after its last blank.
-#[tactic(auto, using(crate::proofs::Blanks::no_last_blank, crate::proofs::Blanks::last_blank, crate::proofs::Blanks::last_blank_within))]
+#[tactic(auto, using(crate::proofs::the_first_and_last_blank_part_a_line::no_last_blank, crate::proofs::the_first_and_last_blank_part_a_line::last_blank, crate::proofs::the_first_and_last_blank_part_a_line::last_blank_within))]
 pub(crate) fn last_word(line: &[u8]) -> &[u8]
     ensures { slice_get (words_of line.now) (length (words_of line.now) - 1) ≡ Some result.now }
 {

@@ -99,7 +99,7 @@ fn put_digits(text: Vec<u8>, number: u64) -> Vec<u8>
 
 /// Adds a number with one or two digits in decimal, for which there is room.
 #[inline(always)]
-#[tactic(auto, using(crate::proofs::Decimals::digits_joined))]
+#[tactic(auto, using(crate::proofs::a_number_is_written_digit_by_digit::digits_joined))]
 fn put_tens(text: Vec<u8>, number: u64) -> Vec<u8>
     requires number { number < 100 }
     requires room { vec_len text + 2 ≤ vec_capacity text }
@@ -116,7 +116,7 @@ fn put_tens(text: Vec<u8>, number: u64) -> Vec<u8>
 
 /// Adds a number in decimal, for which there is room. Most numbers of a transcript have few digits.
 #[inline(always)]
-#[tactic(auto, using(crate::proofs::Decimals::hundreds_joined))]
+#[tactic(auto, using(crate::proofs::a_number_is_written_digit_by_digit::hundreds_joined))]
 pub(crate) fn put_decimal(text: Vec<u8>, number: u64) -> Vec<u8>
     requires { vec_len text + 20 ≤ vec_capacity text }
     ensures items { result.items ≡ text.items ++ decimal number }

@@ -21,7 +21,7 @@ const TOKENS: u8 = 0x55;
 
 /// Whether a word is this one.
 #[inline(always)]
-#[tactic(auto, using(crate::proofs::Letters::same_letter, crate::proofs::Letters::other_letter, crate::proofs::Letters::all_letters, crate::proofs::Letters::other_length))]
+#[tactic(auto, using(crate::proofs::a_word_is_compared_letter_by_letter::same_letter, crate::proofs::a_word_is_compared_letter_by_letter::other_letter, crate::proofs::a_word_is_compared_letter_by_letter::all_letters, crate::proofs::a_word_is_compared_letter_by_letter::other_length))]
 pub(crate) fn is(word: &[u8], name: &str) -> bool
     ensures { result ≡ is word.now name.now }
 {
@@ -40,7 +40,7 @@ pub(crate) fn is(word: &[u8], name: &str) -> bool
 }
 
 /// The number of some digits followed by one more, if it is at most a bound.
-#[tactic(auto, using(crate::proofs::Numerals::no_digit, crate::proofs::Numerals::no_digit_above, crate::proofs::Numerals::too_great, crate::proofs::Numerals::one_digit))]
+#[tactic(auto, using(crate::proofs::a_number_is_read_digit_by_digit::no_digit, crate::proofs::a_number_is_read_digit_by_digit::no_digit_above, crate::proofs::a_number_is_read_digit_by_digit::too_great, crate::proofs::a_number_is_read_digit_by_digit::one_digit))]
 fn next_number(number: u64, digit: u8, most: u32) -> Option<u64>
     requires { number ≤ most }
     ensures bound { IfSome result (λ n. n ≤ most) }
@@ -59,7 +59,7 @@ fn next_number(number: u64, digit: u8, most: u32) -> Option<u64>
 }
 
 /// The number that decimal digits spell, if it is at most a bound.
-#[tactic(auto, using(crate::proofs::Numerals::number_end), unfolding(crate::specs::Words::number_to))]
+#[tactic(auto, using(crate::proofs::a_number_is_read_digit_by_digit::number_end), unfolding(crate::specs::Words::number_to))]
 pub(crate) fn number(word: &[u8], most: u32) -> Option<u32>
     ensures value { result ≡ number_to most word.now }
     ensures bound { IfSome result (λ n. n ≤ most) }

@@ -31,7 +31,7 @@ impl<R: Read> WatchedReader<R> {
 
     /// Reads the next octets, and returns how many; none at the end. An interrupted read is repeated.
     /// [`ToolFault::Input`] means that the inner reader failed.
-    #[tactic(auto, using(crate::proofs::Writing::keeps_same, crate::proofs::Writing::keeps_both, crate::proofs::Writing::keeps_consumes))]
+    #[tactic(auto, using(crate::proofs::writes_one_after_the_other_append::keeps_same, crate::proofs::writes_one_after_the_other_append::keeps_both, crate::proofs::writes_one_after_the_other_append::keeps_consumes))]
     pub(crate) fn read(&mut self, buf: &mut [u8]) -> Result<usize, ToolFault>
         ensures bound { IfOk result (λ count. count ≤ length buf.new) }
         ensures bytes { IfOk result (λ count. Consumes (R.remaining self.old.inner) (R.remaining self.new.inner) (take count buf.new)) }
@@ -77,7 +77,7 @@ impl<W: Write> WatchedWriter<W> {
 
     /// Writes some of these octets, and returns how many, at least one. An interrupted write is repeated.
     /// [`ToolFault::Write`] means that the inner writer failed, or took nothing.
-    #[tactic(auto, using(crate::proofs::Writing::keeps_same, crate::proofs::Writing::keeps_both, crate::proofs::Writing::keeps_appends))]
+    #[tactic(auto, using(crate::proofs::writes_one_after_the_other_append::keeps_same, crate::proofs::writes_one_after_the_other_append::keeps_both, crate::proofs::writes_one_after_the_other_append::keeps_appends))]
     fn write(&mut self, octets: &[u8]) -> Result<usize, ToolFault>
         ensures some { IfOk result (λ count. 0 < count) }
         ensures bound { IfOk result (λ count. count ≤ length octets.now) }
@@ -120,7 +120,7 @@ impl<W: Write> WatchedWriter<W> {
 
     /// Writes a text, and nothing else. [`ToolFault::Write`] means that the inner writer failed; what was
     /// written then is a prefix of the text.
-    #[tactic(auto, using(crate::proofs::Writing::writing_none, crate::proofs::Writing::writing_more, crate::proofs::Writing::writing_begun, crate::proofs::Writing::writing_done))]
+    #[tactic(auto, using(crate::proofs::writes_one_after_the_other_append::writing_none, crate::proofs::writes_one_after_the_other_append::writing_more, crate::proofs::writes_one_after_the_other_append::writing_begun, crate::proofs::writes_one_after_the_other_append::writing_done))]
     pub(crate) fn write_text(&mut self, text: &[u8]) -> Result<(), ToolFault>
         ensures written { OnOk result (Appends (W.contents self.old.inner) (W.contents self.new.inner) text.now) }
         ensures begun { OnErr result (BeginsToAppend (W.contents self.old.inner) (W.contents self.new.inner) text.now) }

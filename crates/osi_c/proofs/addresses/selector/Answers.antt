@@ -1,4 +1,4 @@
-use Rattle.osi_c.proofs.Padded.{selector_padded}
+use Rattle.osi_c.proofs.octets_are_followed_by_zeros.{selector_padded}
 use Rattle.osi_c.proofs.addresses.selector.Goals as goal
 
 pub returns : goal.returns

@@ -1,4 +1,4 @@
-use Rattle.osi_c.proofs.Padded.{tsap_padded}
+use Rattle.osi_c.proofs.octets_are_followed_by_zeros.{tsap_padded}
 use Rattle.osi_c.proofs.addresses.tsap.Goals as goal
 
 pub returns : goal.returns

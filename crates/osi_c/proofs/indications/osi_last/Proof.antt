@@ -5,7 +5,8 @@ use mir.Syntax.{named}
 use mir.Val.{vunit}
 use base.Logic.{emp, id⊢}
 use base.Fml.{Lft, ftrue, fsep, flft}
-use types.Kit.{‵, raw, ◌⊛◌, some, later, ◌$◌, ◌∵◌, !, qed, move, keep, drop, use1, use2, split, join, pick, await, fsplit, fjoin, feq_i, feq_l, suffices, frame, done}
+use types.Kit.{‵, raw, ◌⊛◌, some, later, ◌$◌, ◌∵◌, !, qed, move, keep, drop, use1, use2, split, join, pick, await, fsplit, fjoin, feq_i}
+use types.Kit.{feq_l, suffices, frame, done}
 use types.Run.{stop, addr, of_opd, unit_lit, no_more, and_then, returns, enter}
 use types.ByLocal.{alloc_all, pass_all, free_all, look_at, get, through, sets, lands_as}
 use contract.Monad.{fact}
@@ -62,11 +63,16 @@ stayed = (stay_dropped (mut_ref_to (0 ∷ []) tt (plain (λ _. S))) no, (gave_re
 pub osi_last_spec : {M : Type 1} → statement M
 osi_last_spec 𝓤 𝓛 𝓜 𝓡 wired =
     let c = f.clauses 𝓛 𝓜.mem 𝓡.returns in let 𝓣 = tables 𝓤 𝓛.H 𝓜 𝓡 𝓡.env in
-    proved 𝓛 f.ended stayed c 𝓜 𝓡 (Goes-spent_ref 𝓛 2 (0 ∷ []) tt (plain (λ _. S)), (Goes-gave_ref 𝓛 2 1 tt Shown, tt)) f.Key.name code.function (code.unfolded 𝓤 𝓛.H 𝓜 𝓡 wired)
-    (λ κs. (mut_vals, (mut_vals, tt))) (λ κs. (mut_Tells (named 0) κs.0 S, (mut_Tells (named 1) κs.1.0 (Shown.row κs), tt))) (λ κs qs bounds a _ are.
+    proved 𝓛 f.ended stayed c 𝓜 𝓡
+    (Goes-spent_ref 𝓛 2 (0 ∷ []) tt (plain (λ _. S)), (Goes-gave_ref 𝓛 2 1 tt Shown, tt)) f.Key.name code.function
+    (code.unfolded 𝓤 𝓛.H 𝓜 𝓡 wired)
+    (λ κs. (mut_vals, (mut_vals, tt))) (λ κs. (mut_Tells (named 0) κs.0 S, (mut_Tells (named 1) κs.1.0 (Shown.row κs), tt)))
+    (λ κs qs bounds a _ are.
     let κ = κs.0 in let q = qs.0 in let μ = κs.1.0 in let m = qs.1.0 in let to = a.1.0 in
     let y : (walk_of 𝓛 f.ended stayed c).Ghost = ((κs, qs, bounds, a, (mut_vals a.0, (mut_vals to, tt))), tt) in
-    qed 𝓛 (((‵ (flft κ q) ⊛ ‵ (flft μ m) ⊛ ‵ ftrue) ⊛ ‵ (fsep ((MutRef (named 0) κ S).own_val a.0 (mut_vals a.0)) (fsep ((MutRef (named 1) μ (Shown.row κs)).own_val to (mut_vals to)) ftrue))) ∷ raw (emp 𝓤) ∷ []) ∵
+    qed 𝓛 (((‵ (flft κ q) ⊛ ‵ (flft μ m) ⊛ ‵ ftrue) ⊛ ‵
+    (fsep ((MutRef (named 0) κ S).own_val a.0 (mut_vals a.0))
+    (fsep ((MutRef (named 1) μ (Shown.row κs)).own_val to (mut_vals to)) ftrue))) ∷ raw (emp 𝓤) ∷ []) ∵
     split ! $ split ! $ move ! (1 ∷ []) $ split ! $ move ! (3 ∷ []) $ fsplit ! $ move ! (1 ∷ []) $ fsplit ! $ keep ! (2 ∷ 5 ∷ 0 ∷ 3 ∷ []) $
     -- [the slot; the token of its lifetime; the place; the token of that]
     enter ! _ _ _ _ _ $ alloc_all ! (λ l. pass_all ! refl ((tt, tt), ((tt, tt), tt)) $
@@ -75,11 +81,14 @@ osi_last_spec 𝓤 𝓛 𝓜 𝓡 wired =
     let z : G.Ghost = (((κ, tt), (q, tt), tt, (a.0, tt), (mut_vals a.0, tt)), tt) in
     nothing ! $ move ! (1 ∷ 0 ∷ []) $ join ! $ nothing ! $ move ! (2 ∷ 0 ∷ []) $ join ! $ join ! $
     nothing ! $ move ! (1 ∷ 0 ∷ []) $ use2 𝓛 (raw (G.pre z)) (id⊢ 𝓤 _) $
-    calls_at ! (framed 𝓤 𝓛.H 𝓜 𝓣) G (get_met 𝓤 𝓛 𝓜 𝓡 (code.calls-osi_c::slots::OsiEnd::get 𝓡.env wired)) z (and_then ! (get ! refl) (no_more !)) (λ v.
+    calls_at ! (framed 𝓤 𝓛.H 𝓜 𝓣) G (get_met 𝓤 𝓛 𝓜 𝓡 (code.calls-osi_c::slots::OsiEnd::get 𝓡.env wired)) z
+    (and_then ! (get ! refl) (no_more !)) (λ v.
     let V : RattleType = g.signature.result.row (κ, tt) in
     use1 𝓛 (later (some (λ (r : V.Denot). ((‵ (flft κ q) ⊛ ‵ ftrue) ⊛ ‵ (V.own_val r (v ∷ []))) ⊛
-    some (λ (ws : Lasts g.ended (κ, tt) (a.0, tt)). ‵ (lasts g.ended (κ, tt) (a.0, tt) ws) ⊛ (‵ (KeepsSlot a.0) ⊛ raw (fact 𝓤 (option_map (λ c. c.now) r ≡ a.0.now.inner.value))))))) (id⊢ 𝓤 _) $
-    await ! tt $ pick ! (λ r. split ! $ split ! $ split ! $ move ! (3 ∷ []) $ pick ! (λ ws. split ! $ drop ! $ split ! $ move ! (1 ∷ []) $ heard ! _ (λ same.
+    some (λ (ws : Lasts g.ended (κ, tt) (a.0, tt)). ‵ (lasts g.ended (κ, tt) (a.0, tt) ws) ⊛
+    (‵ (KeepsSlot a.0) ⊛ raw (fact 𝓤 (option_map (λ c. c.now) r ≡ a.0.now.inner.value))))))) (id⊢ 𝓤 _) $
+    await ! tt $ pick ! (λ r. split ! $ split ! $ split ! $ move ! (3 ∷ []) $
+    pick ! (λ ws. split ! $ drop ! $ split ! $ move ! (1 ∷ []) $ heard ! _ (λ same.
     -- [the slot is kept; the token; nothing; what is lent; the place; its token]
     move ! (3 ∷ []) $ peeks ! V (Is V) (shows 𝓛 V) r (v ∷ []) (λ p.
     lands_as ! refl refl (((option_laws (Lent κ) (lent_laws κ)).lawful 𝓛).typed r (v ∷ []) p).0 $
@@ -91,10 +100,13 @@ osi_last_spec 𝓤 𝓛 𝓜 𝓡 wired =
     -- [what is passed; the slot is kept; the token; its token]
     nothing ! $ move ! (4 ∷ 0 ∷ []) $ join ! $ move ! (3 ∷ 0 ∷ []) $ join ! $ move ! (0 ∷ 1 ∷ []) $ join ! $
     nothing ! $ move ! (1 ∷ 0 ∷ []) $ use2 𝓛 (raw (F.pre x)) (id⊢ 𝓤 _) $
-    calls_at ! (framed 𝓤 𝓛.H 𝓜 𝓣) F (show_met 𝓤 𝓛 𝓜 𝓡 (code.calls-osi_c::indications::show 𝓡.env wired)) x (and_then ! (get ! refl) (and_then ! (get ! refl) (no_more !))) (λ u.
+    calls_at ! (framed 𝓤 𝓛.H 𝓜 𝓣) F (show_met 𝓤 𝓛 𝓜 𝓡 (code.calls-osi_c::indications::show 𝓡.env wired)) x
+    (and_then ! (get ! refl) (and_then ! (get ! refl) (no_more !))) (λ u.
     use1 𝓛 (later (some (λ (d : Unit {0}). ((‵ (flft κ q) ⊛ ‵ (flft μ m) ⊛ ‵ ftrue) ⊛ ‵ (unit.own_val d (u ∷ []))) ⊛
-    some (λ (ws' : Lasts h.ended κs (r, (to, tt))). ‵ (lasts h.ended κs (r, (to, tt)) ws') ⊛ raw (fact 𝓤 (Tells ws'.1.0 (told (option_map (λ c. c.now) r)))))))) (id⊢ 𝓤 _) $
-    await ! tt $ pick ! (λ d. split ! $ split ! $ move ! (1 ∷ []) $ feq_l ! (λ is_unit. move ! (1 ∷ []) $ pick ! (λ ws'. split ! $ move ! (1 ∷ []) $ heard ! _ (λ tells.
+    some (λ (ws' : Lasts h.ended κs (r, (to, tt))). ‵ (lasts h.ended κs (r, (to, tt)) ws') ⊛ raw
+    (fact 𝓤 (Tells ws'.1.0 (told (option_map (λ c. c.now) r)))))))) (id⊢ 𝓤 _) $
+    await ! tt $ pick ! (λ d. split ! $ split ! $ move ! (1 ∷ []) $
+    feq_l ! (λ is_unit. move ! (1 ∷ []) $ pick ! (λ ws'. split ! $ move ! (1 ∷ []) $ heard ! _ (λ tells.
     lands_as ! (ap only is_unit) refl (tt, tt) $ sets ! (of_opd ! (unit_lit !)) refl (tt, tt) $
     returns ! (look_at ! 0 refl) $ free_all ! refl $
     -- [what is left of the place; the tokens; the slot is kept]

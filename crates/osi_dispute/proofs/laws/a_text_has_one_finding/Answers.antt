@@ -1,5 +1,5 @@
-use Rattle.osi_dispute.proofs.OneFinding.{one_finding}
-use Rattle.osi_dispute.proofs.OneText.{one_text}
+use Rattle.osi_dispute.proofs.a_capture_has_one_finding.{one_finding}
+use Rattle.osi_dispute.proofs.a_text_is_one_capture.{one_text}
 use Rattle.osi_dispute.proofs.laws.a_text_has_one_finding.Goals as goal
 
 pub returns-clause-text : goal.returns-clause-text

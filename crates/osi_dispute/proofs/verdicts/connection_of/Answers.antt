@@ -18,4 +18,5 @@ pub returns-in-None-clause-told : goal.returns-in-None-clause-told
 returns-in-None-clause-told c =
     let t = half_of c.args.direction (judged c.args.judge.now) in
     let right = half_of Right (judged c.args.judge.now) in
-    subst (λ (b : Bool). Connects b t right Silent) (sym c.if-is_dropped.false ∙ c.is_dropped.ensures) (nameless t right (sym c.in-None.ensures.value))
+    subst (λ (b : Bool). Connects b t right Silent) (sym c.if-is_dropped.false ∙ c.is_dropped.ensures)
+    (nameless t right (sym c.in-None.ensures.value))

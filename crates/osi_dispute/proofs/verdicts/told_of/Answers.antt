@@ -8,7 +8,8 @@ use Rattle.osi_dispute.proofs.verdicts.told_of.Goals as goal
 
 pub returns-in_ok-stands-in-Kept-clause-told : goal.returns-in_ok-stands-in-Kept-clause-told
 returns-in_ok-stands-in-Kept-clause-told c =
-    told_kept (half_of c.args.direction (judged c.args.judge.now)) (watched c.side-side.result.now) c.told.result c.in_ok-stands-in-Kept.field-0
+    told_kept (half_of c.args.direction (judged c.args.judge.now))
+    (watched c.side-side.result.now) c.told.result c.in_ok-stands-in-Kept.field-0
     c.side-side.ensures c.told.ensures.value (sym c.in-Kept.ensures.value) c.in_ok-stands-in-Kept.ensures
 
 pub returns-in-Broke-clause-told : goal.returns-in-Broke-clause-told
@@ -18,7 +19,8 @@ returns-in-Broke-clause-told c =
     (sym c.in-Broke.ensures.value)
 
 pub returns-in-Broke-clause-found : goal.returns-in-Broke-clause-found
-returns-in-Broke-clause-found c = λ capture k. (Broke c.in-Broke.field-0, (c.in-Broke.field-0, refl), c.in-Broke.ensures.found capture k.taps)
+returns-in-Broke-clause-found c =
+    λ capture k. (Broke c.in-Broke.field-0, (c.in-Broke.field-0, refl), c.in-Broke.ensures.found capture k.taps)
 
 pub returns-in-Left-clause-told : goal.returns-in-Left-clause-told
 returns-in-Left-clause-told c =

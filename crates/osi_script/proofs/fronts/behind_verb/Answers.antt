@@ -1,5 +1,5 @@
 use Rattle.std.proofs.Common.{◌∙◌, sym}
-use Rattle.osi_script.proofs.Beginnings.{verb_read_first}
+use Rattle.osi_script.proofs.the_beginning_of_a_line_is_read_word_by_word.{verb_read_first}
 use Rattle.osi_script.proofs.fronts.behind_verb.Goals as goal
 
 pub returns : goal.returns

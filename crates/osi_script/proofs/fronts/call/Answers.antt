@@ -1,5 +1,5 @@
 use Rattle.std.proofs.Common.{refl}
-use Rattle.osi_script.proofs.Beginnings.{call_read}
+use Rattle.osi_script.proofs.the_beginning_of_a_line_is_read_word_by_word.{call_read}
 use Rattle.osi_script.proofs.fronts.call.Goals as goal
 
 pub returns : goal.returns

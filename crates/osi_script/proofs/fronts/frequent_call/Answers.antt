@@ -1,5 +1,5 @@
 use Rattle.std.proofs.Common.{refl}
-use Rattle.osi_script.proofs.Frequents.{frequent_read}
+use Rattle.osi_script.proofs.a_frequent_call_is_read_by_its_last_word.{frequent_read}
 use Rattle.osi_script.proofs.fronts.frequent_call.Goals as goal
 
 pub returns : goal.returns

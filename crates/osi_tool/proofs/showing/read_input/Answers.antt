@@ -1,6 +1,6 @@
 use Rattle.std.proofs.Common.{◌++◌, take, arith}
 use Rattle.std.proofs.lemmas.List.{length-append, length-take}
-use Rattle.osi_tool.proofs.Consumption.{consumes-append}
+use Rattle.osi_tool.proofs.reads_one_after_the_other_read_all.{consumes-append}
 use Rattle.osi_tool.proofs.showing.read_input.Goals as goal
 
 pub returns-in_err-keep-clause-most : goal.returns-in_err-keep-clause-most

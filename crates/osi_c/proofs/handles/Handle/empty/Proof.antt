@@ -11,7 +11,7 @@ use denote.RawPtr.{null_ptr}
 use denote.Steps.{nothing}
 use denote.Triple.Walked.{Stays, says, ends_at}
 use Rattle.std.specs.declared.option.Option.TheVariants.{None}
-use Rattle.osi_c.proofs.Boxed.{at_word, handle_in}
+use Rattle.osi_c.proofs.a_slot_holds_a_box.{at_word, handle_in}
 use Rattle.osi_c.specs.contracts.handles.Handle.empty as f
 use Rattle.osi_c.proofs.handles.Handle.empty.Statement.{statement}
 use Rattle.osi_c.proofs.handles.Handle.empty.Code as code
@@ -28,5 +28,6 @@ empty_spec 𝓤 𝓛 𝓜 𝓡 wired =
     sets ! (agg ! (and_then ! (lit ! tt) (no_more !))) refl (tt, (record { fits = lit< tt }, tt)) $
     returns ! (look_at ! 0 refl) $ free_all ! refl $
     nothing ! $ handle_in ! null_ptr None $
-    suffices ! _ (ends_at 𝓛 f.ended stayed c ((κs, qs, bounds, a, tt), g) (at_word null_ptr) (record { at = null_ptr; value = None }) tt tt) $ says ! refl $
+    suffices ! _ (ends_at 𝓛 f.ended stayed c ((κs, qs, bounds, a, tt), g) (at_word null_ptr)
+    (record { at = null_ptr; value = None }) tt tt) $ says ! refl $
     nothing ! $ join ! $ nothing ! $ join ! $ done !))

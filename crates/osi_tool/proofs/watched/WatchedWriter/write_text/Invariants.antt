@@ -1,5 +1,5 @@
 use Rattle.std.proofs.Common.{◌≡◌, length}
-use Rattle.osi_tool.proofs.Writing.{IsWriting}
+use Rattle.osi_tool.proofs.writes_one_after_the_other_append.{IsWriting}
 use Rattle.osi_tool.proofs.watched.WatchedWriter.write_text.Given as goal
 
 abbrev pub invariant-writes : goal.invariant-writes

@@ -29,12 +29,14 @@ discard_spec 𝓤 𝓛 𝓜 𝓡 wired =
     let c = f.clauses 𝓛 𝓜.mem 𝓡.returns in let 𝓣 = tables 𝓤 𝓛.H 𝓜 𝓡 𝓡.env in
     proved_at 𝓛 f.ended stayed c 𝓜 𝓡 (Goes-dropped 𝓛 0 (plain (λ _. handle.the_row)) yes (λ κs x w. refl), tt)
     f.Key.name code.function (code.unfolded 𝓤 𝓛.H 𝓜 𝓡 wired) (λ z are.
-    let Post : Val → SProp 𝓤 = (walk_of 𝓛 f.ended stayed c).post z in let Run : List Val → SProp 𝓤 = λ ws. WpFn 𝓤 𝓛.H 𝓣.C 𝓣.Λ code.function ws Post in
+    let Post : Val → SProp 𝓤 = (walk_of 𝓛 f.ended stayed c).post z in
+    let Run : List Val → SProp 𝓤 = λ ws. WpFn 𝓤 𝓛.H 𝓣.C 𝓣.Λ code.function ws Post in
     let h = z.0.3.0 in let vs = z.0.4.0 in
     qed 𝓛 ((‵ ftrue ⊛ ‵ (fsep (handle.the_row.own_val h vs) ftrue)) ∷ raw (fact 𝓤 (IsNone h.value)) ∷ []) ∵
     split ! $ move ! (1 ∷ []) $ fsplit ! $ handle_out ! h vs (λ eh.
     let ws : List Val = at_word h.at ∷ [] in
-    suffices ! (Run ws) (subst (λ (us : List Val). ent 𝓤 (Run ws) (Run us)) (sym (λ i. eh i ++ [])) (id⊢ 𝓤 (Run ws))) $ drop ! $ drop ! $ drop ! $ drop ! $
+    suffices ! (Run ws) (subst (λ (us : List Val). ent 𝓤 (Run ws) (Run us)) (sym (λ i. eh i ++ [])) (id⊢ 𝓤 (Run ws))) $ drop ! $ drop ! $
+    drop ! $ drop ! $
     enter ! 𝓣.C 𝓣.Λ code.function ws Post $ alloc_all ! (λ l. pass_all ! refl (handle_typed h.at, tt) $
     sets ! (of_opd ! (unit_lit !)) refl (tt, tt) $
     returns ! (look_at ! 0 refl) $ free_all ! refl $

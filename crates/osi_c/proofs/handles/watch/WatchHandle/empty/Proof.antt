@@ -28,5 +28,6 @@ empty_spec 𝓤 𝓛 𝓜 𝓡 wired =
     sets ! (agg ! (and_then ! (lit ! tt) (no_more !))) refl (tt, (record { fits = lit< tt }, tt)) $
     returns ! (look_at ! 0 refl) $ free_all ! refl $
     nothing ! $ handle_in ! null_ptr None $
-    suffices ! _ (ends_at 𝓛 f.ended stayed c ((κs, qs, bounds, a, tt), g) (at_word null_ptr) (record { at = null_ptr; value = None }) tt tt) $ says ! refl $
+    suffices ! _ (ends_at 𝓛 f.ended stayed c ((κs, qs, bounds, a, tt), g) (at_word null_ptr)
+    (record { at = null_ptr; value = None }) tt tt) $ says ! refl $
     nothing ! $ join ! $ nothing ! $ join ! $ done !))

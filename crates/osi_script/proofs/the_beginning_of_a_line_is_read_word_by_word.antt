@@ -1,5 +1,6 @@
 -- The part of a line before its user data, read word by word.
-use Rattle.std.proofs.Common.{◌≡◌, ◌∙◌, ◌≤◌, ℕ, suc, ◌-◌, ◌&&◌, Bool, List, [], ◌∷◌, length, get_or, drop, Option, Some, None, refl, sym, ap, subst, arith, true, false}
+use Rattle.std.proofs.Common.{◌≡◌, ◌∙◌, ◌≤◌, ℕ, suc, ◌-◌, ◌&&◌, Bool, List, [], ◌∷◌, length, get_or, drop, Option, Some, None, refl, sym}
+use Rattle.std.proofs.Common.{ap, subst, arith, true, false}
 use Rattle.std.specs.Prelude.{codes, if◌then◌else◌}
 use Rattle.std.specs.Cmp.Lexicographic.{same_text}
 use Rattle.std.specs.List.{onto_first, list_all, slice_get}
@@ -9,13 +10,17 @@ use Rattle.memchr.specs.Find.{is_byte}
 use Rattle.osi_script.specs.declared.sides.Side.{Side}
 use Rattle.osi_script.specs.declared.sides.Side.TheVariants.{Left, Right}
 use Rattle.osi_script.specs.declared.verbs.Verb.{Verb}
-use Rattle.osi_script.specs.declared.verbs.Verb.TheVariants.{Accept, Refuse, Data, Give, Please, Minor, MinorConfirm, Major, MajorConfirm, Restart, RestartConfirm, Release, ReleaseAccept, ReleaseRefuse, Abort}
+use Rattle.osi_script.specs.declared.verbs.Verb.TheVariants.{Accept, Refuse, Data, Give, Please, Minor, MinorConfirm, Major, MajorConfirm}
+use Rattle.osi_script.specs.declared.verbs.Verb.TheVariants.{Restart, RestartConfirm, Release, ReleaseAccept, ReleaseRefuse, Abort}
 use Rattle.osi_script.specs.Names.{side_name, verb_name, all_verbs}
-use Rattle.osi_script.specs.Words.{◌>>=◌, only_word, first_of_two, is, is_digit, number_behind, number_to, words_of, side_of, verb_of, first_named}
+use Rattle.osi_script.specs.Words.{◌>>=◌, only_word, first_of_two, is, is_digit, number_behind, number_to, words_of, side_of, verb_of}
+use Rattle.osi_script.specs.Words.{first_named}
 use Rattle.osi_session.specs.Calls.{Call}
-use Rattle.osi_script.proofs.VerbNames.{verb_read}
-use Rattle.osi_script.specs.Calls.{call_of, accept_of, plain_of, plain_data, give_of, please_of, minor_of, minor_confirm_of, restart_of, restart_confirm_of}
-use Rattle.osi_script.specs.Commands.{Command, OfUser, Carry, command_in, command_of, carry_of, named_call, user_call, data_word, user_data_of, last_of, fourth_or, behind_accept}
+use Rattle.osi_script.proofs.each_verb_is_found_by_its_name.{verb_read}
+use Rattle.osi_script.specs.Calls.{call_of, accept_of, plain_of, plain_data, give_of, please_of, minor_of, minor_confirm_of, restart_of}
+use Rattle.osi_script.specs.Calls.{restart_confirm_of}
+use Rattle.osi_script.specs.Commands.{Command, OfUser, Carry, command_in, command_of, carry_of, named_call, user_call, data_word}
+use Rattle.osi_script.specs.Commands.{user_data_of, last_of, fourth_or, behind_accept}
 use Rattle.osi_script.specs.Fronts.{data_behind, spelled}
 
 no_blank_at : (octet : ℕ) (behind : List ℕ) → is_byte 32 octet ≡ false → words_of (octet ∷ behind) ≡ onto_first octet (words_of behind)
@@ -62,7 +67,8 @@ minor_parted rest =
     ∙ ap (onto_first 110) (no_blank_at 111 (114 ∷ 32 ∷ rest) refl
     ∙ ap (onto_first 111) (no_blank_at 114 (32 ∷ rest) refl ∙ ap (onto_first 114) (blank_behind rest)))))
 
-minorconfirm_parted : (rest : List ℕ) → words_of (109 ∷ 105 ∷ 110 ∷ 111 ∷ 114 ∷ 99 ∷ 111 ∷ 110 ∷ 102 ∷ 105 ∷ 114 ∷ 109 ∷ 32 ∷ rest) ≡ codes "minorconfirm" ∷ words_of rest
+minorconfirm_parted : (rest : List ℕ)
+    → words_of (109 ∷ 105 ∷ 110 ∷ 111 ∷ 114 ∷ 99 ∷ 111 ∷ 110 ∷ 102 ∷ 105 ∷ 114 ∷ 109 ∷ 32 ∷ rest) ≡ codes "minorconfirm" ∷ words_of rest
 minorconfirm_parted rest =
     no_blank_at 109 (105 ∷ 110 ∷ 111 ∷ 114 ∷ 99 ∷ 111 ∷ 110 ∷ 102 ∷ 105 ∷ 114 ∷ 109 ∷ 32 ∷ rest) refl
     ∙ ap (onto_first 109) (no_blank_at 105 (110 ∷ 111 ∷ 114 ∷ 99 ∷ 111 ∷ 110 ∷ 102 ∷ 105 ∷ 114 ∷ 109 ∷ 32 ∷ rest) refl
@@ -78,7 +84,8 @@ minorconfirm_parted rest =
     ∙ ap (onto_first 114) (no_blank_at 109 (32 ∷ rest) refl ∙ ap (onto_first 109) (blank_behind rest))))))))))))
 
 -- a text that begins with these letters and a blank
-pub carry_first : (text : List ℕ) → 6 ≤ length text → get_or text 0 0 ≡ 99 → get_or text 1 0 ≡ 97 → get_or text 2 0 ≡ 114 → get_or text 3 0 ≡ 114 → get_or text 4 0 ≡ 121 → get_or text 5 0 ≡ 32 →
+pub carry_first : (text : List ℕ) → 6 ≤ length text → get_or text 0 0 ≡ 99 → get_or text 1 0 ≡ 97 → get_or text 2 0 ≡ 114
+    → get_or text 3 0 ≡ 114 → get_or text 4 0 ≡ 121 → get_or text 5 0 ≡ 32 →
     words_of text ≡ codes "carry" ∷ words_of (drop 6 text)
 carry_first [] long h0 h1 h2 h3 h4 h5 = absurd (omega arith)
 carry_first (_ ∷ []) long h0 h1 h2 h3 h4 h5 = absurd (omega arith)
@@ -89,7 +96,8 @@ carry_first (_ ∷ _ ∷ _ ∷ _ ∷ _ ∷ []) long h0 h1 h2 h3 h4 h5 = absurd (
 carry_first (x0 ∷ x1 ∷ x2 ∷ x3 ∷ x4 ∷ x5 ∷ rest) long h0 h1 h2 h3 h4 h5 =
     let same : x0 ∷ x1 ∷ x2 ∷ x3 ∷ x4 ∷ x5 ∷ rest ≡ 99 ∷ 97 ∷ 114 ∷ 114 ∷ 121 ∷ 32 ∷ rest = cc in ap words_of same ∙ carry_parted rest
 
-pub left_first : (text : List ℕ) → 5 ≤ length text → get_or text 0 0 ≡ 108 → get_or text 1 0 ≡ 101 → get_or text 2 0 ≡ 102 → get_or text 3 0 ≡ 116 → get_or text 4 0 ≡ 32 →
+pub left_first : (text : List ℕ) → 5 ≤ length text → get_or text 0 0 ≡ 108 → get_or text 1 0 ≡ 101 → get_or text 2 0 ≡ 102
+    → get_or text 3 0 ≡ 116 → get_or text 4 0 ≡ 32 →
     words_of text ≡ codes "left" ∷ words_of (drop 5 text)
 left_first [] long h0 h1 h2 h3 h4 = absurd (omega arith)
 left_first (_ ∷ []) long h0 h1 h2 h3 h4 = absurd (omega arith)
@@ -99,7 +107,8 @@ left_first (_ ∷ _ ∷ _ ∷ _ ∷ []) long h0 h1 h2 h3 h4 = absurd (omega arit
 left_first (x0 ∷ x1 ∷ x2 ∷ x3 ∷ x4 ∷ rest) long h0 h1 h2 h3 h4 =
     let same : x0 ∷ x1 ∷ x2 ∷ x3 ∷ x4 ∷ rest ≡ 108 ∷ 101 ∷ 102 ∷ 116 ∷ 32 ∷ rest = cc in ap words_of same ∙ left_parted rest
 
-pub right_first : (text : List ℕ) → 6 ≤ length text → get_or text 0 0 ≡ 114 → get_or text 1 0 ≡ 105 → get_or text 2 0 ≡ 103 → get_or text 3 0 ≡ 104 → get_or text 4 0 ≡ 116 → get_or text 5 0 ≡ 32 →
+pub right_first : (text : List ℕ) → 6 ≤ length text → get_or text 0 0 ≡ 114 → get_or text 1 0 ≡ 105 → get_or text 2 0 ≡ 103
+    → get_or text 3 0 ≡ 104 → get_or text 4 0 ≡ 116 → get_or text 5 0 ≡ 32 →
     words_of text ≡ codes "right" ∷ words_of (drop 6 text)
 right_first [] long h0 h1 h2 h3 h4 h5 = absurd (omega arith)
 right_first (_ ∷ []) long h0 h1 h2 h3 h4 h5 = absurd (omega arith)
@@ -110,7 +119,8 @@ right_first (_ ∷ _ ∷ _ ∷ _ ∷ _ ∷ []) long h0 h1 h2 h3 h4 h5 = absurd (
 right_first (x0 ∷ x1 ∷ x2 ∷ x3 ∷ x4 ∷ x5 ∷ rest) long h0 h1 h2 h3 h4 h5 =
     let same : x0 ∷ x1 ∷ x2 ∷ x3 ∷ x4 ∷ x5 ∷ rest ≡ 114 ∷ 105 ∷ 103 ∷ 104 ∷ 116 ∷ 32 ∷ rest = cc in ap words_of same ∙ right_parted rest
 
-pub data_first : (text : List ℕ) → 5 ≤ length text → get_or text 0 0 ≡ 100 → get_or text 1 0 ≡ 97 → get_or text 2 0 ≡ 116 → get_or text 3 0 ≡ 97 → get_or text 4 0 ≡ 32 →
+pub data_first : (text : List ℕ) → 5 ≤ length text → get_or text 0 0 ≡ 100 → get_or text 1 0 ≡ 97 → get_or text 2 0 ≡ 116
+    → get_or text 3 0 ≡ 97 → get_or text 4 0 ≡ 32 →
     words_of text ≡ codes "data" ∷ words_of (drop 5 text)
 data_first [] long h0 h1 h2 h3 h4 = absurd (omega arith)
 data_first (_ ∷ []) long h0 h1 h2 h3 h4 = absurd (omega arith)
@@ -120,7 +130,8 @@ data_first (_ ∷ _ ∷ _ ∷ _ ∷ []) long h0 h1 h2 h3 h4 = absurd (omega arit
 data_first (x0 ∷ x1 ∷ x2 ∷ x3 ∷ x4 ∷ rest) long h0 h1 h2 h3 h4 =
     let same : x0 ∷ x1 ∷ x2 ∷ x3 ∷ x4 ∷ rest ≡ 100 ∷ 97 ∷ 116 ∷ 97 ∷ 32 ∷ rest = cc in ap words_of same ∙ data_parted rest
 
-pub minor_first : (text : List ℕ) → 6 ≤ length text → get_or text 0 0 ≡ 109 → get_or text 1 0 ≡ 105 → get_or text 2 0 ≡ 110 → get_or text 3 0 ≡ 111 → get_or text 4 0 ≡ 114 → get_or text 5 0 ≡ 32 →
+pub minor_first : (text : List ℕ) → 6 ≤ length text → get_or text 0 0 ≡ 109 → get_or text 1 0 ≡ 105 → get_or text 2 0 ≡ 110
+    → get_or text 3 0 ≡ 111 → get_or text 4 0 ≡ 114 → get_or text 5 0 ≡ 32 →
     words_of text ≡ codes "minor" ∷ words_of (drop 6 text)
 minor_first [] long h0 h1 h2 h3 h4 h5 = absurd (omega arith)
 minor_first (_ ∷ []) long h0 h1 h2 h3 h4 h5 = absurd (omega arith)
@@ -131,7 +142,9 @@ minor_first (_ ∷ _ ∷ _ ∷ _ ∷ _ ∷ []) long h0 h1 h2 h3 h4 h5 = absurd (
 minor_first (x0 ∷ x1 ∷ x2 ∷ x3 ∷ x4 ∷ x5 ∷ rest) long h0 h1 h2 h3 h4 h5 =
     let same : x0 ∷ x1 ∷ x2 ∷ x3 ∷ x4 ∷ x5 ∷ rest ≡ 109 ∷ 105 ∷ 110 ∷ 111 ∷ 114 ∷ 32 ∷ rest = cc in ap words_of same ∙ minor_parted rest
 
-pub minorconfirm_first : (text : List ℕ) → 13 ≤ length text → get_or text 0 0 ≡ 109 → get_or text 1 0 ≡ 105 → get_or text 2 0 ≡ 110 → get_or text 3 0 ≡ 111 → get_or text 4 0 ≡ 114 → get_or text 5 0 ≡ 99 → get_or text 6 0 ≡ 111 → get_or text 7 0 ≡ 110 → get_or text 8 0 ≡ 102 → get_or text 9 0 ≡ 105 → get_or text 10 0 ≡ 114 → get_or text 11 0 ≡ 109 → get_or text 12 0 ≡ 32 →
+pub minorconfirm_first : (text : List ℕ) → 13 ≤ length text → get_or text 0 0 ≡ 109 → get_or text 1 0 ≡ 105 → get_or text 2 0 ≡ 110
+    → get_or text 3 0 ≡ 111 → get_or text 4 0 ≡ 114 → get_or text 5 0 ≡ 99 → get_or text 6 0 ≡ 111 → get_or text 7 0 ≡ 110
+    → get_or text 8 0 ≡ 102 → get_or text 9 0 ≡ 105 → get_or text 10 0 ≡ 114 → get_or text 11 0 ≡ 109 → get_or text 12 0 ≡ 32 →
     words_of text ≡ codes "minorconfirm" ∷ words_of (drop 13 text)
 minorconfirm_first [] long h0 h1 h2 h3 h4 h5 h6 h7 h8 h9 h10 h11 h12 = absurd (omega arith)
 minorconfirm_first (_ ∷ []) long h0 h1 h2 h3 h4 h5 h6 h7 h8 h9 h10 h11 h12 = absurd (omega arith)
@@ -145,9 +158,12 @@ minorconfirm_first (_ ∷ _ ∷ _ ∷ _ ∷ _ ∷ _ ∷ _ ∷ _ ∷ []) long h0 
 minorconfirm_first (_ ∷ _ ∷ _ ∷ _ ∷ _ ∷ _ ∷ _ ∷ _ ∷ _ ∷ []) long h0 h1 h2 h3 h4 h5 h6 h7 h8 h9 h10 h11 h12 = absurd (omega arith)
 minorconfirm_first (_ ∷ _ ∷ _ ∷ _ ∷ _ ∷ _ ∷ _ ∷ _ ∷ _ ∷ _ ∷ []) long h0 h1 h2 h3 h4 h5 h6 h7 h8 h9 h10 h11 h12 = absurd (omega arith)
 minorconfirm_first (_ ∷ _ ∷ _ ∷ _ ∷ _ ∷ _ ∷ _ ∷ _ ∷ _ ∷ _ ∷ _ ∷ []) long h0 h1 h2 h3 h4 h5 h6 h7 h8 h9 h10 h11 h12 = absurd (omega arith)
-minorconfirm_first (_ ∷ _ ∷ _ ∷ _ ∷ _ ∷ _ ∷ _ ∷ _ ∷ _ ∷ _ ∷ _ ∷ _ ∷ []) long h0 h1 h2 h3 h4 h5 h6 h7 h8 h9 h10 h11 h12 = absurd (omega arith)
-minorconfirm_first (x0 ∷ x1 ∷ x2 ∷ x3 ∷ x4 ∷ x5 ∷ x6 ∷ x7 ∷ x8 ∷ x9 ∷ x10 ∷ x11 ∷ x12 ∷ rest) long h0 h1 h2 h3 h4 h5 h6 h7 h8 h9 h10 h11 h12 =
-    let same : x0 ∷ x1 ∷ x2 ∷ x3 ∷ x4 ∷ x5 ∷ x6 ∷ x7 ∷ x8 ∷ x9 ∷ x10 ∷ x11 ∷ x12 ∷ rest ≡ 109 ∷ 105 ∷ 110 ∷ 111 ∷ 114 ∷ 99 ∷ 111 ∷ 110 ∷ 102 ∷ 105 ∷ 114 ∷ 109 ∷ 32 ∷ rest = cc in ap words_of same ∙ minorconfirm_parted rest
+minorconfirm_first (_ ∷ _ ∷ _ ∷ _ ∷ _ ∷ _ ∷ _ ∷ _ ∷ _ ∷ _ ∷ _ ∷ _ ∷ []) long h0 h1 h2 h3 h4 h5 h6 h7 h8 h9 h10 h11 h12 =
+    absurd (omega arith)
+minorconfirm_first (x0 ∷ x1 ∷ x2 ∷ x3 ∷ x4 ∷ x5 ∷ x6 ∷ x7 ∷ x8 ∷ x9 ∷ x10 ∷ x11 ∷ x12
+    ∷ rest) long h0 h1 h2 h3 h4 h5 h6 h7 h8 h9 h10 h11 h12 =
+    let same : x0 ∷ x1 ∷ x2 ∷ x3 ∷ x4 ∷ x5 ∷ x6 ∷ x7 ∷ x8 ∷ x9 ∷ x10 ∷ x11 ∷ x12 ∷ rest ≡ 109 ∷ 105 ∷ 110 ∷ 111 ∷ 114 ∷ 99 ∷ 111 ∷ 110
+    ∷ 102 ∷ 105 ∷ 114 ∷ 109 ∷ 32 ∷ rest = cc in ap words_of same ∙ minorconfirm_parted rest
 
 -- ---- digits are one word
 
@@ -197,7 +213,8 @@ pub carry_read : (line text digits : List ℕ) (side : Side) (n : ℕ) → words
 unfolding command_of
 carry_read line text digits side n first second third =
     let words : words_of line ≡ codes "carry" ∷ side_name side ∷ digits ∷ [] =
-    first ∙ ap (λ (l : List (List ℕ)). codes "carry" ∷ l) (second ∙ ap (λ (l : List (List ℕ)). side_name side ∷ l) (number_alone 4294967295 n digits third)) in
+    first ∙ ap (λ (l : List (List ℕ)). codes "carry" ∷ l)
+    (second ∙ ap (λ (l : List (List ℕ)). side_name side ∷ l) (number_alone 4294967295 n digits third)) in
     carried_so side digits n (user_data_of (codes "carry" ∷ side_name side ∷ digits ∷ [])) third
     ∙ sym (ap (λ (l : List (List ℕ)). command_in l (user_data_of l)) words)
 
@@ -229,7 +246,8 @@ last_of_call a b c next words =
 
 -- no call is without words after its verb
 no_words : (v : Verb) (a b : Option (List ℕ)) → call_of v [] a ≡ call_of v [] b
-unfolding call_of accept_of plain_of plain_data give_of please_of minor_of minor_confirm_of restart_of restart_confirm_of only_word first_of_two
+unfolding call_of accept_of plain_of plain_data give_of please_of minor_of minor_confirm_of restart_of restart_confirm_of only_word
+    first_of_two
 no_words Accept a b = refl
 no_words Refuse a b = refl
 no_words Data a b = refl
@@ -320,5 +338,6 @@ call_read line connection all behind words side n v first second third number =
 -- ---- the verb
 
 -- a word that names a verb, and the text after it
-pub verb_read_first : (all words : List (List ℕ)) (name : List ℕ) (v : Verb) → all ≡ name ∷ words → Some v ≡ verb_of name → all ≡ verb_name v ∷ words
+pub verb_read_first : (all words : List (List ℕ)) (name : List ℕ) (v : Verb) → all ≡ name ∷ words → Some v ≡ verb_of name
+    → all ≡ verb_name v ∷ words
 verb_read_first all words name v first named = first ∙ ap (λ (w : List ℕ). w ∷ words) (verb_is_name name v named)

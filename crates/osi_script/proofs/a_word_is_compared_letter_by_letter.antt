@@ -1,11 +1,12 @@
 -- Comparing a word with a name, letter by letter.
-use Rattle.std.proofs.Common.{◌≡◌, ◌≢◌, ◌∙◌, ℕ, suc, ◌+◌, ◌<◌, ◌≤◌, ◌&&◌, Bool, true, false, List, [], ◌∷◌, length, get_or, drop, refl, sym, ap, subst, arith}
+use Rattle.std.proofs.Common.{◌≡◌, ◌≢◌, ◌∙◌, ℕ, suc, ◌+◌, ◌<◌, ◌≤◌, ◌&&◌, Bool, true, false, List, [], ◌∷◌, length, get_or, drop, refl}
+use Rattle.std.proofs.Common.{sym, ap, subst, arith}
 use Rattle.std.specs.Prelude.{nat_eq}
 use Rattle.std.proofs.Math.Seq.{drop-cons}
 use Rattle.std.proofs.lemmas.Bool.Decides.{nat_tests}
 use Rattle.std.proofs.lemmas.List.{drop_all}
 use Rattle.osi_script.specs.Words.{is}
-use Rattle.osi_script.proofs.Numerals.{both_refused, one_left}
+use Rattle.osi_script.proofs.a_number_is_read_digit_by_digit.{both_refused, one_left}
 
 both_refused_second : (a b : Bool) → b ≡ false → (a && b) ≡ false
 both_refused_second true b h = h
@@ -30,7 +31,8 @@ both_first word name i a b =
 pub same_letter : (word name : List ℕ) (i : ℕ) → i < length word → i < length name → get_or word i 0 ≡ get_or name i 0 →
     is (drop (i + 1) word) (drop (i + 1) name) ≡ is (drop i word) (drop i name)
 same_letter word name i a b same =
-    sym (one_left (nat_eq (get_or word i 0) (get_or name i 0)) (is (drop (i + 1) word) (drop (i + 1) name)) (same_octet (get_or word i 0) (get_or name i 0) same))
+    sym (one_left (nat_eq (get_or word i 0) (get_or name i 0)) (is (drop (i + 1) word) (drop (i + 1) name))
+    (same_octet (get_or word i 0) (get_or name i 0) same))
     ∙ sym (both_first word name i a b)
 
 -- they differ at another letter
@@ -38,7 +40,8 @@ pub other_letter : (word name : List ℕ) (i : ℕ) → i < length word → i < 
     is (drop i word) (drop i name) ≡ false
 other_letter word name i a b other =
     both_first word name i a b
-    ∙ both_refused (nat_eq (get_or word i 0) (get_or name i 0)) (is (drop (i + 1) word) (drop (i + 1) name)) (other_octet (get_or word i 0) (get_or name i 0) other)
+    ∙ both_refused (nat_eq (get_or word i 0) (get_or name i 0)) (is (drop (i + 1) word) (drop (i + 1) name))
+    (other_octet (get_or word i 0) (get_or name i 0) other)
 
 -- no letter is left
 pub all_letters : (word name : List ℕ) (i : ℕ) → length word ≤ i → length name ≤ i → is (drop i word) (drop i name) ≡ true

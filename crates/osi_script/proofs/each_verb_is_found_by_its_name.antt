@@ -1,7 +1,8 @@
 -- Each verb is the first of all that its name names.
 use Rattle.std.proofs.Common.{◌≡◌, Some, refl}
 use Rattle.osi_script.specs.declared.verbs.Verb.{Verb}
-use Rattle.osi_script.specs.declared.verbs.Verb.TheVariants.{Accept, Refuse, Data, Give, Please, Minor, MinorConfirm, Major, MajorConfirm, Restart, RestartConfirm, Release, ReleaseAccept, ReleaseRefuse, Abort}
+use Rattle.osi_script.specs.declared.verbs.Verb.TheVariants.{Accept, Refuse, Data, Give, Please, Minor, MinorConfirm, Major, MajorConfirm}
+use Rattle.osi_script.specs.declared.verbs.Verb.TheVariants.{Restart, RestartConfirm, Release, ReleaseAccept, ReleaseRefuse, Abort}
 use Rattle.osi_script.specs.Names.{verb_name}
 use Rattle.osi_script.specs.Words.{verb_of}
 

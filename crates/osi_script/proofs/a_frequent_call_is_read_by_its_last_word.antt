@@ -1,6 +1,7 @@
 -- A frequent call: the text after its last word but the user data spells octets exactly if it is a single word that
 -- does.
-use Rattle.std.proofs.Common.{◌≡◌, ◌∙◌, ℕ, List, [], ◌∷◌, get_or, Option, Some, None, Bool, true, false, Result, Ok, Err, refl, sym, ap, subst, arith}
+use Rattle.std.proofs.Common.{◌≡◌, ◌∙◌, ℕ, List, [], ◌∷◌, get_or, Option, Some, None, Bool, true, false, Result, Ok, Err, refl, sym, ap}
+use Rattle.std.proofs.Common.{subst, arith}
 use Rattle.std.specs.Prelude.{codes, option_map, if◌then◌else◌}
 use Rattle.std.specs.Result.{result_ok}
 use Rattle.std.specs.List.{join_with_byte, All, AllPass}
@@ -19,7 +20,7 @@ use Rattle.osi_script.specs.declared.verbs.Verb.{Verb}
 use Rattle.osi_script.specs.declared.verbs.Verb.TheVariants as verb
 use Rattle.osi_script.specs.declared.fronts.Frequent.{Frequent}
 use Rattle.osi_script.specs.Names.{side_name, verb_name}
-use Rattle.osi_script.proofs.Beginnings.{call_read}
+use Rattle.osi_script.proofs.the_beginning_of_a_line_is_read_word_by_word.{call_read}
 use Rattle.osi_script.specs.declared.fronts.Frequent.TheVariants as frequent
 use Rattle.osi_script.specs.Words.{◌>>=◌, only_word, first_of_two, is, words_of, data_of, answer_of, number_to}
 use Rattle.osi_script.specs.Calls.{call_of, plain_of, plain_call, plain_data, minor_of, minor_confirm_of}
@@ -34,11 +35,13 @@ no_blanks text h =
     All-from_get_or (λ x. is_byte 32 x ≡ false) text 0
     (λ i below. no_blank_digit (get_or text i 0) (All-get_or (λ x. is_hex_digit x ≡ true) text i 0 below h))
 
-digits_alone : (text bytes : List ℕ) (r : Result (List ℕ) FromHexError) → decode_of text ≡ r → result_ok r ≡ Some bytes → words_of text ≡ text ∷ []
+digits_alone : (text bytes : List ℕ) (r : Result (List ℕ) FromHexError) → decode_of text ≡ r → result_ok r ≡ Some bytes
+    → words_of text ≡ text ∷ []
 digits_alone text bytes (Ok octets) e h = slice_split_none (is_byte 32) text (no_blanks text (decode_of-ok text octets e).1)
 digits_alone text bytes (Err fault) e h = absurd (cc)
 
-dash_or_digits : (text bytes : List ℕ) (b : Bool) → is text (codes "-") ≡ b → (if b then Some [] else result_ok (decode_of text)) ≡ Some bytes →
+dash_or_digits : (text bytes : List ℕ) (b : Bool) → is text (codes "-") ≡ b
+    → (if b then Some [] else result_ok (decode_of text)) ≡ Some bytes →
     words_of text ≡ text ∷ []
 dash_or_digits text bytes true e h = subst (λ (t : List ℕ). words_of t ≡ t ∷ []) (sym (same_text text (codes "-") (sym e))) refl
 dash_or_digits text bytes false e h = digits_alone text bytes (decode_of text) refl h
@@ -58,7 +61,8 @@ one_word : (text : List ℕ) (words : List (List ℕ)) (o : Option (List ℕ)) (
     ((w x : List ℕ) (more : List (List ℕ)) → read (w ∷ x ∷ more) ≡ None) → read words ≡ option_map call o
 one_word text [] None read call e d none one more = none
 one_word text [] (Some bytes) read call e d none one more = let same : [] ≡ text ∷ [] = sym e ∙ alone text bytes d in absurd (cc)
-one_word text (w ∷ []) o read call e d none one more = one w ∙ ap (λ (t : List ℕ). option_map call (data_of t)) (whole text w e) ∙ ap (option_map call) d
+one_word text (w ∷ []) o read call e d none one more =
+    one w ∙ ap (λ (t : List ℕ). option_map call (data_of t)) (whole text w e) ∙ ap (option_map call) d
 one_word text (w ∷ x ∷ rest) None read call e d none one more = more w x rest
 one_word text (w ∷ x ∷ rest) (Some bytes) read call e d none one more =
     let same : w ∷ x ∷ rest ≡ text ∷ [] = sym e ∙ alone text bytes d in absurd (cc)
@@ -67,43 +71,51 @@ mapped : (o : Option (List ℕ)) (call : List ℕ → Call) → o >>= (λ (octet
 mapped None call = refl
 mapped (Some octets) call = refl
 
-pub data_read : (text : List ℕ) → call_of verb.Data (words_of text) (spelled (data_behind verb.Data (words_of text))) ≡ option_map (made frequent.Data) (data_of text)
+pub data_read : (text : List ℕ)
+    → call_of verb.Data (words_of text) (spelled (data_behind verb.Data (words_of text))) ≡ option_map (made frequent.Data) (data_of text)
 unfolding call_of plain_of plain_call plain_data only_word
 data_read text =
     one_word text (words_of text) (data_of text) (λ (words : List (List ℕ)). plain_of verb.Data words (spelled (last_of words)))
     (made frequent.Data) refl refl refl (λ w. mapped (data_of w) (made frequent.Data)) (λ w x more. refl)
 
 pub minor_read : (text answer rest : List ℕ) (confirm : Bool) → words_of text ≡ answer ∷ words_of rest → Some confirm ≡ answer_of answer →
-    call_of verb.Minor (words_of text) (spelled (data_behind verb.Minor (words_of text))) ≡ option_map (made (frequent.Minor confirm)) (data_of rest)
+    call_of verb.Minor (words_of text) (spelled (data_behind verb.Minor (words_of text)))
+    ≡ option_map (made (frequent.Minor confirm)) (data_of rest)
 unfolding call_of minor_of first_of_two
 minor_read text answer rest confirm first said =
     ap (λ (words : List (List ℕ)). minor_of words (spelled (last_of words))) first
-    ∙ one_word rest (words_of rest) (data_of rest) (λ (words : List (List ℕ)). minor_of (answer ∷ words) (spelled (last_of (answer ∷ words))))
+    ∙ one_word rest (words_of rest) (data_of rest)
+    (λ (words : List (List ℕ)). minor_of (answer ∷ words) (spelled (last_of (answer ∷ words))))
     (made (frequent.Minor confirm)) refl refl refl
     (λ w. ap (λ (a : Option Bool). a >>= (λ (c : Bool). data_of w >>= (λ (octets : List ℕ). Some (call.Minor c octets)))) (sym said)
     ∙ mapped (data_of w) (made (frequent.Minor confirm)))
     (λ w x more. refl)
 
-pub minor_confirm_read : (text number rest : List ℕ) (n : ℕ) → words_of text ≡ number ∷ words_of rest → Some n ≡ number_to 4294967295 number →
+pub minor_confirm_read : (text number rest : List ℕ) (n : ℕ) → words_of text ≡ number ∷ words_of rest
+    → Some n ≡ number_to 4294967295 number →
     call_of verb.MinorConfirm (words_of text) (spelled (data_behind verb.MinorConfirm (words_of text)))
     ≡ option_map (made (frequent.MinorConfirm n)) (data_of rest)
 unfolding call_of minor_confirm_of first_of_two
 minor_confirm_read text number rest n first said =
     ap (λ (words : List (List ℕ)). minor_confirm_of words (spelled (last_of words))) first
-    ∙ one_word rest (words_of rest) (data_of rest) (λ (words : List (List ℕ)). minor_confirm_of (number ∷ words) (spelled (last_of (number ∷ words))))
+    ∙ one_word rest (words_of rest) (data_of rest)
+    (λ (words : List (List ℕ)). minor_confirm_of (number ∷ words) (spelled (last_of (number ∷ words))))
     (made (frequent.MinorConfirm n)) refl refl refl
     (λ w. ap (λ (a : Option ℕ). a >>= (λ (k : ℕ). data_of w >>= (λ (octets : List ℕ). Some (call.MinorConfirm k octets)))) (sym said)
     ∙ mapped (data_of w) (made (frequent.MinorConfirm n)))
     (λ w x more. refl)
 
 called_by_map : (side : Side) (n : ℕ) (call : Frequent) (o : Option (List ℕ)) →
-    o >>= (λ (octets : List ℕ). Some (OfUser side n (made call octets))) ≡ option_map (made call) o >>= (λ (c : Call). Some (OfUser side n c))
+    o >>= (λ (octets : List ℕ). Some (OfUser side n (made call octets)))
+    ≡ option_map (made call) o >>= (λ (c : Call). Some (OfUser side n c))
 called_by_map side n call None = refl
 called_by_map side n call (Some octets) = refl
 
 -- a line that calls by a frequent verb
-pub frequent_read : (line connection : List ℕ) (all behind : List (List ℕ)) (rest text : List ℕ) (side : Side) (n : ℕ) (v : Verb) (call : Frequent) →
-    words_of line ≡ side_name side ∷ all → all ≡ connection ∷ behind → behind ≡ verb_name v ∷ words_of rest → Some n ≡ number_to 65535 connection →
+pub frequent_read : (line connection : List ℕ) (all behind : List (List ℕ)) (rest text : List ℕ) (side : Side) (n : ℕ) (v : Verb)
+    (call : Frequent) →
+    words_of line ≡ side_name side ∷ all → all ≡ connection ∷ behind → behind ≡ verb_name v ∷ words_of rest
+    → Some n ≡ number_to 65535 connection →
     call_of v (words_of rest) (spelled (data_behind v (words_of rest))) ≡ option_map (made call) (data_of text) →
     data_of text >>= (λ (octets : List ℕ). Some (OfUser side n (made call octets))) ≡ command_of line
 frequent_read line connection all behind rest text side n v call first second third number read =

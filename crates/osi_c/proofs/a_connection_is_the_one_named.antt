@@ -8,7 +8,8 @@ use Rattle.osi_c.specs.Ends.{Connects, Asks}
 use Rattle.osi_c.specs.declared.arguments.OsiOpening.{OsiOpening}
 use Rattle.osi_c.specs.declared.handles.Contents.{Contents}
 
-pub asks_by : (opening : OsiOpening) (connect : Connect) (answer : Option (Answer ConnectError)) (old : Option Contents) (r : ℕ) (new : Option Contents)
+pub asks_by : (opening : OsiOpening) (connect : Connect) (answer : Option (Answer ConnectError)) (old : Option Contents) (r : ℕ)
+    (new : Option Contents)
     → SaysOpening opening connect → Connects connect answer old r new → Asks opening answer old r new
 asks_by opening connect None old r new says connects = (connect, says, connects)
 asks_by opening connect (Some Done) old r new says connects = (connect, says, connects)

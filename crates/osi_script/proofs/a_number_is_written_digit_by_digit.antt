@@ -9,7 +9,8 @@ last_digit n low high =
     decimal_step n low (omega arith)
     ∙ ap (λ (last : List ℕ). decimal (n / 10) ++ last) (sym (decimal_digit (n % 10) (omega arith)))
 
-pub digits_joined : (out mid after : List ℕ) (n : ℕ) → 10 ≤ n → n < 10000 → mid ≡ out ++ decimal (n / 10) → after ≡ mid ++ decimal (n % 10) →
+pub digits_joined : (out mid after : List ℕ) (n : ℕ) → 10 ≤ n → n < 10000 → mid ≡ out ++ decimal (n / 10)
+    → after ≡ mid ++ decimal (n % 10) →
     after ≡ out ++ decimal n
 digits_joined out mid after n low high first last =
     last ∙ ap (λ (t : List ℕ). t ++ decimal (n % 10)) first ∙ append_assoc out (decimal (n / 10)) (decimal (n % 10))

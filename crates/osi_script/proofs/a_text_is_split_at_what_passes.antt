@@ -1,5 +1,6 @@
 -- Splitting a list at the elements that pass a test.
-use Rattle.std.proofs.Common.{◌≡◌, ◌∙◌, ℕ, zero, suc, ◌+◌, ◌-◌, ◌<◌, ◌≤◌, Bool, true, false, List, [], ◌∷◌, ◌++◌, Option, None, Some, length, get_or, take, drop, refl, sym, ap, subst, arith}
+use Rattle.std.proofs.Common.{◌≡◌, ◌∙◌, ℕ, zero, suc, ◌+◌, ◌-◌, ◌<◌, ◌≤◌, Bool, true, false, List, [], ◌∷◌, ◌++◌, Option, None, Some}
+use Rattle.std.proofs.Common.{length, get_or, take, drop, refl, sym, ap, subst, arith}
 use Rattle.std.specs.List.{slice_split, onto_first, slice_get, All}
 use Rattle.std.proofs.lemmas.List.{get_or-take, get_or-drop, length-take, length-drop, length-append}
 use Rattle.std.proofs.lemmas.List.Elements.{All-from_get_or}
@@ -17,15 +18,18 @@ one_part p text h =
     slice_split_none p text (All-from_get_or (λ x. p x ≡ false) text 0 (λ i below. fails (p (get_or text i 0)) (h i (omega arith) below)))
 
 cut_here : (text : List ℕ) (i : ℕ) → i < length text → text ≡ take i text ++ get_or text i 0 ∷ drop (i + 1) text
-cut_here text i below = let next : suc i ≡ i + 1 = omega arith in subst (λ (n : ℕ). text ≡ take i text ++ get_or text i 0 ∷ drop n text) next (split_at text i 0 below)
+cut_here text i below = let next : suc i ≡ i + 1 =
+    omega arith in subst (λ (n : ℕ). text ≡ take i text ++ get_or text i 0 ∷ drop n text) next (split_at text i 0 below)
 
-none_before : (p : ℕ → Bool) (text : List ℕ) (i : ℕ) → i < length text → ((k : ℕ) → k < i → p (get_or text k 0) ≡ true → ⊥) → All (λ x. p x ≡ false) (take i text)
+none_before : (p : ℕ → Bool) (text : List ℕ) (i : ℕ) → i < length text → ((k : ℕ) → k < i → p (get_or text k 0) ≡ true → ⊥)
+    → All (λ x. p x ≡ false) (take i text)
 none_before p text i within h =
     All-from_get_or (λ x. p x ≡ false) (take i text) 0
     (λ k below. let less : k < i = omega (arith, length-take i text) in
     subst (λ (x : ℕ). p x ≡ false) (sym (get_or-take i text k 0 less)) (fails (p (get_or text k 0)) (h k less)))
 
-none_behind : (p : ℕ → Bool) (text : List ℕ) (n : ℕ) → n ≤ length text → ((k : ℕ) → n ≤ k → k < length text → p (get_or text k 0) ≡ true → ⊥) →
+none_behind : (p : ℕ → Bool) (text : List ℕ) (n : ℕ) → n ≤ length text
+    → ((k : ℕ) → n ≤ k → k < length text → p (get_or text k 0) ≡ true → ⊥) →
     All (λ x. p x ≡ false) (drop n text)
 none_behind p text n within h =
     All-from_get_or (λ x. p x ≡ false) (drop n text) 0
@@ -33,7 +37,8 @@ none_behind p text n within h =
     subst (λ (x : ℕ). p x ≡ false) (sym (get_or-drop n text k 0)) (fails (p (get_or text (n + k) 0)) (h (n + k) (omega arith) less)))
 
 -- the first part ends at the first element that passes
-pub first_part : (p : ℕ → Bool) (text : List ℕ) (i : ℕ) → IsFirstByte p text (Some i) → slice_split p text ≡ take i text ∷ slice_split p (drop (i + 1) text)
+pub first_part : (p : ℕ → Bool) (text : List ℕ) (i : ℕ) → IsFirstByte p text (Some i)
+    → slice_split p text ≡ take i text ∷ slice_split p (drop (i + 1) text)
 first_part p text i h =
     ap (slice_split p) (cut_here text i h.0.high)
     ∙ slice_split_at p (take i text) (get_or text i 0) (drop (i + 1) text)
@@ -82,7 +87,8 @@ pub all_is_last : (p : ℕ → Bool) (text : List ℕ) → IsLastByte p text Non
 all_is_last p text h = ap last_of (one_part p text h)
 
 -- the last part comes after the last element that passes
-pub last_part : (p : ℕ → Bool) (text : List ℕ) (i : ℕ) → IsLastByte p text (Some i) → last_of (slice_split p text) ≡ Some (drop (i + 1) text)
+pub last_part : (p : ℕ → Bool) (text : List ℕ) (i : ℕ) → IsLastByte p text (Some i)
+    → last_of (slice_split p text) ≡ Some (drop (i + 1) text)
 last_part p text i h =
     let high : i < length text = h.0.high in
     let parts : slice_split p text ≡ slice_split p (take i text) ++ drop (i + 1) text ∷ [] =

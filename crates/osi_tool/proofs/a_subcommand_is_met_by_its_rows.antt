@@ -23,18 +23,21 @@ from_some other None = other
 from_some other (Some x) = x
 
 -- a name and rows are a subcommand
-pub asked_with : (o : Option (Text × List Row)) (name : Text) (rows : List Row) → Some name ≡ option_map (λ p. p.0) o → Some rows ≡ option_map (λ p. p.1) o
+pub asked_with : (o : Option (Text × List Row)) (name : Text) (rows : List Row) → Some name ≡ option_map (λ p. p.0) o
+    → Some rows ≡ option_map (λ p. p.1) o
     → Some (name, wants_script rows) ≡ asked_in o
 unfolding from_some
 asked_with None name rows name_is rows_are = absurd (none-some name (sym name_is))
-asked_with (Some p) name rows name_is rows_are = ap₂ (λ n r. Some (n, wants_script r)) (ap (from_some name) name_is) (ap (from_some rows) rows_are)
+asked_with (Some p) name rows name_is rows_are =
+    ap₂ (λ n r. Some (n, wants_script r)) (ap (from_some name) name_is) (ap (from_some rows) rows_are)
 
 pub asked_nothing : (o : Option (Text × List Row)) → None ≡ option_map (λ p. p.0) o → None ≡ asked_in o
 asked_nothing None is = refl
 asked_nothing (Some p) is = absurd (none-some p.0 is)
 
 -- whether a script is wanted, by the option's value
-pub wants_by_value : (f : Found) → wants_script (rows_of f) ≡ option_map_or (λ text. bytes_eq text (codes "true")) (first_value f (codes "script")) false
+pub wants_by_value : (f : Found)
+    → wants_script (rows_of f) ≡ option_map_or (λ text. bytes_eq text (codes "true")) (first_value f (codes "script")) false
 wants_by_value f = ap (λ o. option_map_or (λ text. bytes_eq text (codes "true")) o false) (sym (first_value-rows f (codes "script")))
 
 pub osi_is_simple : is_simple osi ≡ true

@@ -1,0 +1,59 @@
+#!/usr/bin/env bash
+# Judges captures of 16 MiB of text by the proved program, compared with `osi show` on the octets of both directions.
+set -eu
+cd "$(dirname "$0")/.."
+make >&2
+mkdir -p bench/out
+python3 - bench/out <<'P'
+import os, subprocess, sys, time
+sys.dont_write_bytecode = True
+sys.path.insert(0, "bench")
+from processor import processor
+from script import JUDGED_OPENING, packet, point
+
+RUNS, SIZE = 5, 1 << 24
+PROGRAM = "crates/osi_tool/out/osi_tool"
+# With duplex both sides send data at any time: CR, CC, and a CN and an AC that select it alone.
+DUPLEX = JUDGED_OPENING.replace("140200b9", "14020002")
+SHORTEST = packet("0100010041")
+
+
+def texts():
+    """What is judged, by its name: the smallest data of both sides in turn, data of left alone, and confirmed points."""
+    yield "smallest data, both ways", DUPLEX + (SHORTEST + "\t" + SHORTEST) * (SIZE // (2 * len(SHORTEST)))
+    data = packet("01000100" + "41" * 1000)
+    yield "data of 1,000 octets, both ways", DUPLEX + (data + "\t" + data) * (SIZE // (2 * len(data)))
+    points, size = [JUDGED_OPENING], 0
+    while size < SIZE - 1000:
+        points.append(point(len(points)))
+        size += len(points[-1])
+    yield "confirmed points", "".join(points)
+
+
+def timed(word, path):
+    """Seconds, the most MiB of memory, and the status."""
+    with open(path, "rb") as text, open(os.devnull, "wb") as out:
+        start = time.perf_counter()
+        child = subprocess.Popen([PROGRAM, word], stdin=text, stdout=out)
+        _, status, used = os.wait4(child.pid, 0)
+        return time.perf_counter() - start, used.ru_maxrss // 1024, os.waitstatus_to_exitcode(status)
+
+
+print("Judging 16 MiB of text, in seconds, beside `osi show` on the same octets\n"
+      f"{processor()}, the best of {RUNS} runs of each in turn. Below \"show / judge\" stands its speed divided by that of show.")
+print(f"{'capture':>32} {'judge':>8} {'MiB used':>8} {'show':>8} {'show / judge':>12}")
+for name, text in texts():
+    judged, listed = f"{sys.argv[1]}/judge.hex", f"{sys.argv[1]}/judge-show.hex"
+    with open(judged, "w") as out:
+        out.write(text)
+    # osi show reads one direction: both in one stream are the same octets.
+    with open(listed, "w") as out:
+        out.write(text.replace("\t", ""))
+    best, peak = [1e9, 1e9], 0
+    for _ in range(RUNS):
+        seconds, used, status = timed("judge", judged)
+        assert status == 0, status
+        best[0], peak = min(best[0], seconds), max(peak, used)
+        best[1] = min(best[1], timed("show", listed)[0])
+    print(f"{name:>32} {best[0]:8.3f} {peak:8} {best[1]:8.3f} {best[1] / best[0]:12.2f}")
+P
