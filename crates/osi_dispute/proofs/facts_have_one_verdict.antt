@@ -204,10 +204,10 @@ stands_same : HasOneList → (c : Capture) (first : Option Direction) (m s : Fac
 stands_same one c first m s x y h k p q =
     let left = one_connection one side.Left c m.members (left_first first side.Right s.found) m.reference (broke_session m.found)
     (is_refused s.stopped)
-    (is_some s.reference) m.found m.count m.offset x m.stands m.by h k in
+    (is_unanswered s.reference s.stopped) m.found m.count m.offset x m.stands m.by h k in
     let right = one_connection one side.Right c s.members (left_first first side.Left m.found) s.reference (broke_session s.found)
     (is_refused s.stopped)
-    (is_some s.reference) s.found s.count s.offset y s.stands s.by p q in
+    (is_unanswered s.reference s.stopped) s.found s.count s.offset y s.stands s.by p q in
     λ i. record {
       left = record { reading = m.reading; connection = left i; stopped = m.stopped };
       right = record { reading = s.reading; connection = right i; stopped = s.stopped };
