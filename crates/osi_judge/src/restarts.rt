@@ -1,4 +1,4 @@
-//! How a session continues to a restart that its side sent (RS, X.225 section 5.10): it sends it now, or takes TSDUs of
+//! How a session continues to a restart that its side sent (RS): it sends it now, or takes TSDUs of
 //! the other side first.
 //!
 //! A session that sent it discards what it takes until the answer comes. So it can't be seen whether it took a
