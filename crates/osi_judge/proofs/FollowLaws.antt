@@ -18,7 +18,7 @@ use Rattle.osi_judge.specs.Judging.{Watched, Watches}
 use Rattle.osi_tpdu.specs.Packet.{units_of}
 use Rattle.osi_judge.specs.Transport.{Handshake, silent, first_unit, shaken, handshake_from, packet_length, met_before, reference_in}
 use Rattle.osi_judge.specs.Transport.{Stage, opening, asking, between, within, refused, stopped, first_of}
-use Rattle.osi_judge.specs.Transport.{stage_behind, Sent, packets_length, sent_by, stage_from, sent_from, hasty_behind}
+use Rattle.osi_judge.specs.Transport.{stage_behind, Sent, packets_length, sent_by, stage_from, hasty_behind}
 use Rattle.osi_judge.specs.Transport.{hasty_from}
 use Rattle.osi_judge.specs.Tapping.{begin_of, had_passed, octets_of, heard, tell, told, IsPlace}
 use Rattle.osi_judge.specs.Feeding.{Tapped, since_at, named_behind, last_behind, with_count, Tells, hears, Passes}

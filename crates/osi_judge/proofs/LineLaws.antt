@@ -13,7 +13,7 @@ use Rattle.osi_judge.specs.declared.stops.Stop.{Stop}
 use Rattle.osi_judge.specs.declared.progress.Progress.{Progress}
 use Rattle.osi_judge.specs.declared.progress.Progress.TheVariants.{Opening, Asking, Between, Within, Refused, Stopped}
 use Rattle.osi_judge.specs.Judging.{Watched}
-use Rattle.osi_judge.specs.Transport.{Handshake, first_unit, shaken, Move, unit_step, step_of, Stage, opening, asking}
+use Rattle.osi_judge.specs.Transport.{Handshake, first_unit, shaken, Move, unit_step, step_of, opening, asking}
 use Rattle.osi_judge.specs.Transport.{between, within, refused, moved, stage_behind}
 use Rattle.osi_judge.specs.Transport.{Sent, brought, sent_by, noted, hasty_behind}
 use Rattle.osi_judge.specs.Feeding.{stage_in, Lined, Tapped, since_at, named, named_behind, last_behind, hears, Passes}

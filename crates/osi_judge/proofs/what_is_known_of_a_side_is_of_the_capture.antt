@@ -2,10 +2,8 @@
 -- For the crate that writes what a judge found.
 use Rattle.std.proofs.Common.{◌≡◌, ◌∙◌, refl, sym, ap, subst, ℕ, ◌+◌, ◌==◌, Bool, true, false, if◌then◌else◌, List, [], ◌∷◌, ◌++◌}
 use Rattle.std.proofs.Common.{length, Option, Some, None, Result, Ok, Err}
-use Rattle.std.proofs.lemmas.List.{append-nil}
-use Rattle.osi_tpkt.specs.Stream.{Cuts, Ending}
 use Rattle.osi_tpkt.proofs.Streams.{one_cut}
-use Rattle.osi_tpdu.specs.Value.{Value, Connect, request, confirm, disconnect, disconnected, data0, data2, acknowledge, error}
+use Rattle.osi_tpdu.specs.Value.{Value, request, confirm, disconnect, disconnected, data0, data2, acknowledge, error}
 use Rattle.osi_tpdu.specs.Packet.{units_of}
 use Rattle.osi_tpdu.specs.declared.faults.TpduFault.{TpduFault}
 use Rattle.osi_class.specs.Negotiation.{proposes}
@@ -15,8 +13,7 @@ use Rattle.osi_judge.specs.declared.directions.Direction.TheVariants as side
 use Rattle.osi_judge.specs.declared.findings.Finding.{Finding}
 use Rattle.osi_judge.specs.declared.findings.Finding.TheVariants.{Kept}
 use Rattle.osi_judge.specs.declared.standings.Stands.{Stands}
-use Rattle.osi_judge.specs.declared.stops.Stop.{Stop}
-use Rattle.osi_judge.specs.declared.stops.Stop.TheVariants.{NoOpening, OtherClass, Refused, BadUnit, UnexpectedUnit}
+use Rattle.osi_judge.specs.declared.stops.Stop.TheVariants.{NoOpening, OtherClass}
 use Rattle.osi_judge.specs.Captures.{Capture, other, stream}
 use Rattle.osi_judge.specs.Explaining.{Told, remarks, Explains}
 use Rattle.osi_judge.specs.Judging.{Watched, Keeps, WatchesBy, Watches}
@@ -28,7 +25,7 @@ use Rattle.osi_judge.specs.Transport.{asking_step, answering_step, has_asked, fi
 use Rattle.osi_judge.specs.Transport.{given_by, reference_in, Stage, opening, asking, between, within, refused}
 use Rattle.osi_judge.specs.Transport.{stopped, moved, stage_behind}
 use Rattle.osi_judge.specs.Transport.{Sent, brought, sent_by, sent_from, ArePacketsOf, IsSent}
-use Rattle.osi_judge.specs.Tapping.{begin_of, heard, told, IsFoundIn, IsStoppedIn, IsReadIn, IsReferenceIn, IsPlaceIn, IsCountIn}
+use Rattle.osi_judge.specs.Tapping.{heard, told, IsFoundIn, IsStoppedIn, IsReadIn, IsReferenceIn, IsPlaceIn, IsCountIn}
 use Rattle.osi_judge.specs.Tapping.{IsStandingIn, IsFirstIn}
 use Rattle.osi_judge.specs.Feeding.{Tapped, reading_of, stopped_of}
 use Rattle.osi_judge.specs.Following.{Follows, Judged, half_of, Taps, FirstIs}
