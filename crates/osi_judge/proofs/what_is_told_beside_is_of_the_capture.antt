@@ -1,7 +1,7 @@
 -- The reference of a side, and the packet of its break, follow the packets that passed: for what a judge is fed.
 use Rattle.std.proofs.Common.{◌≡◌, ◌∙◌, refl, sym, ap, subst, ℕ, suc, zero, ◌+◌, ◌==◌, ◌&&◌, Bool, true, false}
 use Rattle.std.proofs.Common.{if◌then◌else◌, List, [], ◌∷◌, ◌++◌}
-use Rattle.std.proofs.Common.{length, map, Option, Some, None, option_map, Result, Ok, Err, inl, inr, arith}
+use Rattle.std.proofs.Common.{length, Option, Some, None, option_map, Result, Ok, Err, inl, inr, arith}
 use Rattle.std.proofs.lemmas.List.{append-nil}
 use Rattle.osi_tpkt.specs.Stream.{offset_of}
 use Rattle.osi_tpdu.specs.Value.{Value, request, confirm, disconnect, disconnected, data0, data2, acknowledge, error}
@@ -22,8 +22,8 @@ use Rattle.osi_judge.specs.Transport.{misplaced, next_step, asking_step, answeri
 use Rattle.osi_judge.specs.Transport.{hasty_step, closing_step, later_step, refused_step, unit_step, step_of}
 use Rattle.osi_judge.specs.Transport.{given_by, reference_in, Stage, opening, asking, between, within, refused}
 use Rattle.osi_judge.specs.Transport.{stopped, is_too_long, added, moved, stage_behind}
-use Rattle.osi_judge.specs.Transport.{Sent, packets_length, last_packet, sent_by, stage_from}
-use Rattle.osi_judge.specs.Tapping.{heard, tell, told, IsPlace}
+use Rattle.osi_judge.specs.Transport.{Sent, packets_length, last_packet, stage_from}
+use Rattle.osi_judge.specs.Tapping.{heard, told, IsPlace}
 use Rattle.osi_judge.specs.Feeding.{named, named_behind, last_place, last_behind, Passes}
 use Rattle.osi_judge.specs.Following.{shown}
 use Rattle.osi_judge.proofs.UnitLaws.{offset_from, step_shown, OneOrNone}

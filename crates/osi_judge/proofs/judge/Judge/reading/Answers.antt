@@ -1,4 +1,4 @@
-use Rattle.std.proofs.Common.{◌∙◌, sym, ap, subst, ℕ}
+use Rattle.std.proofs.Common.{◌∙◌, sym, ap, subst}
 use Rattle.osi_judge.specs.declared.judge.Reading.{Reading}
 use Rattle.osi_judge.specs.Feeding.{reading_of}
 use Rattle.osi_judge.specs.Following.{judged}

@@ -1,4 +1,4 @@
-use Rattle.std.proofs.Common.{sym, subst, Option, ℕ}
+use Rattle.std.proofs.Common.{sym, subst}
 use Rattle.osi_judge.specs.Feeding.{Tapped}
 use Rattle.osi_judge.specs.Following.{judged}
 use Rattle.osi_judge.specs.Tapping.{IsReferenceIn}
