@@ -11,6 +11,7 @@
 //! - `links`: credit, numbers that wrap around, the longest TSDU;
 //! - `carriers`: an end of neither class, all references, sending if nothing is open, long lists and backlogs;
 //! - `sessions`: plans, the greatest lengths of user data, a first part that is too long;
+//! - `rules`: which units break a rule of transport, row by row;
 //! - `sides`, `captures`: which side first broke the protocol; a long capture;
 //! - `stacks`: a selector that is too long, a called end that asks for a connection, two connections distinguished by
 //!   the address they ask for, one of which is given up;
@@ -29,6 +30,8 @@ mod links;
 mod listings;
 #[cfg(test)]
 mod packets;
+#[cfg(test)]
+mod rules;
 #[cfg(test)]
 mod session_units;
 #[cfg(test)]

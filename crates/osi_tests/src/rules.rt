@@ -1,0 +1,239 @@
+//! The rules of transport on one byte connection: what is found of each unit, row by row.
+
+use crate::transport_units::only_unit;
+use osi_rules::{Direction, Finding, Rule, Traffic};
+use std::alloc::Global;
+use std::test::Fail;
+
+/// What passes.
+#[derive(Clone, Copy)]
+enum Step {
+    /// The first octet of a packet of this side.
+    Begins(Direction),
+    /// The transport unit with these octets, in the packet of this side that began last.
+    Passes(Direction, &'static [u8], Finding),
+    /// A packet of its own with this unit: it begins, and the unit passes.
+    Sends(Direction, &'static [u8], Finding),
+}
+
+const LEFT: Direction = Direction::Left;
+
+const RIGHT: Direction = Direction::Right;
+
+const KEPT: Finding = Finding::Kept;
+
+const UNSEEN: Finding = Finding::NotJudged;
+
+/// A CR of reference 1 that offers class 2 with a credit of 3.
+const REQUEST: &[u8] = &[6, 0xe3, 0, 0, 0, 1, 0x20];
+/// Its CC, of reference 7 with a credit of 2.
+const CONFIRM: &[u8] = &[6, 0xd2, 0, 1, 0, 7, 0x20];
+
+fn passes(
+    traffic: &mut Traffic,
+    direction: Direction,
+    octets: &[u8],
+    finding: Finding,
+) -> Result<(), Fail> {
+    let told = traffic.take(direction, &only_unit(octets)?)?;
+    if told.finding != finding {
+        return Err(Fail::from("another finding"));
+    }
+    Ok(())
+}
+
+fn does(traffic: &mut Traffic, step: Step) -> Result<(), Fail> {
+    match step {
+        Step::Begins(direction) => traffic.begin(direction),
+        Step::Passes(direction, octets, finding) => passes(traffic, direction, octets, finding)?,
+        Step::Sends(direction, octets, finding) => {
+            traffic.begin(direction);
+            passes(traffic, direction, octets, finding)?;
+        }
+    }
+    Ok(())
+}
+
+fn goes(alloc: Global, steps: &[Step]) -> Result<(), Fail> {
+    let mut traffic = Traffic::new(alloc);
+    for step in steps {
+        does(&mut traffic, *step)?;
+    }
+    Ok(())
+}
+
+/// A DT of left with number 0.
+const DATA_0: &[u8] = &[4, 0xf0, 0, 7, 0x80, 5];
+/// DTs of left with the numbers 1 to 3.
+const DATA_1: &[u8] = &[4, 0xf0, 0, 7, 0x81, 5];
+
+const DATA_2: &[u8] = &[4, 0xf0, 0, 7, 0x82, 5];
+
+const DATA_3: &[u8] = &[4, 0xf0, 0, 7, 0x83, 5];
+/// An AK of right for number 0, with a credit of 2.
+const ACK_1: &[u8] = &[4, 0x62, 0, 1, 1];
+/// A DR of left, and the DC of right that answers it.
+const CLOSE: &[u8] = &[6, 0x80, 0, 7, 0, 1, 128];
+
+const CLOSED: &[u8] = &[5, 0xc0, 0, 1, 0, 7];
+/// A CR and a CC of class 0, a DT, and a DR of right.
+const REQUEST_0: &[u8] = &[6, 0xe0, 0, 0, 0, 1, 0];
+
+const CONFIRM_0: &[u8] = &[6, 0xd0, 0, 1, 0, 7, 0];
+
+const DATA: &[u8] = &[2, 0xf0, 0x80, 5];
+
+const CLOSE_0: &[u8] = &[6, 0x80, 0, 1, 0, 7, 128];
+
+/// An AK counts from the packet on that begins after it.
+const CREDIT: [Step; 8] = [
+    Step::Sends(LEFT, REQUEST, KEPT),
+    Step::Sends(RIGHT, CONFIRM, KEPT),
+    Step::Sends(LEFT, DATA_0, KEPT),
+    Step::Sends(LEFT, DATA_1, KEPT),
+    Step::Begins(LEFT),
+    Step::Sends(RIGHT, ACK_1, KEPT),
+    Step::Passes(LEFT, DATA_2, Finding::Broke(Rule::NoCredit)),
+    Step::Sends(LEFT, DATA_3, Finding::Broke(Rule::NoCredit)),
+];
+
+const NUMBERS: [Step; 5] = [
+    Step::Sends(LEFT, REQUEST, KEPT),
+    Step::Sends(RIGHT, CONFIRM, KEPT),
+    Step::Sends(LEFT, DATA_1, Finding::Broke(Rule::OutOfSequence)),
+    Step::Sends(LEFT, DATA_0, UNSEEN),
+    Step::Sends(RIGHT, ACK_1, UNSEEN),
+];
+
+/// A DT that had not passed is acknowledged.
+const EARLY: [Step; 5] = [
+    Step::Sends(LEFT, REQUEST, KEPT),
+    Step::Sends(RIGHT, CONFIRM, KEPT),
+    Step::Begins(RIGHT),
+    Step::Sends(LEFT, DATA_0, KEPT),
+    Step::Passes(RIGHT, ACK_1, Finding::Broke(Rule::OutOfSequence)),
+];
+
+const REDUCED: [Step; 4] = [
+    Step::Sends(LEFT, REQUEST, KEPT),
+    Step::Sends(RIGHT, CONFIRM, KEPT),
+    Step::Sends(LEFT, DATA_0, KEPT),
+    Step::Sends(
+        RIGHT,
+        &[4, 0x60, 0, 1, 1],
+        Finding::Broke(Rule::CreditReduced),
+    ),
+];
+
+/// A reference may be given again once its connection is closed.
+const CLOSING: [Step; 7] = [
+    Step::Sends(LEFT, REQUEST, KEPT),
+    Step::Sends(RIGHT, CONFIRM, KEPT),
+    Step::Sends(LEFT, CLOSE, KEPT),
+    Step::Sends(LEFT, DATA_0, Finding::Broke(Rule::Closed)),
+    Step::Sends(RIGHT, CLOSED, KEPT),
+    Step::Sends(LEFT, REQUEST, KEPT),
+    Step::Sends(RIGHT, CLOSED, Finding::Broke(Rule::NothingToAnswer)),
+];
+
+const IN_USE: [Step; 4] = [
+    Step::Sends(LEFT, REQUEST, KEPT),
+    Step::Sends(RIGHT, CONFIRM, KEPT),
+    Step::Sends(LEFT, REQUEST, Finding::Broke(Rule::ReferenceInUse)),
+    Step::Sends(RIGHT, DATA, UNSEEN),
+];
+
+const NEGOTIATING: [Step; 3] = [
+    Step::Sends(LEFT, REQUEST, KEPT),
+    Step::Sends(
+        LEFT,
+        &[6, 0xe3, 0, 0, 0, 2, 0x20],
+        Finding::Broke(Rule::Negotiating),
+    ),
+    Step::Sends(RIGHT, CONFIRM, UNSEEN),
+];
+
+/// The packet of the DT began before the CC had passed.
+const TOO_EARLY: [Step; 4] = [
+    Step::Sends(LEFT, REQUEST, KEPT),
+    Step::Begins(LEFT),
+    Step::Sends(RIGHT, CONFIRM, KEPT),
+    Step::Passes(LEFT, DATA_0, Finding::Broke(Rule::UnexpectedUnit)),
+];
+
+const UNKNOWN: [Step; 3] = [
+    Step::Sends(LEFT, REQUEST, KEPT),
+    Step::Sends(RIGHT, CONFIRM, KEPT),
+    Step::Sends(
+        RIGHT,
+        &[4, 0xf0, 0, 9, 0x80],
+        Finding::Broke(Rule::UnknownReference),
+    ),
+];
+
+const TWICE: [Step; 4] = [
+    Step::Sends(LEFT, REQUEST, KEPT),
+    Step::Sends(RIGHT, CONFIRM, KEPT),
+    Step::Sends(RIGHT, CONFIRM, Finding::Broke(Rule::WrongForm)),
+    Step::Sends(LEFT, DATA_0, UNSEEN),
+];
+
+const NOT_OFFERED: [Step; 2] = [
+    Step::Sends(LEFT, REQUEST, KEPT),
+    Step::Sends(RIGHT, CONFIRM_0, Finding::Broke(Rule::BadAnswer)),
+];
+
+/// Class 2 without flow control.
+const OUTSIDE: [Step; 2] = [
+    Step::Sends(LEFT, REQUEST, KEPT),
+    Step::Sends(RIGHT, &[6, 0xd0, 0, 1, 0, 7, 0x21], Finding::Outside),
+];
+
+/// 256 octets for a CR that names 128. The DT is not longer than that.
+const LARGER: [Step; 3] = [
+    Step::Sends(LEFT, &[9, 0xe3, 0, 0, 0, 1, 0x20, 0xc0, 1, 7], KEPT),
+    Step::Sends(
+        RIGHT,
+        &[9, 0xd2, 0, 1, 0, 7, 0x20, 0xc0, 1, 8],
+        Finding::Broke(Rule::LargerSize),
+    ),
+    Step::Sends(LEFT, DATA_0, KEPT),
+];
+
+/// In class 0 who did not break a rule is judged on.
+const CLASS_0: [Step; 6] = [
+    Step::Sends(LEFT, REQUEST_0, KEPT),
+    Step::Sends(RIGHT, CONFIRM_0, KEPT),
+    Step::Sends(RIGHT, CLOSE_0, Finding::Broke(Rule::WrongForm)),
+    Step::Sends(LEFT, DATA, KEPT),
+    Step::Sends(RIGHT, DATA, UNSEEN),
+    Step::Sends(LEFT, REQUEST, Finding::Broke(Rule::OneConnection)),
+];
+
+const CALLED_ASKS: [Step; 1] = [Step::Sends(RIGHT, REQUEST, Finding::Broke(Rule::UnexpectedUnit))];
+
+const ROWS: [&[Step]; 15] = [
+    &CREDIT,
+    &NUMBERS,
+    &EARLY,
+    &REDUCED,
+    &CLOSING,
+    &IN_USE,
+    &NEGOTIATING,
+    &TOO_EARLY,
+    &UNKNOWN,
+    &TWICE,
+    &NOT_OFFERED,
+    &OUTSIDE,
+    &LARGER,
+    &CLASS_0,
+    &CALLED_ASKS,
+];
+
+#[test]
+fn units_are_found_right_or_broken(rt: HostRuntime) -> Result<(), Fail> {
+    for steps in ROWS {
+        goes(rt.alloc(), steps)?;
+    }
+    Ok(())
+}
