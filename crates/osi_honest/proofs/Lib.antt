@@ -10,7 +10,15 @@ pub mod what_a_run_does_in_class_0
 pub mod a_history_is_a_run
 pub mod what_is_put_and_taken_is_read
 pub mod what_a_capture_shows_is_a_run
+pub mod what_a_unit_keeps_a_turn_keeps
+pub mod what_was_put_stays_in_front
 pub mod how_a_called_end_opens
+pub mod what_a_shortage_leaves_at_a_waiting_end
 pub mod what_a_waiting_end_does
 pub mod how_a_caller_opens
 pub mod what_an_asking_end_does
+pub mod two_readings_of_a_stream_agree
+pub mod what_the_judge_reads_of_a_side
+pub mod what_an_end_put_was_caused
+pub mod what_a_capture_shows_of_an_end
+pub mod what_a_called_end_did

@@ -22,7 +22,7 @@ all_told some now later = sym (append_assoc (map told_of some) (map told_of now)
     ∙ ap (λ (x : List Told). x ++ later) (sym (map-append told_of some now))
 
 module _ (begin : Listener) (us : List (List ℕ)) where
-  history_runs : (took : List (List ℕ)) (said : List Said) (closed : Bool) (l : Listener) → History begin took said closed l →
+  pub history_runs : (took : List (List ℕ)) (said : List Said) (closed : Bool) (l : Listener) → History begin took said closed l →
       (rest : List (List ℕ)) → us ≡ took ++ rest → (later : List Told) →
       Runs us closed l (length took) later → Runs us false begin 0 (map told_of said ++ later)
   history_runs _ _ _ _ history.begins rest is later run = run

@@ -236,7 +236,7 @@ over_calls (carrying octets) put old new over c outgoing = (
       (sym outgoing ∙ sym (ap (λ (x : Holding). x.end.carrier.outgoing) c) ∙ sym (append-nil old.end.carrier.outgoing)),
 )
 
-over_acts : (turn : Turn) (old new : Holding) → IsSome old.end.carrier.ended → Takes old turn new →
+pub over_acts : (turn : Turn) (old new : Holding) → IsSome old.end.carrier.ended → Takes old turn new →
     IsSome new.end.carrier.ended × (turn.put ≡ [])
 over_acts turn old new over takes = by takes.act takes.acts takes.put
   where

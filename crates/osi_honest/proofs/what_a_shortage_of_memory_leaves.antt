@@ -60,11 +60,11 @@ ended_same : (b : Bool) (c : Carrier) → (if b then c else ends NoMemory c).out
 ended_same true c = refl
 ended_same false c = refl
 
-starves_same : (events : List Happening) (e : End) → (starves (with_events events e)).carrier.outgoing ≡ e.carrier.outgoing
+pub starves_same : (events : List Happening) (e : End) → (starves (with_events events e)).carrier.outgoing ≡ e.carrier.outgoing
 starves_same events e = ended_same (is_some e.carrier.ended) (with_events events e).carrier
 
 -- one event is queued, and memory ran out for it
-one_out : (heard : ℕ) (event : Happening) (e : End) (first : Happening) (more : List Happening) → e.carrier.events ≡ event ∷ [] →
+pub one_out : (heard : ℕ) (event : Happening) (e : End) (first : Happening) (more : List Happening) → e.carrier.events ≡ event ∷ [] →
     (hears_times heard e).carrier.events ≡ first ∷ more →
     (hears_times heard e).carrier.outgoing ≡ e.carrier.outgoing
 one_out zero event e first more is waits = refl
@@ -84,7 +84,7 @@ heard_over octets n e p =
       moves = λ event x q. session_carried (Over octets) (over_carries octets) _ _ x q;
     }) n e p
 
-out_over : (octets : List ℕ) (e new : End) → Over octets e.carrier → RunsOut e new → new.carrier.outgoing ≡ octets
+pub out_over : (octets : List ℕ) (e new : End) → Over octets e.carrier → RunsOut e new → new.carrier.outgoing ≡ octets
 out_over octets e new p out =
     ap (λ (x : End). x.carrier.outgoing) out.starved ∙ starves_same out.more (hears_times out.heard e) ∙ (heard_over octets out.heard e p).1
 

@@ -222,7 +222,7 @@ module _ (begin : Listener) (r : ℕ) (took : List (List ℕ)) (said : List Said
     later = begun;
     stands = stands_still begin r took said begun new.end s;
     parts = [];
-    carry = λ later. refl;
+    carry = (refl, λ later. refl);
     short = tt;
     written = nothing;
     counted = tt;
@@ -243,7 +243,7 @@ module _ (begin : Listener) (r : ℕ) (took : List (List ℕ)) (said : List Said
     later = begun;
     stands = stands_still begin r took said begun new.end (gone closed session h ended);
     parts = [];
-    carry = λ later. refl;
+    carry = (refl, λ later. refl);
     short = tt;
     written = nothing;
     counted = tt;

@@ -24,7 +24,7 @@ use Rattle.osi_honest.proofs.what_a_packet_does_in_class_0.{AllProper, packet_ac
 -- ---- what is put one after the other
 
 pub none_put : (old new : Carrier) → new.outgoing ≡ old.outgoing → Puts [] old new
-none_put old new same = record { parts = []; carry = λ later. refl; short = tt; outgoing = same ∙ sym (append-nil old.outgoing) }
+none_put old new same = record { parts = []; carry = (refl, λ later. refl); short = tt; outgoing = same ∙ sym (append-nil old.outgoing) }
 
 short_more : (some others : List (List ℕ)) → AreShort some → AreShort others → AreShort (some ++ others)
 short_more [] others a b = b

@@ -1,8 +1,11 @@
 -- The opening of the one connection of class 0 at a called end (X.224 section 6.5).
 use Rattle.std.specs.Prelude.{◌≡◌, ℕ, true, false, List, [], ◌∷◌, ◌++◌, length, map, Option, Some, None, IsSome, Ok}
+use Rattle.osi_tpkt.specs.Packet.{packet_of}
 use Rattle.osi_tpkt.specs.Stream.{ArePackets}
 use Rattle.osi_tpdu.specs.Packet.{units_of}
-use Rattle.osi_tpdu.specs.Value.{Connect, confirm, request}
+use Rattle.osi_tpdu.specs.Value.{Connect, Value, confirm, disconnect, request}
+use Rattle.osi_tpdu.specs.Writing.{written}
+use Rattle.osi_class.specs.Negotiation.{proposes}
 use Rattle.osi_class.specs.Tsdus.{Part}
 use Rattle.osi_class.specs.declared.terms.Class.TheVariants.{Zero}
 use Rattle.osi_carrier.specs.Negotiation.{acceptance}
@@ -33,7 +36,13 @@ pub record Asks (r : ℕ) (session : Listener) (e : End) : Type 0 where
   pub told : e.carrier.events ≡ []
   pub here : kept_at r e.lines ≡ Some session
 
--- A turn in which the first packet has a CR that is accepted in class 0. A CC is put, and a session awaits its CN; the
+-- A refusal of a CR (a DR), or a CC that accepts it in class 2.
+abbrev pub IsOtherAnswer : Value → Type 0
+IsOtherAnswer (disconnect destination source reason user) = Unit {0}
+IsOtherAnswer (confirm destination c) = c.class ≡ 2
+IsOtherAnswer v = ⊥
+
+-- A turn in which the first packet has a CR that proposes class 0 and is accepted in it. A CC is put, and a session awaits its CN; the
 -- packets after it take effect as at an open end.
 pub record Opens (used put : List ℕ) (old new : Holding) : Type 0 where
   pub r : ℕ
@@ -41,6 +50,7 @@ pub record Opens (used put : List ℕ) (old new : Holding) : Type 0 where
   pub size : Option ℕ
   pub first : List ℕ
   pub is_request : units_of first ≡ Ok (request wanted ∷ [])
+  pub proposed : proposes wanted 0 ≡ true
   pub more : List (List ℕ)
   pub told : List Said
   pub later : List ℕ
@@ -56,13 +66,15 @@ pub record Opens (used put : List ℕ) (old new : Holding) : Type 0 where
   pub brings : Brings [] units more later
   pub held : new.end.carrier.ended ≡ None → rest ≡ new.held.octets
 
--- A turn of a called end that waits: it waits on, and puts nothing; it opens in class 0; it is over, and nothing was put;
--- or it answers a CR otherwise, or memory ran out for a packet, and no more is said here.
+-- A turn of a called end that waits: it waits on, and puts nothing; or it opens in class 0; or it is over, and put nothing,
+-- or one answer, with which memory ran out; or it puts first another answer to a CR.
 pub data WaitingTurn (used put : List ℕ) (old new : Holding) : Type 0 where
   waits_on : Waits new.end → put ≡ [] → new.held.octets ≡ old.held.octets ++ used → WaitingTurn used put old new
   opens : Opens used put old new → WaitingTurn used put old new
   is_over : IsSome new.end.carrier.ended → put ≡ [] → WaitingTurn used put old new
-  turns_away : WaitingTurn used put old new
+  answers_last : IsSome new.end.carrier.ended → (answer : Value) → put ≡ packets (answer ∷ []) → WaitingTurn used put old new
+  turns_away : (answer : Value) (later : List ℕ) → IsOtherAnswer answer → put ≡ packet_of (written answer) ++ later →
+      WaitingTurn used put old new
 
 -- A turn in which the first packet has a CC of class 0: the session sends its CN, and the packets after it take effect as
 -- at an open end.

@@ -3,11 +3,14 @@
 ghost use Rattle.std.specs.Prelude.{◌≡◌, ℕ, Bool, false, true, List, None, length, map};
 ghost use Rattle.osi_class.specs.Tsdus.{Part};
 ghost use Rattle.osi_class.specs.declared.terms.Local.{Local};
+ghost use Rattle.osi_judge.specs.Captures.{Capture};
 ghost use Rattle.osi_judge.specs.Explaining.{IsExplained, Told};
 ghost use Rattle.osi_judge.specs.Running.{IsSentFrom};
-ghost use Rattle.osi_judge.specs.Tapping.{octets_of};
+ghost use Rattle.osi_judge.specs.Stops.{broke_session};
+ghost use Rattle.osi_judge.specs.Tapping.{IsFoundIn, octets_of};
 ghost use Rattle.osi_judge.specs.Transport.{Stage, between, sent_from};
 ghost use Rattle.osi_judge.specs.declared.directions.Direction.{Direction};
+ghost use Rattle.osi_judge.specs.declared.findings.Finding.{Finding};
 ghost use Rattle.osi_session.specs.Listening.{Listener};
 ghost use Rattle.osi_session.specs.Sessions.{awaits, opens, refusal_of};
 ghost use Rattle.osi_session.specs.Standing.{seen_called, seen_calling};
@@ -19,12 +22,13 @@ ghost use Rattle.osi_stack.specs.declared.connecting.Connect.{Connect};
 ghost use Rattle.osi_honest.specs.Openings.{Asks, AskingTurn, Waits, WaitingTurn};
 ghost use Rattle.osi_honest.specs.Parts.{Carry, units_put};
 ghost use Rattle.osi_honest.specs.Reading.{IsReading};
+ghost use Rattle.osi_honest.specs.Seeing.{IsFresh, IsSeen};
 ghost use Rattle.osi_honest.specs.Showing.{AreSame, Shows};
 ghost use Rattle.osi_honest.specs.Stretches.{Brings, GoesAlong, Stands};
 ghost use Rattle.osi_honest.specs.Talking.{History, Said, told_of};
 ghost use Rattle.osi_honest.specs.Turns.{Run, Takes, Turn};
 
-use osi_judge::laws::an_honest_session_is_explained;
+use osi_judge::laws::{an_honest_session_is_explained, an_honest_side_is_not_blamed};
 use osi_session::laws::what_closes_sends_nothing;
 use osi_spdu::laws::{few_octets_fit, serial_digits};
 
@@ -102,3 +106,20 @@ pub fn what_a_capture_shows_is_a_run()
     ensures { (begin : Listener) (took us : List (List ℕ)) (said : List Said) (told : List Told) (closed : Bool) (l : Listener) →
         History begin took said closed l → AreSame us took → Shows (length us) told (map told_of said) → IsSentFrom begin us told }
 {}
+
+/// The session of a called end is never blamed. Take any run of an end of this library that began as a fresh called end:
+/// any pieces of whatever octets arrive, any calls of its user, any shortage of memory. Take any capture of it, at a tap
+/// anywhere between the two ends ([`IsSeen`]). Then the judge never finds that this side's session broke the protocol or
+/// left the profile.
+///
+/// [`IsSeen`]: ../specs/Seeing.antt
+pub fn a_called_end_is_not_blamed()
+    ensures { (local : Local) (begin end : Holding) (turns : List Turn) (capture : Capture) (finding : Finding) →
+        IsFresh false local begin → Run begin turns end → IsSeen Direction.Right turns capture →
+        IsFoundIn Direction.Right capture finding → broke_session finding ≡ false }
+{
+    few_octets_fit();
+    serial_digits();
+    what_closes_sends_nothing();
+    an_honest_side_is_not_blamed();
+}

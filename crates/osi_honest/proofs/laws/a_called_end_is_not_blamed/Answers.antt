@@ -1,0 +1,21 @@
+use Rattle.std.proofs.Common.{refl, subst, sym}
+use Rattle.osi_judge.specs.Captures.{other}
+use Rattle.osi_judge.specs.declared.directions.Direction.TheVariants.{Right}
+use Rattle.osi_session.specs.Sessions.{awaits}
+use Rattle.osi_honest.proofs.what_a_session_answers_fits.{all_proper}
+use Rattle.osi_honest.proofs.what_a_called_end_did.{called_did}
+use Rattle.osi_honest.proofs.what_a_capture_shows_of_an_end.{capture_counts, end_is_honest}
+use Rattle.osi_honest.proofs.laws.a_called_end_is_not_blamed.Goals as goal
+
+pub returns : goal.returns
+returns c = λ local begin end turns capture finding fresh run seen found.
+    c.an_honest_side_is_not_blamed.ensures Right capture finding (record {
+      mine = found.mine;
+      others = found.others;
+      is_mine = found.is_mine;
+      is_others = found.is_others;
+      sent = end_is_honest Right capture awaits turns seen found.mine found.others found.is_mine found.is_others
+          (called_did (all_proper (record { room = c.few_octets_fit.ensures; digits = c.serial_digits.ensures })
+          c.what_closes_sends_nothing.ensures.octets) local begin end turns capture seen found.others
+          (capture_counts Right capture turns seen found.others found.is_others) fresh run);
+    }) found
