@@ -40,7 +40,7 @@ use Rattle.osi_honest.proofs.what_a_packet_does_in_class_0.{AllProper}
 use Rattle.osi_honest.proofs.what_a_waiting_end_does.{turn_waits}
 use Rattle.osi_honest.proofs.what_is_put_and_taken_is_read.{parts_read}
 use Rattle.osi_honest.proofs.what_an_end_put_was_caused.{AreCaused, Came, Counts, PassBetween, Reached, Spoke, prefix_front, run_spoke, silent_run, then_spoke, turn_caused}
-use Rattle.osi_honest.proofs.what_a_capture_shows_of_an_end.{Did, aside, nothing, spoke}
+use Rattle.osi_honest.proofs.what_a_capture_shows_of_an_end.{Did, aside, beside, nothing, spoke}
 use Rattle.osi_honest.proofs.what_the_judge_reads_of_a_side.{first_opens, size_put}
 
 -- ---- a turn in which nothing was put, and then more turns
@@ -50,6 +50,8 @@ pub did_later : (d : Direction) (capture : Capture) (coming : List ℕ) (others 
 did_later d capture coming others begin turn turns none (nothing is) = nothing (ap (λ (x : List ℕ). x ++ put_along turns) none ∙ is)
 did_later d capture coming others begin turn turns none (aside w back is stopped) =
     aside w back (ap (λ (x : List ℕ). x ++ put_along turns) none ∙ is) stopped
+did_later d capture coming others begin turn turns none (beside w unit later is stopped) =
+    beside w unit later (ap (λ (x : List ℕ). x ++ put_along turns) none ∙ is) stopped
 did_later d capture coming others begin turn turns none (spoke w parts took said closed session used is h caused reached front) =
     spoke w parts took said closed session used (ap (λ (x : List ℕ). x ++ put_along turns) none ∙ is) h caused reached front
 

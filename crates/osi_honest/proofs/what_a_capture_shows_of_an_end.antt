@@ -1,6 +1,6 @@
 -- What the judge reads of both sides of a capture of an end is an honest side: what the end put, by what had passed.
 -- For the laws that an end is not blamed.
-use Rattle.std.proofs.Common.{◌≡◌, ◌∙◌, refl, sym, ap, subst, ℕ, ◌+◌, ◌<◌, ◌≤◌, ◌⊎◌, inl, inr, Bool, false, List, [], ◌∷◌, ◌++◌, length, map, get_or, Ok, append_assoc, arith}
+use Rattle.std.proofs.Common.{◌≡◌, ◌∙◌, refl, sym, ap, subst, ℕ, ◌+◌, ◌<◌, ◌≤◌, ◌⊎◌, inl, inr, Bool, true, false, List, [], ◌∷◌, ◌++◌, length, map, get_or, Ok, append_assoc, arith}
 use Rattle.std.proofs.lemmas.List.{get_or_append_left, map-append}
 use Rattle.osi_tpkt.specs.Octets.{IsOctets}
 use Rattle.osi_tpkt.specs.Packet.{packet_of}
@@ -26,19 +26,22 @@ use Rattle.osi_honest.specs.Talking.{History, Said, told_of}
 use Rattle.osi_honest.specs.Turns.{Turn}
 use Rattle.osi_honest.proofs.a_history_is_a_run.{history_runs, is_sent}
 use Rattle.osi_honest.proofs.what_a_capture_shows_is_a_run.{shown_sent}
-use Rattle.osi_honest.proofs.two_readings_of_a_stream_agree.{GoesBeyond, first, first_shown, packets_on, second, shown_packets, two_readings}
+use Rattle.osi_honest.proofs.two_readings_of_a_stream_agree.{GoesBeyond, first, first_shown, packet_again, packets_on, second, shown_packets, two_readings}
 use Rattle.osi_honest.proofs.what_a_turn_does_in_class_0.{all_octets}
 use Rattle.osi_honest.proofs.what_an_end_put_was_caused.{AreCaused, Counts, Reached, had_passed_by}
-use Rattle.osi_honest.proofs.what_the_judge_reads_of_a_side.{LieIn, OpensOrStops, all_lie, all_read, first_opens, lie_later, most_count, none_read, sent_then, size_read}
+use Rattle.osi_honest.proofs.what_the_judge_reads_of_a_side.{LieIn, OpensOrStops, all_lie, all_read, first_opens, lie_later, most_count, none_between, none_read, sent_then, size_read}
 
 -- ---- what an end did in all
 
--- It put nothing; or it put first a packet after which nothing is looked at; or it opened a connection of class 0, and put
--- what its session said.
+-- It put nothing; or first a packet after which nothing is looked at; or one such packet after the first; or it put one
+-- packet, which may open a connection of class 0, and then what its session said.
 pub data Did (d : Direction) (capture : Capture) (coming : List ℕ) (others : List Sent) (begin : Listener) (turns : List Turn) : Type 0 where
   nothing : put_along turns ≡ [] → Did d capture coming others begin turns
   aside : (w : Value) (back : List ℕ) → put_along turns ≡ packet_of (written w) ++ back →
       (IsOctets (written w) → (stop : Stop) × (step_of d false (units_of (written w)) ≡ stops stop)) →
+      Did d capture coming others begin turns
+  beside : (w unit : Value) (later : List ℕ) → put_along turns ≡ packet_of (written w) ++ (packet_of (written unit) ++ later) →
+      (IsOctets (written unit) → (stop : Stop) × (step_of d true (units_of (written unit)) ≡ stops stop)) →
       Did d capture coming others begin turns
   spoke : (w : Value) (parts : List Part) (took : List (List ℕ)) (said : List Said) (closed : Bool) (session : Listener) (used : List ℕ) →
       put_along turns ≡ packets (w ∷ map dt parts) → History begin took said closed session →
@@ -173,6 +176,25 @@ aside_read d (u ∷ units) s r later back w cut is stopped =
     let stop = stopped (subst IsOctets same (all_octets (u ∷ units) s r cut).0) in
     none_read d u units stop.0 (ap (λ (x : List ℕ). step_of d false (units_of x)) same ∙ stop.1)
 
+beside_read : (d : Direction) (units : List (List ℕ)) (s r later w unit back : List ℕ) → ArePackets units s r →
+    s ++ later ≡ packet_of w ++ (packet_of unit ++ back) →
+    (IsOctets unit → (stop : Stop) × (step_of d true (units_of unit) ≡ stops stop)) → sent_from d opening 0 units ≡ []
+beside_read d [] s r later w unit back cut is stopped = refl
+beside_read d (u ∷ []) s r later w unit back cut is stopped = elim (first_opens d (units_of u)) [
+  | inl o ↦ all_read d u [] o.0 o.1
+  | inr o ↦ none_read d u [] o.0 o.1
+]
+beside_read d (u ∷ next ∷ units) s r later w unit back (b, t, p, parts, h) is stopped =
+    let one = packet_again u w b (t ++ later) (packet_of unit ++ back) p
+    (sym (append_assoc b t later) ∙ ap (λ (x : List ℕ). x ++ later) (sym parts) ∙ is) in
+    let same : next ≡ unit = first_shown next units unit t r later back h one.1 in
+    let stop = stopped (subst IsOctets same (all_octets (next ∷ units) t r h).0) in
+    let second = ap (λ (x : List ℕ). step_of d true (units_of x)) same ∙ stop.1 in
+    elim (first_opens d (units_of u)) [
+      | inl o ↦ all_read d u (next ∷ units) o.0 o.1 ∙ none_between d (0 + packet_length u) next units stop.0 second
+      | inr o ↦ none_read d u (next ∷ units) o.0 o.1
+    ]
+
 pub end_is_honest : (d : Direction) (capture : Capture) (begin : Listener) (turns : List Turn) (seen : IsSeen d turns capture)
     (mine others : List Sent) → IsSent d capture mine → IsSent (other d) capture others →
     Did d capture seen.coming others begin turns → IsSentFrom begin (heard others) (told d capture mine others)
@@ -182,6 +204,9 @@ end_is_honest d capture begin turns seen mine others (units, ending, cut, is) is
 end_is_honest d capture begin turns seen mine others (units, ending, cut, is) is_others (aside w back put stopped) =
     none_sent d capture begin mine others
     (is ∙ aside_read d units (stream d capture) cut.0 seen.own.0 back (written w) cut.1 (seen.own.1 ∙ put) stopped)
+end_is_honest d capture begin turns seen mine others (units, ending, cut, is) is_others (beside w unit later put stopped) =
+    none_sent d capture begin mine others
+    (is ∙ beside_read d units (stream d capture) cut.0 seen.own.0 (written w) (written unit) later cut.1 (seen.own.1 ∙ put) stopped)
 end_is_honest d capture begin turns seen mine others (units, ending, cut, is) (units2, ending2, cut2, is2)
     (spoke w parts took said closed session used put h caused reached front) =
     let shows = spoke_shown d capture others w parts said units (stream d capture) cut.0 seen.own.0 refl cut.1

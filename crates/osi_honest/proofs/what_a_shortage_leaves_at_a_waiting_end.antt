@@ -26,7 +26,7 @@ use Rattle.osi_honest.proofs.what_was_put_stays_in_front.{Ahead, ahead_attends, 
 
 -- ---- the units before the one for which memory ran out
 
-never_empty : (done : List Value) (next : Value) (more : List Value) → done ++ (next ∷ more) ≡ [] → ⊥
+pub never_empty : (done : List Value) (next : Value) (more : List Value) → done ++ (next ∷ more) ≡ [] → ⊥
 never_empty [] next more e = cc
 never_empty (v ∷ done) next more e = cc
 

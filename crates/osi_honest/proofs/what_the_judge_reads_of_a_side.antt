@@ -186,6 +186,13 @@ none_read d u us stop is =
     ap (λ (m : Move). brought opening 0 u m ++ sent_from d (moved opening 0 m) (0 + packet_length u) us) is
     ∙ sent_stopped d stop 0 (0 + packet_length u) us
 
+-- nor if a later one stops there
+pub none_between : (d : Direction) (at : ℕ) (u : List ℕ) (us : List (List ℕ)) (stop : Stop) → step_of d true (units_of u) ≡ stops stop →
+    sent_from d between at (u ∷ us) ≡ []
+none_between d at u us stop is =
+    ap (λ (m : Move). brought between at u m ++ sent_from d (moved between at m) (at + packet_length u) us) is
+    ∙ sent_stopped d stop at (at + packet_length u) us
+
 -- if it opens, the TSDUs after it are read
 pub all_read : (d : Direction) (u : List ℕ) (us : List (List ℕ)) (reference : ℕ) → step_of d false (units_of u) ≡ opens reference →
     sent_from d opening 0 (u ∷ us) ≡ sent_from d between (0 + packet_length u) us

@@ -1,15 +1,16 @@
 -- The opening of the one connection of class 0 at a called end (X.224 section 6.5).
-use Rattle.std.specs.Prelude.{◌≡◌, ℕ, true, false, List, [], ◌∷◌, ◌++◌, length, map, Option, Some, None, IsSome, Ok}
+use Rattle.std.specs.Prelude.{◌≡◌, ◌==◌, ℕ, true, false, List, [], ◌∷◌, ◌++◌, length, map, Option, Some, None, is_some, IsSome, Ok}
 use Rattle.osi_tpkt.specs.Packet.{packet_of}
 use Rattle.osi_tpkt.specs.Stream.{ArePackets}
 use Rattle.osi_tpdu.specs.Packet.{units_of}
-use Rattle.osi_tpdu.specs.Value.{Connect, Value, confirm, disconnect, request}
+use Rattle.osi_tpdu.specs.Value.{Connect, Value, confirm, data0, disconnect, request}
 use Rattle.osi_tpdu.specs.Writing.{written}
 use Rattle.osi_class.specs.Negotiation.{proposes}
 use Rattle.osi_class.specs.Tsdus.{Part}
-use Rattle.osi_class.specs.declared.terms.Class.TheVariants.{Zero}
+use Rattle.osi_class.specs.declared.terms.Class.TheVariants.{Two, Zero}
 use Rattle.osi_carrier.specs.Negotiation.{acceptance}
-use Rattle.osi_carrier.specs.State.{asked, packets}
+use Rattle.osi_carrier.specs.Rows.{Rows}
+use Rattle.osi_carrier.specs.State.{Connection, State as Carrier, asked, closing, linked, packets}
 use Rattle.osi_session.specs.Sessions.{awaits}
 use Rattle.osi_session.specs.Listening.{Listener}
 use Rattle.osi_stack.specs.Messages.{AreShort, kept_at}
@@ -35,6 +36,28 @@ pub record Asks (r : ℕ) (session : Listener) (e : End) : Type 0 where
   pub live : e.carrier.live ≡ (r, asked) ∷ []
   pub told : e.carrier.events ≡ []
   pub here : kept_at r e.lines ≡ Some session
+
+-- no DT of class 0
+abbrev pub IsNoData : Value → Type 0
+IsNoData (data0 end octets) = ⊥
+IsNoData v = Unit {0}
+
+-- A connection that is open is one of class 2: its link has flow control.
+abbrev pub HasFlow : Connection → Type 0
+HasFlow (linked peer link) = is_some link.flow ≡ true
+HasFlow asked = Unit {0}
+HasFlow (closing peer) = Unit {0}
+
+abbrev pub AllHaveFlow : Rows Connection → Type 0
+AllHaveFlow [] = Unit {0}
+AllHaveFlow ((r, connection) ∷ rows) = HasFlow connection × AllHaveFlow rows
+
+-- A calling end with no connection of class 0 and none that could become one: it is over; or it has no connection and none
+-- is asked for; or class 2 holds.
+pub data IsAway (c : Carrier) : Type 0 where
+  over : IsSome c.ended → IsAway c
+  has_none : c.ended ≡ None → c.is_caller ≡ true → c.class ≡ None → c.live ≡ [] → IsAway c
+  has_two : c.ended ≡ None → c.is_caller ≡ true → c.class ≡ Some Two → AllHaveFlow c.live → IsAway c
 
 -- A refusal of a CR (a DR), or a CC that accepts it in class 2.
 abbrev pub IsOtherAnswer : Value → Type 0
@@ -83,6 +106,7 @@ pub record IsAnswered (r : ℕ) (session : Listener) (used put : List ℕ) (old 
   pub answer : Connect
   pub first : List ℕ
   pub is_answer : units_of first ≡ Ok (confirm destination answer ∷ [])
+  pub of_zero : (answer.class == 0) ≡ true
   pub more : List (List ℕ)
   pub told : List Said
   pub later : List ℕ
@@ -98,10 +122,10 @@ pub record IsAnswered (r : ℕ) (session : Listener) (used put : List ℕ) (old 
   pub brings : Brings [] units more later
   pub held : new.end.carrier.ended ≡ None → rest ≡ new.held.octets
 
--- A turn of a calling end that asks: it asks on, and puts nothing; it opens in class 0; it is over, and nothing was put; or
--- its CR is refused or accepted in class 2, a DR is answered, or memory ran out for a packet, and no more is said here.
+-- A turn of a calling end that asks: it asks on, and puts nothing; or it opens in class 0; or it has no connection of class 0
+-- any more, and put nothing; or what it puts first is no DT of class 0.
 pub data AskingTurn (r : ℕ) (session : Listener) (used put : List ℕ) (old new : Holding) : Type 0 where
   asks_on : Asks r session new.end → put ≡ [] → new.held.octets ≡ old.held.octets ++ used → AskingTurn r session used put old new
   is_answered : IsAnswered r session used put old new → AskingTurn r session used put old new
-  ends_so : IsSome new.end.carrier.ended → put ≡ [] → AskingTurn r session used put old new
-  turns_aside : AskingTurn r session used put old new
+  goes_away : IsAway new.end.carrier → put ≡ [] → AskingTurn r session used put old new
+  turns_aside : (unit : Value) (later : List ℕ) → IsNoData unit → put ≡ packet_of (written unit) ++ later → AskingTurn r session used put old new

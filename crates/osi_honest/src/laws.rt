@@ -1,6 +1,6 @@
 //! Laws of an end and its captures. Each function does nothing: its clauses are the laws.
 
-ghost use Rattle.std.specs.Prelude.{◌≡◌, ℕ, Bool, false, true, List, None, length, map};
+ghost use Rattle.std.specs.Prelude.{◌≡◌, ◌∷◌, ℕ, Bool, false, true, List, None, length, map};
 ghost use Rattle.osi_class.specs.Tsdus.{Part};
 ghost use Rattle.osi_class.specs.declared.terms.Local.{Local};
 ghost use Rattle.osi_judge.specs.Captures.{Capture};
@@ -22,7 +22,7 @@ ghost use Rattle.osi_stack.specs.declared.connecting.Connect.{Connect};
 ghost use Rattle.osi_honest.specs.Openings.{Asks, AskingTurn, Waits, WaitingTurn};
 ghost use Rattle.osi_honest.specs.Parts.{Carry, units_put};
 ghost use Rattle.osi_honest.specs.Reading.{IsReading};
-ghost use Rattle.osi_honest.specs.Seeing.{IsFresh, IsSeen};
+ghost use Rattle.osi_honest.specs.Seeing.{HasAsked, IsFresh, IsSeen, requesting};
 ghost use Rattle.osi_honest.specs.Showing.{AreSame, Shows};
 ghost use Rattle.osi_honest.specs.Stretches.{Brings, GoesAlong, Stands};
 ghost use Rattle.osi_honest.specs.Talking.{History, Said, told_of};
@@ -51,8 +51,8 @@ pub fn what_an_open_end_puts()
 
 /// How a called end opens its connection in class 0: each turn of an end that waits for the first CR. It waits on and
 /// puts nothing; or the first packet has a CR that is accepted in class 0, a CC is put, and what its session then takes
-/// and sends is as at an open end; or the end is over, with nothing put. What a CR does that is refused or accepted in
-/// class 2, and an end that runs out of memory for the first packet, are left out here (`turns_away`).
+/// and sends is as at an open end; or the end is over, with nothing put, or one answer; or another answer to a CR is put
+/// first: a refusal, or a CC of class 2.
 pub fn what_a_waiting_end_puts()
     ensures begins { (local : Local) → Waits (fresh_end false local) }
     ensures turn { (turn : Turn) (old new : Holding) → Waits old.end → Takes old turn new →
@@ -65,8 +65,8 @@ pub fn what_a_waiting_end_puts()
 
 /// How a calling end opens its connection in class 0: each turn of an end whose CR is not answered yet. It asks on and
 /// puts nothing; or the first packet has a CC of class 0, the session sends its CN, and what it then takes and sends is
-/// as at an open end; or the end is over, with nothing put. A CR that is refused or accepted in class 2, a DR that is
-/// answered by a DC, and an end that runs out of memory for the first packet are left out here (`turns_aside`).
+/// as at an open end; or it has no connection of class 0 any more (the CR was refused, or accepted in class 2, or the end is
+/// over), with nothing put; or what it puts first is no DT of class 0.
 pub fn what_an_asking_end_puts()
     ensures begins { (c : Connect) (local : Local) → Asks 1 (calls_with c) (connects c (fresh_end true local)) }
     ensures turn { (r : ℕ) (c : Connect) (turn : Turn) (old new : Holding) → terms_error c ≡ None →
@@ -117,6 +117,21 @@ pub fn a_called_end_is_not_blamed()
     ensures { (local : Local) (begin end : Holding) (turns : List Turn) (capture : Capture) (finding : Finding) →
         IsFresh false local begin → Run begin turns end → IsSeen Direction.Right turns capture →
         IsFoundIn Direction.Right capture finding → broke_session finding ≡ false }
+{
+    few_octets_fit();
+    serial_digits();
+    what_closes_sends_nothing();
+    an_honest_side_is_not_blamed();
+}
+
+/// Nor is the session of a calling end. Take any run of an end of this library that begins with a request, whose functional
+/// units go together and whose lengths are within their limits: whatever octets arrive, any calls of its user, any shortage
+/// of memory; the request may be refused, or accepted in either class. Take any capture of it from the request on.
+pub fn a_calling_end_is_not_blamed()
+    ensures { (c : Connect) (local : Local) (asked end : Holding) (turns : List Turn) (capture : Capture) (finding : Finding) →
+        terms_error c ≡ None → HasAsked c local asked → Run asked turns end →
+        IsSeen Direction.Left (requesting asked ∷ turns) capture → IsFoundIn Direction.Left capture finding →
+        broke_session finding ≡ false }
 {
     few_octets_fit();
     serial_digits();

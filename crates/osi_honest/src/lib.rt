@@ -15,10 +15,10 @@
 //!   is in `specs/Openings.antt`: [`laws::what_a_waiting_end_puts`], [`laws::what_an_asking_end_puts`].
 //! - The judge reads these packets as the end does: [`laws::what_is_put_and_taken_is_read`].
 //!
-//! - What a tap between the two ends shows of such an end is `IsSeen` (`specs/Seeing.antt`). The session of a called end is
-//!   blamed nowhere in any capture of it: [`laws::a_called_end_is_not_blamed`].
+//! - What a tap between the two ends shows of such an end is `IsSeen` (`specs/Seeing.antt`). The session of an end is blamed
+//!   nowhere in any capture of it: [`laws::a_called_end_is_not_blamed`], [`laws::a_calling_end_is_not_blamed`].
 //!
-//! It doesn't say yet that the transport of an end is never blamed, nor the session of a calling end.
+//! It doesn't say yet that the transport of an end is never blamed.
 #![tactic(auto)]
 
 pub mod laws;
