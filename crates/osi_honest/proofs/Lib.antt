@@ -20,10 +20,11 @@ pub mod how_a_caller_opens
 pub mod what_a_shortage_leaves_at_an_asking_end
 pub mod what_an_asking_end_does
 pub mod what_an_end_that_is_away_puts
+pub mod what_an_idle_end_does
 pub mod two_readings_of_a_stream_agree
 pub mod what_the_judge_reads_of_a_side
 pub mod what_an_end_put_was_caused
 pub mod what_a_capture_shows_of_an_end
 pub mod what_a_called_end_did
-pub mod what_a_calling_end_did
 pub mod the_session_of_a_request_is_a_caller
+pub mod what_a_calling_end_did

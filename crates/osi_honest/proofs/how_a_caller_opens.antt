@@ -76,8 +76,11 @@ module _ (r : ℕ) (c : Carrier) (lasts : c.ended ≡ None) (live : c.live ≡ (
   by_answer destination answer None e range = at_an_end (refl, refl)
   by_answer destination answer (Some Two) e range =
       let now = linked answer.source (opened_link Two (agreed_size answer.parameters.size c.local) c.local answer.credit) in
-      elsewhere (inr (has_two lasts side refl (subst (λ (rows : Rows Connection). AllHaveFlow (put r now rows)) (sym live)
-      (subst AllHaveFlow (sym (put_one r now asked)) (refl, tt))), refl))
+      elsewhere (inr (
+        has_two lasts side refl (subst (λ (rows : Rows Connection). AllHaveFlow (put r now rows)) (sym live)
+            (subst AllHaveFlow (sym (put_one r now asked)) (refl, tt))),
+        refl,
+      ))
   by_answer destination answer (Some Zero) e range =
       let size = agreed_size answer.parameters.size c.local in
       confirms destination answer refl (confirmed_zero _ _ _ e) (record {

@@ -23,23 +23,26 @@ record Named (octets : Option (List ℕ)) : Type 0 where
   is : selector_octets selector ≡ octets
 
 calling_named : (c : Connect) → is_long_address (calling_octets c) ≡ false → Named (calling_octets c)
-calling_named c = (elim (c.calling_selector) as (λ o. is_long_address (option_map (λ s. s.now) o) ≡ false → Named (option_map (λ s. s.now) o)) [
-  | None ↦ λ h. record { selector = None; is = refl }
-  | Some s ↦ λ h. record { selector = Some (record { octets = s; short = ltb-false 16 (length s.now) h }); is = refl }
-])
+calling_named c = (elim (c.calling_selector) as (λ o. is_long_address (option_map (λ s. s.now) o) ≡ false →
+    Named (option_map (λ s. s.now) o)) [
+      | None ↦ λ h. record { selector = None; is = refl }
+      | Some s ↦ λ h. record { selector = Some (record { octets = s; short = ltb-false 16 (length s.now) h }); is = refl }
+    ])
 
 called_named : (c : Connect) → is_long_address (called_octets c) ≡ false → Named (called_octets c)
-called_named c = (elim (c.called_selector) as (λ o. is_long_address (option_map (λ s. s.now) o) ≡ false → Named (option_map (λ s. s.now) o)) [
-  | None ↦ λ h. record { selector = None; is = refl }
-  | Some s ↦ λ h. record { selector = Some (record { octets = s; short = ltb-false 16 (length s.now) h }); is = refl }
-])
+called_named c = (elim (c.called_selector) as (λ o. is_long_address (option_map (λ s. s.now) o) ≡ false →
+    Named (option_map (λ s. s.now) o)) [
+      | None ↦ λ h. record { selector = None; is = refl }
+      | Some s ↦ λ h. record { selector = Some (record { octets = s; short = ltb-false 16 (length s.now) h }); is = refl }
+    ])
 
 -- what the terms say
 record Terms (profile long : Bool) : Type 0 where
   is_profile : profile ≡ true
   is_short : long ≡ false
 
-terms_by : {E : Type 0} (profile long : Bool) (a b : E) → (if not profile then Some a else (if long then Some b else None)) ≡ None → Terms profile long
+terms_by : {E : Type 0} (profile long : Bool) (a b : E) → (if not profile then Some a else (if long then Some b else None)) ≡ None →
+    Terms profile long
 terms_by true true a b e = absurd (cc)
 terms_by true false a b e = record { is_profile = refl; is_short = refl }
 terms_by false long a b e = absurd (cc)
@@ -84,6 +87,7 @@ opens_so c h =
     let o : Opening = record (opening_of c) { calling_selector = calling.selector; called_selector = called.selector } in
     record {
       opening = o;
-      accepted = accepted_by (is_profile (unit_bits c.requirements)) (nat_le (length c.user_data.now) most_user_data) _ _ terms.is_profile few;
+      accepted = accepted_by (is_profile (unit_bits c.requirements)) (nat_le (length c.user_data.now) most_user_data)
+          _ _ terms.is_profile few;
       begins = (λ i. with_selectors c (calling.is i) (called.is i));
     }

@@ -92,7 +92,8 @@ packet_again u w b x y p e =
     same_split u w x y (same_length p.high p.low (length u) (length w) p.counted h.high_is h.low_is) h.rest_is
 
 no_packet_in : (u b x : List ℕ) → IsPacket u b → b ++ x ≡ [] → ⊥
-no_packet_in u b x p e = let whole : (3 ∷ p.reserved ∷ p.high ∷ p.low ∷ (u ++ x)) ≡ [] = ap (λ (l : List ℕ). l ++ x) (sym p.spelled) ∙ e in cc
+no_packet_in u b x p e = let whole : (3 ∷ p.reserved ∷ p.high ∷ p.low ∷ (u ++ x)) ≡ [] = ap (λ (l : List ℕ). l ++ x) (sym p.spelled)
+    ∙ e in cc
 
 -- Packets that are read at the front of what was written are the first of those that were written.
 pub shown_packets : (us : List (List ℕ)) (vs : List Value) (s r later : List ℕ) → ArePackets us s r → s ++ later ≡ packets vs →

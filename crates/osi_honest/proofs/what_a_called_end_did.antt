@@ -45,7 +45,8 @@ use Rattle.osi_honest.proofs.what_the_judge_reads_of_a_side.{first_opens, size_p
 
 -- ---- a turn in which nothing was put, and then more turns
 
-pub did_later : (d : Direction) (capture : Capture) (coming : List ℕ) (others : List Sent) (begin : Listener) (turn : Turn) (turns : List Turn) →
+pub did_later : (d : Direction) (capture : Capture) (coming : List ℕ) (others : List Sent) (begin : Listener) (turn : Turn)
+    (turns : List Turn) →
     turn.put ≡ [] → Did d capture coming others begin turns → Did d capture coming others begin (turn ∷ turns)
 did_later d capture coming others begin turn turns none (nothing is) = nothing (ap (λ (x : List ℕ). x ++ put_along turns) none ∙ is)
 did_later d capture coming others begin turn turns none (aside w back is stopped) =
@@ -155,7 +156,8 @@ other_stops answer other octets = elim (first_opens Right (units_of (written ans
 module _ (capture : Capture) (coming : List ℕ) (others : List Sent) (counts : Counts Right capture coming others)
     (proper : AllProper) where
   opens_did : (used : List ℕ) (turn : Turn) (turns : List Turn) (old mid new : Holding) → Opens turn.used turn.put old mid →
-      used ≡ old.held.octets → IsPrefix (used ++ used_along (turn ∷ turns)) coming → PassAfter Right capture (length used) 0 (turn ∷ turns) →
+      used ≡ old.held.octets → IsPrefix (used ++ used_along (turn ∷ turns)) coming →
+      PassAfter Right capture (length used) 0 (turn ∷ turns) →
       Run mid turns new → Did Right capture coming others awaits (turn ∷ turns)
   opens_did used turn turns old mid new o held front after run =
       let w = confirm o.wanted.source (acceptance Zero o.size o.wanted old.end.carrier.local o.r) in
@@ -188,7 +190,8 @@ module _ (capture : Capture) (coming : List ℕ) (others : List Sent) (counts : 
       (subst (λ (n : ℕ). PassAfter Right capture n (0 + length turn.put) turns) (sym sum) after.1))
 
   -- one answer was put, and nothing else
-  last_answer : {turns : List Turn} (answer : Value) → put_along turns ≡ packets (answer ∷ []) → Did Right capture coming others awaits turns
+  last_answer : {turns : List Turn} (answer : Value) → put_along turns ≡ packets (answer ∷ []) →
+      Did Right capture coming others awaits turns
   last_answer answer is =
       spoke answer [] [] [] false awaits [] is history.begins tt
       (record { units = []; rest = []; cut = refl; read = refl }) (coming, refl)
@@ -205,13 +208,15 @@ module _ (capture : Capture) (coming : List ℕ) (others : List Sent) (counts : 
       (after_none Right capture used turn.used turn.put turns none after.1) run.2)
     where
       by : WaitingTurn turn.used turn.put old run.0 →
-          (Waits run.0.end → turn.put ≡ [] → run.0.held.octets ≡ old.held.octets ++ turn.used → Did Right capture coming others awaits turns) →
+          (Waits run.0.end → turn.put ≡ [] → run.0.held.octets ≡ old.held.octets ++ turn.used →
+          Did Right capture coming others awaits turns) →
           Did Right capture coming others awaits (turn ∷ turns)
       by (opening.waits_on waits none same) more =
           did_later Right capture coming others awaits turn turns none (more waits none same)
       by (opening.opens o) more = opens_did used turn turns old run.0 new o held front after run.2
       by (opening.is_over over none) more =
-          nothing (ap (λ (x : List ℕ). x ++ put_along turns) none ∙ silent_run Right capture coming others counts turns run.0 new over run.2)
+          nothing (ap (λ (x : List ℕ). x ++ put_along turns) none
+          ∙ silent_run Right capture coming others counts turns run.0 new over run.2)
       by (opening.answers_last over answer is) more =
           last_answer answer (ap (λ (x : List ℕ). x ++ put_along turns) is
           ∙ ap (λ (x : List ℕ). packets (answer ∷ []) ++ x) (silent_run Right capture coming others counts turns run.0 new over run.2)

@@ -1,24 +1,24 @@
 -- What a calling end did in all, from its request on: for each run of its turns.
 -- For the law that a calling end is not blamed.
 use Rattle.std.proofs.Common.{◌≡◌, ◌∙◌, refl, sym, ap, subst, ℕ, ◌+◌, ◌==◌, ◌<◌, ◌≤◌, Bool, true, false, if◌then◌else◌, List, [], ◌∷◌, ◌++◌, length, map, Result, Ok, Err, None, option_map, inl, inr, ◌⊎◌, append_assoc, arith}
+use Rattle.std.specs.List.{flat_map}
 use Rattle.std.proofs.lemmas.List.{append-nil, length-append}
 use Rattle.osi_tpkt.specs.Octets.{IsOctets}
 use Rattle.osi_tpkt.specs.Packet.{packet_of}
 use Rattle.osi_tpkt.specs.Stream.{ArePackets}
-use Rattle.osi_tpdu.specs.Limits.{tsap_octets}
 use Rattle.osi_tpdu.specs.Packet.{AreUnits, units_of}
-use Rattle.osi_tpdu.specs.Spelling.{Spells}
+use Rattle.osi_tpdu.specs.Spelling.{Spells, connect_part, item_octets}
 use Rattle.osi_tpdu.specs.Value.{Connect, Value, acknowledge, confirm, data0, data2, disconnect, disconnected, error, request}
 use Rattle.osi_tpdu.specs.Writing.{written, written_header}
 use Rattle.osi_tpdu.specs.declared.faults.TpduFault.{TpduFault}
 use Rattle.osi_tpdu.proofs.PacketLaws.{units_found}
 use Rattle.osi_class.specs.Tsdus.{Part}
 use Rattle.osi_class.specs.declared.terms.Local.{Local}
-use Rattle.osi_carrier.specs.Negotiation.{proposal}
 use Rattle.osi_carrier.specs.State.{packets}
 use Rattle.osi_session.specs.Listening.{Listener}
 use Rattle.osi_session.specs.Phases.{is_wait_transport}
-use Rattle.osi_stack.specs.Calls.{calls_with}
+use Rattle.osi_session.specs.Standing.{Seen}
+use Rattle.osi_stack.specs.Calls.{calls_with, terms_error}
 use Rattle.osi_stack.specs.State.{End, Holding}
 use Rattle.osi_stack.specs.declared.connecting.Connect.{Connect as Request}
 use Rattle.osi_judge.specs.declared.directions.Direction.{Direction}
@@ -26,23 +26,33 @@ use Rattle.osi_judge.specs.declared.directions.Direction.TheVariants.{Left, Righ
 use Rattle.osi_judge.specs.declared.stops.Stop.{Stop}
 use Rattle.osi_judge.specs.declared.stops.Stop.TheVariants.{BadUnit, MoreConnections, OtherClass, UnexpectedUnit, WrongForm}
 use Rattle.osi_judge.specs.Captures.{Capture, other, stream}
+use Rattle.osi_judge.specs.declared.findings.Finding.{Finding}
+use Rattle.osi_judge.specs.declared.findings.Finding.TheVariants as outcome
+use Rattle.osi_judge.specs.Explaining.{Told}
+use Rattle.osi_judge.specs.Judging.{IsFound}
+use Rattle.osi_judge.specs.Running.{IsHonestIn, IsSentFrom}
+use Rattle.osi_judge.specs.Stops.{broke_session}
+use Rattle.osi_judge.specs.Tapping.{IsFoundIn, begin_of, heard, told}
 use Rattle.osi_judge.specs.Transport.{Move, Sent, between, next_step, opens, packet_length, packets_length, sent_from, stage_from, step_of, stops}
-use Rattle.osi_honest.specs.Openings.{Asks, AskingTurn, IsAnswered, IsAway, IsNoData}
+use Rattle.osi_honest.specs.Openings.{Asks, AskingTurn, Idles, IdleTurn, IsAnswered, IsAway, IsNoData}
 use Rattle.osi_honest.specs.Openings as opening
 use Rattle.osi_honest.specs.Parts.{dt, units_put}
-use Rattle.osi_honest.specs.Seeing.{HasAsked, IsPrefix, IsSeen, PassAfter, put_along, requesting, used_along}
+use Rattle.osi_honest.specs.Seeing.{IsFresh, IsPrefix, IsSeen, PassAfter, put_along, used_along}
 use Rattle.osi_honest.specs.Stretches.{octets_said}
 use Rattle.osi_honest.specs.Talking.{Said}
 use Rattle.osi_honest.specs.Talking as history
 use Rattle.osi_honest.specs.Turns.{Run, Turn}
 use Rattle.osi_honest.proofs.how_a_caller_opens.{CanBegin}
+use Rattle.osi_honest.proofs.the_session_of_a_request_is_a_caller.{opens_so}
 use Rattle.osi_honest.proofs.what_a_packet_does_in_class_0.{AllProper}
 use Rattle.osi_honest.proofs.what_an_asking_end_does.{turn_asks}
 use Rattle.osi_honest.proofs.what_an_end_that_is_away_puts.{PutsOther, away_run, puts_first, puts_then}
+use Rattle.osi_honest.proofs.what_an_idle_end_does.{idle_turn}
+use Rattle.osi_honest.proofs.what_a_called_end_did.{after_none, did_later}
 use Rattle.osi_honest.proofs.what_is_put_and_taken_is_read.{parts_read}
-use Rattle.osi_honest.proofs.what_an_end_put_was_caused.{AreCaused, Came, Counts, PassBetween, Spoke, prefix_front, run_spoke, then_spoke, turn_caused}
-use Rattle.osi_honest.proofs.what_a_capture_shows_of_an_end.{Did, aside, beside, nothing, spoke}
-use Rattle.osi_honest.proofs.what_the_judge_reads_of_a_side.{size_put}
+use Rattle.osi_honest.proofs.what_an_end_put_was_caused.{AreCaused, Came, Counts, PassBetween, Spoke, prefix_front, run_spoke, silent_run, then_spoke, turn_caused}
+use Rattle.osi_honest.proofs.what_a_capture_shows_of_an_end.{Did, Unread, beside, end_is_honest, first_aside, none_of_it, nothing_put, spoke}
+use Rattle.osi_honest.proofs.what_the_judge_reads_of_a_side.{first_opens, size_put}
 
 -- ---- what is no DT of class 0 is not read as one
 
@@ -57,7 +67,8 @@ long_header (data2 destination number last octets) other = omega arith
 long_header (acknowledge credit destination number) other = omega arith
 long_header (error destination cause) other = omega arith
 
-first_octet : (v : Value) (header octets : List ℕ) → written v ≡ length header ∷ header ++ octets → length (written_header v) ≡ length header
+first_octet : (v : Value) (header octets : List ℕ) → written v ≡ length header ∷ header ++ octets →
+    length (written_header v) ≡ length header
 first_octet v header octets e = cc
 
 spelled_data : (v : Value) (last : Bool) (octets : List ℕ) → IsNoData v → Spells (data0 last octets) (written v) → ⊥
@@ -104,7 +115,8 @@ module _ (capture : Capture) (coming : List ℕ) (others : List Sent) (counts : 
     others_first : PutsOther (put_along turns) → Afterwards at turns
     speech : Spoke Left capture coming others counts session [] at turns → Afterwards at turns
 
-  later_on : (at : ℕ) (turn : Turn) (turns : List Turn) → turn.put ≡ [] → Afterwards (at + length turn.put) turns → Afterwards at (turn ∷ turns)
+  later_on : (at : ℕ) (turn : Turn) (turns : List Turn) → turn.put ≡ [] → Afterwards (at + length turn.put) turns →
+      Afterwards at (turn ∷ turns)
   later_on at turn turns none (silence is) = silence (ap (λ (x : List ℕ). x ++ put_along turns) none ∙ is)
   later_on at turn turns none (others_first p) = others_first (puts_then turn.put (put_along turns) none p)
   later_on at turn turns none (speech s) =
@@ -172,31 +184,150 @@ module _ (capture : Capture) (coming : List ℕ) (others : List Sent) (counts : 
   asked_did cr turn turns is (speech s) =
       spoke cr s.parts s.took s.told s.closed s.session s.used
       ((λ i. is i ++ s.put i) ∙ ap (λ (x : List ℕ). x ++ packets (map dt s.parts)) (append-nil (packet_of (written cr))))
-      s.history (subst (λ (n : ℕ). AreCaused Left capture others (sent_from Left between n (units_put s.parts)) s.told) (from_zero _) s.caused)
+      s.history
+      (subst (λ (n : ℕ). AreCaused Left capture others (sent_from Left between n (units_put s.parts)) s.told) (from_zero _) s.caused)
       s.reached s.front
     where
       from_zero : (n : ℕ) → n ≡ 0 + n
       from_zero n = omega arith
 
--- the CR of a request
-abbrev cr_of : Request → Local → Value
-cr_of c local = request (proposal local None (option_map tsap_octets c.calling_tsap) (option_map tsap_octets c.called_tsap) 1)
+-- ---- from the beginning
 
-asked_asks : (c : Request) (local : Local) (asked : Holding) → HasAsked c local asked → Asks 1 (calls_with c) asked.end
-asked_asks c local asked begun =
-    subst (Asks 1 (calls_with c)) (sym begun.end)
-    (record { lasts = refl; is_caller = refl; class = refl; live = refl; told = refl; here = refl })
+-- a DC is no CR
+code_of_dc : (destination source : ℕ) (c : Connect) → Spells (request c) (written (disconnected destination source)) → ⊥
+code_of_dc destination source c s =
+    let whole : written (disconnected destination source) ≡ length s.header ∷ s.header ++ c.user = s.whole in
+    let header : s.header ≡ connect_part 0xE0 s.fields.0 c ++ flat_map item_octets s.fields.1 = s.fields.3 in
+    let code : 0xC0 ≡ 0xE0 + c.credit = cc in
+    omega arith
 
-pub calling_did : AllProper → (c : Request) (local : Local) (asked end : Holding) (turns : List Turn) (capture : Capture)
-    (seen : IsSeen Left (requesting asked ∷ turns) capture) (others : List Sent) → Counts Left capture seen.coming others →
-    CanBegin (calls_with c) → HasAsked c local asked → Run asked turns end →
-    Did Left capture seen.coming others (calls_with c) (requesting asked ∷ turns)
-calling_did proper c local asked end turns capture seen others counts begins begun run =
-    let cr = cr_of c local in
-    let put : asked.end.carrier.outgoing ≡ packets (cr ∷ []) = ap (λ (e : End). e.carrier.outgoing) begun.end in
-    let size : 0 + length asked.end.carrier.outgoing ≡ packet_length (written cr) =
-    let e = ap (λ (x : List ℕ). length x) (put ∙ append-nil (packet_of (written cr))) in omega arith in
-    asked_did capture seen.coming others counts proper (calls_with c) begins refl cr (requesting asked) turns put
-    (after_request capture seen.coming others counts proper (calls_with c) begins refl turns 1 (packet_length (written cr)) [] asked end
-    (asked_asks c local asked begun) (sym begun.held) seen.used
-    (subst (λ (n : ℕ). PassAfter Left capture 0 n turns) size seen.after.1) run)
+dc_opens : (destination source reference : ℕ) (units : Result (List Value) TpduFault) →
+    IsOctets (written (disconnected destination source)) →
+    units_of (written (disconnected destination source)) ≡ units → step_of Left false units ≡ opens reference → ⊥
+dc_opens destination source reference (Err fault) octets e is = cc
+dc_opens destination source reference (Ok []) octets e is = cc
+dc_opens destination source reference (Ok (request c ∷ [])) octets e is =
+    code_of_dc destination source c (units_found (written (disconnected destination source)) (request c ∷ []) octets e)
+dc_opens destination source reference (Ok (request c ∷ w ∷ vs)) octets e is =
+    let us = units_found (written (disconnected destination source)) (request c ∷ w ∷ vs) octets e in
+    absurd (let followed : false ≡ true = us.0 in cc)
+dc_opens destination source reference (Ok (confirm d c ∷ vs)) octets e is = cc
+dc_opens destination source reference (Ok (disconnect d s reason user ∷ vs)) octets e is = cc
+dc_opens destination source reference (Ok (disconnected d s ∷ vs)) octets e is = cc
+dc_opens destination source reference (Ok (data0 last user ∷ vs)) octets e is = cc
+dc_opens destination source reference (Ok (data2 d number last user ∷ vs)) octets e is = cc
+dc_opens destination source reference (Ok (acknowledge credit d number ∷ vs)) octets e is = cc
+dc_opens destination source reference (Ok (error d cause ∷ vs)) octets e is = cc
+
+dc_stops : (destination source : ℕ) → IsOctets (written (disconnected destination source)) →
+    (stop : Stop) × (step_of Left false (units_of (written (disconnected destination source))) ≡ stops stop)
+dc_stops destination source octets = elim (first_opens Left (units_of (written (disconnected destination source)))) [
+  | inl o ↦ absurd (dc_opens destination source o.0 (units_of (written (disconnected destination source))) octets refl o.1)
+  | inr s ↦ s
+]
+
+module _ (capture : Capture) (coming : List ℕ) (others : List Sent) (counts : Counts Left capture coming others)
+    (proper : AllProper) (begins : (c : Request) → terms_error c ≡ None → CanBegin (calls_with c)) where
+  -- Nothing is read of it; or its session is that of a request.
+  pub data CallerDid (turns : List Turn) : Type 0 where
+    unasked : Unread Left turns → CallerDid turns
+    asked : (c : Request) → terms_error c ≡ None → Did Left capture coming others (calls_with c) turns → CallerDid turns
+
+  caller_later : (turn : Turn) (turns : List Turn) → turn.put ≡ [] → CallerDid turns → CallerDid (turn ∷ turns)
+  caller_later turn turns none (unasked (nothing_put is)) = unasked (nothing_put (ap (λ (x : List ℕ). x ++ put_along turns) none ∙ is))
+  caller_later turn turns none (unasked (first_aside w back is stopped)) =
+      unasked (first_aside w back (ap (λ (x : List ℕ). x ++ put_along turns) none ∙ is) stopped)
+  caller_later turn turns none (asked c terms did) = asked c terms (did_later Left capture coming others (calls_with c) turn turns none did)
+
+  requested : (c : Request) (r : ℕ) (cr : Connect) (used : List ℕ) (turn : Turn) (turns : List Turn) (old mid new : Holding) →
+      terms_error c ≡ None → Asks r (calls_with c) mid.end → turn.used ≡ [] → turn.put ≡ packets (request cr ∷ []) →
+      mid.held.octets ≡ old.held.octets → used ≡ old.held.octets → IsPrefix (used ++ used_along (turn ∷ turns)) coming →
+      PassAfter Left capture (length used) 0 (turn ∷ turns) → Run mid turns new → CallerDid (turn ∷ turns)
+  requested c r cr used turn turns old mid new terms asks none put same held front after run =
+      let size : 0 + length turn.put ≡ packet_length (written (request cr)) =
+      let e = ap (λ (x : List ℕ). length x) (put ∙ append-nil (packet_of (written (request cr)))) in omega arith in
+      let now : used ++ turn.used ≡ mid.held.octets =
+      ap (λ (x : List ℕ). used ++ x) none ∙ append-nil used ∙ held ∙ sym same in
+      let passes : PassAfter Left capture (length (used ++ turn.used)) (packet_length (written (request cr))) turns =
+      subst (λ (n : ℕ). PassAfter Left capture n (packet_length (written (request cr))) turns) (sym (length-append used turn.used))
+      (subst (λ (n : ℕ). PassAfter Left capture (length used + length turn.used) n turns) size after.1) in
+      asked c terms (asked_did capture coming others counts proper (calls_with c) (begins c terms) refl (request cr) turn turns put
+      (after_request capture coming others counts proper (calls_with c) (begins c terms) refl turns r (packet_length (written (request cr)))
+      (used ++ turn.used) mid new asks now
+      (front.0, ap (λ (x : List ℕ). x ++ front.0) (append_assoc used turn.used (used_along turns)) ∙ front.1) passes run))
+
+  idle_did : (turns : List Turn) (used : List ℕ) (old new : Holding) → Idles old.end → used ≡ old.held.octets →
+      IsPrefix (used ++ used_along turns) coming → PassAfter Left capture (length used) 0 turns → Run old turns new → CallerDid turns
+  idle_did [] used old new w held front after run = unasked (nothing_put refl)
+  idle_did (turn ∷ turns) used old new w held front after run =
+      by (idle_turn turn old run.0 w run.1) (λ idles none same.
+      idle_did turns (used ++ turn.used) run.0 new idles (ap (λ (x : List ℕ). x ++ turn.used) held ∙ sym same)
+      (front.0, ap (λ (x : List ℕ). x ++ front.0) (append_assoc used turn.used (used_along turns)) ∙ front.1)
+      (after_none Left capture used turn.used turn.put turns none after.1) run.2)
+    where
+      by : IdleTurn turn.used turn.put old run.0 →
+          (Idles run.0.end → turn.put ≡ [] → run.0.held.octets ≡ old.held.octets ++ turn.used → CallerDid turns) → CallerDid (turn ∷ turns)
+      by (opening.idles_on idles none same) more = caller_later turn turns none (more idles none same)
+      by (opening.requests c r cr terms asks none put same) more =
+          requested c r cr used turn turns old run.0 new terms asks none put same held front after run.2
+      by (opening.idle_over over none) more =
+          unasked (nothing_put (ap (λ (x : List ℕ). x ++ put_along turns) none
+          ∙ silent_run Left capture coming others counts turns run.0 new over run.2))
+      by (opening.puts_a_dc destination source later is) more =
+          unasked (first_aside (disconnected destination source) (later ++ put_along turns) (ap (λ (x : List ℕ). x ++ put_along turns) is
+          ∙ append_assoc (packet_of (written (disconnected destination source))) later (put_along turns)) (dc_stops destination source))
+
+fresh_idles : (local : Local) (begin : Holding) → IsFresh true local begin → Idles begin.end
+fresh_idles local begin fresh =
+    subst Idles (sym fresh.end) (record { lasts = refl; is_caller = refl; class = refl; live = refl; told = refl; lines = refl })
+
+pub calling_did : (proper : AllProper) (begins : (c : Request) → terms_error c ≡ None → CanBegin (calls_with c)) (local : Local)
+    (begin end : Holding) (turns : List Turn) (capture : Capture) (seen : IsSeen Left turns capture) (others : List Sent)
+    (counts : Counts Left capture seen.coming others) → IsFresh true local begin → Run begin turns end →
+    CallerDid capture seen.coming others counts proper begins turns
+calling_did proper begins local begin end turns capture seen others counts fresh run =
+    idle_did capture seen.coming others counts proper begins turns [] begin end (fresh_idles local begin fresh) (sym fresh.held) seen.used
+    seen.after run
+
+-- ---- what is found of it
+
+-- of a side without TSDUs no break is found
+none_found : (begin : Seen) (us : List (List ℕ)) (told : List Told) (finding : Finding) → told ≡ [] → IsFound begin us told finding →
+    broke_session finding ≡ false
+none_found begin us told outcome.Kept none f = refl
+none_found begin us told (outcome.Broke i) none f =
+    let n = ap (λ (x : List Told). length x) none in
+    let l : i < length told = f.0.there in
+    absurd (omega arith)
+none_found begin us told (outcome.Left i) none f =
+    let n = ap (λ (x : List Told). length x) none in
+    let l : i < length told = f.0 in
+    absurd (omega arith)
+none_found begin us told outcome.TooMany none f = refl
+
+abbrev pub HonestLaw : Type 0
+HonestLaw = (d : Direction) (capture : Capture) (finding : Finding) → IsHonestIn d capture → IsFoundIn d capture finding →
+    broke_session finding ≡ false
+
+pub caller_found : HonestLaw → (capture : Capture) (turns : List Turn) (seen : IsSeen Left turns capture) (finding : Finding)
+    (found : IsFoundIn Left capture finding) (counts : Counts Left capture seen.coming found.others) (proper : AllProper)
+    (begins : (c : Request) → terms_error c ≡ None → CanBegin (calls_with c)) →
+    CallerDid capture seen.coming found.others counts proper begins turns → broke_session finding ≡ false
+caller_found law capture turns seen finding found counts proper begins (unasked unread) =
+    none_found (begin_of Left) (heard found.others) (told Left capture found.mine found.others) finding
+    (ap (λ (x : List Sent). told Left capture x found.others) (none_of_it Left capture turns seen found.mine found.is_mine unread))
+    found.found
+caller_found law capture turns seen finding found counts proper begins (asked c terms did) =
+    let so = opens_so c terms in
+    let sent = end_is_honest Left capture (calls_with c) turns seen found.mine found.others found.is_mine found.is_others did in
+    law Left capture finding (record {
+      mine = found.mine;
+      others = found.others;
+      is_mine = found.is_mine;
+      is_others = found.is_others;
+      sent = (
+        so.opening,
+        so.accepted,
+        subst (λ (l : Listener). IsSentFrom l (heard found.others) (told Left capture found.mine found.others)) (sym so.begins) sent,
+      );
+    }) found

@@ -35,7 +35,8 @@ use Rattle.osi_honest.proofs.what_the_judge_reads_of_a_side.{LieIn, OpensOrStops
 
 -- It put nothing; or first a packet after which nothing is looked at; or one such packet after the first; or it put one
 -- packet, which may open a connection of class 0, and then what its session said.
-pub data Did (d : Direction) (capture : Capture) (coming : List ℕ) (others : List Sent) (begin : Listener) (turns : List Turn) : Type 0 where
+pub data Did (d : Direction) (capture : Capture) (coming : List ℕ) (others : List Sent) (begin : Listener)
+    (turns : List Turn) : Type 0 where
   nothing : put_along turns ≡ [] → Did d capture coming others begin turns
   aside : (w : Value) (back : List ℕ) → put_along turns ≡ packet_of (written w) ++ back →
       (IsOctets (written w) → (stop : Stop) × (step_of d false (units_of (written w)) ≡ stops stop)) →
@@ -114,7 +115,8 @@ follows d units s r coming used took cut shown front reached =
     by (first more is p) =
         heard_more (heard (sent_from d (stage_from d opening 0 reached.units) (0 + packets_length reached.units) more))
         (ap (λ (x : List (List ℕ)). heard (sent_from d opening 0 x)) is ∙ heard_all d reached.units more
-        ∙ ap (λ (x : List (List ℕ)). x ++ heard (sent_from d (stage_from d opening 0 reached.units) (0 + packets_length reached.units) more))
+        ∙ ap (λ (x : List (List ℕ)). x
+        ++ heard (sent_from d (stage_from d opening 0 reached.units) (0 + packets_length reached.units) more))
         reached.read)
 
 -- ---- the own side
@@ -195,15 +197,27 @@ beside_read d (u ∷ next ∷ units) s r later w unit back (b, t, p, parts, h) i
       | inr o ↦ none_read d u (next ∷ units) o.0 o.1
     ]
 
+-- It put nothing, or first a packet after which nothing is looked at.
+pub data Unread (d : Direction) (turns : List Turn) : Type 0 where
+  nothing_put : put_along turns ≡ [] → Unread d turns
+  first_aside : (w : Value) (back : List ℕ) → put_along turns ≡ packet_of (written w) ++ back →
+      (IsOctets (written w) → (stop : Stop) × (step_of d false (units_of (written w)) ≡ stops stop)) → Unread d turns
+
+pub none_of_it : (d : Direction) (capture : Capture) (turns : List Turn) → IsSeen d turns capture → (mine : List Sent) →
+    IsSent d capture mine → Unread d turns → mine ≡ []
+none_of_it d capture turns seen mine (units, ending, cut, is) (nothing_put none) =
+    let shown = shown_packets units [] (stream d capture) cut.0 seen.own.0 cut.1 (seen.own.1 ∙ none) in
+    is ∙ ap (sent_from d opening 0) (nil_front units shown.0 shown.1)
+none_of_it d capture turns seen mine (units, ending, cut, is) (first_aside w back put stopped) =
+    is ∙ aside_read d units (stream d capture) cut.0 seen.own.0 back (written w) cut.1 (seen.own.1 ∙ put) stopped
+
 pub end_is_honest : (d : Direction) (capture : Capture) (begin : Listener) (turns : List Turn) (seen : IsSeen d turns capture)
     (mine others : List Sent) → IsSent d capture mine → IsSent (other d) capture others →
     Did d capture seen.coming others begin turns → IsSentFrom begin (heard others) (told d capture mine others)
-end_is_honest d capture begin turns seen mine others (units, ending, cut, is) is_others (nothing none) =
-    let shown = shown_packets units [] (stream d capture) cut.0 seen.own.0 cut.1 (seen.own.1 ∙ none) in
-    none_sent d capture begin mine others (is ∙ ap (sent_from d opening 0) (nil_front units shown.0 shown.1))
-end_is_honest d capture begin turns seen mine others (units, ending, cut, is) is_others (aside w back put stopped) =
-    none_sent d capture begin mine others
-    (is ∙ aside_read d units (stream d capture) cut.0 seen.own.0 back (written w) cut.1 (seen.own.1 ∙ put) stopped)
+end_is_honest d capture begin turns seen mine others is_mine is_others (nothing none) =
+    none_sent d capture begin mine others (none_of_it d capture turns seen mine is_mine (nothing_put none))
+end_is_honest d capture begin turns seen mine others is_mine is_others (aside w back put stopped) =
+    none_sent d capture begin mine others (none_of_it d capture turns seen mine is_mine (first_aside w back put stopped))
 end_is_honest d capture begin turns seen mine others (units, ending, cut, is) is_others (beside w unit later put stopped) =
     none_sent d capture begin mine others
     (is ∙ beside_read d units (stream d capture) cut.0 seen.own.0 (written w) (written unit) later cut.1 (seen.own.1 ∙ put) stopped)

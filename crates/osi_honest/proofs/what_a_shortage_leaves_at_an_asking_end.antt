@@ -62,10 +62,12 @@ module _ (r : ℕ) (session : Listener) (u : List ℕ) (e : End) (w : Asks r ses
         RunsOut (with_carrier c e) new → Elsewhere e.carrier.outgoing new.carrier
     acted_out c (confirms_in destination answer is zero a) same out =
         let queued = ap (λ (x : Carrier). x.events) same ∙ a.told in
-        inr (over ended,
-        ap (λ (x : End). x.carrier.outgoing) out.starved ∙ starves_same out.more (hears_times out.heard (with_carrier c e))
-        ∙ one_out out.heard (opened r) (with_carrier c e) out.event out.more queued out.waits
-        ∙ ap (λ (x : Carrier). x.outgoing) same ∙ a.outgoing)
+        inr (
+          over ended,
+          ap (λ (x : End). x.carrier.outgoing) out.starved ∙ starves_same out.more (hears_times out.heard (with_carrier c e))
+              ∙ one_out out.heard (opened r) (with_carrier c e) out.event out.more queued out.waits
+              ∙ ap (λ (x : Carrier). x.outgoing) same ∙ a.outgoing,
+        )
     acted_out c (elsewhere_in p) same out = out_then c (subst (Elsewhere e.carrier.outgoing) (sym same) p) out
     acted_out c (over_in p) same out =
         out_then c (subst (Elsewhere e.carrier.outgoing) (sym same) (inr (over p.0, p.1))) out
@@ -73,7 +75,8 @@ module _ (r : ℕ) (session : Listener) (u : List ℕ) (e : End) (w : Asks r ses
     pub starved_asking : Starves e u new → Elsewhere e.carrier.outgoing new.carrier
     starved_asking (inl (c, starved, is)) =
         subst (λ (x : End). Elsewhere e.carrier.outgoing x.carrier) (sym is)
-        (kept_attends (Elsewhere e.carrier.outgoing) (elsewhere_kept e.carrier.outgoing) (with_carrier c e) (starved_first c octets starved))
+        (kept_attends (Elsewhere e.carrier.outgoing) (elsewhere_kept e.carrier.outgoing) (with_carrier c e)
+        (starved_first c octets starved))
     starved_asking (inr (c, acts, out)) = elim (acts_cases e.carrier c u acts) [
       | inl is ↦ acted_out c (acted_first r session u e w octets) is out
       | inr starved ↦ out_then c (starved_first c octets starved) out

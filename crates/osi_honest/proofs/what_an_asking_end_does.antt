@@ -184,7 +184,11 @@ module _ (r : ℕ) (session : Listener) where
       opened_by destination answer u later mid us is_cc zero puts
       (extends_over session r [] (cn_said session) [] later mid before new x ended same)
   first_over units old before new (another_way (inl p)) ended same =
-      another_way (inl (record { unit = p.unit; other = p.other; ahead = subst (IsPrefix (old.carrier.outgoing ++ packets (p.unit ∷ []))) (sym same) p.ahead }))
+      another_way (inl (record {
+        unit = p.unit;
+        other = p.other;
+        ahead = subst (IsPrefix (old.carrier.outgoing ++ packets (p.unit ∷ []))) (sym same) p.ahead;
+      }))
   first_over units old before new (another_way (inr p)) ended same = another_way (inr (over ended, same ∙ p.1))
   first_over units old before new (ended_by e is) ended same = ended_by ended (same ∙ is)
 
@@ -363,7 +367,8 @@ module _ (r : ℕ) (session : Listener) where
   using_asking breaking put old new waiting w allowed is outgoing =
       let there : new.end ≡ ends Broken old.end = ap (λ (x : Holding). x.end) is
       ∙ ap (λ (b : Bool). if b then old.end else ends Broken old.end) (ap is_some w.lasts) in
-      goes_away (over (ap (λ (e : End). is_some e.carrier.ended) there)) (none_put old new put outgoing (ap (λ (e : End). e.carrier.outgoing) there))
+      goes_away (over (ap (λ (e : End). is_some e.carrier.ended) there))
+      (none_put old new put outgoing (ap (λ (e : End). e.carrier.outgoing) there))
 
   pub turn_asks : AllProper → CanBegin session → is_wait_transport session.state.phase ≡ true → (turn : Turn) (old new : Holding) →
       Asks r session old.end → Takes old turn new →

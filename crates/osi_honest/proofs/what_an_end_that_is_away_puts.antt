@@ -63,11 +63,15 @@ away_call (feeding piece fed) put old new away c is =
     from_elsewhere put old new is
     (kept_feeds (Elsewhere old.end.carrier.outgoing) (elsewhere_kept old.end.carrier.outgoing) piece fed old new (inr (away, refl)) c)
 away_call (telling shown) put old new away c is =
-    inr (subst (λ (x : Holding). IsAway x.end.carrier) (sym c.1) away,
-    none_put old new put is (ap (λ (x : Holding). x.end.carrier.outgoing) c.1))
+    inr (
+      subst (λ (x : Holding). IsAway x.end.carrier) (sym c.1) away,
+      none_put old new put is (ap (λ (x : Holding). x.end.carrier.outgoing) c.1),
+    )
 away_call (carrying octets) put old new away c is =
-    inr (not_handed octets new.end (subst (λ (x : Holding). IsAway x.end.carrier) c away),
-    none_put old (record old { end = put_back octets new.end }) put is (sym (ap (λ (x : Holding). x.end.carrier.outgoing) c)))
+    inr (
+      not_handed octets new.end (subst (λ (x : Holding). IsAway x.end.carrier) c away),
+      none_put old (record old { end = put_back octets new.end }) put is (sym (ap (λ (x : Holding). x.end.carrier.outgoing) c)),
+    )
 
 broken_end : (octets : List ℕ) (b : Bool) (e : End) → Elsewhere octets e.carrier → Elsewhere octets (if b then e else ends Broken e).carrier
 broken_end octets true e p = p

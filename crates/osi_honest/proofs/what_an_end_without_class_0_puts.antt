@@ -97,7 +97,8 @@ abbrev pub Elsewhere : List ℕ → Carrier → Type 0
 Elsewhere octets c = PutOther octets c ⊎ (IsAway c × (c.outgoing ≡ octets))
 
 module _ (octets : List ℕ) where
-  pub put_now : (v : Value) (vs : List Value) (c d : Carrier) → IsNoData v → c.outgoing ≡ octets → d.outgoing ≡ c.outgoing ++ packets (v ∷ vs) →
+  pub put_now : (v : Value) (vs : List Value) (c d : Carrier) → IsNoData v → c.outgoing ≡ octets →
+      d.outgoing ≡ c.outgoing ++ packets (v ∷ vs) →
       Elsewhere octets d
   put_now v vs c d other same is = inl (record {
     unit = v;
@@ -105,7 +106,7 @@ module _ (octets : List ℕ) where
     ahead = (
       packets vs,
       append_assoc octets (packets (v ∷ [])) (packets vs) ∙ ap (λ (x : List ℕ). octets ++ x) (sym (packets_joined (v ∷ []) vs))
-      ∙ ap (λ (x : List ℕ). x ++ packets (v ∷ vs)) (sym same) ∙ sym is,
+          ∙ ap (λ (x : List ℕ). x ++ packets (v ∷ vs)) (sym same) ∙ sym is,
     );
   })
 
@@ -171,8 +172,8 @@ module _ (octets : List ℕ) where
     two_opens r cr None never = two_fails _ refl refl
     two_opens r cr (Some Zero) never = absurd (never refl)
     two_opens r cr (Some Two) never =
-        inr (has_two lasts side refl (flow_put r (linked cr.source (opened_link Two (agreed_size cr.parameters.size c.local) c.local cr.credit))
-        c.live all refl), same)
+        let now = linked cr.source (opened_link Two (agreed_size cr.parameters.size c.local) c.local cr.credit) in
+        inr (has_two lasts side refl (flow_put r now c.live all refl), same)
 
     two_drops : (r : ℕ) (d : Carrier) → d.ended ≡ c.ended → d.is_caller ≡ c.is_caller → d.class ≡ c.class → d.live ≡ without r c.live →
         d.outgoing ≡ c.outgoing → Elsewhere octets d
@@ -201,8 +202,10 @@ module _ (octets : List ℕ) where
         (put_now (disconnect peer r 133 []) [] c _ tt same refl)
 
     -- what a link gives is put
-    pump_by : (r peer : ℕ) (link : Standing) (vs : List Value) → written_by peer link ≡ vs → NoneOfZero vs → is_some (pumped link).flow ≡ true →
-        (d : Carrier) → d.ended ≡ c.ended → d.is_caller ≡ c.is_caller → d.class ≡ c.class → d.live ≡ put r (linked peer (pumped link)) c.live →
+    pump_by : (r peer : ℕ) (link : Standing) (vs : List Value) → written_by peer link ≡ vs → NoneOfZero vs →
+        is_some (pumped link).flow ≡ true →
+        (d : Carrier) → d.ended ≡ c.ended → d.is_caller ≡ c.is_caller → d.class ≡ c.class →
+        d.live ≡ put r (linked peer (pumped link)) c.live →
         d.outgoing ≡ c.outgoing ++ packets (written_by peer link) → Elsewhere octets d
     pump_by r peer link [] units none flow d ended is_caller known live is =
         two_live d ended is_caller known (subst AllHaveFlow (sym live) (flow_put r (linked peer (pumped link)) c.live all flow))
@@ -211,7 +214,8 @@ module _ (octets : List ℕ) where
         put_now v vs c d none same (is ∙ ap (λ (x : List Value). c.outgoing ++ packets x) units)
 
     two_pumps : (r peer : ℕ) (link : Standing) → is_some link.flow ≡ true →
-        (d : Carrier) → d.ended ≡ c.ended → d.is_caller ≡ c.is_caller → d.class ≡ c.class → d.live ≡ put r (linked peer (pumped link)) c.live →
+        (d : Carrier) → d.ended ≡ c.ended → d.is_caller ≡ c.is_caller → d.class ≡ c.class →
+        d.live ≡ put r (linked peer (pumped link)) c.live →
         d.outgoing ≡ c.outgoing ++ packets (written_by peer link) → Elsewhere octets d
     two_pumps r peer link flow d ended is_caller known live is =
         pump_by r peer link (written_by peer link) refl (gives_two peer (all_given link) link (pumped link) flow (drained_moves link))
@@ -220,7 +224,8 @@ module _ (octets : List ℕ) where
     two_taking : (r peer : ℕ) (link : Standing) (v : Value) → is_some link.flow ≡ true → (result : _) → taken link v ≡ result →
         Elsewhere octets (taking r peer result c)
     two_taking r peer link v flow (Ok after) e =
-        two_pumps r peer (handed_out after) ((move_same (take_in v) link after e).1 ∙ flow) (settles r peer after c) refl refl refl refl refl
+        two_pumps r peer (handed_out after) ((move_same (take_in v) link after e).1 ∙ flow) (settles r peer after c)
+        refl refl refl refl refl
     two_taking r peer link v flow (Err fault) e = two_breaks r peer fault
 
     two_leaves : (r peer reason : ℕ) → Elsewhere octets (leaves r peer reason c.class c)

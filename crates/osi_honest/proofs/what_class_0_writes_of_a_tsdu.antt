@@ -132,7 +132,7 @@ pub carry_more : (parts more : List Part) (tsdus others : List (List ℕ)) → C
 carry_more parts more tsdus others c d = (
   ends_more true parts more ∙ ap (λ (b : Bool). ends_whole b more) c.0 ∙ d.0,
   λ later. ap (tsdus_after []) (append_assoc parts more later) ∙ c.1 (more ++ later)
-  ∙ ap (λ (x : List (List ℕ)). tsdus ++ x) (d.1 later) ∙ sym (append_assoc tsdus others (tsdus_after [] later)),
+      ∙ ap (λ (x : List (List ℕ)). tsdus ++ x) (d.1 later) ∙ sym (append_assoc tsdus others (tsdus_after [] later)),
 )
 
 pub written_more : (tsdus others : List (List ℕ)) (old mid new : State) → IsWritten tsdus old mid → IsWritten others mid new →

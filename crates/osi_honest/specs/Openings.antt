@@ -1,9 +1,9 @@
--- The opening of the one connection of class 0 at a called end (X.224 section 6.5).
+-- How an end comes to its one connection of class 0, or to none (X.224 section 6.5).
 use Rattle.std.specs.Prelude.{◌≡◌, ◌==◌, ℕ, true, false, List, [], ◌∷◌, ◌++◌, length, map, Option, Some, None, is_some, IsSome, Ok}
 use Rattle.osi_tpkt.specs.Packet.{packet_of}
 use Rattle.osi_tpkt.specs.Stream.{ArePackets}
 use Rattle.osi_tpdu.specs.Packet.{units_of}
-use Rattle.osi_tpdu.specs.Value.{Connect, Value, confirm, data0, disconnect, request}
+use Rattle.osi_tpdu.specs.Value.{Connect, Value, confirm, data0, disconnect, disconnected, request}
 use Rattle.osi_tpdu.specs.Writing.{written}
 use Rattle.osi_class.specs.Negotiation.{proposes}
 use Rattle.osi_class.specs.Tsdus.{Part}
@@ -13,8 +13,10 @@ use Rattle.osi_carrier.specs.Rows.{Rows}
 use Rattle.osi_carrier.specs.State.{Connection, State as Carrier, asked, closing, linked, packets}
 use Rattle.osi_session.specs.Sessions.{awaits}
 use Rattle.osi_session.specs.Listening.{Listener}
+use Rattle.osi_stack.specs.Calls.{calls_with, terms_error}
 use Rattle.osi_stack.specs.Messages.{AreShort, kept_at}
 use Rattle.osi_stack.specs.State.{End, Holding}
+use Rattle.osi_stack.specs.declared.connecting.Connect.{Connect as Request}
 use Rattle.osi_honest.specs.Parts.{Carry, dt}
 use Rattle.osi_honest.specs.Stretches.{AllSaidBy, Brings, Stands, octets_said}
 use Rattle.osi_honest.specs.Talking.{Said}
@@ -23,6 +25,15 @@ use Rattle.osi_honest.specs.Talking.{Said}
 pub record Waits (e : End) : Type 0 where
   pub lasts : e.carrier.ended ≡ None
   pub is_called : e.carrier.is_caller ≡ false
+  pub class : e.carrier.class ≡ None
+  pub live : e.carrier.live ≡ []
+  pub told : e.carrier.events ≡ []
+  pub lines : e.lines ≡ []
+
+-- A calling end that has requested nothing yet.
+pub record Idles (e : End) : Type 0 where
+  pub lasts : e.carrier.ended ≡ None
+  pub is_caller : e.carrier.is_caller ≡ true
   pub class : e.carrier.class ≡ None
   pub live : e.carrier.live ≡ []
   pub told : e.carrier.events ≡ []
@@ -99,6 +110,16 @@ pub data WaitingTurn (used put : List ℕ) (old new : Holding) : Type 0 where
   turns_away : (answer : Value) (later : List ℕ) → IsOtherAnswer answer → put ≡ packet_of (written answer) ++ later →
       WaitingTurn used put old new
 
+-- A turn of a calling end that has requested nothing yet: it idles on, and puts nothing; or it requests a connection, and
+-- puts its CR; or it is over, and put nothing; or it puts first a DC, which answers a DR that nobody asked for.
+pub data IdleTurn (used put : List ℕ) (old new : Holding) : Type 0 where
+  idles_on : Idles new.end → put ≡ [] → new.held.octets ≡ old.held.octets ++ used → IdleTurn used put old new
+  requests : (c : Request) (r : ℕ) (cr : Connect) → terms_error c ≡ None → Asks r (calls_with c) new.end → used ≡ [] →
+      put ≡ packets (request cr ∷ []) → new.held.octets ≡ old.held.octets → IdleTurn used put old new
+  idle_over : IsSome new.end.carrier.ended → put ≡ [] → IdleTurn used put old new
+  puts_a_dc : (destination source : ℕ) (later : List ℕ) → put ≡ packet_of (written (disconnected destination source)) ++ later →
+      IdleTurn used put old new
+
 -- A turn in which the first packet has a CC of class 0: the session sends its CN, and the packets after it take effect as
 -- at an open end.
 pub record IsAnswered (r : ℕ) (session : Listener) (used put : List ℕ) (old new : Holding) : Type 0 where
@@ -128,4 +149,5 @@ pub data AskingTurn (r : ℕ) (session : Listener) (used put : List ℕ) (old ne
   asks_on : Asks r session new.end → put ≡ [] → new.held.octets ≡ old.held.octets ++ used → AskingTurn r session used put old new
   is_answered : IsAnswered r session used put old new → AskingTurn r session used put old new
   goes_away : IsAway new.end.carrier → put ≡ [] → AskingTurn r session used put old new
-  turns_aside : (unit : Value) (later : List ℕ) → IsNoData unit → put ≡ packet_of (written unit) ++ later → AskingTurn r session used put old new
+  turns_aside : (unit : Value) (later : List ℕ) → IsNoData unit → put ≡ packet_of (written unit) ++ later →
+      AskingTurn r session used put old new

@@ -1,27 +1,18 @@
 -- What a tap anywhere between the two ends shows of one of them, by the turns of this end.
-use Rattle.std.specs.Prelude.{◌≡◌, ◌<◌, ◌≤◌, ◌+◌, ℕ, Bool, true, List, [], ◌∷◌, ◌++◌, length}
+use Rattle.std.specs.Prelude.{◌≡◌, ◌<◌, ◌≤◌, ◌+◌, ℕ, Bool, List, [], ◌∷◌, ◌++◌, length}
 use Rattle.std.specs.List.{flat_map}
+use Rattle.osi_tpkt.specs.Stream.{Ending}
+use Rattle.osi_tpkt.specs.Stream.Ending.{Faulty, Rest}
 use Rattle.osi_class.specs.declared.terms.Local.{Local}
 use Rattle.osi_judge.specs.declared.directions.Direction.{Direction}
 use Rattle.osi_judge.specs.Captures.{Capture, other, stream, passed_before}
-use Rattle.osi_stack.specs.Calls.{connects}
 use Rattle.osi_stack.specs.State.{Holding, fresh_end}
-use Rattle.osi_stack.specs.declared.connecting.Connect.{Connect}
 use Rattle.osi_honest.specs.Turns.{Turn}
 
 -- a fresh end, which holds no octets
 pub record IsFresh (is_caller : Bool) (local : Local) (begin : Holding) : Type 0 where
   pub end : begin.end ≡ fresh_end is_caller local
   pub held : begin.held.octets ≡ []
-
--- a fresh calling end that requested this connection, and holds no octets
-pub record HasAsked (c : Connect) (local : Local) (asked : Holding) : Type 0 where
-  pub end : asked.end ≡ connects c (fresh_end true local)
-  pub held : asked.held.octets ≡ []
-
--- the turn in which it did so, and put its CR
-abbrev pub requesting : Holding → Turn
-requesting asked = record { used = []; put = asked.end.carrier.outgoing }
 
 -- all octets that these turns used of what arrived, and all that they put, in order
 abbrev pub used_along : List Turn → List ℕ
@@ -54,3 +45,8 @@ pub record IsSeen (d : Direction) (turns : List Turn) (capture : Capture) : Type
   pub used : IsPrefix (used_along turns) coming
   -- Nothing that the end put passes before what it had used by then.
   pub after : PassAfter d capture 0 0 turns
+
+-- A stream that ends after a whole packet, or within one: none of its packets is bad.
+abbrev pub EndsWithin : Ending → Type 0
+EndsWithin (Rest n) = Unit {0}
+EndsWithin (Faulty fault) = ⊥

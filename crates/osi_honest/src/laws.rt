@@ -1,6 +1,6 @@
 //! Laws of an end and its captures. Each function does nothing: its clauses are the laws.
 
-ghost use Rattle.std.specs.Prelude.{◌≡◌, ◌∷◌, ℕ, Bool, false, true, List, None, length, map};
+ghost use Rattle.std.specs.Prelude.{◌≡◌, ℕ, Bool, false, true, List, None, length, map};
 ghost use Rattle.osi_class.specs.Tsdus.{Part};
 ghost use Rattle.osi_class.specs.declared.terms.Local.{Local};
 ghost use Rattle.osi_judge.specs.Captures.{Capture};
@@ -22,7 +22,7 @@ ghost use Rattle.osi_stack.specs.declared.connecting.Connect.{Connect};
 ghost use Rattle.osi_honest.specs.Openings.{Asks, AskingTurn, Waits, WaitingTurn};
 ghost use Rattle.osi_honest.specs.Parts.{Carry, units_put};
 ghost use Rattle.osi_honest.specs.Reading.{IsReading};
-ghost use Rattle.osi_honest.specs.Seeing.{HasAsked, IsFresh, IsSeen, requesting};
+ghost use Rattle.osi_honest.specs.Seeing.{IsFresh, IsSeen};
 ghost use Rattle.osi_honest.specs.Showing.{AreSame, Shows};
 ghost use Rattle.osi_honest.specs.Stretches.{Brings, GoesAlong, Stands};
 ghost use Rattle.osi_honest.specs.Talking.{History, Said, told_of};
@@ -124,14 +124,12 @@ pub fn a_called_end_is_not_blamed()
     an_honest_side_is_not_blamed();
 }
 
-/// Nor is the session of a calling end. Take any run of an end of this library that begins with a request, whose functional
-/// units go together and whose lengths are within their limits: whatever octets arrive, any calls of its user, any shortage
-/// of memory; the request may be refused, or accepted in either class. Take any capture of it from the request on.
+/// Nor is the session of a calling end. Take any run of an end that began as a fresh calling end, and any capture of it. Its
+/// request may be made at any time, refused, or accepted in either class, and it may make others.
 pub fn a_calling_end_is_not_blamed()
-    ensures { (c : Connect) (local : Local) (asked end : Holding) (turns : List Turn) (capture : Capture) (finding : Finding) →
-        terms_error c ≡ None → HasAsked c local asked → Run asked turns end →
-        IsSeen Direction.Left (requesting asked ∷ turns) capture → IsFoundIn Direction.Left capture finding →
-        broke_session finding ≡ false }
+    ensures { (local : Local) (begin end : Holding) (turns : List Turn) (capture : Capture) (finding : Finding) →
+        IsFresh true local begin → Run begin turns end → IsSeen Direction.Left turns capture →
+        IsFoundIn Direction.Left capture finding → broke_session finding ≡ false }
 {
     few_octets_fit();
     serial_digits();

@@ -1,5 +1,3 @@
-use Rattle.std.proofs.Common.{refl, subst, sym}
-use Rattle.osi_judge.specs.Captures.{other}
 use Rattle.osi_judge.specs.declared.directions.Direction.TheVariants.{Right}
 use Rattle.osi_session.specs.Sessions.{awaits}
 use Rattle.osi_honest.proofs.what_a_session_answers_fits.{all_proper}
