@@ -22,6 +22,7 @@ pub mod what_an_asking_end_does
 pub mod what_an_end_that_is_away_puts
 pub mod what_an_idle_end_does
 pub mod two_readings_of_a_stream_agree
+pub mod what_an_end_puts_is_packets
 pub mod what_the_judge_reads_of_a_side
 pub mod what_an_end_put_was_caused
 pub mod what_a_capture_shows_of_an_end

@@ -1,6 +1,7 @@
 -- What a session took and sent is a run of it as the judge has it, so what it sent is explained by what it took.
 -- For the laws of an end and its captures.
-use Rattle.std.proofs.Common.{◌≡◌, ◌∙◌, refl, sym, ap, subst, ℕ, ◌+◌, Bool, false, List, [], ◌∷◌, ◌++◌, length, map, get_or, append_assoc, length-append, arith}
+use Rattle.std.proofs.Common.{◌≡◌, ◌∙◌, refl, sym, ap, subst, ℕ, ◌+◌, Bool, false, List, [], ◌∷◌, ◌++◌, length, map, get_or, append_assoc}
+use Rattle.std.proofs.Common.{length-append, arith}
 use Rattle.std.proofs.lemmas.List.{append-nil, map-append}
 use Rattle.osi_session.specs.Listening.{Listener, after_input, called, came, opened, react}
 use Rattle.osi_judge.specs.Explaining.{Told}

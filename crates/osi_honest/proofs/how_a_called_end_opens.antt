@@ -1,6 +1,7 @@
 -- A packet at a called end that waits for the first CR, and packets one after the other.
 -- For the turns of a called end.
-use Rattle.std.proofs.Common.{◌≡◌, ◌∙◌, refl, sym, ap, subst, ℕ, ◌+◌, ◌-◌, ◌^◌, ◌<◌, ◌≤◌, min, ◌&&◌, Bool, true, false, if◌then◌else◌, List, [], ◌∷◌, ◌++◌, Option, Some, None, IsSome, option_map, Result, Ok, Err, arith}
+use Rattle.std.proofs.Common.{◌≡◌, ◌∙◌, refl, sym, ap, subst, ℕ, ◌+◌, ◌-◌, ◌^◌, ◌<◌, ◌≤◌, min, ◌&&◌, Bool, true, false, if◌then◌else◌}
+use Rattle.std.proofs.Common.{List, [], ◌∷◌, ◌++◌, Option, Some, None, IsSome, option_map, Result, Ok, Err, arith}
 use Rattle.std.specs.Prelude.{IfSome}
 use Rattle.std.specs.List.{AllByRecursion}
 use Rattle.std.proofs.Math.Pow.{pow_mono}
@@ -9,10 +10,12 @@ use Rattle.std.proofs.lemmas.List.{append-nil}
 use Rattle.osi_tpkt.specs.Octets.{IsOctets}
 use Rattle.osi_tpdu.specs.Limits.{size_code}
 use Rattle.osi_tpdu.specs.Packet.{AreUnits, units_of}
-use Rattle.osi_tpdu.specs.Value.{Connect, Value, acknowledge, confirm, data0, data2, disconnect, disconnected, error, may_be_followed, request}
+use Rattle.osi_tpdu.specs.Value.{Connect, Value, acknowledge, confirm, data0, data2, disconnect, disconnected, error, may_be_followed}
+use Rattle.osi_tpdu.specs.Value.{request}
 use Rattle.osi_tpdu.specs.declared.faults.TpduFault.{TpduFault}
 use Rattle.osi_tpdu.proofs.PacketLaws.{units_found}
-use Rattle.osi_class.specs.Negotiation.{Selection, accept, keeps_flow_control, proposes, proposes_zero_alone, refuse, selected_by, selected_size}
+use Rattle.osi_class.specs.Negotiation.{Selection, accept, keeps_flow_control, proposes, proposes_zero_alone, refuse, selected_by}
+use Rattle.osi_class.specs.Negotiation.{selected_size}
 use Rattle.osi_class.specs.declared.terms.Class.{Class}
 use Rattle.osi_class.specs.declared.terms.Class.TheVariants.{Two, Zero}
 use Rattle.osi_class.specs.declared.terms.Local.{Local}

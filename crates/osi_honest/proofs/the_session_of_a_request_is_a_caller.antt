@@ -1,21 +1,20 @@
 -- The session of a request that is accepted begins as a caller does, with the CN of some opening that osi_session accepts.
 -- For the law that a calling end is not blamed.
-use Rattle.std.proofs.Common.{◌≡◌, ◌∙◌, refl, sym, ap, ℕ, ◌≤◌, ◌||◌, Bool, true, false, not, if◌then◌else◌, List, length, nat_le, nat_lt, Option, Some, None, option_map}
+use Rattle.std.proofs.Common.{◌≡◌, refl, ℕ, ◌||◌, Bool, true, false, not, if◌then◌else◌, List, length, nat_le}
+use Rattle.std.proofs.Common.{Option, Some, None, option_map}
 use Rattle.std.proofs.lemmas.Bool.{ltb-false}
 use Rattle.osi_spdu.specs.Fields.{unit_bits}
 use Rattle.osi_spdu.specs.Sizes.{named_by}
 use Rattle.osi_spdu.specs.declared.selectors.Selector.{Selector}
-use Rattle.osi_message.specs.Meanings.{CN, Meaning, selector_octets}
+use Rattle.osi_message.specs.Meanings.{CN, selector_octets}
 use Rattle.osi_session.specs.Allowed.{most_user_data, serial_for}
 use Rattle.osi_session.specs.Listening.{Listener}
 use Rattle.osi_session.specs.Sessions.{opens, refusal_of}
 use Rattle.osi_session.specs.Sides.{offered}
 use Rattle.osi_session.specs.Units.{functional_units, is_profile}
-use Rattle.osi_session.specs.declared.faults.CallError.{CallError}
 use Rattle.osi_session.specs.declared.opening.Opening.{Opening}
 use Rattle.osi_stack.specs.Calls.{called_octets, calling_octets, calls_with, is_long, is_long_address, opening_of, terms_error}
 use Rattle.osi_stack.specs.declared.connecting.Connect.{Connect}
-use Rattle.osi_stack.specs.declared.connecting.ConnectError.{ConnectError}
 
 -- a selector of these octets
 record Named (octets : Option (List ℕ)) : Type 0 where

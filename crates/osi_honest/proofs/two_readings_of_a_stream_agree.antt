@@ -1,15 +1,15 @@
 -- Two readings of the front of one stream as packets: one goes on where the other ends. And what is written is read again.
 -- For what a capture shows of an end.
-use Rattle.std.proofs.Common.{◌≡◌, ◌∙◌, refl, sym, ap, subst, ℕ, ◌+◌, ◌*◌, ◌-◌, ◌/◌, ◌%◌, ◌≤◌, List, [], ◌∷◌, ◌++◌, length, map, append_assoc, arith}
-use Rattle.std.proofs.lemmas.List.{append-nil, append_cancel_left, length-append}
+use Rattle.std.proofs.Common.{◌≡◌, ◌∙◌, refl, sym, ap, subst, ℕ, ◌+◌, ◌*◌, ◌/◌, ◌%◌, List, [], ◌∷◌, ◌++◌, length, map}
+use Rattle.std.proofs.Common.{append_assoc, arith}
+use Rattle.std.proofs.lemmas.List.{append-nil, append_cancel_left}
 use Rattle.osi_tpkt.specs.Packet.{IsPacket, packet_of}
-use Rattle.osi_tpkt.specs.Stream.{ArePackets, Cuts, CutsFrom, Ending, EndsAt, offset_of}
+use Rattle.osi_tpkt.specs.Stream.{ArePackets, Cuts, Ending, EndsAt}
 use Rattle.osi_tpkt.proofs.PacketLaws.{one_packet}
 use Rattle.osi_tpkt.proofs.Streams.{end_no_packet}
 use Rattle.osi_tpdu.specs.Value.{Value}
 use Rattle.osi_tpdu.specs.Writing.{written}
 use Rattle.osi_carrier.specs.State.{packets}
-use Rattle.osi_honest.specs.Seeing.{IsPrefix}
 
 -- ---- packets of a stream that goes on
 
@@ -91,7 +91,7 @@ packet_again u w b x y p e =
     let h = heads p.reserved p.high p.low 0 ((length w + 4) / 256) ((length w + 4) % 256) u w x y whole in
     same_split u w x y (same_length p.high p.low (length u) (length w) p.counted h.high_is h.low_is) h.rest_is
 
-no_packet_in : (u b x : List ℕ) → IsPacket u b → b ++ x ≡ [] → ⊥
+pub no_packet_in : (u b x : List ℕ) → IsPacket u b → b ++ x ≡ [] → ⊥
 no_packet_in u b x p e = let whole : (3 ∷ p.reserved ∷ p.high ∷ p.low ∷ (u ++ x)) ≡ [] = ap (λ (l : List ℕ). l ++ x) (sym p.spelled)
     ∙ e in cc
 

@@ -1,6 +1,7 @@
 -- What a called end did in all, from its first turn on: for each run of its turns.
 -- For the law that a called end is not blamed.
-use Rattle.std.proofs.Common.{◌≡◌, ◌∙◌, refl, sym, ap, subst, ℕ, ◌+◌, ◌*◌, ◌==◌, ◌<◌, ◌≤◌, Bool, true, false, if◌then◌else◌, List, [], ◌∷◌, ◌++◌, length, map, Result, Ok, Err, None, inl, inr, append_assoc, arith}
+use Rattle.std.proofs.Common.{◌≡◌, ◌∙◌, refl, sym, ap, subst, ℕ, ◌+◌, ◌*◌, ◌==◌, ◌<◌, Bool, true, false, if◌then◌else◌, List, []}
+use Rattle.std.proofs.Common.{◌∷◌, ◌++◌, length, map, Result, Ok, Err, inl, inr, append_assoc, arith}
 use Rattle.std.specs.List.{flat_map}
 use Rattle.std.proofs.lemmas.Bool.{eqb-true}
 use Rattle.std.proofs.lemmas.List.{append-nil, length-append}
@@ -26,8 +27,9 @@ use Rattle.osi_judge.specs.declared.directions.Direction.{Direction}
 use Rattle.osi_judge.specs.declared.directions.Direction.TheVariants.{Left, Right}
 use Rattle.osi_judge.specs.declared.stops.Stop.{Stop}
 use Rattle.osi_judge.specs.declared.stops.Stop.TheVariants.{OtherClass}
-use Rattle.osi_judge.specs.Captures.{Capture, other, stream}
-use Rattle.osi_judge.specs.Transport.{Move, Sent, between, first_step, opens, packet_length, packets_length, sent_from, stage_from, step_of, stops}
+use Rattle.osi_judge.specs.Captures.{Capture, other}
+use Rattle.osi_judge.specs.Transport.{Sent, between, first_step, opens, packet_length, packets_length, sent_from, stage_from}
+use Rattle.osi_judge.specs.Transport.{step_of, stops}
 use Rattle.osi_honest.specs.Openings.{IsOtherAnswer, Opens, Waits, WaitingTurn}
 use Rattle.osi_honest.specs.Openings as opening
 use Rattle.osi_honest.specs.Parts.{dt, units_put}
@@ -39,7 +41,8 @@ use Rattle.osi_honest.specs.Turns.{Run, Turn}
 use Rattle.osi_honest.proofs.what_a_packet_does_in_class_0.{AllProper}
 use Rattle.osi_honest.proofs.what_a_waiting_end_does.{turn_waits}
 use Rattle.osi_honest.proofs.what_is_put_and_taken_is_read.{parts_read}
-use Rattle.osi_honest.proofs.what_an_end_put_was_caused.{AreCaused, Came, Counts, PassBetween, Reached, Spoke, prefix_front, run_spoke, silent_run, then_spoke, turn_caused}
+use Rattle.osi_honest.proofs.what_an_end_put_was_caused.{AreCaused, Came, Counts, PassBetween, Spoke, prefix_front, run_spoke}
+use Rattle.osi_honest.proofs.what_an_end_put_was_caused.{silent_run, then_spoke, turn_caused}
 use Rattle.osi_honest.proofs.what_a_capture_shows_of_an_end.{Did, aside, beside, nothing, spoke}
 use Rattle.osi_honest.proofs.what_the_judge_reads_of_a_side.{first_opens, size_put}
 

@@ -1,31 +1,31 @@
 -- What a calling end did in all, from its request on: for each run of its turns.
 -- For the law that a calling end is not blamed.
-use Rattle.std.proofs.Common.{◌≡◌, ◌∙◌, refl, sym, ap, subst, ℕ, ◌+◌, ◌==◌, ◌<◌, ◌≤◌, Bool, true, false, if◌then◌else◌, List, [], ◌∷◌, ◌++◌, length, map, Result, Ok, Err, None, option_map, inl, inr, ◌⊎◌, append_assoc, arith}
+use Rattle.std.proofs.Common.{◌≡◌, ◌∙◌, refl, sym, ap, subst, ℕ, ◌+◌, ◌==◌, ◌<◌, ◌≤◌, Bool, true, false, if◌then◌else◌, List, [], ◌∷◌}
+use Rattle.std.proofs.Common.{◌++◌, length, map, Result, Ok, Err, None, inl, inr, append_assoc, arith}
 use Rattle.std.specs.List.{flat_map}
 use Rattle.std.proofs.lemmas.List.{append-nil, length-append}
 use Rattle.osi_tpkt.specs.Octets.{IsOctets}
 use Rattle.osi_tpkt.specs.Packet.{packet_of}
 use Rattle.osi_tpkt.specs.Stream.{ArePackets}
-use Rattle.osi_tpdu.specs.Packet.{AreUnits, units_of}
+use Rattle.osi_tpdu.specs.Packet.{units_of}
 use Rattle.osi_tpdu.specs.Spelling.{Spells, connect_part, item_octets}
 use Rattle.osi_tpdu.specs.Value.{Connect, Value, acknowledge, confirm, data0, data2, disconnect, disconnected, error, request}
 use Rattle.osi_tpdu.specs.Writing.{written, written_header}
 use Rattle.osi_tpdu.specs.declared.faults.TpduFault.{TpduFault}
 use Rattle.osi_tpdu.proofs.PacketLaws.{units_found}
-use Rattle.osi_class.specs.Tsdus.{Part}
 use Rattle.osi_class.specs.declared.terms.Local.{Local}
 use Rattle.osi_carrier.specs.State.{packets}
 use Rattle.osi_session.specs.Listening.{Listener}
 use Rattle.osi_session.specs.Phases.{is_wait_transport}
 use Rattle.osi_session.specs.Standing.{Seen}
 use Rattle.osi_stack.specs.Calls.{calls_with, terms_error}
-use Rattle.osi_stack.specs.State.{End, Holding}
+use Rattle.osi_stack.specs.State.{Holding}
 use Rattle.osi_stack.specs.declared.connecting.Connect.{Connect as Request}
 use Rattle.osi_judge.specs.declared.directions.Direction.{Direction}
 use Rattle.osi_judge.specs.declared.directions.Direction.TheVariants.{Left, Right}
 use Rattle.osi_judge.specs.declared.stops.Stop.{Stop}
 use Rattle.osi_judge.specs.declared.stops.Stop.TheVariants.{BadUnit, MoreConnections, OtherClass, UnexpectedUnit, WrongForm}
-use Rattle.osi_judge.specs.Captures.{Capture, other, stream}
+use Rattle.osi_judge.specs.Captures.{Capture, other}
 use Rattle.osi_judge.specs.declared.findings.Finding.{Finding}
 use Rattle.osi_judge.specs.declared.findings.Finding.TheVariants as outcome
 use Rattle.osi_judge.specs.Explaining.{Told}
@@ -33,7 +33,8 @@ use Rattle.osi_judge.specs.Judging.{IsFound}
 use Rattle.osi_judge.specs.Running.{IsHonestIn, IsSentFrom}
 use Rattle.osi_judge.specs.Stops.{broke_session}
 use Rattle.osi_judge.specs.Tapping.{IsFoundIn, begin_of, heard, told}
-use Rattle.osi_judge.specs.Transport.{Move, Sent, between, next_step, opens, packet_length, packets_length, sent_from, stage_from, step_of, stops}
+use Rattle.osi_judge.specs.Transport.{Sent, between, opens, packet_length, packets_length, sent_from}
+use Rattle.osi_judge.specs.Transport.{step_of, stops}
 use Rattle.osi_honest.specs.Openings.{Asks, AskingTurn, Idles, IdleTurn, IsAnswered, IsAway, IsNoData}
 use Rattle.osi_honest.specs.Openings as opening
 use Rattle.osi_honest.specs.Parts.{dt, units_put}
@@ -50,8 +51,10 @@ use Rattle.osi_honest.proofs.what_an_end_that_is_away_puts.{PutsOther, away_run,
 use Rattle.osi_honest.proofs.what_an_idle_end_does.{idle_turn}
 use Rattle.osi_honest.proofs.what_a_called_end_did.{after_none, did_later}
 use Rattle.osi_honest.proofs.what_is_put_and_taken_is_read.{parts_read}
-use Rattle.osi_honest.proofs.what_an_end_put_was_caused.{AreCaused, Came, Counts, PassBetween, Spoke, prefix_front, run_spoke, silent_run, then_spoke, turn_caused}
-use Rattle.osi_honest.proofs.what_a_capture_shows_of_an_end.{Did, Unread, beside, end_is_honest, first_aside, none_of_it, nothing_put, spoke}
+use Rattle.osi_honest.proofs.what_an_end_put_was_caused.{AreCaused, Came, Counts, PassBetween, Spoke, prefix_front, run_spoke, silent_run}
+use Rattle.osi_honest.proofs.what_an_end_put_was_caused.{then_spoke, turn_caused}
+use Rattle.osi_honest.proofs.what_a_capture_shows_of_an_end.{Did, Unread, beside, end_is_honest, first_aside, none_of_it, nothing_put}
+use Rattle.osi_honest.proofs.what_a_capture_shows_of_an_end.{spoke}
 use Rattle.osi_honest.proofs.what_the_judge_reads_of_a_side.{first_opens, size_put}
 
 -- ---- what is no DT of class 0 is not read as one

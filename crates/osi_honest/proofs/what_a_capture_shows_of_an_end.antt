@@ -1,10 +1,11 @@
 -- What the judge reads of both sides of a capture of an end is an honest side: what the end put, by what had passed.
 -- For the laws that an end is not blamed.
-use Rattle.std.proofs.Common.{◌≡◌, ◌∙◌, refl, sym, ap, subst, ℕ, ◌+◌, ◌<◌, ◌≤◌, ◌⊎◌, inl, inr, Bool, true, false, List, [], ◌∷◌, ◌++◌, length, map, get_or, Ok, append_assoc, arith}
+use Rattle.std.proofs.Common.{◌≡◌, ◌∙◌, refl, sym, ap, subst, ℕ, ◌+◌, ◌≤◌, inl, inr, Bool, true, false, List, [], ◌∷◌, ◌++◌}
+use Rattle.std.proofs.Common.{length, map, append_assoc, arith}
 use Rattle.std.proofs.lemmas.List.{get_or_append_left, map-append}
 use Rattle.osi_tpkt.specs.Octets.{IsOctets}
 use Rattle.osi_tpkt.specs.Packet.{packet_of}
-use Rattle.osi_tpkt.specs.Stream.{ArePackets, Cuts, Ending}
+use Rattle.osi_tpkt.specs.Stream.{ArePackets}
 use Rattle.osi_tpdu.specs.Packet.{units_of}
 use Rattle.osi_tpdu.specs.Value.{Value}
 use Rattle.osi_tpdu.specs.Writing.{written}
@@ -17,19 +18,22 @@ use Rattle.osi_judge.specs.Captures.{Capture, other, stream}
 use Rattle.osi_judge.specs.Explaining.{Told}
 use Rattle.osi_judge.specs.Running.{IsSentFrom, Runs}
 use Rattle.osi_judge.specs.Running as running
-use Rattle.osi_judge.specs.Tapping.{had_passed, heard, octets_of, tell, told}
-use Rattle.osi_judge.specs.Transport.{IsSent, Sent, between, opening, opens, packet_length, packets_length, sent_from, stage_from, step_of, stops}
+use Rattle.osi_judge.specs.Tapping.{had_passed, heard, octets_of, told}
+use Rattle.osi_judge.specs.Transport.{IsSent, Sent, between, opening, packet_length, packets_length, sent_from, stage_from}
+use Rattle.osi_judge.specs.Transport.{step_of, stops}
 use Rattle.osi_honest.specs.Parts.{dt, units_put}
-use Rattle.osi_honest.specs.Seeing.{IsPrefix, IsSeen, PassAfter, put_along, used_along}
+use Rattle.osi_honest.specs.Seeing.{IsPrefix, IsSeen, put_along}
 use Rattle.osi_honest.specs.Showing.{AreSame, Shows}
 use Rattle.osi_honest.specs.Talking.{History, Said, told_of}
 use Rattle.osi_honest.specs.Turns.{Turn}
 use Rattle.osi_honest.proofs.a_history_is_a_run.{history_runs, is_sent}
 use Rattle.osi_honest.proofs.what_a_capture_shows_is_a_run.{shown_sent}
-use Rattle.osi_honest.proofs.two_readings_of_a_stream_agree.{GoesBeyond, first, first_shown, packet_again, packets_on, second, shown_packets, two_readings}
+use Rattle.osi_honest.proofs.two_readings_of_a_stream_agree.{GoesBeyond, first, first_shown, packet_again, packets_on, second}
+use Rattle.osi_honest.proofs.two_readings_of_a_stream_agree.{shown_packets, two_readings}
 use Rattle.osi_honest.proofs.what_a_turn_does_in_class_0.{all_octets}
 use Rattle.osi_honest.proofs.what_an_end_put_was_caused.{AreCaused, Counts, Reached, had_passed_by}
-use Rattle.osi_honest.proofs.what_the_judge_reads_of_a_side.{LieIn, OpensOrStops, all_lie, all_read, first_opens, lie_later, most_count, none_between, none_read, sent_then, size_read}
+use Rattle.osi_honest.proofs.what_the_judge_reads_of_a_side.{LieIn, OpensOrStops, all_lie, all_read, first_opens, lie_later, most_count}
+use Rattle.osi_honest.proofs.what_the_judge_reads_of_a_side.{none_between, none_read, sent_then, size_read}
 
 -- ---- what an end did in all
 

@@ -1,7 +1,8 @@
 -- If memory runs out for the first packet at a called end that waits: nothing was put, or one answer, or first another
 -- answer to a CR than a CC of class 0.
 -- For the turns of a called end.
-use Rattle.std.proofs.Common.{◌≡◌, ◌∙◌, refl, sym, ap, subst, ℕ, ◌+◌, true, List, [], ◌∷◌, ◌++◌, Option, None, is_some, IsSome, inl, inr, ◌⊎◌}
+use Rattle.std.proofs.Common.{◌≡◌, ◌∙◌, sym, ap, subst, ℕ, ◌+◌, true, List, [], ◌∷◌, ◌++◌, None, is_some, IsSome, inl, inr}
+use Rattle.std.proofs.Common.{◌⊎◌}
 use Rattle.osi_tpkt.specs.Octets.{IsOctets}
 use Rattle.osi_tpdu.specs.Packet.{AreUnits}
 use Rattle.osi_tpdu.specs.Value.{Value, may_be_followed}
@@ -16,7 +17,8 @@ use Rattle.osi_carrier.proofs.Reading.{acts_cases}
 use Rattle.osi_stack.specs.Hearing.{RunsOut, Starves, attends, hears_times, with_carrier}
 use Rattle.osi_stack.specs.State.{End}
 use Rattle.osi_honest.specs.Openings.{Waits}
-use Rattle.osi_honest.proofs.how_a_called_end_opens.{FirstActed, FirstStretch, FirstUnit, TurnsAway, acted_first, answer_to, first_range, turned_on, unit_first}
+use Rattle.osi_honest.proofs.how_a_called_end_opens.{FirstActed, FirstStretch, FirstUnit, TurnsAway, acted_first, answer_to, first_range}
+use Rattle.osi_honest.proofs.how_a_called_end_opens.{turned_on, unit_first}
 use Rattle.osi_honest.proofs.how_a_called_end_opens.FirstActed.{accepted_in, elsewhere_in, over_in}
 use Rattle.osi_honest.proofs.how_a_called_end_opens.FirstStretch.{another_way, answered_last, ended_by}
 use Rattle.osi_honest.proofs.how_a_called_end_opens.FirstUnit.{accepted, at_an_end, elsewhere}

@@ -1,7 +1,7 @@
 -- If memory runs out for the first packet at a calling end whose CR is not answered yet: nothing was put, or first what is no
 -- DT of class 0.
 -- For the turns of a calling end.
-use Rattle.std.proofs.Common.{◌≡◌, ◌∙◌, refl, sym, ap, subst, ℕ, true, List, [], ◌∷◌, ◌++◌, Option, None, is_some, IsSome, inl, inr, ◌⊎◌}
+use Rattle.std.proofs.Common.{◌≡◌, ◌∙◌, sym, ap, subst, ℕ, true, List, [], ◌∷◌, ◌++◌, None, is_some, IsSome, inl, inr}
 use Rattle.osi_tpkt.specs.Octets.{IsOctets}
 use Rattle.osi_tpdu.specs.Packet.{AreUnits}
 use Rattle.osi_tpdu.specs.Value.{Value, may_be_followed}
@@ -14,13 +14,13 @@ use Rattle.osi_carrier.specs.declared.ends.EndReason.TheVariants.{NoMemory}
 use Rattle.osi_carrier.proofs.Reacts.{reacts_over}
 use Rattle.osi_carrier.proofs.Reading.{acts_cases}
 use Rattle.osi_session.specs.Listening.{Listener}
-use Rattle.osi_stack.specs.Hearing.{RunsOut, Starves, attends, hears_times, with_carrier}
+use Rattle.osi_stack.specs.Hearing.{RunsOut, Starves, hears_times, with_carrier}
 use Rattle.osi_stack.specs.State.{End}
 use Rattle.osi_honest.specs.Openings.{Asks, over}
 use Rattle.osi_honest.proofs.how_a_caller_opens.{FirstActed, FirstUnit, acted_first, first_range, unit_first}
 use Rattle.osi_honest.proofs.how_a_caller_opens.FirstActed.{confirms_in, elsewhere_in, over_in}
 use Rattle.osi_honest.proofs.how_a_caller_opens.FirstUnit.{at_an_end, confirms, elsewhere}
-use Rattle.osi_honest.proofs.what_a_packet_does_in_class_0.{Over, alone}
+use Rattle.osi_honest.proofs.what_a_packet_does_in_class_0.{alone}
 use Rattle.osi_honest.proofs.what_a_shortage_leaves_at_a_waiting_end.{never_empty}
 use Rattle.osi_honest.proofs.what_a_shortage_of_memory_leaves.{one_out, starves_same}
 use Rattle.osi_honest.proofs.what_a_unit_keeps_a_turn_keeps.{kept_attends, kept_runs_out, kept_units}

@@ -1,6 +1,7 @@
 -- If memory runs out for a packet at an open connection of class 0, nothing was put for it.
 -- For the turns of an end.
-use Rattle.std.proofs.Common.{◌≡◌, ◌∙◌, refl, sym, ap, subst, ℕ, zero, suc, Bool, true, false, if◌then◌else◌, List, [], ◌∷◌, ◌++◌, None, is_some, inl, inr}
+use Rattle.std.proofs.Common.{◌≡◌, ◌∙◌, refl, sym, ap, subst, ℕ, zero, suc, Bool, true, false, if◌then◌else◌, List, [], ◌∷◌, ◌++◌, None}
+use Rattle.std.proofs.Common.{is_some, inl, inr}
 use Rattle.osi_tpkt.specs.Octets.{IsOctets}
 use Rattle.osi_tpdu.specs.Packet.{AreUnits}
 use Rattle.osi_tpdu.specs.Value.{Value, may_be_followed}
@@ -19,9 +20,11 @@ use Rattle.osi_stack.proofs.Events.{never_starved, times_quiet}
 use Rattle.osi_stack.proofs.Linking.{rest_is}
 use Rattle.osi_stack.proofs.Stepwise.{events_heard, session_carried}
 use Rattle.osi_honest.specs.Talking.{Talks}
-use Rattle.osi_honest.proofs.what_a_packet_does_in_class_0.{AfterPacket, AfterUnit, Over, acted, alone, attends_over, over_carries, unit_acts}
+use Rattle.osi_honest.proofs.what_a_packet_does_in_class_0.{AfterPacket, AfterUnit, Over, acted, alone, attends_over, over_carries}
+use Rattle.osi_honest.proofs.what_a_packet_does_in_class_0.{unit_acts}
 use Rattle.osi_honest.proofs.what_a_packet_does_in_class_0.AfterUnit.{adds_part as unit_adds, ends_tsdu as unit_ends, is_over as unit_over}
-use Rattle.osi_honest.proofs.what_a_packet_does_in_class_0.AfterPacket.{adds_part as packet_adds, ends_tsdu as packet_ends, is_over as packet_over}
+use Rattle.osi_honest.proofs.what_a_packet_does_in_class_0.AfterPacket.{adds_part as packet_adds, ends_tsdu as packet_ends}
+use Rattle.osi_honest.proofs.what_a_packet_does_in_class_0.AfterPacket.{is_over as packet_over}
 
 -- ---- the carrier
 

@@ -1,6 +1,7 @@
 -- Each turn of a called end that waits for the first CR, and runs of it.
 -- For the laws of an end and its captures.
-use Rattle.std.proofs.Common.{◌≡◌, ◌∙◌, refl, sym, ap, subst, ℕ, ◌+◌, Bool, true, false, if◌then◌else◌, List, [], ◌∷◌, ◌++◌, length, take, drop, map, Option, Some, None, is_some, IsSome, inl, inr, ◌⊎◌, append_assoc, arith}
+use Rattle.std.proofs.Common.{◌≡◌, ◌∙◌, refl, sym, ap, subst, ℕ, ◌+◌, Bool, true, false, if◌then◌else◌, List, [], ◌∷◌, ◌++◌, length, take}
+use Rattle.std.proofs.Common.{drop, map, Option, Some, None, is_some, IsSome, inl, inr, ◌⊎◌, append_assoc, arith}
 use Rattle.std.proofs.lemmas.List.{append-nil, append_cancel_left, take_all}
 use Rattle.osi_tpkt.specs.Packet.{packet_of}
 use Rattle.osi_tpkt.specs.Stream.{ArePackets}
@@ -39,7 +40,8 @@ use Rattle.osi_honest.proofs.how_a_called_end_opens.FirstStretch.{another_way, a
 use Rattle.osi_honest.proofs.what_a_packet_does_in_class_0.{AllProper}
 use Rattle.osi_honest.proofs.what_a_shortage_leaves_at_a_waiting_end.{starved_waiting}
 use Rattle.osi_honest.proofs.what_packets_do_in_class_0.{never_lasts}
-use Rattle.osi_honest.proofs.what_a_turn_does_in_class_0.{all_octets, extends_over, front_packets, more_used, nothing_put, starved_by, stopped_within}
+use Rattle.osi_honest.proofs.what_a_turn_does_in_class_0.{all_octets, extends_over, front_packets, more_used, nothing_put, starved_by}
+use Rattle.osi_honest.proofs.what_a_turn_does_in_class_0.{stopped_within}
 use Rattle.osi_honest.proofs.what_was_put_stays_in_front.{ahead_starves}
 
 none_put : (old new : Holding) (put : List ℕ) → new.end.carrier.outgoing ≡ old.end.carrier.outgoing ++ put →
@@ -122,7 +124,8 @@ module _ (proper : AllProper) where
       (ap (λ (e : End). e.carrier.outgoing) is)
   no_memory_first units old before new rest w lasts (opened_by cr size u later mid us request proposed outgoing x) ended (inr p) =
       first_over units old before new (opened_by cr size u later mid us request proposed outgoing x) ended
-      (starved_by awaits (old.carrier.given + 1) [] [] [] proper awaits history.begins x.more x.told x.later p.0 before new lasts x.stands (all_octets (p.0 ∷ []) rest [] p.1).0 p.2)
+      (starved_by awaits (old.carrier.given + 1) [] [] [] proper awaits history.begins x.more x.told x.later p.0 before new lasts x.stands
+      (all_octets (p.0 ∷ []) rest [] p.1).0 p.2)
   no_memory_first units old before new rest w lasts (nothing_came none is) ended (inr p) =
       starved_waiting units p.0 old new w (all_octets (p.0 ∷ []) rest [] p.1).0 ended
       (subst (λ (x : End). Starves x p.0 new) is p.2)

@@ -1,6 +1,7 @@
 -- Each turn of a calling end whose CR is not answered yet.
 -- For the laws of an end and its captures.
-use Rattle.std.proofs.Common.{◌≡◌, ◌≢◌, ◌∙◌, refl, sym, ap, subst, ℕ, ◌≤◌, ◌==◌, Bool, true, false, if◌then◌else◌, not, List, [], ◌∷◌, ◌++◌, length, take, drop, map, Option, Some, None, is_some, IsSome, inl, inr, ◌⊎◌, arith}
+use Rattle.std.proofs.Common.{◌≡◌, ◌≢◌, ◌∙◌, refl, sym, ap, subst, ℕ, ◌≤◌, ◌==◌, Bool, true, false, if◌then◌else◌, not, List, [], ◌∷◌}
+use Rattle.std.proofs.Common.{◌++◌, length, take, drop, map, Option, Some, None, is_some, IsSome, inl, inr, ◌⊎◌, arith}
 use Rattle.std.proofs.lemmas.Bool.{eq-eqb, eqb-true, leb-true, ltb-false, not-false}
 use Rattle.std.proofs.lemmas.List.{append-nil, append_cancel_left, map-append, take_all}
 use Rattle.osi_tpkt.specs.Stream.{ArePackets}
@@ -28,7 +29,8 @@ use Rattle.osi_session.proofs.SendableLaws.{asked_sendable}
 use Rattle.osi_spdu.specs.Fields.{unit_bits}
 use Rattle.osi_session.specs.Units.{is_profile}
 use Rattle.osi_judge.specs.Running.{sends}
-use Rattle.osi_stack.specs.Calls.{after_open, asked_for, called_octets, calling_octets, calls_with, connect_error, has_given, is_long, is_long_address, opening_of, terms_error, without_first}
+use Rattle.osi_stack.specs.Calls.{after_open, asked_for, called_octets, calling_octets, calls_with, connect_error, has_given, is_long}
+use Rattle.osi_stack.specs.Calls.{is_long_address, opening_of, terms_error, without_first}
 use Rattle.osi_stack.specs.Disconnecting.{awaits_transport, disconnect_error, disconnects, gives_up}
 use Rattle.osi_stack.specs.Feeding.{Feeds, uses_all}
 use Rattle.osi_stack.specs.Feeding.{Goes as GoesThrough}

@@ -1,7 +1,8 @@
 -- What an end of class 0 put from some turn on, TSDU by TSDU, as the judge reads it: and of each TSDU that the capture
 -- shows, that the TSDUs that the session had taken before it had passed before it.
 -- For what a capture shows of an end.
-use Rattle.std.proofs.Common.{◌≡◌, ◌∙◌, refl, sym, ap, subst, ℕ, ◌+◌, ◌<◌, ◌≤◌, Bool, true, false, List, [], ◌∷◌, ◌++◌, length, map, None, IsSome, append_assoc, arith}
+use Rattle.std.proofs.Common.{◌≡◌, ◌∙◌, refl, sym, ap, subst, ℕ, ◌+◌, ◌<◌, ◌≤◌, Bool, false, List, [], ◌∷◌, ◌++◌, length, map, None}
+use Rattle.std.proofs.Common.{IsSome, append_assoc, arith}
 use Rattle.std.proofs.lemmas.List.{append-nil, length-append, map-append}
 use Rattle.osi_tpkt.specs.Stream.{ArePackets, Cuts, Ending}
 use Rattle.osi_tpdu.specs.Packet.{units_of}
@@ -13,12 +14,12 @@ use Rattle.osi_stack.specs.State.{Holding}
 use Rattle.osi_judge.specs.declared.directions.Direction.{Direction}
 use Rattle.osi_judge.specs.Captures.{Capture, other, passed_before, stream}
 use Rattle.osi_judge.specs.Tapping.{had_passed, octets_of}
-use Rattle.osi_judge.specs.Transport.{Sent, Stage, between, opening, opens, packets_length, packet_length, sent_from, stage_from, step_of}
+use Rattle.osi_judge.specs.Transport.{Sent, between, opening, opens, packets_length, packet_length, sent_from, stage_from, step_of}
 use Rattle.osi_judge.proofs.CaptureLaws.{passed_within}
 use Rattle.osi_honest.specs.Parts.{Carry, dt, units_put}
 use Rattle.osi_honest.specs.Reading.{between_two}
 use Rattle.osi_honest.specs.Seeing.{IsPrefix, PassAfter, put_along, used_along}
-use Rattle.osi_honest.specs.Stretches.{AllSaidBy, Brings, Goes, Stands, octets_said}
+use Rattle.osi_honest.specs.Stretches.{AllSaidBy, Brings, Stands, octets_said}
 use Rattle.osi_honest.specs.Stretches.Stands.{gone, talking}
 use Rattle.osi_honest.specs.Talking.{History, Said}
 use Rattle.osi_honest.specs.Turns.{Run, Turn}

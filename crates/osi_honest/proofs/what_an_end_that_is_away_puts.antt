@@ -1,19 +1,16 @@
 -- The turns of a calling end that has no connection of class 0: it puts nothing, or first what is no DT of class 0.
 -- For what a calling end did in all.
-use Rattle.std.proofs.Common.{◌≡◌, ◌∙◌, refl, sym, ap, subst, ℕ, ◌+◌, Bool, true, false, if◌then◌else◌, List, [], ◌∷◌, ◌++◌, None, is_some, option_map, inl, inr, ◌⊎◌, append_assoc}
+use Rattle.std.proofs.Common.{◌≡◌, ◌∙◌, refl, sym, ap, subst, ℕ, ◌+◌, Bool, true, false, if◌then◌else◌, List, [], ◌∷◌, ◌++◌}
+use Rattle.std.proofs.Common.{is_some, option_map, inl, inr, ◌⊎◌, append_assoc}
 use Rattle.osi_tpkt.specs.Packet.{packet_of}
 use Rattle.osi_tpdu.specs.Limits.{tsap_octets}
 use Rattle.osi_tpdu.specs.Value.{Value, request}
 use Rattle.osi_tpdu.specs.Writing.{written}
-use Rattle.osi_carrier.specs.Calls.{closed_with}
 use Rattle.osi_carrier.specs.Negotiation.{proposal}
-use Rattle.osi_carrier.specs.State.{State as Carrier}
 use Rattle.osi_carrier.specs.declared.ends.EndReason.TheVariants.{Broken}
 use Rattle.osi_session.specs.Listening.{called}
-use Rattle.osi_stack.specs.Calls.{breaks, connects}
-use Rattle.osi_stack.specs.Disconnecting.{disconnects}
+use Rattle.osi_stack.specs.Calls.{connects}
 use Rattle.osi_stack.specs.Hearing.{ends}
-use Rattle.osi_stack.specs.Inputs.{IsAccepted}
 use Rattle.osi_stack.specs.Rounds.{UserCall, user_does}
 use Rattle.osi_stack.specs.Rounds.UserCall.{breaking, calling, connecting, disconnecting}
 use Rattle.osi_stack.specs.Runs.{Call, Calls, carried_in, put_back}
@@ -23,7 +20,7 @@ use Rattle.osi_stack.proofs.DisconnectKeeps.{disconnect_carrier}
 use Rattle.osi_stack.proofs.Stepwise.{session_carried}
 use Rattle.osi_honest.specs.Openings.{IsAway, IsNoData, has_none, has_two, over}
 use Rattle.osi_honest.specs.Seeing.{put_along}
-use Rattle.osi_honest.specs.Turns.{Act, Acts, Run, Takes, Turn, carried_by, used_by}
+use Rattle.osi_honest.specs.Turns.{Act, Acts, Run, Takes, Turn, carried_by}
 use Rattle.osi_honest.specs.Turns.Act.{serving, using}
 use Rattle.osi_honest.proofs.what_a_unit_keeps_a_turn_keeps.{kept_feeds}
 use Rattle.osi_honest.proofs.what_an_asking_end_does.{none_put}

@@ -1,32 +1,31 @@
 -- A calling end that has no connection of class 0, and asks for none, puts nothing, or first what is no DT of class 0.
 -- For what a calling end puts whose request was refused, or accepted in class 2.
-use Rattle.std.proofs.Common.{◌≡◌, ◌∙◌, refl, sym, ap, subst, ℕ, ◌==◌, ◌&&◌, ◌||◌, not, Bool, true, false, if◌then◌else◌, List, [], ◌∷◌, ◌++◌, length, map, take, Option, Some, None, is_none, is_some, IsSome, Result, Ok, Err, inl, inr, ◌⊎◌, append_assoc}
-use Rattle.std.specs.List.{AllByRecursion}
+use Rattle.std.proofs.Common.{◌≡◌, ◌∙◌, refl, sym, ap, subst, ℕ, ◌==◌, ◌&&◌, ◌||◌, not, Bool, true, false, if◌then◌else◌, List, [], ◌∷◌}
+use Rattle.std.proofs.Common.{◌++◌, map, Option, Some, None, is_some, IsSome, Ok, Err, inl, inr, ◌⊎◌}
+use Rattle.std.proofs.Common.{append_assoc}
 use Rattle.std.proofs.lemmas.List.{append-nil, append_cancel_left}
 use Rattle.osi_tpkt.specs.Packet.{packet_of}
 use Rattle.osi_tpdu.specs.Writing.{written}
 use Rattle.osi_tpdu.specs.Value.{Connect, Value, acknowledge, confirm, data0, data2, disconnect, disconnected, error, request}
-use Rattle.osi_class.specs.Giving.{all_given, drained}
+use Rattle.osi_class.specs.Giving.{all_given}
 use Rattle.osi_class.specs.Link.{Given, Standing, ack, is_of_two, part0, part2, taken, unit_of, with_tsdu}
 use Rattle.osi_class.specs.Runs.{MovesAlong, give_out, take_in}
 use Rattle.osi_class.specs.declared.faults.LinkFault.{LinkFault}
 use Rattle.osi_class.specs.declared.terms.Class.{Class}
 use Rattle.osi_class.specs.declared.terms.Class.TheVariants.{Two, Zero}
-use Rattle.osi_class.specs.declared.terms.Local.{Local}
 use Rattle.osi_class.proofs.Giving.{drained_leaves, drained_moves, giving_leaves}
 use Rattle.osi_class.proofs.SoundLaws.{move_same}
 use Rattle.osi_carrier.specs.Calls.{closed_on, closes, link_of, open_link, sent_on}
 use Rattle.osi_carrier.specs.Happenings.{Happening}
 use Rattle.osi_carrier.specs.Negotiation.{confirmed, opened_link, agreed_size, proposes_two, selects_expedited}
 use Rattle.osi_carrier.specs.Pump.{pumped, written_by}
-use Rattle.osi_carrier.specs.React.{before_class, breaks, handed_out, in_class, in_two, leaves, opens, pumps, react, settles, taking, to_asked, to_closing, to_connection, to_linked, to_reference, to_unknown}
+use Rattle.osi_carrier.specs.React.{before_class, breaks, handed_out, in_class, in_two, leaves, opens, pumps, react, settles, taking}
+use Rattle.osi_carrier.specs.React.{to_asked, to_closing, to_connection, to_linked, to_reference, to_unknown}
 use Rattle.osi_carrier.specs.Rows.{Rows, put, value_at, without}
-use Rattle.osi_carrier.specs.State.{Connection, State as Carrier, asked, closing, drops, ends, linked, packets}
+use Rattle.osi_carrier.specs.State.{Connection, State as Carrier, asked, closing, ends, linked, packets}
 use Rattle.osi_carrier.specs.declared.ends.EndReason.{EndReason}
 use Rattle.osi_carrier.proofs.Reacts.{react_quiet, reacts_over}
-use Rattle.osi_stack.proofs.Stepwise.{Carries}
 use Rattle.osi_honest.specs.Openings.{AllHaveFlow, HasFlow, IsAway, IsNoData, has_none, has_two, over}
-use Rattle.osi_honest.specs.Seeing.{IsPrefix}
 use Rattle.osi_honest.proofs.what_a_packet_does_in_class_0.{no_link}
 use Rattle.osi_honest.proofs.what_a_unit_keeps_a_turn_keeps.{IsKept}
 use Rattle.osi_honest.proofs.what_class_0_writes_of_a_tsdu.{packets_joined}

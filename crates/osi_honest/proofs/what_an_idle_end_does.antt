@@ -1,16 +1,16 @@
 -- Each turn of a calling end that has requested nothing yet.
 -- For what a calling end did in all.
-use Rattle.std.proofs.Common.{◌≡◌, ◌∙◌, refl, sym, ap, subst, ℕ, ◌+◌, ◌==◌, Bool, true, false, if◌then◌else◌, List, [], ◌∷◌, ◌++◌, length, take, drop, Option, Some, None, is_some, IsSome, option_map, Result, Ok, Err, inl, inr, ◌⊎◌, append_assoc, arith}
+use Rattle.std.proofs.Common.{◌≡◌, ◌∙◌, refl, sym, ap, subst, ℕ, ◌+◌, Bool, true, false, if◌then◌else◌, List, [], ◌∷◌, ◌++◌, length}
+use Rattle.std.proofs.Common.{take, Option, Some, None, is_some, IsSome, option_map, Result, Ok, Err, inl, inr, ◌⊎◌}
+use Rattle.std.proofs.Common.{arith}
 use Rattle.std.specs.List.{AllByRecursion}
 use Rattle.std.proofs.lemmas.Bool.{eq-eqb}
 use Rattle.std.proofs.lemmas.List.{append-nil, append_cancel_left, take_all}
 use Rattle.osi_tpkt.specs.Octets.{IsOctets}
-use Rattle.osi_tpkt.specs.Packet.{packet_of}
 use Rattle.osi_tpkt.specs.Stream.{ArePackets}
 use Rattle.osi_tpdu.specs.Limits.{tsap_octets}
 use Rattle.osi_tpdu.specs.Packet.{units_of}
-use Rattle.osi_tpdu.specs.Value.{Connect, Value, acknowledge, confirm, data0, data2, disconnect, disconnected, error, request}
-use Rattle.osi_tpdu.specs.Writing.{written}
+use Rattle.osi_tpdu.specs.Value.{Value, acknowledge, confirm, data0, data2, disconnect, disconnected, error, request}
 use Rattle.osi_tpdu.specs.declared.faults.TpduFault.{TpduFault}
 use Rattle.osi_tpdu.proofs.PacketLaws.{units_found}
 use Rattle.osi_class.specs.Link.{Standing}
@@ -28,11 +28,11 @@ use Rattle.osi_carrier.specs.declared.ends.EndReason.TheVariants.{Broken, NoMemo
 use Rattle.osi_carrier.specs.declared.faults.OpenError.{OpenError}
 use Rattle.osi_carrier.proofs.Reacts.{react_quiet, reacts_over}
 use Rattle.osi_session.specs.Listening.{Listener}
-use Rattle.osi_stack.specs.Calls.{after_open, calls_with, connect_error, connects, terms_error, without_first}
+use Rattle.osi_stack.specs.Calls.{after_open, calls_with, connects, terms_error, without_first}
 use Rattle.osi_stack.specs.Disconnecting.{disconnects, gives_up, gives_up_by}
 use Rattle.osi_stack.specs.Feeding.{TakesPackets, stops}
 use Rattle.osi_stack.specs.Feeding.{Goes as GoesThrough}
-use Rattle.osi_stack.specs.Hearing.{RunsOut, Starves, after_packet, attends, ends, with_carrier}
+use Rattle.osi_stack.specs.Hearing.{Starves, after_packet, ends, with_carrier}
 use Rattle.osi_stack.specs.Inputs.{IsAccepted}
 use Rattle.osi_stack.specs.Messages.{kept_at}
 use Rattle.osi_stack.specs.Rounds.{UserCall, user_does}
@@ -46,15 +46,14 @@ use Rattle.osi_stack.proofs.DisconnectKeeps.{disconnect_carrier, disconnect_is}
 use Rattle.osi_stack.proofs.Lifting.{packet_is, quiet_stops}
 use Rattle.osi_stack.proofs.Moves.{says_is}
 use Rattle.osi_stack.proofs.Rooms.{found_how}
-use Rattle.osi_stack.proofs.Stepwise.{Carries}
 use Rattle.osi_honest.specs.Openings.{Asks, Idles, IdleTurn}
 use Rattle.osi_honest.specs.Openings.IdleTurn.{idle_over, idles_on, puts_a_dc, requests}
-use Rattle.osi_honest.specs.Seeing.{IsPrefix}
 use Rattle.osi_honest.specs.Turns.{Act, Acts, Takes, Turn, carried_by, used_by}
 use Rattle.osi_honest.specs.Turns.Act.{serving, using}
-use Rattle.osi_honest.proofs.what_a_packet_does_in_class_0.{Over, no_link, over_carries}
+use Rattle.osi_honest.proofs.what_a_packet_does_in_class_0.{Over, over_carries}
 use Rattle.osi_honest.proofs.what_a_turn_does_in_class_0.{all_octets}
-use Rattle.osi_honest.proofs.what_a_unit_keeps_a_turn_keeps.{IsKept, kept_attends, kept_out, kept_runs_out, kept_takes, kept_starves, kept_units}
+use Rattle.osi_honest.proofs.what_a_unit_keeps_a_turn_keeps.{IsKept, kept_attends, kept_runs_out, kept_takes, kept_starves}
+use Rattle.osi_honest.proofs.what_a_unit_keeps_a_turn_keeps.{kept_units}
 use Rattle.osi_honest.proofs.what_an_asking_end_does.{none_put}
 use Rattle.osi_honest.proofs.what_an_end_without_class_0_puts.{put_first}
 use Rattle.osi_honest.proofs.what_was_put_stays_in_front.{Ahead, ahead_kept}

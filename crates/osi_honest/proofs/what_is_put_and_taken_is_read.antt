@@ -1,6 +1,7 @@
 -- The judge reads from packets of class 0 the TSDUs that they bring, and the parts of TSDUs that an end puts bring these TSDUs.
 -- For the laws of an end and its captures.
-use Rattle.std.proofs.Common.{◌≡◌, ◌∙◌, refl, sym, ap, subst, ℕ, ◌+◌, ◌<◌, ◌≤◌, Bool, true, false, if◌then◌else◌, nat_lt, leb, List, [], ◌∷◌, ◌++◌, length, map, Ok, Result, inl, inr, length-append, arith}
+use Rattle.std.proofs.Common.{◌≡◌, ◌∙◌, refl, sym, ap, subst, ℕ, ◌+◌, ◌<◌, ◌≤◌, Bool, true, false, if◌then◌else◌, nat_lt, leb, List, []}
+use Rattle.std.proofs.Common.{◌∷◌, ◌++◌, length, map, Ok, Result, inl, inr, length-append, arith}
 use Rattle.std.proofs.lemmas.Bool.{eq-eqb, ltb-true}
 use Rattle.std.proofs.lemmas.List.{append-nil}
 use Rattle.osi_tpdu.specs.Packet.{units_of}
@@ -14,7 +15,8 @@ use Rattle.osi_class.specs.Limits.{longest_tsdu}
 use Rattle.osi_class.specs.Tsdus.{Part, tsdus_after}
 use Rattle.osi_judge.specs.declared.directions.Direction.{Direction}
 use Rattle.osi_judge.specs.Tapping.{octets_of}
-use Rattle.osi_judge.specs.Transport.{Sent, Stage, added, begun, between, brought, ended, moved, sent_by, sent_from, stage_behind, stage_from, step_of, within, packet_length}
+use Rattle.osi_judge.specs.Transport.{Sent, Stage, added, begun, between, brought, ended, moved, sent_by, sent_from, stage_behind}
+use Rattle.osi_judge.specs.Transport.{stage_from, step_of, within, packet_length}
 use Rattle.osi_stack.specs.Messages.{AreShort}
 use Rattle.osi_honest.specs.Parts.{Carry, ends_whole, units_put}
 use Rattle.osi_honest.specs.Stretches.{Brings}

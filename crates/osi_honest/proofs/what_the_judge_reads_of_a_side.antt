@@ -1,13 +1,14 @@
 -- The TSDUs that the judge reads of a side, packet by packet: where they lie, and how many of them had passed.
 -- For what a capture shows of an end.
-use Rattle.std.proofs.Common.{◌≡◌, ◌∙◌, refl, sym, ap, subst, ℕ, suc, ◌+◌, ◌==◌, ◌<◌, ◌≤◌, ◌⊎◌, inl, inr, Bool, true, false, cond, if◌then◌else◌, nat_le, leb, List, [], ◌∷◌, ◌++◌, length, map, Result, Ok, Err, append_assoc, arith}
+use Rattle.std.proofs.Common.{◌≡◌, ◌∙◌, refl, sym, ap, subst, ℕ, suc, ◌+◌, ◌==◌, ◌<◌, ◌≤◌, ◌⊎◌, inl, inr, Bool, true, false, cond}
+use Rattle.std.proofs.Common.{if◌then◌else◌, nat_le, List, [], ◌∷◌, ◌++◌, length, map, Result, Ok, Err, append_assoc, arith}
 use Rattle.std.specs.List.{filter}
 use Rattle.std.proofs.lemmas.Bool.{le-leb}
-use Rattle.std.proofs.lemmas.List.{append-nil, length-append, length-map}
+use Rattle.std.proofs.lemmas.List.{length-append}
 use Rattle.osi_tpkt.specs.Packet.{packet_of}
 use Rattle.osi_tpkt.specs.Stream.{ArePackets}
 use Rattle.osi_tpdu.specs.Packet.{units_of}
-use Rattle.osi_tpdu.specs.Value.{Connect, Value, acknowledge, confirm, data0, data2, disconnect, disconnected, error, request}
+use Rattle.osi_tpdu.specs.Value.{Value, acknowledge, confirm, data0, data2, disconnect, disconnected, error, request}
 use Rattle.osi_tpdu.specs.Writing.{written}
 use Rattle.osi_tpdu.specs.declared.faults.TpduFault.{TpduFault}
 use Rattle.osi_class.specs.Negotiation.{proposes}
@@ -17,9 +18,9 @@ use Rattle.osi_judge.specs.declared.directions.Direction.{Direction}
 use Rattle.osi_judge.specs.declared.directions.Direction.TheVariants.{Left, Right}
 use Rattle.osi_judge.specs.declared.stops.Stop.{Stop}
 use Rattle.osi_judge.specs.declared.stops.Stop.TheVariants.{BadUnit, NoOpening, OtherClass, Refused, TsduTooLong, UnexpectedUnit}
-use Rattle.osi_judge.specs.Captures.{Capture, passed_before}
-use Rattle.osi_judge.specs.Tapping.{had_passed, octets_of}
-use Rattle.osi_judge.specs.Transport.{Move, Sent, Stage, added, adds, between, brought, ended, first_of, first_step, is_too_long, moved, opening, opens, packet_length, packets_length, sent_by, sent_from, stage_behind, stage_from, step_of, stopped, stops, within}
+use Rattle.osi_judge.specs.Transport.{Move, Sent, Stage, added, adds, between, brought, ended, first_of, first_step, is_too_long, moved}
+use Rattle.osi_judge.specs.Transport.{opening, opens, packet_length, packets_length, sent_by, sent_from, stage_behind, stage_from}
+use Rattle.osi_judge.specs.Transport.{step_of, stopped, stops, within}
 use Rattle.osi_honest.specs.Parts.{dt, units_put}
 
 -- ---- one list of packets after another

@@ -1,7 +1,7 @@
 -- What an end put stays in front of all that it puts later, whatever arrives and however much memory there is.
 -- For what an end puts first.
-use Rattle.std.proofs.Common.{◌≡◌, ◌∙◌, refl, sym, ap, subst, ℕ, ◌+◌, Bool, true, false, if◌then◌else◌, List, [], ◌∷◌, ◌++◌, length, take, Option, Some, None, is_some, Result, Ok, Err, inl, inr, ◌⊎◌, append_assoc}
-use Rattle.std.proofs.lemmas.List.{append-nil}
+use Rattle.std.proofs.Common.{◌∙◌, sym, ap, ℕ, ◌+◌, Bool, true, false, if◌then◌else◌, List, [], ◌∷◌, ◌++◌}
+use Rattle.std.proofs.Common.{Option, Some, None, is_some, Result, Ok, Err, append_assoc}
 use Rattle.osi_tpdu.specs.Value.{Connect, Value, confirm, data0, disconnect, disconnected, error, request}
 use Rattle.osi_class.specs.Link.{Standing, taken, with_tsdu}
 use Rattle.osi_class.specs.Negotiation.{Selection, accept, refuse, selected_by}
@@ -11,10 +11,12 @@ use Rattle.osi_class.specs.declared.terms.Class.TheVariants.{Two, Zero}
 use Rattle.osi_carrier.specs.Calls.{closed_on, closes, open_link, sent_on}
 use Rattle.osi_carrier.specs.Negotiation.{acceptance, confirmed}
 use Rattle.osi_carrier.specs.Orderly.{connection_by}
-use Rattle.osi_carrier.specs.Pump.{pumped, written_by}
-use Rattle.osi_carrier.specs.React.{answers, answers_request, before_class, breaks, handed_out, has_peer, in_class, in_two, in_zero, is_full, leaves, opens, pumps, react, react_by, reacts, settles, taking, to_asked, to_closing, to_connection, to_linked, to_only, to_reference, to_unknown}
+use Rattle.osi_carrier.specs.Pump.{written_by}
+use Rattle.osi_carrier.specs.React.{answers, before_class, breaks, handed_out, has_peer, in_class, in_two, in_zero}
+use Rattle.osi_carrier.specs.React.{is_full, leaves, opens, react, react_by, reacts, taking, to_asked, to_closing}
+use Rattle.osi_carrier.specs.React.{to_connection, to_linked, to_only, to_reference, to_unknown}
 use Rattle.osi_carrier.specs.Rows.{Rows, value_at}
-use Rattle.osi_carrier.specs.State.{Connection, State as Carrier, asked, closing, linked, moves, packets, writes}
+use Rattle.osi_carrier.specs.State.{Connection, State as Carrier, asked, closing, linked, packets, writes}
 use Rattle.osi_stack.specs.Feeding.{TakesPackets}
 use Rattle.osi_stack.specs.Hearing.{RunsOut, Starves, attends, with_carrier}
 use Rattle.osi_stack.specs.State.{End}

@@ -1,9 +1,10 @@
 //! Laws of an end and its captures. Each function does nothing: its clauses are the laws.
 
 ghost use Rattle.std.specs.Prelude.{◌≡◌, ℕ, Bool, false, true, List, None, length, map};
+ghost use Rattle.osi_tpkt.specs.Stream.{Cuts, Ending};
 ghost use Rattle.osi_class.specs.Tsdus.{Part};
 ghost use Rattle.osi_class.specs.declared.terms.Local.{Local};
-ghost use Rattle.osi_judge.specs.Captures.{Capture};
+ghost use Rattle.osi_judge.specs.Captures.{Capture, stream};
 ghost use Rattle.osi_judge.specs.Explaining.{IsExplained, Told};
 ghost use Rattle.osi_judge.specs.Running.{IsSentFrom};
 ghost use Rattle.osi_judge.specs.Stops.{broke_session};
@@ -19,10 +20,10 @@ ghost use Rattle.osi_stack.specs.Calls.{calls_with, connects, terms_error};
 ghost use Rattle.osi_stack.specs.Messages.{AreShort};
 ghost use Rattle.osi_stack.specs.State.{Holding, fresh_end};
 ghost use Rattle.osi_stack.specs.declared.connecting.Connect.{Connect};
-ghost use Rattle.osi_honest.specs.Openings.{Asks, AskingTurn, Waits, WaitingTurn};
+ghost use Rattle.osi_honest.specs.Openings.{Asks, AskingTurn, Idles, IdleTurn, Waits, WaitingTurn};
 ghost use Rattle.osi_honest.specs.Parts.{Carry, units_put};
 ghost use Rattle.osi_honest.specs.Reading.{IsReading};
-ghost use Rattle.osi_honest.specs.Seeing.{IsFresh, IsSeen};
+ghost use Rattle.osi_honest.specs.Seeing.{EndsWithin, IsFresh, IsSeen};
 ghost use Rattle.osi_honest.specs.Showing.{AreSame, Shows};
 ghost use Rattle.osi_honest.specs.Stretches.{Brings, GoesAlong, Stands};
 ghost use Rattle.osi_honest.specs.Talking.{History, Said, told_of};
@@ -63,11 +64,14 @@ pub fn what_a_waiting_end_puts()
     what_closes_sends_nothing();
 }
 
-/// How a calling end opens its connection in class 0: each turn of an end whose CR is not answered yet. It asks on and
+/// How a calling end opens its connection in class 0. Until it requests one it puts nothing, unless a DR arrives that nobody
+/// asked for: it answers that by a DC (`idle`). Then each turn of an end whose CR is not answered yet. It asks on and
 /// puts nothing; or the first packet has a CC of class 0, the session sends its CN, and what it then takes and sends is
 /// as at an open end; or it has no connection of class 0 any more (the CR was refused, or accepted in class 2, or the end is
 /// over), with nothing put; or what it puts first is no DT of class 0.
 pub fn what_an_asking_end_puts()
+    ensures fresh { (local : Local) → Idles (fresh_end true local) }
+    ensures idle { (turn : Turn) (old new : Holding) → Idles old.end → Takes old turn new → IdleTurn turn.used turn.put old new }
     ensures begins { (c : Connect) (local : Local) → Asks 1 (calls_with c) (connects c (fresh_end true local)) }
     ensures turn { (r : ℕ) (c : Connect) (turn : Turn) (old new : Holding) → terms_error c ≡ None →
         Asks r (calls_with c) old.end → Takes old turn new → AskingTurn r (calls_with c) turn.used turn.put old new }
@@ -136,3 +140,10 @@ pub fn a_calling_end_is_not_blamed()
     what_closes_sends_nothing();
     an_honest_side_is_not_blamed();
 }
+
+/// What a capture shows of an end is packets, and then perhaps the beginning of one, whatever arrives, whatever its user
+/// calls and however much memory there is. So of an end the judge never finds a bad packet.
+pub fn what_a_capture_shows_is_packets()
+    ensures { (d : Direction) (capture : Capture) (begin end : Holding) (turns : List Turn) (units : List (List ℕ)) (ending : Ending) →
+        Run begin turns end → IsSeen d turns capture → Cuts (stream d capture) units ending → EndsWithin ending }
+{}

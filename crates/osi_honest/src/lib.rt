@@ -18,7 +18,8 @@
 //! - What a tap between the two ends shows of such an end is `IsSeen` (`specs/Seeing.antt`). The session of an end is blamed
 //!   nowhere in any capture of it: [`laws::a_called_end_is_not_blamed`], [`laws::a_calling_end_is_not_blamed`].
 //!
-//! It doesn't say yet that the transport of an end is never blamed.
+//! It doesn't say yet that the transport of an end is never blamed, except for bad packets
+//! ([`laws::what_a_capture_shows_is_packets`]).
 #![tactic(auto)]
 
 pub mod laws;
