@@ -14,7 +14,6 @@
 //!   sends, and that this is what was put: [`laws::what_an_open_end_puts`]. How a called and a calling end come to be open
 //!   is in `specs/Openings.antt`: [`laws::what_a_waiting_end_puts`], [`laws::what_an_asking_end_puts`].
 //! - The judge reads these packets as the end does: [`laws::what_is_put_and_taken_is_read`].
-//!
 //! - What a tap between the two ends shows of such an end is `IsSeen` (`specs/Seeing.antt`). The session of an end is blamed
 //!   nowhere in any capture of it: [`laws::a_called_end_is_not_blamed`], [`laws::a_calling_end_is_not_blamed`].
 //!
