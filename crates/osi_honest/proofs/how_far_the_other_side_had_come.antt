@@ -5,14 +5,14 @@ use Rattle.std.proofs.Common.{if◌then◌else◌, leb, List, [], ◌∷◌, Som
 use Rattle.std.proofs.lemmas.Bool.{le-leb}
 use Rattle.std.proofs.lemmas.Bool.Decides.{leb_tells}
 use Rattle.osi_tpdu.specs.Packet.{units_of}
-use Rattle.osi_tpdu.specs.Value.{acknowledge, confirm, data0, data2, disconnect, disconnected, error, request}
+use Rattle.osi_tpdu.specs.Value.{Value, acknowledge, confirm, data0, data2, disconnect, disconnected, error, request}
 use Rattle.osi_judge.specs.declared.directions.Direction.{Direction}
 use Rattle.osi_judge.specs.declared.directions.Direction.TheVariants.{Left, Right}
-use Rattle.osi_judge.specs.declared.stops.Stop.TheVariants.{OtherClass}
+use Rattle.osi_judge.specs.declared.stops.Stop.TheVariants.{NoOpening, OtherClass}
 use Rattle.osi_judge.specs.Captures.{Capture, of, passed_before}
 use Rattle.osi_judge.specs.Transport.{Handshake, agreed, asked, asked_again, astray, complete_in, denied, first_unit, handshake_from}
-use Rattle.osi_judge.specs.Transport.{is_request, met_before, packet_length, shaken, shaken_first, silent}
-use Rattle.osi_judge.specs.Transport.{Move, opening, opens, refuses, step_of, stops}
+use Rattle.osi_judge.specs.Transport.{has_asked, is_request, met_before, packet_length, shaken, shaken_first, silent}
+use Rattle.osi_judge.specs.Transport.{Move, answering_step, opening, opens, refuses, step_of, stops}
 use Rattle.osi_honest.proofs.what_the_judge_reads_of_a_side.{Closes, FirstUnit, IsCalm, IsStrayed, StaysStrayed, Starts, no_cc_closes}
 
 -- ---- a CC of class 0 came first
@@ -36,6 +36,10 @@ never_opens : (m : Move) (reference : ℕ) → Closes m → m ≡ opens referenc
 never_opens m reference (inl is) e = let both : refuses ≡ opens reference = sym is ∙ e in cc
 never_opens m reference (inr (stop, is)) e = let both : stops stop ≡ opens reference = sym is ∙ e in cc
 
+no_cc : (h : Handshake) (v : Value) (reference : ℕ) →
+    (if has_asked h then answering_step v else stops NoOpening) ≡ opens reference → ⊥
+no_cc h v reference is = never_opens _ reference (no_cc_closes h v) is
+
 pub agrees : (h : Handshake) (unit : FirstUnit) → Starts Right (step_of Right opening h unit) → shaken_first unit ≡ agreed
 agrees h (Err fault) (reference, is) = absurd (cc)
 agrees h (Ok None) (reference, is) = absurd (cc)
@@ -44,13 +48,19 @@ agrees h (Ok (Some (confirm destination c))) (reference, is) = by (c.class == 0)
     by : (b : Bool) → (if b then opens c.source else stops OtherClass) ≡ opens reference → (if b then agreed else astray) ≡ agreed
     by true e = refl
     by false e = absurd (cc)
-agrees h (Ok (Some (request c))) (reference, is) = absurd (never_opens _ reference (no_cc_closes h (request c)) is)
-agrees h (Ok (Some (disconnect destination source reason user))) (reference, is) = absurd (never_opens _ reference (no_cc_closes h (disconnect destination source reason user)) is)
-agrees h (Ok (Some (disconnected destination source))) (reference, is) = absurd (never_opens _ reference (no_cc_closes h (disconnected destination source)) is)
-agrees h (Ok (Some (data0 end octets))) (reference, is) = absurd (never_opens _ reference (no_cc_closes h (data0 end octets)) is)
-agrees h (Ok (Some (data2 destination number end octets))) (reference, is) = absurd (never_opens _ reference (no_cc_closes h (data2 destination number end octets)) is)
-agrees h (Ok (Some (acknowledge credit destination number))) (reference, is) = absurd (never_opens _ reference (no_cc_closes h (acknowledge credit destination number)) is)
-agrees h (Ok (Some (error destination cause))) (reference, is) = absurd (never_opens _ reference (no_cc_closes h (error destination cause)) is)
+agrees h (Ok (Some (request c))) (reference, is) = absurd (no_cc h (request c) reference is)
+agrees h (Ok (Some (disconnect destination source reason user))) (reference, is) =
+    absurd (no_cc h (disconnect destination source reason user) reference is)
+agrees h (Ok (Some (disconnected destination source))) (reference, is) =
+    absurd (no_cc h (disconnected destination source) reference is)
+agrees h (Ok (Some (data0 end octets))) (reference, is) =
+    absurd (no_cc h (data0 end octets) reference is)
+agrees h (Ok (Some (data2 destination number end octets))) (reference, is) =
+    absurd (no_cc h (data2 destination number end octets) reference is)
+agrees h (Ok (Some (acknowledge credit destination number))) (reference, is) =
+    absurd (no_cc h (acknowledge credit destination number) reference is)
+agrees h (Ok (Some (error destination cause))) (reference, is) =
+    absurd (no_cc h (error destination cause) reference is)
 
 -- ---- what has strayed stays so
 

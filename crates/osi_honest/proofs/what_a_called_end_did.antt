@@ -61,7 +61,8 @@ did_later d capture coming others met back begin turn turns none (aside w rest i
     aside w rest (ap (λ (x : List ℕ). x ++ put_along turns) none ∙ is) closes
 did_later d capture coming others met back begin turn turns none (beside w unit later is no_data) =
     beside w unit later (ap (λ (x : List ℕ). x ++ put_along turns) none ∙ is) no_data
-did_later d capture coming others met back begin turn turns none (spoke w parts took said closed session used is steady h caused reached front) =
+did_later d capture coming others met back begin turn turns none
+    (spoke w parts took said closed session used is steady h caused reached front) =
     spoke w parts took said closed session used (ap (λ (x : List ℕ). x ++ put_along turns) none ∙ is) steady h caused reached front
 
 pub after_none : (d : Direction) (capture : Capture) (used more : List ℕ) (put : List ℕ) (turns : List Turn) → put ≡ [] →
@@ -84,7 +85,8 @@ module _ (d : Direction) (capture : Capture) (coming : List ℕ) (others : List 
       turn.put ≡ packets (w ∷ map dt parts) →
       AreCaused d capture others (sent_from d met between (0 + packet_length (written w)) (units_put parts)) told →
       stage_from d met between (0 + packet_length (written w)) (units_put parts) ≡ between →
-      Spoke d capture coming others met back counts begin told (0 + length turn.put) turns → Did d capture coming others met back begin (turn ∷ turns)
+      Spoke d capture coming others met back counts begin told (0 + length turn.put) turns →
+      Did d capture coming others met back begin (turn ∷ turns)
   opened_did w turn turns parts told is caused stage s =
       let front = front_turn turn.used parts in
       let at = 0 + packet_length (written w) in
@@ -228,7 +230,8 @@ module _ (capture : Capture) (coming : List ℕ) (others : List Sent) (met back 
           ∙ silent_run Right capture coming others met back counts turns run.0 new over run.2)
       by (turned.answers_last over answer is) more =
           last_answer answer (ap (λ (x : List ℕ). x ++ put_along turns) is
-          ∙ ap (λ (x : List ℕ). packets (answer ∷ []) ++ x) (silent_run Right capture coming others met back counts turns run.0 new over run.2)
+          ∙ ap (λ (x : List ℕ). packets (answer ∷ []) ++ x)
+          (silent_run Right capture coming others met back counts turns run.0 new over run.2)
           ∙ append-nil (packets (answer ∷ [])))
       by (turned.turns_away answer later other is) more =
           aside answer (later ++ put_along turns) (ap (λ (x : List ℕ). x ++ put_along turns) is

@@ -236,7 +236,8 @@ dc_closes destination source octets h =
     ]
 
 module _ (capture : Capture) (coming : List ℕ) (others : List Sent) (met back : ℕ → Handshake)
-    (counts : Counts Left capture coming back others) (steadies : Steadies coming met) (proper : AllProper) (begins : (c : Request) → terms_error c ≡ None → CanBegin (calls_with c)) where
+    (counts : Counts Left capture coming back others) (steadies : Steadies coming met) (proper : AllProper)
+    (begins : (c : Request) → terms_error c ≡ None → CanBegin (calls_with c)) where
   -- Nothing is read of it; or its session is that of a request.
   pub data CallerDid (turns : List Turn) : Type 0 where
     unasked : Unread Left turns → CallerDid turns
@@ -246,7 +247,8 @@ module _ (capture : Capture) (coming : List ℕ) (others : List Sent) (met back 
   caller_later turn turns none (unasked (nothing_put is)) = unasked (nothing_put (ap (λ (x : List ℕ). x ++ put_along turns) none ∙ is))
   caller_later turn turns none (unasked (first_aside w rest is closes)) =
       unasked (first_aside w rest (ap (λ (x : List ℕ). x ++ put_along turns) none ∙ is) closes)
-  caller_later turn turns none (asked c terms did) = asked c terms (did_later Left capture coming others met back (calls_with c) turn turns none did)
+  caller_later turn turns none (asked c terms did) =
+      asked c terms (did_later Left capture coming others met back (calls_with c) turn turns none did)
 
   requested : (c : Request) (r : ℕ) (cr : Connect) (used : List ℕ) (turn : Turn) (turns : List Turn) (old mid new : Holding) →
       terms_error c ≡ None → Asks r (calls_with c) mid.end → turn.used ≡ [] → turn.put ≡ packets (request cr ∷ []) →
@@ -260,9 +262,10 @@ module _ (capture : Capture) (coming : List ℕ) (others : List Sent) (met back 
       let passes : PassAfter Left capture (length (used ++ turn.used)) (packet_length (written (request cr))) turns =
       subst (λ (n : ℕ). PassAfter Left capture n (packet_length (written (request cr))) turns) (sym (length-append used turn.used))
       (subst (λ (n : ℕ). PassAfter Left capture (length used + length turn.used) n turns) size after.1) in
-      asked c terms (asked_did capture coming others met back counts steadies proper (calls_with c) (begins c terms) refl (request cr) turn turns put
-      (after_request capture coming others met back counts steadies proper (calls_with c) (begins c terms) refl turns r (packet_length (written (request cr)))
-      (used ++ turn.used) mid new asks now
+      asked c terms (asked_did capture coming others met back counts steadies proper (calls_with c) (begins c terms) refl (request cr) turn
+      turns put
+      (after_request capture coming others met back counts steadies proper (calls_with c) (begins c terms) refl turns r
+      (packet_length (written (request cr))) (used ++ turn.used) mid new asks now
       (front.0, ap (λ (x : List ℕ). x ++ front.0) (append_assoc used turn.used (used_along turns)) ∙ front.1) passes run))
 
   idle_did : (turns : List Turn) (used : List ℕ) (old new : Holding) → Idles old.end → used ≡ old.held.octets →

@@ -19,8 +19,8 @@ use Rattle.osi_judge.specs.Explaining.{Told}
 use Rattle.osi_judge.specs.Running.{IsSentFrom, Runs}
 use Rattle.osi_judge.specs.Running as running
 use Rattle.osi_judge.specs.Tapping.{had_passed, heard, octets_of, told}
-use Rattle.osi_judge.specs.Transport.{ArePacketsOf, Handshake, IsSent, Sent, agreed, between, first_unit, met_before, opening, packet_length}
-use Rattle.osi_judge.specs.Transport.{packets_length, sent_from, shaken_first, stage_from, step_of}
+use Rattle.osi_judge.specs.Transport.{ArePacketsOf, Handshake, IsSent, Sent, agreed, between, first_unit, met_before, opening}
+use Rattle.osi_judge.specs.Transport.{packet_length, packets_length, sent_from, shaken_first, stage_from, step_of}
 use Rattle.osi_judge.proofs.JudgeLaws.{one_reading, packets_of}
 use Rattle.osi_honest.specs.Parts.{dt, units_put}
 use Rattle.osi_honest.specs.Seeing.{IsPrefix, IsSeen, put_along}
@@ -34,8 +34,8 @@ use Rattle.osi_honest.proofs.two_readings_of_a_stream_agree.{shown_packets, two_
 use Rattle.osi_honest.proofs.what_a_turn_does_in_class_0.{all_octets}
 use Rattle.osi_honest.proofs.what_an_end_put_was_caused.{AreCaused, Counts, Reached, had_passed_by}
 use Rattle.osi_honest.proofs.how_far_the_other_side_had_come.{calm_after, stays_strayed}
-use Rattle.osi_honest.proofs.what_the_judge_reads_of_a_side.{Closes, HasNoData, IsCalm, IsSteady, LieIn, StartsOrCloses, StaysStrayed, all_lie}
-use Rattle.osi_honest.proofs.what_the_judge_reads_of_a_side.{all_read, first_starts, lie_later, most_count, none_first, none_read}
+use Rattle.osi_honest.proofs.what_the_judge_reads_of_a_side.{Closes, HasNoData, IsCalm, IsSteady, LieIn, StartsOrCloses, StaysStrayed}
+use Rattle.osi_honest.proofs.what_the_judge_reads_of_a_side.{all_lie, all_read, first_starts, lie_later, most_count, none_first, none_read}
 use Rattle.osi_honest.proofs.what_the_judge_reads_of_a_side.{none_second, sent_then, size_read}
 
 -- ---- what an end did in all

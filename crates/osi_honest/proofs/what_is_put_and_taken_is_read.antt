@@ -29,15 +29,17 @@ record StepsPart (d : Direction) (h : Handshake) (stage : Stage) (at : ℕ) (u :
   stage_is : stage_behind d h stage at u ≡ added stage at last octets
   sent_is : sent_by d h stage at u ≡ ended stage at u last octets
 
-steps_part : (d : Direction) (h : Handshake) (stage : Stage) (b : List ℕ) (at : ℕ) (u : List ℕ) (last : Bool) (octets : List ℕ) → IsReading stage b →
-    IsPart u last octets b → StepsPart d h stage at u last octets
+steps_part : (d : Direction) (h : Handshake) (stage : Stage) (b : List ℕ) (at : ℕ) (u : List ℕ) (last : Bool) (octets : List ℕ) →
+    IsReading stage b → IsPart u last octets b → StepsPart d h stage at u last octets
 steps_part d h _ _ at u last octets between_two p = record {
   stage_is = ap (λ (x : Result (List Value) TpduFault). moved between at (step_of d between h (first_unit x))) p.is ∙ rw (p.fits) refl;
   sent_is = ap (λ (x : Result (List Value) TpduFault). brought between at u (step_of d between h (first_unit x))) p.is ∙ rw (p.fits) refl;
 }
 steps_part d h _ _ at u last octets (in_one first o) p = record {
-  stage_is = ap (λ (x : Result (List Value) TpduFault). moved (within first o) at (step_of d (within first o) h (first_unit x))) p.is ∙ rw (p.fits) refl;
-  sent_is = ap (λ (x : Result (List Value) TpduFault). brought (within first o) at u (step_of d (within first o) h (first_unit x))) p.is ∙ rw (p.fits) refl;
+  stage_is = ap (λ (x : Result (List Value) TpduFault). moved (within first o) at (step_of d (within first o) h (first_unit x))) p.is
+      ∙ rw (p.fits) refl;
+  sent_is = ap (λ (x : Result (List Value) TpduFault). brought (within first o) at u (step_of d (within first o) h (first_unit x))) p.is
+      ∙ rw (p.fits) refl;
 }
 
 begun_is : (stage : Stage) (b : List ℕ) → IsReading stage b → begun stage ≡ b
@@ -50,12 +52,13 @@ added_part _ _ octets at (in_one first o) = in_one first (o ++ octets)
 
 -- ---- packets one after the other
 
-pub record Reads (d : Direction) (met : ℕ → Handshake) (stage : Stage) (at : ℕ) (units tsdus : List (List ℕ)) (later : List ℕ) : Type 0 where
+pub record Reads (d : Direction) (met : ℕ → Handshake) (stage : Stage) (at : ℕ) (units tsdus : List (List ℕ))
+    (later : List ℕ) : Type 0 where
   pub sent : map octets_of (sent_from d met stage at units) ≡ tsdus
   pub then_is : IsReading (stage_from d met stage at units) later
 
-pub brings_read : (d : Direction) (met : ℕ → Handshake) (stage : Stage) (b : List ℕ) (at : ℕ) (units tsdus : List (List ℕ)) (later : List ℕ) →
-    IsReading stage b → Brings b units tsdus later →
+pub brings_read : (d : Direction) (met : ℕ → Handshake) (stage : Stage) (b : List ℕ) (at : ℕ) (units tsdus : List (List ℕ))
+    (later : List ℕ) → IsReading stage b → Brings b units tsdus later →
     Reads d met stage at units tsdus later
 brings_read d met stage b at [] tsdus later r h = record { sent = sym h.0; then_is = subst (IsReading stage) (sym h.1) r }
 brings_read d met stage b at (u ∷ units) tsdus later r (octets, inl (p, rest)) =
@@ -63,7 +66,8 @@ brings_read d met stage b at (u ∷ units) tsdus later r (octets, inl (p, rest))
     let more = brings_read d met (added stage at false octets) (b ++ octets) (at + packet_length u) units tsdus later
     (added_part stage b octets at r) rest in
     record {
-      sent = ap (λ (x : List Sent). map octets_of (x ++ sent_from d met (stage_behind d (met at) stage at u) (at + packet_length u) units)) s.sent_is
+      sent = ap (λ (x : List Sent). map octets_of (x ++ sent_from d met (stage_behind d (met at) stage at u) (at + packet_length u) units))
+          s.sent_is
           ∙ ap (λ (x : Stage). map octets_of (sent_from d met x (at + packet_length u) units)) s.stage_is ∙ more.sent;
       then_is = subst (λ (x : Stage). IsReading (stage_from d met x (at + packet_length u) units) later) (sym s.stage_is) more.then_is;
     }
@@ -71,7 +75,8 @@ brings_read d met stage b at (u ∷ units) tsdus later r (octets, inr (p, (other
     let s = steps_part d (met at) stage b at u true octets r p in
     let more = brings_read d met between [] (at + packet_length u) units others later between_two rest in
     record {
-      sent = ap (λ (x : List Sent). map octets_of (x ++ sent_from d met (stage_behind d (met at) stage at u) (at + packet_length u) units)) s.sent_is
+      sent = ap (λ (x : List Sent). map octets_of (x ++ sent_from d met (stage_behind d (met at) stage at u) (at + packet_length u) units))
+          s.sent_is
           ∙ ap (λ (x : Stage). (begun stage ++ octets) ∷ map octets_of (sent_from d met x (at + packet_length u) units)) s.stage_is
           ∙ ap (λ (x : List ℕ). (x ++ octets) ∷ map octets_of (sent_from d met between (at + packet_length u) units)) (begun_is stage b r)
           ∙ ap (λ (x : List (List ℕ)). (b ++ octets) ∷ x) more.sent ∙ sym is;

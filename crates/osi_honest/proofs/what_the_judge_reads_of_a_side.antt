@@ -23,9 +23,9 @@ use Rattle.osi_judge.specs.declared.stops.Stop.TheVariants.{BadUnit, MoreConnect
 use Rattle.osi_judge.specs.declared.stops.Stop.TheVariants.{UnexpectedUnit, WrongForm}
 use Rattle.osi_judge.specs.Transport.{Handshake, agreed, asked, asked_again, astray, denied, first_unit, has_asked, silent}
 use Rattle.osi_judge.specs.Transport.{Move, adds, asks, hurries, ignores, opens, refuses, stops}
-use Rattle.osi_judge.specs.Transport.{Sent, Stage, added, answering_step, asking, between, brought, closing_step, ended, first_of, first_step}
-use Rattle.osi_judge.specs.Transport.{hasty_step, is_too_long, misplaced, moved, next_step, opening, packet_length, packets_length, refused}
-use Rattle.osi_judge.specs.Transport.{sent_by, sent_from, stage_behind, stage_from, step_of, stopped, within}
+use Rattle.osi_judge.specs.Transport.{Sent, Stage, added, answering_step, asking, between, brought, closing_step, ended, first_of}
+use Rattle.osi_judge.specs.Transport.{first_step, hasty_step, is_too_long, misplaced, moved, next_step, opening, packet_length}
+use Rattle.osi_judge.specs.Transport.{packets_length, refused, sent_by, sent_from, stage_behind, stage_from, step_of, stopped, within}
 use Rattle.osi_honest.specs.Parts.{dt, units_put}
 
 -- what the first unit of a packet is, or why it has none

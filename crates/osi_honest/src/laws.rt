@@ -95,10 +95,10 @@ pub fn what_a_session_said_is_explained()
 /// The judge reads both directions as the end does. From the packets that an end puts for TSDUs it reads these TSDUs
 /// (`put`), and from the packets that an end takes the TSDUs that its session takes (`taken`).
 pub fn what_is_put_and_taken_is_read()
-    ensures put { (d : Direction) (met : ℕ → Handshake) (at : ℕ) (parts : List Part) (tsdus : List (List ℕ)) → Carry parts tsdus → AreShort tsdus →
-        map octets_of (sent_from d met between at (units_put parts)) ≡ tsdus }
-    ensures taken { (d : Direction) (met : ℕ → Handshake) (stage : Stage) (begun : List ℕ) (at : ℕ) (units tsdus : List (List ℕ)) (later : List ℕ) →
-        IsReading stage begun → Brings begun units tsdus later → map octets_of (sent_from d met stage at units) ≡ tsdus }
+    ensures put { (d : Direction) (met : ℕ → Handshake) (at : ℕ) (parts : List Part) (tsdus : List (List ℕ)) → Carry parts tsdus →
+        AreShort tsdus → map octets_of (sent_from d met between at (units_put parts)) ≡ tsdus }
+    ensures taken { (d : Direction) (met : ℕ → Handshake) (stage : Stage) (begun : List ℕ) (at : ℕ) (units tsdus : List (List ℕ))
+        (later : List ℕ) → IsReading stage begun → Brings begun units tsdus later → map octets_of (sent_from d met stage at units) ≡ tsdus }
 {}
 
 /// A capture need not show all that a session sent, nor all that it took; and more of the other side's TSDUs may have
