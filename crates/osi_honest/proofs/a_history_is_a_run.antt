@@ -1,6 +1,7 @@
 -- What a session took and sent is a run of it as the judge has it, so what it sent is explained by what it took.
 -- For the laws of an end and its captures.
-use Rattle.std.proofs.Common.{◌≡◌, ◌∙◌, refl, sym, ap, subst, ℕ, ◌+◌, Bool, false, List, [], ◌∷◌, ◌++◌, length, map, get_or, append_assoc, length-append, arith}
+use Rattle.std.proofs.Common.{◌≡◌, ◌∙◌, refl, sym, ap, subst, ℕ, ◌+◌, Bool, false, List, [], ◌∷◌, ◌++◌, length, map, get_or, append_assoc}
+use Rattle.std.proofs.Common.{length-append, arith}
 use Rattle.std.proofs.lemmas.List.{append-nil, map-append}
 use Rattle.osi_session.specs.Listening.{Listener, after_input, called, came, opened, react}
 use Rattle.osi_judge.specs.Explaining.{Told}
@@ -22,7 +23,7 @@ all_told some now later = sym (append_assoc (map told_of some) (map told_of now)
     ∙ ap (λ (x : List Told). x ++ later) (sym (map-append told_of some now))
 
 module _ (begin : Listener) (us : List (List ℕ)) where
-  history_runs : (took : List (List ℕ)) (said : List Said) (closed : Bool) (l : Listener) → History begin took said closed l →
+  pub history_runs : (took : List (List ℕ)) (said : List Said) (closed : Bool) (l : Listener) → History begin took said closed l →
       (rest : List (List ℕ)) → us ≡ took ++ rest → (later : List Told) →
       Runs us closed l (length took) later → Runs us false begin 0 (map told_of said ++ later)
   history_runs _ _ _ _ history.begins rest is later run = run

@@ -1,6 +1,7 @@
 -- A call of the user at an end with an open connection of class 0, and any turn of such an end, or of one that is over.
 -- For runs of an end.
-use Rattle.std.proofs.Common.{◌≡◌, ◌≢◌, ◌∙◌, refl, sym, ap, subst, ℕ, ◌==◌, Bool, true, false, if◌then◌else◌, not, List, [], ◌∷◌, ◌++◌, length, map, Option, Some, None, is_some, IsSome, inl, inr, arith}
+use Rattle.std.proofs.Common.{◌≡◌, ◌≢◌, ◌∙◌, refl, sym, ap, subst, ℕ, ◌==◌, Bool, true, false, if◌then◌else◌, not, List, [], ◌∷◌, ◌++◌}
+use Rattle.std.proofs.Common.{length, map, Option, Some, None, is_some, IsSome, inl, inr, arith}
 use Rattle.std.proofs.lemmas.Bool.{eqb-true, eq-eqb}
 use Rattle.std.proofs.lemmas.List.{append-nil, append_cancel_left}
 use Rattle.osi_class.specs.declared.terms.Class.{Class}
@@ -236,7 +237,7 @@ over_calls (carrying octets) put old new over c outgoing = (
       (sym outgoing ∙ sym (ap (λ (x : Holding). x.end.carrier.outgoing) c) ∙ sym (append-nil old.end.carrier.outgoing)),
 )
 
-over_acts : (turn : Turn) (old new : Holding) → IsSome old.end.carrier.ended → Takes old turn new →
+pub over_acts : (turn : Turn) (old new : Holding) → IsSome old.end.carrier.ended → Takes old turn new →
     IsSome new.end.carrier.ended × (turn.put ≡ [])
 over_acts turn old new over takes = by takes.act takes.acts takes.put
   where

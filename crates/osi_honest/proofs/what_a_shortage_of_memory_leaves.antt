@@ -1,6 +1,7 @@
 -- If memory runs out for a packet at an open connection of class 0, nothing was put for it.
 -- For the turns of an end.
-use Rattle.std.proofs.Common.{◌≡◌, ◌∙◌, refl, sym, ap, subst, ℕ, zero, suc, Bool, true, false, if◌then◌else◌, List, [], ◌∷◌, ◌++◌, None, is_some, inl, inr}
+use Rattle.std.proofs.Common.{◌≡◌, ◌∙◌, refl, sym, ap, subst, ℕ, zero, suc, Bool, true, false, if◌then◌else◌, List, [], ◌∷◌, ◌++◌, None}
+use Rattle.std.proofs.Common.{is_some, inl, inr}
 use Rattle.osi_tpkt.specs.Octets.{IsOctets}
 use Rattle.osi_tpdu.specs.Packet.{AreUnits}
 use Rattle.osi_tpdu.specs.Value.{Value, may_be_followed}
@@ -19,9 +20,11 @@ use Rattle.osi_stack.proofs.Events.{never_starved, times_quiet}
 use Rattle.osi_stack.proofs.Linking.{rest_is}
 use Rattle.osi_stack.proofs.Stepwise.{events_heard, session_carried}
 use Rattle.osi_honest.specs.Talking.{Talks}
-use Rattle.osi_honest.proofs.what_a_packet_does_in_class_0.{AfterPacket, AfterUnit, Over, acted, alone, attends_over, over_carries, unit_acts}
+use Rattle.osi_honest.proofs.what_a_packet_does_in_class_0.{AfterPacket, AfterUnit, Over, acted, alone, attends_over, over_carries}
+use Rattle.osi_honest.proofs.what_a_packet_does_in_class_0.{unit_acts}
 use Rattle.osi_honest.proofs.what_a_packet_does_in_class_0.AfterUnit.{adds_part as unit_adds, ends_tsdu as unit_ends, is_over as unit_over}
-use Rattle.osi_honest.proofs.what_a_packet_does_in_class_0.AfterPacket.{adds_part as packet_adds, ends_tsdu as packet_ends, is_over as packet_over}
+use Rattle.osi_honest.proofs.what_a_packet_does_in_class_0.AfterPacket.{adds_part as packet_adds, ends_tsdu as packet_ends}
+use Rattle.osi_honest.proofs.what_a_packet_does_in_class_0.AfterPacket.{is_over as packet_over}
 
 -- ---- the carrier
 
@@ -60,11 +63,11 @@ ended_same : (b : Bool) (c : Carrier) → (if b then c else ends NoMemory c).out
 ended_same true c = refl
 ended_same false c = refl
 
-starves_same : (events : List Happening) (e : End) → (starves (with_events events e)).carrier.outgoing ≡ e.carrier.outgoing
+pub starves_same : (events : List Happening) (e : End) → (starves (with_events events e)).carrier.outgoing ≡ e.carrier.outgoing
 starves_same events e = ended_same (is_some e.carrier.ended) (with_events events e).carrier
 
 -- one event is queued, and memory ran out for it
-one_out : (heard : ℕ) (event : Happening) (e : End) (first : Happening) (more : List Happening) → e.carrier.events ≡ event ∷ [] →
+pub one_out : (heard : ℕ) (event : Happening) (e : End) (first : Happening) (more : List Happening) → e.carrier.events ≡ event ∷ [] →
     (hears_times heard e).carrier.events ≡ first ∷ more →
     (hears_times heard e).carrier.outgoing ≡ e.carrier.outgoing
 one_out zero event e first more is waits = refl
@@ -84,7 +87,7 @@ heard_over octets n e p =
       moves = λ event x q. session_carried (Over octets) (over_carries octets) _ _ x q;
     }) n e p
 
-out_over : (octets : List ℕ) (e new : End) → Over octets e.carrier → RunsOut e new → new.carrier.outgoing ≡ octets
+pub out_over : (octets : List ℕ) (e new : End) → Over octets e.carrier → RunsOut e new → new.carrier.outgoing ≡ octets
 out_over octets e new p out =
     ap (λ (x : End). x.carrier.outgoing) out.starved ∙ starves_same out.more (hears_times out.heard e) ∙ (heard_over octets out.heard e p).1
 

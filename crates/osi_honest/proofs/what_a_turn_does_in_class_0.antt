@@ -1,6 +1,7 @@
 -- Each turn of an end with an open connection of class 0: what its session took, and that what it sent was put.
 -- For runs of an end.
-use Rattle.std.proofs.Common.{◌≡◌, ◌∙◌, refl, sym, ap, subst, ℕ, Bool, true, false, if◌then◌else◌, List, [], ◌∷◌, ◌++◌, length, take, drop, map, Option, Some, None, is_some, IsSome, inl, inr, ◌⊎◌, append_assoc, arith}
+use Rattle.std.proofs.Common.{◌≡◌, ◌∙◌, refl, sym, ap, subst, ℕ, Bool, true, false, if◌then◌else◌, List, [], ◌∷◌, ◌++◌, length, take}
+use Rattle.std.proofs.Common.{drop, map, Option, Some, None, is_some, IsSome, inl, inr, ◌⊎◌, append_assoc, arith}
 use Rattle.std.specs.List.{AllByRecursion}
 use Rattle.std.proofs.lemmas.List.{append-nil, append_cancel_left, take-append-drop, take_all}
 use Rattle.osi_tpkt.specs.Octets.{IsOctets}
@@ -222,7 +223,7 @@ module _ (begin : Listener) (r : ℕ) (took : List (List ℕ)) (said : List Said
     later = begun;
     stands = stands_still begin r took said begun new.end s;
     parts = [];
-    carry = λ later. refl;
+    carry = (refl, λ later. refl);
     short = tt;
     written = nothing;
     counted = tt;
@@ -243,7 +244,7 @@ module _ (begin : Listener) (r : ℕ) (took : List (List ℕ)) (said : List Said
     later = begun;
     stands = stands_still begin r took said begun new.end (gone closed session h ended);
     parts = [];
-    carry = λ later. refl;
+    carry = (refl, λ later. refl);
     short = tt;
     written = nothing;
     counted = tt;

@@ -1,8 +1,11 @@
 -- Each turn of a called end that waits for the first CR, and runs of it.
 -- For the laws of an end and its captures.
-use Rattle.std.proofs.Common.{◌≡◌, ◌∙◌, refl, sym, ap, subst, ℕ, ◌+◌, Bool, true, false, if◌then◌else◌, List, [], ◌∷◌, ◌++◌, length, take, drop, map, Option, Some, None, is_some, IsSome, inl, inr, ◌⊎◌, append_assoc, arith}
+use Rattle.std.proofs.Common.{◌≡◌, ◌∙◌, refl, sym, ap, subst, ℕ, ◌+◌, Bool, true, false, if◌then◌else◌, List, [], ◌∷◌, ◌++◌, length, take}
+use Rattle.std.proofs.Common.{drop, map, Option, Some, None, is_some, IsSome, inl, inr, ◌⊎◌, append_assoc, arith}
 use Rattle.std.proofs.lemmas.List.{append-nil, append_cancel_left, take_all}
+use Rattle.osi_tpkt.specs.Packet.{packet_of}
 use Rattle.osi_tpkt.specs.Stream.{ArePackets}
+use Rattle.osi_tpdu.specs.Writing.{written}
 use Rattle.osi_class.specs.Link.{Standing}
 use Rattle.osi_carrier.specs.Calls.{closed_on, closed_with, link_of, open_link}
 use Rattle.osi_carrier.specs.Rows.{Rows, value_at}
@@ -26,16 +29,20 @@ use Rattle.osi_stack.proofs.Moves.{says_is}
 use Rattle.osi_stack.proofs.Rooms.{found_how}
 use Rattle.osi_stack.proofs.Runs.{none_ended}
 use Rattle.osi_honest.specs.Openings.{Waits, WaitingTurn}
-use Rattle.osi_honest.specs.Openings.WaitingTurn.{is_over, opens, turns_away, waits_on}
+use Rattle.osi_honest.specs.Openings.WaitingTurn.{answers_last, is_over, opens, turns_away, waits_on}
 use Rattle.osi_honest.specs.Parts.{dt}
+use Rattle.osi_honest.specs.Seeing.{IsPrefix}
 use Rattle.osi_honest.specs.Talking as history
 use Rattle.osi_honest.specs.Turns.{Act, Acts, Takes, Turn, carried_by, used_by}
 use Rattle.osi_honest.specs.Turns.Act.{serving, using}
-use Rattle.osi_honest.proofs.how_a_called_end_opens.{FirstStretch, answer_to, first_packets}
-use Rattle.osi_honest.proofs.how_a_called_end_opens.FirstStretch.{another_way, ended_by, nothing_came, opened_by}
+use Rattle.osi_honest.proofs.how_a_called_end_opens.{FirstStretch, answer_to, first_packets, turned_on}
+use Rattle.osi_honest.proofs.how_a_called_end_opens.FirstStretch.{another_way, answered_last, ended_by, nothing_came, opened_by}
 use Rattle.osi_honest.proofs.what_a_packet_does_in_class_0.{AllProper}
+use Rattle.osi_honest.proofs.what_a_shortage_leaves_at_a_waiting_end.{starved_waiting}
 use Rattle.osi_honest.proofs.what_packets_do_in_class_0.{never_lasts}
-use Rattle.osi_honest.proofs.what_a_turn_does_in_class_0.{all_octets, extends_over, front_packets, more_used, nothing_put, starved_by, stopped_within}
+use Rattle.osi_honest.proofs.what_a_turn_does_in_class_0.{all_octets, extends_over, front_packets, more_used, nothing_put, starved_by}
+use Rattle.osi_honest.proofs.what_a_turn_does_in_class_0.{stopped_within}
+use Rattle.osi_honest.proofs.what_was_put_stays_in_front.{ahead_starves}
 
 none_put : (old new : Holding) (put : List ℕ) → new.end.carrier.outgoing ≡ old.end.carrier.outgoing ++ put →
     new.end.carrier.outgoing ≡ old.end.carrier.outgoing → put ≡ []
@@ -58,7 +65,7 @@ as_waiting units used put rest old new w (nothing_came none same) cut held is =
     let still : Waits new.end = subst Waits (sym same) w in
     let whole : old.held.octets ++ used ≡ rest = subst (λ (us : List (List ℕ)). ArePackets us (old.held.octets ++ used) rest) none cut in
     waits_on still (none_put old new put is (ap (λ (e : End). e.carrier.outgoing) same)) (sym (whole ∙ held still.lasts))
-as_waiting units used put rest old new w (opened_by cr size u later mid us request outgoing x) cut held is =
+as_waiting units used put rest old new w (opened_by cr size u later mid us request proposed outgoing x) cut held is =
     let r = old.end.carrier.given + 1 in
     let all = subst (λ (l : List (List ℕ)). ArePackets l (old.held.octets ++ used) rest) us cut in
     let fronts = front_packets awaits r [] [] [] x.front x.back all.1 rest
@@ -70,6 +77,7 @@ as_waiting units used put rest old new w (opened_by cr size u later mid us reque
       size = size;
       first = u;
       is_request = request;
+      proposed = proposed;
       more = x.more;
       told = x.told;
       later = x.later;
@@ -87,31 +95,46 @@ as_waiting units used put rest old new w (opened_by cr size u later mid us reque
       brings = x.brings;
       held = λ lasts. subst (λ (l : List (List ℕ)). ArePackets l fronts.0 rest) (x.all lasts) fronts.2 ∙ held lasts;
     })
-as_waiting units used put rest old new w another_way cut held is = turns_away
+as_waiting units used put rest old new w (another_way t) cut held is =
+    turns_away t.answer t.ahead.0 t.other (sym (append_cancel_left old.end.carrier.outgoing _ put (
+    ap (λ (l : List ℕ). old.end.carrier.outgoing ++ (l ++ t.ahead.0)) (sym (append-nil (packet_of (written t.answer))))
+    ∙ sym (append_assoc old.end.carrier.outgoing (packets (t.answer ∷ [])) t.ahead.0) ∙ t.ahead.1 ∙ is)))
+as_waiting units used put rest old new w (answered_last ended answer same) cut held is =
+    answers_last ended answer (append_cancel_left old.end.carrier.outgoing put (packets (answer ∷ [])) (sym is ∙ same))
 as_waiting units used put rest old new w (ended_by ended same) cut held is = is_over ended (none_put old new put is same)
 
 first_over : (units : List (List ℕ)) (old before new : End) → FirstStretch units old before → IsSome new.carrier.ended →
     new.carrier.outgoing ≡ before.carrier.outgoing → FirstStretch units old new
 first_over units old before new (nothing_came none is) ended same = ended_by ended (same ∙ ap (λ (e : End). e.carrier.outgoing) is)
-first_over units old before new (opened_by cr size u later mid us request outgoing x) ended same =
-    opened_by cr size u later mid us request outgoing
+first_over units old before new (opened_by cr size u later mid us request proposed outgoing x) ended same =
+    opened_by cr size u later mid us request proposed outgoing
     (extends_over awaits (old.carrier.given + 1) [] [] [] later mid before new x ended same)
-first_over units old before new another_way ended same = another_way
+first_over units old before new (another_way t) ended same =
+    another_way (turned_on old.carrier.outgoing before.carrier.outgoing new.carrier.outgoing t
+    (λ octets p. subst (IsPrefix octets) (sym same) p))
+first_over units old before new (answered_last over answer is) ended same = answered_last ended answer (same ∙ is)
 first_over units old before new (ended_by e is) ended same = ended_by ended (same ∙ is)
 
 module _ (proper : AllProper) where
-  no_memory_first : (units : List (List ℕ)) (old before new : End) (rest : List ℕ) → before.carrier.ended ≡ None →
+  no_memory_first : (units : List (List ℕ)) (old before new : End) (rest : List ℕ) → Waits old → before.carrier.ended ≡ None →
       FirstStretch units old before → IsSome new.carrier.ended →
       (new ≡ ends NoMemory before) ⊎ ((packet : List ℕ) × ArePackets (packet ∷ []) rest [] × Starves before packet new) →
       FirstStretch units old new
-  no_memory_first units old before new rest lasts s ended (inl is) = first_over units old before new s ended
+  no_memory_first units old before new rest w lasts s ended (inl is) = first_over units old before new s ended
       (ap (λ (e : End). e.carrier.outgoing) is)
-  no_memory_first units old before new rest lasts (opened_by cr size u later mid us request outgoing x) ended (inr p) =
-      first_over units old before new (opened_by cr size u later mid us request outgoing x) ended
-      (starved_by awaits (old.carrier.given + 1) [] [] [] proper awaits history.begins x.more x.told x.later p.0 before new lasts x.stands (all_octets (p.0 ∷ []) rest [] p.1).0 p.2)
-  no_memory_first units old before new rest lasts (nothing_came none is) ended (inr p) = another_way
-  no_memory_first units old before new rest lasts another_way ended (inr p) = another_way
-  no_memory_first units old before new rest lasts (ended_by e is) ended (inr p) = another_way
+  no_memory_first units old before new rest w lasts (opened_by cr size u later mid us request proposed outgoing x) ended (inr p) =
+      first_over units old before new (opened_by cr size u later mid us request proposed outgoing x) ended
+      (starved_by awaits (old.carrier.given + 1) [] [] [] proper awaits history.begins x.more x.told x.later p.0 before new lasts x.stands
+      (all_octets (p.0 ∷ []) rest [] p.1).0 p.2)
+  no_memory_first units old before new rest w lasts (nothing_came none is) ended (inr p) =
+      starved_waiting units p.0 old new w (all_octets (p.0 ∷ []) rest [] p.1).0 ended
+      (subst (λ (x : End). Starves x p.0 new) is p.2)
+  no_memory_first units old before new rest w lasts (another_way t) ended (inr p) =
+      another_way (turned_on old.carrier.outgoing before.carrier.outgoing new.carrier.outgoing t
+      (λ octets q. ahead_starves octets p.0 before new q p.2))
+  no_memory_first units old before new rest w lasts (answered_last over answer is) ended (inr p) =
+      absurd (never_lasts before.carrier.ended over lasts)
+  no_memory_first units old before new rest w lasts (ended_by e is) ended (inr p) = absurd (never_lasts before.carrier.ended e lasts)
 
   ended_waiting : (units : List (List ℕ)) (piece put rest : List ℕ) (used : ℕ) (old new : Holding) → Waits old.end → used ≡ length piece →
       ArePackets units (old.held.octets ++ piece) rest →
@@ -146,7 +169,7 @@ module _ (proper : AllProper) where
       let cut = more_used awaits 0 [] [] [] proper awaits history.begins f.units old.held.octets piece f.rest f.within f.packets in
       let s = first_packets proper f.units old.end f.before w (all_octets f.units _ _ f.packets) f.taken in
       ended_waiting f.units piece put (f.rest ++ drop f.within piece) used old new w f.all cut ended
-      (no_memory_first f.units old.end f.before new.end f.rest (lasting_of f.before.carrier.ended (waits f.before.lines) f.quiet) s ended
+      (no_memory_first f.units old.end f.before new.end f.rest w (lasting_of f.before.carrier.ended (waits f.before.lines) f.quiet) s ended
       (found_how old piece used new f)) is
 
   -- ---- octets and indications come and go

@@ -1,6 +1,7 @@
 -- Each turn of a calling end whose CR is not answered yet.
 -- For the laws of an end and its captures.
-use Rattle.std.proofs.Common.{◌≡◌, ◌≢◌, ◌∙◌, refl, sym, ap, subst, ℕ, ◌≤◌, ◌==◌, Bool, true, false, if◌then◌else◌, not, List, [], ◌∷◌, ◌++◌, length, take, drop, map, Option, Some, None, is_some, IsSome, inl, inr, ◌⊎◌, arith}
+use Rattle.std.proofs.Common.{◌≡◌, ◌≢◌, ◌∙◌, refl, sym, ap, subst, ℕ, ◌≤◌, ◌==◌, Bool, true, false, if◌then◌else◌, not, List, [], ◌∷◌}
+use Rattle.std.proofs.Common.{◌++◌, length, take, drop, map, Option, Some, None, is_some, IsSome, inl, inr, ◌⊎◌, arith}
 use Rattle.std.proofs.lemmas.Bool.{eq-eqb, eqb-true, leb-true, ltb-false, not-false}
 use Rattle.std.proofs.lemmas.List.{append-nil, append_cancel_left, map-append, take_all}
 use Rattle.osi_tpkt.specs.Stream.{ArePackets}
@@ -28,7 +29,8 @@ use Rattle.osi_session.proofs.SendableLaws.{asked_sendable}
 use Rattle.osi_spdu.specs.Fields.{unit_bits}
 use Rattle.osi_session.specs.Units.{is_profile}
 use Rattle.osi_judge.specs.Running.{sends}
-use Rattle.osi_stack.specs.Calls.{after_open, asked_for, called_octets, calling_octets, calls_with, connect_error, has_given, is_long, is_long_address, opening_of, terms_error, without_first}
+use Rattle.osi_stack.specs.Calls.{after_open, asked_for, called_octets, calling_octets, calls_with, connect_error, has_given, is_long}
+use Rattle.osi_stack.specs.Calls.{is_long_address, opening_of, terms_error, without_first}
 use Rattle.osi_stack.specs.Disconnecting.{awaits_transport, disconnect_error, disconnects, gives_up}
 use Rattle.osi_stack.specs.Feeding.{Feeds, uses_all}
 use Rattle.osi_stack.specs.Feeding.{Goes as GoesThrough}
@@ -49,9 +51,10 @@ use Rattle.osi_stack.proofs.Moves.{kept_first, says_is}
 use Rattle.osi_stack.proofs.Rooms.{found_how}
 use Rattle.osi_stack.proofs.Runs.{none_ended}
 use Rattle.osi_stack.proofs.Shortness.{SpduLaws, sent_short}
-use Rattle.osi_honest.specs.Openings.{Asks, AskingTurn}
-use Rattle.osi_honest.specs.Openings.AskingTurn.{asks_on, ends_so, is_answered, turns_aside}
+use Rattle.osi_honest.specs.Openings.{Asks, AskingTurn, over}
+use Rattle.osi_honest.specs.Openings.AskingTurn.{asks_on, goes_away, is_answered, turns_aside}
 use Rattle.osi_honest.specs.Parts.{Carry, dt}
+use Rattle.osi_honest.specs.Seeing.{IsPrefix}
 use Rattle.osi_honest.specs.Stretches.{octets_said}
 use Rattle.osi_honest.specs.Talking.{Said}
 use Rattle.osi_honest.specs.Talking as history
@@ -60,6 +63,9 @@ use Rattle.osi_honest.specs.Turns.Act.{serving, using}
 use Rattle.osi_honest.proofs.how_a_caller_opens.{CanBegin, FirstStretch, caller_packets, cn_said}
 use Rattle.osi_honest.proofs.how_a_caller_opens.FirstStretch.{another_way, ended_by, nothing_came, opened_by}
 use Rattle.osi_honest.proofs.what_a_packet_does_in_class_0.{AllProper}
+use Rattle.osi_honest.proofs.what_a_shortage_leaves_at_an_asking_end.{starved_asking}
+use Rattle.osi_honest.proofs.what_a_unit_keeps_a_turn_keeps.{kept_starves}
+use Rattle.osi_honest.proofs.what_an_end_without_class_0_puts.{Elsewhere, elsewhere_kept, put_first}
 use Rattle.osi_honest.proofs.what_packets_do_in_class_0.{never_lasts, put_more, said_by, said_more, said_octets}
 use Rattle.osi_honest.proofs.what_a_turn_does_in_class_0.{all_octets, extends_over, front_packets, more_used, starved_by, stopped_within}
 
@@ -111,7 +117,7 @@ can_begin law c h = record {
 
 -- ---- packets
 
-none_put : (old new : Holding) (put : List ℕ) → new.end.carrier.outgoing ≡ old.end.carrier.outgoing ++ put →
+pub none_put : (old new : Holding) (put : List ℕ) → new.end.carrier.outgoing ≡ old.end.carrier.outgoing ++ put →
     new.end.carrier.outgoing ≡ old.end.carrier.outgoing → put ≡ []
 none_put old new put is same = append_cancel_left old.end.carrier.outgoing put []
     (sym is ∙ same ∙ sym (append-nil old.end.carrier.outgoing))
@@ -124,6 +130,12 @@ still_asks r session used put old new w none is same held =
     (held ∙ sym (append-nil old.held.octets) ∙ ap (λ (l : List ℕ). old.held.octets ++ l) (sym none))
 
 module _ (r : ℕ) (session : Listener) where
+  as_elsewhere : (used put : List ℕ) (old new : Holding) → new.end.carrier.outgoing ≡ old.end.carrier.outgoing ++ put →
+      Elsewhere old.end.carrier.outgoing new.end.carrier → AskingTurn r session used put old new
+  as_elsewhere used put old new is (inl p) =
+      turns_aside p.unit p.ahead.0 p.other (put_first old.end.carrier.outgoing put p.ahead.0 p.unit (p.ahead.1 ∙ is))
+  as_elsewhere used put old new is (inr (away, same)) = goes_away away (none_put old new put is same)
+
   as_asking : (units : List (List ℕ)) (used put rest : List ℕ) (old new : Holding) → Asks r session old.end →
       FirstStretch r session units old.end new.end →
       ArePackets units (old.held.octets ++ used) rest → (new.end.carrier.ended ≡ None → rest ≡ new.held.octets) →
@@ -133,7 +145,7 @@ module _ (r : ℕ) (session : Listener) where
       let still : Asks r session new.end = subst (Asks r session) (sym same) w in
       let whole : old.held.octets ++ used ≡ rest = subst (λ (us : List (List ℕ)). ArePackets us (old.held.octets ++ used) rest) none cut in
       asks_on still (none_put old new put is (ap (λ (e : End). e.carrier.outgoing) same)) (sym (whole ∙ held still.lasts))
-  as_asking units used put rest old new w (opened_by destination answer u later mid us is_cc puts x) cut held is =
+  as_asking units used put rest old new w (opened_by destination answer u later mid us is_cc zero puts x) cut held is =
       let all = subst (λ (l : List (List ℕ)). ArePackets l (old.held.octets ++ used) rest) us cut in
       let fronts = front_packets session r [] (cn_said session) [] x.front x.back all.1 rest
       (subst (λ (l : List (List ℕ)). ArePackets l all.1 rest) x.parts all.4) in
@@ -147,6 +159,7 @@ module _ (r : ℕ) (session : Listener) where
         answer = answer;
         first = u;
         is_answer = is_cc;
+        of_zero = zero;
         more = x.more;
         told = cn_said session ++ x.told;
         later = x.later;
@@ -162,34 +175,43 @@ module _ (r : ℕ) (session : Listener) where
         brings = x.brings;
         held = λ lasts. subst (λ (l : List (List ℕ)). ArePackets l fronts.0 rest) (x.all lasts) fronts.2 ∙ held lasts;
       })
-  as_asking units used put rest old new w another_way cut held is = turns_aside
-  as_asking units used put rest old new w (ended_by ended same) cut held is = ends_so ended (none_put old new put is same)
+  as_asking units used put rest old new w (another_way p) cut held is = as_elsewhere used put old new is p
+  as_asking units used put rest old new w (ended_by ended same) cut held is = goes_away (over ended) (none_put old new put is same)
 
   first_over : (units : List (List ℕ)) (old before new : End) → FirstStretch r session units old before → IsSome new.carrier.ended →
       new.carrier.outgoing ≡ before.carrier.outgoing →
       FirstStretch r session units old new
   first_over units old before new (nothing_came none is) ended same = ended_by ended (same ∙ ap (λ (e : End). e.carrier.outgoing) is)
-  first_over units old before new (opened_by destination answer u later mid us is_cc puts x) ended same =
-      opened_by destination answer u later mid us is_cc puts
+  first_over units old before new (opened_by destination answer u later mid us is_cc zero puts x) ended same =
+      opened_by destination answer u later mid us is_cc zero puts
       (extends_over session r [] (cn_said session) [] later mid before new x ended same)
-  first_over units old before new another_way ended same = another_way
+  first_over units old before new (another_way (inl p)) ended same =
+      another_way (inl (record {
+        unit = p.unit;
+        other = p.other;
+        ahead = subst (IsPrefix (old.carrier.outgoing ++ packets (p.unit ∷ []))) (sym same) p.ahead;
+      }))
+  first_over units old before new (another_way (inr p)) ended same = another_way (inr (over ended, same ∙ p.1))
   first_over units old before new (ended_by e is) ended same = ended_by ended (same ∙ is)
 
   module _ (proper : AllProper) (begins : CanBegin session) where
-    no_memory_first : (units : List (List ℕ)) (old before new : End) (rest : List ℕ) → before.carrier.ended ≡ None →
+    no_memory_first : (units : List (List ℕ)) (old before new : End) (rest : List ℕ) → Asks r session old → before.carrier.ended ≡ None →
         FirstStretch r session units old before → IsSome new.carrier.ended →
         (new ≡ ends NoMemory before) ⊎ ((packet : List ℕ) × ArePackets (packet ∷ []) rest [] × Starves before packet new) →
         FirstStretch r session units old new
-    no_memory_first units old before new rest lasts s ended (inl is) = first_over units old before new s ended
+    no_memory_first units old before new rest w lasts s ended (inl is) = first_over units old before new s ended
         (ap (λ (e : End). e.carrier.outgoing) is)
-    no_memory_first units old before new rest lasts (opened_by destination answer u later mid us is_cc puts x) ended (inr p) =
-        first_over units old before new (opened_by destination answer u later mid us is_cc puts x) ended
+    no_memory_first units old before new rest w lasts (opened_by destination answer u later mid us is_cc zero puts x) ended (inr p) =
+        first_over units old before new (opened_by destination answer u later mid us is_cc zero puts x) ended
         (starved_by session r [] (cn_said session) [] proper _
         (history.connects [] [] session history.begins) x.more x.told x.later p.0 before new lasts x.stands
         (all_octets (p.0 ∷ []) rest [] p.1).0 p.2)
-    no_memory_first units old before new rest lasts (nothing_came none is) ended (inr p) = another_way
-    no_memory_first units old before new rest lasts another_way ended (inr p) = another_way
-    no_memory_first units old before new rest lasts (ended_by e is) ended (inr p) = another_way
+    no_memory_first units old before new rest w lasts (nothing_came none is) ended (inr p) =
+        another_way (starved_asking r session p.0 old w new (all_octets (p.0 ∷ []) rest [] p.1).0 ended
+        (subst (λ (x : End). Starves x p.0 new) is p.2))
+    no_memory_first units old before new rest w lasts (another_way q) ended (inr p) =
+        another_way (kept_starves (Elsewhere old.carrier.outgoing) (elsewhere_kept old.carrier.outgoing) p.0 before new q p.2)
+    no_memory_first units old before new rest w lasts (ended_by e is) ended (inr p) = absurd (never_lasts before.carrier.ended e lasts)
 
     ended_asking : (units : List (List ℕ)) (piece put rest : List ℕ) (used : ℕ) (old new : Holding) → Asks r session old.end →
         used ≡ length piece → ArePackets units (old.held.octets ++ piece) rest →
@@ -225,7 +247,7 @@ module _ (r : ℕ) (session : Listener) where
         let cut = more_used session r [] [] [] proper session history.begins f.units old.held.octets piece f.rest f.within f.packets in
         let s = caller_packets proper r session f.units old.end f.before w begins (all_octets f.units _ _ f.packets) f.taken in
         ended_asking f.units piece put (f.rest ++ drop f.within piece) used old new w f.all cut ended
-        (no_memory_first f.units old.end f.before new.end f.rest
+        (no_memory_first f.units old.end f.before new.end f.rest w
         (lasting_of f.before.carrier.ended (waits f.before.lines) f.quiet) s ended (found_how old piece used new f)) is
 
     feed_asking : (piece put : List ℕ) (fed : Fed) (old new : Holding) (b : Bool) → waits old.end.lines ≡ b → Asks r session old.end →
@@ -347,7 +369,8 @@ module _ (r : ℕ) (session : Listener) where
   using_asking breaking put old new waiting w allowed is outgoing =
       let there : new.end ≡ ends Broken old.end = ap (λ (x : Holding). x.end) is
       ∙ ap (λ (b : Bool). if b then old.end else ends Broken old.end) (ap is_some w.lasts) in
-      ends_so (ap (λ (e : End). is_some e.carrier.ended) there) (none_put old new put outgoing (ap (λ (e : End). e.carrier.outgoing) there))
+      goes_away (over (ap (λ (e : End). is_some e.carrier.ended) there))
+      (none_put old new put outgoing (ap (λ (e : End). e.carrier.outgoing) there))
 
   pub turn_asks : AllProper → CanBegin session → is_wait_transport session.state.phase ≡ true → (turn : Turn) (old new : Holding) →
       Asks r session old.end → Takes old turn new →

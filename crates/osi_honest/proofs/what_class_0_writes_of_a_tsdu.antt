@@ -1,6 +1,7 @@
 -- A TSDU that is handed to an open connection of class 0 is written at once, whole, and the link is as it was before.
 -- For what a session of class 0 puts.
-use Rattle.std.proofs.Common.{◌≡◌, ◌∙◌, refl, sym, ap, subst, ℕ, zero, suc, ◌<◌, ◌≤◌, Bool, true, false, if◌then◌else◌, nat_lt, List, [], ◌∷◌, ◌++◌, length, take, drop, map, Some, None, is_some, arith, append_assoc, length-drop, take-append-drop}
+use Rattle.std.proofs.Common.{◌≡◌, ◌∙◌, refl, sym, ap, subst, ℕ, zero, suc, ◌<◌, ◌≤◌, Bool, true, false, if◌then◌else◌, nat_lt, List, []}
+use Rattle.std.proofs.Common.{◌∷◌, ◌++◌, length, take, drop, map, Some, None, is_some, arith, append_assoc, length-drop, take-append-drop}
 use Rattle.std.proofs.lemmas.Bool.{eq-eqb, ltb-true}
 use Rattle.std.proofs.lemmas.List.{append-nil, map-append}
 use Rattle.std.proofs.lemmas.List.Concat.{flat_map-append}
@@ -15,7 +16,7 @@ use Rattle.osi_class.proofs.Giving.{drained_none, drained_some}
 use Rattle.osi_carrier.specs.Calls.{link_of, open_link, sent, sent_all, sent_on}
 use Rattle.osi_carrier.specs.Rows.{Rows, put, value_at}
 use Rattle.osi_carrier.specs.State.{Connection, State, linked, packets}
-use Rattle.osi_honest.specs.Parts.{Carry, IsOpenZero, IsWritten, adds, dt, resting}
+use Rattle.osi_honest.specs.Parts.{Carry, IsOpenZero, IsWritten, adds, dt, ends_whole, resting}
 
 -- ---- the parts of one TSDU
 
@@ -27,6 +28,7 @@ holding_one limit begun tsdu = zero_standing (record { limit = limit; unsent = t
 
 record Whole (limit : ℕ) (begun tsdu : List ℕ) : Type 0 where
   parts : List Part
+  ends : (before : Bool) → ends_whole before parts ≡ true
   all : drained (holding_one limit begun tsdu) ≡ record { units = map as_given parts; link = zero_standing (resting limit begun) }
   makes : (b : List ℕ) (later : List Part) → tsdus_after b (parts ++ later) ≡ (b ++ tsdu) ∷ tsdus_after [] later
 
@@ -45,6 +47,7 @@ next_part limit begun tsdu e = rw e refl
 last_whole : (limit : ℕ) (begun tsdu : List ℕ) → 0 < limit → nat_lt limit (length tsdu) ≡ false → Whole limit begun tsdu
 last_whole limit begun tsdu some e = record {
   parts = (true, tsdu) ∷ [];
+  ends = λ before. refl;
   all = drained_some (holding_one limit begun tsdu) (zero_standing (resting limit begun)) (part0 true tsdu) some
       (next_last limit begun tsdu e)
       ∙ ap (λ (d : Drained). record { units = part0 true tsdu ∷ d.units; link = d.link }) (nothing_left limit begun);
@@ -55,6 +58,7 @@ more_whole : (limit : ℕ) (begun tsdu : List ℕ) → 0 < limit → nat_lt limi
     Whole limit begun tsdu
 more_whole limit begun tsdu some e rest = record {
   parts = (false, take limit tsdu) ∷ rest.parts;
+  ends = λ before. rest.ends false;
   all = drained_some (holding_one limit begun tsdu) (holding_one limit begun (drop limit tsdu)) (part0 false (take limit tsdu)) some
       (next_part limit begun tsdu e)
       ∙ ap (λ (d : Drained). record { units = part0 false (take limit tsdu) ∷ d.units; link = d.link }) rest.all;
@@ -103,7 +107,7 @@ sent_one r peer limit begun tsdu s h =
     ap (put r (linked peer link)) h.live ∙ put_one r (linked peer link) (linked peer link) ∙ sym h.live in
     record {
       parts = w.parts;
-      carry = λ later. w.makes [] later;
+      carry = (w.ends true, λ later. w.makes [] later);
       is = ap (λ o. sent_on r tsdu o s) (open_is r peer limit begun s h)
           ∙ ap (λ (d : Drained). record s {
             live = put r (linked peer d.link) s.live;
@@ -120,11 +124,17 @@ added_open r peer limit begun octets s h = record { some = h.some; lasts = h.las
 pub packets_joined : (us vs : List Value) → packets (us ++ vs) ≡ packets us ++ packets vs
 packets_joined us vs = flat_map-append (λ unit. packet_of (written unit)) us vs
 
+ends_more : (before : Bool) (parts more : List Part) → ends_whole before (parts ++ more) ≡ ends_whole (ends_whole before parts) more
+ends_more before [] more = refl
+ends_more before (part ∷ parts) more = ends_more part.0 parts more
+
 pub carry_more : (parts more : List Part) (tsdus others : List (List ℕ)) → Carry parts tsdus → Carry more others →
     Carry (parts ++ more) (tsdus ++ others)
-carry_more parts more tsdus others c d later =
-    ap (tsdus_after []) (append_assoc parts more later) ∙ c (more ++ later) ∙ ap (λ (x : List (List ℕ)). tsdus ++ x) (d later)
-    ∙ sym (append_assoc tsdus others (tsdus_after [] later))
+carry_more parts more tsdus others c d = (
+  ends_more true parts more ∙ ap (λ (b : Bool). ends_whole b more) c.0 ∙ d.0,
+  λ later. ap (tsdus_after []) (append_assoc parts more later) ∙ c.1 (more ++ later)
+      ∙ ap (λ (x : List (List ℕ)). tsdus ++ x) (d.1 later) ∙ sym (append_assoc tsdus others (tsdus_after [] later)),
+)
 
 pub written_more : (tsdus others : List (List ℕ)) (old mid new : State) → IsWritten tsdus old mid → IsWritten others mid new →
     IsWritten (tsdus ++ others) old new
@@ -140,7 +150,7 @@ written_more tsdus others old mid new w v = record {
 pub none_written : (s : State) → IsWritten [] s s
 none_written s = record {
   parts = [];
-  carry = λ later. refl;
+  carry = (refl, λ later. refl);
   is = ap (λ (x : List ℕ). record s { outgoing = x })
       (sym (append-nil s.outgoing));
 }

@@ -1,6 +1,7 @@
 -- Packets one after the other at an open connection of class 0: what the session took, sent and put.
 -- For the turns of an end.
-use Rattle.std.proofs.Common.{◌≡◌, ◌∙◌, refl, sym, ap, subst, ℕ, ◌+◌, ◌≤◌, Bool, true, false, List, [], ◌∷◌, ◌++◌, length, map, Option, Some, None, IsSome, inl, inr, append_assoc, length-append, arith}
+use Rattle.std.proofs.Common.{◌≡◌, ◌∙◌, refl, sym, ap, subst, ℕ, ◌+◌, ◌≤◌, Bool, true, false, List, [], ◌∷◌, ◌++◌, length, map, Option}
+use Rattle.std.proofs.Common.{Some, None, IsSome, inl, inr, append_assoc, length-append, arith}
 use Rattle.std.specs.List.{AllByRecursion}
 use Rattle.std.proofs.lemmas.List.{append-nil, map-append}
 use Rattle.osi_tpkt.specs.Octets.{IsOctets}
@@ -24,7 +25,7 @@ use Rattle.osi_honest.proofs.what_a_packet_does_in_class_0.{AllProper, packet_ac
 -- ---- what is put one after the other
 
 pub none_put : (old new : Carrier) → new.outgoing ≡ old.outgoing → Puts [] old new
-none_put old new same = record { parts = []; carry = λ later. refl; short = tt; outgoing = same ∙ sym (append-nil old.outgoing) }
+none_put old new same = record { parts = []; carry = (refl, λ later. refl); short = tt; outgoing = same ∙ sym (append-nil old.outgoing) }
 
 short_more : (some others : List (List ℕ)) → AreShort some → AreShort others → AreShort (some ++ others)
 short_more [] others a b = b

@@ -5,3 +5,4 @@ pub mod Stretches
 pub mod Reading
 pub mod Showing
 pub mod Openings
+pub mod Seeing

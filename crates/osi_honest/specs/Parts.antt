@@ -1,5 +1,5 @@
 -- TSDUs of class 0 in the units that carry them.
-use Rattle.std.specs.Prelude.{◌≡◌, ◌<◌, ℕ, List, [], ◌∷◌, ◌++◌, map, None}
+use Rattle.std.specs.Prelude.{◌≡◌, ◌<◌, ℕ, Bool, true, List, [], ◌∷◌, ◌++◌, map, None}
 use Rattle.osi_tpdu.specs.Value.{Value, data0}
 use Rattle.osi_tpdu.specs.Writing.{written}
 use Rattle.osi_class.specs.Ends.{Ends}
@@ -17,9 +17,14 @@ dt part = data0 part.0 part.1
 abbrev pub units_put : List Part → List (List ℕ)
 units_put parts = map (λ part. written (dt part)) parts
 
--- These parts are these TSDUs, each of them whole: what comes later begins a TSDU.
+-- the last of these parts ends a TSDU; if there are none, the part before them did, or not
+abbrev pub ends_whole : Bool → List Part → Bool
+ends_whole before [] = before
+ends_whole before (part ∷ parts) = ends_whole part.0 parts
+
+-- These parts are these TSDUs, each of them whole: the last part ends one, and what comes later begins one.
 abbrev pub Carry : List Part → List (List ℕ) → Type 0
-Carry parts tsdus = (later : List Part) → tsdus_after [] (parts ++ later) ≡ tsdus ++ tsdus_after [] later
+Carry parts tsdus = (ends_whole true parts ≡ true) × ((later : List Part) → tsdus_after [] (parts ++ later) ≡ tsdus ++ tsdus_after [] later)
 
 -- a link that has nothing to send, and these octets of an unfinished TSDU
 abbrev pub resting : (limit : ℕ) → List ℕ → Ends

@@ -1,13 +1,17 @@
 //! Laws of an end and its captures. Each function does nothing: its clauses are the laws.
 
 ghost use Rattle.std.specs.Prelude.{◌≡◌, ℕ, Bool, false, true, List, None, length, map};
+ghost use Rattle.osi_tpkt.specs.Stream.{Cuts, Ending};
 ghost use Rattle.osi_class.specs.Tsdus.{Part};
 ghost use Rattle.osi_class.specs.declared.terms.Local.{Local};
+ghost use Rattle.osi_judge.specs.Captures.{Capture, stream};
 ghost use Rattle.osi_judge.specs.Explaining.{IsExplained, Told};
 ghost use Rattle.osi_judge.specs.Running.{IsSentFrom};
-ghost use Rattle.osi_judge.specs.Tapping.{octets_of};
+ghost use Rattle.osi_judge.specs.Stops.{broke_session};
+ghost use Rattle.osi_judge.specs.Tapping.{IsFoundIn, octets_of};
 ghost use Rattle.osi_judge.specs.Transport.{Handshake, Stage, between, sent_from};
 ghost use Rattle.osi_judge.specs.declared.directions.Direction.{Direction};
+ghost use Rattle.osi_judge.specs.declared.findings.Finding.{Finding};
 ghost use Rattle.osi_session.specs.Listening.{Listener};
 ghost use Rattle.osi_session.specs.Sessions.{awaits, opens, refusal_of};
 ghost use Rattle.osi_session.specs.Standing.{seen_called, seen_calling};
@@ -16,15 +20,16 @@ ghost use Rattle.osi_stack.specs.Calls.{calls_with, connects, terms_error};
 ghost use Rattle.osi_stack.specs.Messages.{AreShort};
 ghost use Rattle.osi_stack.specs.State.{Holding, fresh_end};
 ghost use Rattle.osi_stack.specs.declared.connecting.Connect.{Connect};
-ghost use Rattle.osi_honest.specs.Openings.{Asks, AskingTurn, Waits, WaitingTurn};
+ghost use Rattle.osi_honest.specs.Openings.{Asks, AskingTurn, Idles, IdleTurn, Waits, WaitingTurn};
 ghost use Rattle.osi_honest.specs.Parts.{Carry, units_put};
 ghost use Rattle.osi_honest.specs.Reading.{IsReading};
+ghost use Rattle.osi_honest.specs.Seeing.{EndsWithin, IsFresh, IsSeen};
 ghost use Rattle.osi_honest.specs.Showing.{AreSame, Shows};
 ghost use Rattle.osi_honest.specs.Stretches.{Brings, GoesAlong, Stands};
 ghost use Rattle.osi_honest.specs.Talking.{History, Said, told_of};
 ghost use Rattle.osi_honest.specs.Turns.{Run, Takes, Turn};
 
-use osi_judge::laws::an_honest_session_is_explained;
+use osi_judge::laws::{an_honest_session_is_explained, an_honest_side_is_not_blamed};
 use osi_session::laws::what_closes_sends_nothing;
 use osi_spdu::laws::{few_octets_fit, serial_digits};
 
@@ -47,8 +52,8 @@ pub fn what_an_open_end_puts()
 
 /// How a called end opens its connection in class 0: each turn of an end that waits for the first CR. It waits on and
 /// puts nothing; or the first packet has a CR that is accepted in class 0, a CC is put, and what its session then takes
-/// and sends is as at an open end; or the end is over, with nothing put. What a CR does that is refused or accepted in
-/// class 2, and an end that runs out of memory for the first packet, are left out here (`turns_away`).
+/// and sends is as at an open end; or the end is over, with nothing put, or one answer; or another answer to a CR is put
+/// first: a refusal, or a CC of class 2.
 pub fn what_a_waiting_end_puts()
     ensures begins { (local : Local) → Waits (fresh_end false local) }
     ensures turn { (turn : Turn) (old new : Holding) → Waits old.end → Takes old turn new →
@@ -59,11 +64,14 @@ pub fn what_a_waiting_end_puts()
     what_closes_sends_nothing();
 }
 
-/// How a calling end opens its connection in class 0: each turn of an end whose CR is not answered yet. It asks on and
+/// How a calling end opens its connection in class 0. Until it requests one it puts nothing, unless a DR arrives that nobody
+/// asked for: it answers that by a DC (`idle`). Then each turn of an end whose CR is not answered yet. It asks on and
 /// puts nothing; or the first packet has a CC of class 0, the session sends its CN, and what it then takes and sends is
-/// as at an open end; or the end is over, with nothing put. A CR that is refused or accepted in class 2, a DR that is
-/// answered by a DC, and an end that runs out of memory for the first packet are left out here (`turns_aside`).
+/// as at an open end; or it has no connection of class 0 any more (the CR was refused, or accepted in class 2, or the end is
+/// over), with nothing put; or what it puts first is no DT of class 0.
 pub fn what_an_asking_end_puts()
+    ensures fresh { (local : Local) → Idles (fresh_end true local) }
+    ensures idle { (turn : Turn) (old new : Holding) → Idles old.end → Takes old turn new → IdleTurn turn.used turn.put old new }
     ensures begins { (c : Connect) (local : Local) → Asks 1 (calls_with c) (connects c (fresh_end true local)) }
     ensures turn { (r : ℕ) (c : Connect) (turn : Turn) (old new : Holding) → terms_error c ≡ None →
         Asks r (calls_with c) old.end → Takes old turn new → AskingTurn r (calls_with c) turn.used turn.put old new }
@@ -87,10 +95,10 @@ pub fn what_a_session_said_is_explained()
 /// The judge reads both directions as the end does. From the packets that an end puts for TSDUs it reads these TSDUs
 /// (`put`), and from the packets that an end takes the TSDUs that its session takes (`taken`).
 pub fn what_is_put_and_taken_is_read()
-    ensures put { (d : Direction) (met : ℕ → Handshake) (at : ℕ) (parts : List Part) (tsdus : List (List ℕ)) → Carry parts tsdus → AreShort tsdus →
-        map octets_of (sent_from d met between at (units_put parts)) ≡ tsdus }
-    ensures taken { (d : Direction) (met : ℕ → Handshake) (stage : Stage) (begun : List ℕ) (at : ℕ) (units tsdus : List (List ℕ)) (later : List ℕ) →
-        IsReading stage begun → Brings begun units tsdus later → map octets_of (sent_from d met stage at units) ≡ tsdus }
+    ensures put { (d : Direction) (met : ℕ → Handshake) (at : ℕ) (parts : List Part) (tsdus : List (List ℕ)) → Carry parts tsdus →
+        AreShort tsdus → map octets_of (sent_from d met between at (units_put parts)) ≡ tsdus }
+    ensures taken { (d : Direction) (met : ℕ → Handshake) (stage : Stage) (begun : List ℕ) (at : ℕ) (units tsdus : List (List ℕ))
+        (later : List ℕ) → IsReading stage begun → Brings begun units tsdus later → map octets_of (sent_from d met stage at units) ≡ tsdus }
 {}
 
 /// A capture need not show all that a session sent, nor all that it took; and more of the other side's TSDUs may have
@@ -101,4 +109,41 @@ pub fn what_is_put_and_taken_is_read()
 pub fn what_a_capture_shows_is_a_run()
     ensures { (begin : Listener) (took us : List (List ℕ)) (said : List Said) (told : List Told) (closed : Bool) (l : Listener) →
         History begin took said closed l → AreSame us took → Shows (length us) told (map told_of said) → IsSentFrom begin us told }
+{}
+
+/// The session of a called end is never blamed. Take any run of an end of this library that began as a fresh called end:
+/// any pieces of whatever octets arrive, any calls of its user, any shortage of memory. Take any capture of it, at a tap
+/// anywhere between the two ends ([`IsSeen`]). Then the judge never finds that this side's session broke the protocol or
+/// left the profile.
+///
+/// [`IsSeen`]: ../specs/Seeing.antt
+pub fn a_called_end_is_not_blamed()
+    ensures { (local : Local) (begin end : Holding) (turns : List Turn) (capture : Capture) (finding : Finding) →
+        IsFresh false local begin → Run begin turns end → IsSeen Direction.Right turns capture →
+        IsFoundIn Direction.Right capture finding → broke_session finding ≡ false }
+{
+    few_octets_fit();
+    serial_digits();
+    what_closes_sends_nothing();
+    an_honest_side_is_not_blamed();
+}
+
+/// Nor is the session of a calling end. Take any run of an end that began as a fresh calling end, and any capture of it. Its
+/// request may be made at any time, refused, or accepted in either class, and it may make others.
+pub fn a_calling_end_is_not_blamed()
+    ensures { (local : Local) (begin end : Holding) (turns : List Turn) (capture : Capture) (finding : Finding) →
+        IsFresh true local begin → Run begin turns end → IsSeen Direction.Left turns capture →
+        IsFoundIn Direction.Left capture finding → broke_session finding ≡ false }
+{
+    few_octets_fit();
+    serial_digits();
+    what_closes_sends_nothing();
+    an_honest_side_is_not_blamed();
+}
+
+/// What a capture shows of an end is packets, and then perhaps the beginning of one, whatever arrives, whatever its user
+/// calls and however much memory there is. So of an end the judge never finds a bad packet.
+pub fn what_a_capture_shows_is_packets()
+    ensures { (d : Direction) (capture : Capture) (begin end : Holding) (turns : List Turn) (units : List (List ℕ)) (ending : Ending) →
+        Run begin turns end → IsSeen d turns capture → Cuts (stream d capture) units ending → EndsWithin ending }
 {}

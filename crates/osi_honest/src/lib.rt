@@ -1,7 +1,7 @@
 //! What an end of this library puts on the byte connection, in the words in which the judge reads a capture. The crate
 //! has definitions and laws; nothing here runs.
 //!
-//! Read it if you want to know why `osi judge` should blame an end of this library for nothing. It joins two crates that
+//! Read it if you want to know why `osi judge` blames no session of an end of this library. It joins two crates that
 //! know nothing of each other: `osi_stack` says what an end is after octets and calls, and `osi_judge` which runs of a
 //! session explain what a side sent. It speaks of one connection of class 0.
 //!
@@ -14,9 +14,11 @@
 //!   sends, and that this is what was put: [`laws::what_an_open_end_puts`]. How a called and a calling end come to be open
 //!   is in `specs/Openings.antt`: [`laws::what_a_waiting_end_puts`], [`laws::what_an_asking_end_puts`].
 //! - The judge reads these packets as the end does: [`laws::what_is_put_and_taken_is_read`].
+//! - What a tap between the two ends shows of such an end is `IsSeen` (`specs/Seeing.antt`). The session of an end is blamed
+//!   nowhere in any capture of it: [`laws::a_called_end_is_not_blamed`], [`laws::a_calling_end_is_not_blamed`].
 //!
-//! It doesn't say yet that a whole capture of an end is never blamed: for that, positions in a capture have to be counted
-//! against turns.
+//! It doesn't say yet that the transport of an end is never blamed, except for bad packets
+//! ([`laws::what_a_capture_shows_is_packets`]).
 #![tactic(auto)]
 
 pub mod laws;

@@ -3,7 +3,14 @@ use Rattle.osi_stack.specs.Calls.{calls_with}
 use Rattle.osi_stack.proofs.Shortness.{SpduLaws}
 use Rattle.osi_honest.proofs.what_a_session_answers_fits.{all_proper}
 use Rattle.osi_honest.proofs.what_an_asking_end_does.{can_begin, turn_asks}
+use Rattle.osi_honest.proofs.what_an_idle_end_does.{idle_turn}
 use Rattle.osi_honest.proofs.laws.what_an_asking_end_puts.Goals as goal
+
+pub returns-clause-fresh : goal.returns-clause-fresh
+returns-clause-fresh c = λ local. record { lasts = refl; is_caller = refl; class = refl; live = refl; told = refl; lines = refl }
+
+pub returns-clause-idle : goal.returns-clause-idle
+returns-clause-idle c = idle_turn
 
 pub returns-clause-begins : goal.returns-clause-begins
 returns-clause-begins c = λ asks local. record { lasts = refl; is_caller = refl; class = refl; live = refl; told = refl; here = refl }

@@ -1,0 +1,92 @@
+-- The session of a request that is accepted begins as a caller does, with the CN of some opening that osi_session accepts.
+-- For the law that a calling end is not blamed.
+use Rattle.std.proofs.Common.{◌≡◌, refl, ℕ, ◌||◌, Bool, true, false, not, if◌then◌else◌, List, length, nat_le}
+use Rattle.std.proofs.Common.{Option, Some, None, option_map}
+use Rattle.std.proofs.lemmas.Bool.{ltb-false}
+use Rattle.osi_spdu.specs.Fields.{unit_bits}
+use Rattle.osi_spdu.specs.Sizes.{named_by}
+use Rattle.osi_spdu.specs.declared.selectors.Selector.{Selector}
+use Rattle.osi_message.specs.Meanings.{CN, selector_octets}
+use Rattle.osi_session.specs.Allowed.{most_user_data, serial_for}
+use Rattle.osi_session.specs.Listening.{Listener}
+use Rattle.osi_session.specs.Sessions.{opens, refusal_of}
+use Rattle.osi_session.specs.Sides.{offered}
+use Rattle.osi_session.specs.Units.{functional_units, is_profile}
+use Rattle.osi_session.specs.declared.opening.Opening.{Opening}
+use Rattle.osi_stack.specs.Calls.{called_octets, calling_octets, calls_with, is_long, is_long_address, opening_of, terms_error}
+use Rattle.osi_stack.specs.declared.connecting.Connect.{Connect}
+
+-- a selector of these octets
+record Named (octets : Option (List ℕ)) : Type 0 where
+  selector : Option Selector
+  is : selector_octets selector ≡ octets
+
+calling_named : (c : Connect) → is_long_address (calling_octets c) ≡ false → Named (calling_octets c)
+calling_named c = (elim (c.calling_selector) as (λ o. is_long_address (option_map (λ s. s.now) o) ≡ false →
+    Named (option_map (λ s. s.now) o)) [
+      | None ↦ λ h. record { selector = None; is = refl }
+      | Some s ↦ λ h. record { selector = Some (record { octets = s; short = ltb-false 16 (length s.now) h }); is = refl }
+    ])
+
+called_named : (c : Connect) → is_long_address (called_octets c) ≡ false → Named (called_octets c)
+called_named c = (elim (c.called_selector) as (λ o. is_long_address (option_map (λ s. s.now) o) ≡ false →
+    Named (option_map (λ s. s.now) o)) [
+      | None ↦ λ h. record { selector = None; is = refl }
+      | Some s ↦ λ h. record { selector = Some (record { octets = s; short = ltb-false 16 (length s.now) h }); is = refl }
+    ])
+
+-- what the terms say
+record Terms (profile long : Bool) : Type 0 where
+  is_profile : profile ≡ true
+  is_short : long ≡ false
+
+terms_by : {E : Type 0} (profile long : Bool) (a b : E) → (if not profile then Some a else (if long then Some b else None)) ≡ None →
+    Terms profile long
+terms_by true true a b e = absurd (cc)
+terms_by true false a b e = record { is_profile = refl; is_short = refl }
+terms_by false long a b e = absurd (cc)
+
+or_left : (a b : Bool) → (a || b) ≡ false → a ≡ false
+or_left true b e = e
+or_left false b e = refl
+
+or_right : (a b : Bool) → (a || b) ≡ false → b ≡ false
+or_right true b e = absurd (cc)
+or_right false b e = e
+
+not_so : (b : Bool) → not b ≡ false → b ≡ true
+not_so true e = refl
+not_so false e = absurd (cc)
+
+accepted_by : {E : Type 0} (profile few : Bool) (a b : E) → profile ≡ true → few ≡ true →
+    (if not profile then Some a else (if not few then Some b else None)) ≡ None
+accepted_by true true a b p q = refl
+accepted_by true false a b p q = absurd (cc)
+accepted_by false few a b p q = absurd (cc)
+
+abbrev with_selectors : Connect → Option (List ℕ) → Option (List ℕ) → Listener
+with_selectors c calling called = record (calls_with c) {
+  waiting = Some (CN true (unit_bits c.requirements) (serial_for (functional_units (unit_bits c.requirements)) c.serial.number)
+      (offered (functional_units (unit_bits c.requirements)) c.wishes) calling called (named_by c.sizes) c.user_data.now);
+}
+
+-- An opening with which a session of osi_session begins as this one does.
+pub record OpensSo (session : Listener) : Type 0 where
+  pub opening : Opening
+  pub accepted : refusal_of opening ≡ None
+  pub begins : opens opening ≡ session
+
+pub opens_so : (c : Connect) → terms_error c ≡ None → OpensSo (calls_with c)
+opens_so c h =
+    let terms = terms_by (is_profile (unit_bits c.requirements)) (is_long c) _ _ h in
+    let rest = or_right (is_long_address (calling_octets c)) _ terms.is_short in
+    let calling = calling_named c (or_left (is_long_address (calling_octets c)) _ terms.is_short) in
+    let called = called_named c (or_left (is_long_address (called_octets c)) _ rest) in
+    let few = not_so (nat_le (length c.user_data.now) most_user_data) (or_right (is_long_address (called_octets c)) _ rest) in
+    let o : Opening = record (opening_of c) { calling_selector = calling.selector; called_selector = called.selector } in
+    record {
+      opening = o;
+      accepted = accepted_by (is_profile (unit_bits c.requirements)) (nat_le (length c.user_data.now) most_user_data)
+          _ _ terms.is_profile few;
+      begins = (λ i. with_selectors c (calling.is i) (called.is i));
+    }

@@ -1,0 +1,118 @@
+-- What each unit that arrives and each TSDU of a session leave true of a carrier, a turn of an end leaves true, whatever
+-- arrives and however much memory there is.
+-- For what an end puts that has no connection of class 0.
+use Rattle.std.proofs.Common.{◌≡◌, refl, sym, ap, subst, ℕ, Bool, true, false, if◌then◌else◌, List, [], ◌∷◌, length, Option, Some, None}
+use Rattle.std.proofs.Common.{is_some, Result, Ok, Err, inl, inr, ◌⊎◌}
+use Rattle.osi_tpdu.specs.Packet.{units_of}
+use Rattle.osi_tpdu.specs.Value.{Value}
+use Rattle.osi_tpdu.specs.declared.faults.TpduFault.{TpduFault}
+use Rattle.osi_carrier.specs.Happenings.{Happening}
+use Rattle.osi_carrier.specs.Packets as carriers
+use Rattle.osi_carrier.specs.React.{react, reacts}
+use Rattle.osi_carrier.specs.State.{State as Carrier}
+use Rattle.osi_carrier.specs.State as states
+use Rattle.osi_carrier.specs.declared.ends.EndReason.{EndReason}
+use Rattle.osi_carrier.specs.declared.ends.EndReason.TheVariants.{NoMemory}
+use Rattle.osi_tpkt.specs.Stream.{ArePackets}
+use Rattle.osi_tpkt.specs.declared.cutting.Fed.{Fed}
+use Rattle.osi_stack.specs.Feeding.{Feeds, TakesPackets}
+use Rattle.osi_stack.specs.Feeding.{Goes as GoesThrough}
+use Rattle.osi_stack.specs.Hearing.{RunsOut, Starves, after_packet, attends, ends, hears_all, hears_times, with_carrier, with_events}
+use Rattle.osi_stack.specs.State.{End, Holding, waits}
+use Rattle.osi_stack.proofs.Events.{concluded_carrier}
+use Rattle.osi_stack.proofs.Lifting.{packet_is, quiet_stops}
+use Rattle.osi_stack.proofs.Rooms.{found_how}
+use Rattle.osi_stack.proofs.Stepwise.{Carries, events_heard, session_carried}
+
+-- what a carrier keeps as units arrive and sessions speak, whatever events are queued, and at its end
+pub record IsKept (P : Carrier → Type 0) : Type 0 where
+  pub reacts_to : (v : Value) (c : Carrier) → P c → P (react v c)
+  pub carries : Carries P
+  pub untold : (events : List Happening) (c : Carrier) → P c → P (record c { events = events })
+  pub ends_so : (reason : EndReason) (c : Carrier) → P c → P (states.ends reason c)
+
+module _ (P : Carrier → Type 0) (kept : IsKept P) where
+  -- ---- units and packets at the carrier
+
+  pub kept_units : (units : List Value) (c : Carrier) → P c → P (reacts units c)
+  kept_units [] c p = p
+  kept_units (v ∷ units) c p = kept_units units (react v c) (kept.reacts_to v c p)
+
+  kept_acts : (units : Result (List Value) TpduFault) (c : Carrier) → P c → P (carriers.acts_by units c)
+  kept_acts (Ok units) c p = kept_units units c p
+  kept_acts (Err fault) c p = kept.ends_so _ c p
+
+  kept_packet : (u : List ℕ) (c : Carrier) → P c → P (carriers.after_packet c u)
+  unfolding carriers.after_packet
+  kept_packet u c p = kept_acts (units_of u) c p
+
+  pub kept_out : (units : List Value) (old new : Carrier) → P old → carriers.RunsOut old units new → P new
+  kept_out units old new p out = subst P (sym out.ended) (kept.ends_so NoMemory (reacts out.done old) (kept_units out.done old p))
+
+  kept_acts_or : (units : Result (List Value) TpduFault) (old new : Carrier) → P old → carriers.ActsBy units old new → P new
+  kept_acts_or (Ok units) old new p (inl is) = subst P (sym is) (kept_units units old p)
+  kept_acts_or (Ok units) old new p (inr out) = kept_out units old new p out
+  kept_acts_or (Err fault) old new p is = subst P (sym is) (kept.ends_so _ old p)
+
+  -- ---- events and packets at the end
+
+  kept_heard : (n : ℕ) (e : End) → P e.carrier → P (hears_times n e).carrier
+  kept_heard n e p =
+      events_heard (λ x. P x.carrier) (λ events x q. kept.untold events x.carrier q) (record {
+        begins = λ r x none q. q;
+        moves = λ event x q. session_carried P kept.carries _ _ x q;
+      }) n e p
+
+  pub kept_attends : (e : End) → P e.carrier → P (attends e).carrier
+  kept_attends e p = subst P (sym (concluded_carrier (hears_all e))) (kept_heard (length e.carrier.events) e p)
+
+  kept_after : (u : List ℕ) (e : End) → P e.carrier → P (after_packet e u).carrier
+  kept_after u e p =
+      subst (λ (x : End). P x.carrier) (sym (packet_is e u))
+      (kept_attends (with_carrier (carriers.after_packet e.carrier u) e) (kept_packet u e.carrier p))
+
+  pub kept_takes : (units : List (List ℕ)) (old new : End) → P old.carrier → TakesPackets old units new → P new.carrier
+  kept_takes [] old new p takes = subst (λ (x : End). P x.carrier) (sym takes) p
+  kept_takes (u ∷ units) old new p takes = kept_takes units (after_packet old u) new (kept_after u old p) takes.1
+
+  -- ---- memory runs out
+
+  ended_kept : (b : Bool) (c : Carrier) → P c → P (if b then c else states.ends NoMemory c)
+  ended_kept true c p = p
+  ended_kept false c p = kept.ends_so NoMemory c p
+
+  pub kept_runs_out : (c : Carrier) (old new : End) → P c → RunsOut (with_carrier c old) new → P new.carrier
+  kept_runs_out c old new p out =
+      let mid = hears_times out.heard (with_carrier c old) in
+      subst (λ (x : End). P x.carrier) (sym out.starved)
+      (ended_kept (is_some mid.carrier.ended) (with_events out.more mid).carrier
+      (kept.untold out.more mid.carrier (kept_heard out.heard (with_carrier c old) p)))
+
+  pub kept_starves : (u : List ℕ) (old new : End) → P old.carrier → Starves old u new → P new.carrier
+  kept_starves u old new p (inl (c, (units, is, out), there)) =
+      subst (λ (x : End). P x.carrier) (sym there) (kept_attends (with_carrier c old) (kept_out units old.carrier c p out))
+  kept_starves u old new p (inr (c, acts, out)) =
+      kept_runs_out c old new (kept_acts_or (units_of u) old.carrier c p acts) out
+
+  -- ---- a piece
+
+  kept_goes : (piece : List ℕ) (used : ℕ) (old new : Holding) → P old.end.carrier → GoesThrough old piece used new → P new.end.carrier
+  kept_goes piece used old new p (inl (inl dry)) = kept_takes dry.units old.end new.end p dry.taken
+  kept_goes piece used old new p (inl (inr stop)) = kept_takes stop.units old.end new.end p stop.taken
+  kept_goes piece used old new p (inr (inl f)) =
+      subst (λ (x : End). P x.carrier) (sym f.ended) (kept.ends_so _ f.before.carrier (kept_takes f.units old.end f.before p f.taken))
+  kept_goes piece used old new p (inr (inr f)) = by (found_how old piece used new f)
+    where
+      by : (new.end ≡ ends NoMemory f.before) ⊎ ((packet : List ℕ) × ArePackets (packet ∷ []) f.rest [] × Starves f.before packet new.end) →
+          P new.end.carrier
+      by (inl is) =
+          subst (λ (x : End). P x.carrier) (sym is) (kept.ends_so NoMemory f.before.carrier (kept_takes f.units old.end f.before p f.taken))
+      by (inr starved) = kept_starves starved.0 f.before new.end (kept_takes f.units old.end f.before p f.taken) starved.2
+
+  pub kept_feeds : (piece : List ℕ) (fed : Fed) (old new : Holding) → P old.end.carrier → Feeds old piece fed new → P new.end.carrier
+  kept_feeds piece fed old new p f = by old.end.carrier.ended refl (waits old.end.lines) refl
+    where
+      by : (o : Option EndReason) → old.end.carrier.ended ≡ o → (b : Bool) → waits old.end.lines ≡ b → P new.end.carrier
+      by (Some reason) over b e = subst (λ (x : Holding). P x.end.carrier) (sym (f.over (ap is_some over)).1) p
+      by None lasts true e = subst (λ (x : Holding). P x.end.carrier) (sym (f.waiting lasts e).1) p
+      by None lasts false e = kept_goes piece fed.used old new p (f.goes (quiet_stops old.end (ap is_some lasts) e))
