@@ -24,10 +24,10 @@ all_read (Some x) (Some y) input h k l = elim k [
 ]
 
 -- A text that is short enough is not too long.
-pub not_long : {P : Type 0} (old new : Option (List ℕ)) (input : List ℕ) → Consumes old new input → IsRead new input
+pub not_long : (P : Type 0) (old new : Option (List ℕ)) (input : List ℕ) → Consumes old new input → IsRead new input
     → length input ≤ 16777216 → IfSome old (λ text. 16777216 < length text → P)
-not_long None new input h k l = tt
-not_long (Some x) new input h k l = λ m. let e = ap length (all_read (Some x) new input h k l) in absurd (omega (arith, l, m, e))
+not_long P None new input h k l = tt
+not_long P (Some x) new input h k l = λ m. let e = ap length (all_read (Some x) new input h k l) in absurd (omega (arith, l, m, e))
 
 -- What is found of it is written: for `judge`.
 pub found_whole : (old new written now : Option (List ℕ)) (input lines : List ℕ) (status : ℕ) → Consumes old new input → IsRead new input

@@ -25,7 +25,7 @@ returns-in_err-write_text-clause-write g c = λ is.
 pub returns-in_err-write_text-clause-long : goal.returns-in_err-write_text-clause-long
 returns-in_err-write_text-clause-long g c =
     let remaining = g.R.Read.remaining in
-    not_long (remaining c.args.reader.now.inner) (remaining c.read_input.new.reader.inner) c.in_ok-input.input.items
+    not_long _ (remaining c.args.reader.now.inner) (remaining c.read_input.new.reader.inner) c.in_ok-input.input.items
     c.in_ok-input.ensures.ok.0 c.in_ok-input.ensures.ok.1
     (subst (λ (text : List ℕ). Judges text c.in_ok-judgement.judgement.lines.items c.in_ok-judgement.judgement.status) c.as_slice.ensures.value
     c.in_ok-judgement.ensures.judged).short
@@ -45,7 +45,7 @@ returns-clause-judged g c =
 pub returns-clause-long : goal.returns-clause-long
 returns-clause-long g c =
     let remaining = g.R.Read.remaining in
-    not_long (remaining c.args.reader.now.inner) (remaining c.read_input.new.reader.inner) c.in_ok-input.input.items
+    not_long _ (remaining c.args.reader.now.inner) (remaining c.read_input.new.reader.inner) c.in_ok-input.input.items
     c.in_ok-input.ensures.ok.0 c.in_ok-input.ensures.ok.1
     (subst (λ (text : List ℕ). Judges text c.in_ok-judgement.judgement.lines.items c.in_ok-judgement.judgement.status) c.as_slice.ensures.value
     c.in_ok-judgement.ensures.judged).short
