@@ -11,20 +11,19 @@ sys.path.insert(0, "bench")
 from processor import processor
 from script import JUDGED_OPENING, packet, point
 
-RUNS, SIZE = 5, 1 << 24
+RUNS, SIZE = 5, (1 << 24) - 1024
 PROGRAM = "crates/osi_tool/out/osi_tool"
 # With duplex both sides send data at any time: CR, CC, and a CN and an AC that select it alone.
 DUPLEX = JUDGED_OPENING.replace("140200b9", "14020002")
-SHORTEST = packet("0100010041")
 
 
 def texts():
     """What is judged, by its name: the smallest data of both sides in turn, data of left alone, and confirmed points."""
-    yield "smallest data, both ways", DUPLEX + (SHORTEST + "\t" + SHORTEST) * (SIZE // (2 * len(SHORTEST)))
-    data = packet("01000100" + "41" * 1000)
-    yield "data of 1,000 octets, both ways", DUPLEX + (data + "\t" + data) * (SIZE // (2 * len(data)))
+    for name, tsdu in (("smallest data", "0100010041"), ("data of 1,000 octets", "01000100" + "41" * 1000)):
+        each = packet(tsdu) + "\t" + packet(tsdu)
+        yield f"{name}, both ways", DUPLEX + each * (SIZE // len(each))
     points, size = [JUDGED_OPENING], 0
-    while size < SIZE - 1000:
+    while size < SIZE:
         points.append(point(len(points)))
         size += len(points[-1])
     yield "confirmed points", "".join(points)
