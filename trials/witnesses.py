@@ -119,7 +119,8 @@ def are_in_order(pieces, run, side):
 # Where a script stops, and the side of a verdict that broke the protocol or left the profile first.
 STOPS = re.compile(r"^# (left|right) packet (\d+): .+\n\Z", re.M)
 FIRST = re.compile(r"^(left|right) (?:broke the protocol|leaves the profile) first, packet (\d+): .+\n\Z", re.M)
-# What is not compared of a unit of a foreign end: what a CN offers and its addresses.
+# What is not compared of a unit of a foreign end: the protocol options of a CN or AC, and what a CN offers and its addresses.
+OPTIONS = re.compile(r"(?<= 5\()19=\w+ ")
 OFFERED = re.compile(r"(?<=    CN )(.*?)( 20=\w+)?( 51=\w*)?( 52=\w*)?(?= 193|$)")
 # What may come too early without a word of the judge.
 EARLY = re.compile(r"# (left|right) packet \d+: no end of class 0 sends this here\n\Z")
@@ -152,7 +153,7 @@ class Witnesses:
         _, text = self.osi(["show"], stream.hex())
         found = []
         for tsdu in re.split(r"^    tsdu .*\n", text, flags=re.M)[1:]:
-            lines = [OFFERED.sub(r"\1", line) for line in re.findall(r"^    (?!fault ).*", tsdu, re.M)]
+            lines = [OPTIONS.sub("", OFFERED.sub(r"\1", line)) for line in re.findall(r"^    (?!fault ).*", tsdu, re.M)]
             found += [line for line in as_they_act(lines) if line not in ("    GT", "    PT")]
         return found
 
@@ -167,8 +168,11 @@ class Witnesses:
         self.check(f"{name}: both kept the protocol, and the script stops", judged != 0 or status == 0 or may_stop)
         self.check(f"{name}: the script is not played to its end", self.osi(["pair"], script)[0] == 0)
         first, stops = FIRST.search(verdict), STOPS.search(script)
+        # No call sends a DC, so a script stops before one that is right.
+        is_early = first and EARLY.search(script) and first[1] == stops[1] and int(stops[2]) < int(first[2])
         self.check(f"{name}: the script stops elsewhere than the verdict says\n{verdict}by\n{script}",
-                   (stops is not None) == (status == 1) and (first is None or stops and first.groups() == stops.groups()))
+                   (stops is not None) == (status == 1)
+                   and (first is None or is_early or stops and first.groups() == stops.groups()))
         run = played(script)
         sent = {side: self.listed(run.sent[side]) for side in SIDES}
         had = {side: self.listed(stream) for side, stream in streams(pieces).items()}
