@@ -10,8 +10,8 @@ pub use Rattle.std.proofs.lemmas.Grind.{flat_map-append}
 pub use Rattle.std.proofs.lemmas.List.{append-nil, append_cancel_left, append_cancel_right, drop-take, length-drop, length-take-le}
 pub use Rattle.std.proofs.lemmas.List.{map-append, take-append-drop, take-append-le, take-take}
 pub use Rattle.std.specs.List.{AllByRecursion, flat_map, list_any}
-pub use Rattle.osi_tpkt.proofs.Fronts.{completed_partial, empty_partial, partial_not_whole}
-pub use Rattle.osi_tpkt.proofs.PacketLaws.{one_packet}
+pub use Rattle.osi_tpkt.proofs.a_prefix_of_a_packet.{completed_partial, empty_partial, partial_not_whole}
+pub use Rattle.osi_tpkt.proofs.no_packet_is_a_prefix_of_another.{one_packet}
 pub use Rattle.osi_tpkt.specs.Octets.{IsOctets}
 pub use Rattle.osi_tpkt.specs.Packet.{IsFaultOf, IsPacket, IsPartial, packet_of}
 pub use Rattle.osi_tpkt.specs.Stream.{ArePackets, offset_of}
@@ -23,16 +23,16 @@ pub use Rattle.osi_tpdu.specs.Value.{Connect, IsConnect, Parameters, Value, ackn
 pub use Rattle.osi_tpdu.specs.Value.{error, request}
 pub use Rattle.osi_tpdu.specs.Writing.{items_of, written, written_items}
 pub use Rattle.osi_tpdu.specs.declared.faults.TpduFault.{TpduFault}
-pub use Rattle.osi_class.proofs.Arrival.{nothing_begun, quiet_unsent}
-pub use Rattle.osi_class.proofs.Classes.{zero_turns}
-pub use Rattle.osi_class.proofs.FitLaws.{in_range, stays_octets, unit_fits, unit_length}
-pub use Rattle.osi_class.proofs.Flows.{agree_begins, agree_turns}
-pub use Rattle.osi_class.proofs.Giving.{drained_ends, drained_leaves, drained_moves}
-pub use Rattle.osi_class.proofs.Oldest.{said, oldest_in_class_0, oldest_in_class_2}
-pub use Rattle.osi_class.proofs.Order.{at_ok, choose_ok}
-pub use Rattle.osi_class.proofs.Short.{stays_short}
-pub use Rattle.osi_class.proofs.SoundLaws.{move_sound, move_same}
-pub use Rattle.osi_class.proofs.Ways.{begins, other_way, stays_whole, turns_keep, whole_kept}
+pub use Rattle.osi_class.proofs.between.what_was_handed_in_comes_out.{nothing_begun, quiet_unsent}
+pub use Rattle.osi_class.proofs.between.units_are_of_one_class.{zero_turns}
+pub use Rattle.osi_class.proofs.giving.what_is_given_can_be_written.{in_range, stays_octets, unit_fits, unit_length}
+pub use Rattle.osi_class.proofs.between.calls_keep_the_flow.{agree_begins, agree_turns}
+pub use Rattle.osi_class.proofs.giving.a_link_gives_finitely_many_units.{drained_ends, drained_leaves, drained_moves}
+pub use Rattle.osi_class.proofs.between.the_oldest_unit_can_be_taken.{said, oldest_in_class_0, oldest_in_class_2}
+pub use Rattle.osi_class.proofs.between.parts_stay_in_order.{at_ok, choose_ok}
+pub use Rattle.osi_class.proofs.between.no_tsdu_becomes_too_long.{stays_short}
+pub use Rattle.osi_class.proofs.bounds.every_link_keeps_its_bounds.{move_sound, move_same}
+pub use Rattle.osi_class.proofs.between.tsdus_come_in_order.{begins, other_way, stays_whole, turns_keep, whole_kept}
 pub use Rattle.osi_class.specs.Between.{AreOfClass, HasWholeTsdus, IsQuiet, IsShortTsdu, LeftMoves, LinkPair, TakesOldest, Turn, TurnsAlong}
 pub use Rattle.osi_class.specs.Between.{at_left, left_in, opened_pair, opposite, parts_under_way, right_out, swapped, under_way}
 pub use Rattle.osi_class.specs.Between.{under_way_before}
@@ -51,16 +51,16 @@ pub use Rattle.osi_class.specs.declared.faults.LinkFault.TheVariants.{TsduTooLon
 pub use Rattle.osi_class.specs.declared.terms.Class.{Class}
 pub use Rattle.osi_class.specs.declared.terms.Class.TheVariants.{Two, Zero}
 pub use Rattle.osi_class.specs.declared.terms.Local.{Local}
-pub use Rattle.osi_carrier.proofs.Apart.{absent, beyond, found, push_here, put_here, without_here}
-pub use Rattle.osi_carrier.proofs.AtReferences.{push_other, push_rise, push_up, put_other, without_other, without_rise, without_up}
-pub use Rattle.osi_carrier.proofs.Coming.{Fronts, all_behind, alone_starved, fault_free, packet_reacts, reads_part, starved_unit}
-pub use Rattle.osi_carrier.proofs.Coming.{unit_packet, unit_read, units_front}
-pub use Rattle.osi_carrier.proofs.Effects.{free_of, orderly_asks, orderly_closed, orderly_fresh, orderly_same, orderly_sent, orderly_unit}
-pub use Rattle.osi_carrier.proofs.Naming.{put_named, drop_named}
-pub use Rattle.osi_carrier.proofs.Places.{put_same}
-pub use Rattle.osi_carrier.proofs.Pumping.{packets_join}
-pub use Rattle.osi_carrier.proofs.Reacts.{react_quiet}
-pub use Rattle.osi_carrier.proofs.Selecting.{has_room}
+pub use Rattle.osi_carrier.proofs.references.what_a_change_leaves_there.{absent, beyond, found, push_here, put_here, without_here}
+pub use Rattle.osi_carrier.proofs.references.rows_after_a_change.{push_other, push_rise, push_up, put_other, without_other, without_rise, without_up}
+pub use Rattle.osi_carrier.proofs.stream.what_was_written_is_read.{Fronts, all_behind, alone_starved, fault_free, packet_reacts, reads_part, starved_unit}
+pub use Rattle.osi_carrier.proofs.stream.what_was_written_is_read.{unit_packet, unit_read, units_front}
+pub use Rattle.osi_carrier.proofs.effects.a_unit_touches_one_connection.{free_of, orderly_asks, orderly_closed, orderly_fresh, orderly_same, orderly_sent, orderly_unit}
+pub use Rattle.osi_carrier.proofs.references.which_connections_have_selectors.{put_named, drop_named}
+pub use Rattle.osi_carrier.proofs.references.the_row_at_a_place.{put_same}
+pub use Rattle.osi_carrier.proofs.written.all_that_a_link_gives.{packets_join}
+pub use Rattle.osi_carrier.proofs.effects.units_one_after_the_other.{react_quiet}
+pub use Rattle.osi_carrier.proofs.references.which_rule_applies_to_a_cr.{has_room}
 pub use Rattle.osi_carrier.specs.Calls.{asks, class_error, closed_on, closed_with, fresh_state, link_of, may_connect, open_link, or_else}
 pub use Rattle.osi_carrier.specs.Calls.{sent, sent_all, sent_on}
 pub use Rattle.osi_carrier.specs.Coming.{AreComing, IsSendable}

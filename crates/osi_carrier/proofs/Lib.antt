@@ -1,29 +1,6 @@
-pub mod Places
-pub mod Units
-pub mod Opened
-pub mod Named
-pub mod Reacts
-pub mod Selecting
-pub mod Pumping
-pub mod Reading
-pub mod Breaking
-pub mod Fetched
-pub mod Kept
-pub mod AtReferences
-pub mod Order
-pub mod Effects
-pub mod Apart
-pub mod Coming
-pub mod InFront
-pub mod Parts
-pub mod Slots
-pub mod SentAll
-pub mod Pieces
-pub mod ToldOpen
-pub mod TsdusAreWrittenStraight
-pub mod Lasting
-pub mod Outcomes
-pub mod Growing
-pub mod Naming
-pub mod NothingTakesNoRoom
+-- The proofs, in reading order.
 mod Vocabulary
+pub mod references
+pub mod effects
+pub mod written
+pub mod stream

@@ -8,7 +8,7 @@ pub use Rattle.std.proofs.lemmas.List.Sums.{position_or_len_is, sum_by-cons}
 pub use Rattle.std.specs.Cow.{cow_slice_items}
 pub use Rattle.std.specs.Prelude.{min}
 pub use Rattle.std.specs.List.{AllByRecursion, flat_map, list_any, position_or_len, remove}
-pub use Rattle.osi_class.proofs.Giving.{drained_leaves, drained_none, drained_some}
+pub use Rattle.osi_class.proofs.giving.a_link_gives_finitely_many_units.{drained_leaves, drained_none, drained_some}
 pub use Rattle.osi_class.specs.AnyLink.{any_standing}
 pub use Rattle.osi_class.specs.Giving.{AllGoAtOnce, Drained, GivesPart, GivesSlot, GoesAtOnce, GoesWhole, IsNumbered, all_given, drained, first_in, given_one_by_one, header_octets, left_to_give, number_in, octets_in, octets_of, one_by_one, with_rest}
 pub use Rattle.osi_class.specs.declared.units.Slot.{Slot}
@@ -24,9 +24,9 @@ pub use Rattle.osi_tpdu.specs.Value.{Connect, Value, acknowledge, confirm, data0
 pub use Rattle.osi_tpdu.specs.View.{request_content, value}
 pub use Rattle.osi_tpdu.specs.Writing.{Fits, written, written_header}
 pub use Rattle.osi_tpdu.specs.declared.faults.TpduFault.{TpduFault}
-pub use Rattle.osi_tpkt.proofs.Fronts.{front_length, front_version, one_fault}
-pub use Rattle.osi_tpkt.proofs.PacketLaws.{one_packet, packet_front, stated_length-append, written_packet}
-pub use Rattle.osi_tpkt.proofs.Streams.{end_no_packet, partial_no_fault}
+pub use Rattle.osi_tpkt.proofs.a_prefix_of_a_packet.{front_length, front_version, one_fault}
+pub use Rattle.osi_tpkt.proofs.no_packet_is_a_prefix_of_another.{one_packet, packet_front, stated_length-append, written_packet}
+pub use Rattle.osi_tpkt.proofs.a_stream_is_cut_in_one_way.{end_no_packet, partial_no_fault}
 pub use Rattle.osi_tpkt.specs.Held.{Held, IsHolding}
 pub use Rattle.osi_tpkt.specs.Packet.{IsBadLength, IsBadVersion, IsFaultOf, IsOnePacket, IsPacket, IsPartial, packet_of}
 pub use Rattle.osi_tpkt.specs.Stream.{ArePackets, offset_of}

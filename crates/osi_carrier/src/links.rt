@@ -177,7 +177,7 @@ fn write_all(alloc: Global, link: &mut AnyLink, peer: u16, tsdus: &[Vec<u8>], ou
 /// may be sent now, they are written straight from the TSDUs, and no memory is needed but for their room. Otherwise the
 /// link keeps the TSDUs. An allocation failure changes nothing: the room for the units is reserved first. Owned TSDUs
 /// that only wait need no memory.
-#[tactic(auto, using(crate::proofs::NothingTakesNoRoom::nothing_takes_no_room))]
+#[tactic(auto, using(crate::proofs::written::nothing_takes_no_room::nothing_takes_no_room))]
 pub fn send_all_on(
     alloc: Global,
     link: &mut AnyLink,

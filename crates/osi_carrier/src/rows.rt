@@ -280,7 +280,7 @@ impl Connections {
 
     /// The place of the open connection of a reference, and the reference of its peer.
     #[inline(always)]
-    #[tactic(auto, using(crate::proofs::Places::nowhere))]
+    #[tactic(auto, using(crate::proofs::references::the_row_at_a_place::nowhere))]
     pub fn open_at(&self, reference: u16) -> Option<(usize, u16)>
         ensures open { IfSome result (λ o. (place_of reference self.now ≡ Some o.0) × (peer_in (value_at reference self.now) ≡ Some o.1)) }
         ensures none { result ≡ None → link_of (value_at reference self.now) ≡ None }
@@ -329,7 +329,7 @@ impl Connections {
 
     /// The octets of TSDUs that were handed in at the connection with this reference and are not yet in units; 0 if no
     /// connection has it.
-    #[tactic(auto, using(crate::proofs::Places::nowhere))]
+    #[tactic(auto, using(crate::proofs::references::the_row_at_a_place::nowhere))]
     pub fn unsent(&self, reference: u16) -> usize
         ensures { result ≡ unsent_at (value_at reference self.now) }
     {

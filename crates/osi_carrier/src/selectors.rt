@@ -116,7 +116,7 @@ impl Names {
     }
 
     /// The selectors of a reference.
-    #[tactic(auto, using(crate::proofs::Places::nowhere))]
+    #[tactic(auto, using(crate::proofs::references::the_row_at_a_place::nowhere))]
     pub fn find(&self, reference: u16) -> Option<Tsaps>
         ensures { option_map tsap_ids result ≡ value_at reference self.now }
     {
@@ -151,7 +151,7 @@ impl Names {
     }
 
     /// Drops the selectors of a reference.
-    #[tactic(auto, using(crate::proofs::Named::nothing_dropped))]
+    #[tactic(auto, using(crate::proofs::references::a_reference_without_a_row::nothing_dropped))]
     pub fn remove(&mut self, reference: u16)
         ensures { self.new ≡ without reference self.old }
     {

@@ -22,7 +22,7 @@ use osi_tpkt::{WriteError, write_in_packet};
 use std::alloc::AllocError;
 
 /// Appends a unit in its packet. An allocation failure leaves the octets of `out` as they were.
-#[tactic(auto, using(crate::proofs::Units::one_packet_of, crate::proofs::Units::written_least, crate::proofs::Units::written_most))]
+#[tactic(auto, using(crate::proofs::written::the_length_of_a_unit::one_packet_of, crate::proofs::written::the_length_of_a_unit::written_least, crate::proofs::written::the_length_of_a_unit::written_most))]
 pub fn put(out: &mut BytesMut, unit: &Tpdu<'_>) -> Result<(), AllocError>
     requires fits { Fits (value unit.now) }
     requires short { length (user_data (value unit.now)) ≤ 8192 }
@@ -161,7 +161,7 @@ pub fn put_confirm(out: &mut BytesMut, unit: &ConnectConfirm<'_>) -> Result<(), 
 
 /// Appends a unit that a link gave, to this reference of the peer.
 #[inline(always)]
-#[tactic(auto, using(crate::proofs::Units::one_packet_of, crate::proofs::Units::given_size))]
+#[tactic(auto, using(crate::proofs::written::the_length_of_a_unit::one_packet_of, crate::proofs::written::the_length_of_a_unit::given_size))]
 pub fn put_given(out: &mut BytesMut, peer: u16, unit: &Out<'_>) -> Result<(), AllocError>
     requires { FitsAUnit unit.now }
     ensures ok { OnOk result (out.new.items ≡ out.old.items ++ packets (unit_of peer (given unit.now) ∷ [])) }
@@ -197,7 +197,7 @@ pub fn put_given(out: &mut BytesMut, peer: u16, unit: &Out<'_>) -> Result<(), Al
 
 /// Appends the data unit of a slot, to this reference of the peer, with octets that are given in two pieces.
 #[inline(always)]
-#[tactic(auto, using(crate::proofs::Units::one_packet_of, crate::proofs::Units::given_size))]
+#[tactic(auto, using(crate::proofs::written::the_length_of_a_unit::one_packet_of, crate::proofs::written::the_length_of_a_unit::given_size))]
 pub fn put_part(
     out: &mut BytesMut,
     peer: u16,

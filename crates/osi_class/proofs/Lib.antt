@@ -1,24 +1,5 @@
-pub mod AllThatMayGoIsGiven
-pub mod Arrival
-pub mod Classes
-pub mod Ending
-pub mod FitLaws
-pub mod Flows
-pub mod Giving
-pub mod MostLaws
-pub mod Moves
-pub mod Nothing
-pub mod Numbers
-pub mod Oldest
-pub mod Order
-pub mod Owed
-pub mod PartLaws
-pub mod RoomLaws
-pub mod SendLaws
-pub mod Short
-pub mod SomeHaveNoMoreThanAll
-pub mod SoundLaws
-pub mod TakeLaws
-pub mod Together
+-- The proofs, in reading order.
 mod Vocabulary
-pub mod Ways
+pub mod giving
+pub mod bounds
+pub mod between

@@ -38,7 +38,7 @@ pub fn count_parts(limit: usize, octets: usize) -> usize
 }
 
 /// How much of a TSDU of this many octets is given with this credit, in parts of at most `limit` octets.
-#[tactic(auto, using(crate::proofs::RoomLaws::one_unit_carries))]
+#[tactic(auto, using(crate::proofs::giving::the_units_of_one_tsdu::one_unit_carries))]
 pub fn room_within(limit: usize, credit: u8, octets: usize) -> Room
     requires at_least { 123 ≤ limit }
     requires at_most { limit ≤ 8189 }

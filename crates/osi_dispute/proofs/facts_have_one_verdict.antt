@@ -2,7 +2,7 @@
 use Rattle.std.proofs.Common.{◌≡◌, ◌∙◌, refl, sym, ap, subst, ℕ, ◌-◌, Bool, true, false, is_some, ◌||◌, List, length, Option, Some, None}
 use Rattle.std.proofs.Common.{option_map}
 use Rattle.osi_tpkt.specs.Stream.{Ending, offset_of}
-use Rattle.osi_tpkt.proofs.Streams.{one_cut}
+use Rattle.osi_tpkt.proofs.a_stream_is_cut_in_one_way.{one_cut}
 use Rattle.osi_judge.specs.declared.directions.Direction.{Direction}
 use Rattle.osi_judge.specs.declared.directions.Direction.TheVariants as side
 use Rattle.osi_judge.specs.declared.findings.Finding.{Finding}

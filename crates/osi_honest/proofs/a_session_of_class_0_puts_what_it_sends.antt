@@ -6,17 +6,17 @@ use Rattle.osi_class.specs.declared.terms.Class.TheVariants.{Zero}
 use Rattle.osi_carrier.specs.Calls.{closed_on, closed_with, closes, sent_all}
 use Rattle.osi_carrier.specs.Rows.{Rows, put, value_at}
 use Rattle.osi_carrier.specs.State.{State as Carrier}
-use Rattle.osi_carrier.proofs.Apart.{put_here}
+use Rattle.osi_carrier.proofs.references.what_a_change_leaves_there.{put_here}
 use Rattle.osi_message.specs.Parting.{tsdus_sent}
 use Rattle.osi_session.specs.Listening.{Input, Listener, react, after_input}
 use Rattle.osi_session.specs.Phases.{is_wait_transport}
-use Rattle.osi_session.proofs.RunLaws.{input_begun}
+use Rattle.osi_session.proofs.runs.what_every_run_preserves.{input_begun}
 use Rattle.osi_judge.specs.Running.{sends}
 use Rattle.osi_stack.specs.Messages.{AreShort, kept_at}
 use Rattle.osi_stack.specs.Moving.{answers, by_line, carrier_by, limit_for, line_by, to_session}
 use Rattle.osi_stack.specs.State.{End, Line, session_in}
 use Rattle.osi_stack.specs.Transport.{answers_by, hands}
-use Rattle.osi_stack.proofs.Handing.{handed}
+use Rattle.osi_stack.proofs.called.tsdus_that_are_handed_together.{handed}
 use Rattle.osi_honest.specs.Parts.{IsOpenZero, IsWritten}
 use Rattle.osi_honest.specs.Talking.{Moves, Puts, Talks}
 use Rattle.osi_honest.proofs.what_class_0_writes_of_a_tsdu.{all_written, none_written, open_is, written_open}

@@ -13,7 +13,7 @@ use Rattle.osi_tpdu.specs.Packet.{AreUnits, units_of}
 use Rattle.osi_tpdu.specs.Value.{Connect, Value, acknowledge, confirm, data0, data2, disconnect, disconnected, error, may_be_followed}
 use Rattle.osi_tpdu.specs.Value.{request}
 use Rattle.osi_tpdu.specs.declared.faults.TpduFault.{TpduFault}
-use Rattle.osi_tpdu.proofs.PacketLaws.{units_found}
+use Rattle.osi_tpdu.proofs.the_units_of_a_packet.{units_found}
 use Rattle.osi_class.specs.Negotiation.{Selection, accept, keeps_flow_control, proposes, proposes_zero_alone, refuse, selected_by}
 use Rattle.osi_class.specs.Negotiation.{selected_size}
 use Rattle.osi_class.specs.declared.terms.Class.{Class}
@@ -25,14 +25,14 @@ use Rattle.osi_carrier.specs.Packets as carriers
 use Rattle.osi_carrier.specs.React.{accepts, answers, before_class, denies, has_peer, in_class, is_full, react, reacts}
 use Rattle.osi_carrier.specs.Rows.{Rows, value_at}
 use Rattle.osi_carrier.specs.State.{Connection, State as Carrier, linked, packets}
-use Rattle.osi_carrier.proofs.Reacts.{react_quiet, reacts_over}
+use Rattle.osi_carrier.proofs.effects.units_one_after_the_other.{react_quiet, reacts_over}
 use Rattle.osi_session.specs.Sessions.{awaits}
 use Rattle.osi_stack.specs.Feeding.{TakesPackets}
 use Rattle.osi_stack.specs.Hearing.{after_packet, attends, concludes, hears, opens, with_carrier, with_events}
 use Rattle.osi_stack.specs.Messages.{kept_at}
 use Rattle.osi_stack.specs.State.{End, Line, fresh_line, joins, used_lines}
-use Rattle.osi_stack.proofs.Lifting.{packet_is}
-use Rattle.osi_stack.proofs.Moves.{one_heard}
+use Rattle.osi_stack.proofs.carried.packets_without_events.{packet_is}
+use Rattle.osi_stack.proofs.carried.what_a_move_leaves.{one_heard}
 use Rattle.osi_honest.specs.Openings.{IsOtherAnswer, Waits}
 use Rattle.osi_honest.specs.Parts.{one_open}
 use Rattle.osi_honest.specs.Seeing.{IsPrefix}

@@ -10,7 +10,7 @@ use Rattle.osi_tpdu.specs.Packet.{AreUnits, units_of}
 use Rattle.osi_tpdu.specs.Value.{Connect, Value, acknowledge, confirm, data0, data2, disconnect, disconnected, error, may_be_followed}
 use Rattle.osi_tpdu.specs.Value.{request}
 use Rattle.osi_tpdu.specs.declared.faults.TpduFault.{TpduFault}
-use Rattle.osi_tpdu.proofs.PacketLaws.{units_found}
+use Rattle.osi_tpdu.proofs.the_units_of_a_packet.{units_found}
 use Rattle.osi_class.specs.declared.terms.Class.{Class}
 use Rattle.osi_class.specs.declared.terms.Class.TheVariants.{Two, Zero}
 use Rattle.osi_carrier.specs.Happenings.{Happening, opened as told_opened}
@@ -20,7 +20,7 @@ use Rattle.osi_carrier.specs.React.{before_class, in_class, react, reacts, to_as
 use Rattle.osi_carrier.specs.React.{opens as opens_by}
 use Rattle.osi_carrier.specs.Rows.{Rows, put, value_at, without}
 use Rattle.osi_carrier.specs.State.{Connection, State as Carrier, asked, linked, packets}
-use Rattle.osi_carrier.proofs.Reacts.{react_quiet, reacts_over}
+use Rattle.osi_carrier.proofs.effects.units_one_after_the_other.{react_quiet, reacts_over}
 use Rattle.osi_session.specs.Listening.{Listener, after_input, opened}
 use Rattle.osi_session.specs.Listening.{react as session_react}
 use Rattle.osi_session.specs.Phases.{is_wait_transport}
@@ -30,8 +30,8 @@ use Rattle.osi_stack.specs.Hearing.{after_packet, attends, concludes, hears, wit
 use Rattle.osi_stack.specs.Hearing.{opens as opens_line}
 use Rattle.osi_stack.specs.Moving.{to_session}
 use Rattle.osi_stack.specs.State.{End, Line, session_in}
-use Rattle.osi_stack.proofs.Lifting.{packet_is}
-use Rattle.osi_stack.proofs.Moves.{one_heard}
+use Rattle.osi_stack.proofs.carried.packets_without_events.{packet_is}
+use Rattle.osi_stack.proofs.carried.what_a_move_leaves.{one_heard}
 use Rattle.osi_honest.specs.Openings.{AllHaveFlow, Asks, has_none, has_two, over}
 use Rattle.osi_honest.specs.Parts.{IsOpenZero, dt}
 use Rattle.osi_honest.specs.Stretches.{Extends}

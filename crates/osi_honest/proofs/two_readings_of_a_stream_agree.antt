@@ -5,8 +5,8 @@ use Rattle.std.proofs.Common.{append_assoc, arith}
 use Rattle.std.proofs.lemmas.List.{append-nil, append_cancel_left}
 use Rattle.osi_tpkt.specs.Packet.{IsPacket, packet_of}
 use Rattle.osi_tpkt.specs.Stream.{ArePackets, Cuts, Ending, EndsAt}
-use Rattle.osi_tpkt.proofs.PacketLaws.{one_packet}
-use Rattle.osi_tpkt.proofs.Streams.{end_no_packet}
+use Rattle.osi_tpkt.proofs.no_packet_is_a_prefix_of_another.{one_packet}
+use Rattle.osi_tpkt.proofs.a_stream_is_cut_in_one_way.{end_no_packet}
 use Rattle.osi_tpdu.specs.Value.{Value}
 use Rattle.osi_tpdu.specs.Writing.{written}
 use Rattle.osi_carrier.specs.State.{packets}

@@ -30,8 +30,8 @@ use Rattle.osi_stack.specs.Runs.Call.{carrying, feeding, telling}
 use Rattle.osi_stack.specs.State.{End, Holding, session_in}
 use Rattle.osi_stack.specs.declared.connecting.Connect.{Connect}
 use Rattle.osi_stack.specs.declared.connecting.ConnectError.{ConnectError}
-use Rattle.osi_stack.proofs.DisconnectKeeps.{closed_and_given, disconnect_carrier, disconnect_is, given_other}
-use Rattle.osi_stack.proofs.Moves.{says_is}
+use Rattle.osi_stack.proofs.given_up.the_invariant_stays.{closed_and_given, disconnect_carrier, disconnect_is, given_other}
+use Rattle.osi_stack.proofs.carried.what_a_move_leaves.{says_is}
 use Rattle.osi_honest.specs.Parts.{Carry, dt}
 use Rattle.osi_honest.specs.Stretches.{Goes, Stands}
 use Rattle.osi_honest.specs.Stretches.Stands.{gone, talking}

@@ -12,7 +12,7 @@ use Rattle.osi_tpdu.specs.Packet.{AreUnits, units_of}
 use Rattle.osi_tpdu.specs.Spelling.{Spells, connect_part, item_octets}
 use Rattle.osi_tpdu.specs.Value.{Connect, Value, acknowledge, confirm, data0, data2, disconnect, disconnected, error, request}
 use Rattle.osi_tpdu.specs.Writing.{written}
-use Rattle.osi_tpdu.proofs.PacketLaws.{units_found}
+use Rattle.osi_tpdu.proofs.the_units_of_a_packet.{units_found}
 use Rattle.osi_tpdu.specs.declared.faults.TpduFault.{TpduFault}
 use Rattle.osi_class.specs.Negotiation.{proposes}
 use Rattle.osi_class.specs.Tsdus.{Part}

@@ -6,7 +6,7 @@ use Rattle.osi_tpkt.specs.Octets.{IsOctets}
 use Rattle.osi_tpdu.specs.Packet.{AreUnits, units_of}
 use Rattle.osi_tpdu.specs.Value.{Value, acknowledge, confirm, data0, data2, disconnect, disconnected, error, may_be_followed, request}
 use Rattle.osi_tpdu.specs.declared.faults.TpduFault.{TpduFault}
-use Rattle.osi_tpdu.proofs.PacketLaws.{units_found}
+use Rattle.osi_tpdu.proofs.the_units_of_a_packet.{units_found}
 use Rattle.osi_class.specs.Giving.{Drained, drained}
 use Rattle.osi_class.specs.Joining.{joining, with_part}
 use Rattle.osi_class.specs.Limits.{longest_tsdu}
@@ -20,16 +20,16 @@ use Rattle.osi_carrier.specs.Packets as carriers
 use Rattle.osi_carrier.specs.React.{breaks, in_class, in_zero, leaves, react, reacts, taking, to_linked, to_only}
 use Rattle.osi_carrier.specs.Rows.{Rows, put, value_at}
 use Rattle.osi_carrier.specs.State.{Connection, State as Carrier, linked, packets}
-use Rattle.osi_carrier.proofs.Reacts.{react_quiet, reacts_over}
+use Rattle.osi_carrier.proofs.effects.units_one_after_the_other.{react_quiet, reacts_over}
 use Rattle.osi_session.specs.Listening.{Listener, came, after_input}
 use Rattle.osi_stack.specs.Hearing.{after_packet, attends, concludes, hears_all, with_carrier}
 use Rattle.osi_stack.specs.Moving.{to_session}
 use Rattle.osi_stack.specs.State.{End}
-use Rattle.osi_stack.proofs.Events.{all_quiet, concluded_carrier}
-use Rattle.osi_stack.proofs.Lifting.{packet_is}
-use Rattle.osi_stack.proofs.Moves.{one_heard}
-use Rattle.osi_stack.proofs.Soundness.{concludes_lasting}
-use Rattle.osi_stack.proofs.Stepwise.{Carries, events_heard, session_carried}
+use Rattle.osi_stack.proofs.carried.events_one_after_the_other.{all_quiet, concluded_carrier}
+use Rattle.osi_stack.proofs.carried.packets_without_events.{packet_is}
+use Rattle.osi_stack.proofs.carried.what_a_move_leaves.{one_heard}
+use Rattle.osi_stack.proofs.sound.the_invariant_is_kept.{concludes_lasting}
+use Rattle.osi_stack.proofs.carried.what_each_step_preserves.{Carries, events_heard, session_carried}
 use Rattle.osi_honest.specs.Parts.{IsOpenZero, one_open, resting}
 use Rattle.osi_honest.specs.Talking.{IsPart, Moves, Packet, Talks}
 use Rattle.osi_honest.specs.Talking.Packet.{last, over, part}

@@ -5,7 +5,7 @@ use Rattle.osi_message.specs.Meanings.{AA, AB, DT, Meaning, RF}
 use Rattle.osi_message.specs.Parting.{is_parted, tsdus_sent}
 use Rattle.osi_message.specs.Reading.{said_at}
 unfoldable use Rattle.osi_message.specs.Written.{unit_of}
-use Rattle.osi_message.proofs.SentLaws.{sent_alone}
+use Rattle.osi_message.proofs.the_tsdus_of_a_message.{sent_alone}
 use Rattle.osi_session.specs.Listening.{Listener, Move, came, react, taker_of}
 use Rattle.osi_session.specs.Sizes.{limit_of}
 use Rattle.osi_session.specs.Standing.{answers}
@@ -13,7 +13,7 @@ use Rattle.osi_judge.proofs.a_run_is_explained.{came_moves}
 use Rattle.osi_judge.proofs.an_answer_says_itself.{SaysItself, came_itself}
 use Rattle.osi_stack.specs.Messages.{AreShort}
 use Rattle.osi_stack.specs.Moving.{limit_for}
-use Rattle.osi_stack.proofs.Shortness.{SpduLaws, sent_short}
+use Rattle.osi_stack.proofs.called.what_is_sent_is_short.{SpduLaws, sent_short}
 use Rattle.osi_honest.proofs.what_a_packet_does_in_class_0.{AllProper}
 
 pub answer_alone : (m : Meaning) (limit : ℕ) → answers m m ≡ true → is_parted limit m ≡ false

@@ -5,14 +5,14 @@ use Rattle.std.proofs.Common.{◌≡◌, ◌∙◌, sym, ap, subst, ℕ, true, L
 use Rattle.osi_tpkt.specs.Octets.{IsOctets}
 use Rattle.osi_tpdu.specs.Packet.{AreUnits}
 use Rattle.osi_tpdu.specs.Value.{Value, may_be_followed}
-use Rattle.osi_tpdu.proofs.PacketLaws.{units_found}
+use Rattle.osi_tpdu.proofs.the_units_of_a_packet.{units_found}
 use Rattle.osi_carrier.specs.Happenings.{opened}
 use Rattle.osi_carrier.specs.Packets as carriers
 use Rattle.osi_carrier.specs.React.{react, reacts}
 use Rattle.osi_carrier.specs.State.{State as Carrier, ends}
 use Rattle.osi_carrier.specs.declared.ends.EndReason.TheVariants.{NoMemory}
-use Rattle.osi_carrier.proofs.Reacts.{reacts_over}
-use Rattle.osi_carrier.proofs.Reading.{acts_cases}
+use Rattle.osi_carrier.proofs.effects.units_one_after_the_other.{reacts_over}
+use Rattle.osi_carrier.proofs.stream.a_piece_is_read_packet_by_packet.{acts_cases}
 use Rattle.osi_session.specs.Listening.{Listener}
 use Rattle.osi_stack.specs.Hearing.{RunsOut, Starves, hears_times, with_carrier}
 use Rattle.osi_stack.specs.State.{End}

@@ -5,20 +5,20 @@ use Rattle.std.proofs.Common.{is_some, inl, inr}
 use Rattle.osi_tpkt.specs.Octets.{IsOctets}
 use Rattle.osi_tpdu.specs.Packet.{AreUnits}
 use Rattle.osi_tpdu.specs.Value.{Value, may_be_followed}
-use Rattle.osi_tpdu.proofs.PacketLaws.{units_found}
+use Rattle.osi_tpdu.proofs.the_units_of_a_packet.{units_found}
 use Rattle.osi_carrier.specs.Happenings.{Happening, tsdu}
 use Rattle.osi_carrier.specs.Packets as carriers
 use Rattle.osi_carrier.specs.React.{react, reacts}
 use Rattle.osi_carrier.specs.State.{State as Carrier, ends}
 use Rattle.osi_carrier.specs.declared.ends.EndReason.TheVariants.{NoMemory}
-use Rattle.osi_carrier.proofs.Reacts.{reacts_over}
-use Rattle.osi_carrier.proofs.Reading.{acts_cases}
+use Rattle.osi_carrier.proofs.effects.units_one_after_the_other.{reacts_over}
+use Rattle.osi_carrier.proofs.stream.a_piece_is_read_packet_by_packet.{acts_cases}
 use Rattle.osi_session.specs.Listening.{Listener}
 use Rattle.osi_stack.specs.Hearing.{RunsOut, Starves, hears_next, hears_times, starves, with_carrier, with_events}
 use Rattle.osi_stack.specs.State.{End}
-use Rattle.osi_stack.proofs.Events.{never_starved, times_quiet}
-use Rattle.osi_stack.proofs.Linking.{rest_is}
-use Rattle.osi_stack.proofs.Stepwise.{events_heard, session_carried}
+use Rattle.osi_stack.proofs.carried.events_one_after_the_other.{never_starved, times_quiet}
+use Rattle.osi_stack.proofs.carried.open_connections_stay_open.{rest_is}
+use Rattle.osi_stack.proofs.carried.what_each_step_preserves.{events_heard, session_carried}
 use Rattle.osi_honest.specs.Talking.{Talks}
 use Rattle.osi_honest.proofs.what_a_packet_does_in_class_0.{AfterPacket, AfterUnit, Over, acted, alone, attends_over, over_carries}
 use Rattle.osi_honest.proofs.what_a_packet_does_in_class_0.{unit_acts}

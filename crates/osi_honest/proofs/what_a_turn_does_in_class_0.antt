@@ -6,12 +6,12 @@ use Rattle.std.specs.List.{AllByRecursion}
 use Rattle.std.proofs.lemmas.List.{append-nil, append_cancel_left, take-append-drop, take_all}
 use Rattle.osi_tpkt.specs.Octets.{IsOctets}
 use Rattle.osi_tpkt.specs.Packet.{IsPacket}
-use Rattle.osi_tpkt.proofs.OctetLaws.{octets_right}
+use Rattle.osi_tpkt.proofs.lists_of_octets_stay_octets.{octets_right}
 use Rattle.osi_tpkt.specs.Stream.{ArePackets}
 use Rattle.osi_tpkt.specs.declared.cutting.Fed.{Fed}
 use Rattle.osi_carrier.specs.State.{packets}
 use Rattle.osi_carrier.specs.declared.ends.EndReason.{EndReason}
-use Rattle.osi_carrier.proofs.Reading.{packets_more}
+use Rattle.osi_carrier.proofs.stream.a_piece_is_read_packet_by_packet.{packets_more}
 use Rattle.osi_session.specs.Listening.{Listener}
 use Rattle.osi_stack.specs.Feeding.{Feeds, FindsNoMemory, RunsDry, StopsBehind, TakesPackets, uses_all}
 use Rattle.osi_stack.specs.Feeding.{Goes as GoesThrough}
@@ -19,11 +19,11 @@ use Rattle.osi_stack.specs.State.{End, Holding, waits}
 use Rattle.osi_stack.specs.Calls.{without_first}
 use Rattle.osi_stack.specs.Runs.{Call, Calls, carried_in, put_back, used_in}
 use Rattle.osi_stack.specs.Runs.Call.{carrying, feeding, telling}
-use Rattle.osi_stack.proofs.Comings.{uses_within}
-use Rattle.osi_stack.proofs.Lifting.{lasting_of, quiet_stops}
-use Rattle.osi_stack.proofs.Moves.{kept_first}
-use Rattle.osi_stack.proofs.Rooms.{found_how}
-use Rattle.osi_stack.proofs.Runs.{none_ended}
+use Rattle.osi_stack.proofs.stream.what_was_written_is_read.{uses_within}
+use Rattle.osi_stack.proofs.carried.packets_without_events.{lasting_of, quiet_stops}
+use Rattle.osi_stack.proofs.carried.what_a_move_leaves.{kept_first}
+use Rattle.osi_stack.proofs.stream.the_room_for_a_packet.{found_how}
+use Rattle.osi_stack.proofs.stream.an_end_is_what_its_packets_make.{none_ended}
 use Rattle.osi_stack.specs.Hearing.{Starves, ends}
 use Rattle.osi_carrier.specs.declared.ends.EndReason.TheVariants.{NoMemory}
 use Rattle.osi_honest.specs.Parts.{dt}

@@ -19,10 +19,10 @@ use Rattle.osi_stack.specs.Feeding.{Feeds, TakesPackets}
 use Rattle.osi_stack.specs.Feeding.{Goes as GoesThrough}
 use Rattle.osi_stack.specs.Hearing.{RunsOut, Starves, after_packet, attends, ends, hears_all, hears_times, with_carrier, with_events}
 use Rattle.osi_stack.specs.State.{End, Holding, waits}
-use Rattle.osi_stack.proofs.Events.{concluded_carrier}
-use Rattle.osi_stack.proofs.Lifting.{packet_is, quiet_stops}
-use Rattle.osi_stack.proofs.Rooms.{found_how}
-use Rattle.osi_stack.proofs.Stepwise.{Carries, events_heard, session_carried}
+use Rattle.osi_stack.proofs.carried.events_one_after_the_other.{concluded_carrier}
+use Rattle.osi_stack.proofs.carried.packets_without_events.{packet_is, quiet_stops}
+use Rattle.osi_stack.proofs.stream.the_room_for_a_packet.{found_how}
+use Rattle.osi_stack.proofs.carried.what_each_step_preserves.{Carries, events_heard, session_carried}
 
 -- what a carrier keeps as units arrive and sessions speak, whatever events are queued, and at its end
 pub record IsKept (P : Carrier → Type 0) : Type 0 where

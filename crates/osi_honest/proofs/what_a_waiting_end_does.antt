@@ -23,11 +23,11 @@ use Rattle.osi_stack.specs.Rounds.UserCall.{breaking, calling, connecting, disco
 use Rattle.osi_stack.specs.Runs.{Call, Calls, carried_in, put_back, used_in}
 use Rattle.osi_stack.specs.Runs.Call.{carrying, feeding, telling}
 use Rattle.osi_stack.specs.State.{End, Holding, Line, waits}
-use Rattle.osi_stack.proofs.DisconnectKeeps.{disconnect_carrier, disconnect_is}
-use Rattle.osi_stack.proofs.Lifting.{lasting_of, quiet_stops}
-use Rattle.osi_stack.proofs.Moves.{says_is}
-use Rattle.osi_stack.proofs.Rooms.{found_how}
-use Rattle.osi_stack.proofs.Runs.{none_ended}
+use Rattle.osi_stack.proofs.given_up.the_invariant_stays.{disconnect_carrier, disconnect_is}
+use Rattle.osi_stack.proofs.carried.packets_without_events.{lasting_of, quiet_stops}
+use Rattle.osi_stack.proofs.carried.what_a_move_leaves.{says_is}
+use Rattle.osi_stack.proofs.stream.the_room_for_a_packet.{found_how}
+use Rattle.osi_stack.proofs.stream.an_end_is_what_its_packets_make.{none_ended}
 use Rattle.osi_honest.specs.Openings.{Waits, WaitingTurn}
 use Rattle.osi_honest.specs.Openings.WaitingTurn.{answers_last, is_over, opens, turns_away, waits_on}
 use Rattle.osi_honest.specs.Parts.{dt}

@@ -18,14 +18,14 @@ use Rattle.osi_carrier.specs.declared.faults.OpenError.TheVariants.{Ended, Negot
 use Rattle.osi_message.specs.Sendable.{IsAddress, IsSendable}
 unfoldable use Rattle.osi_message.specs.Written.{unit_of, user_data_of}
 use Rattle.osi_message.specs.Written.{written}
-use Rattle.osi_message.proofs.SentLaws.{sent_alone}
+use Rattle.osi_message.proofs.the_tsdus_of_a_message.{sent_alone}
 unfoldable use Rattle.osi_session.specs.Listening.{react}
 use Rattle.osi_session.specs.Listening.{Listener, opened}
 use Rattle.osi_session.specs.Allowed.{most_user_data}
 use Rattle.osi_session.specs.Phases.{is_wait_transport}
 use Rattle.osi_session.specs.Sizes.{limit_of}
 use Rattle.osi_session.specs.declared.faults.CallError.TheVariants.{BadState, NoSuchConnection}
-use Rattle.osi_session.proofs.SendableLaws.{asked_sendable}
+use Rattle.osi_session.proofs.sent.what_is_sent_can_be_written.{asked_sendable}
 use Rattle.osi_spdu.specs.Fields.{unit_bits}
 use Rattle.osi_session.specs.Units.{is_profile}
 use Rattle.osi_judge.specs.Running.{sends}
@@ -45,12 +45,12 @@ use Rattle.osi_stack.specs.State.{End, Holding, session_at, session_in, waits}
 use Rattle.osi_stack.specs.declared.connecting.Connect.{Connect}
 use Rattle.osi_stack.specs.declared.connecting.ConnectError.{ConnectError}
 use Rattle.osi_stack.specs.declared.connecting.ConnectError.TheVariants.{NotSelected, TooLong}
-use Rattle.osi_stack.proofs.DisconnectKeeps.{disconnect_carrier, disconnect_is, given_other}
-use Rattle.osi_stack.proofs.Lifting.{lasting_of, or_first, or_second, quiet_stops}
-use Rattle.osi_stack.proofs.Moves.{kept_first, says_is}
-use Rattle.osi_stack.proofs.Rooms.{found_how}
-use Rattle.osi_stack.proofs.Runs.{none_ended}
-use Rattle.osi_stack.proofs.Shortness.{SpduLaws, sent_short}
+use Rattle.osi_stack.proofs.given_up.the_invariant_stays.{disconnect_carrier, disconnect_is, given_other}
+use Rattle.osi_stack.proofs.carried.packets_without_events.{lasting_of, or_first, or_second, quiet_stops}
+use Rattle.osi_stack.proofs.carried.what_a_move_leaves.{kept_first, says_is}
+use Rattle.osi_stack.proofs.stream.the_room_for_a_packet.{found_how}
+use Rattle.osi_stack.proofs.stream.an_end_is_what_its_packets_make.{none_ended}
+use Rattle.osi_stack.proofs.called.what_is_sent_is_short.{SpduLaws, sent_short}
 use Rattle.osi_honest.specs.Openings.{Asks, AskingTurn, over}
 use Rattle.osi_honest.specs.Openings.AskingTurn.{asks_on, goes_away, is_answered, turns_aside}
 use Rattle.osi_honest.specs.Parts.{Carry, dt}

@@ -16,8 +16,8 @@ use Rattle.osi_stack.specs.Rounds.UserCall.{breaking, calling, connecting, disco
 use Rattle.osi_stack.specs.Runs.{Call, Calls, carried_in, put_back}
 use Rattle.osi_stack.specs.Runs.Call.{carrying, feeding, telling}
 use Rattle.osi_stack.specs.State.{End, Holding}
-use Rattle.osi_stack.proofs.DisconnectKeeps.{disconnect_carrier}
-use Rattle.osi_stack.proofs.Stepwise.{session_carried}
+use Rattle.osi_stack.proofs.given_up.the_invariant_stays.{disconnect_carrier}
+use Rattle.osi_stack.proofs.carried.what_each_step_preserves.{session_carried}
 use Rattle.osi_honest.specs.Openings.{IsAway, IsNoData, has_none, has_two, over}
 use Rattle.osi_honest.specs.Seeing.{put_along}
 use Rattle.osi_honest.specs.Turns.{Act, Acts, Run, Takes, Turn, carried_by}

@@ -13,8 +13,8 @@ use Rattle.osi_class.specs.Runs.{MovesAlong, give_out, take_in}
 use Rattle.osi_class.specs.declared.faults.LinkFault.{LinkFault}
 use Rattle.osi_class.specs.declared.terms.Class.{Class}
 use Rattle.osi_class.specs.declared.terms.Class.TheVariants.{Two, Zero}
-use Rattle.osi_class.proofs.Giving.{drained_leaves, drained_moves, giving_leaves}
-use Rattle.osi_class.proofs.SoundLaws.{move_same}
+use Rattle.osi_class.proofs.giving.a_link_gives_finitely_many_units.{drained_leaves, drained_moves, giving_leaves}
+use Rattle.osi_class.proofs.bounds.every_link_keeps_its_bounds.{move_same}
 use Rattle.osi_carrier.specs.Calls.{closed_on, closes, link_of, open_link, sent_on}
 use Rattle.osi_carrier.specs.Happenings.{Happening}
 use Rattle.osi_carrier.specs.Negotiation.{confirmed, opened_link, agreed_size, proposes_two, selects_expedited}
@@ -24,7 +24,7 @@ use Rattle.osi_carrier.specs.React.{to_asked, to_closing, to_connection, to_link
 use Rattle.osi_carrier.specs.Rows.{Rows, put, value_at, without}
 use Rattle.osi_carrier.specs.State.{Connection, State as Carrier, asked, closing, ends, linked, packets}
 use Rattle.osi_carrier.specs.declared.ends.EndReason.{EndReason}
-use Rattle.osi_carrier.proofs.Reacts.{react_quiet, reacts_over}
+use Rattle.osi_carrier.proofs.effects.units_one_after_the_other.{react_quiet, reacts_over}
 use Rattle.osi_honest.specs.Openings.{AllHaveFlow, HasFlow, IsAway, IsNoData, has_none, has_two, over}
 use Rattle.osi_honest.proofs.what_a_packet_does_in_class_0.{no_link}
 use Rattle.osi_honest.proofs.what_a_unit_keeps_a_turn_keeps.{IsKept}

@@ -12,7 +12,7 @@ use Rattle.osi_tpdu.specs.Limits.{tsap_octets}
 use Rattle.osi_tpdu.specs.Packet.{units_of}
 use Rattle.osi_tpdu.specs.Value.{Value, acknowledge, confirm, data0, data2, disconnect, disconnected, error, request}
 use Rattle.osi_tpdu.specs.declared.faults.TpduFault.{TpduFault}
-use Rattle.osi_tpdu.proofs.PacketLaws.{units_found}
+use Rattle.osi_tpdu.proofs.the_units_of_a_packet.{units_found}
 use Rattle.osi_class.specs.Link.{Standing}
 use Rattle.osi_class.specs.declared.terms.Class.{Class}
 use Rattle.osi_carrier.specs.Calls.{closed_on, closed_with, link_of, may_connect, open_link, sent}
@@ -26,7 +26,7 @@ use Rattle.osi_carrier.specs.State as states
 use Rattle.osi_carrier.specs.declared.ends.EndReason.{EndReason}
 use Rattle.osi_carrier.specs.declared.ends.EndReason.TheVariants.{Broken, NoMemory}
 use Rattle.osi_carrier.specs.declared.faults.OpenError.{OpenError}
-use Rattle.osi_carrier.proofs.Reacts.{react_quiet, reacts_over}
+use Rattle.osi_carrier.proofs.effects.units_one_after_the_other.{react_quiet, reacts_over}
 use Rattle.osi_session.specs.Listening.{Listener}
 use Rattle.osi_stack.specs.Calls.{after_open, calls_with, connects, terms_error, without_first}
 use Rattle.osi_stack.specs.Disconnecting.{disconnects, gives_up, gives_up_by}
@@ -42,10 +42,10 @@ use Rattle.osi_stack.specs.Runs.Call.{carrying, feeding, telling}
 use Rattle.osi_stack.specs.State.{End, Holding, Line, fresh_line, used_lines, waits}
 use Rattle.osi_stack.specs.declared.connecting.Connect.{Connect as Request}
 use Rattle.osi_stack.specs.declared.connecting.ConnectError.{ConnectError}
-use Rattle.osi_stack.proofs.DisconnectKeeps.{disconnect_carrier, disconnect_is}
-use Rattle.osi_stack.proofs.Lifting.{packet_is, quiet_stops}
-use Rattle.osi_stack.proofs.Moves.{says_is}
-use Rattle.osi_stack.proofs.Rooms.{found_how}
+use Rattle.osi_stack.proofs.given_up.the_invariant_stays.{disconnect_carrier, disconnect_is}
+use Rattle.osi_stack.proofs.carried.packets_without_events.{packet_is, quiet_stops}
+use Rattle.osi_stack.proofs.carried.what_a_move_leaves.{says_is}
+use Rattle.osi_stack.proofs.stream.the_room_for_a_packet.{found_how}
 use Rattle.osi_honest.specs.Openings.{Asks, Idles, IdleTurn}
 use Rattle.osi_honest.specs.Openings.IdleTurn.{idle_over, idles_on, puts_a_dc, requests}
 use Rattle.osi_honest.specs.Turns.{Act, Acts, Takes, Turn, carried_by, used_by}

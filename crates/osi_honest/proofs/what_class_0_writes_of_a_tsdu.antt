@@ -12,7 +12,7 @@ use Rattle.osi_class.specs.Giving.{Drained, drained}
 use Rattle.osi_class.specs.Joining.{joining}
 use Rattle.osi_class.specs.Link.{Given, Standing, next, part0, unit_of, zero_standing}
 use Rattle.osi_class.specs.Tsdus.{Part, tsdus_after}
-use Rattle.osi_class.proofs.Giving.{drained_none, drained_some}
+use Rattle.osi_class.proofs.giving.a_link_gives_finitely_many_units.{drained_none, drained_some}
 use Rattle.osi_carrier.specs.Calls.{link_of, open_link, sent, sent_all, sent_on}
 use Rattle.osi_carrier.specs.Rows.{Rows, put, value_at}
 use Rattle.osi_carrier.specs.State.{Connection, State, linked, packets}

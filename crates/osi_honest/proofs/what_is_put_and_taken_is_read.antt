@@ -10,7 +10,7 @@ unfoldable use Rattle.osi_tpdu.specs.Reading.{header_at, transfer_of, unit_at, v
 use Rattle.osi_tpdu.specs.Value.{Value, data0}
 use Rattle.osi_tpdu.specs.Writing.{written}
 use Rattle.osi_tpdu.specs.declared.faults.TpduFault.{TpduFault}
-use Rattle.osi_tpdu.proofs.UnitLaws.{header_again}
+use Rattle.osi_tpdu.proofs.one_unit_is_read.{header_again}
 use Rattle.osi_class.specs.Limits.{longest_tsdu}
 use Rattle.osi_class.specs.Tsdus.{Part, tsdus_after}
 use Rattle.osi_judge.specs.declared.directions.Direction.{Direction}

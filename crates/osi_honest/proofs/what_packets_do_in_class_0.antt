@@ -12,7 +12,7 @@ use Rattle.osi_stack.specs.Feeding.{TakesPackets}
 use Rattle.osi_stack.specs.Hearing.{after_packet}
 use Rattle.osi_stack.specs.Messages.{AreShort}
 use Rattle.osi_stack.specs.State.{End, waits}
-use Rattle.osi_stack.proofs.Lifting.{lasting_of}
+use Rattle.osi_stack.proofs.carried.packets_without_events.{lasting_of}
 use Rattle.osi_honest.specs.Parts.{dt}
 use Rattle.osi_honest.specs.Stretches.{AllSaidBy, Extends, Stands, octets_said}
 use Rattle.osi_honest.specs.Stretches.Stands.{gone, talking}

@@ -20,7 +20,7 @@ use Rattle.osi_carrier.specs.State.{Connection, State as Carrier, asked, closing
 use Rattle.osi_stack.specs.Feeding.{TakesPackets}
 use Rattle.osi_stack.specs.Hearing.{RunsOut, Starves, attends, with_carrier}
 use Rattle.osi_stack.specs.State.{End}
-use Rattle.osi_stack.proofs.Stepwise.{Carries}
+use Rattle.osi_stack.proofs.carried.what_each_step_preserves.{Carries}
 use Rattle.osi_honest.specs.Seeing.{IsPrefix}
 use Rattle.osi_honest.proofs.what_a_unit_keeps_a_turn_keeps.{IsKept, kept_attends, kept_runs_out, kept_starves, kept_takes, kept_units}
 

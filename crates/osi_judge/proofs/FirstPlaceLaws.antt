@@ -4,8 +4,8 @@ use Rattle.osi_message.specs.Meanings.{Meaning}
 use Rattle.osi_message.specs.Words.{Word}
 use Rattle.osi_session.specs.Standing.{Seen, Count, CanSay, Takes, listens, after_count, answers_word}
 use Rattle.osi_session.specs.Steady.{is_steady, Hears}
-use Rattle.osi_session.proofs.SaidFirst.{IsAhead, is_gone, said_ahead, said_alike, both_hear, gone_stays, gone_said}
-use Rattle.osi_session.proofs.SteadyLaws.{no_answer}
+use Rattle.osi_session.proofs.ahead.beside_one_that_has_not_sent_it.{IsAhead, is_gone, said_ahead, said_alike, both_hear, gone_stays, gone_said}
+use Rattle.osi_session.proofs.ahead.the_state_after_a_word.{no_answer}
 use Rattle.osi_judge.specs.declared.members.Member.{Member}
 use Rattle.osi_judge.specs.Explaining.{Remark, Explains, takes, answers, says}
 use Rattle.osi_judge.specs.Members.{IsBehind}

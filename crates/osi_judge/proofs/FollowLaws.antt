@@ -8,8 +8,8 @@ use Rattle.osi_tpkt.specs.Packet.{IsPacket, IsPartial, IsBadVersion, IsBadLength
 use Rattle.osi_tpkt.specs.Stream.{ArePackets, offset_of}
 use Rattle.osi_tpkt.specs.declared.faults.TpktFault.{TpktFault}
 use Rattle.osi_tpkt.specs.declared.faults.TpktFault.TheVariants.{BadVersion, BadLength, OutOfMemory}
-use Rattle.osi_tpkt.proofs.Fronts.{partial_front, partial_not_whole, empty_partial}
-use Rattle.osi_tpkt.proofs.PacketLaws.{packet_front, stated_length-append}
+use Rattle.osi_tpkt.proofs.a_prefix_of_a_packet.{partial_front, partial_not_whole, empty_partial}
+use Rattle.osi_tpkt.proofs.no_packet_is_a_prefix_of_another.{packet_front, stated_length-append}
 use Rattle.osi_judge.specs.declared.directions.Direction.{Direction}
 use Rattle.osi_judge.specs.declared.directions.Direction.TheVariants.{Left, Right}
 use Rattle.osi_judge.specs.Captures.{Capture, other, piece, stream}

@@ -5,8 +5,8 @@ use Rattle.osi_tpkt.specs.Stream.{Ending, EndsAt, offset_of}
 use Rattle.osi_tpkt.specs.Stream.Ending.{Faulty, Rest}
 use Rattle.osi_tpkt.specs.declared.faults.TpktFault.{TpktFault}
 use Rattle.osi_tpkt.specs.declared.faults.TpktFault.TheVariants.{BadVersion, BadLength, OutOfMemory}
-use Rattle.osi_tpkt.proofs.Fronts.{empty_partial}
-use Rattle.osi_tpkt.proofs.Streams.{one_cut}
+use Rattle.osi_tpkt.proofs.a_prefix_of_a_packet.{empty_partial}
+use Rattle.osi_tpkt.proofs.a_stream_is_cut_in_one_way.{one_cut}
 use Rattle.osi_judge.specs.declared.directions.Direction.{Direction}
 use Rattle.osi_judge.specs.declared.directions.Direction.TheVariants.{Left, Right}
 use Rattle.osi_session.specs.Standing.{Seen}

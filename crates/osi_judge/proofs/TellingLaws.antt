@@ -4,7 +4,7 @@ use Rattle.osi_spdu.specs.declared.faults.SpduFault.{SpduFault}
 use Rattle.osi_message.specs.Words.{Word, Words}
 use Rattle.osi_session.specs.Joining.{acting_words, is_restart_word}
 use Rattle.osi_session.specs.Standing.{Seen}
-use Rattle.osi_session.proofs.FollowLaws.{acting_behind, taken_next}
+use Rattle.osi_session.proofs.tsdu.words_one_after_the_other.{acting_behind, taken_next}
 use Rattle.osi_judge.specs.declared.members.Member.{Member}
 use Rattle.osi_judge.specs.Explaining.{Remark, Told, read_as, Explains, takes, answers, says}
 use Rattle.osi_judge.specs.Members.{SomeExplains, IsBehind}

@@ -4,7 +4,7 @@ use Rattle.osi_message.specs.Meanings.{Meaning}
 use Rattle.osi_message.specs.Words.{Word}
 use Rattle.osi_session.specs.Standing.{Seen, Count, CanSay, Takes, listens, after_count, answers_word}
 use Rattle.osi_session.specs.Steady.{Hears}
-use Rattle.osi_session.proofs.SayingLaws.{so_many, so_many_are}
+use Rattle.osi_session.proofs.sent.what_a_side_may_send.{so_many, so_many_are}
 use Rattle.osi_judge.specs.declared.members.Member.{Member}
 use Rattle.osi_judge.specs.declared.walks.Walker.{Walker}
 use Rattle.osi_judge.specs.Explaining.{Remark, Explains, done, takes, answers, says}

@@ -15,7 +15,7 @@ use Rattle.osi_message.specs.Sendable.{IsSendable, words_of}
 use Rattle.osi_message.specs.Tokens.{data_token, is_empty, no_token}
 use Rattle.osi_message.specs.Words.{Words, says, part, part_octets, word_octets}
 use Rattle.osi_message.specs.Written.{is_second, written}
-use Rattle.osi_message.proofs.PlainLaws.{data_written}
+use Rattle.osi_message.proofs.units_of_the_fast_path.{data_written}
 use Rattle.osi_session.specs.declared.state.State.{State}
 use Rattle.osi_session.specs.Allowed.{AllHold, Step, after, allowed, has_right, may_call, most_data, needs, sends}
 use Rattle.osi_session.specs.Calls.{Abort, Accept, Call, Data, Give, HasSerial, Major, MajorConfirm, Minor, MinorConfirm, Please, Refuse, Release, ReleaseAccept, ReleaseRefuse, Restart, RestartConfirm}
@@ -25,10 +25,10 @@ use Rattle.osi_session.specs.Respond.{has_no_effect}
 use Rattle.osi_session.specs.Sizes.{fits_limit, is_data, limit_of}
 use Rattle.osi_session.specs.Sound.{IsSound}
 use Rattle.osi_session.specs.Standing.{Seen, CanSay, goes, is_in_size, may_send, said, said_message, stands_in_place}
-use Rattle.osi_session.proofs.Passed.{passed}
-use Rattle.osi_session.proofs.PhaseLaws.{excluded, implied}
-use Rattle.osi_session.proofs.SendableLaws.{sent_sendable}
-use Rattle.osi_session.proofs.SentLaws.{limit_sized, sent_alone}
+use Rattle.osi_session.proofs.tables.what_an_accepted_call_has_passed.{passed}
+use Rattle.osi_session.proofs.tables.what_is_true_of_each_phase.{excluded, implied}
+use Rattle.osi_session.proofs.sent.what_is_sent_can_be_written.{sent_sendable}
+use Rattle.osi_session.proofs.sent.what_an_accepted_call_sends.{limit_sized, sent_alone}
 use Rattle.osi_judge.proofs.a_call_may_be_said.{message_said}
 use Rattle.osi_judge.proofs.what_is_said_is_explained.{SaysTsdus, says_behind, says_message, says_nothing}
 

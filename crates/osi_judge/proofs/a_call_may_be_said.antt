@@ -24,9 +24,9 @@ use Rattle.osi_session.specs.Sound.{IsSound}
 use Rattle.osi_session.specs.State.{without_tokens}
 use Rattle.osi_session.specs.Standing.{accepting_in, calling, finishing, fits_user_data, said_message, where_is}
 use Rattle.osi_session.specs.Units.{available, both_units, functional_units, has_data, has_points, is_profile, units_within}
-use Rattle.osi_session.proofs.PhaseLaws.{implied}
-use Rattle.osi_session.proofs.ProfileLaws.{profile_of}
-use Rattle.osi_session.proofs.SizeLaws.{answered_are, sizes_agreed}
+use Rattle.osi_session.proofs.tables.what_is_true_of_each_phase.{implied}
+use Rattle.osi_session.proofs.values.units_are_those_of_a_profile.{profile_of}
+use Rattle.osi_session.proofs.values.what_sizes_are_agreed.{answered_are, sizes_agreed}
 
 -- ---- the side that is settled for each token
 

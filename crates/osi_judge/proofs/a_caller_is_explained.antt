@@ -23,12 +23,12 @@ use Rattle.osi_session.specs.Sound.{IsSound}
 use Rattle.osi_session.specs.Standing.{Seen, CanSay, after_count, said, seen_called, seen_calling}
 use Rattle.osi_session.specs.State.{without_tokens}
 use Rattle.osi_session.specs.Units.{functional_units, has_points, is_profile}
-use Rattle.osi_session.proofs.AnswerLaws.{accepted_callable}
-use Rattle.osi_session.proofs.MoveLaws.{of_opened, of_refused}
-use Rattle.osi_session.proofs.PhaseLaws.{implied}
-use Rattle.osi_session.proofs.RunLaws.{asking_fresh, awaiting_fresh, fresh_sound, input_sound, lost_ended}
-use Rattle.osi_session.proofs.SendableLaws.{asked_sendable}
-use Rattle.osi_session.proofs.SizeLaws.{user_sizes}
+use Rattle.osi_session.proofs.tsdu.the_answer_to_a_tsdu.{accepted_callable}
+use Rattle.osi_session.proofs.moves.the_move_of_each_input.{of_opened, of_refused}
+use Rattle.osi_session.proofs.tables.what_is_true_of_each_phase.{implied}
+use Rattle.osi_session.proofs.runs.what_every_run_preserves.{asking_fresh, awaiting_fresh, fresh_sound, input_sound, lost_ended}
+use Rattle.osi_session.proofs.sent.what_is_sent_can_be_written.{asked_sendable}
+use Rattle.osi_session.proofs.values.what_sizes_are_agreed.{user_sizes}
 use Rattle.osi_judge.specs.Explaining.{Explains, Remark, Told, remarks, remarks_of}
 use Rattle.osi_judge.specs.Explaining as explained
 use Rattle.osi_judge.specs.Running.{IsSentFrom, Pass, Runs, sends}

@@ -30,12 +30,12 @@ use Rattle.osi_session.specs.Phases.{is_answering, is_over, is_restarting, is_wa
 use Rattle.osi_session.specs.Respond.{becomes, fine, is_acceptable, is_expected, respond_unit, stands}
 use Rattle.osi_session.specs.State.{without_tokens}
 use Rattle.osi_session.specs.Units.{functional_units, is_profile, units_within}
-use Rattle.osi_session.proofs.AloneLaws.{StandsAlone, alone_in_octets, passes, stands_alone}
-use Rattle.osi_session.proofs.Passed.{passed}
-use Rattle.osi_session.proofs.PhaseLaws.{excluded}
-use Rattle.osi_session.proofs.RunCases.{call_cases, fault_cases, taken_cases, unit_cases}
-use Rattle.osi_session.proofs.WordCases.{ActsAs, any_tsdu_keeps, tsdu_keeps, word_keeps}
-use Rattle.osi_session.proofs.WordLaws.{word_alone, word_at}
+use Rattle.osi_session.proofs.tables.units_that_are_alone.{StandsAlone, alone_in_octets, passes, stands_alone}
+use Rattle.osi_session.proofs.tables.what_an_accepted_call_has_passed.{passed}
+use Rattle.osi_session.proofs.tables.what_is_true_of_each_phase.{excluded}
+use Rattle.osi_session.proofs.tables.the_outcomes_of_each_input.{call_cases, fault_cases, taken_cases, unit_cases}
+use Rattle.osi_session.proofs.tables.a_word_acts_as_its_message.{ActsAs, any_tsdu_keeps, tsdu_keeps, word_keeps}
+use Rattle.osi_session.proofs.tables.messages_act_as_the_table_says.{word_alone, word_at}
 use Rattle.osi_judge.specs.Profiles.{in_first, offered_in}
 
 -- ---- units that may be selected together stay so when another side names them too

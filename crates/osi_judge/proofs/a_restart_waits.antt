@@ -17,8 +17,8 @@ use Rattle.osi_session.specs.Sizes.{limit_of}
 use Rattle.osi_session.specs.Standing.{Seen, Count, CanSay, Takes, after_count, calling, goes, may_send, said_message, said_within, stands_in_place, where_is}
 use Rattle.osi_session.specs.State.{without_tokens}
 use Rattle.osi_session.specs.Steady.{Hears}
-use Rattle.osi_session.proofs.PhaseLaws.{excluded}
-use Rattle.osi_session.proofs.SteadyLaws.{within, call_leaves, if_seen, if_state, mapped}
+use Rattle.osi_session.proofs.tables.what_is_true_of_each_phase.{excluded}
+use Rattle.osi_session.proofs.ahead.the_state_after_a_word.{within, call_leaves, if_seen, if_state, mapped}
 use Rattle.osi_judge.specs.Explaining.{Remark, Explains, done, takes, answers, says}
 use Rattle.osi_judge.specs.Members.{IsBehind}
 use Rattle.osi_judge.specs.Waiting.{Waits, aborted, is_abort_word}

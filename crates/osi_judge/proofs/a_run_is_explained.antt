@@ -20,12 +20,12 @@ use Rattle.osi_session.specs.Phases.{is_ended, is_over, is_wait_transport}
 use Rattle.osi_session.specs.Sizes.{limit_of}
 use Rattle.osi_session.specs.Sound.{IsSound}
 use Rattle.osi_session.specs.Standing.{Seen, Count, Takes, after_count, answers, counted, goes, listens}
-use Rattle.osi_session.proofs.AnswerLaws.{accepted_callable, callable_open}
-use Rattle.osi_session.proofs.MoveLaws.{call_is, call_sends, came_is, not_opened}
-use Rattle.osi_session.proofs.ClosingLaws.{input_ends}
-use Rattle.osi_session.proofs.PhaseLaws.{implied}
-use Rattle.osi_session.proofs.RunLaws.{input_begun, input_over, input_sound, lost_ended}
-use Rattle.osi_session.proofs.TsduLaws.{octets_sound}
+use Rattle.osi_session.proofs.tsdu.the_answer_to_a_tsdu.{accepted_callable, callable_open}
+use Rattle.osi_session.proofs.moves.the_move_of_each_input.{call_is, call_sends, came_is, not_opened}
+use Rattle.osi_session.proofs.moves.what_closes_the_connection.{input_ends}
+use Rattle.osi_session.proofs.tables.what_is_true_of_each_phase.{implied}
+use Rattle.osi_session.proofs.runs.what_every_run_preserves.{input_begun, input_over, input_sound, lost_ended}
+use Rattle.osi_session.proofs.tsdu.what_the_words_of_a_tsdu_preserve.{octets_sound}
 use Rattle.osi_judge.specs.Explaining.{Explains, Remark, Told, read_as, remark, remarks, remarks_of}
 use Rattle.osi_judge.specs.Explaining as explained
 use Rattle.osi_judge.specs.Members.{IsBehind}

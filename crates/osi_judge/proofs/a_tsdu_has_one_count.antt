@@ -16,7 +16,7 @@ use Rattle.osi_session.specs.Joining.{Taker, Hearing, acting_words, begins_anew,
 use Rattle.osi_session.specs.Phases.{is_over}
 use Rattle.osi_session.specs.Respond.{Outcome, Verdict, bad, by_fault, conditions, drops, dropped, enacted, faulty, fine, first_fault, good, is_expected, is_faulty, nothing, over, respond_fault, si}
 use Rattle.osi_session.specs.Standing.{Count, counted}
-use Rattle.osi_session.proofs.CountingLaws.{count_then, heard_counted}
+use Rattle.osi_session.proofs.tsdu.octets_are_counted.{count_then, heard_counted}
 
 -- as many octets are joined
 abbrev pub AsMany : Option (List ℕ) → Option (List ℕ) → Type 0

@@ -16,8 +16,8 @@ use Rattle.osi_session.specs.Standing.{Seen, Count, Takes, counted}
 use Rattle.osi_session.specs.Steps.{told_of}
 use Rattle.osi_session.specs.declared.faults.UnitFault.TheVariants.{DataTooLong}
 use Rattle.osi_message.specs.Meanings.{DT}
-use Rattle.osi_session.proofs.CountingLaws.{message_counts, dropped_counts, bad_counts, long_counts, good_counts, fault_counts, count_then}
-use Rattle.osi_session.proofs.HearingLaws.{word_told}
+use Rattle.osi_session.proofs.tsdu.octets_are_counted.{message_counts, dropped_counts, bad_counts, long_counts, good_counts, fault_counts, count_then}
+use Rattle.osi_session.proofs.tsdu.the_effect_of_a_word.{word_told}
 
 -- ---- one word
 

@@ -14,7 +14,7 @@ use Rattle.osi_session.specs.Phases.{is_aborting, is_ended, is_over}
 use Rattle.osi_session.specs.Respond.{Outcome, conditions, drops, first_fault, first_reply, in_aborting, in_ended, is_expected, is_faulty, judged, reply_for, respond_fault, respond_unit, si, take_expected}
 use Rattle.osi_session.specs.Standing.{answers}
 use Rattle.osi_session.specs.Units.{functional_units, has_data}
-use Rattle.osi_session.proofs.WordCases.{outcome_in, word_does}
+use Rattle.osi_session.proofs.tables.a_word_acts_as_its_message.{outcome_in, word_does}
 
 pub record IsAnswer (m : Meaning) : Type 0 where
   pub itself : answers m m ≡ true

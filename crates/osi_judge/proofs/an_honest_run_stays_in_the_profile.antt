@@ -22,11 +22,11 @@ use Rattle.osi_session.specs.Sizes.{is_data, limit_of}
 use Rattle.osi_session.specs.Sound.{IsSound}
 use Rattle.osi_session.specs.Standing.{answers}
 use Rattle.osi_session.specs.Units.{functional_units, is_profile, units_within}
-use Rattle.osi_session.proofs.ClosingLaws.{input_ends}
-use Rattle.osi_session.proofs.MoveLaws.{call_sends, not_opened}
-use Rattle.osi_session.proofs.Passed.{passed}
-use Rattle.osi_session.proofs.RunLaws.{awaiting_fresh, fresh_sound, input_over, input_sound, lost_ended}
-use Rattle.osi_session.proofs.SendableLaws.{sent_sendable}
+use Rattle.osi_session.proofs.moves.what_closes_the_connection.{input_ends}
+use Rattle.osi_session.proofs.moves.the_move_of_each_input.{call_sends, not_opened}
+use Rattle.osi_session.proofs.tables.what_an_accepted_call_has_passed.{passed}
+use Rattle.osi_session.proofs.runs.what_every_run_preserves.{awaiting_fresh, fresh_sound, input_over, input_sound, lost_ended}
+use Rattle.osi_session.proofs.sent.what_is_sent_can_be_written.{sent_sendable}
 use Rattle.osi_judge.specs.declared.directions.Direction.{Direction}
 use Rattle.osi_judge.specs.declared.directions.Direction.TheVariants.{Left, Right}
 use Rattle.osi_judge.specs.Explaining.{Told}

@@ -9,10 +9,10 @@ use Rattle.osi_spdu.specs.declared.faults.SpduFault.{SpduFault}
 use Rattle.osi_spdu.specs.Known.{Contents, Units}
 use Rattle.osi_spdu.specs.Reading.{tsdu_at}
 use Rattle.osi_spdu.specs.Writing.{tsdu_octets}
-use Rattle.osi_spdu.proofs.Digits.{numeral_digits}
-use Rattle.osi_spdu.proofs.MadeLaws.{few_fit}
-use Rattle.osi_spdu.proofs.UnitsLaws.{tsdu_read}
-use Rattle.osi_spdu.proofs.WrittenLaws.{units_written}
+use Rattle.osi_spdu.proofs.basics.digits_of_numbers.{numeral_digits}
+use Rattle.osi_spdu.proofs.form.few_octets_fit.{few_fit}
+use Rattle.osi_spdu.proofs.tsdu.units_and_tsdus_are_read.{tsdu_read}
+use Rattle.osi_spdu.proofs.form.the_form_spells_its_unit.{units_written}
 use Rattle.osi_message.specs.Meanings.{Meaning, CN, AC, DT, GT, PT}
 use Rattle.osi_message.specs.Plain.{data_octets}
 use Rattle.osi_message.specs.Numbered.{IsNumbered, AreNumberedWords}
@@ -23,11 +23,11 @@ use Rattle.osi_message.specs.declared.places.Place.{Place}
 use Rattle.osi_message.specs.declared.places.Place.TheVariants.{First, Middle, Last}
 use Rattle.osi_message.specs.Words.{Word, Words, part, part_octets, says}
 use Rattle.osi_message.specs.Written.{is_second, spelled, user_data_of, written}
-use Rattle.osi_message.proofs.FittingLaws.{spelled_fits, spelled_formed}
-use Rattle.osi_message.proofs.NumberLaws.{units_numbered}
-use Rattle.osi_message.proofs.PartLaws.{part_said}
-use Rattle.osi_message.proofs.PlainLaws.{data_written}
-use Rattle.osi_message.proofs.SendingLaws.{said_again}
+use Rattle.osi_message.proofs.what_can_be_sent_has_a_written_form.{spelled_fits, spelled_formed}
+use Rattle.osi_message.proofs.numbers_are_those_of_points.{units_numbered}
+use Rattle.osi_message.proofs.parts_are_written_and_read.{part_said}
+use Rattle.osi_message.proofs.units_of_the_fast_path.{data_written}
+use Rattle.osi_message.proofs.what_is_written_means_it.{said_again}
 use Rattle.osi_session.specs.declared.faults.UnitFault.TheVariants.{BadEnclosure, DataTooLong, Unexpected}
 use Rattle.osi_session.specs.Allowed.{most_data}
 use Rattle.osi_session.specs.Joining.{Taker, Hearing, acting_words, enacted_word, is_in_place, is_restart_word}
@@ -37,7 +37,7 @@ use Rattle.osi_session.specs.Phases.{is_over, is_restarting}
 use Rattle.osi_session.specs.Respond.{Verdict, by_fault, conditions, dropped, drops, faulty, fine, first_fault, has_no_effect}
 use Rattle.osi_session.specs.Respond.{is_expected, is_faulty, nothing, over, passes_restarting, si}
 use Rattle.osi_session.specs.Standing.{Count, counted}
-use Rattle.osi_session.proofs.CountingLaws.{count_then}
+use Rattle.osi_session.proofs.tsdu.octets_are_counted.{count_then}
 use Rattle.osi_judge.specs.Outlines.{AreAlike, at_most, bare, no_data, outline, outline_as, outline_behind, outline_by}
 use Rattle.osi_judge.proofs.a_tsdu_has_one_count.{behind_by, heard_alike, takers_alike, words_alike}
 

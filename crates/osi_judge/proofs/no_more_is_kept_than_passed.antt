@@ -6,7 +6,7 @@ use Rattle.std.proofs.lemmas.List.{length-append, map-append}
 use Rattle.osi_tpkt.specs.Octets.{IsOctets}
 use Rattle.osi_tpkt.specs.Packet.{IsPacket}
 use Rattle.osi_tpkt.specs.Stream.{ArePackets}
-use Rattle.osi_tpkt.proofs.OctetLaws.{octets_right}
+use Rattle.osi_tpkt.proofs.lists_of_octets_stay_octets.{octets_right}
 use Rattle.osi_tpdu.specs.declared.faults.TpduFault.{TpduFault}
 use Rattle.osi_tpdu.specs.Packet.{AreUnits, units_of}
 use Rattle.osi_tpdu.specs.Spelling.{Spells}

@@ -16,7 +16,7 @@ use Rattle.osi_session.specs.Respond.{is_restart}
 use Rattle.osi_session.specs.Sides.{offered}
 use Rattle.osi_session.specs.Standing.{Seen, CanSay, calling, goes, where_is}
 use Rattle.osi_session.specs.State.{without_tokens}
-use Rattle.osi_session.proofs.SteadyLaws.{if_seen, if_state, within, call_leaves, mapped}
+use Rattle.osi_session.proofs.ahead.the_state_after_a_word.{if_seen, if_state, within, call_leaves, mapped}
 use Rattle.osi_judge.specs.Between.{seen_to}
 use Rattle.osi_judge.specs.Waiting.{Restarted}
 

@@ -19,10 +19,10 @@ use Rattle.osi_session.specs.Sides.{answers_wishes, stated}
 use Rattle.osi_session.specs.Sizes.{limit_of}
 use Rattle.osi_session.specs.Standing.{Seen, Count, Takes, CanSay, calling, connecting, counted, goes, is_in_size, may_send, said_message, said_within, stands_in_place, where_is}
 use Rattle.osi_session.specs.Allowed.{may_call}
-use Rattle.osi_session.proofs.PhaseLaws.{excluded}
-use Rattle.osi_session.proofs.SayingLaws.{so_many, so_many_are, over_refuses}
-use Rattle.osi_session.proofs.SteadyLaws.{within, call_leaves, if_state, mapped}
-use Rattle.osi_session.proofs.WordLaws.{word_at}
+use Rattle.osi_session.proofs.tables.what_is_true_of_each_phase.{excluded}
+use Rattle.osi_session.proofs.sent.what_a_side_may_send.{so_many, so_many_are, over_refuses}
+use Rattle.osi_session.proofs.ahead.the_state_after_a_word.{within, call_leaves, if_state, mapped}
+use Rattle.osi_session.proofs.tables.messages_act_as_the_table_says.{word_at}
 use Rattle.osi_judge.proofs.a_tsdu_leaves_one_count.{then_words, by_reply, one_count}
 use Rattle.osi_judge.proofs.what_is_said_between.{can_say}
 

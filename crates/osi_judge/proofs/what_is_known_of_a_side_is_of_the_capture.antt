@@ -2,7 +2,7 @@
 -- For the crate that writes what a judge found.
 use Rattle.std.proofs.Common.{◌≡◌, ◌∙◌, refl, sym, ap, subst, ℕ, ◌+◌, ◌==◌, Bool, true, false, if◌then◌else◌, List, [], ◌∷◌, ◌++◌}
 use Rattle.std.proofs.Common.{◌↔◌, inl, inr, length, take, Option, Some, None, Result, Ok, Err}
-use Rattle.osi_tpkt.proofs.Streams.{one_cut}
+use Rattle.osi_tpkt.proofs.a_stream_is_cut_in_one_way.{one_cut}
 use Rattle.osi_tpdu.specs.Value.{Value, request, confirm, disconnect, disconnected, data0, data2, acknowledge, error}
 use Rattle.osi_tpdu.specs.Packet.{units_of}
 use Rattle.osi_tpdu.specs.declared.faults.TpduFault.{TpduFault}

@@ -22,8 +22,8 @@ unfoldable use Rattle.osi_session.specs.Respond.{stands, respond_fault}
 use Rattle.osi_session.specs.Standing.{Seen, Count, Takes, counted}
 use Rattle.osi_session.specs.State.{without_tokens}
 use Rattle.osi_session.specs.Units.{both_units, functional_units}
-use Rattle.osi_session.proofs.SayingLaws.{so_many, so_many_are}
-use Rattle.osi_session.proofs.WordLaws.{word_at}
+use Rattle.osi_session.proofs.sent.what_a_side_may_send.{so_many, so_many_are}
+use Rattle.osi_session.proofs.tables.messages_act_as_the_table_says.{word_at}
 use Rattle.osi_judge.specs.Between.{confirmed_to, seen_to}
 use Rattle.osi_judge.proofs.a_tsdu_leaves_one_count.{then_words, by_reply, one_count}
 

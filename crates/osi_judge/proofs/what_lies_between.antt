@@ -5,7 +5,7 @@ use Rattle.osi_message.specs.Meanings.{Meaning}
 use Rattle.osi_message.specs.Words.{Word}
 use Rattle.osi_session.specs.Phases.{is_over, is_wait_transport}
 use Rattle.osi_session.specs.Standing.{Seen, Count, CanSay, Takes, listens, after_count, answers_word}
-use Rattle.osi_session.proofs.PhaseLaws.{excluded}
+use Rattle.osi_session.proofs.tables.what_is_true_of_each_phase.{excluded}
 use Rattle.osi_judge.specs.Between.{confirmed_to, seen_to}
 use Rattle.osi_judge.specs.Explaining.{Remark, Explains, done, takes, answers, says}
 use Rattle.osi_judge.proofs.what_ends_alike.{SameEnd, TakesAlike, takes_alike, says_alike}

@@ -30,7 +30,7 @@ struct Place {
 
 /// The octets that a text captures: two hexadecimal digits of either case for each. Blanks, tabs and line ends are
 /// skipped, also between the two digits of an octet, and so are comments from `#` to the end of the line.
-#[tactic(auto, using(crate::proofs::OctetsOfDigits::captures_at_end, crate::proofs::OctetsOfDigits::no_capture_at_end, crate::proofs::OctetsOfDigits::no_capture_here, crate::proofs::OctetsOfDigits::after_none))]
+#[tactic(auto, using(crate::proofs::digits_give_octets::captures_at_end, crate::proofs::digits_give_octets::no_capture_at_end, crate::proofs::digits_give_octets::no_capture_here, crate::proofs::digits_give_octets::after_none))]
 pub fn octets_of(alloc: Global, text: &[u8]) -> Result<Vec<u8>, CaptureFault>
     ensures ok { IfOk result (λ octets. Captures text.now octets.items) }
     ensures bad_hex { result ≡ Err CaptureFault.BadHex → IsNoCapture text.now }
@@ -72,7 +72,7 @@ fn read_whole<'t>(
 }
 
 /// Reads octets whose two digits stand side by side, and returns the rest of the text.
-#[tactic(auto, using(crate::proofs::OctetsOfDigits::after_both))]
+#[tactic(auto, using(crate::proofs::digits_give_octets::after_both))]
 fn read_octets<'t>(octets: &mut Vec<u8>, text: &'t [u8]) -> Result<&'t [u8], CaptureFault>
     ensures ok { IfOk result (λ rest. after_octets octets.new.items (octets_from (digits_of rest.now) None)
         ≡ after_octets octets.old.items (octets_from (digits_of text.now) None)) }
@@ -91,7 +91,7 @@ fn read_octets<'t>(octets: &mut Vec<u8>, text: &'t [u8]) -> Result<&'t [u8], Cap
 
 /// The octet whose two digits a text begins with, and the text after them.
 #[inline(always)]
-#[tactic(auto, using(crate::proofs::OctetsOfDigits::two_read))]
+#[tactic(auto, using(crate::proofs::digits_give_octets::two_read))]
 fn front_octet(text: &[u8]) -> Option<(u8, &[u8])>
     ensures read { IfSome result (λ front. octets_from (digits_of text.now) None
         ≡ after_octets (front.0 ∷ []) (octets_from (digits_of front.1.now) None)) }
@@ -107,7 +107,7 @@ fn front_octet(text: &[u8]) -> Option<(u8, &[u8])>
 
 /// Reads a character of a text, and returns the place after it.
 #[inline(always)]
-#[tactic(auto, using(crate::proofs::OctetsOfDigits::digit_read, crate::proofs::OctetsOfDigits::digit_skipped))]
+#[tactic(auto, using(crate::proofs::digits_give_octets::digit_read, crate::proofs::digits_give_octets::digit_skipped))]
 fn read_character(octets: &mut Vec<u8>, place: Place, character: u8) -> Result<Place, CaptureFault>
     requires { IfSome place.high (λ high. high < 16) }
     ensures small { IfOk result (λ after. IfSome after.high (λ high. high < 16)) }
@@ -131,7 +131,7 @@ fn read_character(octets: &mut Vec<u8>, place: Place, character: u8) -> Result<P
 }
 
 /// Reads a character that is no digit: the beginning or the end of a comment, a character within it, or a blank.
-#[tactic(auto, using(crate::proofs::Digits::left_blank_of, crate::proofs::OctetsOfDigits::no_digit))]
+#[tactic(auto, using(crate::proofs::digits_from_octet_to_octet::left_blank_of, crate::proofs::digits_give_octets::no_digit))]
 fn read_other(place: Place, character: u8) -> Result<Place, CaptureFault>
     requires { hex_digit_value character ≡ None }
     ensures high { IfOk result (λ after. after.high ≡ place.high) }

@@ -47,7 +47,7 @@ fn push_digit(text: &mut Vec<u8>, number: u8) -> Result<(), AllocError>
 
 /// Adds a number of two digits.
 #[inline(always)]
-#[tactic(auto, using(crate::proofs::Fields::two_digits))]
+#[tactic(auto, using(crate::proofs::fields_one_after_the_other::two_digits))]
 fn push_two_digits(text: &mut Vec<u8>, number: u8) -> Result<(), AllocError>
     requires at_least { 10 ≤ number }
     requires at_most { number < 100 }
@@ -65,7 +65,7 @@ fn push_long_decimal(text: &mut Vec<u8>, number: u64) -> Result<(), AllocError>
 }
 
 /// Adds octets in hexadecimal.
-#[tactic(auto, using(crate::proofs::Fields::encode_lower_cons))]
+#[tactic(auto, using(crate::proofs::fields_one_after_the_other::encode_lower_cons))]
 pub(crate) fn push_hex(text: &mut Vec<u8>, octets: &[u8]) -> Result<(), AllocError>
     ensures { OnOk result (text.new.items ≡ text.old.items ++ encode_lower octets.now) }
 {

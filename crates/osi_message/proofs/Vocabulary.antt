@@ -31,7 +31,7 @@ pub use Rattle.osi_spdu.specs.declared.kinds.Kind.TheVariants.{Abort, AbortAccep
 pub use Rattle.osi_spdu.specs.declared.settings.TokenSetting.{TokenSetting}
 pub use Rattle.osi_spdu.specs.declared.settings.Wish.{Wish}
 pub use Rattle.osi_spdu.specs.declared.settings.Wish.TheVariants.{Answerer, Asker, Choice}
-pub use Rattle.osi_tpkt.proofs.OctetLaws.{octets_append, octets_cons, octets_drop, octets_nil, octets_take}
+pub use Rattle.osi_tpkt.proofs.lists_of_octets_stay_octets.{octets_append, octets_cons, octets_drop, octets_nil, octets_take}
 pub use Rattle.osi_tpkt.specs.Octets.{IsOctets}
 pub use Rattle.osi_message.specs.InOctets.{IsInOctets}
 pub use Rattle.osi_message.specs.Meanings.{AA, AB, AC, CN, DN, DT, FN, GT, MAA, MAP, MIA, MIP, Meaning, NF, PT, RA, RF, RS, meant_by}

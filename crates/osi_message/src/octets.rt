@@ -48,7 +48,7 @@ impl Octets {
     /// These octets without the first `start` of them, in the same buffer: none is copied. The result is empty if
     /// there are no more than `start`.
     #[inline(always)]
-    #[tactic(auto, using(crate::proofs::Starts::none_beyond))]
+    #[tactic(auto, using(crate::proofs::octets_after_the_first_ones::none_beyond))]
     pub fn behind(items: Vec<u8>, start: usize) -> Octets
         ensures { result ≡ drop start items.items }
     {
@@ -65,7 +65,7 @@ impl Octets {
     }
 
     /// Adds more octets after them. `Err` changes nothing, and is possible only if there are some to add.
-    #[tactic(auto, using(crate::proofs::Starts::more_behind))]
+    #[tactic(auto, using(crate::proofs::octets_after_the_first_ones::more_behind))]
     pub fn extend(&mut self, more: &[u8]) -> Result<(), AllocError>
         ensures ok { OnOk result (self.new ≡ self.old ++ more.now) }
         ensures err { OnErr result (self.new ≡ self.old) }
@@ -79,7 +79,7 @@ impl Octets {
 
     /// Adds the last octets after them, and makes no more room than they need. `Err` changes nothing, and is possible
     /// only if there are some to add.
-    #[tactic(auto, using(crate::proofs::Starts::more_behind))]
+    #[tactic(auto, using(crate::proofs::octets_after_the_first_ones::more_behind))]
     pub fn complete(&mut self, last: &[u8]) -> Result<(), AllocError>
         ensures ok { OnOk result (self.new ≡ self.old ++ last.now) }
         ensures err { OnErr result (self.new ≡ self.old) }

@@ -58,7 +58,7 @@ fn digit(number: u32) -> u8
 }
 
 /// The octets of a TSDU with a unit of this SI and this number. No memory is needed.
-#[tactic(auto, using(crate::proofs::PlainLaws::digits_1, crate::proofs::PlainLaws::digits_2, crate::proofs::PlainLaws::digits_3, crate::proofs::PlainLaws::digits_4, crate::proofs::PlainLaws::digits_5, crate::proofs::PlainLaws::digits_6))]
+#[tactic(auto, using(crate::proofs::units_of_the_fast_path::digits_1, crate::proofs::units_of_the_fast_path::digits_2, crate::proofs::units_of_the_fast_path::digits_3, crate::proofs::units_of_the_fast_path::digits_4, crate::proofs::units_of_the_fast_path::digits_5, crate::proofs::units_of_the_fast_path::digits_6))]
 fn point(si: u8, number: Serial) -> Short
     ensures { result ≡ point_octets si (digits_of number.number) }
 {
@@ -79,7 +79,7 @@ fn point(si: u8, number: Serial) -> Short
 }
 
 /// The same for a number of four to six digits.
-#[tactic(auto, using(crate::proofs::PlainLaws::digits_4, crate::proofs::PlainLaws::digits_5, crate::proofs::PlainLaws::digits_6))]
+#[tactic(auto, using(crate::proofs::units_of_the_fast_path::digits_4, crate::proofs::units_of_the_fast_path::digits_5, crate::proofs::units_of_the_fast_path::digits_6))]
 fn long_point(si: u8, number: Serial) -> Short
     requires { 1000 ≤ number.number }
     ensures { result ≡ point_octets si (digits_of number.number) }
@@ -114,7 +114,7 @@ fn long_point(si: u8, number: Serial) -> Short
 }
 
 /// The octets of a TSDU with a MIP that asks for its confirmation.
-#[tactic(auto, using(crate::proofs::PlainLaws::point_written))]
+#[tactic(auto, using(crate::proofs::units_of_the_fast_path::point_written))]
 pub(crate) fn minor_point(number: Serial) -> Short
     ensures { result ≡ written (MIP true number.number []) }
 {
@@ -122,7 +122,7 @@ pub(crate) fn minor_point(number: Serial) -> Short
 }
 
 /// The octets of a TSDU with a MIA.
-#[tactic(auto, using(crate::proofs::PlainLaws::ack_written))]
+#[tactic(auto, using(crate::proofs::units_of_the_fast_path::ack_written))]
 pub(crate) fn minor_ack(number: Serial) -> Short
     ensures { result ≡ written (MIA number.number []) }
 {
@@ -131,7 +131,7 @@ pub(crate) fn minor_ack(number: Serial) -> Short
 
 /// The octets before data in its TSDU: a GT that names no token, and the header of a DT (X.225 sections 6.3.7 and 8).
 #[inline(always)]
-#[tactic(auto, using(crate::proofs::PlainLaws::data_written))]
+#[tactic(auto, using(crate::proofs::units_of_the_fast_path::data_written))]
 pub fn data_head() -> &'static [u8]
     ensures octets { (octets : List ℕ) → written (DT octets) ≡ result.now ++ octets }
     ensures length { length result.now ≡ 4 }
@@ -150,7 +150,7 @@ fn has_zero_in_front(digits: &[u8]) -> bool
 }
 
 /// The number of these digits, if they are the digits in which it is written.
-#[tactic(auto, using(crate::proofs::PlainLaws::read_again))]
+#[tactic(auto, using(crate::proofs::units_of_the_fast_path::read_again))]
 fn canonical(digits: &[u8]) -> Option<Serial>
     ensures { IfSome result (λ s. digits_of s.number ≡ digits.now) }
 {
@@ -162,7 +162,7 @@ fn canonical(digits: &[u8]) -> Option<Serial>
 }
 
 /// The number of a unit of this SI with no other parameter, after a GT that names no token.
-#[tactic(auto, using(crate::proofs::PlainLaws::point_parts))]
+#[tactic(auto, using(crate::proofs::units_of_the_fast_path::point_parts))]
 fn number_of(tsdu: &[u8], si: u8) -> Option<Serial>
     ensures { IfSome result (λ s. tsdu.now ≡ point_octets si (digits_of s.number)) }
 {
@@ -199,7 +199,7 @@ fn place_in_front(head: &[u8]) -> Option<Place>
 /// A part of one Data, after a GT that names no token. The function is kept out of line, because points are more
 /// frequent.
 #[inline(never)]
-#[tactic(auto, using(crate::proofs::PlainLaws::part_parts))]
+#[tactic(auto, using(crate::proofs::units_of_the_fast_path::part_parts))]
 fn part_of(tsdu: &[u8]) -> Option<PlainUnit<'_>>
     ensures { IfSome result (λ p. tsdu.now ≡ plain_octets p) }
 {
@@ -212,7 +212,7 @@ fn part_of(tsdu: &[u8]) -> Option<PlainUnit<'_>>
 }
 
 /// The unit whose written form the octets are.
-#[tactic(auto, using(crate::proofs::PlainLaws::point_written, crate::proofs::PlainLaws::ack_written))]
+#[tactic(auto, using(crate::proofs::units_of_the_fast_path::point_written, crate::proofs::units_of_the_fast_path::ack_written))]
 fn plain_unit(tsdu: &[u8]) -> Option<PlainUnit<'_>>
     ensures { IfSome result (λ p. tsdu.now ≡ plain_octets p) }
 {
@@ -248,7 +248,7 @@ impl<'a> PlainUnit<'a> {
 
     /// The user data of whole data, if the octets of a TSDU are its written form, after a GT that names no token.
     #[inline(always)]
-    #[tactic(auto, using(crate::proofs::PlainLaws::data_parts))]
+    #[tactic(auto, using(crate::proofs::units_of_the_fast_path::data_parts))]
     pub fn data(tsdu: &'a [u8]) -> Option<&'a [u8]>
         ensures written { IfSome result (λ d. tsdu.now ≡ data_octets d.now) }
         ensures said { IfSome result (λ d. said_at tsdu.now ≡ Ok (says (GT no_token) ∷ says (DT d.now) ∷ [])) }

@@ -147,7 +147,7 @@ impl Sent {
 
     /// Data in one TSDU: written directly into a buffer of the right length, after a GT that names no token.
     #[inline(always)]
-    #[tactic(auto, using(crate::proofs::PlainLaws::data_written))]
+    #[tactic(auto, using(crate::proofs::units_of_the_fast_path::data_written))]
     pub fn whole(alloc: Global, user_data: &[u8]) -> Result<Sent, AllocError>
         ensures { IfOk result (λ s. s ≡ in_one (DT user_data.now)) }
     {
@@ -164,7 +164,7 @@ impl Sent {
 
     /// Data (X.225 section 6.3.5, segmenting), if a TSDU may have at most this size: as a whole if its TSDU fits,
     /// otherwise in parts, all but the last of which have the full size. Either all of them are written, or none.
-    #[tactic(auto, using(crate::proofs::SentLaws::sent_whole))]
+    #[tactic(auto, using(crate::proofs::the_tsdus_of_a_message::sent_whole))]
     pub fn data(alloc: Global, limit: TsduSize, user_data: &[u8]) -> Result<Sent, AllocError>
         ensures { IfOk result (λ s. s ≡ tsdus_of (size_of limit) (DT user_data.now)) }
     {
@@ -179,7 +179,7 @@ impl Sent {
     /// Data that is longer than the limit, in parts. It is kept out of line: otherwise whole data would pay for the
     /// room of the parts.
     #[inline(never)]
-    #[tactic(auto, using(crate::proofs::SentLaws::sent_parted, crate::proofs::SentLaws::some_octets, crate::proofs::SentLaws::more_octets))]
+    #[tactic(auto, using(crate::proofs::the_tsdus_of_a_message::sent_parted, crate::proofs::the_tsdus_of_a_message::some_octets, crate::proofs::the_tsdus_of_a_message::more_octets))]
     fn in_parts(alloc: Global, limit: u16, user_data: &[u8]) -> Result<Sent, AllocError>
         requires sized { is_size limit ≡ true }
         requires long { is_whole limit user_data.now ≡ false }

@@ -42,7 +42,7 @@ impl Tokens {
     }
 
     /// The tokens as a set.
-    #[tactic(auto, using(crate::proofs::TokenLaws::named_octet))]
+    #[tactic(auto, using(crate::proofs::the_octet_of_a_set_of_tokens::named_octet))]
     pub fn set(self) -> TokenSet
         ensures named { named (bits_of result) ≡ self }
         ensures octet { bits_of result ≡ token_octet self }

@@ -5,7 +5,7 @@ pub use Rattle.std.specs.Int.RustNames.{bit_and}
 pub use Rattle.std.specs.List.{AllByRecursion, list_any}
 pub use Rattle.std.specs.Option.{option_and_then}
 pub use Rattle.std.specs.Prelude.{OnErr, is_none, is_some}
-pub use Rattle.osi_message.proofs.NumberLaws.{meant_numbered, units_numbered}
+pub use Rattle.osi_message.proofs.numbers_are_those_of_points.{meant_numbered, units_numbered}
 pub use Rattle.osi_message.specs.Meanings.{AA, AB, AC, CN, DN, DT, FN, GT, MAA, MAP, MIA, MIP, Meaning, NF, PT, RA, RF, RS, meant_by, selector_octets}
 pub use Rattle.osi_message.specs.Numbered.{AreNumbered, AreNumberedWords, IsNumbered, IsNumberedWord, IsSmall}
 pub use Rattle.osi_message.specs.Parting.{AreFull, in_one, is_parted, is_whole, tsdus_of, tsdus_sent}

@@ -49,7 +49,7 @@ pub(crate) struct ExpectedPoint {
 }
 
 /// The numbers after a minor point that asks for its confirmation, if it is expected.
-#[tactic(auto, using(crate::proofs::PointLaws::point_is_shown))]
+#[tactic(auto, using(crate::proofs::tables::points_that_are_expected::point_is_shown))]
 fn after_point(state: &State, number: Serial) -> Option<Numbers>
     ensures { IfSome result (λ n. respond_unit state.now (MIP true number.number []) ≡ shows (record state.now { numbers = n }) (Minor number.number true [])) }
 {
@@ -66,7 +66,7 @@ fn after_point(state: &State, number: Serial) -> Option<Numbers>
 }
 
 /// The numbers after a confirmation, if it is expected and no major point is outstanding.
-#[tactic(auto, using(crate::proofs::PointLaws::ack_is_shown))]
+#[tactic(auto, using(crate::proofs::tables::points_that_are_expected::ack_is_shown))]
 fn after_ack(state: &State, number: Serial) -> Option<Numbers>
     ensures { IfSome result (λ n. respond_unit state.now (MIA number.number []) ≡ shows (record state.now { numbers = n }) (MinorConfirmed number.number [])) }
 {

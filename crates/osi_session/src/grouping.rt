@@ -168,7 +168,7 @@ pub(crate) fn judge_unread(state: &State, fault: SpduFault) -> Reaction
 }
 
 /// Whether data is indicated now and changes nothing: the phase expects it, and the peer has the data token.
-#[tactic(auto, using(crate::proofs::PointLaws::data_is_shown))]
+#[tactic(auto, using(crate::proofs::tables::points_that_are_expected::data_is_shown))]
 pub(crate) fn expects_data(state: &State) -> bool
     ensures { (octets : List ℕ) → result ≡ true → respond_unit state.now (DT octets) ≡ shows state.now (Data octets) }
 {

@@ -113,7 +113,7 @@ fn misplaced(joined: Option<&Octets>, message: &Message) -> Option<Kind>
 
 /// The effect of a message that may not occur within an SSDU, within one: its own fault comes first.
 #[inline(never)]
-#[tactic(auto, using(crate::proofs::JoiningLaws::misplaced_stays, crate::proofs::JoiningLaws::misplaced_turns, crate::proofs::JoiningLaws::misplaced_loud))]
+#[tactic(auto, using(crate::proofs::tsdu::the_verdict_while_joining::misplaced_stays, crate::proofs::tsdu::the_verdict_while_joining::misplaced_turns, crate::proofs::tsdu::the_verdict_while_joining::misplaced_loud))]
 fn take_misplaced(
     alloc: Global,
     state: &State,
@@ -149,7 +149,7 @@ pub(crate) fn take_message(
 }
 
 /// The joined octets after a part that is not the last. `Err` is possible only if the part has octets.
-#[tactic(auto, using(crate::proofs::HearingLaws::grown_nothing, crate::proofs::HearingLaws::grown_first))]
+#[tactic(auto, using(crate::proofs::tsdu::the_effect_of_a_word::grown_nothing, crate::proofs::tsdu::the_effect_of_a_word::grown_first))]
 fn grown(alloc: Global, joined: Option<&Octets>, user_data: &[u8]) -> Result<Joined, AllocError>
     ensures ok { IfOk result (λ g. joined_after g (option_copied joined.entry) ≡ Some (joined_octets (option_copied joined.entry) ++ user_data.now)) }
     ensures memory { OnErr result (0 < length user_data.now) }

@@ -47,7 +47,7 @@ fn is_in_place(joined: Option<&Octets>, place: Place) -> bool
 }
 
 /// Whether a part after the joined octets leaves no more than a Data may have.
-#[tactic(auto, using(crate::proofs::JoiningLaws::length_both))]
+#[tactic(auto, using(crate::proofs::tsdu::the_verdict_while_joining::length_both))]
 fn fits(joined: &[u8], user_data: &[u8]) -> bool
     ensures { result ≡ nat_le (length (joined.now ++ user_data.now)) most_data }
 {
@@ -55,7 +55,7 @@ fn fits(joined: &[u8], user_data: &[u8]) -> bool
 }
 
 /// The verdict on a part: first as a DT, then by its place, then by its length.
-#[tactic(auto, using(crate::proofs::JoiningLaws::part_verdict))]
+#[tactic(auto, using(crate::proofs::tsdu::the_verdict_while_joining::part_verdict))]
 pub(crate) fn judge_part(
     state: &State,
     joined: Option<&Octets>,

@@ -64,7 +64,7 @@ pub fn what_is_sent_can_be_sent()
 /// If nothing is joined, messages do what the tables of whole messages say: one word, words one after the other, a
 /// TSDU, and each input of a session, over every list of inputs. All inputs other than the words of a TSDU also do the
 /// same if something is joined; the new phase decides whether it is kept or dropped.
-#[tactic(auto, using(crate::proofs::WordLaws::plain_word, crate::proofs::WordLaws::plain_words, crate::proofs::WordLaws::plain_tsdu, crate::proofs::WordLaws::moves_as_whole, crate::proofs::WordLaws::run_as_whole, crate::proofs::WordLaws::others))]
+#[tactic(auto, using(crate::proofs::tables::messages_act_as_the_table_says::plain_word, crate::proofs::tables::messages_act_as_the_table_says::plain_words, crate::proofs::tables::messages_act_as_the_table_says::plain_tsdu, crate::proofs::tables::messages_act_as_the_table_says::moves_as_whole, crate::proofs::tables::messages_act_as_the_table_says::run_as_whole, crate::proofs::tables::messages_act_as_the_table_says::others))]
 pub fn messages_do_what_they_did()
     ensures word { (s : State) (u : Meaning) → respond_word (record { state = s; joined = None }) (says u) ≡ heard None (respond_unit s u) }
     ensures words { (s : State) (us : List Meaning) → respond_words (record { state = s; joined = None }) (map says us) ≡ heard None (respond_all s us) }
@@ -78,7 +78,7 @@ pub fn messages_do_what_they_did()
 /// The move of each input: for a call, for the words of a TSDU and for octets that are no session units, what the
 /// tables give. That the transport connection is open or was refused has an effect only while it is awaited. And the
 /// transport connection may be lost.
-#[tactic(auto, using(crate::proofs::MoveLaws::of_call, crate::proofs::MoveLaws::of_words, crate::proofs::MoveLaws::of_fault, crate::proofs::MoveLaws::of_opened, crate::proofs::MoveLaws::of_refused, crate::proofs::MoveLaws::of_broken, crate::proofs::MoveLaws::not_opened, crate::proofs::MoveLaws::not_refused))]
+#[tactic(auto, using(crate::proofs::moves::the_move_of_each_input::of_call, crate::proofs::moves::the_move_of_each_input::of_words, crate::proofs::moves::the_move_of_each_input::of_fault, crate::proofs::moves::the_move_of_each_input::of_opened, crate::proofs::moves::the_move_of_each_input::of_refused, crate::proofs::moves::the_move_of_each_input::of_broken, crate::proofs::moves::the_move_of_each_input::not_opened, crate::proofs::moves::the_move_of_each_input::not_refused))]
 pub fn what_each_input_does()
     ensures called { (l : Listener) (c : Call) → react l (called c) ≡ call_move l (allowed l.state c) }
     ensures taken { (l : Listener) (words : Words) → react l (taken words) ≡ moved l (respond_tsdu (taker_of l) words) }
@@ -111,7 +111,7 @@ pub fn what_is_sent_is_taken()
 /// An input that closes the transport connection sends nothing and ends the session, which was waiting for it. It is a
 /// TSDU with RF, DN, AB or AA, and this unit is alone in its TSDU. (An AB that follows a DN would still be answered,
 /// but no octets spell that.) A call leaves the transport connection open.
-#[tactic(auto, using(crate::proofs::ClosingLaws::unit_silent, crate::proofs::ClosingLaws::words_silent, crate::proofs::ClosingLaws::octets_alone, crate::proofs::ClosingLaws::octets_silent, crate::proofs::ClosingLaws::call_open, crate::proofs::ClosingLaws::whole_ends, crate::proofs::ClosingLaws::input_ends, crate::proofs::AnswerLaws::octets_awaited))]
+#[tactic(auto, using(crate::proofs::moves::what_closes_the_connection::unit_silent, crate::proofs::moves::what_closes_the_connection::words_silent, crate::proofs::moves::what_closes_the_connection::octets_alone, crate::proofs::moves::what_closes_the_connection::octets_silent, crate::proofs::moves::what_closes_the_connection::call_open, crate::proofs::moves::what_closes_the_connection::whole_ends, crate::proofs::moves::what_closes_the_connection::input_ends, crate::proofs::tsdu::the_answer_to_a_tsdu::octets_awaited))]
 pub fn what_closes_sends_nothing()
     ensures unit { (s : State) (u : Meaning) → (respond_unit s u).closes ≡ true → (respond_unit s u).reply ≡ None }
     ensures said { (t : Taker) (words : Words) → closes_alone words ≡ true → (respond_tsdu t words).closes ≡ true → (respond_tsdu t words).reply ≡ None }
@@ -138,7 +138,7 @@ pub fn what_answers_is_over()
 /// A call is accepted only if the user may abort: not before the transport connection is open, not while a CN is
 /// awaited, and not after an abort or the end. No input makes a session wait for the transport connection again. Any
 /// input before the transport connection is open leaves the session waiting for it, or ends the session.
-#[tactic(auto, using(crate::proofs::AnswerLaws::accepted_callable, crate::proofs::AnswerLaws::callable_open, crate::proofs::RunLaws::input_begun, crate::proofs::AnswerLaws::input_waits))]
+#[tactic(auto, using(crate::proofs::tsdu::the_answer_to_a_tsdu::accepted_callable, crate::proofs::tsdu::the_answer_to_a_tsdu::callable_open, crate::proofs::runs::what_every_run_preserves::input_begun, crate::proofs::tsdu::the_answer_to_a_tsdu::input_waits))]
 pub fn where_a_call_is_accepted()
     ensures phase { (s : State) (c : Call) (x : Step) → allowed s c ≡ Ok x → may_abort s.phase ≡ true }
     ensures live { (p : Phase) → may_abort p ≡ true → (is_wait_transport p ≡ false) × (is_wait_cn p ≡ false) × (is_over p ≡ false) }
@@ -150,7 +150,7 @@ pub fn where_a_call_is_accepted()
 /// The first indication at a called side is a `Connect`: an input after which the user would be told of a loss of the
 /// transport connection, and before which it would not, indicates a `Connect`. Only a CN leads to it, and a CN is
 /// alone in its TSDU (X.225 section 6.3.7).
-#[tactic(auto, using(crate::proofs::ConnectLaws::shown_first, crate::proofs::ConnectLaws::only_taken, crate::proofs::ConnectLaws::octets_ask))]
+#[tactic(auto, using(crate::proofs::runs::the_first_indication_is_a_connect::shown_first, crate::proofs::runs::the_first_indication_is_a_connect::only_taken, crate::proofs::runs::the_first_indication_is_a_connect::octets_ask))]
 pub fn what_a_user_is_shown_first()
     ensures first { (l : Listener) (input : Input) → shows_loss l.state.phase ≡ false → shows_loss (after_input l input).state.phase ≡ true →
         shows_connect (react l input).shown ≡ true }
@@ -160,7 +160,7 @@ pub fn what_a_user_is_shown_first()
 
 /// What happens to a unit: the table of units enacts its verdict. A unit that is not discarded, that the phase expects
 /// and that meets its conditions is good.
-#[tactic(auto, using(crate::proofs::VerdictLaws::enacts, crate::proofs::VerdictLaws::good_is_fine))]
+#[tactic(auto, using(crate::proofs::tables::the_verdict_on_a_unit::enacts, crate::proofs::tables::the_verdict_on_a_unit::good_is_fine))]
 pub fn what_becomes_of_a_unit()
     ensures enacted { (s : State) (u : Meaning) → respond_unit s u ≡ enacted s u (verdict s u) }
     ensures good { (s : State) (u : Meaning) → is_over s.phase ≡ false → drops s u ≡ false → IsGood s u → verdict s u ≡ fine }
@@ -168,7 +168,7 @@ pub fn what_becomes_of_a_unit()
 
 /// A token item that names no token changes nothing, in a TSDU of its own or before other units. So a unit after such
 /// an item has the effect of the unit alone.
-#[tactic(auto, using(crate::proofs::VerdictLaws::no_effect, crate::proofs::VerdictLaws::in_front_of_all, crate::proofs::VerdictLaws::in_front, crate::proofs::VerdictLaws::of_said))]
+#[tactic(auto, using(crate::proofs::tables::the_verdict_on_a_unit::no_effect, crate::proofs::tables::the_verdict_on_a_unit::in_front_of_all, crate::proofs::tables::the_verdict_on_a_unit::in_front, crate::proofs::tables::the_verdict_on_a_unit::of_said))]
 pub fn an_empty_token_item_changes_nothing()
     ensures item { (s : State) (item : Meaning) → has_no_effect item ≡ true → respond_unit s item ≡ nothing s }
     ensures units { (s : State) (item : Meaning) (units : List Meaning) → has_no_effect item ≡ true →
@@ -179,7 +179,7 @@ pub fn an_empty_token_item_changes_nothing()
 
 /// A TSDU of one unit has the effect of that unit. Of two units, the token item takes effect after the other one, and
 /// not at all if the other one is an RS.
-#[tactic(auto, using(crate::proofs::VerdictLaws::said_alone, crate::proofs::VerdictLaws::item_and_unit))]
+#[tactic(auto, using(crate::proofs::tables::the_verdict_on_a_unit::said_alone, crate::proofs::tables::the_verdict_on_a_unit::item_and_unit))]
 pub fn what_two_units_do()
     ensures alone { (s : State) (u : Meaning) → respond s (alone u) ≡ respond_unit s u }
     ensures behind { (s : State) (item u : Meaning) → is_token_item item ≡ true → respond s (behind item u) ≡
@@ -187,14 +187,14 @@ pub fn what_two_units_do()
 {}
 
 /// A TSDU has at most one indication for each of its words.
-#[tactic(auto, using(crate::proofs::ShownLaws::words_show))]
+#[tactic(auto, using(crate::proofs::tsdu::how_many_indications::words_show))]
 pub fn what_a_tsdu_shows()
     ensures { (t : Taker) (words : Words) → length (respond_tsdu t words).shown ≤ length words }
 {}
 
 /// An accepted call passed each test of its row in the table: its phase, the length of its user data, and the size of
 /// its TSDU. It has the result that the row says. A call that passes each test is accepted.
-#[tactic(auto, using(crate::proofs::Passed::passed, crate::proofs::Passed::accepted))]
+#[tactic(auto, using(crate::proofs::tables::what_an_accepted_call_has_passed::passed, crate::proofs::tables::what_an_accepted_call_has_passed::accepted))]
 pub fn what_an_accepted_call_passed()
     ensures passed { (s : State) (c : Call) (x : Step) → allowed s c ≡ Ok x → Passed s c x }
     ensures accepted { (s : State) (c : Call) (x : Step) → Passed s c x → allowed s c ≡ Ok x }
@@ -204,7 +204,7 @@ pub fn what_an_accepted_call_passed()
 /// has 0; the size is at most the CN's, and at most the answerer's unless that is 0. The side that takes the AC
 /// arrives at the same sizes. The TSDU of an accepted call, other than data, Accept and Refuse, is within the size of
 /// its direction, if there is one.
-#[tactic(auto, using(crate::proofs::SizeLaws::answered_named, crate::proofs::SizeLaws::answered_asked, crate::proofs::SizeLaws::answered_given, crate::proofs::SizeLaws::sizes_agreed, crate::proofs::SizeLaws::sent_under))]
+#[tactic(auto, using(crate::proofs::values::what_sizes_are_agreed::answered_named, crate::proofs::values::what_sizes_are_agreed::answered_asked, crate::proofs::values::what_sizes_are_agreed::answered_given, crate::proofs::values::what_sizes_are_agreed::sizes_agreed, crate::proofs::values::what_sizes_are_agreed::sent_under))]
 pub fn what_sizes_are_agreed()
     ensures named { (a b : ℕ) → 0 < a → 0 < answered a b }
     ensures asked { (a b : ℕ) → answered a b ≤ a }
@@ -232,7 +232,7 @@ pub fn what_a_call_sends()
 
 /// The numbers in a call, and in the units of a TSDU, are numbers that a point may have, and the sizes in a call are
 /// sizes that a user may give.
-#[tactic(auto, using(crate::proofs::SessionLaws::request_small, osi_message::proofs::NumberLaws::units_numbered))]
+#[tactic(auto, using(crate::proofs::runs::the_invariant_in_memory::request_small, osi_message::proofs::numbers_are_those_of_points::units_numbered))]
 pub fn what_happens_has_numbers()
     ensures request { (request : Request) → HasNumbersInWords (called (called_by request)) }
     ensures units { (units : Units) → HasNumbersInWords (taken (said_by_units units)) }
@@ -243,7 +243,7 @@ pub fn what_happens_has_numbers()
 /// has a number, and so has a restart that is to be answered; tokens are held only in Ready, MajorAsked, MajorDue,
 /// Releasing and ReleaseDue; and each size is 0, or 64 to 65,535. This holds over whole messages, and over words.
 /// size is 0, or 64 to 65,535. So over whole messages, and over words.
-#[tactic(auto, using(crate::proofs::RunLaws::awaiting_fresh, crate::proofs::RunLaws::asking_fresh, crate::proofs::RunLaws::fresh_sound, crate::proofs::RunLaws::whole_sound, crate::proofs::RunLaws::inputs_sound))]
+#[tactic(auto, using(crate::proofs::runs::what_every_run_preserves::awaiting_fresh, crate::proofs::runs::what_every_run_preserves::asking_fresh, crate::proofs::runs::what_every_run_preserves::fresh_sound, crate::proofs::runs::what_every_run_preserves::whole_sound, crate::proofs::runs::what_every_run_preserves::inputs_sound))]
 pub fn numbers_stay_in_order()
     ensures called { IsFresh awaiting }
     ensures caller { (o : Opening) → IsFresh (asking o) }
@@ -256,7 +256,7 @@ pub fn numbers_stay_in_order()
 
 /// Whatever happens, a session that is aborted or ended stays so, and one that has ended stays ended. A session that
 /// loses its transport connection has ended.
-#[tactic(auto, using(crate::proofs::RunLaws::stays_over, crate::proofs::RunLaws::stays_ended, crate::proofs::RunLaws::lost_ended))]
+#[tactic(auto, using(crate::proofs::runs::what_every_run_preserves::stays_over, crate::proofs::runs::what_every_run_preserves::stays_ended, crate::proofs::runs::what_every_run_preserves::lost_ended))]
 pub fn an_ended_session_stays_ended()
     ensures over { (l : Listener) (inputs : List Input) → is_over l.state.phase ≡ true → is_over (after_inputs l inputs).state.phase ≡ true }
     ensures ended { (l : Listener) (inputs : List Input) → is_ended l.state.phase ≡ true → is_ended (after_inputs l inputs).state.phase ≡ true }
@@ -265,7 +265,7 @@ pub fn an_ended_session_stays_ended()
 
 /// A session can begin to hold tokens only when a connection is opened: by a call of Accept or RestartConfirm, or by a
 /// TSDU with an AC or an RA. The same holds over every list of inputs.
-#[tactic(auto, using(crate::proofs::OpeningMoves::input_opened, crate::proofs::OpeningMoves::some_opened))]
+#[tactic(auto, using(crate::proofs::moves::what_leads_to_tokens::input_opened, crate::proofs::moves::what_leads_to_tokens::some_opened))]
 pub fn what_opens_a_connection()
     ensures input { (l : Listener) (input : Input) → may_hold l.state.phase ≡ false →
         may_hold (after_input l input).state.phase ≡ true → opens_connection input ≡ true }
@@ -286,7 +286,7 @@ pub fn a_token_is_not_given_and_kept()
 
 /// Exactly which tokens are held after an accepted call, after a good unit, and after a bad one; and sets
 /// without a common token have octets without a common bit.
-#[tactic(auto, using(crate::proofs::HeldLaws::call_holds_it, crate::proofs::HeldLaws::unit_holds_it, crate::proofs::HeldLaws::bad_holds_none, crate::proofs::TokenSets::disjoint_octets))]
+#[tactic(auto, using(crate::proofs::moves::what_gives_a_token::call_holds_it, crate::proofs::moves::what_gives_a_token::unit_holds_it, crate::proofs::moves::what_gives_a_token::bad_holds_none, crate::proofs::values::sets_of_tokens::disjoint_octets))]
 pub fn what_is_held()
     ensures call { (s : State) (c : Call) (x : Step) (t : Token) → allowed s c ≡ Ok x → has x.next.held t ≡ call_holds s c t }
     ensures good { (s : State) (u : Meaning) (t : Token) → has (becomes s u).held t ≡ unit_holds s u t }
@@ -307,7 +307,7 @@ pub fn a_plan_is_its_call()
 
 /// After a planned point, a session continues as after the call for it, whatever the call's user data. It does so
 /// exactly if the point has the right number and such a call would be accepted, apart from its lengths.
-#[tactic(auto, using(crate::proofs::PointLaws::point_steps, crate::proofs::PointLaws::point_may, crate::proofs::PointLaws::point_accepted))]
+#[tactic(auto, using(crate::proofs::tables::points_that_are_expected::point_steps, crate::proofs::tables::points_that_are_expected::point_may, crate::proofs::tables::points_that_are_expected::point_accepted))]
 pub fn a_point_is_its_call()
     ensures step { (l : Listener) (p : SentPoint) (confirm : Bool) (octets : List ℕ) → (react l (called (call_for p confirm octets))).error ≡ None →
         after_input l (called (call_for p confirm octets)) ≡ advanced l p }
@@ -340,7 +340,7 @@ pub fn a_restart_that_crosses_another()
 /// A confirmation of a minor point raises V(A) to the number after it: a MinorConfirm that is accepted, or an MIA that
 /// is indicated. V(A) does not fall over any list of inputs in which no connection is opened by Accept or AC and no
 /// restart is requested or taken. An RS that does not take effect changes no number.
-#[tactic(auto, using(crate::proofs::ConfirmedLaws::call_confirms, crate::proofs::ConfirmedLaws::unit_confirms, crate::proofs::ConfirmedLaws::never_falls, crate::proofs::ConfirmedLaws::yielded))]
+#[tactic(auto, using(crate::proofs::moves::what_raises_v_a::call_confirms, crate::proofs::moves::what_raises_v_a::unit_confirms, crate::proofs::moves::what_raises_v_a::never_falls, crate::proofs::moves::what_raises_v_a::yielded))]
 pub fn what_is_confirmed_stays_confirmed()
     ensures call { (s : State) (n : ℕ) (octets : List ℕ) (x : Step) → allowed s (MinorConfirm n octets) ≡ Ok x →
         (s.numbers.confirmed ≤ n) × (x.next.numbers.confirmed ≡ n + 1) }
@@ -393,7 +393,7 @@ pub fn parts_are_the_whole()
 
 /// The functional units that a caller requests, and those that are agreed, are half-duplex with any of the others, or
 /// only duplex. This holds over every list of inputs, of a called side and of a caller that opened.
-#[tactic(auto, using(crate::proofs::ProfileLaws::awaiting_profile, crate::proofs::ProfileLaws::asking_profile, crate::proofs::ProfileLaws::inputs_profile))]
+#[tactic(auto, using(crate::proofs::values::units_are_those_of_a_profile::awaiting_profile, crate::proofs::values::units_are_those_of_a_profile::asking_profile, crate::proofs::values::units_are_those_of_a_profile::inputs_profile))]
 pub fn units_are_a_profile()
     ensures called { HasProfile awaiting }
     ensures caller { (o : Opening) → is_profile (unit_bits o.requirements) ≡ true → HasProfile (asking o) }
@@ -403,7 +403,7 @@ pub fn units_are_a_profile()
 /// The reason of a refusal. A CN without version 2 is answered by RF with reason 132; one with version 2 that names
 /// neither half-duplex nor duplex, by reason 134 (X.225 section 8, refuse). A part that does not continue what is
 /// joined is a bad enclosure, even if it is also too long.
-#[tactic(auto, using(crate::proofs::FirstFaults::refused_version, crate::proofs::FirstFaults::refused_units, crate::proofs::FirstFaults::out_of_place))]
+#[tactic(auto, using(crate::proofs::tables::which_reason_comes_first::refused_version, crate::proofs::tables::which_reason_comes_first::refused_units, crate::proofs::tables::which_reason_comes_first::out_of_place))]
 pub fn what_is_refused_for_which_reason()
     ensures version { (s : State) (requirements : ℕ) (serial : Option ℕ) (wishes : TokenSetting) (calling called : Option (List ℕ)) (sizes : TsduMaximumSize) (octets : List ℕ) →
         is_wait_cn s.phase ≡ true → (respond_unit s (CN false requirements serial wishes calling called sizes octets)).reply ≡ Some (RF 132 []) }
@@ -417,7 +417,7 @@ pub fn what_is_refused_for_which_reason()
 /// Take a side that may send a steady unit now, and may also send it after it took some TSDUs of its peer without an
 /// answer. If it sends the unit now and takes the TSDUs then, it arrives at the same state, and answers none of them
 /// either. So an observer need not ask whether the unit was sent before or after the TSDUs were taken.
-#[tactic(auto, using(crate::proofs::SaidFirst::may_be_first))]
+#[tactic(auto, using(crate::proofs::ahead::beside_one_that_has_not_sent_it::may_be_first))]
 pub fn what_may_be_said_first()
     ensures { (now later said said_later : Seen) (tsdus : List (List ℕ)) (w : Word) (n : ℕ) → is_steady w ≡ true →
         CanSay now w n said → HearsAll now tsdus later → CanSay later w n said_later → HearsAll said tsdus said_later }

@@ -113,7 +113,7 @@ fn same_state(one: &State, other: &State) -> bool
 
 impl State {
     /// Whether the states are equal.
-    #[tactic(auto, using(crate::proofs::StateLaws::told))]
+    #[tactic(auto, using(crate::proofs::values::equal_parts_make_equal_states::told))]
     pub(crate) fn is_same(&self, other: &State) -> bool
         ensures { MatchBool result (self.now ≡ other.now) (self.now ≢ other.now) }
     {

@@ -37,7 +37,7 @@ impl State {
 }
 
 /// The state after a call. The size of its TSDU is tested separately.
-#[tactic(auto, using(crate::proofs::SayingLaws::over_refuses))]
+#[tactic(auto, using(crate::proofs::sent::what_a_side_may_send::over_refuses))]
 fn calling(state: &State, request: &Request) -> Result<State, Breach>
     requires { IsSound state.now }
     ensures { Leaves result (calling state.now (called_by request.now)) }

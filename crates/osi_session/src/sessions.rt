@@ -117,7 +117,7 @@ impl Session {
     /// `NotSelected` if the functional units can't be selected together (half-duplex with any of minor, major,
     /// resynchronize and negotiated release, or only duplex); then `TooLong` above 10,240 octets of user data; then
     /// `OutOfMemory`.
-    #[tactic(auto, using(crate::proofs::SessionLaws::asking_sound))]
+    #[tactic(auto, using(crate::proofs::runs::the_invariant_in_memory::asking_sound))]
     pub fn caller(alloc: Global, opening: &Opening) -> Result<Session, CallError>
         ensures begins { IfOk result (λ s. s ≡ opens opening.now) }
         ensures accepted { OnOk result (refusal_of opening.now ≡ None) }
@@ -141,7 +141,7 @@ impl Session {
     }
 
     /// The called side, which waits for a CN.
-    #[tactic(auto, using(crate::proofs::SessionLaws::awaiting_sound))]
+    #[tactic(auto, using(crate::proofs::runs::the_invariant_in_memory::awaiting_sound))]
     pub fn called(alloc: Global) -> Session
         ensures { result ≡ awaits }
     {
@@ -195,7 +195,7 @@ impl Session {
     }
 
     /// What a call of the user would do; nothing changes.
-    #[tactic(auto, using(crate::proofs::CallLaws::refused, crate::proofs::CallLaws::wanting, crate::proofs::MoveLaws::call_next, crate::proofs::MoveLaws::call_sends))]
+    #[tactic(auto, using(crate::proofs::tables::what_the_table_of_calls_answers::refused, crate::proofs::tables::what_the_table_of_calls_answers::wanting, crate::proofs::moves::the_move_of_each_input::call_next, crate::proofs::moves::the_move_of_each_input::call_sends))]
     pub fn plan(&self, request: Request) -> Result<Plan, CallError>
         ensures state { IfOk result (λ p. (react self.now (called (called_by request.entry))).next ≡ in_state self.now p.next) }
         ensures sent { IfOk result (λ p. p.sent ≡ tsdus_sent (limit_of self.now.state) (react self.now (called (called_by request.entry))).reply) }
@@ -253,7 +253,7 @@ impl Session {
     /// A call of the user for data, which changes nothing and needs no plan. It does what [`Session::call`] does with
     /// it.
     #[inline(always)]
-    #[tactic(auto, using(crate::proofs::CallLaws::refused, crate::proofs::CallLaws::wanting), unfolding(osi_message::specs::Written::user_data_of))]
+    #[tactic(auto, using(crate::proofs::tables::what_the_table_of_calls_answers::refused, crate::proofs::tables::what_the_table_of_calls_answers::wanting), unfolding(osi_message::specs::Written::user_data_of))]
     pub fn call_data(&self, user_data: &[u8]) -> Result<Sent, CallError>
         ensures state { OnOk result (self.now ≡ (react self.now (called (Data user_data.now))).next) }
         ensures sent { IfOk result (λ s. s ≡ tsdus_sent (limit_of self.now.state) (react self.now (called (Data user_data.now))).reply) }
@@ -295,7 +295,7 @@ impl Session {
     /// more frequent.
     #[cold]
     #[inline(never)]
-    #[tactic(auto, using(crate::proofs::CallLaws::refused, crate::proofs::CallLaws::wanting), unfolding(osi_message::specs::Written::user_data_of))]
+    #[tactic(auto, using(crate::proofs::tables::what_the_table_of_calls_answers::refused, crate::proofs::tables::what_the_table_of_calls_answers::wanting), unfolding(osi_message::specs::Written::user_data_of))]
     fn call_bounded_data(&self, user_data: &[u8]) -> Result<Sent, CallError>
         ensures state { OnOk result (self.now ≡ (react self.now (called (Data user_data.now))).next) }
         ensures sent { IfOk result (λ s. s ≡ tsdus_sent (limit_of self.now.state) (react self.now (called (Data user_data.now))).reply) }
@@ -371,7 +371,7 @@ impl Session {
 
     /// Sends the answer, if there is one, and updates the state and the joined octets.
     #[inline(always)]
-    #[tactic(auto, using(crate::proofs::GroupLaws::loud_reply))]
+    #[tactic(auto, using(crate::proofs::tsdu::two_outcomes_together::loud_reply))]
     fn settle(&mut self, reactions: Reactions) -> Result<Taken, AllocError>
         requires sound { IsSound reactions.next }
         requires begun { is_wait_transport reactions.next.phase ≡ true → is_wait_transport self.old.state.phase ≡ true }

@@ -156,7 +156,7 @@ impl Standing {
     }
 
     /// The called side, which waits for a CN.
-    #[tactic(auto, using(crate::proofs::SessionLaws::awaiting_sound))]
+    #[tactic(auto, using(crate::proofs::runs::the_invariant_in_memory::awaiting_sound))]
     pub fn called() -> Standing
         ensures { result ≡ seen_called }
     {
@@ -169,7 +169,7 @@ impl Standing {
     }
 
     /// The calling side, whose transport connection is open, before its CN.
-    #[tactic(auto, using(crate::proofs::SayingLaws::calling_sound))]
+    #[tactic(auto, using(crate::proofs::sent::what_a_side_may_send::calling_sound))]
     pub fn calling() -> Standing
         ensures { result ≡ seen_calling }
     {
@@ -260,7 +260,7 @@ impl Standing {
     }
 
     /// A message. Within an unfinished SSDU, a message that may not occur within one is a breach.
-    #[tactic(auto, using(crate::proofs::SayingLaws::message_sound))]
+    #[tactic(auto, using(crate::proofs::sent::what_a_side_may_send::message_sound))]
     fn say_message(&self, message: &Message) -> Result<Standing, Breach>
         ensures { SaysAs result (said_within self.now (says (meant_by message.now))) }
     {

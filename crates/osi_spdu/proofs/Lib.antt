@@ -1,29 +1,7 @@
-pub mod OptionLaws
-pub mod StepLaws
-pub mod LengthLaws
-pub mod LevelLaws
-pub mod OwnerLaws
-pub mod UnitsLaws
+-- The proofs, in reading order.
 mod Vocabulary
-pub mod WrittenLaws
-pub mod GrammarLaws
-pub mod Named
-pub mod Lookup
-pub mod Digits
-pub mod OneOctet
-pub mod ParamsLaws
-pub mod Loops
-pub mod FormedLaws
-pub mod TsduLaws
-pub mod GroupLengthLaws
-pub mod WritingLoops
-pub mod WritingUnits
-pub mod KeptLengths
-pub mod CanonicalLaws
-pub mod BehindLaws
-pub mod Shorter
-pub mod FitsLaws
-pub mod MadeLaws
-pub mod FaultLaws
-pub mod FirstFault
-pub mod FirstFaultOfTsdu
+pub mod basics
+pub mod parameters
+pub mod tsdu
+pub mod faults
+pub mod form

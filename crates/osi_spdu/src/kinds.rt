@@ -337,7 +337,7 @@ impl Kind {
     }
 
     /// The parameter or group of this number, if the unit knows it outside its groups.
-    #[tactic(auto, using(crate::proofs::Lookup::looked_up))]
+    #[tactic(auto, using(crate::proofs::parameters::a_code_is_looked_up::looked_up))]
     pub(crate) fn known(self, number: u8) -> Option<Code>
         ensures { result ≡ code_among (codes_of self) number }
     {
@@ -346,7 +346,7 @@ impl Kind {
     }
 
     /// The parameter of this number, if a group of the unit knows it.
-    #[tactic(auto, using(crate::proofs::Lookup::looked_up))]
+    #[tactic(auto, using(crate::proofs::parameters::a_code_is_looked_up::looked_up))]
     pub(crate) fn known_in(self, group: Code, number: u8) -> Option<Code>
         ensures { result ≡ code_among (members_of self group) number }
     {
@@ -380,7 +380,7 @@ fn is_three(value: &[u8]) -> bool
 }
 
 /// The unit that an SI names in the first place of a TSDU, or after another unit.
-#[tactic(auto, using(crate::proofs::Named::unnamed), unfolding(crate::specs::Kinds::kind_named, crate::specs::Kinds::si_of))]
+#[tactic(auto, using(crate::proofs::parameters::an_si_that_names_no_unit::unnamed), unfolding(crate::specs::Kinds::kind_named, crate::specs::Kinds::si_of))]
 pub(crate) fn kind_named(second: bool, si: u8) -> Option<Kind>
     ensures { result ≡ kind_named second si }
 {

@@ -16,14 +16,14 @@ use crate::groups::Group;
 use crate::sizes::{TsduSize, TsduSizes};
 
 /// Reading is sound: units that are read are spelled by the octets.
-#[tactic(auto, using(crate::proofs::UnitsLaws::tsdu_found))]
+#[tactic(auto, using(crate::proofs::tsdu::units_and_tsdus_are_read::tsdu_found))]
 pub fn found()
     ensures { (units : Units) (octets : List ℕ) → IsOctets octets →
         tsdu_at octets ≡ Ok units → SpellsTsdu units octets }
 {}
 
 /// Reading is complete: units that the octets spell are read.
-#[tactic(auto, using(crate::proofs::UnitsLaws::tsdu_only))]
+#[tactic(auto, using(crate::proofs::tsdu::units_and_tsdus_are_read::tsdu_only))]
 pub fn only()
     ensures { (units : Units) (octets : List ℕ) →
         SpellsTsdu units octets → tsdu_at octets ≡ Ok units }
@@ -44,14 +44,14 @@ pub fn again()
 {}
 
 /// Every value that has a spelling has a written form that fits.
-#[tactic(auto, using(crate::proofs::FitsLaws::tsdu_fits))]
+#[tactic(auto, using(crate::proofs::form::what_was_read_fits::tsdu_fits))]
 pub fn fits()
     ensures { (units : Units) (octets : List ℕ) → SpellsTsdu units octets → TsduFits units }
 {}
 
 /// If the values of variable length in a unit have at most 65,000 octets together, the unit has a written form that
 /// fits.
-#[tactic(auto, using(crate::proofs::MadeLaws::few_fit))]
+#[tactic(auto, using(crate::proofs::form::few_octets_fit::few_fit))]
 pub fn few_octets_fit()
     ensures { (unit : Contents) → IsCanonical unit.known → free_len unit.known ≤ 65000 → UnitFits unit }
 {}
@@ -65,14 +65,14 @@ pub fn has_written_form(group: &Group)
 }
 
 /// Reading the digits in which a serial number is written gives the number.
-#[tactic(auto, using(crate::proofs::Digits::numeral_digits))]
+#[tactic(auto, using(crate::proofs::basics::digits_of_numbers::numeral_digits))]
 pub fn serial_digits()
     ensures { (n : ℕ) → n ≤ 999999 → numeral (digits_of n) ≡ Some n }
 {}
 
 /// If a unit can't be read, the fault returned is its first one. What comes before the fault is well formed: the SI,
 /// and parameters with distinct codes.
-#[tactic(auto, using(crate::proofs::FirstFault::unit_fault_found, crate::proofs::FirstFault::unit_fault_only))]
+#[tactic(auto, using(crate::proofs::faults::the_first_fault_of_a_unit::unit_fault_found, crate::proofs::faults::the_first_fault_of_a_unit::unit_fault_only))]
 pub fn first_fault_of_a_unit()
     ensures found { (second : Bool) (at : ℕ) (octets : List ℕ) (fault : SpduFault) → IsOctets octets →
         unit_at second at octets ≡ Err fault → IsUnitFault second at octets fault }

@@ -102,7 +102,7 @@ impl Params<'static> {
 
 impl<'a> Params<'a> {
     /// The parameters of a unit before any has been read.
-    #[tactic(auto, using(crate::proofs::ParamsLaws::no_slots))]
+    #[tactic(auto, using(crate::proofs::parameters::a_slot_is_filled::no_slots))]
     pub(crate) fn none() -> Params<'a>
         ensures { slots_of result ≡ nothing }
     {
@@ -165,7 +165,7 @@ impl<'a> Params<'a> {
     }
 
     /// Whether a parameter is there, empty user data included.
-    #[tactic(auto, using(crate::proofs::ParamsLaws::has_mapped, crate::proofs::ParamsLaws::has_present), unfolding(crate::specs::Params::slots_of, crate::specs::Params::cells_of, crate::specs::Params::place_of))]
+    #[tactic(auto, using(crate::proofs::parameters::a_slot_is_filled::has_mapped, crate::proofs::parameters::a_slot_is_filled::has_present), unfolding(crate::specs::Params::slots_of, crate::specs::Params::cells_of, crate::specs::Params::place_of))]
     pub(crate) fn has(&self, code: Code) -> bool
         ensures { result ≡ is_some (slots_of self.now code) }
     {

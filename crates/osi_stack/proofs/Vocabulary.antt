@@ -9,17 +9,17 @@ pub use Rattle.std.proofs.lemmas.List.Elements.{filter-append}
 pub use Rattle.std.proofs.lemmas.List.Sums.{count_by-le-length, position_or_len_is, sum_by-cons, sum_by-set, sum_by_push}
 pub use Rattle.std.specs.List.{AllByRecursion, filter, flat_map, list_any, position, position_or_len, sum_by}
 pub use Rattle.std.specs.Prelude.{IfErr, IfSome, OnErr, OnOk}
-pub use Rattle.osi_carrier.proofs.Apart.{absent, beyond, push_here, put_here, without_here}
-pub use Rattle.osi_carrier.proofs.AtReferences.{push_other, put_none, put_other, put_rise, put_up, rise_lower, without_other}
-pub use Rattle.osi_carrier.proofs.Effects.{How, closed_gone, effect, free_of, orderly_asks, orderly_closed, orderly_end, orderly_ended, orderly_fresh, orderly_packet, orderly_same, orderly_sent, orderly_unit, orderly_units, sent_gone, stays_gone}
-pub use Rattle.osi_carrier.proofs.InFront.{apart_all}
-pub use Rattle.osi_carrier.proofs.Lasting.{PacketLaws, Parts, fault_behind, front_used, no_fault, packets_over, parts}
-pub use Rattle.osi_carrier.proofs.Naming.{known_is}
-pub use Rattle.osi_carrier.proofs.Pieces.{OneCut, packets_joined}
-pub use Rattle.osi_carrier.proofs.Places.{here_is, placed, put_same}
-pub use Rattle.osi_carrier.proofs.Reacts.{none_of, react_over}
-pub use Rattle.osi_carrier.proofs.Reading.{acts_cases, packets_leave, packets_more}
-pub use Rattle.osi_carrier.proofs.ToldOpen.{asks_opens, closed_opens, packet_opens, sent_opens}
+pub use Rattle.osi_carrier.proofs.references.what_a_change_leaves_there.{absent, beyond, push_here, put_here, without_here}
+pub use Rattle.osi_carrier.proofs.references.rows_after_a_change.{push_other, put_none, put_other, put_rise, put_up, rise_lower, without_other}
+pub use Rattle.osi_carrier.proofs.effects.a_unit_touches_one_connection.{How, closed_gone, effect, free_of, orderly_asks, orderly_closed, orderly_end, orderly_ended, orderly_fresh, orderly_packet, orderly_same, orderly_sent, orderly_unit, orderly_units, sent_gone, stays_gone}
+pub use Rattle.osi_carrier.proofs.effects.what_is_in_front_changes_nothing.{apart_all}
+pub use Rattle.osi_carrier.proofs.stream.all_pieces_last_alike.{PacketLaws, Parts, fault_behind, front_used, no_fault, packets_over, parts}
+pub use Rattle.osi_carrier.proofs.references.which_connections_have_selectors.{known_is}
+pub use Rattle.osi_carrier.proofs.stream.a_carrier_does_what_its_packets_do.{OneCut, packets_joined}
+pub use Rattle.osi_carrier.proofs.references.the_row_at_a_place.{here_is, placed, put_same}
+pub use Rattle.osi_carrier.proofs.effects.units_one_after_the_other.{none_of, react_over}
+pub use Rattle.osi_carrier.proofs.stream.a_piece_is_read_packet_by_packet.{acts_cases, packets_leave, packets_more}
+pub use Rattle.osi_carrier.proofs.references.events_tell_what_is_open.{asks_opens, closed_opens, packet_opens, sent_opens}
 pub use Rattle.osi_carrier.specs.Calls.{Tells, asks, close_error, closed_on, closed_with, closes, ended_by, kept_in, lengths_error, link_of, may_connect, open_link, send_all_error, send_error, sent, sent_all, sent_on, tsaps_at}
 pub use Rattle.osi_carrier.specs.Happenings.{Happening, closed, faulted, happening, tsdu, opened as told_opened, refused as told_refused}
 pub use Rattle.osi_carrier.specs.Orderly.{AreUpTo, IsOrderly, RiseFrom, connection_of, told_of}
@@ -39,7 +39,7 @@ pub use Rattle.osi_class.specs.Link.{Standing}
 pub use Rattle.osi_class.specs.declared.terms.Class.{Class}
 pub use Rattle.osi_class.specs.declared.terms.Class.TheVariants.{Two, Zero}
 pub use Rattle.osi_class.specs.declared.terms.Local.{Local}
-pub use Rattle.osi_message.proofs.SentLaws.{sent_alone, sent_short}
+pub use Rattle.osi_message.proofs.the_tsdus_of_a_message.{sent_alone, sent_short}
 pub use Rattle.osi_message.specs.Meanings.{CN, DT, Meaning}
 pub use Rattle.osi_message.specs.Parting.{behind_no_token, in_one, is_parted, tsdus_of, tsdus_sent, words_sent}
 pub use Rattle.osi_message.specs.Reading.{meaning_by, place_by, said_by_units, said_if_read, word_at}
@@ -49,7 +49,7 @@ pub use Rattle.osi_message.specs.Words.{Word, Words, as_message, part, part_octe
 pub use Rattle.osi_message.specs.Written.{alone_units, behind_tokens, unit_with, written}
 unfoldable pub use Rattle.osi_message.specs.Written.{is_second, spelled, unit_of}
 pub use Rattle.osi_message.specs.declared.places.Place.{Place}
-pub use Rattle.osi_session.proofs.PhaseLaws.{excluded, implied}
+pub use Rattle.osi_session.proofs.tables.what_is_true_of_each_phase.{excluded, implied}
 pub use Rattle.osi_session.specs.Allowed.{Answer, Passed, Step, most_data, most_of, octets_of}
 unfoldable pub use Rattle.osi_session.specs.Allowed.{allowed}
 pub use Rattle.osi_session.specs.Calls.{Abort, Accept, Call, Data, Give, HasSerial, Major, MajorConfirm, Minor, MinorConfirm, Please, Refuse, Release, ReleaseAccept, ReleaseRefuse, Restart, RestartConfirm, called_by}

@@ -17,7 +17,7 @@ use std::alloc::AllocError;
 const NORMAL: u8 = 128;
 
 /// Sends TSDUs together. An error changes nothing.
-#[tactic(auto, using(crate::proofs::Handing::one_error))]
+#[tactic(auto, using(crate::proofs::called::tsdus_that_are_handed_together::one_error))]
 fn send(carrier: &mut Carrier, reference: u16, tsdus: LentTsdus<'_>) -> Result<(), SendError>
     ensures ok { OnOk result (carrier.new ≡ record carrier.old { state = sent_all reference (octets_lent tsdus.entry) carrier.old.state }) }
     ensures allowed { OnOk result (send_all_error (octets_lent tsdus.entry) (open_link reference carrier.old.state) ≡ None) }
@@ -45,7 +45,7 @@ fn hand(carrier: &mut Carrier, reference: u16, sent: &Sent) -> Result<(), AllocE
 }
 
 /// Sends what a session sends, if it sends anything.
-#[tactic(auto, using(crate::proofs::Handing::hands_none))]
+#[tactic(auto, using(crate::proofs::called::tsdus_that_are_handed_together::hands_none))]
 fn hand_some(carrier: &mut Carrier, reference: u16, sent: Option<Sent>) -> Result<(), AllocError>
     ensures ok { OnOk result (carrier.new ≡ record carrier.old { state = hands reference (unwrap_or sent []) carrier.old.state }) }
     ensures err { OnErr result (carrier.new ≡ carrier.old) }
@@ -58,7 +58,7 @@ fn hand_some(carrier: &mut Carrier, reference: u16, sent: Option<Sent>) -> Resul
 }
 
 /// Closes an open connection. Memory is needed for a DR; an allocation failure changes nothing.
-#[tactic(auto, using(crate::proofs::Needing::closing_needs))]
+#[tactic(auto, using(crate::proofs::stream::what_needs_memory_does_something::closing_needs))]
 pub fn close(carrier: &mut Carrier, reference: u16) -> Result<(), AllocError>
     ensures ok { OnOk result (carrier.new ≡ record carrier.old { state = closed_with reference 128 carrier.old.state }) }
     ensures err { OnErr result (carrier.new ≡ carrier.old) }
@@ -117,7 +117,7 @@ pub fn send_call(carrier: &mut Carrier, reference: u16, sent: &Sent) -> Result<(
 /// The same for one TSDU, given as its first octets and the others: what may be sent now is written straight from
 /// these.
 #[inline(always)]
-#[tactic(auto, using(crate::proofs::Handing::one_error))]
+#[tactic(auto, using(crate::proofs::called::tsdus_that_are_handed_together::one_error))]
 pub fn send_headed_call(
     carrier: &mut Carrier,
     reference: u16,
@@ -151,7 +151,7 @@ fn send_parts(carrier: &mut Carrier, reference: u16, tsdus: Vec<Vec<u8>>) -> Res
 }
 
 /// The same as [`send_call`], and takes over the buffers: what may not be sent yet is not copied.
-#[tactic(auto, using(crate::proofs::Handing::one_error))]
+#[tactic(auto, using(crate::proofs::called::tsdus_that_are_handed_together::one_error))]
 pub fn send_owned_call(carrier: &mut Carrier, reference: u16, sent: Sent) -> Result<(), CallError>
     ensures ok { OnOk result (carrier.new ≡ record carrier.old { state = hands reference sent carrier.old.state }) }
     ensures allowed { OnOk result (send_refusal (send_all_error sent (open_link reference carrier.old.state)) ≡ None) }

@@ -5,7 +5,7 @@ pub use Rattle.std.proofs.lemmas.Result.{err_from_is_err_and}
 pub use Rattle.std.specs.Bool.{OnFalse}
 pub use Rattle.std.specs.List.{AllByRecursion, flat_map}
 pub use Rattle.std.specs.Prelude.{IfSome, IsOk, IsTrue, filter, is_ok, is_some, map, option_map, option_to_list}
-pub use Rattle.osi_tpkt.proofs.OctetLaws.{octets_append, octets_drop, octets_left, octets_nil, octets_right, octets_take}
+pub use Rattle.osi_tpkt.proofs.lists_of_octets_stay_octets.{octets_append, octets_drop, octets_left, octets_nil, octets_right, octets_take}
 pub use Rattle.osi_tpkt.specs.Octets.{IsOctets}
 pub use Rattle.osi_tpdu.specs.Faults.{Acknowledge, Additional, Alternative, BeginsUnit, BeginsWith, Called, Calling, Confirm, Disconnect, Disconnected, HasBadIndicator, HasBadLength, HasBadValue, HasCode, HasFault, HasHeader, HasItemFault, HasNoHeader, HasNoItem, HasParameterFault, HasParametersBehind, HasUnknownCode, IsFirst, IsRepeated, IsUnitFault, Kind, LooksAtParameters, MayBeLong, MayCount, MayHold, Parameter, Report, Request, Size, StandsBefore, Transfer, code_of, place_of}
 pub use Rattle.osi_tpdu.specs.Packet.{AreLeads, AreUnits, Follows, IsFirstFault}

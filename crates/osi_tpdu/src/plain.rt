@@ -23,7 +23,7 @@ impl<'a> DataClass0<'a> {
     /// The DT of class 0 of a packet that holds nothing else (X.224 section 13.7). `None` for every other packet, also
     /// for a bad one.
     #[inline(always)]
-    #[tactic(auto, using(crate::proofs::PlainUnits::data0_found, crate::proofs::PlainUnits::data0_read))]
+    #[tactic(auto, using(crate::proofs::packets_of_one_dt_or_ak::data0_found, crate::proofs::packets_of_one_dt_or_ak::data0_read))]
     pub fn from_packet(packet: &'a [u8]) -> Option<DataClass0<'a>>
         // A unit that is given is spelled by the packet, and a DT of class 0 that the packet spells is given.
         ensures found { IfSome result (λ d. Spells (value (Dt0 d)) packet.now) }
@@ -41,7 +41,7 @@ impl<'a> DataClass0<'a> {
     /// Appends the unit, of at most 65,528 octets of user data, in a packet of its own. An `Err` leaves the octets of
     /// `out` as they were, and is possible only if `out` had no room.
     #[inline(always)]
-    #[tactic(auto, using(crate::proofs::PlainUnits::data0_spelled, crate::proofs::PlainUnits::data0_again))]
+    #[tactic(auto, using(crate::proofs::packets_of_one_dt_or_ak::data0_spelled, crate::proofs::packets_of_one_dt_or_ak::data0_again))]
     pub fn write_packet(&self, out: &mut BytesMut) -> Result<(), AllocError>
         requires { length self.now.user.now ≤ 65528 }
         ensures ok { OnOk result (out.new.items ≡ out.old.items ++ packet_of (written (value (Dt0 self.now)))) }
@@ -90,7 +90,7 @@ impl<'a> DataClass2<'a> {
     /// The DT of class 2 of a packet that holds nothing else (X.224 section 13.7). `None` for every other packet, also
     /// for a bad one.
     #[inline(always)]
-    #[tactic(auto, using(crate::proofs::PlainUnits::data2_found, crate::proofs::PlainUnits::data2_read))]
+    #[tactic(auto, using(crate::proofs::packets_of_one_dt_or_ak::data2_found, crate::proofs::packets_of_one_dt_or_ak::data2_read))]
     pub fn from_packet(packet: &'a [u8]) -> Option<DataClass2<'a>>
         ensures found { IfSome result (λ d. Spells (value (Dt2 d)) packet.now) }
         ensures only { (destination number : ℕ) (end : Bool) (user : List ℕ) → Spells (data2 destination number end user) packet.now →
@@ -111,7 +111,7 @@ impl<'a> DataClass2<'a> {
     /// Appends the unit, of at most 65,526 octets of user data, in a packet of its own. An `Err` leaves the octets of
     /// `out` as they were, and is possible only if `out` had no room.
     #[inline(always)]
-    #[tactic(auto, using(crate::proofs::PlainUnits::data2_spelled, crate::proofs::PlainUnits::data2_again))]
+    #[tactic(auto, using(crate::proofs::packets_of_one_dt_or_ak::data2_spelled, crate::proofs::packets_of_one_dt_or_ak::data2_again))]
     pub fn write_packet(&self, out: &mut BytesMut) -> Result<(), AllocError>
         requires { length self.now.user.now ≤ 65526 }
         ensures ok { OnOk result (out.new.items ≡ out.old.items ++ packet_of (written (value (Dt2 self.now)))) }
@@ -160,7 +160,7 @@ impl DataAcknowledgement {
     /// The AK of a packet that holds nothing else (X.224 section 13.9). `None` for every other packet, also for a bad
     /// one.
     #[inline(always)]
-    #[tactic(auto, using(crate::proofs::PlainUnits::ack_found, crate::proofs::PlainUnits::ack_read))]
+    #[tactic(auto, using(crate::proofs::packets_of_one_dt_or_ak::ack_found, crate::proofs::packets_of_one_dt_or_ak::ack_read))]
     pub fn from_packet(packet: &[u8]) -> Option<DataAcknowledgement>
         ensures found { IfSome result (λ a. Spells (value (Ak a)) packet.now) }
         ensures only { (credit destination number : ℕ) → Spells (acknowledge credit destination number) packet.now →
@@ -179,7 +179,7 @@ impl DataAcknowledgement {
     /// Appends the unit in a packet of its own. An `Err` leaves the octets of `out` as they were, and is possible only
     /// if `out` had no room.
     #[inline(always)]
-    #[tactic(auto, using(crate::proofs::PlainUnits::ack_spelled, crate::proofs::PlainUnits::ack_again))]
+    #[tactic(auto, using(crate::proofs::packets_of_one_dt_or_ak::ack_spelled, crate::proofs::packets_of_one_dt_or_ak::ack_again))]
     pub fn write_packet(&self, out: &mut BytesMut) -> Result<(), AllocError>
         ensures ok { OnOk result (out.new.items ≡ out.old.items ++ packet_of (written (value (Ak self.now)))) }
         ensures packet { OnOk result (IsPacket (written (value (Ak self.now))) (packet_of (written (value (Ak self.now))))) }

@@ -188,7 +188,7 @@ impl Cutter {
 
     /// The transport unit of the packet that is ready, or `None` if no packet is ready.
     #[inline]
-    #[tactic(auto, using(crate::proofs::Fronts::short_partial))]
+    #[tactic(auto, using(crate::proofs::a_prefix_of_a_packet::short_partial))]
     pub fn packet(&self) -> Option<&[u8]>
         ensures some { IfSome result (λ u. IsPacket u.now self.now.octets) }
         ensures none { IfNone result (IsPartial self.now.octets) }

@@ -1,6 +1,6 @@
 -- Two links of class 2 as a CR and its CC open them.
 -- For links, connections of class 2 and joined carriers.
-use Rattle.osi_class.proofs.Nothing as nothing
+use Rattle.osi_class.proofs.giving.when_nothing_is_given as nothing
 use Rattle.osi_between.proofs.Vocabulary.{◌≡◌, ℕ, ◌<◌, Bool, ◌^◌, ◌≤◌, true, List, [], length, IfSome, min, Option, Some, refl, sym, subst}
 use Rattle.osi_between.proofs.Vocabulary.{inl, arith, AllByRecursion, pow-le-pow_right, IsOctets, size_code, window_units, Connect}
 use Rattle.osi_between.proofs.Vocabulary.{IsConnect, request, confirm, opened_pair, under_way, IsShortTsdu, Standing, two_standing}

@@ -105,7 +105,7 @@ impl Switch {
     }
 
     /// Closes an open connection: in class 2 a DR asks for it, in class 0 the carrier ends.
-    #[tactic(auto, using(crate::proofs::SentAll::open_here))]
+    #[tactic(auto, using(crate::proofs::written::tsdus_that_are_sent_together::open_here))]
     pub fn close(&mut self, reference: u16, reason: u8) -> Result<(), SendError>
         ensures ok { OnOk result (self.new ≡ closed_with reference reason self.old) }
         ensures allowed { OnOk result (close_error (open_link reference self.old) ≡ None) }
@@ -154,7 +154,7 @@ impl Switch {
     }
 
     /// Sends a TSDU on an open connection: all units that may be sent now are written.
-    #[tactic(auto, using(crate::proofs::SentAll::open_here, crate::proofs::Opened::waits_at))]
+    #[tactic(auto, using(crate::proofs::written::tsdus_that_are_sent_together::open_here, crate::proofs::references::what_is_open::waits_at))]
     pub fn send(&mut self, reference: u16, tsdu: CowSlice<'_, u8, Global>) -> Result<(), SendError>
         ensures ok { OnOk result (self.new ≡ sent reference (cow_slice_items tsdu.entry) self.old) }
         ensures allowed { OnOk result (send_error (cow_slice_items tsdu.entry) (open_link reference self.old) ≡ None) }
@@ -180,7 +180,7 @@ impl Switch {
 
     /// Sends a TSDU, given as its first octets and the others, on an open connection, as [`Switch::send`] does.
     #[inline(always)]
-    #[tactic(auto, using(crate::proofs::SentAll::open_here))]
+    #[tactic(auto, using(crate::proofs::written::tsdus_that_are_sent_together::open_here))]
     pub fn send_headed(&mut self, reference: u16, head: &[u8], body: &[u8]) -> Result<(), SendError>
         ensures ok { OnOk result (self.new ≡ sent reference (head.now ++ body.now) self.old) }
         ensures allowed { OnOk result (send_error (head.now ++ body.now) (open_link reference self.old) ≡ None) }

@@ -23,7 +23,7 @@ fn any_too_long(tsdus: &[Vec<u8>]) -> bool
 impl Switch {
     /// Sends TSDUs together on an open connection, all or none, in order; all units that may be sent now are written.
     /// An empty list sends none, and allocates nothing; owned TSDUs that only wait allocate nothing either.
-    #[tactic(auto, using(crate::proofs::Opened::all_wait_at))]
+    #[tactic(auto, using(crate::proofs::references::what_is_open::all_wait_at))]
     pub fn send_all(
         &mut self,
         reference: u16,

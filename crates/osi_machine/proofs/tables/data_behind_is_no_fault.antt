@@ -3,7 +3,7 @@
 use Rattle.std.proofs.Common.{◌≡◌, refl, sym, ◌∙◌, ap, subst, ℕ, Bool, true, false, if◌then◌else◌, List, [], ◌∷◌, ◌++◌, map, None, Ok, Err}
 use Rattle.std.proofs.Common.{◌⊎◌, inl, inr, append_assoc, arith}
 use Rattle.osi_session.specs.Moves.{answered as answered_move}
-use Rattle.osi_session.proofs.VerdictLaws.{good_is_fine}
+use Rattle.osi_session.proofs.tables.the_verdict_on_a_unit.{good_is_fine}
 use Rattle.osi_machine.specs.Calm.{left_by, after_calls, after_message, IsCalm, StaysCalm, IsNoFaultBehind}
 use Rattle.osi_machine.proofs.Vocabulary.{cases_Bool, AllByRecursion, list_any, Input, called, taken, Standing, react, verdict, is_faulty}
 use Rattle.osi_machine.proofs.Vocabulary.{respond_all, acting, and_then, said_of, State, Meaning, DT, Call, HasSerial, CallError, Granted}

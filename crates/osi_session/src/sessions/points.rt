@@ -15,7 +15,7 @@ impl Session {
 
     /// What a call for a minor point would send, and the point; nothing changes.
     #[inline(always)]
-    #[tactic(auto, using(crate::proofs::CallLaws::refused, crate::proofs::CallLaws::wanting))]
+    #[tactic(auto, using(crate::proofs::tables::what_the_table_of_calls_answers::refused, crate::proofs::tables::what_the_table_of_calls_answers::wanting))]
     pub fn plan_minor(&self, confirm: bool, user_data: &[u8]) -> Result<PlannedPoint, CallError>
         ensures planned { IfOk result (λ p. PlansPoint self.now (Minor confirm user_data.now) p) }
         ensures refused { IfErr result (λ e. Refused e (react self.now (called (Minor confirm user_data.now))).error) }
@@ -32,7 +32,7 @@ impl Session {
 
     /// The same of a call for the confirmation of a minor point.
     #[inline(always)]
-    #[tactic(auto, using(crate::proofs::CallLaws::refused, crate::proofs::CallLaws::wanting))]
+    #[tactic(auto, using(crate::proofs::tables::what_the_table_of_calls_answers::refused, crate::proofs::tables::what_the_table_of_calls_answers::wanting))]
     pub fn plan_minor_confirm(
         &self,
         number: u32,

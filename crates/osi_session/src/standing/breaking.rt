@@ -45,7 +45,7 @@ fn then_rule(broken: Option<Breach>, is_kept: bool, rule: Breach) -> Option<Brea
 }
 
 /// Why a call is refused.
-#[tactic(auto, using(crate::proofs::SayingLaws::over_refuses))]
+#[tactic(auto, using(crate::proofs::sent::what_a_side_may_send::over_refuses))]
 fn call_breach(state: &State, request: &Request) -> Option<Breach>
     requires { IsSound state.now }
     ensures { result ≡ call_breach state.now (called_by request.now) }

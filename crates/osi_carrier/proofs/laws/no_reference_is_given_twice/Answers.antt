@@ -1,4 +1,4 @@
-use Rattle.osi_carrier.proofs.Effects.{stays_gone, asks_gone, sent_gone, sent_all_gone, closed_gone}
+use Rattle.osi_carrier.proofs.effects.a_unit_touches_one_connection.{stays_gone, asks_gone, sent_gone, sent_all_gone, closed_gone}
 use Rattle.osi_carrier.proofs.laws.no_reference_is_given_twice.Goals as goal
 
 pub returns : goal.returns

@@ -1,6 +1,6 @@
-use Rattle.osi_carrier.proofs.Lasting.{PacketLaws, pieces_last}
-use Rattle.osi_carrier.proofs.Outcomes.{pieces_end}
-use Rattle.osi_carrier.proofs.Pieces.{calls_read, pieces_alike}
+use Rattle.osi_carrier.proofs.stream.all_pieces_last_alike.{PacketLaws, pieces_last}
+use Rattle.osi_carrier.proofs.stream.how_calls_end_a_carrier.{pieces_end}
+use Rattle.osi_carrier.proofs.stream.a_carrier_does_what_its_packets_do.{calls_read, pieces_alike}
 use Rattle.osi_carrier.proofs.laws.the_pieces_do_not_matter.Goals as goal
 
 pub returns : goal.returns

@@ -1,5 +1,5 @@
 use Rattle.std.proofs.Common.{◌≡◌, ℕ, List, IfOk, subst, arith}
-use Rattle.osi_carrier.proofs.Parts.{left_behind}
+use Rattle.osi_carrier.proofs.written.a_tsdu_part_after_part.{left_behind}
 use Rattle.osi_carrier.proofs.links.rest_behind.Goals as goal
 
 pub returns-clause-ok : goal.returns-clause-ok

@@ -1,6 +1,6 @@
 use Rattle.std.proofs.Common.{◌<◌, ◌≤◌, length, map, ap, sym, subst, ◌∙◌, arith}
 use Rattle.osi_carrier.proofs.Vocabulary.{any_standing, all_given, Drained, Standing, unit_of, with_tsdus, written_by, packets}
-use Rattle.osi_carrier.proofs.Pumping.{packets_most}
+use Rattle.osi_carrier.proofs.written.all_that_a_link_gives.{packets_most}
 use Rattle.osi_carrier.proofs.links.send_all_on.Goals as goal
 
 pub write_all-requires-clause-room : goal.write_all-requires-clause-room

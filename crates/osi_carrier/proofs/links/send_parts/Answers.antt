@@ -1,8 +1,8 @@
 use Rattle.std.proofs.Common.{◌≡◌, ◌<◌, ◌≤◌, ◌∙◌, ℕ, length, drop, refl, ap, sym, subst, arith}
 use Rattle.std.proofs.Math.Seq.{drop-length}
 use Rattle.osi_carrier.proofs.Vocabulary.{any_standing, all_given, octets_in, Standing, with_tsdu, written_by, packets}
-use Rattle.osi_carrier.proofs.Parts.{part_goes}
-use Rattle.osi_carrier.proofs.Pumping.{packets_most}
+use Rattle.osi_carrier.proofs.written.a_tsdu_part_after_part.{part_goes}
+use Rattle.osi_carrier.proofs.written.all_that_a_link_gives.{packets_most}
 use Rattle.osi_carrier.proofs.links.send_parts.Goals as goal
 
 pub write_parts-requires-clause-room : goal.write_parts-requires-clause-room

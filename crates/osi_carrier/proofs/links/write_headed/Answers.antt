@@ -1,7 +1,7 @@
 use Rattle.std.proofs.Common.{◌≡◌, ◌<◌, ◌≤◌, ◌+◌, ℕ, List, [], ◌∷◌, ◌++◌, length, drop, sym, ap, subst, ◌∙◌, arith}
 use Rattle.osi_carrier.proofs.Vocabulary.{eqb-true, eqb-false, any_standing, first_in, octets_of, Given, unit_of, packets, with_tsdu}
-use Rattle.osi_carrier.proofs.Parts.{Goes, parting_first, parting_then, parting_last, parting_all, part_goes, part_room, empty_list}
-use Rattle.osi_carrier.proofs.Slots.{first_cut}
+use Rattle.osi_carrier.proofs.written.a_tsdu_part_after_part.{Goes, parting_first, parting_then, parting_last, parting_all, part_goes, part_room, empty_list}
+use Rattle.osi_carrier.proofs.written.a_part_in_its_data_unit.{first_cut}
 use Rattle.osi_carrier.proofs.links.write_headed.Goals as goal
 
 pub unreachable-requires : goal.unreachable-requires

@@ -1,8 +1,8 @@
 use Rattle.std.proofs.Common.{◌≡◌, ◌<◌, ◌≤◌, ◌+◌, ℕ, Bool, List, [], ◌∷◌, ◌++◌, length, drop, refl, sym, ap, subst, ◌∙◌, arith}
 use Rattle.osi_class.specs.declared.either.AnyLink.{AnyLink}
 use Rattle.osi_carrier.proofs.Vocabulary.{eqb-true, eqb-false, any_standing, first_in, number_in, octets_of, Given, GoesAtOnce, part_under, unit_of, packets, with_tsdu}
-use Rattle.osi_carrier.proofs.Parts.{IsParting, parting_first, parting_kept, part_room, empty_list, put_length, parting_next, parting_last}
-use Rattle.osi_carrier.proofs.Slots.{first_cut}
+use Rattle.osi_carrier.proofs.written.a_tsdu_part_after_part.{IsParting, parting_first, parting_kept, part_room, empty_list, put_length, parting_next, parting_last}
+use Rattle.osi_carrier.proofs.written.a_part_in_its_data_unit.{first_cut}
 use Rattle.osi_carrier.proofs.links.write_parts.Goals as goal
 
 pub parts-init : goal.parts-init

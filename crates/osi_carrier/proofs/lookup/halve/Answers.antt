@@ -1,6 +1,6 @@
 use Rattle.std.proofs.Common.{rules, ◌∙◌}
 use Rattle.std.proofs.lemmas.List.Sorted.{answers_always}
-use Rattle.osi_carrier.proofs.Order.{sought}
+use Rattle.osi_carrier.proofs.references.rows_in_order.{sought}
 use Rattle.osi_carrier.proofs.lookup.halve.Goals as goal
 
 pub returns : goal.returns

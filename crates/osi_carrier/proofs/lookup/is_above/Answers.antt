@@ -1,6 +1,6 @@
 use Rattle.std.proofs.Common.{◌≡◌, ◌<◌, ◌-◌, ℕ, suc, length, ap, sym, subst, arith, ◌∙◌}
 use Rattle.std.proofs.lemmas.Bool.Decides.{nat_tests}
-use Rattle.osi_carrier.proofs.Order.{rise_last}
+use Rattle.osi_carrier.proofs.references.rows_in_order.{rise_last}
 use Rattle.osi_carrier.proofs.lookup.is_above.Goals as goal
 
 pub returns : goal.returns

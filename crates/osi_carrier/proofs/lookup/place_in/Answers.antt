@@ -1,5 +1,5 @@
 use Rattle.std.proofs.Common.{◌≡◌, true, ap, sym, ◌∙◌, arith, rules}
-use Rattle.osi_carrier.proofs.Order.{place_here}
+use Rattle.osi_carrier.proofs.references.rows_in_order.{place_here}
 use Rattle.osi_carrier.proofs.lookup.place_in.Goals as goal
 
 pub returns-then-reference : goal.returns-then-reference

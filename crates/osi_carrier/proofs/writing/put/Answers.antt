@@ -1,6 +1,6 @@
 use Rattle.std.proofs.Common.{◌<◌, Err, inl, inr, length, ap, ◌∙◌, arith}
 use Rattle.osi_carrier.proofs.Vocabulary.{value, written}
-use Rattle.osi_carrier.proofs.Units.{written_least, written_most}
+use Rattle.osi_carrier.proofs.written.the_length_of_a_unit.{written_least, written_most}
 use Rattle.osi_carrier.proofs.writing.put.Goals as goal
 
 pub unreachable-requires : goal.unreachable-requires

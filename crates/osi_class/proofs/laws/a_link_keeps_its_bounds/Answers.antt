@@ -1,4 +1,4 @@
-use Rattle.osi_class.proofs.SoundLaws.{zero_begins, two_begins, move_sound, move_same}
+use Rattle.osi_class.proofs.bounds.every_link_keeps_its_bounds.{zero_begins, two_begins, move_sound, move_same}
 use Rattle.osi_class.proofs.laws.a_link_keeps_its_bounds.Goals as goal
 
 pub returns-clause-class_0 : goal.returns-clause-class_0

@@ -1,4 +1,4 @@
-use Rattle.osi_class.proofs.Arrival.{quiet_arrived, quiet_unsent, nothing_begun, nothing_between}
+use Rattle.osi_class.proofs.between.what_was_handed_in_comes_out.{quiet_arrived, quiet_unsent, nothing_begun, nothing_between}
 use Rattle.osi_class.proofs.laws.all_arrives.Goals as goal
 
 pub returns-clause-handed : goal.returns-clause-handed

@@ -1,4 +1,4 @@
-use Rattle.osi_class.proofs.Flows as flows
+use Rattle.osi_class.proofs.between.calls_keep_the_flow as flows
 use Rattle.osi_class.proofs.laws.credit_between.Goals as goal
 
 pub returns-clause-steps : goal.returns-clause-steps

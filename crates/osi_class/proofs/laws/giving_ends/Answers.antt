@@ -1,5 +1,5 @@
-use Rattle.osi_class.proofs.Ending.{giving_lowers}
-use Rattle.osi_class.proofs.Giving.{giving_leaves}
+use Rattle.osi_class.proofs.giving.giving_ends.{giving_lowers}
+use Rattle.osi_class.proofs.giving.a_link_gives_finitely_many_units.{giving_leaves}
 use Rattle.osi_class.proofs.laws.giving_ends.Goals as goal
 
 pub returns-clause-less : goal.returns-clause-less

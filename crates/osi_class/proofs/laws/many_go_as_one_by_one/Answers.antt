@@ -1,4 +1,4 @@
-use Rattle.osi_class.proofs.Together.{many_moves, many_at_once}
+use Rattle.osi_class.proofs.giving.tsdus_that_are_added_together.{many_moves, many_at_once}
 use Rattle.osi_class.proofs.laws.many_go_as_one_by_one.Goals as goal
 
 pub returns-clause-moves : goal.returns-clause-moves

@@ -1,4 +1,4 @@
-use Rattle.osi_class.proofs.Owed.{unit_is_awaited, ack_is_taken, nothing_under_way}
+use Rattle.osi_class.proofs.between.owed_acks_keep_the_counts.{unit_is_awaited, ack_is_taken, nothing_under_way}
 use Rattle.osi_class.proofs.laws.nothing_is_refused.Goals as goal
 
 pub returns-clause-unit : goal.returns-clause-unit

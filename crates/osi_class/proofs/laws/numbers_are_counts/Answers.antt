@@ -1,4 +1,4 @@
-use Rattle.osi_class.proofs.Numbers.{next_number, earlier_number, steps_between}
+use Rattle.osi_class.proofs.bounds.numbers_and_their_counts.{next_number, earlier_number, steps_between}
 use Rattle.osi_class.proofs.laws.numbers_are_counts.Goals as goal
 
 pub returns-clause-next : goal.returns-clause-next

@@ -1,4 +1,4 @@
-use Rattle.osi_class.proofs.Arrival.{sent_early, early_whole, early_under_way}
+use Rattle.osi_class.proofs.between.what_was_handed_in_comes_out.{sent_early, early_whole, early_under_way}
 use Rattle.osi_class.proofs.laws.units_before_opening.Goals as goal
 
 pub returns-clause-turns : goal.returns-clause-turns

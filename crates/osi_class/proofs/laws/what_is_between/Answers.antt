@@ -1,4 +1,4 @@
-use Rattle.osi_class.proofs.Ways as ways
+use Rattle.osi_class.proofs.between.tsdus_come_in_order as ways
 use Rattle.osi_class.proofs.laws.what_is_between.Goals as goal
 
 pub returns-clause-kept : goal.returns-clause-kept

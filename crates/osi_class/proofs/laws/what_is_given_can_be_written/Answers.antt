@@ -1,4 +1,4 @@
-use Rattle.osi_class.proofs.FitLaws.{in_range, stays_octets, unit_fits, unit_length}
+use Rattle.osi_class.proofs.giving.what_is_given_can_be_written.{in_range, stays_octets, unit_fits, unit_length}
 use Rattle.osi_class.proofs.laws.what_is_given_can_be_written.Goals as goal
 
 pub returns-clause-range : goal.returns-clause-range

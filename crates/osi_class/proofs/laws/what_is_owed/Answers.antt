@@ -1,4 +1,4 @@
-use Rattle.osi_class.proofs.Owed as owed
+use Rattle.osi_class.proofs.between.owed_acks_keep_the_counts as owed
 use Rattle.osi_class.proofs.laws.what_is_owed.Goals as goal
 
 pub returns-clause-begins : goal.returns-clause-begins

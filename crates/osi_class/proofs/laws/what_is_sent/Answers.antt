@@ -1,4 +1,4 @@
-use Rattle.osi_class.proofs.SendLaws.{kept, all}
+use Rattle.osi_class.proofs.giving.what_calls_send.{kept, all}
 use Rattle.osi_class.proofs.laws.what_is_sent.Goals as goal
 
 pub returns-clause-kept : goal.returns-clause-kept

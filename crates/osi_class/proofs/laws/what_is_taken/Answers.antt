@@ -1,5 +1,5 @@
-use Rattle.osi_class.proofs.Moves.{takes_run}
-use Rattle.osi_class.proofs.TakeLaws.{all}
+use Rattle.osi_class.proofs.bounds.what_a_call_preserves.{takes_run}
+use Rattle.osi_class.proofs.bounds.what_calls_take.{all}
 use Rattle.osi_class.proofs.laws.what_is_taken.Goals as goal
 
 pub returns-clause-kept : goal.returns-clause-kept

@@ -1,4 +1,4 @@
-use Rattle.osi_class.proofs.Nothing as nothing
+use Rattle.osi_class.proofs.giving.when_nothing_is_given as nothing
 use Rattle.osi_class.proofs.laws.when_nothing_comes.Goals as goal
 
 pub returns-clause-class_0 : goal.returns-clause-class_0

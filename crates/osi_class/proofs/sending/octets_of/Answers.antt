@@ -1,6 +1,6 @@
 use Rattle.std.proofs.Common.{◌≡◌, ◌≤◌, ◌^◌, length, map, Result, Ok, Err, OnErr, arith}
 use Rattle.osi_class.specs.Tsdus.{octets_of_tsdus}
-use Rattle.osi_class.proofs.SomeHaveNoMoreThanAll.{some_have_no_more}
+use Rattle.osi_class.proofs.giving.some_have_no_more_than_all.{some_have_no_more}
 use Rattle.osi_class.proofs.sending.octets_of.Goals as goal
 
 on_err : {A E P : Type 0} (result : Result A E) → P → OnErr result P

@@ -1,7 +1,7 @@
 use Rattle.std.proofs.Common.{◌≡◌, ◌<◌, length, map, sym, arith}
 use Rattle.std.proofs.lemmas.Bool.{lt-leb}
 use Rattle.osi_class.specs.Giving.{units_needed}
-use Rattle.osi_class.proofs.AllThatMayGoIsGiven.{some_of_all}
+use Rattle.osi_class.proofs.giving.all_that_may_go_is_given.{some_of_all}
 use Rattle.osi_class.proofs.sizes.are_few.Goals as goal
 
 pub returns-then-parts-left : goal.returns-then-parts-left

@@ -1,6 +1,6 @@
 use Rattle.std.proofs.Common.{◌≡◌, ℕ, Option, ◌≤◌, ◌^◌, length, map, IfNone, sym, subst, arith}
 use Rattle.osi_class.specs.Giving.{octets_in_parts}
-use Rattle.osi_class.proofs.MostLaws.{some_of_all}
+use Rattle.osi_class.proofs.giving.units_have_at_most_so_many_octets.{some_of_all}
 use Rattle.osi_class.proofs.sizes.room_for_parts.Goals as goal
 
 pub returns-in_err-more-clause-none : goal.returns-in_err-more-clause-none

@@ -1,5 +1,5 @@
 use Rattle.osi_judge.specs.declared.directions.Direction.TheVariants.{Left}
-use Rattle.osi_stack.proofs.Shortness.{SpduLaws}
+use Rattle.osi_stack.proofs.called.what_is_sent_is_short.{SpduLaws}
 use Rattle.osi_honest.proofs.what_a_session_answers_fits.{all_proper}
 use Rattle.osi_honest.proofs.what_an_asking_end_does.{can_begin}
 use Rattle.osi_judge.specs.Transport.{met_before}

@@ -1,5 +1,5 @@
 use Rattle.std.proofs.Common.{sym}
-use Rattle.osi_listing.proofs.OctetsOfDigits.{front_read}
+use Rattle.osi_listing.proofs.digits_give_octets.{front_read}
 use Rattle.osi_listing.proofs.capture.front_octet.Goals as goal
 
 pub returns-clause-read : goal.returns-clause-read

@@ -1,4 +1,4 @@
-use Rattle.osi_listing.proofs.OneListing.{one_listing}
+use Rattle.osi_listing.proofs.a_capture_has_one_listing.{one_listing}
 use Rattle.osi_listing.proofs.laws.a_capture_has_one_listing.Goals as goal
 
 pub returns : goal.returns

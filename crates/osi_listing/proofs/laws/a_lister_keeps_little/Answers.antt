@@ -1,4 +1,4 @@
-use Rattle.osi_listing.proofs.LittleIsKept.{keeps_little}
+use Rattle.osi_listing.proofs.a_lister_keeps_little.{keeps_little}
 use Rattle.osi_listing.proofs.laws.a_lister_keeps_little.Goals as goal
 
 pub returns : goal.returns

@@ -1,4 +1,4 @@
-use Rattle.osi_listing.proofs.OneListing.{fed_all, one_so_far}
+use Rattle.osi_listing.proofs.a_capture_has_one_listing.{fed_all, one_so_far}
 use Rattle.osi_listing.proofs.laws.the_pieces_do_not_matter.Goals as goal
 
 pub returns-clause-pieces : goal.returns-clause-pieces

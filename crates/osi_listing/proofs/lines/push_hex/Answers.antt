@@ -1,5 +1,5 @@
 use Rattle.std.proofs.Common.{arith}
-use Rattle.osi_listing.proofs.Fields.{hex_ends, hex_goes_on}
+use Rattle.osi_listing.proofs.fields_one_after_the_other.{hex_ends, hex_goes_on}
 use Rattle.osi_listing.proofs.lines.push_hex.Goals as goal
 
 pub octets-preserved : goal.octets-preserved

@@ -1,6 +1,6 @@
 use Rattle.osi_tpdu.specs.Units.{units_left}
 use Rattle.osi_tpdu.specs.View.{value}
-use Rattle.osi_listing.proofs.Listings.{advanced_none, advanced_step}
+use Rattle.osi_listing.proofs.units_one_after_the_other.{advanced_none, advanced_step}
 use Rattle.osi_listing.proofs.listing.list_each.Goals as goal
 
 pub units-init : goal.units-init

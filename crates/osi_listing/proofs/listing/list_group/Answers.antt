@@ -2,7 +2,7 @@ use Rattle.osi_spdu.specs.Units.{said_by}
 use Rattle.osi_spdu.specs.Groups.{units_behind, first_of, behind_of, units_of}
 use Rattle.std.proofs.Common.{refl}
 use Rattle.osi_listing.specs.Counting.{one_more}
-use Rattle.osi_listing.proofs.Listings.{lists_first, lists_next}
+use Rattle.osi_listing.proofs.units_one_after_the_other.{lists_first, lists_next}
 use Rattle.osi_listing.proofs.listing.list_group.Goals as goal
 
 pub units-init : goal.units-init

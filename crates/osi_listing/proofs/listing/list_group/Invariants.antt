@@ -1,6 +1,6 @@
 use Rattle.std.proofs.Common.{length}
 use Rattle.osi_spdu.specs.Groups.{units_behind, units_of}
-use Rattle.osi_listing.proofs.Listings.{ListsUnits}
+use Rattle.osi_listing.proofs.units_one_after_the_other.{ListsUnits}
 use Rattle.osi_listing.proofs.listing.list_group.Given as goal
 
 abbrev pub invariant-units : goal.invariant-units

@@ -2,7 +2,7 @@ use Rattle.osi_tpdu.specs.Packet.{units_of}
 use Rattle.osi_listing.specs.Counting.{one_more}
 use Rattle.osi_listing.specs.Listing.{line_of, read_entries}
 use Rattle.osi_listing.specs.Listing.Entry.{Packet}
-use Rattle.osi_listing.proofs.Listings.{then_more}
+use Rattle.osi_listing.proofs.units_one_after_the_other.{then_more}
 use Rattle.osi_listing.proofs.listing.list_packet.Goals as goal
 
 pub returns-clause-says : goal.returns-clause-says

@@ -3,7 +3,7 @@ use Rattle.osi_spdu.specs.Groups.{units_of}
 use Rattle.osi_listing.specs.Counting.{one_more}
 use Rattle.osi_listing.specs.Listing.{line_of}
 use Rattle.osi_listing.specs.Listing.Entry.{SessionUnit, SessionFault}
-use Rattle.osi_listing.proofs.Listings.{says_tsdu, then_one}
+use Rattle.osi_listing.proofs.units_one_after_the_other.{says_tsdu, then_one}
 use Rattle.osi_listing.proofs.listing.list_tsdu.Goals as goal
 
 pub returns-in-Ok : goal.returns-in-Ok

@@ -2,7 +2,7 @@ use Rattle.osi_tpdu.specs.View.{value}
 use Rattle.osi_listing.specs.Counting.{one_more}
 use Rattle.osi_listing.specs.Joins.{outcome_value}
 use Rattle.osi_listing.specs.Listing.{line_of, outcome_entries}
-use Rattle.osi_listing.proofs.Listings.{then_brought}
+use Rattle.osi_listing.proofs.units_one_after_the_other.{then_brought}
 use Rattle.osi_listing.proofs.listing.list_unit.Goals as goal
 
 pub returns-clause-says : goal.returns-clause-says

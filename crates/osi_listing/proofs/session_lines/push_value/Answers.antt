@@ -4,7 +4,7 @@ use Rattle.std.specs.Fmt.{decimal}
 use Rattle.hex.specs.Hex.{encode_lower}
 use Rattle.osi_spdu.specs.Codes.{number_of}
 use Rattle.osi_spdu.specs.Octets.{made_of, lent_of}
-use Rattle.osi_listing.proofs.Fields.{value_added}
+use Rattle.osi_listing.proofs.fields_one_after_the_other.{value_added}
 use Rattle.osi_listing.proofs.session_lines.push_value.Goals as goal
 
 pub returns : goal.returns

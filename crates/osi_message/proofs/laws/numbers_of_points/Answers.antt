@@ -1,4 +1,4 @@
-use Rattle.osi_message.proofs.NumberLaws.{meant_numbered, units_numbered}
+use Rattle.osi_message.proofs.numbers_are_those_of_points.{meant_numbered, units_numbered}
 use Rattle.osi_message.proofs.laws.numbers_of_points.Goals as goal
 
 pub returns-clause-message : goal.returns-clause-message

@@ -1,4 +1,4 @@
-use Rattle.osi_message.proofs.PartLaws.{part_said}
+use Rattle.osi_message.proofs.parts_are_written_and_read.{part_said}
 use Rattle.osi_message.proofs.laws.what_a_part_says.Goals as goal
 
 pub returns : goal.returns

@@ -1,4 +1,4 @@
-use Rattle.osi_message.proofs.OctetLaws.{written_octets}
+use Rattle.osi_message.proofs.what_is_sent_is_octets.{written_octets}
 use Rattle.osi_message.proofs.laws.what_is_sent_is_octets.Goals as goal
 
 pub returns : goal.returns

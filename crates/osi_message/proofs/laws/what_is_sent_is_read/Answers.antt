@@ -1,6 +1,6 @@
 use Rattle.osi_message.specs.Written.{spelled}
-use Rattle.osi_message.proofs.FittingLaws.{spelled_formed, spelled_fits}
-use Rattle.osi_message.proofs.SendingLaws.{said_again}
+use Rattle.osi_message.proofs.what_can_be_sent_has_a_written_form.{spelled_formed, spelled_fits}
+use Rattle.osi_message.proofs.what_is_written_means_it.{said_again}
 use Rattle.osi_message.proofs.laws.what_is_sent_is_read.Goals as goal
 
 pub returns-clause-read : goal.returns-clause-read

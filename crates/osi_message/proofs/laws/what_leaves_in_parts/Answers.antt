@@ -1,4 +1,4 @@
-use Rattle.osi_message.proofs.SentLaws.{sent_alone, are_parts, sent_joined, sent_read, sent_full, sent_short, sent_octets}
+use Rattle.osi_message.proofs.the_tsdus_of_a_message.{sent_alone, are_parts, sent_joined, sent_read, sent_full, sent_short, sent_octets}
 use Rattle.osi_message.proofs.laws.what_leaves_in_parts.Goals as goal
 
 pub returns-clause-whole : goal.returns-clause-whole

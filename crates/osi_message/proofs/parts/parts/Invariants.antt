@@ -1,5 +1,5 @@
 use Rattle.std.proofs.Common.{◌<◌, length, map}
-use Rattle.osi_message.proofs.PartingLaws.{IsParting}
+use Rattle.osi_message.proofs.how_pieces_follow_one_another.{IsParting}
 use Rattle.osi_message.proofs.parts.parts.Given as goal
 
 abbrev pub invariant-pieces : goal.invariant-pieces

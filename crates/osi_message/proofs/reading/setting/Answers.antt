@@ -1,7 +1,7 @@
 use Rattle.std.proofs.Common.{◌≡◌, ◌∙◌, Some, ap, option_map, sym}
 use Rattle.osi_spdu.specs.declared.codes.Code.TheVariants as code
 use Rattle.osi_message.proofs.Vocabulary.{setting_octets, known_of, octet_in, setting_named}
-use Rattle.osi_message.proofs.ReadingLaws.{setting_again}
+use Rattle.osi_message.proofs.a_field_reads_back.{setting_again}
 use Rattle.osi_message.proofs.reading.setting.Goals as goal
 
 pub returns-in-Some : goal.returns-in-Some

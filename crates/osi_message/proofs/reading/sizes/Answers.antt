@@ -1,7 +1,7 @@
 use Rattle.std.proofs.Common.{◌≡◌, ◌∙◌, Some, ap, option_map, sym}
 use Rattle.osi_spdu.specs.declared.codes.Code.TheVariants as code
 use Rattle.osi_message.proofs.Vocabulary.{size_octets, known_of, sizes_in}
-use Rattle.osi_message.proofs.ReadingLaws.{sizes_again}
+use Rattle.osi_message.proofs.a_field_reads_back.{sizes_again}
 use Rattle.osi_message.proofs.reading.sizes.Goals as goal
 
 pub returns-in-Some : goal.returns-in-Some

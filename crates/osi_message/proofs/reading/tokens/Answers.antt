@@ -1,7 +1,7 @@
 use Rattle.std.proofs.Common.{◌≡◌, ◌∙◌, Some, ap, option_map, sym}
 use Rattle.osi_spdu.specs.declared.codes.Code.TheVariants as code
 use Rattle.osi_message.proofs.Vocabulary.{bits_of, token_octets, known_of, octet_in, named}
-use Rattle.osi_message.proofs.ReadingLaws.{named_again}
+use Rattle.osi_message.proofs.a_field_reads_back.{named_again}
 use Rattle.osi_message.proofs.reading.tokens.Goals as goal
 
 pub returns-in-Some : goal.returns-in-Some

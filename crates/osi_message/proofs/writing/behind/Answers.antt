@@ -1,7 +1,7 @@
 use Rattle.std.proofs.Common.{◌∙◌, [], ◌∷◌, sym, subst, arith}
 use Rattle.osi_spdu.specs.Units.{said_by}
 use Rattle.osi_message.proofs.Vocabulary.{GiveTokens, nothing, codes_of, body_octets, UnitFits, TsduFits, unit_with, behind_tokens}
-use Rattle.osi_message.proofs.WritingLaws.{none_known}
+use Rattle.osi_message.proofs.a_unit_is_made_of_its_meaning.{none_known}
 use Rattle.osi_message.proofs.writing.behind.Goals as goal
 
 token_fits : UnitFits (unit_with GiveTokens nothing)

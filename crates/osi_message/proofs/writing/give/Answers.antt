@@ -1,6 +1,6 @@
 use Rattle.std.proofs.Common.{◌∙◌, ℕ, ◌∷◌, [], ap}
 use Rattle.osi_message.proofs.Vocabulary.{GiveTokens, unit_with, unit_of, put, nothing, TokenItem}
-use Rattle.osi_message.proofs.WritingLaws.{give_known, set_kept}
+use Rattle.osi_message.proofs.a_unit_is_made_of_its_meaning.{give_known, set_kept}
 use Rattle.osi_message.proofs.writing.give.Goals as goal
 
 pub returns-clause-units : goal.returns-clause-units

@@ -1,6 +1,6 @@
 use Rattle.std.proofs.Common.{◌∙◌, ap}
 use Rattle.osi_message.proofs.Vocabulary.{MinorSyncPoint, unit_with, unit_of}
-use Rattle.osi_message.proofs.WritingLaws.{number_known, open_known}
+use Rattle.osi_message.proofs.a_unit_is_made_of_its_meaning.{number_known, open_known}
 use Rattle.osi_message.proofs.writing.minor_point.Goals as goal
 
 pub returns-then-confirm-clause-units : goal.returns-then-confirm-clause-units

@@ -1,6 +1,6 @@
 use Rattle.std.proofs.Common.{◌∙◌, ℕ, ◌∷◌, [], ap, arith}
 use Rattle.osi_message.proofs.Vocabulary.{PleaseTokens, unit_with, unit_of, with_data, put, nothing, TokenItem}
-use Rattle.osi_message.proofs.WritingLaws.{please_known, set_kept}
+use Rattle.osi_message.proofs.a_unit_is_made_of_its_meaning.{please_known, set_kept}
 use Rattle.osi_message.proofs.writing.please.Goals as goal
 
 pub returns-clause-units : goal.returns-clause-units

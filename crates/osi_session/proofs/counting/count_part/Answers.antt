@@ -1,7 +1,7 @@
 use Rattle.std.proofs.Common.{◌∙◌, ap, ℕ, Option, Some, None, if◌then◌else◌, option_copied}
 use Rattle.osi_session.proofs.Vocabulary.{is_last, outcome_of}
 use Rattle.osi_session.specs.Counting.{count_of, count_by}
-use Rattle.osi_session.proofs.CountingLaws.{dropped_counts, bad_counts, long_counts, good_counts}
+use Rattle.osi_session.proofs.tsdu.octets_are_counted.{dropped_counts, bad_counts, long_counts, good_counts}
 use Rattle.osi_session.proofs.counting.count_part.Goals as goal
 
 pub returns-in-Dropped : goal.returns-in-Dropped

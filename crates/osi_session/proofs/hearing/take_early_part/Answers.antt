@@ -1,6 +1,6 @@
 use Rattle.std.proofs.Common.{◌∙◌, ap, sym, List, ℕ, Option, option_copied}
 use Rattle.osi_session.proofs.Vocabulary.{heard, nothing, joined_after}
-use Rattle.osi_session.proofs.HearingLaws.{early_takes}
+use Rattle.osi_session.proofs.tsdu.the_effect_of_a_word.{early_takes}
 use Rattle.osi_session.proofs.hearing.take_early_part.Goals as goal
 
 pub returns-in-Ok : goal.returns-in-Ok

@@ -1,6 +1,6 @@
 use Rattle.std.proofs.Common.{◌≡◌, ap, subst, sym, ◌∙◌, option_copied}
 use Rattle.osi_session.proofs.Vocabulary.{Place, part, Taker, Hearing, respond_word, word_verdict, fine, Hears}
-use Rattle.osi_session.proofs.HearingLaws.{first_is, middle_is, last_is}
+use Rattle.osi_session.proofs.tsdu.the_effect_of_a_word.{first_is, middle_is, last_is}
 use Rattle.osi_session.proofs.hearing.take_good_part.Goals as goal
 
 pub returns-in-First : goal.returns-in-First

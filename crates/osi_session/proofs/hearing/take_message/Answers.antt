@@ -1,6 +1,6 @@
 use Rattle.std.proofs.Common.{option_copied}
 use Rattle.osi_session.proofs.Vocabulary.{meant_by, Taker}
-use Rattle.osi_session.proofs.JoiningLaws.{reacts_plain, reacts_misplaced}
+use Rattle.osi_session.proofs.tsdu.the_verdict_while_joining.{reacts_plain, reacts_misplaced}
 use Rattle.osi_session.proofs.hearing.take_message.Goals as goal
 
 pub returns-in-None : goal.returns-in-None

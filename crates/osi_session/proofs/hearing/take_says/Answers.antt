@@ -1,6 +1,6 @@
 use Rattle.std.proofs.Common.{◌∙◌, ap, sym, option_copied}
 use Rattle.osi_session.proofs.Vocabulary.{meant_by, Taker, heard}
-use Rattle.osi_session.proofs.HearingLaws.{message_is, message_takes}
+use Rattle.osi_session.proofs.tsdu.the_effect_of_a_word.{message_is, message_takes}
 use Rattle.osi_session.proofs.hearing.take_says.Goals as goal
 
 pub returns-in-Ok : goal.returns-in-Ok

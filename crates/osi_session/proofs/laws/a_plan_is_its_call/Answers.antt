@@ -1,4 +1,4 @@
-use Rattle.osi_session.proofs.MoveLaws.{committed, committed_sends, planned_live}
+use Rattle.osi_session.proofs.moves.the_move_of_each_input.{committed, committed_sends, planned_live}
 use Rattle.osi_session.proofs.laws.a_plan_is_its_call.Goals as goal
 
 pub returns : goal.returns

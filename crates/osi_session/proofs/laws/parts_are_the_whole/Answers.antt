@@ -1,7 +1,7 @@
 use Rattle.std.proofs.Common.{◌++◌}
 use Rattle.osi_message.specs.Meanings.{DT}
-use Rattle.osi_session.proofs.PartRuns.{parts_do_as_whole, octets_do_as_whole, silent_before, data_sendable}
-use Rattle.osi_session.proofs.WrittenLaws.{said_again}
+use Rattle.osi_session.proofs.tsdu.parts_with_calls_between.{parts_do_as_whole, octets_do_as_whole, silent_before, data_sendable}
+use Rattle.osi_session.proofs.tsdu.what_is_sent_is_taken_as_meant.{said_again}
 use Rattle.osi_session.proofs.laws.parts_are_the_whole.Goals as goal
 
 pub returns-clause-words : goal.returns-clause-words

@@ -1,4 +1,4 @@
-use Rattle.osi_session.proofs.SentLaws.{sent_alone, data_alone, data_full, data_short}
+use Rattle.osi_session.proofs.sent.what_an_accepted_call_sends.{sent_alone, data_alone, data_full, data_short}
 use Rattle.osi_session.proofs.laws.what_a_call_sends.Goals as goal
 
 pub returns-clause-alone : goal.returns-clause-alone

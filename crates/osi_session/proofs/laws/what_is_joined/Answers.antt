@@ -1,5 +1,5 @@
-use Rattle.osi_session.proofs.JoinedLaws.{inputs_kept, joined_holds}
-use Rattle.osi_session.proofs.KeptLaws.{call_keeps, first_arrives, middle_arrives, last_arrives}
+use Rattle.osi_session.proofs.tsdu.what_is_joined.{inputs_kept, joined_holds}
+use Rattle.osi_session.proofs.tsdu.what_a_receiver_keeps.{call_keeps, first_arrives, middle_arrives, last_arrives}
 use Rattle.osi_session.proofs.laws.what_is_joined.Goals as goal
 
 pub returns : goal.returns

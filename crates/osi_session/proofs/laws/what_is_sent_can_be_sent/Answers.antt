@@ -1,4 +1,4 @@
-use Rattle.osi_session.proofs.SendableLaws.{sent_sendable, reply_can_be_sent, words_answer, asked_sendable}
+use Rattle.osi_session.proofs.sent.what_is_sent_can_be_written.{sent_sendable, reply_can_be_sent, words_answer, asked_sendable}
 use Rattle.osi_session.proofs.laws.what_is_sent_can_be_sent.Goals as goal
 
 pub returns : goal.returns

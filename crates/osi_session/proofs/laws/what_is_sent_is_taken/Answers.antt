@@ -1,5 +1,5 @@
-use Rattle.osi_session.proofs.SendableLaws.{sent_sendable, words_answer, asked_sendable}
-use Rattle.osi_session.proofs.WrittenLaws.{taken_as_meant, part_taken}
+use Rattle.osi_session.proofs.sent.what_is_sent_can_be_written.{sent_sendable, words_answer, asked_sendable}
+use Rattle.osi_session.proofs.tsdu.what_is_sent_is_taken_as_meant.{taken_as_meant, part_taken}
 use Rattle.osi_session.specs.Openings.{asked_for}
 use Rattle.osi_session.proofs.laws.what_is_sent_is_taken.Goals as goal
 

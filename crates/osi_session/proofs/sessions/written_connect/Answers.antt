@@ -1,7 +1,7 @@
 use Rattle.std.proofs.Common.{◌≡◌, ◌<◌, ◌∙◌, ℕ, List, Some, length, ap, sym, subst}
 use Rattle.osi_session.proofs.Vocabulary.{in_one, asked_for, unit_in}
-use Rattle.osi_session.proofs.SendableLaws.{asked_sendable}
-use Rattle.osi_session.proofs.SessionLaws.{read_again, asked_alone}
+use Rattle.osi_session.proofs.sent.what_is_sent_can_be_written.{asked_sendable}
+use Rattle.osi_session.proofs.runs.the_invariant_in_memory.{read_again, asked_alone}
 use Rattle.osi_session.proofs.sessions.written_connect.Goals as goal
 
 pub written_message-requires : goal.written_message-requires

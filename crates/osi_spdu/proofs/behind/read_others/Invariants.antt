@@ -1,5 +1,5 @@
 use Rattle.std.proofs.Common.{◌+◌, ◌<◌, ◌^◌, length}
-use Rattle.osi_spdu.proofs.BehindLaws.{Leads}
+use Rattle.osi_spdu.proofs.tsdu.units_after_the_first.{Leads}
 use Rattle.osi_spdu.proofs.behind.read_others.Given as goal
 
 abbrev pub invariant-units : goal.invariant-units

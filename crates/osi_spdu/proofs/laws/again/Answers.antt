@@ -1,6 +1,6 @@
 use Rattle.osi_spdu.specs.Writing.{tsdu_octets}
-use Rattle.osi_spdu.proofs.UnitsLaws.{tsdu_read}
-use Rattle.osi_spdu.proofs.WrittenLaws.{units_written, tsdu_written}
+use Rattle.osi_spdu.proofs.tsdu.units_and_tsdus_are_read.{tsdu_read}
+use Rattle.osi_spdu.proofs.form.the_form_spells_its_unit.{units_written, tsdu_written}
 use Rattle.osi_spdu.proofs.laws.again.Goals as goal
 
 pub returns-clause-spelled : goal.returns-clause-spelled

@@ -1,6 +1,6 @@
 use Rattle.std.proofs.Common.{sym, ◌∙◌}
-use Rattle.osi_spdu.proofs.StepLaws.{ok_is}
-use Rattle.osi_spdu.proofs.UnitsLaws.{tsdu_only}
+use Rattle.osi_spdu.proofs.basics.the_steps_of_reading.{ok_is}
+use Rattle.osi_spdu.proofs.tsdu.units_and_tsdus_are_read.{tsdu_only}
 use Rattle.osi_spdu.proofs.laws.one_value.Goals as goal
 
 pub returns : goal.returns

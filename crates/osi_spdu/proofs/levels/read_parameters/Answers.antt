@@ -1,6 +1,6 @@
 use Rattle.std.proofs.Common.{◌≡◌, ◌∙◌, Ok, ap, sym, length, rules}
 use Rattle.osi_spdu.proofs.Vocabulary.{nothing, in_unit}
-use Rattle.osi_spdu.proofs.Loops.{taking_start, taking_end}
+use Rattle.osi_spdu.proofs.parameters.parameters_one_after_the_other.{taking_start, taking_end}
 use Rattle.osi_spdu.proofs.levels.read_parameters.Goals as goal
 
 pub returns-then-is_empty : goal.returns-then-is_empty

@@ -1,6 +1,6 @@
 use Rattle.std.proofs.Common.{◌≡◌, ◌∙◌, ap, sym}
 use Rattle.osi_spdu.proofs.Vocabulary.{is_some, Code, slot_of, slots_of}
-use Rattle.osi_spdu.proofs.Loops.{stored_twice, stored_bad, stored_done}
+use Rattle.osi_spdu.proofs.parameters.parameters_one_after_the_other.{stored_twice, stored_bad, stored_done}
 use Rattle.osi_spdu.proofs.levels.store.Goals as goal
 
 pub returns-then-has : goal.returns-then-has

@@ -1,6 +1,6 @@
 use Rattle.std.proofs.Common.{◌∙◌, ap, sym, Some, option_map}
 use Rattle.osi_spdu.specs.Fields.{token_octets}
-use Rattle.osi_spdu.proofs.ParamsLaws.{tokens_same}
+use Rattle.osi_spdu.proofs.parameters.a_slot_is_filled.{tokens_same}
 use Rattle.osi_spdu.proofs.params.tokens_alone.Goals as goal
 
 pub returns-clause-same : goal.returns-clause-same

@@ -1,5 +1,5 @@
 use Rattle.std.proofs.Common.{arith}
-use Rattle.osi_spdu.proofs.TsduLaws.{all_found, all_only, all_fits, all_formed}
+use Rattle.osi_spdu.proofs.tsdu.how_reading_goes_on.{all_found, all_only, all_fits, all_formed}
 use Rattle.osi_spdu.proofs.reading.read_tsdu.Goals as goal
 
 pub returns-clause-found : goal.returns-clause-found

@@ -1,6 +1,6 @@
 use Rattle.std.proofs.Common.{◌≡◌, true, List, get_or, subst}
 use Rattle.osi_spdu.proofs.Vocabulary.{Code, ConnectionIdentifier, among}
-use Rattle.osi_spdu.proofs.GroupLengthLaws.{among_at}
+use Rattle.osi_spdu.proofs.parameters.a_group_is_counted_once.{among_at}
 use Rattle.osi_spdu.proofs.writing.body_len.Goals as goal
 
 pub parameter_len-len-requires-clause-held : goal.parameter_len-len-requires-clause-held

@@ -1,7 +1,7 @@
 use Rattle.std.proofs.Common.{length, ap, arith}
 use Rattle.osi_spdu.proofs.Vocabulary.{units_behind, said_by}
-use Rattle.osi_spdu.proofs.WritingUnits.{one_len, one_fits}
-use Rattle.osi_spdu.proofs.KeptLengths.{one_kept}
+use Rattle.osi_spdu.proofs.form.units_are_written_in_order.{one_len, one_fits}
+use Rattle.osi_spdu.proofs.parameters.lengths_are_stored_in_order.{one_kept}
 use Rattle.osi_spdu.proofs.writing.count_behind.Goals as goal
 
 pub unit_len-counted-requires : goal.unit_len-counted-requires

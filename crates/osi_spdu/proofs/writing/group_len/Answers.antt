@@ -1,6 +1,6 @@
 use Rattle.std.proofs.Common.{◌≡◌, ◌∙◌, not, List, length, ap, sym, arith}
 use Rattle.osi_spdu.proofs.Vocabulary.{Code, octets_of, known_of, members_octets, group_octets}
-use Rattle.osi_spdu.proofs.GroupLengthLaws.{group_within, mapped_there}
+use Rattle.osi_spdu.proofs.parameters.a_group_is_counted_once.{group_within, mapped_there}
 use Rattle.osi_spdu.proofs.writing.group_len.Goals as goal
 
 pub members_len-requires : goal.members_len-requires

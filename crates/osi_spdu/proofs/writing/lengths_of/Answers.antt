@@ -1,7 +1,7 @@
 use Rattle.std.proofs.Common.{◌∙◌, ap, length, subst, arith}
 use Rattle.osi_spdu.proofs.Vocabulary.{Contents, Units, said_by, units_behind, unit_octets, tsdu_octets, AreHeld, AreLengths}
-use Rattle.osi_spdu.proofs.WritingUnits.{first_len}
-use Rattle.osi_spdu.proofs.CanonicalLaws.{group_plain}
+use Rattle.osi_spdu.proofs.form.units_are_written_in_order.{first_len}
+use Rattle.osi_spdu.proofs.form.values_in_memory_are_in_their_form.{group_plain}
 use Rattle.osi_spdu.proofs.writing.lengths_of.Goals as goal
 
 pub returns-clause-all : goal.returns-clause-all

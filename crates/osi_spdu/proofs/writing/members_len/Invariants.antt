@@ -1,5 +1,5 @@
 use Rattle.osi_spdu.proofs.Vocabulary.{known_of, member_octets}
-use Rattle.osi_spdu.proofs.WritingLoops.{IsCounting}
+use Rattle.osi_spdu.proofs.form.parameters_are_written_in_order.{IsCounting}
 use Rattle.osi_spdu.proofs.writing.members_len.Given as goal
 
 abbrev pub invariant-codes : goal.invariant-codes

@@ -1,9 +1,9 @@
 use Rattle.std.proofs.Common.{◌++◌, ℕ, List, [], length, ap, sym, ◌∙◌, append_assoc, arith}
 use Rattle.osi_spdu.proofs.Vocabulary.{units_behind, category_of, said_by, unit_octets}
-use Rattle.osi_spdu.proofs.CanonicalLaws.{behind_formed}
-use Rattle.osi_spdu.proofs.GroupLengthLaws.{next_two}
-use Rattle.osi_spdu.proofs.KeptLengths.{next_length}
-use Rattle.osi_spdu.proofs.WritingUnits.{one_octets, one_len, one_fits}
+use Rattle.osi_spdu.proofs.form.values_in_memory_are_in_their_form.{behind_formed}
+use Rattle.osi_spdu.proofs.parameters.a_group_is_counted_once.{next_two}
+use Rattle.osi_spdu.proofs.parameters.lengths_are_stored_in_order.{next_length}
+use Rattle.osi_spdu.proofs.form.units_are_written_in_order.{one_octets, one_len, one_fits}
 use Rattle.osi_spdu.proofs.writing.put_behind.Goals as goal
 
 pub none-groups-requires : goal.none-groups-requires

@@ -1,7 +1,7 @@
 use Rattle.std.proofs.Common.{◌≡◌, ◌<◌, true, List, length, get_or, sym, subst, arith}
 use Rattle.osi_spdu.proofs.Vocabulary.{flat_map, Code, ConnectionIdentifier, known_of, among, parameter_octets, body_octets}
-use Rattle.osi_spdu.proofs.GroupLengthLaws.{among_at}
-use Rattle.osi_spdu.proofs.WritingLoops.{piece_len, tail_less}
+use Rattle.osi_spdu.proofs.parameters.a_group_is_counted_once.{among_at}
+use Rattle.osi_spdu.proofs.form.parameters_are_written_in_order.{piece_len, tail_less}
 use Rattle.osi_spdu.proofs.writing.put_body.Goals as goal
 
 pub put_parameter-requires-clause-held : goal.put_parameter-requires-clause-held

@@ -1,7 +1,7 @@
 use Rattle.std.proofs.Common.{◌≡◌, ◌++◌, ◌∙◌, ℕ, List, length, ap, sym, subst, arith, append_assoc}
 use Rattle.osi_spdu.proofs.Vocabulary.{Contents, Units, body_length, AreHeld, AreLengths, said_by, units_behind, unit_octets, tsdu_octets}
-use Rattle.osi_spdu.proofs.WritingUnits.{first_octets, first_len}
-use Rattle.osi_spdu.proofs.CanonicalLaws.{group_plain}
+use Rattle.osi_spdu.proofs.form.units_are_written_in_order.{first_octets, first_len}
+use Rattle.osi_spdu.proofs.form.values_in_memory_are_in_their_form.{group_plain}
 use Rattle.osi_spdu.proofs.writing.put_group.Goals as goal
 
 pub put_unit-requires-clause-room : goal.put_unit-requires-clause-room

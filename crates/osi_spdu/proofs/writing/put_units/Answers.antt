@@ -1,9 +1,9 @@
 use Rattle.std.proofs.Common.{◌≡◌, ◌+◌, ◌++◌, ◌∙◌, ℕ, List, length, ap, sym, subst, arith}
 use Rattle.osi_spdu.proofs.Vocabulary.{units_behind, category_of, said_by, unit_octets}
-use Rattle.osi_spdu.proofs.WritingUnits.{IsPuttingUnits, putting_start, puts_next, putting_end, putting_spare}
-use Rattle.osi_spdu.proofs.CanonicalLaws.{behind_formed}
-use Rattle.osi_spdu.proofs.GroupLengthLaws.{next_two}
-use Rattle.osi_spdu.proofs.KeptLengths.{next_length}
+use Rattle.osi_spdu.proofs.form.units_are_written_in_order.{IsPuttingUnits, putting_start, puts_next, putting_end, putting_spare}
+use Rattle.osi_spdu.proofs.form.values_in_memory_are_in_their_form.{behind_formed}
+use Rattle.osi_spdu.proofs.parameters.a_group_is_counted_once.{next_two}
+use Rattle.osi_spdu.proofs.parameters.lengths_are_stored_in_order.{next_length}
 use Rattle.osi_spdu.proofs.writing.put_units.Goals as goal
 
 pub units-init : goal.units-init

@@ -1,6 +1,6 @@
 use Rattle.std.proofs.Common.{◌≡◌, ◌∷◌, [], ◌++◌, None, refl, sym, ap, subst}
 use Rattle.osi_stack.proofs.Vocabulary.{OnOk, IfErr, Call, Data, called_by, called, react, limit_of, move_refusal, Refuses, answers}
-use Rattle.osi_stack.proofs.Calling.{call_handed, call_allowed, call_refused}
+use Rattle.osi_stack.proofs.called.what_a_call_sends.{call_handed, call_allowed, call_refused}
 use Rattle.osi_stack.proofs.calls.make_call.Goals as goal
 
 pub returns-in-Some-clause-carrier : goal.returns-in-Some-clause-carrier

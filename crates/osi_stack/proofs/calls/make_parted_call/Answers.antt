@@ -1,6 +1,6 @@
 use Rattle.std.proofs.Common.{refl}
 use Rattle.osi_stack.proofs.Vocabulary.{Data, limit_of}
-use Rattle.osi_stack.proofs.Calling.{call_handed, call_allowed, call_refused}
+use Rattle.osi_stack.proofs.called.what_a_call_sends.{call_handed, call_allowed, call_refused}
 use Rattle.osi_stack.proofs.calls.make_parted_call.Goals as goal
 
 pub returns-clause-carrier : goal.returns-clause-carrier

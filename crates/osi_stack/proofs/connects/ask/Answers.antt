@@ -1,5 +1,5 @@
 use Rattle.std.proofs.Common.{ap}
-use Rattle.osi_stack.proofs.NewConnection.{end_connects}
+use Rattle.osi_stack.proofs.opening.a_connection_is_requested.{end_connects}
 use Rattle.osi_stack.proofs.connects.ask.Goals as goal
 
 pub returns-in-Ok-connect-clause-ok : goal.returns-in-Ok-connect-clause-ok

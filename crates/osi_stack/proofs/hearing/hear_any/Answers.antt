@@ -1,6 +1,6 @@
 use Rattle.std.proofs.Common.{◌≡◌, ◌∙◌, ap, option_map, rules}
 use Rattle.osi_stack.proofs.Vocabulary.{State as Carrier, in_one, react, told_input}
-use Rattle.osi_stack.proofs.Handing.{answer_heard}
+use Rattle.osi_stack.proofs.called.tsdus_that_are_handed_together.{answer_heard}
 use Rattle.osi_stack.proofs.hearing.hear_any.Goals as goal
 
 pub returns-clause-carrier : goal.returns-clause-carrier

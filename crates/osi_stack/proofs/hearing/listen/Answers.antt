@@ -1,6 +1,6 @@
 use Rattle.std.proofs.Common.{None, sym, ap, ◌∙◌}
 use Rattle.osi_stack.proofs.Vocabulary.{opened, refused, broken, react, told_input, in_one}
-use Rattle.osi_stack.proofs.Sessions.{opened_is_unseen, refused_is_quiet, broken_is_quiet, quiet_takes, takes_if}
+use Rattle.osi_stack.proofs.each_session.what_happens_beside_calls_and_tsdus.{opened_is_unseen, refused_is_quiet, broken_is_quiet, quiet_takes, takes_if}
 use Rattle.std.proofs.Common.{option_map}
 use Rattle.osi_stack.proofs.hearing.listen.Goals as goal
 

@@ -1,4 +1,4 @@
-use Rattle.osi_stack.proofs.Answering.{answered_is}
+use Rattle.osi_stack.proofs.called.the_result_is_that_of_the_table.{answered_is}
 use Rattle.osi_stack.proofs.laws.a_call_is_answered_by_its_session.Goals as goal
 
 pub returns : goal.returns

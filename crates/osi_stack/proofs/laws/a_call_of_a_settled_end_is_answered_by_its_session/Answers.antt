@@ -1,5 +1,5 @@
-use Rattle.osi_stack.proofs.Answering.{Below}
-use Rattle.osi_stack.proofs.Settling.{table_is, over_is}
+use Rattle.osi_stack.proofs.called.the_result_is_that_of_the_table.{Below}
+use Rattle.osi_stack.proofs.sound.the_invariant_between_calls.{table_is, over_is}
 use Rattle.osi_stack.proofs.laws.a_call_of_a_settled_end_is_answered_by_its_session.Goals as goal
 
 pub returns : goal.returns

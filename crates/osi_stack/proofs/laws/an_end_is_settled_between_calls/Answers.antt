@@ -1,11 +1,11 @@
 use Rattle.std.proofs.Common.{◌∷◌, [], refl}
 use Rattle.osi_carrier.specs.Rows.{value_at}
 use Rattle.osi_session.specs.Listening.{broken}
-use Rattle.osi_stack.proofs.DisconnectSettles.{disconnect_settled}
-use Rattle.osi_stack.proofs.Knowing.{ShownFirst, known_at}
-use Rattle.osi_stack.proofs.Linking.{SessionLaws}
-use Rattle.osi_stack.proofs.Settling.{Profiles, fresh_settled, connect_settled, call_settled, feeds_settled, first_settled, carried_settled, breaks_settled, none_at, profiled_at}
-use Rattle.osi_stack.proofs.Tables.{session_laws, unopened}
+use Rattle.osi_stack.proofs.given_up.who_waits_was_still_requested.{disconnect_settled}
+use Rattle.osi_stack.proofs.opening.live_connections_have_addresses.{ShownFirst, known_at}
+use Rattle.osi_stack.proofs.carried.open_connections_stay_open.{SessionLaws}
+use Rattle.osi_stack.proofs.sound.the_invariant_between_calls.{Profiles, fresh_settled, connect_settled, call_settled, feeds_settled, first_settled, carried_settled, breaks_settled, none_at, profiled_at}
+use Rattle.osi_stack.proofs.each_session.what_the_tables_say.{session_laws, unopened}
 use Rattle.osi_stack.proofs.laws.an_end_is_settled_between_calls.Goals as goal
 
 pub returns : goal.returns

@@ -1,5 +1,5 @@
-use Rattle.osi_stack.proofs.DisconnectKeeps.{disconnect_rise}
-use Rattle.osi_stack.proofs.Rising.{rise_connect, rise_session, rise_arrives, rise_first, rise_breaks}
+use Rattle.osi_stack.proofs.given_up.the_invariant_stays.{disconnect_rise}
+use Rattle.osi_stack.proofs.each_line.references_rise.{rise_connect, rise_session, rise_arrives, rise_first, rise_breaks}
 use Rattle.osi_session.specs.Listening.{called}
 use Rattle.osi_stack.proofs.laws.lines_rise_by_reference.Goals as goal
 

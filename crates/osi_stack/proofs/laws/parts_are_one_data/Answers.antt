@@ -1,9 +1,9 @@
 use Rattle.std.proofs.Common.{◌∙◌, ◌++◌, sym, map}
 use Rattle.osi_message.specs.declared.places.Place.TheVariants.{Last}
 use Rattle.osi_stack.proofs.Vocabulary.{DT, part_octets, written, came, after_inputs, act_in_octets, calls_in}
-use Rattle.osi_stack.proofs.Handing.{came_unbounded}
-use Rattle.osi_stack.proofs.Parted.{parts_as_whole}
-use Rattle.osi_stack.proofs.Selecting.{data_selectors}
+use Rattle.osi_stack.proofs.called.tsdus_that_are_handed_together.{came_unbounded}
+use Rattle.osi_stack.proofs.each_session.parts_have_the_effect_of_the_whole.{parts_as_whole}
+use Rattle.osi_stack.proofs.opening.the_selectors_of_what_arrives.{data_selectors}
 use Rattle.osi_stack.proofs.laws.parts_are_one_data.Goals as goal
 
 pub returns : goal.returns

@@ -1,8 +1,8 @@
-use Rattle.osi_carrier.proofs.Lasting.{PacketLaws}
-use Rattle.osi_stack.proofs.Alike.{look_alike}
-use Rattle.osi_stack.proofs.Endings.{pieces_end}
-use Rattle.osi_stack.proofs.Lasting.{pieces_last}
-use Rattle.osi_stack.proofs.Runs.{calls_read, pieces_alike}
+use Rattle.osi_carrier.proofs.stream.all_pieces_last_alike.{PacketLaws}
+use Rattle.osi_stack.proofs.in_step.what_is_seen_is_the_same.{look_alike}
+use Rattle.osi_stack.proofs.stream.how_calls_end_an_end.{pieces_end}
+use Rattle.osi_stack.proofs.stream.all_pieces_last_alike.{pieces_last}
+use Rattle.osi_stack.proofs.stream.an_end_is_what_its_packets_make.{calls_read, pieces_alike}
 use Rattle.osi_stack.proofs.laws.the_pieces_do_not_matter.Goals as goal
 
 pub returns : goal.returns

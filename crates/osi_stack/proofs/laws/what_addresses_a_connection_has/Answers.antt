@@ -1,4 +1,4 @@
-use Rattle.osi_stack.proofs.Addressing.{asked_known, came_known, else_kept, other_kept}
+use Rattle.osi_stack.proofs.opening.the_addresses_of_a_connection.{asked_known, came_known, else_kept, other_kept}
 use Rattle.osi_stack.proofs.laws.what_addresses_a_connection_has.Goals as goal
 
 pub returns : goal.returns

@@ -1,4 +1,4 @@
-use Rattle.osi_stack.proofs.Joinings.{joined_open, joined_few}
+use Rattle.osi_stack.proofs.each_session.what_has_joined_is_open.{joined_open, joined_few}
 use Rattle.osi_stack.proofs.laws.what_is_joined_has_a_connection.Goals as goal
 
 pub returns-clause-opened : goal.returns-clause-opened

@@ -1,4 +1,4 @@
-use Rattle.osi_stack.proofs.Comings.{packet_is_unit, feeds_some, attended_unit}
+use Rattle.osi_stack.proofs.stream.what_was_written_is_read.{packet_is_unit, feeds_some, attended_unit}
 use Rattle.osi_stack.proofs.laws.what_was_written_is_heard.Goals as goal
 
 pub returns : goal.returns

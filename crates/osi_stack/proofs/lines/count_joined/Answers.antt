@@ -1,7 +1,7 @@
 use Rattle.std.proofs.Common.{take, is_some, arith}
 use Rattle.osi_carrier.specs.Rows.{value_at}
-use Rattle.osi_stack.proofs.Keeps.{live_few, one_at_most}
-use Rattle.osi_stack.proofs.Rising.{rise_take}
+use Rattle.osi_stack.proofs.in_step.what_is_joined_is_the_same.{live_few, one_at_most}
+use Rattle.osi_stack.proofs.each_line.references_rise.{rise_take}
 use Rattle.osi_stack.proofs.lines.count_joined.Goals as goal
 
 pub overflow_add-octets : goal.overflow_add-octets

@@ -1,6 +1,6 @@
 use Rattle.std.proofs.Common.{◌≡◌, ◌*◌, ◌≤◌, take}
 use Rattle.osi_stack.specs.State.{joined_in}
-use Rattle.osi_stack.proofs.Keeps.{live_in}
+use Rattle.osi_stack.proofs.in_step.what_is_joined_is_the_same.{live_in}
 use Rattle.osi_stack.proofs.lines.count_joined.Given as goal
 
 abbrev pub invariant-lines : goal.invariant-lines

@@ -1,6 +1,6 @@
 use Rattle.std.proofs.Common.{◌<◌, ℕ, length, arith, sym, ap, ◌∙◌}
 use Rattle.osi_stack.proofs.Vocabulary.{nat_tests, Line, line_waits}
-use Rattle.osi_stack.proofs.Waiting.{only_first}
+use Rattle.osi_stack.proofs.each_line.how_many_lines_wait.{only_first}
 use Rattle.osi_stack.proofs.lines.first_place.Goals as goal
 
 pub returns-then-waits : goal.returns-then-waits

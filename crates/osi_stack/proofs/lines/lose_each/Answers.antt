@@ -1,6 +1,6 @@
 use Rattle.std.proofs.Common.{ℕ, ◌<◌, length, sym, ap, arith, ◌∙◌}
 use Rattle.osi_stack.proofs.Vocabulary.{loses, Line}
-use Rattle.osi_stack.proofs.Losing.{lost_step}
+use Rattle.osi_stack.proofs.carried.sessions_that_are_lost.{lost_step}
 use Rattle.osi_stack.proofs.lines.lose_each.Goals as goal
 
 pub loop-line-preserved : goal.loop-line-preserved

@@ -1,6 +1,6 @@
 use Rattle.std.proofs.Common.{true, false, is_some, refl, sym, ap, ◌∙◌}
 use Rattle.osi_stack.proofs.Vocabulary.{happening, holding}
-use Rattle.osi_stack.proofs.Events.{heard_next, heard_left, heard_left_over, fetched, fetched_not}
+use Rattle.osi_stack.proofs.carried.events_one_after_the_other.{heard_next, heard_left, heard_left_over, fetched, fetched_not}
 use Rattle.osi_stack.proofs.reading.fetch.Goals as goal
 
 pub events-preserved : goal.events-preserved

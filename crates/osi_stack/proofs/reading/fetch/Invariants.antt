@@ -1,6 +1,6 @@
 use Rattle.std.proofs.Common.{length}
 use Rattle.osi_stack.specs.State.{holding}
-use Rattle.osi_stack.proofs.Events.{HasHeard}
+use Rattle.osi_stack.proofs.carried.events_one_after_the_other.{HasHeard}
 use Rattle.osi_stack.proofs.reading.fetch.Given as goal
 
 abbrev pub invariant-events : goal.invariant-events

@@ -1,7 +1,7 @@
 use Rattle.std.proofs.Common.{ℕ, ◌-◌, ◌<◌, List, length, is_some, sym, ap, subst, ◌∙◌}
 use Rattle.osi_stack.proofs.Vocabulary.{eqb-true, Goes, holding}
-use Rattle.osi_stack.proofs.Pieces.{IsRead, read_first, read_waits, read_ended, read_dry, read_on, nonzero}
-use Rattle.osi_stack.proofs.Empties.{idle_goes}
+use Rattle.osi_stack.proofs.stream.a_piece_look_by_look.{IsRead, read_first, read_waits, read_ended, read_dry, read_on, nonzero}
+use Rattle.osi_stack.proofs.stream.an_empty_piece_changes_nothing.{idle_goes}
 use Rattle.osi_stack.proofs.reading.read.Goals as goal
 
 pub returns-then-is_empty-clause-goes : goal.returns-then-is_empty-clause-goes

@@ -1,6 +1,6 @@
 use Rattle.std.proofs.Common.{length}
 use Rattle.osi_stack.specs.State.{holding}
-use Rattle.osi_stack.proofs.Pieces.{IsRead}
+use Rattle.osi_stack.proofs.stream.a_piece_look_by_look.{IsRead}
 use Rattle.osi_stack.proofs.reading.read.Given as goal
 
 abbrev pub invariant-packets : goal.invariant-packets

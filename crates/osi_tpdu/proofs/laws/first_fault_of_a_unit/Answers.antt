@@ -1,4 +1,4 @@
-use Rattle.osi_tpdu.proofs.UnitFaults.{unit_fault_found, unit_fault_only, unit_clean, clean_unit}
+use Rattle.osi_tpdu.proofs.the_first_fault_of_a_unit.{unit_fault_found, unit_fault_only, unit_clean, clean_unit}
 use Rattle.osi_tpdu.proofs.laws.first_fault_of_a_unit.Goals as goal
 
 pub returns-clause-fault : goal.returns-clause-fault

@@ -1,4 +1,4 @@
-use Rattle.osi_tpdu.proofs.UnitLaws.{unit_found, unit_only}
+use Rattle.osi_tpdu.proofs.one_unit_is_read.{unit_found, unit_only}
 use Rattle.osi_tpdu.proofs.laws.one_unit.Goals as goal
 
 pub returns-clause-found : goal.returns-clause-found

@@ -1,4 +1,4 @@
-use Rattle.osi_tpdu.proofs.PacketLaws.{units_found, units_only, one_list, units_fit, fault_found, fault_only}
+use Rattle.osi_tpdu.proofs.the_units_of_a_packet.{units_found, units_only, one_list, units_fit, fault_found, fault_only}
 use Rattle.osi_tpdu.proofs.laws.whole_packet.Goals as goal
 
 pub returns-clause-found : goal.returns-clause-found

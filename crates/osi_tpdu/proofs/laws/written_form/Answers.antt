@@ -1,6 +1,6 @@
-use Rattle.osi_tpdu.proofs.WrittenLaws.{written_spells, spelled_fits, few_fit}
+use Rattle.osi_tpdu.proofs.the_written_form_spells_its_value.{written_spells, spelled_fits, few_fit}
 use Rattle.osi_tpdu.specs.Writing.{written}
-use Rattle.osi_tpdu.proofs.PacketLaws.{behind_read}
+use Rattle.osi_tpdu.proofs.the_units_of_a_packet.{behind_read}
 use Rattle.osi_tpdu.proofs.laws.written_form.Goals as goal
 
 pub returns-clause-spells : goal.returns-clause-spells

@@ -1,6 +1,6 @@
 use Rattle.std.proofs.Common.{◌+◌, ◌<◌, ◌^◌, length}
 use Rattle.osi_tpdu.specs.Reading.{all_skipped_at}
-use Rattle.osi_tpdu.proofs.Loops.{Skips}
+use Rattle.osi_tpdu.proofs.what_is_left_gives_the_rest.{Skips}
 use Rattle.osi_tpdu.proofs.parameters.skip_parameters.Given as goal
 
 abbrev pub invariant-parameters : goal.invariant-parameters

@@ -1,4 +1,4 @@
-use Rattle.osi_tpdu.proofs.WrittenUnits.{unit_spelled, unit_read}
+use Rattle.osi_tpdu.proofs.what_is_written_reads_back.{unit_spelled, unit_read}
 use Rattle.osi_tpdu.proofs.writing.write.Goals as goal
 
 pub returns-in-Cr-clause-spelled : goal.returns-in-Cr-clause-spelled

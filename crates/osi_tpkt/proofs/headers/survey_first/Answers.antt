@@ -1,6 +1,6 @@
 use Rattle.std.specs.Prelude.{[]}
 use Rattle.std.proofs.Common.{arith}
-use Rattle.osi_tpkt.proofs.Fronts.{part_front, part_whole, empty_front}
+use Rattle.osi_tpkt.proofs.a_prefix_of_a_packet.{part_front, part_whole, empty_front}
 use Rattle.osi_tpkt.proofs.headers.survey_first.Goals as goal
 
 pub returns-in-3-clause-front : goal.returns-in-3-clause-front

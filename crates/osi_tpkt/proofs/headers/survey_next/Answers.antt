@@ -1,6 +1,6 @@
 use Rattle.std.proofs.Common.{◌≡◌, ◌+◌, ◌*◌, ◌++◌, arith}
 use Rattle.osi_tpkt.specs.Packet.{stated_length}
-use Rattle.osi_tpkt.proofs.Fronts.{part_front, part_whole, version_of}
+use Rattle.osi_tpkt.proofs.a_prefix_of_a_packet.{part_front, part_whole, version_of}
 use Rattle.osi_tpkt.proofs.headers.survey_next.Goals as goal
 
 pub returns-clause-front : goal.returns-clause-front

@@ -1,4 +1,4 @@
-use Rattle.osi_tpkt.proofs.Runs.{any_run, any_run_on, runs_joined}
+use Rattle.osi_tpkt.proofs.the_packets_are_those_of_the_stream.{any_run, any_run_on, runs_joined}
 use Rattle.osi_tpkt.proofs.laws.the_pieces_do_not_matter.Goals as goal
 
 pub returns : goal.returns

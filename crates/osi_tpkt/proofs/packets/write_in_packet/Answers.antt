@@ -1,7 +1,7 @@
 use Rattle.std.proofs.Common.{◌≡◌, ◌++◌, subst, arith}
 use Rattle.std.proofs.lemmas.Grind.{common_steps}
 use Rattle.osi_tpkt.proofs.Vocabulary.{IsOctets, packet_of}
-use Rattle.osi_tpkt.proofs.Fronts.{packet_behind}
+use Rattle.osi_tpkt.proofs.a_prefix_of_a_packet.{packet_behind}
 use Rattle.osi_tpkt.proofs.packets.write_in_packet.Goals as goal
 
 pub returns-clause-packet : goal.returns-clause-packet

@@ -1,7 +1,7 @@
 use Rattle.std.proofs.Common.{ℕ, ◌-◌, List, length, is_some, ap, sym, subst, ◌∙◌, inl, inr, arith}
 use Rattle.osi_carrier.specs.declared.carrier.feeding.Fetched.{Fetched}
 use Rattle.osi_carrier.proofs.Vocabulary.{eqb-false, Fetches, Carrying, IsReading, Goes, stops, waits, is_spoilt}
-use Rattle.osi_carrier.proofs.Reading.{IsRead, read_first, read_next, read_stops, read_spoilt, read_part, read_over, fed_goes}
+use Rattle.osi_carrier.proofs.stream.a_piece_is_read_packet_by_packet.{IsRead, read_first, read_next, read_stops, read_spoilt, read_part, read_over, fed_goes}
 use Rattle.osi_carrier.proofs.carrier.Carrier.feed.Goals as goal
 
 pub packets-init : goal.packets-init

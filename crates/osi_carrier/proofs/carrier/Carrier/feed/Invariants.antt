@@ -1,5 +1,5 @@
 use Rattle.std.proofs.Common.{length}
-use Rattle.osi_carrier.proofs.Reading.{IsRead}
+use Rattle.osi_carrier.proofs.stream.a_piece_is_read_packet_by_packet.{IsRead}
 use Rattle.osi_carrier.proofs.carrier.Carrier.feed.Given as goal
 
 abbrev pub invariant-packets : goal.invariant-packets

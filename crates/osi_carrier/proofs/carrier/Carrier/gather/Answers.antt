@@ -1,7 +1,7 @@
 use Rattle.std.proofs.Common.{◌≡◌, [], subst, sym, ap}
 use Rattle.osi_carrier.specs.contracts.carrier.Carrier.{the_view}
 use Rattle.osi_carrier.proofs.Vocabulary.{Held, EndsOver, PacketActs, IsNoFront, Carrying}
-use Rattle.osi_carrier.proofs.Fetched.{ended_over, fetched_packet, same_fault}
+use Rattle.osi_carrier.proofs.stream.what_the_cutter_returns.{ended_over, fetched_packet, same_fault}
 use Rattle.osi_carrier.proofs.carrier.Carrier.gather.Goals as goal
 
 pub returns-in-Err : goal.returns-in-Err

@@ -1,6 +1,6 @@
 use Rattle.std.proofs.Common.{length, ap, arith}
 use Rattle.osi_carrier.specs.Packets.{Carrying}
-use Rattle.osi_carrier.proofs.Kept.{partial_short}
+use Rattle.osi_carrier.proofs.stream.what_is_kept_of_the_input.{partial_short}
 use Rattle.osi_carrier.proofs.carrier.Carrier.kept.Goals as goal
 
 pub overflow_add-result : goal.overflow_add-result

@@ -1,5 +1,5 @@
 use Rattle.std.proofs.Common.{ap, ◌∙◌, is_some}
-use Rattle.osi_carrier.proofs.Places.{live_is}
+use Rattle.osi_carrier.proofs.references.the_row_at_a_place.{live_is}
 use Rattle.osi_carrier.proofs.rows.Connections.is_live.Goals as goal
 
 pub returns : goal.returns

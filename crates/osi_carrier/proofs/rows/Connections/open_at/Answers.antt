@@ -1,6 +1,6 @@
 use Rattle.std.proofs.Common.{◌≡◌, None, ap, sym, ◌∙◌}
 use Rattle.osi_carrier.proofs.Vocabulary.{link_of, place_of}
-use Rattle.osi_carrier.proofs.Places.{nowhere}
+use Rattle.osi_carrier.proofs.references.the_row_at_a_place.{nowhere}
 use Rattle.osi_carrier.proofs.rows.Connections.open_at.Goals as goal
 
 pub returns-in_default-clause-none : goal.returns-in_default-clause-none

@@ -1,6 +1,6 @@
 use Rattle.std.proofs.Common.{ℕ, Some, ap, sym, ◌∙◌}
 use Rattle.osi_carrier.proofs.Vocabulary.{Connection}
-use Rattle.osi_carrier.proofs.Places.{here_is}
+use Rattle.osi_carrier.proofs.references.the_row_at_a_place.{here_is}
 use Rattle.osi_carrier.proofs.rows.Connections.phase.Goals as goal
 
 pub returns : goal.returns

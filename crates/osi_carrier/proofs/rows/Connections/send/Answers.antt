@@ -2,8 +2,8 @@ use Rattle.std.proofs.Common.{◌≡◌, ℕ, List, ◌++◌, get_or, Some, Resu
 use Rattle.osi_class.specs.declared.either.AnyLink.{AnyLink}
 use Rattle.osi_carrier.specs.declared.rows.Phase.TheVariants.{Linked}
 use Rattle.osi_carrier.proofs.Vocabulary.{cow_slice_items, any_standing, Standing, next, with_tsdu, WaitsAlone, connection, IsPumped, pumped, written_by, Rows, value_at, place_of, peer_in, link_in, Connection, linked, packets, Phase}
-use Rattle.osi_carrier.proofs.Order.{set_kept}
-use Rattle.osi_carrier.proofs.Places.{here_is, put_row}
+use Rattle.osi_carrier.proofs.references.rows_in_order.{set_kept}
+use Rattle.osi_carrier.proofs.references.the_row_at_a_place.{here_is, put_row}
 use Rattle.osi_carrier.proofs.rows.Connections.send.Goals as goal
 
 -- the phase of an open connection

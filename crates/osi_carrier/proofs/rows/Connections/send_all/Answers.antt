@@ -1,7 +1,7 @@
 use Rattle.std.proofs.Common.{◌≡◌, ◌++◌, Option, OnOk, map, ap, sym, subst, ◌∙◌}
 use Rattle.osi_carrier.proofs.Vocabulary.{cow_slice_items, one_by_one, WaitTogether, written_for, value_at, peer_in, link_in, Connection, linked, packets}
-use Rattle.osi_carrier.proofs.Places.{here_is, stepped_rows}
-use Rattle.osi_carrier.proofs.Order.{set_kept}
+use Rattle.osi_carrier.proofs.references.the_row_at_a_place.{here_is, stepped_rows}
+use Rattle.osi_carrier.proofs.references.rows_in_order.{set_kept}
 use Rattle.osi_carrier.proofs.rows.Connections.send_all.Goals as goal
 
 pub send_all-requires : goal.send_all-requires

@@ -1,7 +1,7 @@
 use Rattle.std.proofs.Common.{◌≡◌, ◌++◌, Option, OnOk, ap, sym, subst, ◌∙◌}
 use Rattle.osi_carrier.proofs.Vocabulary.{with_tsdu, pumped, written_by, value_at, peer_in, link_in, Connection, linked, packets}
-use Rattle.osi_carrier.proofs.Places.{here_is, stepped_rows}
-use Rattle.osi_carrier.proofs.Order.{set_kept}
+use Rattle.osi_carrier.proofs.references.the_row_at_a_place.{here_is, stepped_rows}
+use Rattle.osi_carrier.proofs.references.rows_in_order.{set_kept}
 use Rattle.osi_carrier.proofs.rows.Connections.send_headed.Goals as goal
 
 pub send_headed-requires-clause-open : goal.send_headed-requires-clause-open

@@ -1,7 +1,7 @@
 use Rattle.std.proofs.Common.{ℕ, ap}
 use Rattle.osi_carrier.proofs.Vocabulary.{connection, Connection}
-use Rattle.osi_carrier.proofs.Places.{put_row}
-use Rattle.osi_carrier.proofs.Order.{set_kept}
+use Rattle.osi_carrier.proofs.references.the_row_at_a_place.{put_row}
+use Rattle.osi_carrier.proofs.references.rows_in_order.{set_kept}
 use Rattle.osi_carrier.proofs.rows.Connections.set.Goals as goal
 
 pub returns : goal.returns

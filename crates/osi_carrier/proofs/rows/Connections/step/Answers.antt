@@ -1,7 +1,7 @@
 use Rattle.std.proofs.Common.{◌≡◌, ◌++◌, true, Option, IfOk, OnOk, OnErr, ap, sym, subst, ◌∙◌}
 use Rattle.osi_carrier.proofs.Vocabulary.{value, taken, peer_in, link_in, Connection, linked, packets, StepsTo, link_after, link_grows, units_after, value_at}
-use Rattle.osi_carrier.proofs.Places.{here_is, stepped_rows}
-use Rattle.osi_carrier.proofs.Order.{set_kept}
+use Rattle.osi_carrier.proofs.references.the_row_at_a_place.{here_is, stepped_rows}
+use Rattle.osi_carrier.proofs.references.rows_in_order.{set_kept}
 use Rattle.osi_carrier.proofs.rows.Connections.step.Goals as goal
 
 pub step-requires : goal.step-requires

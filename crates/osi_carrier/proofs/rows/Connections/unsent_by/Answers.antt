@@ -1,6 +1,6 @@
 use Rattle.std.proofs.Common.{ap, sym, ◌∙◌}
 use Rattle.osi_carrier.specs.Calls.{unsent_at}
-use Rattle.osi_carrier.proofs.Places.{here_is}
+use Rattle.osi_carrier.proofs.references.the_row_at_a_place.{here_is}
 use Rattle.osi_carrier.proofs.rows.Connections.unsent_by.Goals as goal
 
 pub returns : goal.returns

@@ -1,6 +1,6 @@
 use Rattle.std.proofs.Common.{◌≡◌, ℕ, true, Some, option_map, ap, sym, subst, ◌∙◌}
 use Rattle.osi_carrier.proofs.Vocabulary.{value, any_standing, Standing, needs_memory, taken, connection, link_in, Connection, link_grows, Phase}
-use Rattle.osi_carrier.proofs.Growing.{taken_grows, pump_grows, want_taken}
+use Rattle.osi_carrier.proofs.written.what_needs_memory_does_something.{taken_grows, pump_grows, want_taken}
 use Rattle.osi_carrier.proofs.rows.Row.step.Goals as goal
 
 pub returns-in-Err-OutOfMemory-clause-needs : goal.returns-in-Err-OutOfMemory-clause-needs

@@ -1,5 +1,5 @@
 use Rattle.std.proofs.Common.{Some, ap, sym, ◌∙◌}
-use Rattle.osi_carrier.proofs.Places.{here_is}
+use Rattle.osi_carrier.proofs.references.the_row_at_a_place.{here_is}
 use Rattle.osi_carrier.proofs.selectors.Names.at.Goals as goal
 
 pub returns : goal.returns

@@ -1,7 +1,7 @@
 use Rattle.std.proofs.Common.{option_map}
 use Rattle.osi_tpdu.specs.Limits.{size_code}
 use Rattle.osi_tpdu.specs.View.{request_content}
-use Rattle.osi_carrier.proofs.Growing.{accepts_grows, on_want}
+use Rattle.osi_carrier.proofs.written.what_needs_memory_does_something.{accepts_grows, on_want}
 use Rattle.osi_carrier.proofs.switch.Switch.accept.Goals as goal
 
 pub returns-in_err-reserve-clause-needs : goal.returns-in_err-reserve-clause-needs

@@ -1,6 +1,6 @@
 use Rattle.std.proofs.Common.{◌<◌, length, sym, ap, ◌∙◌, arith}
 use Rattle.osi_carrier.proofs.Vocabulary.{request_content, selection, selected_by, has_peer, is_full, State, the_view}
-use Rattle.osi_carrier.proofs.Selecting.{has_room, is_answered}
+use Rattle.osi_carrier.proofs.references.which_rule_applies_to_a_cr.{has_room, is_answered}
 use Rattle.osi_carrier.proofs.switch.Switch.answer_request.Goals as goal
 
 pub returns-clause-ok : goal.returns-clause-ok

@@ -1,4 +1,4 @@
-use Rattle.osi_carrier.proofs.Growing.{denies_grows, on_want}
+use Rattle.osi_carrier.proofs.written.what_needs_memory_does_something.{denies_grows, on_want}
 use Rattle.osi_carrier.proofs.switch.Switch.deny.Goals as goal
 
 pub returns-clause-needs : goal.returns-clause-needs

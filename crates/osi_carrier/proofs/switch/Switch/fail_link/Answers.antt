@@ -2,8 +2,8 @@ use Rattle.std.proofs.Common.{◌≡◌, ◌++◌, ◌∷◌, [], Some, true, ma
 use Rattle.std.proofs.Common.{rules}
 use Rattle.osi_carrier.specs.declared.events.Event.TheVariants.{Faulted}
 use Rattle.osi_carrier.proofs.Vocabulary.{Two, disconnect, grows, happening, faulted, breaks, put, State, closing, packets, the_view}
-use Rattle.osi_carrier.proofs.Breaking.{changed, told, breaks_two}
-use Rattle.osi_carrier.proofs.Growing.{breaks_grows, on_want}
+use Rattle.osi_carrier.proofs.effects.a_refused_unit_changes_nothing.{changed, told, breaks_two}
+use Rattle.osi_carrier.proofs.written.what_needs_memory_does_something.{breaks_grows, on_want}
 use Rattle.osi_carrier.proofs.switch.Switch.fail_link.Goals as goal
 
 pub returns-in_ok-put_disconnect-in-Some-Two-clause-ok : goal.returns-in_ok-put_disconnect-in-Some-Two-clause-ok

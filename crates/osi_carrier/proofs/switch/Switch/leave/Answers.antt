@@ -1,4 +1,4 @@
-use Rattle.osi_carrier.proofs.Growing.{leaves_grows, on_want}
+use Rattle.osi_carrier.proofs.written.what_needs_memory_does_something.{leaves_grows, on_want}
 use Rattle.osi_carrier.proofs.switch.Switch.leave.Goals as goal
 
 pub returns-in_err-reserve-clause-needs : goal.returns-in_err-reserve-clause-needs

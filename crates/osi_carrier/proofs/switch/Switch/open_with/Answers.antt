@@ -1,5 +1,5 @@
 use Rattle.osi_tpdu.specs.View.{confirm_content}
-use Rattle.osi_carrier.proofs.Growing.{opens_grows, on_want}
+use Rattle.osi_carrier.proofs.written.what_needs_memory_does_something.{opens_grows, on_want}
 use Rattle.osi_carrier.proofs.switch.Switch.open_with.Goals as goal
 
 pub returns-in_err-reserve-clause-needs : goal.returns-in_err-reserve-clause-needs

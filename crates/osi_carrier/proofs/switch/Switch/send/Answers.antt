@@ -1,6 +1,6 @@
 use Rattle.std.proofs.Common.{ap, sym, ◌∙◌}
 use Rattle.osi_carrier.proofs.Vocabulary.{cow_slice_items, link_of, send_error, value_at, State}
-use Rattle.osi_carrier.proofs.Opened.{not_open}
+use Rattle.osi_carrier.proofs.references.what_is_open.{not_open}
 use Rattle.osi_carrier.proofs.switch.Switch.send.Goals as goal
 
 pub returns-in_default-clause-refused : goal.returns-in_default-clause-refused

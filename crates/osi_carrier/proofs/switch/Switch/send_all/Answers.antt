@@ -1,8 +1,8 @@
 use Rattle.std.proofs.Common.{◌≡◌, OnOk, map, ap, sym, subst, ◌∙◌}
 use Rattle.osi_carrier.proofs.Vocabulary.{cow_slice_items, link_of, send_all_error, value_at, peer_in, State}
-use Rattle.osi_carrier.proofs.Opened.{not_open}
-use Rattle.osi_carrier.proofs.Reacts.{none_of}
-use Rattle.osi_carrier.proofs.SentAll.{sent_open}
+use Rattle.osi_carrier.proofs.references.what_is_open.{not_open}
+use Rattle.osi_carrier.proofs.effects.units_one_after_the_other.{none_of}
+use Rattle.osi_carrier.proofs.written.tsdus_that_are_sent_together.{sent_open}
 use Rattle.osi_carrier.proofs.switch.Switch.send_all.Goals as goal
 
 pub returns-in_default-clause-refused : goal.returns-in_default-clause-refused

@@ -1,6 +1,6 @@
 use Rattle.std.proofs.Common.{true, false, length, map, ap, sym, ◌∙◌}
 use Rattle.osi_carrier.proofs.Vocabulary.{eqb-true, cow_slice_items, lengths_error}
-use Rattle.osi_carrier.proofs.SentAll.{error_of_items, sends_none, no_items}
+use Rattle.osi_carrier.proofs.written.tsdus_that_are_sent_together.{error_of_items, sends_none, no_items}
 use Rattle.osi_carrier.proofs.switch.Switch.send_all_open.Goals as goal
 
 pub returns-then-is_empty-clause-ok : goal.returns-then-is_empty-clause-ok

@@ -1,6 +1,6 @@
 use Rattle.std.proofs.Common.{◌≡◌, true, ap, sym, subst, ◌∙◌}
 use Rattle.osi_carrier.proofs.Vocabulary.{value, grows, value_at, peer_in, State}
-use Rattle.osi_carrier.proofs.Reacts.{one_starved, one_taken}
+use Rattle.osi_carrier.proofs.effects.units_one_after_the_other.{one_starved, one_taken}
 use Rattle.osi_carrier.proofs.switch.Switch.take_open.Goals as goal
 
 pub returns-in_default-take-clause-acts : goal.returns-in_default-take-clause-acts

@@ -1,6 +1,6 @@
 use Rattle.std.proofs.Common.{◌≡◌, true, Option, OnOk, OnErr, ap, sym, subst, ◌∙◌}
 use Rattle.osi_carrier.proofs.Vocabulary.{value, grows, to_connection, value_at, Connection, State}
-use Rattle.osi_carrier.proofs.Places.{nowhere}
+use Rattle.osi_carrier.proofs.references.the_row_at_a_place.{nowhere}
 use Rattle.osi_carrier.proofs.switch.Switch.to_reference.Goals as goal
 
 pub returns-in_default-clause-ok : goal.returns-in_default-clause-ok

@@ -1,6 +1,6 @@
 use Rattle.std.proofs.Common.{◌≡◌, true, sym, ap, subst}
 use Rattle.osi_carrier.proofs.Vocabulary.{Value, value, grows, to_unknown}
-use Rattle.osi_carrier.proofs.Growing.{unknown_grows, on_want}
+use Rattle.osi_carrier.proofs.written.what_needs_memory_does_something.{unknown_grows, on_want}
 use Rattle.osi_carrier.proofs.switch.Switch.to_unknown.Goals as goal
 
 pub returns-in_err-put_disconnected-in-Dr-clause-needs : goal.returns-in_err-put_disconnected-in-Dr-clause-needs

@@ -1,7 +1,7 @@
 use Rattle.std.proofs.Common.{ℕ, length, map, sym, subst, ◌∙◌, refl}
 use Rattle.osi_class.specs.declared.units.Slot.TheVariants.{Data2}
 use Rattle.osi_class.proofs.Vocabulary.{min, Ends, Flow, Sender, after_sent, GivesSlot, joining, Two, two_standing}
-use Rattle.osi_class.proofs.PartLaws.{part_of_class_2}
+use Rattle.osi_class.proofs.giving.a_part_that_is_given_at_once.{part_of_class_2}
 use Rattle.osi_class.proofs.class_two.Class2Link.give_slot.Goals as goal
 
 pub returns-clause-given : goal.returns-clause-given

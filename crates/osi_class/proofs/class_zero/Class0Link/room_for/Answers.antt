@@ -1,6 +1,6 @@
 use Rattle.std.proofs.Common.{◌≡◌, ℕ, ◌∙◌, sym, ap, arith, ◌<◌, length}
 use Rattle.osi_class.proofs.Vocabulary.{Ends, parts_needed}
-use Rattle.osi_class.proofs.RoomLaws.{room_of_class_0}
+use Rattle.osi_class.proofs.giving.the_units_of_one_tsdu.{room_of_class_0}
 use Rattle.osi_class.proofs.class_zero.Class0Link.room_for.Goals as goal
 
 pub returns-clause-units : goal.returns-clause-units

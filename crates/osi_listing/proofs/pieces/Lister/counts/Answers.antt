@@ -1,4 +1,4 @@
-use Rattle.osi_listing.proofs.Standing.{stands_so_far}
+use Rattle.osi_listing.proofs.what_is_written_is_the_listing.{stands_so_far}
 use Rattle.osi_listing.proofs.pieces.Lister.counts.Goals as goal
 
 pub returns-clause-listed : goal.returns-clause-listed

@@ -1,4 +1,4 @@
-use Rattle.osi_listing.proofs.Standing.{finish_going, finish_faulty}
+use Rattle.osi_listing.proofs.what_is_written_is_the_listing.{finish_going, finish_faulty}
 use Rattle.osi_listing.proofs.pieces.Lister.finish.Goals as goal
 
 pub returns-in_ok-push_rest-in-Going-clause-listing : goal.returns-in_ok-push_rest-in-Going-clause-listing

@@ -1,4 +1,4 @@
-use Rattle.osi_listing.proofs.Standing.{on_none, on_fault}
+use Rattle.osi_listing.proofs.what_is_written_is_the_listing.{on_none, on_fault}
 use Rattle.osi_listing.proofs.pieces.Lister.list_on.Goals as goal
 
 pub returns-in-None-clause-listed : goal.returns-in-None-clause-listed

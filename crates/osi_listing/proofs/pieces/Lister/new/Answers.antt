@@ -1,5 +1,5 @@
 use Rattle.std.proofs.Common.{refl, lit<}
-use Rattle.osi_listing.proofs.Standing.{nothing_fed}
+use Rattle.osi_listing.proofs.what_is_written_is_the_listing.{nothing_fed}
 use Rattle.osi_listing.proofs.pieces.Lister.new.Goals as goal
 
 pub returns-clause-fed : goal.returns-clause-fed

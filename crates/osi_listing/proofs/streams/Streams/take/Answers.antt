@@ -2,7 +2,7 @@ use Rattle.std.proofs.Common.{◌≡◌, ◌++◌, ◌==◌, ℕ, List, [], ◌�
 use Rattle.osi_listing.specs.Joins.{join_value, join_at}
 use Rattle.osi_listing.specs.Says.{AreJoins}
 use Rattle.osi_listing.specs.Streams.{Part, joined}
-use Rattle.osi_listing.proofs.Joining.{then_ok, took_zero, took_two}
+use Rattle.osi_listing.proofs.streams_after_one_more_unit.{then_ok, took_zero, took_two}
 use Rattle.osi_listing.proofs.streams.Streams.take.Goals as goal
 
 pub returns-in-Dt0-clause-holds : goal.returns-in-Dt0-clause-holds

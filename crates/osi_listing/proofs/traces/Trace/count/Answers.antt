@@ -1,6 +1,6 @@
 use Rattle.std.proofs.Common.{◌++◌, inl, inr}
 use Rattle.osi_listing.specs.Traced.{unfetched}
-use Rattle.osi_listing.proofs.Tracing.{stops_counters, stops_for_streams, counted_on}
+use Rattle.osi_listing.proofs.a_trace_is_a_prefix_of_the_listing.{stops_counters, stops_for_streams, counted_on}
 use Rattle.osi_listing.proofs.traces.Trace.count.Goals as goal
 
 pub returns-in-Err-clause-traced : goal.returns-in-Err-clause-traced

@@ -1,7 +1,7 @@
 use Rattle.std.proofs.Common.{◌++◌, inl, inr}
 use Rattle.std.specs.Prelude.{vec_capacity}
 use Rattle.osi_listing.specs.Traced.{unfetched}
-use Rattle.osi_listing.proofs.Tracing.{stops_lines, stops_for, kept}
+use Rattle.osi_listing.proofs.a_trace_is_a_prefix_of_the_listing.{stops_lines, stops_for, kept}
 use Rattle.osi_listing.proofs.traces.Trace.list.Goals as goal
 
 pub returns-in-Err-clause-traced : goal.returns-in-Err-clause-traced

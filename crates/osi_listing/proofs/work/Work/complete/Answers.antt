@@ -2,7 +2,7 @@ use Rattle.std.proofs.Common.{◌≡◌, ◌++◌, List, ℕ, take, drop, refl, 
 use Rattle.osi_tpkt.specs.Packet.{IsOnePacket}
 use Rattle.osi_listing.specs.Fed.{Moves}
 use Rattle.osi_listing.specs.declared.work.Work.{Work}
-use Rattle.osi_listing.proofs.Packets.{held_whole, joined_again, fault_left, moves_none, moves_both}
+use Rattle.osi_listing.proofs.what_one_more_packet_adds.{held_whole, joined_again, fault_left, moves_none, moves_both}
 use Rattle.osi_listing.proofs.work.Work.complete.Goals as goal
 
 pub returns-in_ok-list_held-in-Ok-clause-completes : goal.returns-in_ok-list_held-in-Ok-clause-completes

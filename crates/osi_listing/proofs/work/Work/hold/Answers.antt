@@ -1,7 +1,7 @@
 use Rattle.std.proofs.Common.{◌++◌, ℕ, List, sym, subst}
 use Rattle.osi_tpkt.specs.Packet.{IsPartial, IsFaultOf}
-use Rattle.osi_tpkt.proofs.Fronts.{empty_partial}
-use Rattle.osi_listing.proofs.Packets.{held_rest, fault_left}
+use Rattle.osi_tpkt.proofs.a_prefix_of_a_packet.{empty_partial}
+use Rattle.osi_listing.proofs.what_one_more_packet_adds.{held_rest, fault_left}
 use Rattle.osi_listing.proofs.work.Work.hold.Goals as goal
 
 pub returns-in-Ok-clause-leaves : goal.returns-in-Ok-clause-leaves

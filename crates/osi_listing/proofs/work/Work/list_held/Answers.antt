@@ -1,5 +1,5 @@
 use Rattle.std.proofs.Common.{◌++◌, refl}
-use Rattle.osi_listing.proofs.Packets.{moves_packet}
+use Rattle.osi_listing.proofs.what_one_more_packet_adds.{moves_packet}
 use Rattle.osi_listing.proofs.work.Work.list_held.Goals as goal
 
 pub returns-clause-moves : goal.returns-clause-moves

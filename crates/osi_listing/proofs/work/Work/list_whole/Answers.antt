@@ -1,6 +1,6 @@
 use Rattle.std.proofs.Common.{◌+◌, length, take, refl, ap, ◌∙◌}
 use Rattle.osi_listing.specs.declared.work.Work.{Work}
-use Rattle.osi_listing.proofs.Packets.{moves_both, moves_packet, parted_at}
+use Rattle.osi_listing.proofs.what_one_more_packet_adds.{moves_both, moves_packet, parted_at}
 use Rattle.osi_listing.proofs.work.Work.list_whole.Goals as goal
 
 pub packets-preserved : goal.packets-preserved

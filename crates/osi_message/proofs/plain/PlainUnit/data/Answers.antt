@@ -1,7 +1,7 @@
 use Rattle.std.proofs.Common.{◌≡◌, arith}
 use Rattle.std.proofs.lemmas.Grind.{common_steps}
 use Rattle.osi_message.specs.Plain.{data_octets}
-use Rattle.osi_message.proofs.PlainLaws.{data_parts, data_said}
+use Rattle.osi_message.proofs.units_of_the_fast_path.{data_parts, data_said}
 use Rattle.osi_message.proofs.plain.PlainUnit.data.Goals as goal
 
 pub returns-clause-said : goal.returns-clause-said

@@ -1,4 +1,4 @@
-use Rattle.osi_message.proofs.PlainLaws.{said_plain}
+use Rattle.osi_message.proofs.units_of_the_fast_path.{said_plain}
 use Rattle.osi_message.proofs.plain.PlainUnit.read.Goals as goal
 
 pub returns-clause-said : goal.returns-clause-said

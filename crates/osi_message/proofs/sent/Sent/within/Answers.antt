@@ -1,5 +1,5 @@
 use Rattle.osi_spdu.specs.Sizes.{size_of}
-use Rattle.osi_message.proofs.SentLaws.{message_alone}
+use Rattle.osi_message.proofs.the_tsdus_of_a_message.{message_alone}
 use Rattle.osi_message.proofs.sent.Sent.within.Goals as goal
 
 pub returns-in_default : goal.returns-in_default

@@ -1,6 +1,6 @@
 use Rattle.std.proofs.Common.{◌∙◌, sym}
 use Rattle.osi_session.proofs.Vocabulary.{option_and_then, unit_in}
-use Rattle.osi_session.proofs.PointLaws.{advance_leaves, advance_sound}
+use Rattle.osi_session.proofs.tables.points_that_are_expected.{advance_leaves, advance_sound}
 use Rattle.osi_session.proofs.sessions.Session.advance.Goals as goal
 
 pub invariant_of-self : goal.invariant_of-self

@@ -1,7 +1,7 @@
 use Rattle.std.proofs.Common.{◌∙◌}
 use Rattle.osi_session.proofs.Vocabulary.{DT, Data}
 use Rattle.osi_spdu.specs.Sizes.{size_of}
-use Rattle.osi_session.proofs.Accepted.{accepts, rests_by}
+use Rattle.osi_session.proofs.tables.what_an_accepted_call_does.{accepts, rests_by}
 use Rattle.osi_session.proofs.sessions.Session.call_bounded_data.Goals as goal
 
 pub returns-in-Ok : goal.returns-in-Ok

@@ -1,6 +1,6 @@
 use Rattle.std.proofs.Common.{◌≡◌, ◌∙◌, Ok, rules, arith}
 use Rattle.osi_session.proofs.Vocabulary.{DT, words_sent, allowed, Data, limit_of}
-use Rattle.osi_session.proofs.Accepted.{accepts, rests_by}
+use Rattle.osi_session.proofs.tables.what_an_accepted_call_does.{accepts, rests_by}
 use Rattle.osi_session.proofs.sessions.Session.call_data.Goals as goal
 
 pub returns-in-Ok : goal.returns-in-Ok

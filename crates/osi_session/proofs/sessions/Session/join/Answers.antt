@@ -1,5 +1,5 @@
 use Rattle.osi_session.proofs.Vocabulary.{option_and_then, unit_in}
-use Rattle.osi_session.proofs.SessionMoves.{part_joins, part_refused}
+use Rattle.osi_session.proofs.moves.the_moves_in_memory.{part_joins, part_refused}
 use Rattle.osi_session.proofs.sessions.Session.join.Goals as goal
 
 pub returns-in-Ok : goal.returns-in-Ok

@@ -1,10 +1,10 @@
 use Rattle.std.proofs.Common.{◌∙◌, ℕ, ap, sym, refl}
 use Rattle.osi_session.proofs.Vocabulary.{Listener, tsdus_of, tsdus_sent, called_by, step_of}
 use Rattle.osi_spdu.specs.Sizes.{size_of}
-use Rattle.osi_session.proofs.CallLaws.{sent_short}
-use Rattle.osi_session.proofs.MoveLaws.{plan_of}
-use Rattle.osi_session.proofs.SessionLaws.{request_small, request_sound, request_begun}
-use Rattle.osi_session.proofs.Accepted.{accepts}
+use Rattle.osi_session.proofs.tables.what_the_table_of_calls_answers.{sent_short}
+use Rattle.osi_session.proofs.moves.the_move_of_each_input.{plan_of}
+use Rattle.osi_session.proofs.runs.the_invariant_in_memory.{request_small, request_sound, request_begun}
+use Rattle.osi_session.proofs.tables.what_an_accepted_call_does.{accepts}
 use Rattle.osi_session.proofs.sessions.Session.plan.Goals as goal
 
 -- what an accepted call sends is short

@@ -1,7 +1,7 @@
 use Rattle.osi_session.specs.declared.plans.SentPoint.TheVariants as point
 use Rattle.osi_session.proofs.Vocabulary.{eq-eqb, point_sent, option_and_then, MIP, words_sent, user_data_of, Step, Call, Minor, unit_in}
-use Rattle.osi_session.proofs.CallLaws.{sent_short}
-use Rattle.osi_session.proofs.PointLaws.{point_passes, point_planned}
+use Rattle.osi_session.proofs.tables.what_the_table_of_calls_answers.{sent_short}
+use Rattle.osi_session.proofs.tables.points_that_are_expected.{point_passes, point_planned}
 use Rattle.osi_session.proofs.sessions.Session.plan_minor.Goals as goal
 
 pub minor_point-requires : goal.minor_point-requires

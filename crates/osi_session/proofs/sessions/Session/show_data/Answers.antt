@@ -2,7 +2,7 @@ use Rattle.std.proofs.Common.{◌≡◌, ◌∙◌, ap, subst, sym, refl, ℕ, L
 use Rattle.osi_session.specs.declared.indications.Indication.TheVariants as indication
 use Rattle.osi_session.specs.Shown.{Data}
 use Rattle.osi_session.proofs.Vocabulary.{option_and_then, DT, said_at, came, react, Listener, only_shows, unit_in}
-use Rattle.osi_session.proofs.PointLaws.{point_shows, unit_comes}
+use Rattle.osi_session.proofs.tables.points_that_are_expected.{point_shows, unit_comes}
 use Rattle.osi_session.proofs.sessions.Session.show_data.Goals as goal
 
 pub returns : goal.returns

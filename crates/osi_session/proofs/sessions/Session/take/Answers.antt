@@ -1,7 +1,7 @@
 use Rattle.std.proofs.Common.{◌≡◌, refl, subst, sym, ℕ, List, Option, true, option_copied}
 use Rattle.osi_session.proofs.Vocabulary.{option_and_then, Listener, Move, moved, taker_of, kept_in, respond_tsdu, hearing_of_all, unit_in, takes_memory, units_of, said_by_units, Words, units_numbered}
-use Rattle.osi_session.proofs.MoveLaws.{taken_is}
-use Rattle.osi_session.proofs.SessionMoves.{leaves_words, heard_by, room_by, leaves_by, takes_as, takes_nothing}
+use Rattle.osi_session.proofs.moves.the_move_of_each_input.{taken_is}
+use Rattle.osi_session.proofs.moves.the_moves_in_memory.{leaves_words, heard_by, room_by, leaves_by, takes_as, takes_nothing}
 use Rattle.osi_session.proofs.sessions.Session.take.Goals as goal
 
 pub take_all-requires : goal.take_all-requires

@@ -1,7 +1,7 @@
 use Rattle.std.proofs.Common.{◌∙◌, ap, sym, Err}
 use Rattle.osi_session.proofs.Vocabulary.{option_and_then, Listener, moved, taker_of, heard, respond_came, respond_fault, hearing_of_all, unit_in}
-use Rattle.osi_session.proofs.MoveLaws.{of_fault}
-use Rattle.osi_session.proofs.SessionMoves.{Holds, holds, leaves_fault, leaves_as, of_heard, takes_as}
+use Rattle.osi_session.proofs.moves.the_move_of_each_input.{of_fault}
+use Rattle.osi_session.proofs.moves.the_moves_in_memory.{Holds, holds, leaves_fault, leaves_as, of_heard, takes_as}
 use Rattle.osi_session.proofs.sessions.Session.take_bad.Goals as goal
 
 pub settle-requires : goal.settle-requires

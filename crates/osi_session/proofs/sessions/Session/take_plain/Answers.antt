@@ -1,7 +1,7 @@
 use Rattle.std.proofs.Common.{ap, sym, ◌∙◌, Ok}
 use Rattle.osi_message.specs.declared.plain.PlainUnit.{PlainUnit}
 use Rattle.osi_session.proofs.Vocabulary.{Listener, moved, taker_of, respond_word, plain_word, react, came}
-use Rattle.osi_session.proofs.SessionMoves.{came_plain, tries_as}
+use Rattle.osi_session.proofs.moves.the_moves_in_memory.{came_plain, tries_as}
 use Rattle.osi_session.proofs.sessions.Session.take_plain.Goals as goal
 
 pub returns-in-Part : goal.returns-in-Part

@@ -1,5 +1,5 @@
 use Rattle.osi_session.proofs.Vocabulary.{option_and_then, plain_word, unit_in}
-use Rattle.osi_session.proofs.PointLaws.{plain_numbered, point_leaves, word_shows}
+use Rattle.osi_session.proofs.tables.points_that_are_expected.{plain_numbered, point_leaves, word_shows}
 use Rattle.osi_session.proofs.sessions.Session.take_point.Goals as goal
 
 pub invariant_of-self : goal.invariant_of-self

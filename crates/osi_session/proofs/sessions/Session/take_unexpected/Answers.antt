@@ -1,7 +1,7 @@
 use Rattle.std.proofs.Common.{ap}
 use Rattle.osi_session.proofs.Vocabulary.{Listener, came, react, said_by_units, taken, units_of, unread}
-use Rattle.osi_session.proofs.MoveLaws.{came_fault, came_words}
-use Rattle.osi_session.proofs.SessionMoves.{takes_as}
+use Rattle.osi_session.proofs.moves.the_move_of_each_input.{came_fault, came_words}
+use Rattle.osi_session.proofs.moves.the_moves_in_memory.{takes_as}
 use Rattle.osi_session.proofs.sessions.Session.take_unexpected.Goals as goal
 
 pub returns-in-Ok : goal.returns-in-Ok

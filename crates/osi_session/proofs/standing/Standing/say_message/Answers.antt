@@ -1,6 +1,6 @@
 use Rattle.std.proofs.Common.{ap}
 use Rattle.osi_session.specs.Standing.{Seen}
-use Rattle.osi_session.proofs.SayingLaws.{said_by_message}
+use Rattle.osi_session.proofs.sent.what_a_side_may_send.{said_by_message}
 use Rattle.osi_session.proofs.Vocabulary.{meant_by}
 use Rattle.osi_session.proofs.standing.Standing.say_message.Goals as goal
 

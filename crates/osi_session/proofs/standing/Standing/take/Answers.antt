@@ -1,5 +1,5 @@
 use Rattle.osi_session.specs.Counting.{count_of}
-use Rattle.osi_session.proofs.SayingLaws.{count_sound}
+use Rattle.osi_session.proofs.sent.what_a_side_may_send.{count_sound}
 use Rattle.osi_session.proofs.standing.Standing.take.Goals as goal
 
 pub invariant_of-result : goal.invariant_of-result

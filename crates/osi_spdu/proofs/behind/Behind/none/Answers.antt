@@ -1,5 +1,5 @@
 use Rattle.std.proofs.Common.{refl}
-use Rattle.osi_spdu.proofs.BehindLaws.{left_none, none_stands}
+use Rattle.osi_spdu.proofs.tsdu.units_after_the_first.{left_none, none_stands}
 use Rattle.osi_spdu.proofs.behind.Behind.none.Goals as goal
 
 pub invariant_of-result-clause-stands : goal.invariant_of-result-clause-stands

@@ -1,6 +1,6 @@
 use Rattle.std.proofs.Common.{◌≡◌, ◌∙◌, ◌∷◌, length, ap, rules}
 use Rattle.osi_spdu.proofs.Vocabulary.{said_by, left_at, units_from}
-use Rattle.osi_spdu.proofs.BehindLaws.{left_empty}
+use Rattle.osi_spdu.proofs.tsdu.units_after_the_first.{left_empty}
 use Rattle.osi_spdu.proofs.behind.Behind.only.Goals as goal
 
 pub returns-then-is_empty : goal.returns-then-is_empty

@@ -1,6 +1,6 @@
 use Rattle.std.proofs.Common.{◌≡◌, ◌≤◌, ◌∙◌, Ok, length, ap, sym, arith, rules}
 use Rattle.osi_spdu.proofs.Vocabulary.{err_from_is_err_and, later_of}
-use Rattle.osi_spdu.proofs.BehindLaws.{behind_none, behind_bad, others_bad, others_read}
+use Rattle.osi_spdu.proofs.tsdu.units_after_the_first.{behind_none, behind_bad, others_bad, others_read}
 use Rattle.osi_spdu.proofs.behind.Behind.read.Goals as goal
 
 pub returns-then-is_empty : goal.returns-then-is_empty

@@ -1,5 +1,5 @@
 use Rattle.std.proofs.Common.{refl}
-use Rattle.osi_spdu.proofs.GrammarLaws.{grammar_spelled, grammar_one}
+use Rattle.osi_spdu.proofs.tsdu.a_tsdu_is_all_of_its_octets.{grammar_spelled, grammar_one}
 use Rattle.osi_spdu.proofs.grammar.GroupUnit.laws.Goals as goal
 
 pub returns-clause-is_spelled : goal.returns-clause-is_spelled

@@ -1,5 +1,5 @@
 use Rattle.std.proofs.Common.{sym}
-use Rattle.osi_spdu.proofs.GrammarLaws.{front_whole}
+use Rattle.osi_spdu.proofs.tsdu.a_tsdu_is_all_of_its_octets.{front_whole}
 use Rattle.osi_spdu.proofs.grammar.GroupUnit.read.Goals as goal
 
 pub returns-in-Ok-clause-only : goal.returns-in-Ok-clause-only

@@ -1,6 +1,6 @@
 use Rattle.std.proofs.Common.{◌≡◌, true, Some, ap, sym, subst, refl}
 use Rattle.osi_spdu.proofs.Vocabulary.{Kind, GiveTokens, category_of, may_stand, Contents, is_joined}
-use Rattle.osi_spdu.proofs.TsduLaws.{joined_ok}
+use Rattle.osi_spdu.proofs.tsdu.how_reading_goes_on.{joined_ok}
 use Rattle.osi_spdu.proofs.groups.Group.behind_give_tokens.Goals as goal
 
 pub pair-requires : goal.pair-requires

@@ -1,4 +1,4 @@
-use Rattle.osi_spdu.proofs.BehindLaws.{joined_two}
+use Rattle.osi_spdu.proofs.tsdu.units_after_the_first.{joined_two}
 use Rattle.osi_spdu.proofs.groups.Group.pair.Goals as goal
 
 pub one-requires : goal.one-requires

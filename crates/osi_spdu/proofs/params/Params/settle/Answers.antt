@@ -1,6 +1,6 @@
 use Rattle.std.proofs.Common.{◌∙◌, ap, refl, option_map}
 use Rattle.osi_spdu.proofs.Vocabulary.{and_from, is_settled, has_octets}
-use Rattle.osi_spdu.proofs.ParamsLaws.{settled_known, some_there}
+use Rattle.osi_spdu.proofs.parameters.a_slot_is_filled.{settled_known, some_there}
 use Rattle.osi_spdu.proofs.params.Params.settle.Goals as goal
 
 pub returns-clause-value : goal.returns-clause-value

@@ -1,6 +1,6 @@
 use Rattle.std.proofs.Common.{◌≡◌, ◌∙◌, drop, sym, arith}
 use Rattle.osi_spdu.specs.Values.{significant, six_digits, digits_of}
-use Rattle.osi_spdu.proofs.Digits.{significant_step, significant_end}
+use Rattle.osi_spdu.proofs.basics.digits_of_numbers.{significant_step, significant_end}
 use Rattle.osi_spdu.proofs.serials.Serial.digits.Goals as goal
 use Rattle.osi_spdu.proofs.serials.Serial.digits.Goals.{then-zeros-test+else-octets-start-eq48, else-zeros-test}
 

@@ -1,7 +1,7 @@
 use Rattle.std.proofs.Common.{◌≡◌, ◌<◌, ◌≤◌, ◌∙◌, ℕ, length, Option, Some, None, MatchOption, option_map, refl, sym, ap, subst, arith}
 use Rattle.std.proofs.lemmas.Bool.{eqb-false}
 use Rattle.osi_spdu.specs.declared.serials.Serial.{Serial}
-use Rattle.osi_spdu.proofs.Digits.{IsReading, pow_small, reading_step, reading_end}
+use Rattle.osi_spdu.proofs.basics.digits_of_numbers.{IsReading, pow_small, reading_step, reading_end}
 use Rattle.osi_spdu.proofs.serials.Serial.read.Goals as goal
 
 pub digits-preserved : goal.digits-preserved

@@ -1,4 +1,4 @@
-use Rattle.osi_spdu.proofs.Digits.{IsReading}
+use Rattle.osi_spdu.proofs.basics.digits_of_numbers.{IsReading}
 use Rattle.osi_spdu.proofs.serials.Serial.read.Given as goal
 
 abbrev pub invariant-digits : goal.invariant-digits

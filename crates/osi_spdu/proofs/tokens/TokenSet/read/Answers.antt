@@ -1,6 +1,6 @@
 use Rattle.std.proofs.Common.{◌∙◌, ℕ, List, [], ◌∷◌, Option, Some, ap, sym, get_or, arith}
 use Rattle.osi_spdu.proofs.Vocabulary.{eq-eqb, canonical, any_octet, token_bits}
-use Rattle.osi_spdu.proofs.OneOctet.{octet_if_one, token_bits_again}
+use Rattle.osi_spdu.proofs.basics.values_of_one_octet.{octet_if_one, token_bits_again}
 use Rattle.osi_spdu.proofs.tokens.TokenSet.read.Goals as goal
 
 pub returns-in-len1-clause-value : goal.returns-in-len1-clause-value

@@ -1,6 +1,6 @@
 use Rattle.std.proofs.Common.{map, option_map}
 use Rattle.osi_stack.proofs.Vocabulary.{called_by, shown_by, session_selectors, Line}
-use Rattle.osi_stack.proofs.Calling.{called_line, called_carrier}
+use Rattle.osi_stack.proofs.called.what_a_call_sends.{called_line, called_carrier}
 use Rattle.osi_stack.proofs.lines.Line.call.Goals as goal
 
 pub returns-clause-ok : goal.returns-clause-ok

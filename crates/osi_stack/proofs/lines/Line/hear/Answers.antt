@@ -1,6 +1,6 @@
 use Rattle.std.proofs.Common.{ℕ, sym, ap, ◌∙◌}
 use Rattle.osi_stack.proofs.Vocabulary.{shown_by, Line, told_input}
-use Rattle.osi_stack.proofs.Straight.{heard_line, heard_carrier, heard_needs}
+use Rattle.osi_stack.proofs.carried.data_is_indicated_where_it_lies.{heard_line, heard_carrier, heard_needs}
 use Rattle.osi_stack.proofs.lines.Line.hear.Goals as goal
 
 pub returns-in-Ok-clause-ok : goal.returns-in-Ok-clause-ok

@@ -1,6 +1,6 @@
 use Rattle.std.proofs.Common.{◌≡◌, ℕ, [], ◌∷◌, ◌++◌, map, Option, None, ap, subst, ◌∙◌, option_map, if◌then◌else◌}
 use Rattle.osi_stack.proofs.Vocabulary.{Listener, shows_loss, Lost, shown_by, loses, session_selectors, Line}
-use Rattle.osi_stack.proofs.Losing.{lost_line}
+use Rattle.osi_stack.proofs.carried.sessions_that_are_lost.{lost_line}
 use Rattle.osi_stack.proofs.lines.Line.hear_any.Goals as goal
 
 pub returns-in_default-hear-clause-lost : goal.returns-in_default-hear-clause-lost

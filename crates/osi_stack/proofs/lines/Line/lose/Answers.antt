@@ -1,6 +1,6 @@
 use Rattle.std.proofs.Common.{◌≡◌, ℕ, map, Option, None, ap, subst, ◌∙◌, option_map}
 use Rattle.osi_stack.proofs.Vocabulary.{Listener, shows_loss, shown_by, loses, session_selectors, Line}
-use Rattle.osi_stack.proofs.Losing.{lost_line}
+use Rattle.osi_stack.proofs.carried.sessions_that_are_lost.{lost_line}
 use Rattle.osi_stack.proofs.lines.Line.lose.Goals as goal
 
 pub returns : goal.returns

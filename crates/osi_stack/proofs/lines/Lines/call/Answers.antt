@@ -1,7 +1,7 @@
 use Rattle.std.proofs.Common.{◌≡◌, ◌+◌, Bool, cond, Some, None, get_or, refl, sym, ap, ◌∙◌}
 use Rattle.osi_stack.proofs.Vocabulary.{placed, Rows, place_of, called_by, called, session_refusal, Line, line_waits, session_in}
-use Rattle.osi_stack.proofs.Found.{nowhere, heard_rows, allowed_at, refused_at}
-use Rattle.osi_stack.proofs.Waiting.{set_kept}
+use Rattle.osi_stack.proofs.each_line.the_line_of_a_reference.{nowhere, heard_rows, allowed_at, refused_at}
+use Rattle.osi_stack.proofs.each_line.how_many_lines_wait.{set_kept}
 use Rattle.osi_stack.proofs.lines.Lines.call.Goals as goal
 
 pub returns-in_default-clause-refused : goal.returns-in_default-clause-refused

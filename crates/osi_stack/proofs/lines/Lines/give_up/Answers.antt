@@ -1,9 +1,9 @@
 use Rattle.std.proofs.Common.{◌≡◌, Some, None, ℕ, Option, get_or, sym, ap, ◌∙◌}
-use Rattle.osi_carrier.proofs.Order.{set_rise}
+use Rattle.osi_carrier.proofs.references.rows_in_order.{set_rise}
 use Rattle.osi_stack.specs.Disconnecting.{gives_up_by}
 use Rattle.osi_stack.proofs.Vocabulary.{Rows, place_of, Line, how_many_wait}
-use Rattle.osi_stack.proofs.Found.{nowhere}
-use Rattle.osi_stack.proofs.DisconnectKeeps.{given_rows}
+use Rattle.osi_stack.proofs.each_line.the_line_of_a_reference.{nowhere}
+use Rattle.osi_stack.proofs.given_up.the_invariant_stays.{given_rows}
 use Rattle.osi_stack.proofs.lines.Lines.give_up.Goals as goal
 
 pub returns-in_default : goal.returns-in_default

@@ -1,5 +1,5 @@
 use Rattle.std.proofs.Common.{ap, ◌∙◌, is_some}
-use Rattle.osi_stack.proofs.Found.{found}
+use Rattle.osi_stack.proofs.each_line.the_line_of_a_reference.{found}
 use Rattle.osi_stack.proofs.lines.Lines.has.Goals as goal
 
 pub returns : goal.returns

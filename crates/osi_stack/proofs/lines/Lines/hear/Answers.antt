@@ -1,10 +1,10 @@
 use Rattle.std.proofs.Common.{length, ◌≡◌, ◌+◌, true, false, Some, None, get_or, set, refl, sym, ap, subst, arith, ◌∙◌}
 use Rattle.osi_stack.specs.declared.lines.Lines.TheInside.{Inside}
 use Rattle.osi_stack.proofs.Vocabulary.{OnOk, OnErr, placed, Rows, place_of, all_lost, to_session, Line, told_input}
-use Rattle.osi_stack.proofs.Found.{unheard, heard_rows}
-use Rattle.osi_stack.proofs.Losing.{stopped_rows}
-use Rattle.osi_stack.proofs.Needing.{needs_at}
-use Rattle.osi_stack.proofs.Waiting.{AreKept, room_of, set_kept, heard_stays, still_quiet, still_counted}
+use Rattle.osi_stack.proofs.each_line.the_line_of_a_reference.{unheard, heard_rows}
+use Rattle.osi_stack.proofs.carried.sessions_that_are_lost.{stopped_rows}
+use Rattle.osi_stack.proofs.stream.what_needs_memory_does_something.{needs_at}
+use Rattle.osi_stack.proofs.each_line.how_many_lines_wait.{AreKept, room_of, set_kept, heard_stays, still_quiet, still_counted}
 use Rattle.osi_stack.proofs.lines.Lines.hear.Goals.{then-waits+then-not-waited, else-waits, else-waits-via-then-waits+else-not-waited, else-waits-via-else-waits}
 use Rattle.osi_stack.proofs.lines.Lines.hear.Goals as goal
 

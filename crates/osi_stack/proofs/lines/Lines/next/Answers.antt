@@ -1,7 +1,7 @@
 use Rattle.std.proofs.Common.{◌-◌, ◌+◌, ℕ, [], List, true, false, map, Some, get_or, refl, sym, ap, subst, option_map, position, arith, ◌∙◌, ◌≡◌}
 use Rattle.osi_stack.proofs.Vocabulary.{shown_by, Indication, Rows, TellsOf, session_selectors, Line, line_waits, how_many_wait}
-use Rattle.osi_stack.proofs.FirstShown.{none_waits, first_is, never_popped, told_first}
-use Rattle.osi_stack.proofs.Waiting.{none_counted, set_kept}
+use Rattle.osi_stack.proofs.each_line.the_first_that_indicates.{none_waits, first_is, never_popped, told_first}
+use Rattle.osi_stack.proofs.each_line.how_many_lines_wait.{none_counted, set_kept}
 use Rattle.osi_stack.proofs.lines.Lines.next.Goals.{then-not-waits, else-not-waits}
 use Rattle.osi_stack.proofs.lines.Lines.next.Goals as goal
 

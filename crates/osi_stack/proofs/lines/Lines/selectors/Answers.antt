@@ -1,6 +1,6 @@
 use Rattle.std.proofs.Common.{refl, ◌≡◌, Some, None, get_or, sym, ap, ◌∙◌}
 use Rattle.osi_stack.proofs.Vocabulary.{here_is, Rows, place_of, selectors_in, Line}
-use Rattle.osi_stack.proofs.Found.{nowhere}
+use Rattle.osi_stack.proofs.each_line.the_line_of_a_reference.{nowhere}
 use Rattle.osi_stack.proofs.lines.Lines.selectors.Goals as goal
 
 pub returns-in_default : goal.returns-in_default

@@ -1,6 +1,6 @@
 use Rattle.std.proofs.Common.{◌≡◌, Some, None, get_or, sym, ap, ◌∙◌}
 use Rattle.osi_stack.proofs.Vocabulary.{Rows, place_of, Line, session_in}
-use Rattle.osi_stack.proofs.Found.{nowhere, session_here}
+use Rattle.osi_stack.proofs.each_line.the_line_of_a_reference.{nowhere, session_here}
 use Rattle.osi_stack.proofs.lines.Lines.session.Goals as goal
 
 pub returns-in_default : goal.returns-in_default

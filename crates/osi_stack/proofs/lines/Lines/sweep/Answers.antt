@@ -1,6 +1,6 @@
 use Rattle.std.proofs.Common.{rules, sym, subst}
 use Rattle.osi_carrier.specs.Orderly.{RiseFrom}
-use Rattle.osi_stack.proofs.Rising.{rise_used}
+use Rattle.osi_stack.proofs.each_line.references_rise.{rise_used}
 use Rattle.osi_stack.proofs.lines.Lines.sweep.Goals as goal
 
 pub invariant_of-self : goal.invariant_of-self

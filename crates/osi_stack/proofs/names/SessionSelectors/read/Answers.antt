@@ -1,7 +1,7 @@
 use Rattle.std.proofs.Common.{ap, sym, ◌∙◌}
 use Rattle.osi_spdu.specs.Groups.{first_of, behind_of}
 use Rattle.osi_stack.proofs.Vocabulary.{meaning, selectors_of}
-use Rattle.osi_stack.proofs.Selecting.{read_selectors, bad_selectors}
+use Rattle.osi_stack.proofs.opening.the_selectors_of_what_arrives.{read_selectors, bad_selectors}
 use Rattle.osi_stack.proofs.names.SessionSelectors.read.Goals as goal
 
 pub returns-in-Ok : goal.returns-in-Ok

@@ -1,6 +1,6 @@
 use Rattle.std.proofs.Common.{◌≡◌, subst}
 use Rattle.osi_stack.proofs.Vocabulary.{OnOk, connects, Holding, holding}
-use Rattle.osi_stack.proofs.Settling.{settled_connect}
+use Rattle.osi_stack.proofs.sound.the_invariant_between_calls.{settled_connect}
 use Rattle.osi_stack.proofs.stacks.Stack.connect.Goals as goal
 
 pub invariant_of-self : goal.invariant_of-self

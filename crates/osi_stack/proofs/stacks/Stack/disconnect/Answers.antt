@@ -2,8 +2,8 @@ use Rattle.std.proofs.Common.{◌≡◌, true, subst}
 use Rattle.osi_carrier.specs.Growth.{grows}
 use Rattle.osi_stack.specs.Disconnecting.{disconnects}
 use Rattle.osi_stack.proofs.Vocabulary.{OnOk, OnErr, closed_with, Holding, holding}
-use Rattle.osi_stack.proofs.Needing.{wants_memory}
-use Rattle.osi_stack.proofs.Settling.{settled_by}
+use Rattle.osi_stack.proofs.stream.what_needs_memory_does_something.{wants_memory}
+use Rattle.osi_stack.proofs.sound.the_invariant_between_calls.{settled_by}
 use Rattle.osi_stack.proofs.stacks.Stack.disconnect.Goals as goal
 
 pub invariant_of-self : goal.invariant_of-self

@@ -1,7 +1,7 @@
 use Rattle.std.proofs.Common.{◌≡◌, false, is_some, sym, ap, ◌∙◌}
 use Rattle.osi_stack.proofs.Vocabulary.{stops, holding, waits}
-use Rattle.osi_stack.proofs.Lifting.{quiet_stops}
-use Rattle.osi_stack.proofs.Settling.{feeds_of}
+use Rattle.osi_stack.proofs.carried.packets_without_events.{quiet_stops}
+use Rattle.osi_stack.proofs.sound.the_invariant_between_calls.{feeds_of}
 use Rattle.osi_stack.proofs.stacks.Stack.feed.Goals as goal
 
 pub invariant_of-self : goal.invariant_of-self

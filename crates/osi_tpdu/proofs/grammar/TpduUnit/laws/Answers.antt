@@ -1,5 +1,5 @@
-use Rattle.osi_tpdu.proofs.UnitLaws.{stands_alone, one_reading}
-use Rattle.osi_tpdu.proofs.WrittenLaws.{written_spells}
+use Rattle.osi_tpdu.proofs.one_unit_is_read.{stands_alone, one_reading}
+use Rattle.osi_tpdu.proofs.the_written_form_spells_its_value.{written_spells}
 use Rattle.osi_tpdu.proofs.grammar.TpduUnit.laws.Goals as goal
 
 pub returns-clause-is_spelled : goal.returns-clause-is_spelled

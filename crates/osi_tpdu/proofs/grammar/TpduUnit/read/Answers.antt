@@ -1,6 +1,6 @@
 use Rattle.std.proofs.Common.{arith}
 use Rattle.osi_tpkt.specs.Octets.{IsOctets}
-use Rattle.osi_tpdu.proofs.UnitLaws.{unit_found, not_bad, same_front}
+use Rattle.osi_tpdu.proofs.one_unit_is_read.{unit_found, not_bad, same_front}
 use Rattle.osi_tpdu.proofs.grammar.TpduUnit.read.Goals as goal
 
 pub returns-in_err-read_unit-clause-only : goal.returns-in_err-read_unit-clause-only

@@ -1,7 +1,7 @@
 use Rattle.std.proofs.Common.{◌≡◌, ◌≤◌, [], length, refl, ap, arith, rules}
 use Rattle.std.proofs.lemmas.List.{nil_from_length}
-use Rattle.osi_tpdu.proofs.LeadCodes.{first_read, first_stands, no_bad_header}
-use Rattle.osi_tpdu.proofs.PacketLaws.{first_left, nothing_left, read_fits}
+use Rattle.osi_tpdu.proofs.which_units_another_may_follow.{first_read, first_stands, no_bad_header}
+use Rattle.osi_tpdu.proofs.the_units_of_a_packet.{first_left, nothing_left, read_fits}
 use Rattle.osi_tpdu.proofs.packet.UnitsIterator.next.Goals as goal
 
 pub returns-then-is_empty-clause-steps : goal.returns-then-is_empty-clause-steps

@@ -1,6 +1,6 @@
 use Rattle.std.proofs.Common.{arith, rules}
 use Rattle.osi_tpdu.proofs.Vocabulary.{err_from_is_err_and, IsOctets}
-use Rattle.osi_tpdu.proofs.PacketLaws.{units_found, packet_left, no_units, one_reading, fault_found}
+use Rattle.osi_tpdu.proofs.the_units_of_a_packet.{units_found, packet_left, no_units, one_reading, fault_found}
 use Rattle.osi_tpdu.proofs.packet.whole.read_units.Goals as goal
 
 pub returns-in_err-read_to_end-clause-only : goal.returns-in_err-read_to_end-clause-only

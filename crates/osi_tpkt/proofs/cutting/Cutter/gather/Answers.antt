@@ -1,7 +1,7 @@
 use Rattle.std.proofs.Common.{take, vec_len, ◌∙◌, ap, arith}
 use Rattle.osi_tpkt.proofs.Vocabulary.{length-take-le, Held, fault_of}
-use Rattle.osi_tpkt.proofs.Fronts.{surveyed, same_held}
-use Rattle.osi_tpkt.proofs.Holding.{gathered}
+use Rattle.osi_tpkt.proofs.a_prefix_of_a_packet.{surveyed, same_held}
+use Rattle.osi_tpkt.proofs.what_a_cutter_holds.{gathered}
 use Rattle.osi_tpkt.proofs.cutting.Cutter.gather.Goals as goal
 
 pub returns-in_default-clause-taken : goal.returns-in_default-clause-taken

@@ -1,5 +1,5 @@
 use Rattle.std.proofs.Common.{take, vec_len, arith}
-use Rattle.osi_tpkt.proofs.Holding.{passed_sound}
+use Rattle.osi_tpkt.proofs.what_a_cutter_holds.{passed_sound}
 use Rattle.osi_tpkt.proofs.cutting.Cutter.pass.Goals as goal
 
 pub returns-clause-sound : goal.returns-clause-sound

@@ -1,5 +1,5 @@
 use Rattle.std.proofs.Common.{inl, take, vec_len, true, Ok}
-use Rattle.osi_tpkt.proofs.Holding.{going_on, kept_sound, taken_sound, taken_whole}
+use Rattle.osi_tpkt.proofs.what_a_cutter_holds.{going_on, kept_sound, taken_sound, taken_whole}
 use Rattle.osi_tpkt.proofs.cutting.Cutter.take_whole.Goals as goal
 
 pub returns-clause-partial : goal.returns-clause-partial

@@ -1,4 +1,4 @@
-use Rattle.osi_tpkt.proofs.PacketLaws.{written_packet, packet_reading}
+use Rattle.osi_tpkt.proofs.no_packet_is_a_prefix_of_another.{written_packet, packet_reading}
 use Rattle.osi_tpkt.proofs.packets.PacketUnit.laws.Goals as goal
 
 pub returns-clause-is_spelled : goal.returns-clause-is_spelled

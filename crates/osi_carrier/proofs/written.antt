@@ -1,0 +1,9 @@
+-- How TSDUs and units become octets to send.
+pub mod the_length_of_a_unit
+pub mod a_part_in_its_data_unit
+pub mod all_that_a_link_gives
+pub mod nothing_takes_no_room
+pub mod a_tsdu_part_after_part
+pub mod tsdus_that_are_sent_together
+pub mod tsdus_are_written_straight
+pub mod what_needs_memory_does_something

@@ -1,0 +1,216 @@
+-- What needs memory writes, reports or keeps something.
+use Rattle.std.proofs.Common.{◌≡◌, ℕ, ◌+◌, ◌<◌, ◌≤◌, ◌⊎◌, inl, inr, Bool, true, false, List, [], ◌∷◌, ◌++◌, length, take, drop, Option, Some, None, Result, Ok, Err, IfOk, IsOk, OnErr, ◌==◌, map, refl, sym, ap, subst, ◌∙◌, nat_lt, if◌then◌else◌, length-append, arith}
+use Rattle.osi_class.specs.Flow.{Flow, is_awaited}
+use Rattle.osi_class.specs.Joining.{Joining, joined, with_part}
+use Rattle.osi_class.specs.Limits.{longest_tsdu}
+use Rattle.osi_class.specs.Taking.{TakesUnit}
+use Rattle.osi_class.specs.declared.faults.LinkFault.TheVariants.{OutOfSequence, TsduTooLong, OutOfMemory}
+use Rattle.osi_class.proofs.between.parts_stay_in_order.{choose_ok}
+pub use Rattle.std.proofs.lemmas.Bool.{or_cases}
+use Rattle.osi_carrier.proofs.Vocabulary.{or_left, or_right, lt-ltb, ltb-true, sum_by-cons, packet_of, Value, Connect, disconnect, disconnected, data0, data2, written, Standing, Hands, taken, taken_by, taken_flow, with_joined, needs_memory, part_needs_memory, LinkFault, Class, Two, drained_leaves, begun_by, kept_in, grows, Happening, tsdu, pumped, written_by, accepts, breaks, denies, handed_out, leaves, opens, taking, to_unknown, Rows, value_at, put, peer_in, link_in, Connection, linked, State, packets, drops, tells, link_grows, units_after, whole_after, link_after}
+use Rattle.osi_carrier.proofs.references.what_is_open.{open_is}
+
+-- ---- at a link
+
+abbrev Grown : ℕ → Standing → Standing → Type 0
+Grown peer s t = link_grows peer s (Ok t) ≡ true
+
+whole_some : (whole : List (List ℕ)) (octets : List ℕ) → 0 < length (take 1 (whole ++ octets ∷ []))
+whole_some [] octets = omega arith
+whole_some (first ∷ whole) octets = omega arith
+
+part_grows : (peer : ℕ) (s : Standing) (flow : Option Flow) (end : Bool) (octets : List ℕ) → part_needs_memory end octets ≡ true →
+    Grown peer s (record { ends = record s.ends { joining = with_part s.ends.joining end octets }; flow = flow })
+unfolding link_grows
+part_grows peer s flow true octets needs =
+    or_right _ _ (or_left _ _ (lt-ltb 0 (length (take 1 (s.ends.joining.whole ++ (s.ends.joining.begun ++ octets) ∷ []))) (whole_some s.ends.joining.whole (s.ends.joining.begun ++ octets))))
+part_grows peer s flow false octets needs =
+    let t : Standing = record { ends = record s.ends { joining = with_part s.ends.joining false octets }; flow = flow } in
+    let kept : (pumped (handed_out t)).ends.joining.begun ≡ s.ends.joining.begun ++ octets = ap (λ (j : Joining). j.begun) (drained_leaves (handed_out t)).1 in
+    let some = ltb-true 0 (length octets) needs in
+    let size = ap length kept ∙ length-append s.ends.joining.begun octets in
+    or_right _ _ (or_right _ _ (lt-ltb (length s.ends.joining.begun) (length (pumped (handed_out t)).ends.joining.begun) (omega arith)))
+
+joined_grows : (peer : ℕ) (s : Standing) (flow : Option Flow) (end : Bool) (octets : List ℕ) (long : Bool) → part_needs_memory end octets ≡ true →
+    IfOk (with_joined s.ends flow (if long then Err TsduTooLong else Ok (with_part s.ends.joining end octets))) (Grown peer s)
+joined_grows peer s flow end octets true needs = tt
+joined_grows peer s flow end octets false needs = part_grows peer s flow end octets needs
+
+taken_by_grows : (peer : ℕ) (s : Standing) (flow : Option Flow) (unit : Value) → needs_memory unit ≡ true → IfOk (taken_by s.ends flow unit) (Grown peer s)
+taken_by_grows peer s None (data0 end octets) needs = joined_grows peer s None end octets (nat_lt longest_tsdu (length s.ends.joining.begun + length octets)) needs
+taken_by_grows peer s (Some f) (data0 end octets) needs = tt
+taken_by_grows peer s None (data2 d number end octets) needs = tt
+taken_by_grows peer s (Some f) (data2 d number end octets) needs =
+    choose_ok (Grown peer s) (is_awaited f.receiver number) (with_joined s.ends (Some (taken_flow f)) (joined s.ends.joining end octets)) (Err OutOfSequence)
+    (λ _. joined_grows peer s (Some (taken_flow f)) end octets (nat_lt longest_tsdu (length s.ends.joining.begun + length octets)) needs)
+    (λ _. tt)
+taken_by_grows peer s flow unit needs = cc
+
+grown_of : (peer : ℕ) (s : Standing) (r : Result Standing LinkFault) → IfOk r (Grown peer s) → IsOk r → link_grows peer s r ≡ true
+grown_of peer s (Ok t) h ok = h
+grown_of peer s (Err fault) h ok = cc
+
+-- a unit that the link would take if there were memory
+pub taken_grows : (peer : ℕ) (s : Standing) (unit : Value) → needs_memory unit ≡ true → IsOk (taken s unit) → link_grows peer s (taken s unit) ≡ true
+taken_grows peer s unit needs ok = grown_of peer s (taken s unit) (taken_by_grows peer s s.flow unit needs) ok
+
+-- what a call of a link answers if memory ran out
+pub want_taken : {A : Type 0} (r : Result A LinkFault) (f : LinkFault) (needs : Bool) (t : Result Standing LinkFault) (old new : Standing) → r ≡ Err f → f ≡ OutOfMemory →
+    TakesUnit r needs t old new → (needs ≡ true) × IsOk t
+want_taken (Err OutOfMemory) f needs t old new e g h = (h.0, h.1)
+want_taken r f needs t old new e g h = cc
+
+handed_is : (o : Option (List ℕ)) (old new : Standing) → Hands o old new → new ≡ handed_out old
+handed_is None old new h =
+    h.1 ∙ ap (λ (w : List (List ℕ)). record old { ends = record old.ends { joining = record old.ends.joining { whole = w } } }) (h.0 ∙ sym (ap (drop 1) h.0))
+handed_is (Some octets) old new h = sym (ap handed_out h)
+
+given_grows : (peer : ℕ) (s t : Standing) → nat_lt 0 (length (written_by peer (handed_out t))) ≡ true → Grown peer s t
+unfolding link_grows
+given_grows peer s t some = or_left _ _ (subst (λ (n : ℕ). nat_lt 0 n ≡ true) refl some)
+
+-- a unit that was taken, after which the link gives a unit
+pub pump_grows : (peer : ℕ) (s t u : Standing) (o : Option (List ℕ)) (r : Result Standing LinkFault) → r ≡ Ok t → Hands o t u →
+    nat_lt 0 (length (written_by peer u)) ≡ true → link_grows peer s r ≡ true
+pump_grows peer s t u o r ok handed some =
+    subst (λ (x : Result Standing LinkFault). link_grows peer s x ≡ true) (sym ok)
+    (given_grows peer s t (subst (λ (x : Standing). nat_lt 0 (length (written_by peer x)) ≡ true) (handed_is o t u handed) some))
+
+-- memory is needed only if something is to be written
+pub some_written : (us : List Value) (spare : ℕ) → (length (packets us) ≤ spare → ⊥) → nat_lt 0 (length us) ≡ true
+some_written [] spare full = absurd (full (omega arith))
+some_written (u ∷ us) spare full = lt-ltb 0 (length (u ∷ us)) (omega arith)
+
+-- ---- of a carrier
+
+pub octets_some : (us : List Value) → 0 < length us → 0 < length (packets us)
+octets_some [] some = omega arith
+octets_some (u ∷ us) some = let size = length-append (packet_of (written u)) (packets us) in omega arith
+
+pub written_grows : (old new : State) (us : List Value) → 0 < length us → new.outgoing ≡ old.outgoing ++ packets us → grows old new ≡ true
+unfolding grows
+written_grows old new us some e =
+    let more = octets_some us some in
+    let size = ap length e ∙ length-append old.outgoing (packets us) in
+    or_left _ _ (lt-ltb (length old.outgoing) (length new.outgoing) (omega arith))
+
+pub told_grows : (old new : State) (events : List Happening) → 0 < length events → new.events ≡ old.events ++ events → grows old new ≡ true
+unfolding grows
+told_grows old new events some e =
+    let size = ap length e ∙ length-append old.events events in
+    or_right _ _ (or_left _ _ (lt-ltb (length old.events) (length new.events) (omega arith)))
+
+pub kept_grows : (old new : State) → kept_in old.live < kept_in new.live → grows old new ≡ true
+unfolding grows
+kept_grows old new more = or_right _ _ (or_right _ _ (lt-ltb (kept_in old.live) (kept_in new.live) more))
+
+-- one event is reported
+pub tells_grows : (old new : State) (event : Happening) → new.events ≡ old.events ++ event ∷ [] → grows old new ≡ true
+tells_grows old new event e = told_grows old new (event ∷ []) (omega arith) e
+
+-- one unit is written
+pub writes_grows : (old new : State) (unit : Value) → new.outgoing ≡ old.outgoing ++ packets (unit ∷ []) → grows old new ≡ true
+writes_grows old new unit e = written_grows old new (unit ∷ []) (omega arith) e
+
+pub tells_drops_grows : (event : Happening) (r : ℕ) (s : State) → grows s (tells event (drops r s)) ≡ true
+tells_drops_grows event r s = tells_grows s (tells event (drops r s)) event refl
+
+pub unknown_grows : (destination source reason : ℕ) (user : List ℕ) (s : State) → grows s (to_unknown (disconnect destination source reason user) s) ≡ true
+unknown_grows destination source reason user s = writes_grows s (to_unknown (disconnect destination source reason user) s) (disconnected source destination) refl
+
+pub denies_grows : (reason peer : ℕ) (s : State) → grows s (denies reason peer s) ≡ true
+denies_grows reason peer s = writes_grows s (denies reason peer s) (disconnect peer 0 reason []) refl
+
+pub accepts_grows : (class : Class) (size : Option ℕ) (c : Connect) (s : State) → grows s (accepts class size c s) ≡ true
+accepts_grows class size c s = tells_grows s (accepts class size c s) _ refl
+
+pub opens_grows : (r : ℕ) (c : Connect) (class : Class) (s : State) → grows s (opens r c (Some class) s) ≡ true
+opens_grows r c class s = tells_grows s (opens r c (Some class) s) _ refl
+
+pub leaves_grows : (r peer reason : ℕ) (held : Option Class) (s : State) → grows s (leaves r peer reason held s) ≡ true
+leaves_grows r peer reason (Some Two) s = tells_grows s (leaves r peer reason (Some Two) s) _ refl
+leaves_grows r peer reason held s = tells_grows s (leaves r peer reason held s) _ refl
+
+pub breaks_grows : (r peer : ℕ) (fault : LinkFault) (held : Option Class) (s : State) → held ≡ Some Two → grows s (breaks r peer fault held s) ≡ true
+breaks_grows r peer fault held s e =
+    subst (λ (h : Option Class). grows s (breaks r peer fault h s) ≡ true) (sym e) (tells_grows s (breaks r peer fault (Some Two) s) _ refl)
+
+-- a unit for which memory ran out
+pub on_want : {A E P : Type 0} (result : Result A E) → P → OnErr result P
+on_want (Ok a) p = tt
+on_want (Err e) p = p
+
+-- ---- what a link adds is added to the carrier
+
+put_kept_by : (r q : ℕ) (z x y : Connection) (rows : Rows Connection) (b : Bool) → (q == r) ≡ b →
+    (value_at r rows ≡ Some x → kept_in (put r y rows) + begun_by x ≡ kept_in rows + begun_by y) →
+    value_at r ((q, z) ∷ rows) ≡ Some x → kept_in (put r y ((q, z) ∷ rows)) + begun_by x ≡ kept_in ((q, z) ∷ rows) + begun_by y
+put_kept_by r q z x y rows true t more h =
+    let here : Some z ≡ Some x = rw t at h in
+    let same : z ≡ x = cc in
+    let sizes : begun_by z ≡ begun_by x = ap begun_by same in
+    let before = sum_by-cons (λ (row : ℕ × Connection). begun_by row.1) (q, z) rows in
+    let after = sum_by-cons (λ (row : ℕ × Connection). begun_by row.1) (q, y) rows in
+    let sum : kept_in ((q, y) ∷ rows) + begun_by x ≡ kept_in ((q, z) ∷ rows) + begun_by y = omega arith in
+    rw t sum
+put_kept_by r q z x y rows false t more h =
+    let behind : value_at r rows ≡ Some x = rw t at h in
+    let rest = more behind in
+    let before = sum_by-cons (λ (row : ℕ × Connection). begun_by row.1) (q, z) rows in
+    let after = sum_by-cons (λ (row : ℕ × Connection). begun_by row.1) (q, z) (put r y rows) in
+    let sum : kept_in ((q, z) ∷ put r y rows) + begun_by x ≡ kept_in ((q, z) ∷ rows) + begun_by y = omega arith in
+    rw t sum
+
+put_kept : (r : ℕ) (x y : Connection) (rows : Rows Connection) → value_at r rows ≡ Some x → kept_in (put r y rows) + begun_by x ≡ kept_in rows + begun_by y
+put_kept r x y [] h = cc
+put_kept r x y ((q, z) ∷ rows) h = put_kept_by r q z x y rows (q == r) refl (put_kept r x y rows) h
+
+abbrev LinkGrows : ℕ → Standing → Result Standing LinkFault → Type 0
+LinkGrows peer old t =
+    (0 < length (units_after peer t)) ⊎ ((0 < length (whole_after t)) ⊎ (length old.ends.joining.begun < length (link_after old t).ends.joining.begun))
+
+link_cases : (peer : ℕ) (old : Standing) (t : Result Standing LinkFault) → link_grows peer old t ≡ true → LinkGrows peer old t
+unfolding link_grows
+link_cases peer old t h = elim (or_cases _ _ h) [
+  | inl units ↦ inl (ltb-true 0 (length (units_after peer t)) units)
+  | inr more ↦ elim (or_cases _ _ more) [
+    | inl whole ↦ inr (inl (ltb-true 0 (length (whole_after t)) whole))
+    | inr kept ↦ inr (inr (ltb-true (length old.ends.joining.begun) (length (link_after old t).ends.joining.begun) kept))
+  ]
+]
+
+length_told : (r : ℕ) (whole : List (List ℕ)) → length (map (tsdu r) whole) ≡ length whole
+length_told r [] = refl
+length_told r (octets ∷ whole) = let more = length_told r whole in omega arith
+
+taking_by : (r peer : ℕ) (s : State) (link : Standing) (t : Result Standing LinkFault) → value_at r s.live ≡ Some (linked peer link) → LinkGrows peer link t →
+    grows s (taking r peer t s) ≡ true
+taking_by r peer s link (Ok next) there (inl units) = written_grows s (taking r peer (Ok next) s) (units_after peer (Ok next)) units refl
+taking_by r peer s link (Ok next) there (inr (inl whole)) =
+    let same = length_told r (whole_after (Ok next)) in
+    told_grows s (taking r peer (Ok next) s) (map (tsdu r) (whole_after (Ok next))) (omega arith) refl
+taking_by r peer s link (Ok next) there (inr (inr kept)) =
+    let sum = put_kept r (linked peer link) (linked peer (pumped (handed_out next))) s.live there in
+    kept_grows s (taking r peer (Ok next) s) (omega arith)
+taking_by r peer s link (Err fault) there (inl units) = absurd (omega arith)
+taking_by r peer s link (Err fault) there (inr more) = absurd (omega arith)
+
+pub taking_grows : (r peer : ℕ) (s : State) (t : Result Standing LinkFault) → peer_in (value_at r s.live) ≡ Some peer →
+    link_grows peer (link_in (value_at r s.live)) t ≡ true → grows s (taking r peer t s) ≡ true
+taking_grows r peer s t stands h =
+    taking_by r peer s (link_in (value_at r s.live)) t (open_is (value_at r s.live) peer stands) (link_cases peer (link_in (value_at r s.live)) t h)
+
+-- a TSDU that became complete is reported
+pub took_grows : (r peer : ℕ) (s : State) (t : Result Standing LinkFault) (whole : List ℕ) → IsOk t → whole ∷ [] ≡ whole_after t → grows s (taking r peer t s) ≡ true
+took_grows r peer s (Ok link) whole ok e =
+    let one = ap length e in
+    let same = length_told r (whole_after (Ok link)) in
+    told_grows s (taking r peer (Ok link) s) (map (tsdu r) (whole_after (Ok link))) (omega arith) refl
+took_grows r peer s (Err fault) whole ok e = cc
+
+pub broke_grows : {A E : Type 0} (result : Result A E) (r peer : ℕ) (s mid : State) (t : Result Standing LinkFault) (fault : LinkFault) → t ≡ Err fault → mid ≡ s →
+    OnErr result (grows mid (breaks r peer fault mid.class mid) ≡ true) → OnErr result (grows s (taking r peer t s) ≡ true)
+broke_grows (Ok a) r peer s mid t fault e same h = tt
+broke_grows (Err f) r peer s mid t fault e same h =
+    subst (λ (u : Result Standing LinkFault). grows s (taking r peer u s) ≡ true) (sym e)
+    (subst (λ (x : State). grows x (breaks r peer fault x.class x) ≡ true) same h)

@@ -1,0 +1,79 @@
+-- No TSDU between two links becomes too long to be taken.
+use Rattle.std.proofs.Common.{◌≡◌, ℕ, ◌+◌, ◌≤◌, Bool, true, false, List, [], ◌∷◌, ◌++◌, length, Ok, sym, ◌∙◌, ap, subst, arith, nat_lt, length-append, append_assoc}
+use Rattle.osi_class.proofs.Vocabulary.{flat_map, AllByRecursion, le-ltb, append_cancel_left, map-append, longest_tsdu, LinkPair, Turn, TurnsAlong, left_in, right_out, parts_under_way, under_way, HasWholeTsdus, IsShortTsdu, with_part, joined, Part, tsdus_after, uncut}
+use Rattle.osi_class.proofs.between.parts_stay_in_order.{append_nil}
+use Rattle.osi_class.proofs.between.tsdus_come_in_order.{whole_kept}
+
+all_behind : (xs ys : List (List ℕ)) → AllByRecursion IsShortTsdu (xs ++ ys) → AllByRecursion IsShortTsdu ys
+all_behind [] ys all = all
+all_behind (x ∷ xs) ys all = all_behind xs ys all.1
+
+all_both : (xs ys : List (List ℕ)) → AllByRecursion IsShortTsdu xs → AllByRecursion IsShortTsdu ys → AllByRecursion IsShortTsdu (xs ++ ys)
+all_both [] ys a b = b
+all_both (x ∷ xs) ys a b = (a.0, all_both xs ys a.1 b)
+
+-- the last of these parts ends its TSDU
+abbrev pub End : List ℕ → List Part → Type 0
+End begun parts = (t : List ℕ) → tsdus_after begun (parts ++ (true, t) ∷ []) ≡ tsdus_after begun parts ++ t ∷ []
+
+begun_short : (parts : List Part) (begun : List ℕ) → End begun parts → AllByRecursion IsShortTsdu (tsdus_after begun parts) → IsShortTsdu begun
+begun_short [] begun ends all =
+    let one : (begun ++ []) ∷ [] ≡ [] ∷ [] = ends [] in
+    let none : begun ++ [] ≡ [] = cc in
+    let n : length begun ≡ 0 = ap length (sym (append_nil begun) ∙ none) in
+    omega arith
+begun_short ((false, octets) ∷ parts) begun ends all = omega (arith, length-append {A = ℕ}, begun_short parts (begun ++ octets) ends all)
+begun_short ((true, octets) ∷ parts) begun ends all = omega (arith, length-append {A = ℕ})
+
+part_short : (end : Bool) (octets : List ℕ) (rest : List Part) (begun : List ℕ) → End begun ((end, octets) ∷ rest) →
+    AllByRecursion IsShortTsdu (tsdus_after begun ((end, octets) ∷ rest)) → length begun + length octets ≤ longest_tsdu
+part_short false octets rest begun ends all =
+    let more = begun_short rest (begun ++ octets) ends all in
+    let n = length-append begun octets in
+    omega arith
+part_short true octets rest begun ends all =
+    let first : IsShortTsdu (begun ++ octets) = all.0 in
+    let n = length-append begun octets in
+    omega arith
+
+-- all that is in flight, as parts
+abbrev pub pending : LinkPair → List Part
+pending p = parts_under_way p.rightward ++ uncut p.left.ends.unsent
+
+pub pending_end : (p : LinkPair) → HasWholeTsdus p → End p.right.ends.joining.begun (pending p)
+pending_end p whole t =
+    let j = p.right.ends.joining in
+    let ps = parts_under_way p.rightward in
+    let unsent = p.left.ends.unsent in
+    let cut : uncut (unsent ++ t ∷ []) ≡ uncut unsent ++ (true, t) ∷ [] = map-append (λ (x : List ℕ). (true, x)) unsent (t ∷ []) in
+    let longer : pending p ++ (true, t) ∷ [] ≡ ps ++ uncut (unsent ++ t ∷ []) =
+    append_assoc ps (uncut unsent) ((true, t) ∷ []) ∙ ap (λ (x : List Part). ps ++ x) (sym cut) in
+    let all : j.whole ++ tsdus_after j.begun (ps ++ uncut (unsent ++ t ∷ [])) ≡ j.whole ++ (tsdus_after j.begun (pending p) ++ t ∷ []) =
+    whole (t ∷ [])
+    ∙ ap (λ (u : List (List ℕ)). (j.whole ++ tsdus_after j.begun (ps ++ uncut u)) ++ t ∷ []) (append_nil unsent)
+    ∙ append_assoc j.whole (tsdus_after j.begun (pending p)) (t ∷ []) in
+    ap (λ (x : List Part). tsdus_after j.begun x) longer
+    ∙ append_cancel_left j.whole (tsdus_after j.begun (ps ++ uncut (unsent ++ t ∷ []))) (tsdus_after j.begun (pending p) ++ t ∷ []) all
+
+pub not_too_long : (p : LinkPair) (end : Bool) (octets : List ℕ) (rest : List Part) → HasWholeTsdus p → AllByRecursion IsShortTsdu (under_way p) →
+    parts_under_way p.rightward ≡ (end, octets) ∷ rest →
+    joined p.right.ends.joining end octets ≡ Ok (with_part p.right.ends.joining end octets)
+not_too_long p end octets rest whole all first =
+    let j = p.right.ends.joining in
+    let here : pending p ≡ (end, octets) ∷ (rest ++ uncut p.left.ends.unsent) = ap (λ (x : List Part). x ++ uncut p.left.ends.unsent) first in
+    let ends = subst (λ (x : List Part). End j.begun x) here (pending_end p whole) in
+    let Shorts : List Part → Type 0 = λ x. AllByRecursion IsShortTsdu (tsdus_after j.begun x) in
+    let under : AllByRecursion IsShortTsdu (j.whole ++ tsdus_after j.begun (pending p)) =
+    subst (λ (u : List (List ℕ)). AllByRecursion IsShortTsdu (j.whole ++ tsdus_after j.begun (parts_under_way p.rightward ++ uncut u)))
+    (append_nil p.left.ends.unsent) all in
+    let parts = subst Shorts here (all_behind j.whole (tsdus_after j.begun (pending p)) under) in
+    let short = part_short end octets (rest ++ uncut p.left.ends.unsent) j.begun ends parts in
+    let no : nat_lt longest_tsdu (length j.begun + length octets) ≡ false = le-ltb longest_tsdu (length j.begun + length octets) short in
+    rw no
+
+pub stays_short : (old new : LinkPair) (turns : List Turn) → HasWholeTsdus old → AllByRecursion IsShortTsdu (under_way old) →
+    AllByRecursion IsShortTsdu (flat_map left_in turns) → TurnsAlong old turns new → AllByRecursion IsShortTsdu (under_way new)
+stays_short old new turns whole all handed run =
+    all_behind (flat_map right_out turns) (under_way new)
+    (subst (λ (ts : List (List ℕ)). AllByRecursion IsShortTsdu ts) (whole_kept old new turns whole run)
+    (all_both (under_way old) (flat_map left_in turns) all handed))

@@ -1,0 +1,129 @@
+-- If nothing is in flight and nothing is owed, what was handed in has been handed out; and what a link sends before its
+-- peer's link is opened.
+use Rattle.std.proofs.Common.{◌≡◌, ℕ, ◌<◌, List, [], ◌∷◌, ◌++◌, map, Option, Some, None, ◌⊎◌, inl, inr, refl, sym, ◌∙◌, ap, subst, arith, append_assoc}
+use Rattle.osi_class.proofs.Vocabulary.{flat_map, AllByRecursion, LinkPair, swapped, Turn, at_right, TurnsAlong, opposite, left_in, right_out, given_by, parts_under_way, under_way, HasWholeTsdus, IsFresh, opened_pair, awaiting_pair, OnlySends, IsQuiet, unit_numbers, ack_numbers, direction, Agree, AgreeZero, AgreeInClass, Flow, Standing, Given, next_by, next, Move, hand_in, give_out, take_in, hand_out, MovesAlong, tsdu_in, tsdus_in, Part, tsdus_after, uncut}
+use Rattle.osi_class.proofs.giving.when_nothing_is_given as nothing
+use Rattle.osi_class.proofs.between.parts_stay_in_order.{append_nil}
+use Rattle.osi_class.proofs.between.owed_acks_keep_the_counts.{nothing_under_way}
+use Rattle.osi_class.proofs.between.no_tsdu_becomes_too_long.{End, pending, pending_end}
+use Rattle.osi_class.proofs.between.tsdus_come_in_order.{whole_kept, stays_whole, other_way, begins}
+
+pub unsent_in_class_0 : (p : LinkPair) → AgreeZero p → next p.left ≡ None → p.left.ends.unsent ≡ []
+unsent_in_class_0 p a none = (nothing.class_0 p.left.ends).0 (sym (ap (λ (f : Option Flow). next_by p.left.ends f) a.left) ∙ none)
+
+-- a link of class 2 with nothing to give
+none_at : (s : Standing) (f : Flow) → s.flow ≡ Some f → next s ≡ None → (f.receiver.waiting ≡ 0) × ((s.ends.unsent ≡ []) ⊎ (f.sender.credit ≡ 0))
+none_at s f is none = (nothing.class_2 s.ends f).0 (sym (ap (λ (o : Option Flow). next_by s.ends o) is) ∙ none)
+
+pub unsent_in_class_2 : (p : LinkPair) (units : ℕ) → 0 < units → Agree p units → p.rightward ≡ [] → p.leftward ≡ [] → next p.left ≡ None → next p.right ≡ None →
+    p.left.ends.unsent ≡ []
+unsent_in_class_2 p units some a rightward leftward left right =
+    let l = a.left_flow in
+    let r = a.right_flow in
+    let at_right_end = none_at p.right r a.have.right right in
+    let at_left_end = none_at p.left l a.have.left left in
+    let all_open : l.sender.credit ≡ r.receiver.window = nothing_under_way (direction l p r) a.known a.in_step
+    (ap (λ (us : List Given). flat_map unit_numbers us) rightward) (ap (λ (us : List Given). flat_map ack_numbers us) leftward) at_right_end.0 in
+    let window = a.window in
+    elim at_left_end.1 [
+      | inl none ↦ none
+      | inr closed ↦ absurd (omega (arith, all_open, window, closed))
+    ]
+
+pub quiet_unsent : (p : LinkPair) → AgreeInClass p → IsQuiet p → p.left.ends.unsent ≡ []
+quiet_unsent p (inl a) quiet = unsent_in_class_0 p a quiet.left
+quiet_unsent p (inr (units, some, a)) quiet = unsent_in_class_2 p units some a quiet.rightward quiet.leftward quiet.left quiet.right
+
+-- nothing is in flight if no unit is and nothing is unsent
+no_parts : (p : LinkPair) → p.rightward ≡ [] → p.left.ends.unsent ≡ [] → pending p ≡ []
+no_parts p rightward unsent =
+    ap (λ (us : List Given). parts_under_way us ++ uncut p.left.ends.unsent) rightward
+    ∙ ap (λ (ts : List (List ℕ)). uncut ts) unsent
+
+pub nothing_between : (p : LinkPair) → p.rightward ≡ [] → p.left.ends.unsent ≡ [] → p.right.ends.joining.whole ≡ [] → under_way p ≡ []
+nothing_between p rightward unsent handed_out =
+    let j = p.right.ends.joining in
+    ap (λ (ts : List (List ℕ)). j.whole ++ tsdus_after j.begun (parts_under_way p.rightward ++ uncut ts)) (append_nil p.left.ends.unsent)
+    ∙ ap (λ (ps : List Part). j.whole ++ tsdus_after j.begun ps) (no_parts p rightward unsent)
+    ∙ append_nil j.whole ∙ handed_out
+
+pub nothing_begun : (p : LinkPair) → HasWholeTsdus p → p.rightward ≡ [] → p.left.ends.unsent ≡ [] → p.right.ends.joining.begun ≡ []
+nothing_begun p whole rightward unsent =
+    let begun = p.right.ends.joining.begun in
+    let ends : End begun [] = subst (λ (ps : List Part). End begun ps) (no_parts p rightward unsent) (pending_end p whole) in
+    let one : (begun ++ []) ∷ [] ≡ [] ∷ [] = ends [] in
+    let none : begun ++ [] ≡ [] = cc in
+    sym (append_nil begun) ∙ none
+
+pub arrived : (old new : LinkPair) (turns : List Turn) → HasWholeTsdus old → under_way old ≡ [] → TurnsAlong old turns new → under_way new ≡ [] →
+    flat_map left_in turns ≡ flat_map right_out turns
+arrived old new turns whole none run quiet =
+    sym (ap (λ (ts : List (List ℕ)). ts ++ flat_map left_in turns) none)
+    ∙ whole_kept old new turns whole run
+    ∙ ap (λ (ts : List (List ℕ)). flat_map right_out turns ++ ts) quiet
+    ∙ append_nil (flat_map right_out turns)
+
+pub quiet_arrived : (old new : LinkPair) (turns : List Turn) → HasWholeTsdus old → under_way old ≡ [] → TurnsAlong old turns new → AgreeInClass new → IsQuiet new →
+    flat_map left_in turns ≡ flat_map right_out turns
+quiet_arrived old new turns whole none run agree quiet =
+    arrived old new turns whole none run (nothing_between new quiet.rightward (quiet_unsent new agree quiet) quiet.handed_out)
+
+pub quiet_begun : (p : LinkPair) → HasWholeTsdus p → AgreeInClass p → IsQuiet p → p.right.ends.joining.begun ≡ []
+quiet_begun p whole agree quiet = nothing_begun p whole quiet.rightward (quiet_unsent p agree quiet)
+
+-- units that are sent before the peer's link is opened
+send_early : (left right new : Standing) (units : List Given) (moves : List Move) → AllByRecursion OnlySends moves → MovesAlong right moves new →
+    TurnsAlong (awaiting_pair left right units) (map at_right moves) (awaiting_pair left new (units ++ flat_map given_by moves))
+send_early left right new units [] sends e =
+    ap (λ (s : Standing). awaiting_pair left s (units ++ [])) e ∙ ap (λ (us : List Given). awaiting_pair left right us) (append_nil units)
+send_early left right new units (hand_in tsdu ∷ moves) sends (mid, first, rest) = (
+  awaiting_pair left mid units,
+  record { moves = first; given = sym (append_nil units); comes = refl; right = refl },
+  send_early left mid new units moves sends.1 rest,
+)
+send_early left right new units (give_out unit ∷ moves) sends (mid, first, rest) = (
+  awaiting_pair left mid (units ++ unit ∷ []),
+  record { moves = first; given = refl; comes = refl; right = refl },
+  subst (λ (us : List Given). TurnsAlong (awaiting_pair left mid (units ++ unit ∷ [])) (map at_right moves) (awaiting_pair left new us))
+      (append_assoc units (unit ∷ []) (flat_map given_by moves))
+      (send_early left mid new (units ++ unit ∷ []) moves sends.1 rest),
+)
+send_early left right new units _ sends run = absurd sends.0
+
+pub sent_early : (left right new : Standing) (moves : List Move) → AllByRecursion OnlySends moves → MovesAlong right moves new →
+    TurnsAlong (opened_pair left right) (map at_right moves) (awaiting_pair left new (flat_map given_by moves))
+sent_early left right new moves sends run = send_early left right new [] moves sends run
+
+-- seen from the other side they are turns of the left link
+left_turns : (moves : List Move) → flat_map left_in (map opposite (map at_right moves)) ≡ tsdus_in moves
+left_turns [] = refl
+left_turns (move ∷ moves) = ap (λ (ts : List (List ℕ)). tsdu_in move ++ ts) (left_turns moves)
+
+none_out : (moves : List Move) → flat_map right_out (map opposite (map at_right moves)) ≡ []
+none_out [] = refl
+none_out (move ∷ moves) = none_out moves
+
+pub early_whole : (left right new : Standing) (moves : List Move) → IsFresh left → IsFresh right → AllByRecursion OnlySends moves → MovesAlong right moves new →
+    HasWholeTsdus (awaiting_pair left new (flat_map given_by moves)) × HasWholeTsdus (swapped (awaiting_pair left new (flat_map given_by moves)))
+early_whole left right new moves a b sends run =
+    let old = opened_pair left right in
+    let after = awaiting_pair left new (flat_map given_by moves) in
+    let turns = map at_right moves in
+    let along = sent_early left right new moves sends run in (
+      stays_whole old after turns (begins left right a b).0 along,
+      stays_whole (swapped old) (swapped after) (map opposite turns) (begins right left b a).0 (other_way old after turns along),
+    )
+
+pub early_under_way : (left right new : Standing) (moves : List Move) → IsFresh left → IsFresh right → AllByRecursion OnlySends moves → MovesAlong right moves new →
+    under_way (swapped (awaiting_pair left new (flat_map given_by moves))) ≡ tsdus_in moves
+early_under_way left right new moves a b sends run =
+    let old = opened_pair left right in
+    let after = awaiting_pair left new (flat_map given_by moves) in
+    let turns = map at_right moves in
+    let along = other_way old after turns (sent_early left right new moves sends run) in
+    let start = begins right left b a in
+    let kept = whole_kept (swapped old) (swapped after) (map opposite turns) start.0 along in
+    sym (ap (λ (ts : List (List ℕ)). ts ++ under_way (swapped after)) (none_out moves))
+    ∙ sym kept
+    ∙ ap (λ (ts : List (List ℕ)). ts ++ flat_map left_in (map opposite turns)) start.1
+    ∙ left_turns moves

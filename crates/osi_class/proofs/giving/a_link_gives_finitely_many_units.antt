@@ -1,0 +1,135 @@
+-- All that a link gives: a finite list of units.
+use Rattle.std.proofs.Common.{◌≡◌, ℕ, zero, suc, ◌-◌, ◌<◌, ◌≤◌, List, [], ◌∷◌, map, Option, Some, None, refl, sym, ◌∙◌, ap, arith, nat_lt, is_some, if◌then◌else◌, IfSome}
+use Rattle.osi_class.proofs.Vocabulary.{Ends, Flow, ack_number, after_acked, Drained, drained_by, drained_within, drained, left_to_give, Standing, Given, ack, given_part, next_by, next, sent_flow, two_standing, is_of_two, give_out, MovesAlong, Part, give}
+use Rattle.osi_class.proofs.giving.giving_ends.{giving_lowers}
+use Rattle.osi_class.proofs.between.parts_stay_in_order.{choose_some, at_some}
+
+-- giving a unit leaves the receiving state unchanged; and the class of the unit
+pub record LeavesTaking (e : Ends) (flow : Option Flow) (g : Given) (new : Standing) : Type 0 where
+  pub limit : new.ends.limit ≡ e.limit
+  pub joining : new.ends.joining ≡ e.joining
+  pub class : is_some new.flow ≡ is_some flow
+  pub unit : is_of_two g ≡ is_some flow
+
+abbrev Leaves : Ends → Option Flow → Given × Standing → Type 0
+Leaves e flow (g, new) = LeavesTaking e flow g new
+
+zero_leaves : (e : Ends) (o : Option (Part × List (List ℕ))) → IfSome (given_part e None None o) (Leaves e None)
+zero_leaves e None = tt
+zero_leaves e (Some ((end, octets), rest)) = record { limit = refl; joining = refl; class = refl; unit = refl }
+
+two_leaves : (e : Ends) (f g : Flow) (number : ℕ) (o : Option (Part × List (List ℕ))) →
+    IfSome (given_part e (Some g) (Some number) o) (Leaves e (Some f))
+two_leaves e f g number None = tt
+two_leaves e f g number (Some ((end, octets), rest)) = record { limit = refl; joining = refl; class = refl; unit = refl }
+
+next_leaves : (e : Ends) (flow : Option Flow) → IfSome (next_by e flow) (Leaves e flow)
+next_leaves e None = zero_leaves e (give e.limit e.unsent)
+next_leaves e (Some f) =
+    choose_some (Leaves e (Some f)) (nat_lt 0 f.receiver.waiting)
+    (Some (ack (ack_number f.receiver) f.receiver.window, two_standing e (record f { receiver = after_acked f.receiver })))
+    (if nat_lt 0 f.sender.credit then given_part e (Some (sent_flow f)) (Some f.sender.next) (give e.limit e.unsent) else None)
+    (λ _. record { limit = refl; joining = refl; class = refl; unit = refl })
+    (λ _. choose_some (Leaves e (Some f)) (nat_lt 0 f.sender.credit)
+    (given_part e (Some (sent_flow f)) (Some f.sender.next) (give e.limit e.unsent)) None
+    (λ _. two_leaves e f (sent_flow f) f.sender.next (give e.limit e.unsent))
+    (λ _. tt))
+
+pub giving_leaves : (old new : Standing) (given : Given) → next old ≡ Some (given, new) → LeavesTaking old.ends old.flow given new
+giving_leaves old new given e =
+    at_some (Leaves old.ends old.flow) (next old) (given, new) (next_leaves old.ends old.flow) e
+
+limit_stays : (old new : Standing) (given : Given) → next old ≡ Some (given, new) → 0 < old.ends.limit → 0 < new.ends.limit
+limit_stays old new given e room = let same = (giving_leaves old new given e).limit in omega arith
+
+-- if nothing is left, nothing is given
+nothing_left : (s : Standing) → 0 < s.ends.limit → left_to_give s ≤ 0 → next s ≡ None
+nothing_left s room none =
+    elim (next s) as (λ o. next s ≡ o → o ≡ None) [
+      | None ↦ λ e. refl
+      | Some p ↦ λ e. let less = giving_lowers s p.1 p.0 room e in absurd (omega arith)
+    ] refl
+
+-- more fuel makes no difference
+within_enough : (n m : ℕ) (s : Standing) → 0 < s.ends.limit → left_to_give s ≤ n → left_to_give s ≤ m →
+    drained_within n s ≡ drained_within m s
+within_enough zero zero s room a b = refl
+within_enough zero (suc m) s room a b =
+    sym (ap (λ (o : Option (Given × Standing)). drained_by o s (drained_within m)) (nothing_left s room a))
+within_enough (suc n) zero s room a b =
+    ap (λ (o : Option (Given × Standing)). drained_by o s (drained_within n)) (nothing_left s room b)
+within_enough (suc n) (suc m) s room a b =
+    elim (next s) as (λ o. next s ≡ o → drained_by o s (drained_within n) ≡ drained_by o s (drained_within m)) [
+      | None ↦ λ e. refl
+      | Some p ↦ λ e. let less = giving_lowers s p.1 p.0 room e in
+          ap (λ (d : Drained). record { units = p.0 ∷ d.units; link = d.link })
+          (within_enough n m p.1 (limit_stays s p.1 p.0 e room) (omega arith) (omega arith))
+    ] refl
+
+pub within_none : (n : ℕ) (s : Standing) → next s ≡ None → drained_within n s ≡ record { units = []; link = s }
+within_none zero s e = refl
+within_none (suc n) s e = ap (λ (o : Option (Given × Standing)). drained_by o s (drained_within n)) e
+
+pub drained_none : (s : Standing) → next s ≡ None → drained s ≡ record { units = []; link = s }
+unfolding drained
+drained_none s e = within_none (left_to_give s) s e
+
+-- one step, if this much is left
+first_step : (n : ℕ) (s t : Standing) (g : Given) → 0 < s.ends.limit → next s ≡ Some (g, t) → left_to_give s ≡ suc n →
+    drained s ≡ record { units = g ∷ (drained t).units; link = (drained t).link }
+unfolding drained
+first_step n s t g room e is =
+    let less = giving_lowers s t g room e in
+    ap (λ (m : ℕ). drained_within m s) is
+    ∙ ap (λ (o : Option (Given × Standing)). drained_by o s (drained_within n)) e
+    ∙ ap (λ (d : Drained). record { units = g ∷ d.units; link = d.link })
+    (within_enough n (left_to_give t) t (limit_stays s t g e room) (omega arith) (omega arith))
+
+pub drained_some : (s t : Standing) (g : Given) → 0 < s.ends.limit → next s ≡ Some (g, t) →
+    drained s ≡ record { units = g ∷ (drained t).units; link = (drained t).link }
+drained_some s t g room e =
+    let less = giving_lowers s t g room e in
+    first_step (left_to_give s - 1) s t g room e (omega arith)
+
+within_ends : (n : ℕ) (s : Standing) → 0 < s.ends.limit → left_to_give s ≤ n → next (drained_within n s).link ≡ None
+within_ends zero s room a = nothing_left s room a
+within_ends (suc n) s room a =
+    elim (next s) as (λ o. next s ≡ o → next (drained_by o s (drained_within n)).link ≡ None) [
+      | None ↦ λ e. e
+      | Some p ↦ λ e. let less = giving_lowers s p.1 p.0 room e in
+          within_ends n p.1 (limit_stays s p.1 p.0 e room) (omega arith)
+    ] refl
+
+pub drained_ends : (s : Standing) → 0 < s.ends.limit → next (drained s).link ≡ None
+unfolding drained
+drained_ends s room = within_ends (left_to_give s) s room (omega arith)
+
+-- the calls of next_out that give all of it
+within_moves : (n : ℕ) (s : Standing) → MovesAlong s (map give_out (drained_within n s).units) (drained_within n s).link
+within_moves zero s = refl
+within_moves (suc n) s =
+    elim (next s) as (λ o. next s ≡ o → MovesAlong s (map give_out (drained_by o s (drained_within n)).units) (drained_by o s (drained_within n)).link) [
+      | None ↦ λ e. refl
+      | Some p ↦ λ e. (p.1, e, within_moves n p.1)
+    ] refl
+
+pub drained_moves : (s : Standing) → MovesAlong s (map give_out (drained s).units) (drained s).link
+unfolding drained
+drained_moves s = within_moves (left_to_give s) s
+
+within_leaves : (n : ℕ) (s : Standing) → ((drained_within n s).link.ends.limit ≡ s.ends.limit) ×
+    ((drained_within n s).link.ends.joining ≡ s.ends.joining) × (is_some (drained_within n s).link.flow ≡ is_some s.flow)
+within_leaves zero s = (refl, refl, refl)
+within_leaves (suc n) s =
+    elim (next s) as (λ o. next s ≡ o → ((drained_by o s (drained_within n)).link.ends.limit ≡ s.ends.limit) ×
+    ((drained_by o s (drained_within n)).link.ends.joining ≡ s.ends.joining) × (is_some (drained_by o s (drained_within n)).link.flow ≡ is_some s.flow)) [
+      | None ↦ λ e. (refl, refl, refl)
+      | Some p ↦ λ e. let one = giving_leaves s p.1 p.0 e in
+          let more = within_leaves n p.1 in
+          (more.0 ∙ one.limit, more.1 ∙ one.joining, more.2 ∙ one.class)
+    ] refl
+
+pub drained_leaves : (s : Standing) → ((drained s).link.ends.limit ≡ s.ends.limit) ×
+    ((drained s).link.ends.joining ≡ s.ends.joining) × (is_some (drained s).link.flow ≡ is_some s.flow)
+unfolding drained
+drained_leaves s = within_leaves (left_to_give s) s

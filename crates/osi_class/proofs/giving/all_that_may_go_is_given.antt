@@ -1,0 +1,142 @@
+-- TSDUs whose units may all be given now are given whole, one after the other.
+-- For the law `all_go_at_once`, and for `are_few` of sizes, which counts the units.
+use Rattle.std.proofs.Common.{◌≡◌, ℕ, zero, suc, ◌+◌, ◌-◌, ◌%◌, ◌<◌, ◌≤◌, true, false, List, [], ◌∷◌, length, take, drop, map, get_or, Option, Some, None, refl, sym, ◌∙◌, ap, subst, arith, nat_lt, is_some, if◌then◌else◌, length-drop}
+use Rattle.std.proofs.lemmas.List.Sums.{sum_by-cons}
+use Rattle.osi_class.proofs.Vocabulary.{ltb-true, ltb-false, Ends, Flow, Drained, drained_by, drained_within, drained, octets_in, parts_needed, units_needed, MayGoAll, AllGoAtOnce, GoesWhole, Joining, Standing, given_part, next, sent_flow, with_tsdu, zero_standing, two_standing, give}
+use Rattle.osi_class.proofs.giving.a_link_gives_finitely_many_units.{within_none, drained_ends, drained_leaves}
+use Rattle.osi_class.proofs.giving.when_nothing_is_given.{class_0}
+use Rattle.osi_class.proofs.giving.the_units_of_one_tsdu.{parts_cut, one_part, parts_some, take_drop, two_flow, two_with, no_tsdus, alone, room_of_class_0}
+
+pub more_units : (limit : ℕ) (t : List ℕ) (ts : List (List ℕ)) →
+    units_needed limit (t ∷ ts) ≡ parts_needed limit (length t) + units_needed limit ts
+more_units limit t ts = sum_by-cons (λ (t : List ℕ). parts_needed limit (length t)) t ts
+
+no_flow : (flow : Option Flow) → is_some flow ≡ false → flow ≡ None
+no_flow None e = refl
+no_flow (Some f) e = cc
+
+-- in class 0 nothing is left
+zero_goes : (e : Ends) (t : List ℕ) (others : List (List ℕ)) → 0 < e.limit → e.unsent ≡ [] → GoesWhole (zero_standing e) t others
+zero_goes e t others room none =
+    let first = with_tsdu (zero_standing e) t in
+    let last = (drained first).link in
+    let flow = no_flow last.flow (drained_leaves first).2 in
+    let ends = subst (λ (f : Option Flow). next (record { ends = last.ends; flow = f }) ≡ None) flow (drained_ends first room) in
+    record {
+      octets = (room_of_class_0 e t room ((class_0 e).1 none)).1;
+      others = record {
+        alone = (class_0 last.ends).0 ends;
+        may = subst (λ (f : Option Flow). MayGoAll (units_needed last.ends.limit others) f) (sym flow) tt;
+      };
+    }
+
+-- a link of class 2 with nothing to be sent
+abbrev nothing_left : ℕ → Joining → ℕ → ℕ → ℕ → ℕ → ℕ → Standing
+nothing_left limit j a u w x c = two_standing (record { limit = limit; unsent = []; joining = j }) (two_flow a u c w x)
+
+-- it gave all octets of a TSDU, and this credit is left
+record Emptied (limit : ℕ) (j : Joining) (credit w x octets : ℕ) (d : Drained) : Type 0 where
+  number : ℕ
+  unacknowledged : ℕ
+  link : d.link ≡ nothing_left limit j number unacknowledged w x credit
+  all : octets_in d.units ≡ octets
+
+two_empties : (limit : ℕ) → 0 < limit → (n a u c w x : ℕ) (t : List ℕ) (j : Joining) →
+    length t + 1 ≤ n → parts_needed limit (length t) ≤ c →
+    Emptied limit j (c - parts_needed limit (length t)) w x (length t) (drained_within n (two_with limit j t (two_flow a u c w x)))
+two_empties limit room zero a u c w x t j small enough = absurd (omega arith)
+two_empties limit room (suc n) a u c w x t j small enough =
+    let e : Ends = record { limit = limit; unsent = t ∷ []; joining = j } in
+    let f : Flow = two_flow a u c w x in
+    let left = c - parts_needed limit (length t) in
+    let needed = parts_some limit (length t) in
+    elim (nat_lt 0 c) as (λ k. nat_lt 0 c ≡ k → Emptied limit j left w x (length t)
+    (drained_by (if k then given_part e (Some (sent_flow f)) (Some a) (give limit (t ∷ [])) else None) (two_standing e f)
+    (drained_within n))) [
+      | true ↦ λ k. elim (nat_lt limit (length t)) as (λ b. nat_lt limit (length t) ≡ b → Emptied limit j left w x (length t)
+          (drained_by (given_part e (Some (sent_flow f)) (Some a)
+          (if b then Some ((false, take limit t), drop limit t ∷ []) else Some ((true, t), []))) (two_standing e f) (drained_within n))) [
+            | true ↦ λ b. let longer : limit < length t = ltb-true limit (length t) b in
+                let shorter = length-drop limit t in
+                let both = take_drop limit t in
+                let count : parts_needed limit (length t) ≡ parts_needed limit (length (drop limit t)) + 1 =
+                parts_cut limit (length t) room longer ∙ ap (λ (m : ℕ). parts_needed limit m + 1) (sym shorter) in
+                let more = two_empties limit room n ((a + 1) % 128) (u + 1) (c - 1) w x (drop limit t) j (omega arith)
+                (omega (arith, count)) in
+                let credit : c - 1 - parts_needed limit (length (drop limit t)) ≡ left = omega (arith, count) in
+                let octets = more.all in
+                record {
+                  number = more.number;
+                  unacknowledged = more.unacknowledged;
+                  link = more.link ∙ ap (nothing_left limit j more.number more.unacknowledged w x) credit;
+                  all = omega (arith, both, octets);
+                }
+            | false ↦ λ b. let short : length t ≤ limit = ltb-false limit (length t) b in
+                let none = within_none n (nothing_left limit j ((a + 1) % 128) (u + 1) w x (c - 1))
+                (no_tsdus limit j ((a + 1) % 128) (u + 1) (c - 1) w x) in
+                let count = one_part limit (length t) room short in
+                let credit : c - 1 ≡ left = omega (arith, count) in
+                let octets = ap (λ (d : Drained). octets_in d.units) none in
+                let last = drained_within n (nothing_left limit j ((a + 1) % 128) (u + 1) w x (c - 1)) in
+                let link : last.link ≡ nothing_left limit j ((a + 1) % 128) (u + 1) w x (c - 1) = ap (λ (d : Drained). d.link) none in
+                record {
+                  number = (a + 1) % 128;
+                  unacknowledged = u + 1;
+                  link = link ∙ ap (nothing_left limit j ((a + 1) % 128) (u + 1) w x) credit;
+                  all = omega (arith, octets);
+                }
+          ] refl
+      | false ↦ λ k. let none : c ≤ 0 = ltb-false 0 c k in absurd (omega arith)
+    ] refl
+
+emptied : (e : Ends) (f : Flow) (t : List ℕ) → 0 < e.limit → e.unsent ≡ [] → f.receiver.waiting ≡ 0 →
+    parts_needed e.limit (length t) ≤ f.sender.credit →
+    Emptied e.limit e.joining (f.sender.credit - parts_needed e.limit (length t)) f.receiver.window f.receiver.expected (length t)
+    (drained (with_tsdu (two_standing e f) t))
+unfolding drained
+emptied e f t room unsent waiting enough =
+    let s = f.sender in
+    let r = f.receiver in
+    let P : List (List ℕ) → ℕ → Type 0 = λ u w. Emptied e.limit e.joining (s.credit - parts_needed e.limit (length t)) r.window
+    r.expected (length t)
+    (drained (two_standing (record e { unsent = u }) (record f { receiver = record r { waiting = w } }))) in
+    let one : P (t ∷ []) 0 = two_empties e.limit room (length t + 1 + 0 + 0) s.next s.unacknowledged s.credit r.window r.expected t
+    e.joining (omega arith) enough in
+    let two : P (t ∷ []) r.waiting = subst (λ (w : ℕ). P (t ∷ []) w) (sym waiting) one in
+    subst (λ (u : List (List ℕ)). P u r.waiting) (sym (alone e.unsent t unsent)) two
+
+two_goes : (e : Ends) (f : Flow) (t : List ℕ) (others : List (List ℕ)) → 0 < e.limit → e.unsent ≡ [] → f.receiver.waiting ≡ 0 →
+    units_needed e.limit (t ∷ others) ≤ f.sender.credit → GoesWhole (two_standing e f) t others
+two_goes e f t others room unsent waiting enough =
+    let units = more_units e.limit t others in
+    let all = emptied e f t room unsent waiting (omega (arith, units)) in
+    let fits : units_needed e.limit others ≤ f.sender.credit - parts_needed e.limit (length t) = omega (arith, units) in
+    record {
+      octets = all.all;
+      others = subst (λ (l : Standing). AllGoAtOnce l others) (sym all.link) (record { alone = refl; may = (refl, fits) });
+    }
+
+goes_by : (e : Ends) (flow : Option Flow) (t : List ℕ) (others : List (List ℕ)) → 0 < e.limit → e.unsent ≡ [] →
+    MayGoAll (units_needed e.limit (t ∷ others)) flow → GoesWhole (record { ends = e; flow = flow }) t others
+goes_by e None t others room unsent may = zero_goes e t others room unsent
+goes_by e (Some f) t others room unsent may = two_goes e f t others room unsent may.0 may.1
+
+pub goes_whole : (s : Standing) (t : List ℕ) (others : List (List ℕ)) → 0 < s.ends.limit → AllGoAtOnce s (t ∷ others) → GoesWhole s t others
+goes_whole s t others room all = goes_by s.ends s.flow t others room all.alone all.may
+
+-- one TSDU and those before it go in no more units than all
+some_at : {V : Type 0} (items : V → List ℕ) (limit i : ℕ) (vs : List V) (d : V) → i < length vs →
+    units_needed limit (map items (take i vs)) + parts_needed limit (length (items (get_or vs i d))) ≤ units_needed limit (map items vs)
+some_at items limit i [] d within = absurd (omega arith)
+some_at items limit zero (v ∷ vs) d within = let all = more_units limit (items v) (map items vs) in omega (arith, all)
+some_at items limit (suc i) (v ∷ vs) d within =
+    let some = more_units limit (items v) (map items (take i vs)) in
+    let all = more_units limit (items v) (map items vs) in
+    let more = some_at items limit i vs d (omega arith) in
+    omega (arith, some, all, more)
+
+pub some_of_all : {V : Type 0} (items : V → List ℕ) (limit i octets : ℕ) (vs : List V) (v : V) → i < length vs → v ≡ get_or vs i v →
+    octets ≡ length (items v) → units_needed limit (map items (take i vs)) + parts_needed limit octets ≤ units_needed limit (map items vs)
+some_of_all items limit i octets vs v within is size =
+    let P : ℕ → Type 0 = λ n. units_needed limit (map items (take i vs)) + parts_needed limit n ≤ units_needed limit (map items vs) in
+    subst P (sym (size ∙ ap (λ x. length (items x)) is)) (some_at items limit i vs v within)

@@ -1,0 +1,169 @@
+-- Digits that are read one after the other give the octets that hex.decode gives, and nothing where it gives an error: for the
+-- reading of a capture's text.
+use Rattle.std.proofs.Common.{◌≡◌, ◌≢◌, ◌∙◌, ℕ, ◌+◌, ◌-◌, ◌*◌, ◌%◌, ◌==◌, ◌≤◌, Bool, true, false, List, [], ◌∷◌, ◌++◌, length, slice_index, take, drop, Option, Some, None, Result, Ok, Err, refl, inl, inr, sym, ap, arith}
+use Rattle.std.specs.Prelude.{IsErr}
+use Rattle.std.proofs.lemmas.List.{append_assoc, append-nil, nil_from_length, take_all}
+use Rattle.std.proofs.lemmas.Bool.Decides.{eqb_tells}
+use Rattle.hex.specs.Hex.{decode_of, decode_pairs, digit_or_error, hex_digit_value, ◌>>=◌}
+use Rattle.hex.specs.declared.error.FromHexError.{FromHexError}
+use Rattle.hex.specs.declared.error.FromHexError.TheVariants.{OddLength}
+use Rattle.hex.proofs.HexLemmas.{decode_of-even, decode_pairs-ok}
+use Rattle.osi_listing.proofs.digits_from_octet_to_octet.{left_comment, left_digit_of}
+use Rattle.osi_listing.specs.Capture.{after_octets, digits_of, digits_left, if_digit, is_blank, octets_from, with_digit}
+
+-- the octets of a result, if it has some
+abbrev octets_in : Result (List ℕ) FromHexError → Option (List ℕ)
+octets_in (Ok octets) = Some octets
+octets_in (Err e) = None
+
+nothing_more : (digit : Option ℕ) → if_digit digit (λ v. None) ≡ None
+nothing_more (Some v) = refl
+nothing_more None = refl
+
+-- two digits, and the octets after them
+two_digits : (a b i : ℕ) (high low : Option ℕ) (rest : Result (List ℕ) FromHexError) →
+    octets_in ((digit_or_error a i high >>= (λ h. digit_or_error b (i + 1) low >>= (λ l. Ok (h * 16 + l)))) >>= (λ byte. rest >>= (λ bytes. Ok (byte ∷ bytes))))
+    ≡ if_digit high (λ h. if_digit low (λ l. after_octets ((h * 16 + l) ∷ []) (octets_in rest)))
+two_digits a b i None low rest = refl
+two_digits a b i (Some h) None rest = refl
+two_digits a b i (Some h) (Some l) (Ok bytes) = refl
+two_digits a b i (Some h) (Some l) (Err e) = refl
+
+pairs_give : (i : ℕ) (s : List ℕ) → octets_in (decode_pairs i s) ≡ octets_from s None
+unfolding decode_pairs
+pairs_give i [] = refl
+pairs_give i (a ∷ []) = sym (nothing_more (hex_digit_value a))
+pairs_give i (a ∷ b ∷ rest) =
+    two_digits a b i (hex_digit_value a) (hex_digit_value b) (decode_pairs (i + 2) rest)
+    ∙ ap (λ o. if_digit (hex_digit_value a) (λ h. if_digit (hex_digit_value b) (λ l. after_octets ((h * 16 + l) ∷ []) o))) (pairs_give (i + 2) rest)
+
+-- an odd number of digits gives nothing
+odd_gives : (s : List ℕ) (r : Result (List ℕ) FromHexError) → decode_pairs 0 s ≡ r → length s % 2 ≡ 1 → octets_in r ≡ None
+odd_gives s (Ok bytes) e odd = let sized = (decode_pairs-ok 0 s bytes e).1 in absurd (omega arith)
+odd_gives s (Err x) e odd = refl
+
+decode_of-odd : (s : List ℕ) → length s % 2 ≡ 1 → decode_of s ≡ Err OddLength
+decode_of-odd s odd = grind (arith)
+
+digits_give : (s : List ℕ) → octets_in (decode_of s) ≡ octets_from s None
+digits_give s = elim (eqb_tells (length s % 2) 1) [
+  | inl odd ↦ ap octets_in (decode_of-odd s odd.1) ∙ sym (odd_gives s (decode_pairs 0 s) refl odd.1) ∙ pairs_give 0 s
+  | inr even ↦
+      let differs = even.1 in
+      let half : length s % 2 ≡ 0 = omega arith in
+      ap octets_in (decode_of-even s half) ∙ pairs_give 0 s
+]
+
+is_ok_of : (r : Result (List ℕ) FromHexError) (octets : List ℕ) → octets_in r ≡ Some octets → r ≡ Ok octets
+is_ok_of (Ok x) octets e = cc
+is_ok_of (Err f) octets e = cc
+
+is_err_of : (r : Result (List ℕ) FromHexError) → octets_in r ≡ None → IsErr r
+is_err_of (Ok x) e = cc
+is_err_of (Err f) e = refl
+
+-- the digits that were read are a capture
+pub all_are_digits : (s octets : List ℕ) → octets_from s None ≡ Some octets → decode_of s ≡ Ok octets
+all_are_digits s octets e = is_ok_of (decode_of s) octets (digits_give s ∙ e)
+
+-- or they are not
+pub not_all_are_digits : (s : List ℕ) → octets_from s None ≡ None → IsErr (decode_of s)
+not_all_are_digits s e = is_err_of (decode_of s) (digits_give s ∙ e)
+
+-- ---- one digit
+
+from_48 : (c v : ℕ) → hex_digit_value c ≡ Some v → 48 ≤ c
+from_48 c v h = grind (arith)
+
+-- a digit is neither a line end nor the sign of a comment
+pub digit_no_sign : (c v : ℕ) → hex_digit_value c ≡ Some v → (c ≢ 10) × (c ≢ 35)
+digit_no_sign c v h = let from = from_48 c v h in (omega arith, omega arith)
+
+differ : (a b : ℕ) → a ≢ b → (a == b) ≡ false
+differ a b h = elim (eqb_tells a b) [ inl same ↦ absurd (h same.1) | inr other ↦ other.0 ]
+
+-- and no blank
+pub digit_no_blank : (c v : ℕ) → hex_digit_value c ≡ Some v → is_blank c ≡ false
+digit_no_blank c v h =
+    let from = from_48 c v h in
+    let a : (c == 32) ≡ false = differ c 32 (omega arith) in
+    let b : (c == 9) ≡ false = differ c 9 (omega arith) in
+    let d : (c == 13) ≡ false = differ c 13 (omega arith) in
+    rw (a, b, d) refl
+
+-- ---- a character of a text
+
+-- a digit outside comments
+pub digit_read : (b : Bool) (c v : ℕ) (high : Option ℕ) (rest : List ℕ) → hex_digit_value c ≡ Some v → b ≡ false →
+    octets_from (digits_left b (c ∷ rest)) high ≡ with_digit high v (octets_from (digits_left false rest))
+digit_read b c v high rest h e =
+    let sign = digit_no_sign c v h in
+    ap (λ d. octets_from d high) (left_digit_of b c rest e sign.0 sign.1 (digit_no_blank c v h))
+    ∙ ap (λ o. if_digit o (λ digit. with_digit high digit (octets_from (digits_left false rest)))) h
+
+-- a digit in a comment
+pub digit_skipped : (b : Bool) (c v : ℕ) (rest : List ℕ) → hex_digit_value c ≡ Some v → b ≡ true → digits_left b (c ∷ rest) ≡ digits_left b rest
+digit_skipped true c v rest h e = left_comment c rest (differ c 10 (digit_no_sign c v h).0)
+digit_skipped false c v rest h e = absurd (cc)
+
+-- another character outside comments
+pub no_digit : (b : Bool) (c : ℕ) (high : Option ℕ) (rest : List ℕ) → hex_digit_value c ≡ None → b ≡ false → c ≢ 10 → c ≢ 35 →
+    is_blank c ≡ false → octets_from (digits_left b (c ∷ rest)) high ≡ None
+no_digit b c high rest h e feed sign blank =
+    ap (λ d. octets_from d high) (left_digit_of b c rest e feed sign blank)
+    ∙ ap (λ o. if_digit o (λ digit. with_digit high digit (octets_from (digits_left false rest)))) h
+
+-- two digits side by side
+pub two_read : (a b high low : ℕ) (rest : List ℕ) → hex_digit_value a ≡ Some high → hex_digit_value b ≡ Some low →
+    octets_from (digits_of (a ∷ b ∷ rest)) None ≡ after_octets ((high * 16 + low) ∷ []) (octets_from (digits_of rest) None)
+two_read a b high low rest h k = digit_read false a high None (b ∷ rest) h refl ∙ digit_read false b low (Some high) rest k refl
+
+-- at the front of a text
+pub front_read : (text : List ℕ) (high low : ℕ) → 2 ≤ length text → hex_digit_value (slice_index text 0) ≡ Some high →
+    hex_digit_value (slice_index text 1) ≡ Some low →
+    octets_from (digits_of text) None ≡ after_octets ((high * 16 + low) ∷ []) (octets_from (digits_of (take (length text - 2) (drop 2 text))) None)
+front_read [] high low two h k = absurd (omega arith)
+front_read (a ∷ []) high low two h k = absurd (omega arith)
+front_read (a ∷ b ∷ rest) high low two h k =
+    two_read a b high low rest h k
+    ∙ ap (λ r. after_octets ((high * 16 + low) ∷ []) (octets_from (digits_of r) None)) (sym (take_all (length (a ∷ b ∷ rest) - 2) rest (omega arith)))
+
+-- ---- the end of a text
+
+no_digits_left : (b : Bool) → digits_left b [] ≡ []
+no_digits_left true = refl
+no_digits_left false = refl
+
+left_at_end : (b : Bool) (rest : List ℕ) → length rest ≡ 0 → digits_left b rest ≡ []
+left_at_end b rest e = ap (digits_left b) (nil_from_length rest e) ∙ no_digits_left b
+
+pub captures_at_end : (b : Bool) (high : Option ℕ) (rest text octets : List ℕ) → length rest ≡ 0 → high ≡ None →
+    after_octets octets (octets_from (digits_left b rest) high) ≡ octets_from (digits_of text) None → decode_of (digits_of text) ≡ Ok octets
+captures_at_end b high rest text octets e h so_far =
+    all_are_digits (digits_of text) octets (sym so_far ∙ ap (λ o. after_octets octets (octets_from (digits_left b rest) o)) h
+    ∙ ap (λ d. after_octets octets (octets_from d None)) (left_at_end b rest e) ∙ ap Some (append-nil octets))
+
+-- half an octet at the end
+pub no_capture_at_end : (b : Bool) (high : Option ℕ) (first : ℕ) (rest text octets : List ℕ) → length rest ≡ 0 → high ≡ Some first →
+    after_octets octets (octets_from (digits_left b rest) high) ≡ octets_from (digits_of text) None → IsErr (decode_of (digits_of text))
+no_capture_at_end b high first rest text octets e h so_far =
+    not_all_are_digits (digits_of text) (sym so_far ∙ ap (λ o. after_octets octets (octets_from (digits_left b rest) o)) h
+    ∙ ap (λ d. after_octets octets (octets_from d (Some first))) (left_at_end b rest e))
+
+-- a character that can't be read
+pub no_capture_here : (b : Bool) (high : Option ℕ) (c : ℕ) (rest behind text octets : List ℕ) → rest ≡ c ∷ behind →
+    octets_from (digits_left b (c ∷ behind)) high ≡ None →
+    after_octets octets (octets_from (digits_left b rest) high) ≡ octets_from (digits_of text) None → IsErr (decode_of (digits_of text))
+no_capture_here b high c rest behind text octets e none so_far =
+    not_all_are_digits (digits_of text) (sym so_far ∙ ap (λ r. after_octets octets (octets_from (digits_left b r) high)) e
+    ∙ ap (after_octets octets) none)
+
+-- ---- octets after octets
+
+pub after_both : (a b : List ℕ) (more : Option (List ℕ)) → after_octets (a ++ b) more ≡ after_octets a (after_octets b more)
+after_both a b (Some more) = ap Some (append_assoc a b more)
+after_both a b None = refl
+
+pub after_none : (more : Option (List ℕ)) → after_octets [] more ≡ more
+after_none (Some octets) = refl
+after_none None = refl

@@ -1,0 +1,189 @@
+-- The packets of a stream: what one more of them adds to the listing, and what is left after them.
+use Rattle.std.proofs.Common.{◌≡◌, ◌≢◌, ◌∙◌, ℕ, ◌+◌, ◌-◌, ◌<◌, ◌≤◌, ◌^◌, Bool, true, false, MatchBool, List, [], ◌∷◌, ◌++◌, length, take, drop, refl, sym, ap, subst, arith, Option, None, Result, Ok, Err, IfOk, OnOk}
+use Rattle.std.specs.List.{flat_map}
+use Rattle.std.proofs.lemmas.List.{append_assoc, append-nil, length-append, take-append-drop, nil_from_length, take_all}
+use Rattle.osi_tpkt.specs.Cutter.{Gains, TakesPiece}
+use Rattle.osi_tpkt.specs.Held.{Held}
+use Rattle.osi_tpkt.specs.Packet.{IsPacket, IsOnePacket, IsPartial, IsFaultOf}
+use Rattle.osi_tpkt.specs.Stream.{ArePackets, offset_of}
+use Rattle.osi_tpkt.specs.declared.faults.TpktFault.{TpktFault}
+use Rattle.osi_tpkt.specs.declared.faults.TpktFault.TheVariants.{BadVersion, BadLength, OutOfMemory}
+use Rattle.osi_tpkt.proofs.a_prefix_of_a_packet.{empty_partial}
+use Rattle.osi_tpdu.specs.Packet.{units_of}
+use Rattle.osi_listing.specs.declared.work.Work.{Work}
+use Rattle.osi_listing.specs.Counting.{none}
+use Rattle.osi_listing.specs.Lines.{packet_length}
+use Rattle.osi_listing.specs.Streams.{Part}
+use Rattle.osi_listing.specs.Listing.{Entry, line_of, read_entries, read_parts, all_parts, packet_entries}
+use Rattle.osi_listing.specs.Listing.Entry.{Packet}
+use Rattle.osi_listing.specs.Says.{Says, Holds}
+use Rattle.osi_listing.specs.Fed.{Listed, Moves, IsReady, IsGoing, IsWithoutPacket, Leaves, OnlyHolds, Goes}
+use Rattle.osi_listing.proofs.units_one_after_the_other.{says_both}
+
+-- the octets of packets with these units
+abbrev pub total_length : List (List ℕ) → ℕ
+total_length [] = 0
+total_length (u ∷ us) = packet_length u + total_length us
+
+all_parts-push : (us : List (List ℕ)) (u : List ℕ) → all_parts (us ++ u ∷ []) ≡ all_parts us ++ read_parts (units_of u)
+all_parts-push [] u = append-nil (read_parts (units_of u))
+all_parts-push (v ∷ us) u =
+    ap (λ x. read_parts (units_of v) ++ x) (all_parts-push us u) ∙ sym (append_assoc (read_parts (units_of v)) (all_parts us) (read_parts (units_of u)))
+
+pub packets_total : (us : List (List ℕ)) (s r : List ℕ) → ArePackets us s r → length s ≡ total_length us + length r
+packets_total [] s r h = let e = ap length h in omega arith
+packets_total (u ∷ us) s r h =
+    let e = ap length h.3 ∙ length-append h.0 h.1 in
+    let packet = ap length h.2.spelled in
+    let more = packets_total us h.1 r h.4 in omega arith
+
+packets_more : (us : List (List ℕ)) (s r u b t : List ℕ) → ArePackets us s r → IsPacket u b → r ≡ b ++ t → ArePackets (us ++ u ∷ []) s t
+packets_more [] s r u b t h p e = (b, t, p, h ∙ e, refl)
+packets_more (v ∷ us) s r u b t h p e = (h.0, h.1, h.2, h.3, packets_more us h.1 r u b t h.4 p e)
+
+pub packets_longer : (us : List (List ℕ)) (s r more : List ℕ) → ArePackets us s r → ArePackets us (s ++ more) (r ++ more)
+packets_longer [] s r more h = ap (λ x. x ++ more) h
+packets_longer (u ∷ us) s r more h =
+    (h.0, h.1 ++ more, h.2, ap (λ x. x ++ more) h.3 ∙ append_assoc h.0 h.1 more, packets_longer us h.1 r more h.4)
+
+-- one more packet
+abbrev entries_of : ℕ → List Part → List ℕ → List Entry
+entries_of at earlier u = Packet at u ∷ read_entries earlier (units_of u)
+
+packet_entries-push : (at : ℕ) (earlier : List Part) (us : List (List ℕ)) (u : List ℕ) →
+    packet_entries at earlier (us ++ u ∷ []) ≡ packet_entries at earlier us ++ entries_of (at + total_length us) (earlier ++ all_parts us) u
+packet_entries-push at earlier [] u =
+    let same : at ≡ at + 0 = omega arith in
+    append-nil (entries_of at earlier u) ∙ ap (λ n. entries_of n earlier u) same ∙ ap (λ ps. entries_of (at + 0) ps u) (sym (append-nil earlier))
+packet_entries-push at earlier (v ∷ us) u =
+    let parts : List Part = read_parts (units_of v) in
+    let same : at + packet_length v + total_length us ≡ at + (packet_length v + total_length us) = omega arith in
+    ap (λ x. entries_of at earlier v ++ x) (packet_entries-push (at + packet_length v) (earlier ++ parts) us u)
+    ∙ sym (append_assoc (entries_of at earlier v) (packet_entries (at + packet_length v) (earlier ++ parts) us)
+    (entries_of (at + packet_length v + total_length us) ((earlier ++ parts) ++ all_parts us) u))
+    ∙ ap (λ n. (entries_of at earlier v ++ packet_entries (at + packet_length v) (earlier ++ parts) us) ++ entries_of n ((earlier ++ parts) ++ all_parts us) u) same
+    ∙ ap (λ ps. (entries_of at earlier v ++ packet_entries (at + packet_length v) (earlier ++ parts) us)
+    ++ entries_of (at + (packet_length v + total_length us)) ps u) (append_assoc earlier parts (all_parts us))
+
+-- ---- packets are listed, one after the other
+
+pub moves_none : (old new : Work) (text rest : List ℕ) → OnlyHolds old new → Moves old text rest new text rest
+moves_none old new text rest same =
+    subst (λ w. Moves old text rest w text rest) (sym same) (record {
+      listed = λ stream lines few h.
+          ([], sym (append-nil text), subst (λ l. Listed old.streams old.counts old.offset stream l rest) (sym (append-nil lines)) h);
+    })
+
+pub moves_both : (old mid new : Work) (a b c r s t : List ℕ) → Moves old a r mid b s → Moves mid b s new c t → Moves old a r new c t
+moves_both old mid new a b c r s t h k = record {
+  listed = λ stream lines few l.
+      let one = h.listed stream lines few l in
+      let two = k.listed stream (lines ++ one.0) few one.2 in (
+        one.0 ++ two.0,
+        two.1 ∙ ap (λ x. x ++ two.0) one.1 ∙ append_assoc a one.0 two.0,
+        subst (λ x. Listed new.streams new.counts new.offset stream x t) (append_assoc lines one.0 two.0) two.2,
+      );
+}
+
+-- the offset after one more packet
+next_place : (stream rest left packet was now : ℕ) → stream < 2 ^ 64 → rest ≤ stream → rest ≡ packet + left → was ≡ offset_of (stream - rest) →
+    now ≡ offset_of (was + packet) → now ≡ offset_of (stream - left)
+next_place stream rest left packet was now few within parts before after = omega arith
+
+pub moves_packet : (old new : Work) (before after rest left u b : List ℕ) → IsPacket u b → rest ≡ b ++ left →
+    ((e : List Part) → Holds old.streams e → Says before after old.counts new.counts (Packet old.offset u ∷ read_entries e (units_of u))) →
+    ((e : List Part) → Holds old.streams e → Holds new.streams (e ++ read_parts (units_of u))) →
+    new.offset ≡ offset_of (old.offset + packet_length u) → Moves old before rest new after left
+moves_packet old new before after rest left u b p parted says holds place = record {
+  listed = λ stream lines few h.
+      let parts : List Part = all_parts h.units in
+      let total = packets_total h.units stream rest h.packets in
+      let size = ap length parted ∙ length-append b left in
+      let packet = ap length p.spelled in
+      let was = h.place in
+      let at : old.offset ≡ 0 + total_length h.units = omega arith in
+      let said = says parts h.holds in
+      let more : List ℕ = flat_map line_of (entries_of old.offset parts u) in
+      let entries : packet_entries 0 [] h.units ++ entries_of old.offset parts u ≡ packet_entries 0 [] (h.units ++ u ∷ []) =
+      ap (λ n. packet_entries 0 [] h.units ++ entries_of n parts u) at ∙ sym (packet_entries-push 0 [] h.units u) in (
+        more,
+        said.text,
+        record {
+          units = h.units ++ u ∷ [];
+          packets = packets_more h.units stream rest u b left h.packets p parted;
+          says = subst (λ es. Says [] (lines ++ more) none new.counts es) entries
+              (says_both [] lines (lines ++ more) none old.counts new.counts (packet_entries 0 [] h.units) (entries_of old.offset parts u) h.says
+              (record { text = refl; told = said.told }));
+          holds = subst (λ ps. Holds new.streams ps) (sym (all_parts-push h.units u)) (holds parts h.holds);
+          place = next_place (length stream) (length rest) (length left) (packet_length u) old.offset new.offset few (omega arith) (omega arith) h.place place;
+        },
+      );
+}
+
+-- ---- what is held
+
+pub nothing_held : (octets piece : List ℕ) → length octets ≡ 0 → octets ++ piece ≡ piece
+nothing_held octets piece e = ap (λ o. o ++ piece) (nil_from_length octets e)
+
+-- a piece that completes no packet is held
+pub holds_all : (old new : Held) (piece : List ℕ) (used : ℕ) → IsPartial (old.octets ++ take used piece) × (used ≡ length piece) →
+    Gains old (take used piece) new → IsGoing old → Leaves new (old.octets ++ piece) None
+holds_all old new piece used part gains going =
+    let same : take used piece ≡ piece = take_all used piece (omega arith) in
+    let octets : new.octets ≡ old.octets ++ take used piece = ap (λ h. h.octets) gains.octets in
+    ((subst IsPartial (sym octets) part.0, ap (λ h. h.fault) gains.octets ∙ going.1), octets ∙ ap (λ o. old.octets ++ o) same)
+
+pub held_partial : (whole : Bool) (used : ℕ) (old new : Held) (piece : List ℕ) → whole ≡ false →
+    MatchBool whole (IsOnePacket (old.octets ++ take used piece)) (IsPartial (old.octets ++ take used piece) × (used ≡ length piece)) →
+    Gains old (take used piece) new → IsGoing old → Leaves new (old.octets ++ piece) None
+held_partial true used old new piece e part gains going = cc
+held_partial false used old new piece e part gains going = holds_all old new piece used part gains going
+
+pub held_whole : (whole : Bool) (used : ℕ) (octets piece : List ℕ) → whole ≡ true →
+    MatchBool whole (IsOnePacket (octets ++ take used piece)) (IsPartial (octets ++ take used piece) × (used ≡ length piece)) → IsOnePacket (octets ++ take used piece)
+held_whole true used octets piece e part = part
+held_whole false used octets piece e part = cc
+
+-- if no complete packet is at the front, everything is held
+pub held_rest : (whole : Bool) (used : ℕ) (old new : Held) (rest : List ℕ) → IsReady old → IsWithoutPacket rest →
+    MatchBool whole (IsOnePacket (old.octets ++ take used rest)) (IsPartial (old.octets ++ take used rest) × (used ≡ length rest)) →
+    Gains old (take used rest) new → Leaves new rest None
+held_rest true used old new rest ready without part gains =
+    let packet : IsOnePacket (take used rest) = subst (λ o. IsOnePacket (o ++ take used rest)) ready.0 part in
+    absurd (without packet.0 (take used rest) (drop used rest) packet.1 (sym (take-append-drop used rest)))
+held_rest false used old new rest ready without part gains =
+    subst (λ o. Leaves new (o ++ rest) None) ready.0
+    (holds_all old new rest used part gains (subst IsPartial (sym ready.0) empty_partial, ready.1))
+
+-- a fault other than out of memory is one of the stream
+pub fault_told : (old new : Held) (piece : List ℕ) (f : TpktFault) → f ≢ OutOfMemory → TakesPiece old piece (Err f) new →
+    (start : ℕ) × IsFaultOf start (old.octets ++ piece) f
+fault_told old new piece (BadVersion at) known h = (old.offset, h.0)
+fault_told old new piece (BadLength at) known h = (old.offset, h.0)
+fault_told old new piece OutOfMemory known h = absurd (known refl)
+
+pub fault_left : (old new : Held) (piece : List ℕ) (f g : TpktFault) → g ≡ f → g ≢ OutOfMemory → TakesPiece old piece (Err f) new →
+    (start : ℕ) × IsFaultOf start (old.octets ++ piece) g
+fault_left old new piece f g same known h =
+    subst (λ x. (start : ℕ) × IsFaultOf start (old.octets ++ piece) x) (sym same) (fault_told old new piece f (λ e. known (same ∙ e)) h)
+
+-- what was taken of a piece, and the rest of it
+pub joined_again : (new held piece : List ℕ) (used : ℕ) → new ≡ held ++ take used piece → new ++ drop used piece ≡ held ++ piece
+joined_again new held piece used e =
+    ap (λ o. o ++ drop used piece) e ∙ append_assoc held (take used piece) (drop used piece) ∙ ap (λ p. held ++ p) (take-append-drop used piece)
+
+pub parted_at : (n used : ℕ) (rest left : List ℕ) → used ≡ n + 4 → left ≡ drop used rest → rest ≡ take (4 + n) rest ++ left
+parted_at n used rest left e back =
+    let same : 4 + n ≡ used = omega arith in
+    sym (take-append-drop (4 + n) rest) ∙ ap (λ k. take (4 + n) rest ++ drop k rest) same ∙ ap (λ l. take (4 + n) rest ++ l) (sym back)
+
+pub only_held : (old new : Work) (before after rest : List ℕ) → OnlyHolds old new → after ≡ before → Moves old before rest new after rest
+only_held old new before after rest same text = subst (λ t. Moves old before rest new t rest) (sym text) (moves_none old new before rest same)
+
+-- the complete packets in a piece, and then what is left of it
+pub then_holds : {E : Type 0} (r : Result (Option TpktFault) E) (old mid last new : Work) (a b c piece rest left : List ℕ) →
+    Moves old a (old.cutter.octets ++ piece) mid b rest → Moves mid b rest last c left → OnOk r (OnlyHolds last new) →
+    IfOk r (λ f. Leaves new.cutter left f) → IfOk r (λ f. Goes old a piece f new c)
+then_holds (Ok f) old mid last new a b c piece rest left one two same leaves =
+    (left, moves_both old mid new a b c (old.cutter.octets ++ piece) rest left one (moves_both mid last new b c c rest left left two (moves_none last new c left same)), leaves)
+then_holds (Err e) old mid last new a b c piece rest left one two same leaves = tt

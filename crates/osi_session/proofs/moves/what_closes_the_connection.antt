@@ -1,0 +1,220 @@
+-- What closes the transport connection, and that nothing is sent with it.
+use Rattle.std.proofs.Common.{◌≡◌, refl, sym, ◌∙◌, ap, subst, ℕ, Bool, true, false, not, ◌||◌, List, [], ◌∷◌, ◌++◌, None, Result, Ok, Err, if◌then◌else◌, arith}
+use Rattle.std.proofs.lemmas.List.Folds.{list_any-append}
+use Rattle.osi_spdu.specs.declared.kinds.Kind.TheVariants as kind
+use Rattle.osi_session.specs.Moves as whole
+use Rattle.osi_session.proofs.Vocabulary.{list_any, SpduFault, Kind, Zero, Two, category_of, Known, Meaning, RF, DN, AB, AA, meaning_by, said_at, Word, Words, State, is_wait_transport, is_aborting, is_ended, is_over, Call, Answer, allowed, may_close, may_close_word, closes_alone, Taker, Hearing, word_verdict, respond_word, respond_words, heard_then, is_restart_word, acting_words, respond_tsdu, Input, called, taken, unread, opened, refused, broken, came_as, came, Listener, Move, taker_of, rests, answered, begun, denied, react, listening, in_words, Outcome, becomes, reply_for, closes_for, in_aborting, in_ended, respond_unit, Verdict, over, dropped, faulty, fine, verdict, enacted, is_faulty, respond_fault}
+use Rattle.osi_session.proofs.tables.units_that_are_alone.{StandsAlone, stands_alone, alone_in_octets}
+use Rattle.osi_session.proofs.runs.what_every_run_preserves.{word_ended}
+use Rattle.osi_session.proofs.tables.the_verdict_on_a_unit.{enacts}
+use Rattle.osi_session.proofs.tables.a_word_acts_as_its_message.{acts_alike, outcome_in, word_does, all_keep, any_word}
+use Rattle.osi_session.proofs.tables.messages_act_as_the_table_says.{word_alone, moves_as_whole}
+
+-- ---- one unit
+
+-- an outcome that closes the transport connection sends nothing, and is the end
+pub record ClosesLast (o : Outcome) : Type 0 where
+  pub silent : o.closes ≡ true → o.reply ≡ None
+  pub last : o.closes ≡ true → is_ended o.next.phase ≡ true
+
+open_still : (o : Outcome) → o.closes ≡ false → ClosesLast o
+open_still o h = record { silent = λ k. absurd (cc); last = λ k. absurd (cc) }
+
+good_silent : (u : Meaning) → closes_for u ≡ true → reply_for u ≡ None
+good_silent u h0 = grind arith
+
+good_last : (s : State) (u : Meaning) → closes_for u ≡ true → is_ended (becomes s u).phase ≡ true
+good_last s u h0 = grind arith
+
+aborting_last : (s : State) (u : Meaning) → ClosesLast (in_aborting s u)
+aborting_last s (AB bits octets) = record { silent = λ k. refl; last = λ k. refl }
+aborting_last s AA = record { silent = λ k. refl; last = λ k. refl }
+aborting_last s _ = open_still _ refl
+
+ended_last : (s : State) (u : Meaning) → ClosesLast (in_ended s u)
+ended_last s (AB bits octets) = open_still _ refl
+ended_last s _ = open_still _ refl
+
+either_last : (b : Bool) (x y : Outcome) → ClosesLast x → ClosesLast y → ClosesLast (if b then x else y)
+either_last true x y h k = h
+either_last false x y h k = k
+
+enacted_last : (s : State) (u : Meaning) (v : Verdict) → ClosesLast (enacted s u v)
+enacted_last s u over = either_last (is_aborting s.phase) _ _ (aborting_last s u) (ended_last s u)
+enacted_last s u dropped = open_still _ refl
+enacted_last s u (faulty fault) = open_still _ refl
+enacted_last s u fine = record { silent = good_silent u; last = good_last s u }
+
+unit_closes_last : (s : State) (u : Meaning) → ClosesLast (respond_unit s u)
+unit_closes_last s u = subst ClosesLast (sym (enacts s u)) (enacted_last s u (verdict s u))
+
+pub unit_silent : (s : State) (u : Meaning) → (respond_unit s u).closes ≡ true → (respond_unit s u).reply ≡ None
+unit_silent s u = (unit_closes_last s u).silent
+
+-- ---- words one after the other
+
+word_closes_last : (t : Taker) (w : Word) → ClosesLast (outcome_in (respond_word t w))
+word_closes_last t w = word_does ClosesLast t w (record { acts = λ u a. unit_closes_last t.state u; bad = λ fault o. open_still _ refl; rests = open_still _ refl })
+
+abbrev Ends : Hearing → Type 0
+Ends h = h.closes ≡ true → is_ended h.next.state.phase ≡ true
+
+either_ends : (b : Bool) (x y : Hearing) → Ends x → Ends y → Ends (if b then x else y)
+either_ends true x y h k = h
+either_ends false x y h k = k
+
+or_ends : (a b : Bool) (next : State) → (a ≡ true → is_ended next.phase ≡ true) → (b ≡ true → is_ended next.phase ≡ true)
+    → (a || b) ≡ true → is_ended next.phase ≡ true
+or_ends true b next h k c = h refl
+or_ends false b next h k c = k c
+
+stays_ended : (t : Taker) (ws : Words) → is_ended t.state.phase ≡ true → is_ended (respond_words t ws).next.state.phase ≡ true
+stays_ended t ws h = all_keep (λ r. is_ended r.phase ≡ true) (λ w. Unit {0}) t ws (λ r w q. word_ended r w) (any_word ws) h
+
+all_end : (t : Taker) (ws : Words) → Ends (respond_words t ws)
+unfolding respond_words
+all_end t [] = λ h. absurd (cc)
+all_end t (w ∷ ws) =
+    let one = word_closes_last t w in
+    let next = (respond_word t w).next in
+    either_ends (is_faulty (word_verdict t w)) (respond_word t w) (heard_then (respond_word t w) (respond_words next ws)) one.last
+    (or_ends (respond_word t w).closes (respond_words next ws).closes (respond_words next ws).next.state
+    (λ h. stays_ended next ws (one.last h)) (all_end next ws))
+
+-- ---- units that leave the transport connection open
+
+good_open : (u : Meaning) → may_close u ≡ false → closes_for u ≡ false
+good_open u h0 = grind arith
+
+aborting_open : (s : State) (u : Meaning) → may_close u ≡ false → (in_aborting s u).closes ≡ false
+aborting_open s u h0 = grind arith
+
+ended_open : (s : State) (u : Meaning) → (in_ended s u).closes ≡ false
+ended_open s (AB bits octets) = refl
+ended_open s _ = refl
+
+either_open : (b : Bool) (x y : Outcome) → x.closes ≡ false → y.closes ≡ false → (if b then x else y).closes ≡ false
+either_open true x y h k = h
+either_open false x y h k = k
+
+enacted_open : (s : State) (u : Meaning) (v : Verdict) → may_close u ≡ false → (enacted s u v).closes ≡ false
+enacted_open s u v h0 = grind (arith, either_open, aborting_open, ended_open, good_open)
+
+pub unit_open : (s : State) (u : Meaning) → may_close u ≡ false → (respond_unit s u).closes ≡ false
+unit_open s u h = subst (λ (o : Outcome). o.closes ≡ false) (sym (enacts s u)) (enacted_open s u (verdict s u) h)
+
+pub neither : (a b : Bool) → (a || b) ≡ false → (a ≡ false) × (b ≡ false)
+neither true b h = absurd (cc)
+neither false b h = (refl, h)
+
+none_closes : (a b : Bool) → a ≡ false → b ≡ false → (a || b) ≡ false
+none_closes a b h k = rw (h, k) refl
+
+pub word_open : (t : Taker) (w : Word) → may_close_word w ≡ false → (respond_word t w).closes ≡ false
+word_open t w h = word_does (λ o. o.closes ≡ false) t w (record {
+  acts = λ u a. unit_open t.state u (acts_alike may_close (λ a b. refl) w u a ∙ h);
+  bad = λ fault o. refl;
+  rests = refl;
+})
+
+either_still : (b : Bool) (x y : Hearing) → x.closes ≡ false → y.closes ≡ false → (if b then x else y).closes ≡ false
+either_still true x y h k = h
+either_still false x y h k = k
+
+all_open : (t : Taker) (ws : Words) → list_any may_close_word ws ≡ false → (respond_words t ws).closes ≡ false
+unfolding respond_words
+all_open t [] h = refl
+all_open t (w ∷ ws) h =
+    let q = neither (may_close_word w) (list_any may_close_word ws) h in
+    let one = word_open t w q.0 in
+    either_still (is_faulty (word_verdict t w)) _ _ one (none_closes _ _ one (all_open (respond_word t w).next ws q.1))
+
+either_none : (p : Word → Bool) (b : Bool) (x y : Words) → list_any p x ≡ false → list_any p y ≡ false → list_any p (if b then x else y) ≡ false
+either_none p true x y h k = h
+either_none p false x y h k = k
+
+pub acting_none : (p : Word → Bool) (words : Words) → list_any p words ≡ false → list_any p (acting_words words) ≡ false
+unfolding acting_words
+acting_none p [] h = refl
+acting_none p (w ∷ ws) h =
+    let q = neither (p w) (list_any p ws) h in
+    either_none p (list_any is_restart_word ws) ws (ws ++ w ∷ []) q.1
+    (list_any-append p ws (w ∷ []) ∙ none_closes _ _ q.1 (none_closes (p w) false q.0 refl))
+
+-- ---- the words of a TSDU
+
+pub words_open : (t : Taker) (words : Words) → list_any may_close_word words ≡ false → (respond_tsdu t words).closes ≡ false
+words_open t words h = all_open t (acting_words words) (acting_none may_close_word words h)
+
+pub not_true : (b : Bool) → not b ≡ true → b ≡ false
+not_true true h = absurd (cc)
+not_true false h = refl
+
+pub words_silent : (t : Taker) (words : Words) → closes_alone words ≡ true → (respond_tsdu t words).closes ≡ true → (respond_tsdu t words).reply ≡ None
+words_silent t [] h c = let o = words_open t [] refl in absurd (cc)
+words_silent t (w ∷ []) h c = subst (λ (x : Hearing). x.closes ≡ true → x.reply ≡ None) (sym (word_alone t w)) (word_closes_last t w).silent c
+words_silent t (w ∷ v ∷ ws) h c =
+    let o = words_open t (w ∷ v ∷ ws) (not_true (list_any may_close_word (w ∷ v ∷ ws)) h) in absurd (cc)
+
+pub words_end : (t : Taker) (words : Words) → (respond_tsdu t words).closes ≡ true → is_ended (respond_tsdu t words).next.state.phase ≡ true
+words_end t words = all_end t (acting_words words)
+
+-- ---- what is read from octets
+
+behind_open : (k : Kind) (known : Known) (information : List ℕ) → category_of k ≡ Two → may_close (meaning_by k known information) ≡ false
+unfolding category_of
+behind_open k known information h0 = grind arith
+
+item_open : (k : Kind) (known : Known) (information : List ℕ) → category_of k ≡ Zero → may_close (meaning_by k known information) ≡ false
+unfolding category_of
+item_open k known information h0 = grind arith
+
+-- no token item and no unit of category 2 closes it
+opens_behind : StandsAlone may_close
+opens_behind = record { item = item_open; behind = behind_open; plain = λ octets. refl }
+
+closes_so : (words : Words) → stands_alone may_close words ≡ true → closes_alone words ≡ true
+closes_so words h0 = grind arith
+
+-- in the meaning of octets, a word that may close is alone
+pub octets_alone : (octets : List ℕ) (words : Words) → said_at octets ≡ Ok words → closes_alone words ≡ true
+octets_alone octets words e = closes_so words (alone_in_octets may_close opens_behind octets words e)
+
+-- ---- moves
+
+either_quiet : (b : Bool) (x y : Move) → x.closes ≡ false → y.closes ≡ false → (if b then x else y).closes ≡ false
+either_quiet true x y h k = h
+either_quiet false x y h k = k
+
+answered_open : (s : Listener) (a : Answer) → (answered s a).closes ≡ false
+answered_open s (Ok step) = refl
+answered_open s (Err e) = refl
+
+-- a call leaves the transport connection open, and so do its own events
+pub call_open : (s : Listener) (c : Call) → (react s (called c)).closes ≡ false
+unfolding react
+call_open s c = answered_open s (allowed s.state c)
+
+pub fault_open : (s : State) (fault : SpduFault) → (respond_fault s fault).closes ≡ false
+unfolding respond_fault
+fault_open s fault = either_open (is_over s.phase) _ _ refl refl
+
+-- a TSDU that closes it is the last
+pub input_ends : (s : Listener) (input : Input) → (react s input).closes ≡ true → is_ended (react s input).next.state.phase ≡ true
+unfolding react
+input_ends s input h0 = grind (arith, answered_open, words_end, fault_open, either_quiet)
+
+-- and so over whole messages
+pub whole_ends : (s : whole.Standing) (input : whole.Input) → (whole.react s input).closes ≡ true → is_ended (whole.after_input s input).state.phase ≡ true
+whole_ends s input h =
+    let same = moves_as_whole s input in
+    subst (λ (m : Move). is_ended m.next.state.phase ≡ true) same (input_ends (listening s) (in_words input) (ap (λ (m : Move). m.closes) same ∙ h))
+
+came_silent : (s : Listener) (read : Result Words SpduFault) → ((words : Words) → read ≡ Ok words → closes_alone words ≡ true)
+    → (react s (came_as read)).closes ≡ true → (react s (came_as read)).reply ≡ None
+unfolding react
+came_silent s (Ok words) h c = words_silent (taker_of s) words (h words refl) c
+came_silent s (Err fault) h c = absurd (let o = fault_open s.state fault in cc)
+
+pub octets_silent : (s : Listener) (octets : List ℕ) → (react s (came octets)).closes ≡ true → (react s (came octets)).reply ≡ None
+octets_silent s octets = came_silent s (said_at octets) (octets_alone octets)

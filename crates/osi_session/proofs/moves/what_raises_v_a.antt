@@ -1,0 +1,166 @@
+-- What raises V(A), and that only a restart lowers it.
+use Rattle.std.proofs.Common.{◌≡◌, refl, sym, ◌∙◌, subst, ℕ, ◌+◌, ◌≤◌, Bool, true, false, not, ◌&&◌, ◌||◌, nat_le, nat_lt, List, [], ◌∷◌, Ok, Option, Some, None, if◌then◌else◌, arith}
+use Rattle.osi_spdu.specs.declared.fields.ResyncType.{ResyncType}
+use Rattle.osi_session.proofs.Vocabulary.{AllByRecursion, list_any, leb-true, and_parts, UnitFault, TokenSetting, State, Numbers, point_sent, point_taken, minor_confirmed, major_confirmed, is_wait_cn, is_aborting, is_ended, IsSound, AreOrdered, Call, Accept, Refuse, Data, Give, Please, Minor, MinorConfirm, Major, MajorConfirm, Restart, RestartConfirm, Release, ReleaseAccept, ReleaseRefuse, Abort, Meaning, CN, AC, RF, DT, GT, PT, MIP, MIA, MAP, MAA, RS, RA, FN, DN, NF, AB, AA, IsNumberedWord, Word, Words, as_message, MinorConfirmed, BadUnit, Step, needs, after, allowed, AllHold, Outcome, si, conditions, first_fault, is_expected, drops, is_acceptable, stands, becomes, bad, judged, take_expected, respond_unit, is_faulty, AllMet, Taker, Hearing, word_verdict, respond_word, respond_words, acting_words, Input, called, taken, unread, opened, refused, broken, Listener, taker_of, after_input, after_inputs, HasNumbersInWords, call_renews, unit_renews, renews}
+use Rattle.osi_session.proofs.tables.what_an_accepted_call_has_passed.{passed}
+use Rattle.osi_session.proofs.tsdu.what_the_words_of_a_tsdu_preserve.{word_sound}
+use Rattle.osi_session.proofs.tables.a_word_acts_as_its_message.{acts_alike, word_keeps, all_acting}
+use Rattle.osi_session.proofs.tables.the_outcomes_of_each_input.{call_cases, unit_cases, taken_cases, fault_cases, opened_cases, refused_cases, broken_cases}
+use Rattle.osi_session.proofs.runs.what_every_run_preserves.{input_sound}
+
+-- ---- a confirmation raises V(A)
+
+pub call_confirms : (s : State) (n : ℕ) (octets : List ℕ) (x : Step) → allowed s (MinorConfirm n octets) ≡ Ok x
+    → (s.numbers.confirmed ≤ n) × (x.next.numbers.confirmed ≡ n + 1)
+unfolding minor_confirmed
+call_confirms s n octets x h =
+    let q = passed s (MinorConfirm n octets) x h in
+    let a = and_parts s.numbers.answers (nat_le s.numbers.confirmed n && nat_lt n s.numbers.next) q.needed.1.0 in
+    let from = leb-true s.numbers.confirmed n (and_parts (nat_le s.numbers.confirmed n) (nat_lt n s.numbers.next) a.1).0 in
+    (from, subst (λ (y : Step). y.next.numbers.confirmed ≡ n + 1) (sym q.gives) refl)
+
+-- if a confirmation is indicated, it has raised V(A)
+abbrev Confirms : ℕ → List ℕ → Outcome → Type 0
+Confirms n octets o = o.shown ≡ MinorConfirmed n octets ∷ [] → o.next.numbers.confirmed ≡ n + 1
+
+either : (n : ℕ) (octets : List ℕ) (b : Bool) (x y : Outcome) → Confirms n octets x → Confirms n octets y → Confirms n octets (if b then x else y)
+either n octets true x y h k = h
+either n octets false x y h k = k
+
+not_shown : (b : Bool) (n : ℕ) (octets : List ℕ) (fault : UnitFault) → (if b then [] else BadUnit fault ∷ []) ≡ MinorConfirmed n octets ∷ [] → ⊥
+not_shown true n octets fault h = cc
+not_shown false n octets fault h = cc
+
+bad_confirms : (s : State) (n : ℕ) (octets : List ℕ) (fault : UnitFault) → Confirms n octets (bad s fault)
+bad_confirms s n octets fault h = absurd (not_shown (is_wait_cn s.phase) n octets fault h)
+
+judged_confirms : (s : State) (n : ℕ) (octets : List ℕ) (f : Option UnitFault) → Confirms n octets (judged s (MIA n octets) f)
+unfolding minor_confirmed
+judged_confirms s n octets None h = refl
+judged_confirms s n octets (Some f) h = bad_confirms s n octets f h
+
+expected_confirms : (s : State) (n : ℕ) (octets : List ℕ) → Confirms n octets (take_expected s (MIA n octets))
+unfolding take_expected
+expected_confirms s n octets = judged_confirms s n octets (first_fault (si (MIA n octets)) (conditions s (MIA n octets)))
+
+pub unit_confirms : (s : State) (n : ℕ) (octets : List ℕ) → (respond_unit s (MIA n octets)).shown ≡ MinorConfirmed n octets ∷ []
+    → (respond_unit s (MIA n octets)).next.numbers.confirmed ≡ n + 1
+unfolding respond_unit
+unit_confirms s n octets =
+    let u = MIA n octets in
+    either n octets (is_aborting s.phase) _ _ (λ h. absurd (cc))
+    (either n octets (is_ended s.phase) _ _ (λ h. absurd (cc))
+    (either n octets (drops s u) _ _ (λ h. absurd (cc))
+    (either n octets (not (is_expected s.phase u)) _ _ (bad_confirms s n octets _) (expected_confirms s n octets))))
+
+-- ---- V(A) does not fall
+
+abbrev Rises : Numbers → Numbers → Type 0
+Rises v w = v.confirmed ≤ w.confirmed
+
+same : (v : Numbers) → Rises v v
+same v = omega arith
+
+chosen_from : (b : Bool) (low x y : ℕ) → low ≤ x → low ≤ y → low ≤ (if b then x else y)
+chosen_from true low x y h k = h
+chosen_from false low x y h k = k
+
+sent_rises : (base : ℕ) (v : Numbers) → AreOrdered base v → Rises v (point_sent v)
+unfolding point_sent
+sent_rises base v h = chosen_from v.answers v.confirmed v.next v.confirmed h.confirmed_to (omega arith)
+
+taken_rises : (base : ℕ) (v : Numbers) → AreOrdered base v → Rises v (point_taken v)
+unfolding point_taken
+taken_rises base v h = chosen_from v.answers v.confirmed v.confirmed v.next (omega arith) h.confirmed_to
+
+minor_rises : (n : ℕ) (v : Numbers) → v.confirmed ≤ n → Rises v (minor_confirmed n v)
+unfolding minor_confirmed
+minor_rises n v h = omega arith
+
+major_rises : (base : ℕ) (v : Numbers) → AreOrdered base v → Rises v (major_confirmed v)
+unfolding major_confirmed
+major_rises base v h = h.confirmed_to
+
+after_rises : (s : State) (c : Call) → call_renews c ≡ false → AllHold (needs s c) → IsSound s → Rises s.numbers (after s c).numbers
+after_rises s (Accept requirements serial sides sizes octets) r t h = absurd (cc)
+after_rises s (Minor confirm octets) r t h = sent_rises s.base s.numbers h.ordered
+after_rises s (MinorConfirm n octets) r t h =
+    let a = and_parts s.numbers.answers (nat_le s.numbers.confirmed n && nat_lt n s.numbers.next) t.1.0 in
+    minor_rises n s.numbers (leb-true s.numbers.confirmed n (and_parts (nat_le s.numbers.confirmed n) (nat_lt n s.numbers.next) a.1).0)
+after_rises s (Major octets) r t h = sent_rises s.base s.numbers h.ordered
+after_rises s (MajorConfirm octets) r t h = major_rises s.base s.numbers h.ordered
+after_rises s (Restart n wishes octets) r t h = absurd (cc)
+after_rises s _ r t h = same s.numbers
+
+chosen : (v : Numbers) (b : Bool) (x y : State) → Rises v x.numbers → Rises v y.numbers → Rises v (if b then x else y).numbers
+chosen v true x y h k = h
+chosen v false x y h k = k
+
+acknowledged : (s : State) (n : ℕ) (b : Bool) → (not s.numbers.answers && (nat_le s.numbers.confirmed n && b)) ≡ true → s.numbers.confirmed ≤ n
+acknowledged s n b h = leb-true s.numbers.confirmed n (and_parts (nat_le s.numbers.confirmed n) b (and_parts (not s.numbers.answers) (nat_le s.numbers.confirmed n && b) h).1).0
+
+becomes_rises : (s : State) (u : Meaning) → unit_renews u ≡ false → AllMet (conditions s u) → IsSound s → Rises s.numbers (becomes s u).numbers
+becomes_rises s (CN version_2 requirements serial wishes from to sizes octets) r t h = chosen s.numbers (is_acceptable version_2 requirements sizes) _ _ (same s.numbers) (same s.numbers)
+becomes_rises s (AC version_2 requirements serial sides sizes octets) r t h = absurd (cc)
+becomes_rises s (MIP confirm n octets) r t h = taken_rises s.base s.numbers h.ordered
+becomes_rises s (MIA n octets) r t h = minor_rises n s.numbers (acknowledged s n _ t.1.0)
+becomes_rises s (MAP n octets) r t h = taken_rises s.base s.numbers h.ordered
+becomes_rises s (MAA n octets) r t h = major_rises s.base s.numbers h.ordered
+becomes_rises s (RS kind n wishes octets) r t h = absurd (cc)
+becomes_rises s _ r t h = same s.numbers
+
+unit_rises : (s : State) (u : Meaning) → unit_renews u ≡ false → IsSound s → Rises s.numbers (respond_unit s u).next.numbers
+unit_rises s u r h = unit_cases (λ next. Rises s.numbers next.numbers) s u (record {
+  same = same s.numbers;
+  ended = λ a. same s.numbers;
+  bad = λ a e. same s.numbers;
+  good = λ a e p m. becomes_rises s u r m h;
+})
+
+or_parts : (a b : Bool) → (a || b) ≡ false → (a ≡ false) × (b ≡ false)
+or_parts true b h = absurd (cc)
+or_parts false b h = (refl, h)
+
+word_rises : (t : Taker) (w : Word) → unit_renews (as_message w) ≡ false → IsSound t.state → Rises t.state.numbers (respond_word t w).next.state.numbers
+word_rises t w r h = word_keeps (λ next. Rises t.state.numbers next.numbers) t w
+    (λ u a. unit_rises t.state u (acts_alike unit_renews (λ a b. refl) w u a ∙ r) h) (λ o. same t.state.numbers) (same t.state.numbers)
+
+either_rises : (v : Numbers) (b : Bool) (x y : Hearing) → Rises v x.next.state.numbers → Rises v y.next.state.numbers → Rises v (if b then x else y).next.state.numbers
+either_rises v true x y h k = h
+either_rises v false x y h k = k
+
+all_rises : (t : Taker) (ws : Words) → list_any (λ w. unit_renews (as_message w)) ws ≡ false → AllByRecursion IsNumberedWord ws → IsSound t.state
+    → Rises t.state.numbers (respond_words t ws).next.state.numbers
+unfolding respond_words
+all_rises t [] r small h = same t.state.numbers
+all_rises t (w ∷ ws) r small h =
+    let parts = or_parts (unit_renews (as_message w)) (list_any (λ w. unit_renews (as_message w)) ws) r in
+    let one = word_rises t w parts.0 h in
+    let more = all_rises (respond_word t w).next ws parts.1 small.1 (word_sound t w small.0 h) in
+    either_rises t.state.numbers (is_faulty (word_verdict t w)) _ _ one (omega arith)
+
+input_rises : (s : Listener) (input : Input) → renews input ≡ false → HasNumbersInWords input → IsSound s.state → Rises s.state.numbers (after_input s input).state.numbers
+input_rises s (called c) r small h = call_cases (λ next. Rises s.state.numbers next.numbers) s c (same s.state.numbers)
+    (λ x e. let q = passed s.state c x e in subst (λ (y : Step). Rises s.state.numbers y.next.numbers) (sym q.gives) (after_rises s.state c r q.needed h))
+input_rises s (taken words) r small h = taken_cases (λ next. Rises s.state.numbers next.numbers) s words (all_rises (taker_of s) (acting_words words) r (all_acting IsNumberedWord words small) h)
+input_rises s (unread fault) r small h = fault_cases (λ next. Rises s.state.numbers next.numbers) s fault (same s.state.numbers) (λ o. same s.state.numbers)
+input_rises s opened r small h = opened_cases (λ next. Rises s.state.numbers next.numbers) s (λ w. same s.state.numbers) (same s.state.numbers)
+input_rises s (refused reason) r small h = refused_cases (λ next. Rises s.state.numbers next.numbers) s reason (λ w. same s.state.numbers) (same s.state.numbers)
+input_rises s broken r small h = broken_cases (λ next. Rises s.state.numbers next.numbers) s (same s.state.numbers)
+
+pub never_falls : (s : Listener) (inputs : List Input) → AllByRecursion HasNumbersInWords inputs → AllByRecursion (λ i. renews i ≡ false) inputs → IsSound s.state
+    → s.state.numbers.confirmed ≤ (after_inputs s inputs).state.numbers.confirmed
+never_falls s [] small r h = omega arith
+never_falls s (input ∷ inputs) small r h =
+    let one = input_rises s input r.0 small.0 h in
+    let more = never_falls (after_input s input) inputs small.1 r.1 (input_sound s input small.0 h) in
+    omega arith
+
+pub yielded : (s : State) (kind : ResyncType) (n : ℕ) (wishes : TokenSetting) (octets : List ℕ) → stands s n ≡ false
+    → (respond_unit s (RS kind n wishes octets)).next.numbers ≡ s.numbers
+yielded s kind n wishes octets h = unit_cases (λ next. next.numbers ≡ s.numbers) s (RS kind n wishes octets) (record {
+  same = refl;
+  ended = λ a. refl;
+  bad = λ a e. refl;
+  good = λ a e p m. rw h refl;
+})

@@ -1,0 +1,145 @@
+-- What a side may send: calls that a phase refuses, and that its state keeps the invariant.
+use Rattle.std.proofs.Common.{◌≡◌, ◌∙◌, refl, sym, ap, subst, ℕ, ◌+◌, zero, suc, Bool, true, false, not, ◌&&◌, ◌||◌, ◌==◌, is_none, if◌then◌else◌, nat_le, List, [], ◌∷◌, length, Option, Some, None, Ok, Err, option_map, arith}
+use Rattle.osi_session.specs.Counting.{taker_with, CountsCame}
+use Rattle.osi_session.specs.Calls.{refusal_with}
+use Rattle.osi_session.specs.Standing.{Seen, goes, said_within, Count, left_by, calling, fits_user_data, connecting, accepting_in, where_is, said_message, seen_calling}
+use Rattle.osi_session.proofs.Vocabulary.{says, has_no_effect, begins_anew, and_parts, Phase, Releasing, is_over, is_wait_transport, is_answering, is_ready, may_hold, State, FunctionalUnits, TokenSetting, TsduMaximumSize, are_sizes, functional_units, both_units, has_points, has_data, IsSound, Call, Refuse, Data, Give, Please, Minor, MinorConfirm, Major, MajorConfirm, Restart, RestartConfirm, ReleaseAccept, ReleaseRefuse, Abort, HasSerial, Answer, Step, needs, may_call, met, after, most_of, octets_of, each, has_right, names, Meaning, CN, AC, RF, DT, GT, PT, MIP, MIA, MAP, MAA, RS, RA, FN, DN, NF, AB, AA, IsNumbered, IsSmall, said_at, meant_by, meant_numbered}
+use Rattle.osi_message.specs.declared.messages.Message.{Message}
+use Rattle.osi_session.specs.Respond.{is_restart}
+use Rattle.osi_session.specs.Sides.{stated, answers_wishes}
+use Rattle.osi_session.proofs.tables.what_an_accepted_call_has_passed.{over_calls, first_error_ok}
+use Rattle.osi_session.proofs.tables.what_is_true_of_each_phase.{excluded}
+use Rattle.osi_session.proofs.runs.the_invariant_in_memory.{at_first}
+use Rattle.osi_session.proofs.values.what_sizes_are_agreed.{smaller_are}
+use Rattle.osi_session.proofs.runs.calls_keep_the_invariant.{opened, holding_phase, after_sound}
+use Rattle.osi_session.proofs.runs.units_keep_the_invariant.{base_small, first_small}
+use Rattle.osi_session.proofs.tsdu.what_the_words_of_a_tsdu_preserve.{octets_sound}
+
+either_way : (b : Bool) (o : Bool) → o ≡ true → (b ≡ true → o ≡ false) → b ≡ false
+either_way false o h k = refl
+either_way true o h k = let e = k refl in absurd (cc)
+
+-- no call is allowed if the connection is over
+pub over_refuses : (c : Call) (p : Phase) → is_over p ≡ true → may_call p c ≡ false
+over_refuses c p h = either_way (may_call p c) (is_over p) h (over_calls c p)
+
+-- ---- the state after sending is sound
+
+if_some : (b : Bool) (o : Option State) (n : State) → (if b then o else None) ≡ Some n → (b ≡ true) × (o ≡ Some n)
+if_some true o n h = (refl, h)
+if_some false o n h = absurd (cc)
+
+answer_left : (a : Answer) (n : State) → left_by a ≡ Some n → (x : Step) × (a ≡ Ok x) × (x.next ≡ n)
+answer_left (Ok x) n h = (x, refl, cc)
+answer_left (Err e) n h = absurd (cc)
+
+met_gives : (s : State) (c : Call) (x : Step) (n : State) → HasSerial c → may_call s.phase c ≡ true → met s c ≡ Ok x → x.next ≡ n → IsSound s → IsSound n
+unfolding met
+met_gives s c x n small p e f h =
+    let t = first_error_ok (needs s c) _ x e in
+    let g : _ ≡ _ = t.1 in
+    let k : after s c ≡ n = cc in
+    subst IsSound k (after_sound s c small p t.0 h)
+
+pub calling_left : (s : State) (c : Call) (n : State) → HasSerial c → calling s c ≡ Some n → IsSound s → IsSound n
+calling_left s c n small e h =
+    let a = if_some (may_call s.phase c && nat_le (length (octets_of c)) (most_of c)) (left_by (met s c)) n e in
+    let b = answer_left (met s c) n a.1 in
+    met_gives s c b.0 n small (and_parts (may_call s.phase c) _ a.0).0 b.1 b.2 h
+
+where_left : (b : Bool) (s : State) (c : Call) (n : State) → HasSerial c → where_is b (calling s c) ≡ Some n → IsSound s → IsSound n
+where_left b s c n small e h = calling_left s c n small (if_some b (calling s c) n e).1 h
+
+is_left : (b : Bool) (x n : State) → (if b then Some x else None) ≡ Some n → (b ≡ true) × (x ≡ n)
+is_left true x n h = (refl, cc)
+is_left false x n h = absurd (cc)
+
+connecting_left : (s : State) (requirements : ℕ) (serial : Option ℕ) (wishes : TokenSetting) (sizes : TsduMaximumSize) (octets : List ℕ) (n : State) → IsSmall serial
+    → connecting s requirements serial wishes sizes octets ≡ Some n → IsSound s → IsSound n
+connecting_left s requirements serial wishes sizes octets n small e h =
+    let a = is_left (is_wait_transport s.phase && (fits_user_data octets && are_sizes sizes)) _ n e in
+    let p = and_parts (is_wait_transport s.phase) _ a.0 in
+    subst IsSound a.1 (record {
+      ordered = h.ordered;
+      first = first_small serial small;
+      major = λ k. absurd (cc);
+      restart = λ k. absurd (cc);
+      tokens = λ k. h.tokens (excluded is_wait_transport may_hold refl s.phase p.0);
+      sizes = (and_parts (fits_user_data octets) (are_sizes sizes) p.1).1;
+    })
+
+accepting_left : (units : FunctionalUnits) (s : State) (version_2 : Bool) (serial : Option ℕ) (sides : TokenSetting) (sizes : TsduMaximumSize) (octets : List ℕ) (n : State) → IsSmall serial
+    → accepting_in units s version_2 serial sides sizes octets ≡ Some n → IsSound s → IsSound n
+accepting_left units s version_2 serial sides sizes octets n small e h =
+    let a = is_left (is_answering s.phase && (fits_user_data octets && ((version_2 && (has_data units && are_sizes sizes)) && answers_wishes units s.wishes sides))) _ n e in
+    let p = and_parts (fits_user_data octets) _ (and_parts (is_answering s.phase) _ a.0).1 in
+    let q = and_parts (version_2 && (has_data units && are_sizes sizes)) _ p.1 in
+    let r = and_parts (has_data units) (are_sizes sizes) (and_parts version_2 _ q.0).1 in
+    subst IsSound a.1 (opened _ _ _ _ s (base_small (has_points units) serial s.proposed small h.first) (smaller_are s.sizes sizes h.sizes r.1) h)
+
+pub said_sound : (s : State) (m : Meaning) (n : State) → IsNumbered m → said_message s m ≡ Some n → IsSound s → IsSound n
+said_sound s (CN version_2 requirements serial wishes from to sizes octets) n small e h = connecting_left s requirements serial wishes sizes octets n small e h
+said_sound s (AC version_2 requirements serial sides sizes octets) n small e h =
+    accepting_left (both_units s.units (functional_units requirements)) s version_2 serial sides sizes octets n small e h
+said_sound s (RF reason octets) n small e h = calling_left s (Refuse (refusal_with octets)) n tt e h
+said_sound s (DT octets) n small e h = calling_left s (Data octets) n tt e h
+said_sound s (GT tokens) n small e h = calling_left s (Give tokens) n tt e h
+said_sound s (PT tokens octets) n small e h = calling_left s (Please tokens octets) n tt e h
+said_sound s (MIP confirm k octets) n small e h = where_left (k == s.numbers.next) s (Minor confirm octets) n tt e h
+said_sound s (MIA k octets) n small e h = calling_left s (MinorConfirm k octets) n tt e h
+said_sound s (MAP k octets) n small e h = where_left (k == s.numbers.next) s (Major octets) n tt e h
+said_sound s (MAA k octets) n small e h = where_left (k + 1 == s.numbers.next) s (MajorConfirm octets) n tt e h
+said_sound s (RS kind k wishes octets) n small e h = where_left (is_restart kind) s (Restart k wishes octets) n tt e h
+said_sound s (RA k sides octets) n small e h =
+    where_left ((k == s.numbers.next) && answers_wishes s.units s.wishes sides) s (RestartConfirm (stated s.units sides) octets) n tt e h
+said_sound s (FN octets) n small e h =
+    let a = is_left (is_ready s.phase && (fits_user_data octets && each (has_right s))) _ n e in
+    subst IsSound a.1 (holding_phase Releasing s refl refl refl h)
+said_sound s (DN octets) n small e h = calling_left s (ReleaseAccept octets) n tt e h
+said_sound s (NF octets) n small e h = calling_left s (ReleaseRefuse octets) n tt e h
+said_sound s (AB bits octets) n small e h = where_left (not (names bits 4)) s (Abort octets) n tt e h
+said_sound s AA n small e h = absurd (cc)
+
+-- ---- the state after what is taken is sound
+
+-- some octets, this many
+abbrev pub some_octets : ℕ → List ℕ
+some_octets zero = []
+some_octets (suc n) = 0 ∷ some_octets n
+
+some_len : (n : ℕ) → length (some_octets n) ≡ n
+some_len zero = refl
+some_len (suc n) = let e = some_len n in omega arith
+
+abbrev pub so_many : Option ℕ → Option (List ℕ)
+so_many None = None
+so_many (Some n) = Some (some_octets n)
+
+pub so_many_are : (n : Option ℕ) → option_map length (so_many n) ≡ n
+so_many_are None = refl
+so_many_are (Some n) = ap Some (some_len n)
+
+pub count_sound : (s : State) (n : Option ℕ) (tsdu : List ℕ) (c : Count) → CountsCame s n (said_at tsdu) c → IsSound s → IsSound c.state
+count_sound s n tsdu c k h =
+    subst (λ (x : Count). IsSound x.state) (k (so_many n) (so_many_are n)) (octets_sound (taker_with s (so_many n)) tsdu _ refl h)
+
+pub calling_sound : IsSound seen_calling.state
+calling_sound = at_first seen_calling.state refl refl (omega arith) refl refl refl refl
+
+-- the numbers of a message in memory are those that a point may have
+pub message_sound : (s : State) (m : Message) (n : State) → said_message s (meant_by m) ≡ Some n → IsSound s → IsSound n
+message_sound s m n e h = said_sound s (meant_by m) n (meant_numbered m) e h
+
+-- ---- a message that may be sent
+
+pub said_by_message : (s x : Seen) (v n : State) (m : Meaning) (a b : Bool) → v ≡ s.state → a ≡ has_no_effect m → a ≡ false → b ≡ not (is_none s.sent || not (begins_anew m)) → b ≡ false
+    → said_message v m ≡ Some n → x ≡ goes s n → said_within s (says m) ≡ Some x
+said_by_message s x v n m a b w e f g h k l =
+    let p : has_no_effect m ≡ false = sym e ∙ f in
+    let q : (is_none s.sent || not (begins_anew m)) ≡ true = un_not (is_none s.sent || not (begins_anew m)) (sym g ∙ h) in
+    let r : said_message s.state m ≡ Some n = ap (λ (y : State). said_message y m) (sym w) ∙ k in
+    rw (p, q, r) (ap Some (sym l))
+  where
+    un_not : (y : Bool) → not y ≡ false → y ≡ true
+    un_not true z = refl
+    un_not false z = absurd (cc)

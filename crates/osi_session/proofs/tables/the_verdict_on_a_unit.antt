@@ -1,0 +1,157 @@
+-- The verdict on a unit, and on a token item that names no token.
+use Rattle.std.proofs.Common.{inl, inr, ◌≡◌, refl, sym, ◌∙◌, ap, subst, Bool, true, false, not, ◌&&◌, ◌||◌, List, [], ◌∷◌, ◌++◌, Option, Some, None, if◌then◌else◌, arith}
+use Rattle.osi_session.proofs.Vocabulary.{cases_Bool, append-nil, Aborting, UnitFault, Unexpected, State, no_token, is_empty, is_aborting, is_ended, is_over, without_tokens, Meaning, CN, GT, PT, AB, AA, list_any, alone, behind, functional_units, has_data, are_sizes, is_second, said_of, Outcome, Condition, si, conditions, first_fault, is_expected, drops, nothing, bad, judged, take_expected, in_aborting, in_ended, has_no_effect, is_token_item, is_resynchronize, reply_for, first_reply, replies_abort, respond_unit, and_then, Verdict, over, dropped, faulty, fine, by_fault, verdict, enacted, is_faulty, AllMet, IsGood, respond_all, acting, respond}
+use Rattle.osi_session.proofs.tables.what_is_true_of_each_phase.{implied, every_is}
+
+live : (s : State) (u : Meaning) (d x : Bool) (f : Option UnitFault) →
+    (if d then nothing s else if not x then bad s (Unexpected (si u)) else judged s u f)
+    ≡ enacted s u (if d then dropped else if not x then faulty (Unexpected (si u)) else by_fault f)
+live s u d x f = grind arith
+
+neither : (a e o : Bool) → (not o || (a || e)) ≡ true → a ≡ false → e ≡ false → o ≡ false
+neither a e o h0 h1 h2 = grind arith
+
+pub not_over : (s : State) → is_aborting s.phase ≡ false → is_ended s.phase ≡ false → is_over s.phase ≡ false
+not_over s a e = neither _ _ _ (every_is (λ p. not (is_over p) || (is_aborting p || is_ended p)) refl s.phase) a e
+
+-- the table of units enacts the verdict
+pub enacts : (s : State) (u : Meaning) → respond_unit s u ≡ enacted s u (verdict s u)
+unfolding respond_unit take_expected
+enacts s u = grind (arith, cases_Bool, implied, not_over, live)
+
+all_passed : (s : State) (u : Meaning) (cs : List Condition) → AllMet cs → first_fault (si u) cs ≡ None
+all_passed s u [] h = refl
+all_passed s u (c ∷ cs) h = rw h.0 (all_passed s u cs h.1)
+
+-- a unit that is not discarded, that the phase expects and that meets its conditions is good
+pub good_is_fine : (s : State) (u : Meaning) → is_over s.phase ≡ false → drops s u ≡ false → IsGood s u → verdict s u ≡ fine
+good_is_fine s u o d h = let f = all_passed s u (conditions s u) h.met in let x = h.expected in rw (o, d, x, f) refl
+
+-- ---- a token item that names no token
+
+same_of : (a e : Bool) (o : Outcome) → (if a then o else if e then o else o) ≡ o
+same_of a e o = grind arith
+
+pub no_effect : (s : State) (u : Meaning) → has_no_effect u ≡ true → respond_unit s u ≡ nothing s
+unfolding respond_unit
+no_effect s u h0 = grind (arith, same_of)
+
+reply_none : (r : Option Meaning) → first_reply r None ≡ r
+reply_none None = refl
+reply_none (Some m) = refl
+
+or_false : (b : Bool) → (b || false) ≡ b
+or_false true = refl
+or_false false = refl
+
+pub and_nothing : (o : Outcome) → and_then o (nothing o.next) ≡ o
+and_nothing o =
+    let shown = append-nil o.shown in
+    let reply = reply_none o.reply in
+    let closes = or_false o.closes in
+    λ i. record { next = o.next; shown = shown i; reply = reply i; closes = closes i }
+
+-- a unit by itself
+pub one : (s : State) (u : Meaning) → respond_all s (u ∷ []) ≡ respond_unit s u
+unfolding respond_all
+one s u = grind (arith, and_nothing)
+
+same_rest : (b : Bool) (o p q : Outcome) → p ≡ q → (if b then o else and_then o p) ≡ (if b then o else and_then o q)
+same_rest true o p q h = refl
+same_rest false o p q h = ap (and_then o) h
+
+-- after other units a token item that names no token changes nothing
+pub behind_all : (s : State) (us : List Meaning) (item : Meaning) → has_no_effect item ≡ true → respond_all s (us ++ item ∷ []) ≡ respond_all s us
+unfolding respond_all
+behind_all s [] item h = one s item ∙ no_effect s item h
+behind_all s (u ∷ us) item h = same_rest (is_faulty (verdict s u)) (respond_unit s u) _ _ (behind_all (respond_unit s u).next us item h)
+
+either : (b : Bool) (s : State) (x y : List Meaning) (o : Outcome) → respond_all s x ≡ o → respond_all s y ≡ o → respond_all s (if b then x else y) ≡ o
+either true s x y o h k = h
+either false s x y o h k = k
+
+-- in front of units it changes nothing
+pub in_front_of_all : (s : State) (item : Meaning) (units : List Meaning) → has_no_effect item ≡ true → respond s (item ∷ units) ≡ respond_all s units
+unfolding acting
+in_front_of_all s item units h = either (list_any is_resynchronize units) s units (units ++ item ∷ []) (respond_all s units) refl (behind_all s units item h)
+
+pub in_front : (s : State) (item u : Meaning) → has_no_effect item ≡ true → respond s (behind item u) ≡ respond_unit s u
+in_front s item u h = in_front_of_all s item (u ∷ []) h ∙ one s u
+
+pub empty_item : has_no_effect (GT no_token) ≡ true
+unfolding is_empty
+empty_item = refl
+
+pub said_alone : (s : State) (u : Meaning) → respond s (alone u) ≡ respond_unit s u
+unfolding acting
+said_alone s u = one s u
+
+-- a unit as a word has the effect of the unit
+pub of_said : (s : State) (u : Meaning) → respond s (said_of u) ≡ respond_unit s u
+of_said s u = grind (arith, in_front, empty_item, said_alone)
+
+-- ---- at most one unit after a token item
+
+faulty_is : (v : Verdict) → is_faulty v ≡ true → (f : UnitFault) × (v ≡ faulty f)
+faulty_is v h0 = grind arith
+
+after_abort : (s : State) (item : Meaning) → is_token_item item ≡ true → respond_unit (without_tokens Aborting s) item ≡ nothing (without_tokens Aborting s)
+unfolding respond_unit
+after_abort s item h0 = grind arith
+
+after_bad : (s : State) (u item : Meaning) → is_token_item item ≡ true → is_faulty (verdict s u) ≡ true
+    → and_then (respond_unit s u) (respond_unit (respond_unit s u).next item) ≡ respond_unit s u
+after_bad s u item t h =
+    let w = faulty_is (verdict s u) h in
+    let e = enacts s u ∙ ap (enacted s u) w.1 in
+    subst (λ (o : Outcome). and_then o (respond_unit o.next item) ≡ o) (sym e)
+    (ap (and_then (bad s w.0)) (after_abort s item t) ∙ and_nothing (bad s w.0))
+
+pub two : (s : State) (u item : Meaning) → is_token_item item ≡ true
+    → respond_all s (u ∷ item ∷ []) ≡ and_then (respond_unit s u) (respond_unit (respond_unit s u).next item)
+unfolding respond_all
+two s u item h0 = grind (arith, after_bad, one)
+
+choice : (b : Bool) (s : State) (x y : List Meaning) (o p : Outcome) → respond_all s x ≡ o → respond_all s y ≡ p
+    → respond_all s (if b || false then x else y) ≡ (if b then o else p)
+choice true s x y o p h k = h
+choice false s x y o p h k = k
+
+-- a token item acts after the unit after it, and in front of an RS it does not act
+pub item_and_unit : (s : State) (item u : Meaning) → is_token_item item ≡ true →
+    respond s (behind item u) ≡ (if is_resynchronize u then respond_unit s u else and_then (respond_unit s u) (respond_unit (respond_unit s u).next item))
+unfolding acting
+item_and_unit s item u t = choice (is_resynchronize u) s (u ∷ []) (u ∷ item ∷ []) _ _ (one s u) (two s u item t)
+
+-- ---- a bad unit is one that is answered by AB
+
+no_abort_if : (b : Bool) (x y : Option Meaning) → replies_abort x ≡ false → replies_abort y ≡ false → replies_abort (if b then x else y) ≡ false
+no_abort_if true x y h k = h
+no_abort_if false x y h k = k
+
+pub good_reply : (u : Meaning) → replies_abort (reply_for u) ≡ false
+good_reply (CN version_2 requirements serial wishes from to sizes octets) =
+    no_abort_if (not version_2) _ _ refl (no_abort_if (not (has_data (functional_units requirements) && are_sizes sizes)) _ _ refl refl)
+good_reply (AB bits octets) = refl
+good_reply _ = refl
+
+aborting_reply : (s : State) (u : Meaning) → replies_abort (in_aborting s u).reply ≡ false
+aborting_reply s u = grind arith
+
+ended_reply : (s : State) (u : Meaning) → replies_abort (in_ended s u).reply ≡ false
+ended_reply s (AB bits octets) = refl
+ended_reply s _ = refl
+
+over_reply : (b : Bool) (x y : Outcome) → replies_abort x.reply ≡ false → replies_abort y.reply ≡ false → replies_abort (if b then x else y).reply ≡ false
+over_reply true x y h k = h
+over_reply false x y h k = k
+
+pub enacted_reply : (s : State) (u : Meaning) (v : Verdict) → replies_abort (enacted s u v).reply ≡ is_faulty v
+enacted_reply s u v = grind (arith, over_reply, aborting_reply, ended_reply, good_reply)
+
+pub bad_is_aborted : (s : State) (u : Meaning) → replies_abort (respond_unit s u).reply ≡ is_faulty (verdict s u)
+bad_is_aborted s u = ap (λ (o : Outcome). replies_abort o.reply) (enacts s u) ∙ enacted_reply s u (verdict s u)
+
+-- what is reported of an outcome of a unit
+pub told_bad : (s : State) (u : Meaning) (o : Outcome) (b : Bool) → respond_unit s u ≡ o → b ≡ replies_abort o.reply → b ≡ is_faulty (verdict s u)
+told_bad s u o b e h = h ∙ ap (λ (p : Outcome). replies_abort p.reply) (sym e) ∙ bad_is_aborted s u

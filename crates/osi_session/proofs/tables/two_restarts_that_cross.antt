@@ -1,0 +1,116 @@
+-- Two restarts that cross: which of them takes effect.
+use Rattle.std.proofs.Common.{inl, inr, ◌⊎◌, ◌≡◌, refl, sym, ◌∙◌, ap, ℕ, ◌≤◌, ◌<◌, Bool, true, false, not, ◌&&◌, List, None, if◌then◌else◌, arith}
+use Rattle.osi_spdu.specs.declared.fields.ResyncType.TheVariants.{Restart}
+use Rattle.osi_session.specs.Restarts.{HasAsked, AreCrossed, after_restart}
+use Rattle.osi_session.proofs.Vocabulary.{lt-ltb, le-ltb, le-leb, eq-eqb, ne_eqb, cases_order, TokenSetting, State, is_aborting, is_ended, is_restarting, is_restart_due, takes_restart, restarted_at, lower, no_token, GT, RS, Outcome, si, conditions, first_fault, judged, stands, becomes, good, take_expected, respond_unit}
+use Rattle.osi_session.proofs.tables.what_is_true_of_each_phase.{implied, excluded}
+use Rattle.osi_session.proofs.tables.the_verdict_on_a_unit.{in_front, empty_item}
+
+-- at a side that has asked for a restart a lower number takes effect
+lower_stands : (s : State) (n : ℕ) → is_restarting s.phase ≡ true → n < s.numbers.next → stands s n ≡ true
+unfolding stands
+lower_stands s n r lt = let a = lt-ltb n s.numbers.next lt in rw (r, a) refl
+
+-- a higher one does not
+higher_yields : (s : State) (n : ℕ) → is_restarting s.phase ≡ true → s.numbers.next < n → stands s n ≡ false
+unfolding stands
+higher_yields s n r lt =
+    let a = le-ltb n s.numbers.next (omega arith) in
+    let b = ne_eqb n s.numbers.next (λ e. omega arith) in
+    rw (r, a, b) refl
+
+-- and its own number takes effect if it is not the caller
+equal_stands : (s : State) (n : ℕ) → is_restarting s.phase ≡ true → n ≡ s.numbers.next → stands s n ≡ not s.is_caller
+unfolding stands
+equal_stands s n r e =
+    let a = le-ltb n s.numbers.next (omega arith) in
+    let b = eq-eqb n s.numbers.next e in
+    rw (r, a, b) refl
+
+-- ---- one of two restarts takes effect
+
+pub of_equal : (c o : State) → AreCrossed c o → c.numbers.next ≡ o.numbers.next → (stands o c.numbers.next ≡ true) × (stands c o.numbers.next ≡ false)
+of_equal c o x e =
+    (equal_stands o c.numbers.next x.other_asked.phase e ∙ ap not x.is_other, equal_stands c o.numbers.next x.asked.phase (sym e) ∙ ap not x.is_caller)
+
+pub of_lower : (a b : State) → HasAsked a → HasAsked b → a.numbers.next < b.numbers.next → (stands b a.numbers.next ≡ true) × (stands a b.numbers.next ≡ false)
+of_lower a b x y lt = (lower_stands b a.numbers.next y.phase lt, higher_yields a b.numbers.next x.phase lt)
+
+-- ---- what both sides become
+
+other : (b : Bool) (x y : Outcome) → b ≡ false → (if b then x else y) ≡ y
+other true x y h = absurd (cc)
+other false x y h = refl
+
+expected : (s : State) (n : ℕ) (wishes : TokenSetting) (octets : List ℕ) → HasAsked s → s.base ≤ n →
+    first_fault (si (RS Restart n wishes octets)) (conditions s (RS Restart n wishes octets)) ≡ None
+expected s n wishes octets x from =
+    let r = x.phase in
+    let u = x.selected in
+    let b = le-leb s.base n from in
+    rw (u, b, r) refl
+
+good_restart : (s : State) (n : ℕ) (wishes : TokenSetting) (octets : List ℕ) → HasAsked s → s.base ≤ n →
+    respond_unit s (RS Restart n wishes octets) ≡ good s (RS Restart n wishes octets)
+unfolding respond_unit take_expected
+good_restart s n wishes octets x from =
+    let r = x.phase in
+    let a = excluded is_restarting is_aborting refl s.phase r in
+    let e = excluded is_restarting is_ended refl s.phase r in
+    let t = implied is_restarting takes_restart refl s.phase r in
+    let d : (is_restarting s.phase && false) ≡ false = rw r refl in
+    other (is_aborting s.phase) _ _ a ∙ other (is_ended s.phase) _ _ e ∙ other (is_restarting s.phase && false) _ _ d
+    ∙ other (not (takes_restart s.phase)) _ _ (ap not t) ∙ ap (judged s (RS Restart n wishes octets)) (expected s n wishes octets x from)
+
+taken : (s : State) (n : ℕ) (wishes : TokenSetting) (octets : List ℕ) → HasAsked s → s.base ≤ n → after_restart s n wishes octets ≡ becomes s (RS Restart n wishes octets)
+taken s n wishes octets x from =
+    ap (λ (o : Outcome). o.next) (in_front s (GT no_token) (RS Restart n wishes octets) empty_item ∙ good_restart s n wishes octets x from)
+
+stands_next : (s : State) (n : ℕ) (wishes : TokenSetting) (octets : List ℕ) → HasAsked s → s.base ≤ n → stands s n ≡ true
+    → ((after_restart s n wishes octets).numbers.next ≡ n) × (is_restart_due (after_restart s n wishes octets).phase ≡ true)
+unfolding restarted_at
+stands_next s n wishes octets x from e = rw (taken s n wishes octets x from, e) (refl, refl)
+
+yields_next : (s : State) (n : ℕ) (wishes : TokenSetting) (octets : List ℕ) → HasAsked s → s.base ≤ n → stands s n ≡ false
+    → ((after_restart s n wishes octets).numbers.next ≡ s.numbers.next) × (is_restarting (after_restart s n wishes octets).phase ≡ true)
+yields_next s n wishes octets x from e = rw (taken s n wishes octets x from, e) (refl, x.phase)
+
+abbrev pub Agree : ℕ → State → State → Type 0
+Agree n a b = (a.numbers.next ≡ n) × (b.numbers.next ≡ n)
+
+lower_is : (n m : ℕ) → n < m → lower n m ≡ n
+lower_is n m lt = rw (lt-ltb n m lt) refl
+
+lower_other : (n m : ℕ) → m ≤ n → lower n m ≡ m
+lower_other n m le = rw (le-ltb n m le) refl
+
+-- both go on from the lower number
+pub agreed : (c o : State) (wishes asked : TokenSetting) (octets others : List ℕ) → AreCrossed c o →
+    ((after_restart c o.numbers.next asked others).numbers.next ≡ lower c.numbers.next o.numbers.next)
+    × ((after_restart o c.numbers.next wishes octets).numbers.next ≡ lower c.numbers.next o.numbers.next)
+agreed c o wishes asked octets others x = elim (cases_order c.numbers.next o.numbers.next) [
+  | inl e ↦
+      let h = of_equal c o x e in
+      let low = lower_other c.numbers.next o.numbers.next (omega arith) in (
+        (yields_next c o.numbers.next asked others x.asked x.other_number h.1).0 ∙ e ∙ sym low,
+        (stands_next o c.numbers.next wishes octets x.other_asked x.number h.0).0 ∙ e ∙ sym low,
+      )
+  | inr (inl lt) ↦
+      let h = of_lower c o x.asked x.other_asked lt in
+      let low = lower_is c.numbers.next o.numbers.next lt in (
+        (yields_next c o.numbers.next asked others x.asked x.other_number h.1).0 ∙ sym low,
+        (stands_next o c.numbers.next wishes octets x.other_asked x.number h.0).0 ∙ sym low,
+      )
+  | inr (inr gt) ↦
+      let h = of_lower o c x.other_asked x.asked gt in
+      let low = lower_other c.numbers.next o.numbers.next (omega arith) in (
+        (stands_next c o.numbers.next asked others x.asked x.other_number h.0).0 ∙ sym low,
+        (yields_next o c.numbers.next wishes octets x.other_asked x.number h.1).0 ∙ sym low,
+      )
+]
+
+-- the one has a restart to answer, and the other awaits the answer
+pub one_answers : (c o : State) (wishes asked : TokenSetting) (octets others : List ℕ) → AreCrossed c o →
+    ((is_restart_due (after_restart c o.numbers.next asked others).phase ≡ true) × (is_restarting (after_restart o c.numbers.next wishes octets).phase ≡ true))
+    ⊎ ((is_restarting (after_restart c o.numbers.next asked others).phase ≡ true) × (is_restart_due (after_restart o c.numbers.next wishes octets).phase ≡ true))
+one_answers c o wishes asked octets others h0 = grind (arith, cases_order, of_equal, yields_next, stands_next, of_lower)

@@ -1,0 +1,69 @@
+-- How many indications a TSDU has.
+use Rattle.std.proofs.Common.{◌≡◌, refl, ap, sym, subst, ℕ, suc, ◌+◌, ◌≤◌, Bool, true, false, List, [], ◌∷◌, ◌++◌, length, map, None, if◌then◌else◌, arith}
+use Rattle.osi_session.proofs.Vocabulary.{list_any, length-append, State, is_aborting, is_wait_cn, Meaning, CN, AC, RF, DT, GT, PT, MIP, MIA, MAP, MAA, RS, RA, FN, DN, NF, AB, AA, Said, Word, Words, says, Taker, Hearing, word_verdict, respond_word, respond_words, is_restart_word, acting_words, respond_tsdu, Shown, Outcome, is_acceptable, stands, shown_for, in_aborting, in_ended, respond_unit, Verdict, over, dropped, faulty, fine, verdict, enacted, is_faulty, respond}
+use Rattle.osi_session.proofs.tables.the_verdict_on_a_unit.{enacts}
+use Rattle.osi_session.proofs.tables.a_word_acts_as_its_message.{word_does}
+use Rattle.osi_session.proofs.tables.messages_act_as_the_table_says.{plain_tsdu}
+
+abbrev AtMost : ℕ → List Shown → Type 0
+AtMost n shown = length shown ≤ n
+
+either : (b : Bool) (n : ℕ) (x y : List Shown) → AtMost n x → AtMost n y → AtMost n (if b then x else y)
+either true n x y h k = h
+either false n x y h k = k
+
+either_shows : (b : Bool) (n : ℕ) (x y : Outcome) → AtMost n x.shown → AtMost n y.shown → AtMost n (if b then x else y).shown
+either_shows true n x y h k = h
+either_shows false n x y h k = k
+
+good_shows : (s : State) (u : Meaning) → AtMost 1 (shown_for s u)
+good_shows s (CN version_2 requirements serial wishes from to sizes octets) = either (is_acceptable version_2 requirements sizes) 1 _ _ (omega arith) (omega arith)
+good_shows s (RS kind n wishes octets) = either (stands s n) 1 _ _ (omega arith) (omega arith)
+good_shows s (AB bits octets) = either (is_wait_cn s.phase) 1 _ _ (omega arith) (omega arith)
+good_shows s _ = omega arith
+
+aborting_shows : (s : State) (u : Meaning) → AtMost 1 (in_aborting s u).shown
+aborting_shows s u = grind arith
+
+ended_shows : (s : State) (u : Meaning) → AtMost 1 (in_ended s u).shown
+ended_shows s (AB bits octets) = omega arith
+ended_shows s _ = omega arith
+
+enacted_shows : (s : State) (u : Meaning) (v : Verdict) → AtMost 1 (enacted s u v).shown
+enacted_shows s u v = grind (arith, either_shows, aborting_shows, ended_shows, either, good_shows)
+
+-- a unit shows at most one thing
+pub unit_shows : (s : State) (u : Meaning) → length (respond_unit s u).shown ≤ 1
+unit_shows s u = subst (λ (o : Outcome). AtMost 1 o.shown) (sym (enacts s u)) (enacted_shows s u (verdict s u))
+
+both_show : (a b : List Shown) (n : ℕ) → length a ≤ 1 → length b ≤ n → length (a ++ b) ≤ n + 1
+both_show a b n h k = omega (arith, length-append a b)
+
+word_shows : (t : Taker) (w : Word) → length (respond_word t w).shown ≤ 1
+word_shows t w = word_does (λ o. AtMost 1 o.shown) t w (record { acts = λ u a. unit_shows t.state u; bad = λ fault o. enacted_shows t.state AA (faulty fault); rests = omega arith })
+
+either_heard : (b : Bool) (n : ℕ) (x y : Hearing) → AtMost n x.shown → AtMost n y.shown → AtMost n (if b then x else y).shown
+either_heard true n x y h k = h
+either_heard false n x y h k = k
+
+all_show : (t : Taker) (ws : Words) → length (respond_words t ws).shown ≤ length ws
+unfolding respond_words
+all_show t [] = omega arith
+all_show t (w ∷ ws) =
+    let one = word_shows t w in
+    let both = both_show (respond_word t w).shown (respond_words (respond_word t w).next ws).shown (length ws) one (all_show (respond_word t w).next ws) in
+    either_heard (is_faulty (word_verdict t w)) (length (w ∷ ws)) _ _ (omega arith) (omega arith)
+
+either_long : (b : Bool) (n : ℕ) (x y : Words) → length x ≤ n → length y ≤ n → length (if b then x else y) ≤ n
+either_long true n x y h k = h
+either_long false n x y h k = k
+
+acting_len : (words : Words) → length (acting_words words) ≤ length words
+unfolding acting_words
+acting_len [] = omega arith
+acting_len (first ∷ words) =
+    either_long (list_any is_restart_word words) (length (first ∷ words)) _ _ (omega arith) (omega (arith, length-append words (first ∷ [])))
+
+-- and a TSDU at most one for each word
+pub words_show : (t : Taker) (words : Words) → length (respond_tsdu t words).shown ≤ length words
+words_show t words = let a = all_show t (acting_words words) in let b = acting_len words in omega arith

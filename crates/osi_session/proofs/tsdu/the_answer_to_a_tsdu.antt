@@ -1,0 +1,348 @@
+-- The answer to a TSDU, the phases in which a session closes the transport connection, and those in which a call is
+-- accepted.
+use Rattle.std.proofs.Common.{◌⊎◌, inl, inr, ◌≡◌, refl, sym, ◌∙◌, ap, subst, ℕ, Bool, true, false, not, ◌&&◌, ◌||◌, List, [], ◌∷◌, Option, Some, None, unwrap_or, Result, Ok, Err, if◌then◌else◌, arith}
+use Rattle.osi_session.proofs.Vocabulary.{list_any, SpduFault, TokenSetting, TsduMaximumSize, are_sizes, Meaning, CN, RF, DN, AB, AA, said_at, Word, Words, as_message, UnitFault, Spelling, Unexpected, Phase, WaitTransport, Answering, Ended, State, is_wait_transport, is_wait_cn, is_connecting, is_answering, is_ready, is_major_due, is_releasing, is_release_due, is_restart_due, is_aborting, is_ended, is_over, may_give, may_ask, may_confirm_minor, may_restart, may_abort, Call, Accept, Refuse, Data, Give, Please, Minor, MinorConfirm, Major, MajorConfirm, Restart, RestartConfirm, Release, ReleaseAccept, ReleaseRefuse, Abort, Step, may_call, allowed, may_close, may_close_word, closes_alone, is_answer, awaits_close, Taker, Hearing, word_verdict, respond_word, respond_words, heard_then, acting_words, respond_tsdu, respond_came, Input, called, taken, unread, opened, refused, broken, is_opened, came_as, came, Listener, taker_of, react, after_input, without_tokens, functional_units, has_data, Outcome, si, conditions, first_fault, is_expected, drops, nothing, good, bad, becomes, judged, take_expected, in_aborting, in_ended, respond_unit, first_reply, and_then, over, verdict, enacted, is_faulty, respond_fault}
+use Rattle.osi_session.proofs.moves.what_closes_the_connection.{neither, acting_none, not_true, words_open, octets_alone, fault_open}
+use Rattle.osi_session.proofs.tables.what_an_accepted_call_has_passed.{passed}
+use Rattle.osi_session.proofs.tables.what_is_true_of_each_phase.{implied, excluded}
+use Rattle.osi_session.proofs.tables.the_outcomes_of_each_input.{not_false, call_cases, unit_cases, taken_cases, fault_cases, refused_cases, broken_cases}
+use Rattle.osi_session.proofs.runs.what_every_run_preserves.{word_over}
+use Rattle.osi_session.proofs.tables.the_verdict_on_a_unit.{enacts, not_over}
+use Rattle.osi_session.proofs.tables.a_word_acts_as_its_message.{outcome_in, word_does, word_keeps, all_keep, any_word, any_tsdu_keeps}
+use Rattle.osi_session.proofs.tables.messages_act_as_the_table_says.{word_at, word_alone}
+
+-- ---- a session that answers a TSDU is over
+
+-- if something is sent, it is an answer, and the session is aborted or has ended
+record Answers (o : Outcome) : Type 0 where
+  last : (m : Meaning) → o.reply ≡ Some m → (is_answer m ≡ true) × (is_over o.next.phase ≡ true)
+
+silent : (o : Outcome) → o.reply ≡ None → Answers o
+silent o h = record { last = λ m e. absurd (cc) }
+
+abbrev some : Meaning → Option Meaning
+some m = Some m
+
+-- an outcome that sends this
+sends_one : (o : Outcome) (u : Meaning) → o.reply ≡ Some u → is_answer u ≡ true → is_over o.next.phase ≡ true → Answers o
+sends_one o u h0 h1 h2 = grind arith
+
+either : (b : Bool) (x y : Outcome) → (b ≡ true → Answers x) → (b ≡ false → Answers y) → Answers (if b then x else y)
+either true x y h k = h refl
+either false x y h k = k refl
+
+aborting_answers : (s : State) (u : Meaning) → Answers (in_aborting s u)
+aborting_answers s u = grind (arith, silent)
+
+ended_answers : (s : State) (u : Meaning) → is_over s.phase ≡ true → Answers (in_ended s u)
+ended_answers s (AB bits octets) h = sends_one _ AA refl refl h
+ended_answers s _ h = silent _ refl
+
+-- a CN that cannot be accepted
+refused_over : (version_2 transfers : Bool) (x y : State) (m : Meaning) → is_over y.phase ≡ true
+    → (if not version_2 then Some (RF 132 []) else (if not transfers then Some (RF 134 []) else None)) ≡ Some m
+    → (is_answer m ≡ true) × (is_over (if version_2 && transfers then x else y).phase ≡ true)
+refused_over version_2 transfers x y m h0 h1 = grind arith
+
+-- the state after a CN that is accepted
+abbrev becomes_answering : State → ℕ → Option ℕ → TokenSetting → TsduMaximumSize → State
+becomes_answering s requirements serial wishes sizes =
+    record s { phase = Answering; units = functional_units requirements; wishes = wishes; proposed = unwrap_or serial 0; sizes = sizes }
+
+good_answers : (s : State) (u : Meaning) → Answers (good s u)
+good_answers s (CN version_2 requirements serial wishes from to sizes octets) = record {
+  last = λ m e. refused_over version_2 (has_data (functional_units requirements) && are_sizes sizes)
+      (becomes_answering s requirements serial wishes sizes) (without_tokens Ended s) m refl e;
+}
+good_answers s (AB bits octets) = sends_one _ AA refl refl refl
+good_answers s _ = silent _ refl
+
+bad_answers : (s : State) (fault : UnitFault) → Answers (bad s fault)
+bad_answers s fault = sends_one _ (AB 5 []) refl refl refl
+
+judged_answers : (s : State) (u : Meaning) (f : Option UnitFault) → Answers (judged s u f)
+judged_answers s u None = good_answers s u
+judged_answers s u (Some fault) = bad_answers s fault
+
+expected_answers : (s : State) (u : Meaning) → Answers (take_expected s u)
+unfolding take_expected
+expected_answers s u = judged_answers s u (first_fault (si u) (conditions s u))
+
+answers : (s : State) (u : Meaning) → Answers (respond_unit s u)
+unfolding respond_unit
+answers s u =
+    either (is_aborting s.phase) _ _ (λ a. aborting_answers s u) (λ a.
+    either (is_ended s.phase) _ _ (λ e. ended_answers s u (implied is_ended is_over refl s.phase e)) (λ e.
+    either (drops s u) _ _ (λ d. silent _ refl) (λ d.
+    either (not (is_expected s.phase u)) _ _ (λ x. bad_answers s (Unexpected (si u))) (λ x. expected_answers s u))))
+
+pub unit_answers : (s : State) (u m : Meaning) → (respond_unit s u).reply ≡ Some m → (is_answer m ≡ true) × (is_over (respond_unit s u).next.phase ≡ true)
+unit_answers s u = (answers s u).last
+
+word_answers : (t : Taker) (w : Word) → Answers (outcome_in (respond_word t w))
+word_answers t w = word_does Answers t w (record { acts = λ u a. answers t.state u; bad = λ fault o. bad_answers t.state fault; rests = silent _ refl })
+
+pub stays_over : (t : Taker) (ws : Words) → is_over t.state.phase ≡ true → is_over (respond_words t ws).next.state.phase ≡ true
+stays_over t ws h = all_keep (λ r. is_over r.phase ≡ true) (λ w. Unit {0}) t ws (λ r w q. word_over r w) (any_word ws) h
+
+either_sent : (a b : Option Meaning) (m : Meaning) → first_reply a b ≡ Some m → (a ≡ Some m) ⊎ (b ≡ Some m)
+either_sent None b m h = inr h
+either_sent (Some u) b m h = inl h
+
+-- the answer to a word, and what follows
+then_answers : (first second : Outcome) → Answers first → (is_over first.next.phase ≡ true → is_over second.next.phase ≡ true)
+    → Answers second → Answers (and_then first second)
+then_answers first second h stays k = record {
+  last = λ m e. elim (either_sent first.reply second.reply m e) [
+    | inl a ↦ (let q = h.last m a in (q.0, stays q.1))
+    | inr b ↦ k.last m b
+  ];
+}
+
+either_heard : (b : Bool) (x y : Hearing) → Answers (outcome_in x) → Answers (outcome_in y) → Answers (outcome_in (if b then x else y))
+either_heard true x y h k = h
+either_heard false x y h k = k
+
+all_answer : (t : Taker) (ws : Words) → Answers (outcome_in (respond_words t ws))
+unfolding respond_words
+all_answer t [] = silent _ refl
+all_answer t (w ∷ ws) =
+    let next = (respond_word t w).next in
+    either_heard (is_faulty (word_verdict t w)) (respond_word t w) (heard_then (respond_word t w) (respond_words next ws)) (word_answers t w)
+    (then_answers (outcome_in (respond_word t w)) (outcome_in (respond_words next ws)) (word_answers t w) (stays_over next ws) (all_answer next ws))
+
+fault_answers : (s : State) (fault : SpduFault) → Answers (respond_fault s fault)
+unfolding respond_fault
+fault_answers s fault = either (is_over s.phase) _ _ (λ o. silent _ refl) (λ o. bad_answers s (Spelling fault))
+
+pub read_answers : (s : Listener) (read : Result Words SpduFault) (m : Meaning) → (react s (came_as read)).reply ≡ Some m
+    → (is_answer m ≡ true) × (is_over (react s (came_as read)).next.state.phase ≡ true)
+unfolding react
+read_answers s (Ok words) = (all_answer (taker_of s) (acting_words words)).last
+read_answers s (Err fault) = (fault_answers s.state fault).last
+
+-- a session that answers a TSDU is over
+pub octets_answered : (s : Listener) (octets : List ℕ) (m : Meaning) → (react s (came octets)).reply ≡ Some m
+    → (is_answer m ≡ true) × (is_over (react s (came octets)).next.state.phase ≡ true)
+octets_answered s octets = read_answers s (said_at octets)
+
+-- ---- a session that is over
+
+aborting_still : (s : State) (u : Meaning) → may_close u ≡ false → in_aborting s u ≡ nothing s
+aborting_still s u h0 = grind arith
+
+ended_still : (s : State) (u : Meaning) → may_close u ≡ false → in_ended s u ≡ nothing s
+ended_still s (AB bits octets) h = absurd (cc)
+ended_still s _ h = refl
+
+over_still : (s : State) (u : Meaning) → may_close u ≡ false → enacted s u over ≡ nothing s
+over_still s u h0 = grind (arith, aborting_still, ended_still)
+
+over_verdict : (s : State) (u : Meaning) → is_over s.phase ≡ true → verdict s u ≡ over
+over_verdict s u o = rw o refl
+
+-- if a session is over, a word does what its message does
+over_word : (t : Taker) (w : Word) → is_over t.state.phase ≡ true → outcome_in (respond_word t w) ≡ respond_unit t.state (as_message w)
+over_word t w o =
+    ap outcome_in (word_at t w over (rw o refl))
+    ∙ sym (enacts t.state (as_message w) ∙ ap (enacted t.state (as_message w)) (over_verdict t.state (as_message w) o))
+
+word_still : (t : Taker) (w : Word) → is_over t.state.phase ≡ true → may_close_word w ≡ false → outcome_in (respond_word t w) ≡ nothing t.state
+word_still t w o h = ap outcome_in (word_at t w over (rw o refl)) ∙ over_still t.state (as_message w) h
+
+over_no_fault : (t : Taker) (w : Word) → is_over t.state.phase ≡ true → is_faulty (word_verdict t w) ≡ false
+over_no_fault t w o = rw o refl
+
+-- the words that come after others do nothing
+all_still : (t : Taker) (ws : Words) → is_over t.state.phase ≡ true → list_any may_close_word ws ≡ false → outcome_in (respond_words t ws) ≡ nothing t.state
+unfolding respond_words
+all_still t [] o h = refl
+all_still t (w ∷ ws) o h =
+    let q = neither (may_close_word w) (list_any may_close_word ws) h in
+    let e = word_still t w o q.0 in
+    let same = ap (λ (x : Outcome). x.next) e in
+    let next = (respond_word t w).next in
+    ap (λ b. outcome_in (if b then respond_word t w else heard_then (respond_word t w) (respond_words next ws))) (over_no_fault t w o)
+    ∙ ap (and_then (outcome_in (respond_word t w))) (all_still next ws (subst (λ (x : State). is_over x.phase ≡ true) (sym same) o) q.1 ∙ ap nothing same)
+    ∙ ap (λ (x : Outcome). and_then x (nothing t.state)) e
+
+words_still : (t : Taker) (words : Words) → is_over t.state.phase ≡ true → list_any may_close_word words ≡ false → outcome_in (respond_tsdu t words) ≡ nothing t.state
+words_still t words o h = all_still t (acting_words words) o (acting_none may_close_word words h)
+
+-- what arrives at a session that is over: a single word, or nothing
+over_said : (P : Outcome → Type 0) (t : Taker) (words : Words) → is_over t.state.phase ≡ true → closes_alone words ≡ true
+    → P (nothing t.state) → ((u : Meaning) → P (respond_unit t.state u)) → P (outcome_in (respond_tsdu t words))
+over_said P t words h0 h1 h2 h3 = grind (arith, words_still, outcome_in, word_alone, over_word, not_true)
+
+abbrev Silent : Outcome → Type 0
+Silent o = o.reply ≡ None
+
+aborting_reply : (s : State) (u : Meaning) → Silent (in_aborting s u)
+aborting_reply s u = grind arith
+
+unit_unanswered : (s : State) (u : Meaning) → is_aborting s.phase ≡ true → Silent (respond_unit s u)
+unfolding respond_unit
+unit_unanswered s u a = rw a (aborting_reply s u)
+
+abbrev AcceptsAbort : Outcome → Type 0
+AcceptsAbort o = (m : Meaning) → o.reply ≡ Some m → m ≡ AA
+
+ended_accepts : (s : State) (u : Meaning) → AcceptsAbort (in_ended s u)
+ended_accepts s (AB bits octets) m e = cc
+ended_accepts s _ m e = absurd (cc)
+
+not_aborting : (p : Phase) → is_ended p ≡ true → is_aborting p ≡ false
+not_aborting p h = excluded is_ended is_aborting refl p h
+
+unit_accepts : (s : State) (u : Meaning) → is_ended s.phase ≡ true → AcceptsAbort (respond_unit s u)
+unfolding respond_unit
+unit_accepts s u e = let a = not_aborting s.phase e in rw (a, e) (ended_accepts s u)
+
+over_fault : (s : State) (fault : SpduFault) → is_over s.phase ≡ true → respond_fault s fault ≡ nothing s
+unfolding respond_fault
+over_fault s fault o = rw o refl
+
+read_over : (P : Outcome → Type 0) (s : Listener) (read : Result Words SpduFault) → is_over s.state.phase ≡ true
+    → ((words : Words) → read ≡ Ok words → closes_alone words ≡ true) → P (nothing s.state) → ((u : Meaning) → P (respond_unit s.state u))
+    → P (outcome_in (respond_came (taker_of s) read))
+read_over P s (Ok words) o h n k = over_said P (taker_of s) words o (h words refl) n k
+read_over P s (Err fault) o h n k = subst P (sym (over_fault s.state fault o)) n
+
+reply_read : (s : Listener) (read : Result Words SpduFault) → (react s (came_as read)).reply ≡ (outcome_in (respond_came (taker_of s) read)).reply
+unfolding react
+reply_read s (Ok words) = refl
+reply_read s (Err fault) = refl
+
+aborting_over : (p : Phase) → is_aborting p ≡ true → is_over p ≡ true
+aborting_over p h = implied is_aborting is_over refl p h
+
+-- an aborted session answers nothing
+pub aborting_silent : (s : Listener) (octets : List ℕ) → is_aborting s.state.phase ≡ true → (react s (came octets)).reply ≡ None
+aborting_silent s octets a =
+    reply_read s (said_at octets)
+    ∙ read_over Silent s (said_at octets) (aborting_over s.state.phase a) (octets_alone octets) refl (λ u. unit_unanswered s.state u a)
+
+-- an ended one answers an abort
+pub ended_accepting : (s : Listener) (octets : List ℕ) (m : Meaning) → is_ended s.state.phase ≡ true → (react s (came octets)).reply ≡ Some m → m ≡ AA
+ended_accepting s octets m e h =
+    read_over AcceptsAbort s (said_at octets) (implied is_ended is_over refl s.state.phase e) (octets_alone octets) (λ u k. absurd (cc)) (λ u. unit_accepts s.state u e)
+    m (sym (reply_read s (said_at octets)) ∙ h)
+
+-- ---- in which phases the transport connection is closed
+
+record Awaited (s : State) (o : Outcome) : Type 0 where
+  awaits : o.closes ≡ true → awaits_close s.phase ≡ true
+
+left_open : (s : State) (o : Outcome) → o.closes ≡ false → Awaited s o
+left_open s o h = record { awaits = λ c. absurd (cc) }
+
+either_awaited : (s : State) (b : Bool) (x y : Outcome) → (b ≡ true → Awaited s x) → (b ≡ false → Awaited s y) → Awaited s (if b then x else y)
+either_awaited s true x y h k = h refl
+either_awaited s false x y h k = k refl
+
+good_awaited : (s : State) (u : Meaning) → is_expected s.phase u ≡ true → Awaited s (good s u)
+good_awaited s u h0 = grind (arith, implied, left_open)
+
+judged_awaited : (s : State) (u : Meaning) (f : Option UnitFault) → is_expected s.phase u ≡ true → Awaited s (judged s u f)
+judged_awaited s u None x = good_awaited s u x
+judged_awaited s u (Some fault) x = left_open s _ refl
+
+expected_awaited : (s : State) (u : Meaning) → is_expected s.phase u ≡ true → Awaited s (take_expected s u)
+unfolding take_expected
+expected_awaited s u x = judged_awaited s u (first_fault (si u) (conditions s u)) x
+
+ended_awaited : (s : State) (u : Meaning) → Awaited s (in_ended s u)
+ended_awaited s (AB bits octets) = left_open s _ refl
+ended_awaited s _ = left_open s _ refl
+
+aborting_awaited : (s : State) (u : Meaning) → is_aborting s.phase ≡ true → Awaited s (in_aborting s u)
+aborting_awaited s u a = record { awaits = λ c. implied is_aborting awaits_close refl s.phase a }
+
+unit_awaited : (s : State) (u : Meaning) → Awaited s (respond_unit s u)
+unfolding respond_unit
+unit_awaited s u =
+    either_awaited s (is_aborting s.phase) _ _ (λ a. aborting_awaited s u a) (λ a.
+    either_awaited s (is_ended s.phase) _ _ (λ e. ended_awaited s u) (λ e.
+    either_awaited s (drops s u) _ _ (λ d. left_open s _ refl) (λ d.
+    either_awaited s (not (is_expected s.phase u)) _ _ (λ x. left_open s _ refl) (λ x. expected_awaited s u (not_false (is_expected s.phase u) x)))))
+
+word_awaited : (t : Taker) (w : Word) → Awaited t.state (outcome_in (respond_word t w))
+word_awaited t w = word_does (Awaited t.state) t w (record { acts = λ u a. unit_awaited t.state u; bad = λ fault o. left_open t.state _ refl; rests = left_open t.state _ refl })
+
+words_awaited : (t : Taker) (words : Words) → closes_alone words ≡ true → Awaited t.state (outcome_in (respond_tsdu t words))
+words_awaited t words h0 = grind (arith, left_open, words_open, outcome_in, word_alone, word_awaited, not_true)
+
+read_awaited : (s : Listener) (read : Result Words SpduFault) → ((words : Words) → read ≡ Ok words → closes_alone words ≡ true)
+    → (react s (came_as read)).closes ≡ true → awaits_close s.state.phase ≡ true
+unfolding react
+read_awaited s (Ok words) h = (words_awaited (taker_of s) words (h words refl)).awaits
+read_awaited s (Err fault) h = (left_open s.state (respond_fault s.state fault) (fault_open s.state fault)).awaits
+
+-- a session that closes it awaited a unit that does so
+pub octets_awaited : (s : Listener) (octets : List ℕ) → (react s (came octets)).closes ≡ true → awaits_close s.state.phase ≡ true
+octets_awaited s octets = read_awaited s (said_at octets) (octets_alone octets)
+
+-- ---- in which phases a call is accepted
+
+callable : (c : Call) (p : Phase) → may_call p c ≡ true → may_abort p ≡ true
+callable (Accept requirements serial sides sizes octets) p h = implied is_answering may_abort refl p h
+callable (Refuse refusal) p h = implied is_answering may_abort refl p h
+callable (Give tokens) p h = implied may_give may_abort refl p h
+callable (Please tokens octets) p h = implied may_ask may_abort refl p h
+callable (MinorConfirm n octets) p h = implied may_confirm_minor may_abort refl p h
+callable (MajorConfirm octets) p h = implied is_major_due may_abort refl p h
+callable (Restart n wishes octets) p h = implied may_restart may_abort refl p h
+callable (RestartConfirm sides octets) p h = implied is_restart_due may_abort refl p h
+callable (ReleaseAccept octets) p h = implied is_release_due may_abort refl p h
+callable (ReleaseRefuse octets) p h = implied is_release_due may_abort refl p h
+callable (Abort octets) p h = h
+callable _ p h = implied is_ready may_abort refl p h
+
+pub accepted_callable : (s : State) (c : Call) (x : Step) → allowed s c ≡ Ok x → may_abort s.phase ≡ true
+accepted_callable s c x h = callable c s.phase (passed s c x h).phase
+
+pub callable_open : (p : Phase) → may_abort p ≡ true → (is_wait_transport p ≡ false) × (is_wait_cn p ≡ false) × (is_over p ≡ false)
+callable_open p h = (excluded may_abort is_wait_transport refl p h, excluded may_abort is_wait_cn refl p h, excluded may_abort is_over refl p h)
+
+-- ---- while the transport connection is awaited
+
+abbrev Waits : State → Type 0
+Waits s = (is_wait_transport s.phase || is_over s.phase) ≡ true
+
+waits_in : (p : Phase) → is_wait_transport p ≡ true → p ≡ WaitTransport
+waits_in WaitTransport h = refl
+waits_in _ h = absurd (cc)
+
+good_waits : (s : State) (u : Meaning) → is_expected WaitTransport u ≡ true → Waits (becomes s u)
+good_waits s (AB bits octets) x = refl
+good_waits s _ x = absurd (cc)
+
+either_is : (a b : Bool) → (a || b) ≡ true → b ≡ false → a ≡ true
+either_is true b h k = refl
+either_is false b h k = absurd (cc)
+
+unit_waits : (s : State) (u : Meaning) → Waits s → Waits (respond_unit s u).next
+unit_waits s u h = unit_cases Waits s u (record {
+  same = h;
+  ended = λ a. refl;
+  bad = λ a e. refl;
+  good = λ a e x met.
+      let w = either_is (is_wait_transport s.phase) (is_over s.phase) h (not_over s a e) in
+      good_waits s u (subst (λ (p : Phase). is_expected p u ≡ true) (waits_in s.phase w) x);
+})
+
+word_waits : (t : Taker) (w : Word) → Waits t.state → Waits (respond_word t w).next.state
+word_waits t w h = word_keeps Waits t w (λ u a. unit_waits t.state u h) (λ o. refl) h
+
+first_true : (a b : Bool) → a ≡ true → (a || b) ≡ true
+first_true a b h = rw h refl
+
+-- what happens before it is open leaves the session waiting for it, or is the end
+pub input_waits : (s : Listener) (input : Input) → is_opened input ≡ false → is_wait_transport s.state.phase ≡ true
+    → (is_wait_transport (after_input s input).state.phase || is_over (after_input s input).state.phase) ≡ true
+input_waits s (called c) n w = call_cases Waits s c (first_true _ _ w) (λ x e. absurd (let b = callable_open s.state.phase (accepted_callable s.state c x e) in let q = b.0 in cc))
+input_waits s (taken words) n w = taken_cases Waits s words (any_tsdu_keeps Waits (taker_of s) words word_waits (first_true _ _ w))
+input_waits s (unread fault) n w = fault_cases Waits s fault (first_true _ _ w) (λ o. refl)
+input_waits s opened n w = absurd (cc)
+input_waits s (refused reason) n w = refused_cases Waits s reason (λ k. refl) (first_true _ _ w)
+input_waits s broken n w = broken_cases Waits s refl

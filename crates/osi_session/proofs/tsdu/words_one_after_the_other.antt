@@ -1,0 +1,157 @@
+-- The words of a TSDU take effect one after the other: what a loop over its units has done so far, and what is still to act.
+-- For `take_all` of grouping and `count_all` of counting.
+use Rattle.std.proofs.Common.{◌≡◌, refl, sym, ◌∙◌, ap, subst, ℕ, Bool, true, false, ◌||◌, List, [], ◌∷◌, ◌++◌, Option, Some, None, Result, Ok, Err, if◌then◌else◌, arith}
+use Rattle.osi_spdu.specs.declared.behind.Behind.{Behind}
+use Rattle.osi_spdu.specs.declared.units.Spdu.{Spdu}
+use Rattle.osi_session.proofs.Vocabulary.{OnErr, list_any, append_assoc, append-nil, GivesBehind, units_behind, Reactions, hearing_of_all, takes_room, Meaning, Word, Words, first_reply, is_faulty, Taker, Hearing, heard_then, idle, is_restart_word, word_verdict, respond_word, respond_words, acting_words, respond_tsdu}
+use Rattle.osi_session.proofs.tsdu.what_is_joined.{InPhase}
+use Rattle.osi_session.proofs.tsdu.memory_for_one_word.{SoFar, none_so_far, word_so_far, word_takes, takes_behind}
+use Rattle.osi_session.proofs.tables.messages_act_as_the_table_says.{one_word}
+
+or_again : (a b c : Bool) → (a || (b || c)) ≡ ((a || b) || c)
+or_again true b c = refl
+or_again false b c = refl
+
+reply_again : (a b c : Option Meaning) → first_reply a (first_reply b c) ≡ first_reply (first_reply a b) c
+reply_again None b c = refl
+reply_again (Some m) b c = refl
+
+-- messages that are received one after the other
+then_again : (o p q : Hearing) → heard_then o (heard_then p q) ≡ heard_then (heard_then o p) q
+then_again o p q =
+    let shown = sym (append_assoc o.shown p.shown q.shown) in
+    let reply = reply_again o.reply p.reply q.reply in
+    let closes = or_again o.closes p.closes q.closes in
+    λ i. record { next = q.next; shown = shown i; reply = reply i; closes = closes i }
+
+-- what is still to act: these units, and after them the item unless one of them is an RS, or one before them was
+abbrev pub acting_behind : Bool → Word → Words → Words
+acting_behind restarts item us = if restarts || list_any is_restart_word us then us else us ++ item ∷ []
+
+shift : (restarts r a : Bool) (u item : Word) (us : Words) →
+    (if restarts || (r || a) then u ∷ us else (u ∷ us) ++ item ∷ []) ≡ u ∷ (if (restarts || r) || a then us else us ++ item ∷ [])
+shift restarts r a u item us = grind arith
+
+pub taken_next : (restarts : Bool) (item u : Word) (us : Words) →
+    acting_behind restarts item (u ∷ us) ≡ u ∷ acting_behind (restarts || is_restart_word u) item us
+taken_next restarts item u us = shift restarts (is_restart_word u) (list_any is_restart_word us) u item us
+
+-- this outcome, and those of what is still to act, are what is wanted
+abbrev pub Leads : Hearing → Hearing → Bool → Word → Words → Type 0
+Leads want o restarts item us = heard_then o (respond_words o.next (acting_behind restarts item us)) ≡ want
+
+pub good_then : (s : Taker) (u : Word) (us : Words) → is_faulty (word_verdict s u) ≡ false
+    → respond_words s (u ∷ us) ≡ heard_then (respond_word s u) (respond_words (respond_word s u).next us)
+unfolding respond_words
+good_then s u us h = rw h refl
+
+bad_then : (s : Taker) (u : Word) (us : Words) → is_faulty (word_verdict s u) ≡ true → respond_words s (u ∷ us) ≡ respond_word s u
+unfolding respond_words
+bad_then s u us h = rw h refl
+
+-- a unit that is not bad
+pub goes_on : (want o : Hearing) (restarts : Bool) (item u : Word) (us : Words) → Leads want o restarts item (u ∷ us)
+    → is_faulty (word_verdict o.next u) ≡ false → Leads want (heard_then o (respond_word o.next u)) (restarts || is_restart_word u) item us
+goes_on want o restarts item u us h good =
+    let rest = acting_behind (restarts || is_restart_word u) item us in
+    let e = ap (λ (xs : Words). heard_then o (respond_words o.next xs)) (taken_next restarts item u us) in
+    let f = ap (heard_then o) (good_then o.next u rest good) in
+    let g = then_again o (respond_word o.next u) (respond_words (respond_word o.next u).next rest) in
+    sym g ∙ sym f ∙ sym e ∙ h
+
+-- a bad unit is the last that acts
+pub stops : (want o : Hearing) (restarts : Bool) (item u : Word) (us : Words) → Leads want o restarts item (u ∷ us)
+    → is_faulty (word_verdict o.next u) ≡ true → heard_then o (respond_word o.next u) ≡ want
+stops want o restarts item u us h bad =
+    let rest = acting_behind (restarts || is_restart_word u) item us in
+    let e = ap (λ (xs : Words). heard_then o (respond_words o.next xs)) (taken_next restarts item u us) in
+    let f = ap (heard_then o) (bad_then o.next u rest bad) in
+    sym f ∙ sym e ∙ h
+
+-- if memory is needed for a word, it is needed for the whole
+pub takes : (j : Option (List ℕ)) (want o : Hearing) (restarts : Bool) (item u : Word) (us : Words) → SoFar j o → Leads want o restarts item (u ∷ us)
+    → takes_room o.next.joined (respond_word o.next u) ≡ true → takes_room j want ≡ true
+takes j want o restarts item u us s h room =
+    let rest = acting_behind (restarts || is_restart_word u) item us in
+    let e = ap (λ (xs : Words). heard_then o (respond_words o.next xs)) (taken_next restarts item u us) in
+    subst (λ (p : Hearing). takes_room j p ≡ true) (sym e ∙ h)
+    (takes_behind j o (respond_words o.next (u ∷ rest)) s.grows (word_takes o.next u rest room))
+
+-- no unit is left
+or_false : (b : Bool) → (b || false) ≡ b
+or_false true = refl
+or_false false = refl
+
+reply_none : (r : Option Meaning) → first_reply r None ≡ r
+reply_none None = refl
+reply_none (Some m) = refl
+
+then_idle : (h : Hearing) → heard_then h (idle h.next) ≡ h
+then_idle h =
+    let shown = append-nil h.shown in let reply = reply_none h.reply in let closes = or_false h.closes in
+    λ i. record { next = h.next; shown = shown i; reply = reply i; closes = closes i }
+
+pub ends_restarted : (want o : Hearing) (item : Word) → Leads want o true item [] → o ≡ want
+unfolding respond_words
+ends_restarted want o item h = sym (then_idle o) ∙ h
+
+pub ends_with_item : (want o : Hearing) (item : Word) → Leads want o false item [] → heard_then o (respond_word o.next item) ≡ want
+ends_with_item want o item h = sym (ap (heard_then o) (one_word o.next item)) ∙ h
+
+pub item_takes : (j : Option (List ℕ)) (want o : Hearing) (item : Word) → SoFar j o → Leads want o false item [] → takes_room o.next.joined (respond_word o.next item) ≡ true → takes_room j want ≡ true
+item_takes j want o item s h room =
+    subst (λ (p : Hearing). takes_room j p ≡ true) (ends_with_item want o item h) (takes_behind j o (respond_word o.next item) s.grows room)
+
+-- ---- a TSDU of more words than one
+
+pub tsdu_begins : (t : Taker) (o : Hearing) (item : Word) (us : Words) → o ≡ idle t → Leads (respond_tsdu t (item ∷ us)) o false item us
+unfolding acting_words
+tsdu_begins t o item us e = subst (λ (p : Hearing). Leads (respond_tsdu t (item ∷ us)) p false item us) (sym e) refl
+
+-- what the loop over the words of a TSDU keeps
+pub record Walks (want : Hearing) (j : Option (List ℕ)) (r : Reactions) (restarts : Bool) (item : Word) (us : Words) : Type 0 where
+  pub leads : Leads want (hearing_of_all j r) restarts item us
+  pub so_far : SoFar j (hearing_of_all j r)
+  pub ordered : r.first ≡ None → r.more.items ≡ []
+
+pub walks_begin : (t : Taker) (r : Reactions) (item first : Word) (us units : Words) → hearing_of_all t.joined r ≡ idle t → InPhase t → r.more.items ≡ []
+    → item ≡ first → us ≡ units → Walks (respond_tsdu t (first ∷ units)) t.joined r false item us
+walks_begin t r item first us units e k m i b = record {
+  leads = subst (λ (x : Word). Leads (respond_tsdu t (first ∷ units)) (hearing_of_all t.joined r) false x us) (sym i)
+      (subst (λ (xs : Words). Leads (respond_tsdu t (first ∷ units)) (hearing_of_all t.joined r) false first xs) (sym b)
+      (tsdu_begins t (hearing_of_all t.joined r) first units e));
+  so_far = none_so_far t (hearing_of_all t.joined r) e k;
+  ordered = λ k. m;
+}
+
+-- one word is taken off
+pub walks_turn : (want : Hearing) (j : Option (List ℕ)) (r : Reactions) (restarts : Bool) (item u v : Word) (us units : Words) → Walks want j r restarts item us
+    → us ≡ v ∷ units → u ≡ v → Walks want j r restarts item (u ∷ units)
+walks_turn want j r restarts item u v us units w e i =
+    subst (λ (x : Word). Walks want j r restarts item (x ∷ units)) (sym i) (subst (λ (xs : Words). Walks want j r restarts item xs) e w)
+
+pub walks_on : (want : Hearing) (j : Option (List ℕ)) (r next : Reactions) (restarts now : Bool) (item u : Word) (us : Words) → Walks want j r restarts item (u ∷ us)
+    → is_faulty (word_verdict (hearing_of_all j r).next u) ≡ false → hearing_of_all j next ≡ heard_then (hearing_of_all j r) (respond_word (hearing_of_all j r).next u)
+    → (next.first ≡ None → next.more.items ≡ []) → now ≡ (restarts || is_restart_word u) → Walks want j next now item us
+walks_on want j r next restarts now item u us w good e ordered n = record {
+  leads = subst (λ (b : Bool). Leads want (hearing_of_all j next) b item us) (sym n)
+      (subst (λ (o : Hearing). Leads want o (restarts || is_restart_word u) item us) (sym e)
+      (goes_on want (hearing_of_all j r) restarts item u us w.leads good));
+  so_far = subst (SoFar j) (sym e) (word_so_far j (hearing_of_all j r) u w.so_far);
+  ordered = ordered;
+}
+
+-- if no word is left
+pub walks_end : (want : Hearing) (j : Option (List ℕ)) (r : Reactions) (restarts b : Bool) (item : Word) (us : Words) → Walks want j r restarts item us
+    → us ≡ [] → restarts ≡ b → Leads want (hearing_of_all j r) b item []
+walks_end want j r restarts b item us w e h =
+    subst (λ (x : Bool). Leads want (hearing_of_all j r) x item []) h (subst (λ (xs : Words). Leads want (hearing_of_all j r) restarts item xs) e w.leads)
+
+pub on_err : {A E P : Type 0} (r : Result A E) → P → OnErr r P
+on_err (Ok x) p = tt
+on_err (Err e) p = p
+
+-- if no unit was given there is none
+pub behind_none : (old new : Behind) (r : Option Spdu) → GivesBehind old r new → ((u : Spdu) → r ≡ Some u → ⊥) → units_behind old ≡ []
+behind_none old new None h k = h.0
+behind_none old new (Some u) h k = absurd (k u refl)

@@ -1,0 +1,71 @@
+-- What a CN and an AC agree, and what it limits.
+use Rattle.std.proofs.Common.{◌≡◌, refl, sym, subst, ℕ, ◌==◌, ◌<◌, ◌≤◌, Bool, true, false, ◌||◌, nat_lt, nat_le, length, Ok, arith, if◌then◌else◌}
+use Rattle.osi_spdu.specs.declared.sizes.TsduSizes.{TsduSizes}
+use Rattle.osi_session.specs.Sizes.{answered}
+use Rattle.osi_session.proofs.Vocabulary.{and_parts, and_from, TsduMaximumSize, named_by, are_sizes, is_size, Meaning, written, State, Step, sends, allowed, Call, Accept, Refuse, Data, smaller, smaller_sizes, answered_sizes, limit_of, is_bounded, fits_limit}
+use Rattle.osi_session.proofs.tables.what_an_accepted_call_has_passed.{passed}
+
+either : (b : Bool) (m n : ℕ) → is_size m ≡ true → is_size n ≡ true → is_size (if b then m else n) ≡ true
+either true m n h k = h
+either false m n h k = k
+
+smaller_is : (a b : ℕ) → is_size a ≡ true → is_size b ≡ true → is_size (smaller a b) ≡ true
+smaller_is a b h k = either (a == 0) b _ k (either (b == 0) a _ h (either (nat_lt a b) a b h k))
+
+answered_is : (a b : ℕ) → is_size a ≡ true → is_size b ≡ true → is_size (answered a b) ≡ true
+answered_is a b h k = either (a == 0) 0 _ refl (smaller_is a b h k)
+
+-- the smaller of sizes are sizes
+pub smaller_are : (a b : TsduMaximumSize) → are_sizes a ≡ true → are_sizes b ≡ true → are_sizes (smaller_sizes a b) ≡ true
+unfolding smaller_sizes
+smaller_are a b h k =
+    let p = and_parts (is_size a.from_asker) (is_size a.from_answerer) h in
+    let q = and_parts (is_size b.from_asker) (is_size b.from_answerer) k in
+    and_from _ _ (smaller_is a.from_asker b.from_asker p.0 q.0) (smaller_is a.from_answerer b.from_answerer p.1 q.1)
+
+-- and so are those that an AC names
+pub answered_are : (a b : TsduMaximumSize) → are_sizes a ≡ true → are_sizes b ≡ true → are_sizes (answered_sizes a b) ≡ true
+unfolding answered_sizes
+answered_are a b h k =
+    let p = and_parts (is_size a.from_asker) (is_size a.from_answerer) h in
+    let q = and_parts (is_size b.from_asker) (is_size b.from_answerer) k in
+    and_from _ _ (answered_is a.from_asker b.from_asker p.0 q.0) (answered_is a.from_answerer b.from_answerer p.1 q.1)
+
+-- those that a user gives are sizes
+pub user_sizes : (s : TsduSizes) → are_sizes (named_by s) ≡ true
+user_sizes s = and_from _ _ s.from_asker.is_size s.from_answerer.is_size
+
+-- ---- what is agreed
+
+-- an AC names a size if the CN does
+pub answered_named : (a b : ℕ) → 0 < a → 0 < answered a b
+answered_named a b h = grind arith
+
+-- at most what the CN names
+pub answered_asked : (a b : ℕ) → answered a b ≤ a
+answered_asked a b = grind arith
+
+-- and at most what the answerer gives
+pub answered_given : (a b : ℕ) → 0 < b → answered a b ≤ b
+answered_given a b h = grind arith
+
+agreed : (a b : ℕ) → smaller a (answered a b) ≡ answered a b
+agreed a b = grind arith
+
+-- the side that takes the AC agrees on what it names
+pub sizes_agreed : (a b : TsduMaximumSize) → smaller_sizes a (answered_sizes a b) ≡ answered_sizes a b
+unfolding smaller_sizes answered_sizes
+sizes_agreed a b = λ i. record { from_asker = agreed a.from_asker b.from_asker i; from_answerer = agreed a.from_answerer b.from_answerer i }
+
+-- ---- what it bounds
+
+under : (limit len : ℕ) → 0 < limit → ((limit == 0) || nat_le len limit) ≡ true → len ≤ limit
+under limit len h k = grind arith
+
+fits_under : (s : State) (c : Call) (m : Meaning) → is_bounded c ≡ true → fits_limit s c m ≡ true → 0 < limit_of s → length (written m) ≤ limit_of s
+fits_under s c m h0 h1 h2 = grind (arith, under)
+
+pub sent_under : (s : State) (c : Call) (x : Step) → allowed s c ≡ Ok x → is_bounded c ≡ true → 0 < limit_of s → length (written x.sent) ≤ limit_of s
+sent_under s c x e b h =
+    let q = passed s c x e in
+    subst (λ (y : Step). length (written y.sent) ≤ limit_of s) (sym q.gives) (fits_under s c (sends s c) b q.limit h)

@@ -1,0 +1,74 @@
+-- The contents of a group of a unit, which are counted once.
+use Rattle.std.proofs.Common.{inl, inr, ◌≡◌, ℕ, zero, suc, ◌<◌, ◌≤◌, true, List, [], ◌∷◌, ◌++◌, length, get_or, Option, Some, None, refl, sym, ap, subst, ltb, arith}
+use Rattle.osi_spdu.specs.declared.writing.GroupLengths.{GroupLengths}
+use Rattle.osi_spdu.proofs.Vocabulary.{is_some, option_map, flat_map, or_cases, or_left, or_right, length-append, Code, ConnectionIdentifier, ConnectAcceptItem, Kind, DataTransfer, Two, is_same, is_group, number_of, codes_of, category_of, Known, Contents, Units, length_octets, AreBehind, held, AreHeld, among, written_item, group_octets, value_octets, parameter_octets, body_octets, written_code}
+use Rattle.osi_spdu.proofs.basics.the_steps_of_reading.{same_true, same_refl}
+
+-- a piece is no longer than all pieces
+piece_within : (f : Code → List ℕ) (codes : List Code) (c : Code) → among codes c ≡ true → length (f c) ≤ length (flat_map f codes)
+piece_within f [] c there = absurd cc
+piece_within f (d ∷ codes) c there =
+    let l = length-append (f d) (flat_map f codes) in
+    elim (or_cases (is_same c d) (among codes c) there) [
+      | inl e ↦ (let same = ap (λ (x : Code). length (f x)) (same_true c d e) in omega arith)
+      | inr e ↦ (let rest = piece_within f codes c e in omega arith)
+    ]
+
+value_within : (code : ℕ) (value : List ℕ) → length value ≤ length (written_item code value)
+value_within code value = (let l = length-append (code ∷ [] ++ length_octets (ltb 254 (length value)) (length value)) value in omega arith)
+
+octets_of_group : (kind : Kind) (known : Known) (c : Code) (value : List ℕ) → is_group c ≡ true → value_octets kind known c value ≡ group_octets kind known c
+octets_of_group kind known c value e = rw e refl
+
+held_within : (kind : Kind) (known : Known) (c : Code) (o : Option (List ℕ)) → is_group c ≡ true → is_some o ≡ true → length (group_octets kind known c) ≤ length (parameter_octets kind known c o)
+held_within kind known c o h0 h1 = grind (arith, value_within, octets_of_group)
+
+-- what a group holds is no longer than all parameters and groups of its unit
+pub group_within : (kind : Kind) (known : Known) (c : Code) → among (codes_of kind) c ≡ true → is_group c ≡ true → is_some (known c) ≡ true → length (group_octets kind known c) ≤ length (body_octets kind known)
+unfolding body_octets
+group_within kind known c knows group there =
+    let h = held_within kind known c (known c) group there in
+    let p = piece_within (λ (d : Code). parameter_octets kind known d (known d)) (codes_of kind) c knows in
+    omega arith
+
+-- the code at a place is one of the codes
+pub among_at : (codes : List Code) (i : ℕ) (c : Code) → i < length codes → among codes (get_or codes i c) ≡ true
+among_at [] i c lt = absurd (omega arith)
+among_at (d ∷ codes) zero c lt = or_left (is_same d d) (among codes d) (same_refl d)
+among_at (d ∷ codes) (suc i) c lt = or_right (is_same (get_or codes i c) d) (among codes (get_or codes i c)) (among_at codes i c (omega arith))
+
+-- both groups are counted
+pub both_held : (lens : GroupLengths) (known : Known)
+    → (among (codes_of lens.kind) ConnectionIdentifier ≡ true → is_some (known ConnectionIdentifier) ≡ true → lens.connection_identifier ≡ length (group_octets lens.kind known ConnectionIdentifier))
+    → (among (codes_of lens.kind) ConnectAcceptItem ≡ true → is_some (known ConnectAcceptItem) ≡ true → lens.connect_accept_item ≡ length (group_octets lens.kind known ConnectAcceptItem))
+    → AreHeld lens known
+unfolding held is_group
+both_held lens known first second ConnectionIdentifier knows group there = first knows there
+both_held lens known first second ConnectAcceptItem knows group there = second knows there
+both_held lens known first second _ knows group there = absurd cc
+
+-- a unit of category 2 knows no group
+no_references : (kind : Kind) → category_of kind ≡ Two → among (codes_of kind) ConnectionIdentifier ≡ true → ⊥
+unfolding category_of codes_of number_of
+no_references DataTransfer two knows = cc
+no_references _ two knows = cc
+
+no_agreement : (kind : Kind) → category_of kind ≡ Two → among (codes_of kind) ConnectAcceptItem ≡ true → ⊥
+unfolding category_of codes_of number_of
+no_agreement DataTransfer two knows = cc
+no_agreement _ two knows = cc
+
+no_group : (kind : Kind) (c : Code) → category_of kind ≡ Two → is_group c ≡ true → among (codes_of kind) c ≡ true → ⊥
+unfolding is_group
+no_group kind c h0 h1 h2 = grind (arith, no_references, no_agreement)
+
+pub none_held : (lens : GroupLengths) → category_of lens.kind ≡ Two → (known : Known) → AreHeld lens known
+none_held lens two known c knows group there = absurd (no_group lens.kind c two group knows)
+
+-- a unit after another is of category 2
+pub next_two : (units others : Units) (unit : Contents) → units ≡ unit ∷ others → AreBehind units → category_of unit.kind ≡ Two
+next_two units others unit e behind = (let h : AreBehind (unit ∷ others) = subst AreBehind e behind in h.0)
+
+pub mapped_there : {A : Type 0} (f : A → List ℕ) (o : Option A) (k : Option (List ℕ)) → option_map f o ≡ k → is_some o ≡ true → is_some k ≡ true
+mapped_there f None k e there = absurd cc
+mapped_there f (Some x) k e there = ap is_some (sym e)

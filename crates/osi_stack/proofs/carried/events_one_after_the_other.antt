@@ -1,0 +1,150 @@
+-- Pending events are handled one after the other.
+use Rattle.std.proofs.Common.{◌≡◌, ℕ, ◌+◌, ◌<◌, ◌==◌, zero, suc, Bool, true, false, not, List, ◌∷◌, length, None, is_some, refl, sym, ap, subst, ◌∙◌, inl, inr, arith, if◌then◌else◌, []}
+use Rattle.osi_carrier.specs.Packets as carriers
+use Rattle.osi_stack.proofs.Vocabulary.{eqb-true, not-false, Fed, Tells, Happening, Carrying, is_spoilt, Rows, State as Carrier, Interrupted, LeftOff, Fetches, hears, hears_first, hears_next, hears_times, hears_all, with_events, with_carrier, all_lost, concludes, starves, RunsOut, needs_memory, Line, End, Holding, IsAttended, holding}
+use Rattle.osi_stack.proofs.carried.what_sessions_leave_of_the_carrier.{hears_keep}
+
+-- ---- one more
+
+one_later : (n : ℕ) (e : End) → hears_times (suc n) e ≡ hears_next (hears_times n e)
+one_later zero e = refl
+one_later (suc n) e = one_later n (hears_next e)
+
+-- an event that was reported is no longer queued
+record IsTaken (now : End) (event : Happening) (mid : Carrier) : Type 0 where
+  first : now.carrier.events ≡ event ∷ mid.events
+  rest : with_events mid.events now ≡ with_carrier mid now
+
+taken_is : (now : End) (event : Happening) (mid : Carrier) → now.carrier ≡ record mid { events = event ∷ mid.events } → IsTaken now event mid
+taken_is now event mid h = grind arith
+
+-- the carrier of an end, and the unfinished packet
+abbrev pub carrying_of : Holding → Carrying
+carrying_of h = record { state = h.end.carrier; held = h.held }
+
+-- this many events were handled
+pub record HasHeard (old now : Holding) : Type 0 where
+  pub count : ℕ
+  pub is : now.end ≡ hears_times count old.end
+  pub left : count + length now.end.carrier.events ≡ length old.end.carrier.events
+  pub held : now.held ≡ old.held
+
+pub heard_fewer : (now : End) (event : Happening) (mid : Carrier) → now.carrier ≡ record mid { events = event ∷ mid.events } →
+    length now.carrier.events ≡ suc (length (hears event (with_carrier mid now)).carrier.events)
+heard_fewer now event mid h = grind (arith, taken_is, length, hears_keep, with_carrier)
+
+pub heard_next : (old now : Holding) (event : Happening) (mid : Carrier) (new : Holding) → HasHeard old now → now.end.carrier ≡ record mid { events = event ∷ mid.events } →
+    new.end ≡ hears event (with_carrier mid now.end) → new.held ≡ now.held → HasHeard old new
+heard_next old now event mid new so_far h is held =
+    let t = taken_is now.end event mid h in
+    let fewer = heard_fewer now.end event mid h in
+    let same = ap (λ (e : End). length e.carrier.events) is in
+    let before = so_far.left in
+    record {
+      count = suc so_far.count;
+      is = is ∙ ap (hears event) (sym t.rest) ∙ sym (ap (λ l. hears_first l now.end) t.first) ∙ ap hears_next so_far.is ∙ sym (one_later so_far.count old.end);
+      left = omega arith;
+      held = held ∙ so_far.held;
+    }
+
+-- fewer events are left
+pub heard_left_over : (now new : Holding) (event : Happening) (mid : Carrier) → now.end.carrier ≡ record mid { events = event ∷ mid.events } →
+    new.end ≡ hears event (with_carrier mid now.end) → length new.end.carrier.events < length now.end.carrier.events
+heard_left_over now new event mid h is = grind (arith, heard_fewer, length)
+
+pub heard_all : (old now : Holding) → HasHeard old now → now.end.carrier.events ≡ [] → now.end ≡ hears_all old.end
+heard_all old now so_far none = grind arith
+
+pub heard_left : (old now : Holding) (event : Happening) (mid : Carrier) (new : End) → HasHeard old now → now.end.carrier ≡ record mid { events = event ∷ mid.events } →
+    needs_memory event (with_carrier mid now.end) ≡ true → Interrupted (with_carrier mid now.end) new → LeftOff old.end new
+heard_left old now event mid new so_far h needed stopped =
+    let t = taken_is now.end event mid h in
+    search (ap (λ (e : End). e.carrier.events) (sym so_far.is) ∙ t.first, subst (λ (e : End). needs_memory event e ≡ true) (sym t.rest ∙ ap (with_events mid.events) so_far.is) needed, subst (λ (e : End). Interrupted e new) (sym t.rest ∙ ap (with_events mid.events) so_far.is) stopped)
+
+-- ---- an allocation failure
+
+pub starved_is : (old mid : End) → LeftOff old mid → RunsOut old (starves mid)
+starved_is old mid left = grind arith
+
+-- ---- no event is queued
+
+pub no_events : {A : Type 0} (events : List A) → not (length events == 0) ≡ false → events ≡ []
+no_events [] h = refl
+no_events (x ∷ l) h = let none : suc (length l) ≡ 0 = eqb-true (length (x ∷ l)) 0 (not-false (length (x ∷ l) == 0) h) in absurd (omega arith)
+
+pub times_quiet : (n : ℕ) (e : End) → e.carrier.events ≡ [] → hears_times n e ≡ e
+times_quiet zero e none = refl
+times_quiet (suc n) e none = ap (hears_times n) (ap (λ l. hears_first l e) none) ∙ times_quiet n e none
+
+pub all_quiet : (e : End) → e.carrier.events ≡ [] → hears_all e ≡ e
+all_quiet e none = times_quiet (length e.carrier.events) e none
+
+-- if none is pending, no memory is needed
+pub never_starved : {A : Type 0} (old new : End) → old.carrier.events ≡ [] → RunsOut old new → A
+never_starved old new none out = grind (arith, hears_times, times_quiet)
+
+-- ---- what stays
+
+pub all_keep_by : (n : ℕ) (e : End) → is_spoilt (hears_times n e).carrier.ended ≡ is_spoilt e.carrier.ended
+all_keep_by zero e = refl
+all_keep_by (suc n) e = all_keep_by n (hears_next e) ∙ first_keeps e.carrier.events e
+  where
+    first_keeps : (l : List Happening) (e : End) → is_spoilt (hears_first l e).carrier.ended ≡ is_spoilt e.carrier.ended
+    first_keeps [] e = refl
+    first_keeps (event ∷ events) e = (hears_keep event (with_events events e)).spoilt
+
+-- ---- attended
+
+pub starved_over : (e : End) → is_some (starves e).carrier.ended ≡ true
+starved_over e = grind arith
+
+pub starved_attended : (e new : End) → new ≡ starves e → IsAttended new
+starved_attended e new h none = grind arith
+
+concluded_by : (b : Bool) (e : End) → (if b then record e { lines = all_lost e.lines } else e).carrier ≡ e.carrier
+concluded_by true e = refl
+concluded_by false e = refl
+
+pub concluded_carrier : (e : End) → (concludes e).carrier ≡ e.carrier
+concluded_carrier e = concluded_by (is_some e.carrier.ended) e
+
+pub concluded_attended : (e new : End) → new ≡ concludes e → e.carrier.events ≡ [] → IsAttended new
+concluded_attended e new h none over = ap (λ (x : End). x.carrier.events) h ∙ ap (λ (c : Carrier). c.events) (concluded_carrier e) ∙ none
+
+-- ---- one look at the stream
+
+concluded_lines : (b : Bool) (e : End) (lines : Rows Line) → is_some e.carrier.ended ≡ b → lines ≡ (if b then all_lost e.lines else e.lines) → record e { lines = lines } ≡ concludes e
+concluded_lines true e lines is h = ap (λ (l : Rows Line). record e { lines = l }) h ∙ sym (ap (λ (c : Bool). if c then record e { lines = all_lost e.lines } else e) is)
+concluded_lines false e lines is h = ap (λ (l : Rows Line). record e { lines = l }) h ∙ sym (ap (λ (c : Bool). if c then record e { lines = all_lost e.lines } else e) is)
+
+-- the carrier took packets, and its events were handled
+pub fetched : (old : Holding) (octets : List ℕ) (fed : Fed) (told : Carrying) (heard : Holding) (carrier : Carrying) (lines : Rows Line) (b : Bool) →
+    carriers.Feeds (carrying_of old) octets fed told → HasHeard (holding told old.end.lines) heard → Tells None heard.end.carrier carrier.state → carrier.held ≡ heard.held →
+    is_some carrier.state.ended ≡ b → lines ≡ (if b then all_lost heard.end.lines else heard.end.lines) → Fetches old octets fed.used (holding carrier lines)
+fetched old octets fed told heard carrier lines b feeds so_far none held over left =
+    let is : (holding carrier lines).end ≡ concludes heard.end =
+    ap (λ (c : Carrier). record { carrier = c; lines = lines }) none.1
+    ∙ concluded_lines b heard.end lines (ap (λ (c : Carrier). is_some c.ended) (sym none.1) ∙ over) left in
+    record {
+      fed = fed;
+      told = told;
+      feeds = feeds;
+      held = held ∙ so_far.held;
+      heard = inl (is ∙ ap concludes (heard_all (holding told old.end.lines) heard so_far none.0), refl);
+      attended = concluded_attended heard.end (holding carrier lines).end is none.0;
+    }
+
+-- the same if memory ran out for the effect of one of them
+pub fetched_not : (old : Holding) (octets : List ℕ) (fed : Fed) (told : Carrying) (heard new : Holding) → carriers.Feeds (carrying_of old) octets fed told →
+    LeftOff (with_carrier told.state old.end) heard.end → heard.held ≡ told.held → new ≡ record heard { end = starves heard.end } → Fetches old octets (length octets) new
+fetched_not old octets fed told heard new feeds left held is = record {
+  fed = fed;
+  told = told;
+  feeds = feeds;
+  held = ap (λ (h : Holding). h.held) is ∙ held;
+  heard = inr (
+    subst (RunsOut (with_carrier told.state old.end)) (sym (ap (λ (h : Holding). h.end) is)) (starved_is (with_carrier told.state old.end) heard.end left),
+    refl,
+  );
+  attended = starved_attended heard.end new.end (ap (λ (h : Holding). h.end) is);
+}

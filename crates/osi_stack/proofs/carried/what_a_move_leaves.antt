@@ -1,0 +1,216 @@
+-- What a session that makes a move leaves, and a message that arrives.
+use Rattle.std.proofs.Common.{◌≡◌, ℕ, ◌≤◌, ◌==◌, Bool, true, false, not, ◌||◌, List, [], ◌∷◌, ◌++◌, length, nat_lt, Option, Some, None, is_some, IsSome, option_map, Result, Ok, Err, refl, sym, ap, subst, ◌∙◌, arith, if◌then◌else◌}
+use Rattle.osi_carrier.specs.Place.{Place, never, was_given}
+use Rattle.osi_carrier.specs.Happenings as told
+use Rattle.osi_carrier.specs.React as carriers
+use Rattle.osi_message.specs.Words as words
+use Rattle.osi_stack.specs.Messages.{part}
+use Rattle.osi_stack.proofs.Vocabulary.{nat_tests, list_any, Value, send_all_error, open_link, Happening, Rows, value_at, put, Connection, asked, linked, State as Carrier, put_here, put_other, Standing as Link, Meaning, said_by_units, said_at, said_if_read, Units, SpduFault, words_of, IsSendable, words_sent, tsdus_of, tsdus_sent, behind_no_token, part_octets, written, spelled, Place as PartPlace, tsdu_at, Input, Listener, Move, called, opened, refused, broken, taken, came, came_as, answered, react, awaits, limit_of, Shown, first_shown, first_by, without_first, rest_by, has_given, send_refusal, move_refusal, session_refusal, call_error, carries_out, after_unit, opens, hears, hears_times, hears_first, hears_all, with_events, concludes, attends, shown_at_loss, loses, all_lost, Message, unit, ask, agree, deny, bye, IsWhole, put_by, puts, Acts, Effect, begins, happens, rests, effect_at, told_at, HasSession, AreShort, IsShort, CanHear, Hears, told_all, Arrives, kept_at, waiting_of, Becomes, IsGranted, Says, AreLost, shown_of, all_waiting, IsFirstOf, limit_for, line_by, carrier_by, by_line, to_session, Line, End, session_in, session_at, line_waits, waits, is_used, used_lines, joins, answers_by, Answer, allowed, Call, CallError}
+use Rattle.osi_stack.proofs.called.tsdus_that_are_handed_together.{hands_none, handed, puts_words}
+use Rattle.osi_stack.proofs.carried.events_one_after_the_other.{all_quiet}
+use Rattle.osi_stack.proofs.each_line.the_first_that_indicates.{quiet_line}
+use Rattle.osi_stack.proofs.carried.packets_without_events.{or_first, or_second}
+use Rattle.osi_session.specs.declared.faults.CallError.TheVariants as error
+
+-- ---- what a session puts
+
+answers_put : (r : ℕ) (closes : Bool) (limit : ℕ) (reply : Option Meaning) (c : Carrier) → IsShort limit reply →
+    answers_by closes r (tsdus_sent limit reply) c ≡ puts r (put_by closes limit reply) c
+answers_put r true limit reply c short = refl
+answers_put r false limit None c short = hands_none r c
+answers_put r false limit (Some m) c short = handed r (tsdus_of limit m) c short ∙ puts_words r (words_sent limit m) c
+
+-- ---- a move
+
+by_acts : (r : ℕ) (input : Input) (e : End) (line : Line) (s : Listener) → value_at r e.lines ≡ Some line → line.session ≡ Some s → IsShort (limit_for s input) (react s input).reply →
+    Acts r input e (to_session r input e)
+by_acts r input e line s here is short =
+    let at : to_session r input e ≡ by_line r (Some line) input e = ap (λ o. by_line r o input e) here in
+    search (ap (λ (x : End). x.lines) at ∙ ap (λ o. put r (line_by line o input) e.lines) is, ap (λ (x : End). x.carrier) at ∙ ap (λ o. carrier_by r o input e.carrier) is ∙ answers_put r (react s input).closes (limit_for s input) (react s input).reply e.carrier short)
+
+pub acts_is : (r : ℕ) (input : Input) (e : End) (s : HasSession r e.lines) → IsShort (limit_for s.session input) (react s.session input).reply → Acts r input e (to_session r input e)
+acts_is r input e s short = by_acts r input e s.line s.session s.here s.is short
+
+pub acts_becomes : (r : ℕ) (input : Input) (old new : End) (a : Acts r input old new) →
+    Becomes r (react a.session input).next (react a.session input).shown old.lines new.lines
+acts_becomes r input old new a = grind (arith, line_by, value_at, put_here, session_in, waiting_of, react, put_other)
+
+-- ---- one event
+
+pub one_heard : (e : End) (event : Happening) → e.carrier.events ≡ event ∷ [] → hears_all e ≡ hears event (with_events [] e)
+one_heard e event h =
+    ap (λ (l : List Happening). hears_times (length l) e) h ∙ ap (λ (l : List Happening). hears_first l e) h
+
+attends_one : (e : End) (event : Happening) → e.carrier.events ≡ event ∷ [] → attends e ≡ concludes (hears event (with_events [] e))
+attends_one e event h = ap concludes (one_heard e event h)
+
+attends_none : (e : End) → e.carrier.events ≡ [] → attends e ≡ concludes (with_events [] e)
+attends_none e h = ap concludes (all_quiet e h ∙ sym (ap (λ (l : List Happening). with_events l e) (sym h)))
+
+arrives_by : (r : ℕ) (effect : Effect) (v : Value) (e heard : End) → Hears r effect (told_all v e) heard → after_unit e v ≡ concludes heard → Arrives r effect v e (after_unit e v)
+arrives_by r effect v e heard h is = record { heard = heard; hears = h; is = is }
+
+happens_by : (r : ℕ) (input : Input) (event : Happening) (v : Value) (e : End) → (carries_out v e).carrier.events ≡ event ∷ [] →
+    hears event (told_all v e) ≡ to_session r input (told_all v e) → CanHear r (happens input) e.lines → Arrives r (happens input) v e (after_unit e v)
+happens_by r input event v e h same can =
+    arrives_by r (happens input) v e (to_session r input (told_all v e)) (acts_is r input (told_all v e) can.0 can.1)
+    (attends_one (carries_out v e) event h ∙ ap concludes same)
+
+pub record Readings : Type 0 where
+  pub parts : (place : PartPlace) (octets : List ℕ) → said_at (part_octets place octets) ≡ Ok (behind_no_token (words.part place octets))
+  pub read : (m : Meaning) → IsSendable m → tsdu_at (written m) ≡ Ok (spelled m)
+  pub said : (m : Meaning) → IsSendable m → said_by_units (spelled m) ≡ words_of m
+
+-- a message arrives as the words that were sent
+pub came_is : Readings → (m : Meaning) → IsSendable m → came (written m) ≡ taken (words_of m)
+unfolding said_at
+came_is law m sendable = ap (λ (r : Result Units SpduFault). came_as (said_if_read r)) (law.read m sendable) ∙ ap taken (law.said m sendable)
+
+pub arrives : Readings → (r : ℕ) (place : Place) (m : Message) (v : Value) (e : End) → IsWhole m → (carriers.react v e.carrier).events ≡ told_at r place m →
+    CanHear r (effect_at place m) e.lines → Arrives r (effect_at place m) v e (after_unit e v)
+arrives law r never ask v e whole h can =
+    arrives_by r begins v e (joins r awaits (told_all v e)) refl (attends_one (carries_out v e) (told.opened r) h ∙ ap (λ o. concludes (opens r o (told_all v e))) can)
+arrives law r (was_given (Some asked)) agree v e whole h can = happens_by r opened (told.opened r) v e h (ap (λ o. opens r o (told_all v e)) can.0.here) can
+arrives law r (was_given (Some asked)) (deny reason) v e whole h can = happens_by r (refused reason) (told.refused r reason) v e h refl can
+arrives law r (was_given (Some (linked peer link))) (unit m) v e whole h can =
+    happens_by r (taken (words_of m)) (told.tsdu r (written m)) v e h (ap (λ i. to_session r i (told_all v e)) (came_is law m whole)) can
+arrives law r (was_given (Some (linked peer link))) (part place octets) v e whole h can =
+    happens_by r (taken (behind_no_token (words.part place octets))) (told.tsdu r (part_octets place octets)) v e h
+    (ap (λ i. to_session r i (told_all v e)) (ap came_as (law.parts place octets))) can
+arrives law r (was_given (Some (linked peer link))) (bye reason) v e whole h can = happens_by r broken (told.closed r reason) v e h refl can
+arrives law r place m v e whole h can = arrives_by r rests v e (told_all v e) refl (attends_none (carries_out v e) h)
+
+-- ---- all are lost
+
+lost_at_by : (r q : ℕ) (line : Line) (lines : Rows Line) (b : Bool) → (q == r) ≡ b → value_at r (all_lost lines) ≡ option_map loses (value_at r lines) →
+    value_at r (all_lost ((q, line) ∷ lines)) ≡ option_map loses (value_at r ((q, line) ∷ lines))
+lost_at_by r q line lines true e more = rw e refl
+lost_at_by r q line lines false e more = rw e more
+
+pub lost_at : (r : ℕ) (lines : Rows Line) → value_at r (all_lost lines) ≡ option_map loses (value_at r lines)
+lost_at r [] = refl
+lost_at r ((q, line) ∷ lines) = lost_at_by r q line lines (q == r) refl (lost_at r lines)
+
+lost_none : (o : Option Line) → session_in (option_map loses o) ≡ None
+lost_none None = refl
+lost_none (Some line) = refl
+
+lost_waiting : (o : Option Line) → waiting_of (option_map loses o) ≡ waiting_of o ++ shown_at_loss (session_in o)
+lost_waiting None = refl
+lost_waiting (Some line) = refl
+
+pub are_lost : (lines : Rows Line) → AreLost lines (all_lost lines)
+are_lost lines = grind (arith, session_in, lost_at, lost_none, value_at, waiting_of, lost_waiting)
+
+-- ---- all that is pending
+
+shown_first : (r : ℕ) (line : Line) (waiting : List Shown) (lines : Rows Line) → line.waiting ≡ waiting →
+    IsFirstOf (first_shown lines) (all_waiting lines) (all_waiting (without_first lines)) →
+    IsFirstOf (first_by r waiting (first_shown lines)) (shown_of r waiting ++ all_waiting lines) (all_waiting (rest_by r line waiting lines (without_first lines)))
+shown_first r line waiting lines none more = grind arith
+
+pub first_of_all : (lines : Rows Line) → IsFirstOf (first_shown lines) (all_waiting lines) (all_waiting (without_first lines))
+first_of_all [] = (refl, refl)
+first_of_all ((r, line) ∷ lines) = shown_first r line line.waiting lines refl (first_of_all lines)
+
+-- what holds if the first pending indication is given after a line, and if it is given there
+pub first_keep : (Q : Rows Line → Type 0) (r : ℕ) (line : Line) (lines : Rows Line) → Q ((r, line) ∷ without_first lines) →
+    ((left : List Shown) → Q ((r, record line { waiting = left }) ∷ lines)) → Q (without_first ((r, line) ∷ lines))
+first_keep Q r line lines behind here = grind arith
+
+kept_first_by : (q r : ℕ) (line : Line) (waiting : List Shown) (lines : Rows Line) (b : Bool) → (r == q) ≡ b → kept_at q (without_first lines) ≡ kept_at q lines →
+    kept_at q (rest_by r line waiting lines (without_first lines)) ≡ kept_at q ((r, line) ∷ lines)
+kept_first_by q r line waiting lines b e more = grind arith
+
+-- the sessions are as they were
+pub kept_first : (q : ℕ) (lines : Rows Line) → kept_at q (without_first lines) ≡ kept_at q lines
+kept_first q [] = refl
+kept_first q ((r, line) ∷ lines) = kept_first_by q r line line.waiting lines (r == q) refl (kept_first q lines)
+
+-- if nothing is pending
+pub none_waiting : (lines : Rows Line) → waits lines ≡ false → all_waiting lines ≡ []
+none_waiting [] h = refl
+none_waiting ((r, line) ∷ lines) h =
+    let here : line_waits line ≡ false = or_first (line_waits line) (waits lines) h in
+    let none = quiet_line line here in
+    ap (λ (w : List Shown). shown_of r w ++ all_waiting lines) none ∙ none_waiting lines (or_second (line_waits line) (waits lines) h)
+
+-- ---- a call
+
+pub record HasLink (o : Option (ℕ × Link)) (tsdus : List (List ℕ)) : Type 0 where
+  pub opened : IsSome o
+  pub short : AreShort tsdus
+
+short_if : (b : Bool) (tsdu : List ℕ) (tsdus : List (List ℕ)) → nat_lt 1048576 (length tsdu) ≡ b →
+    (list_any (λ (t : List ℕ). nat_lt 1048576 (length t)) tsdus ≡ false → AreShort tsdus) →
+    (b || list_any (λ (t : List ℕ). nat_lt 1048576 (length t)) tsdus) ≡ false → AreShort (tsdu ∷ tsdus)
+short_if true tsdu tsdus e more h = absurd (cc)
+short_if false tsdu tsdus e more h = (let few : length tsdu ≤ 1048576 = grind (arith, nat_tests) in few, more h)
+
+all_short : (tsdus : List (List ℕ)) → list_any (λ (t : List ℕ). nat_lt 1048576 (length t)) tsdus ≡ false → AreShort tsdus
+all_short [] h = tt
+all_short (tsdu ∷ tsdus) h = short_if (nat_lt 1048576 (length tsdu)) tsdu tsdus refl (all_short tsdus) h
+
+unsent_link : (o : Option (ℕ × Link)) (tsdus : List (List ℕ)) → send_refusal (send_all_error tsdus o) ≡ None → HasLink o tsdus
+unsent_link None tsdus h = cc
+unsent_link (Some link) tsdus h = short_by (list_any (λ (t : List ℕ). nat_lt 1048576 (length t)) tsdus) refl
+  where
+    short_by : (b : Bool) → list_any (λ (t : List ℕ). nat_lt 1048576 (length t)) tsdus ≡ b → HasLink (Some link) tsdus
+    short_by true e = let no = rw e at h in cc
+    short_by false e = record { opened = refl; short = all_short tsdus e }
+
+granted_by : (r : ℕ) (call : Call) (s : Listener) (c : Carrier) (a : Answer) → allowed s.state call ≡ a → move_refusal r (limit_of s.state) (react s (called call)) c ≡ None → IsGranted r call s c
+unfolding react
+granted_by r call s c (Err error) e h =
+    let is : react s (called call) ≡ answered s (Err error) = ap (answered s) e in
+    let no : Some error ≡ None = sym (ap (λ (m : Move). move_refusal r (limit_of s.state) m c) is) ∙ h in
+    cc
+granted_by r call s c (Ok step) e h =
+    let is : react s (called call) ≡ answered s (Ok step) = ap (answered s) e in
+    let sends : send_refusal (send_all_error (tsdus_of (limit_of s.state) step.sent) (open_link r c)) ≡ None = sym (ap (λ (m : Move). move_refusal r (limit_of s.state) m c) is) ∙ h in
+    let link = unsent_link (open_link r c) (tsdus_of (limit_of s.state) step.sent) sends in
+    search (ap (λ (m : Move). m.reply) is, ap (λ (m : Move). m.closes) is, ap (λ (m : Move). m.shown) is, ap (λ (m : Move). m.next) is)
+
+pub line_of : (b : Bool) (o : Option Line) (s : Listener) → (if b then session_in o else None) ≡ Some s → (line : Line) × (o ≡ Some line) × (line.session ≡ Some s)
+line_of b o s h = grind arith
+
+says_at : (r : ℕ) (call : Call) (e : End) (o : Option Listener) → session_at r e ≡ o → session_refusal r o call e.carrier ≡ None → Says r call e (to_session r (called call) e)
+unfolding by_acts
+says_at r call e None at h = let no : Some error.Ended ≡ None = h in cc
+says_at r call e (Some s) at h =
+    let there = line_of (is_some (value_at r e.carrier.live)) (value_at r e.lines) s at in
+    let g = granted_by r call s e.carrier (allowed s.state call) refl h in
+    let short : IsShort (limit_of s.state) (react s (called call)).reply = subst (IsShort (limit_of s.state)) (sym g.reply) g.short in
+    record {
+      acts = by_acts r (called call) e there.0 s there.1 there.2 short;
+      granted = g;
+      live = at;
+    }
+
+given_by : (b : Bool) (o : Option CallError) → (if not b then Some error.NoSuchConnection else o) ≡ None → o ≡ None
+given_by true o h = h
+given_by false o h = cc
+
+pub says_is : (r : ℕ) (call : Call) (e : End) → call_error r call e ≡ None → Says r call e (to_session r (called call) e)
+says_is r call e h =
+    says_at r call e (session_at r e) refl (given_by (has_given r e.carrier) (session_refusal r (session_at r e) call e.carrier) h)
+
+-- ---- a new line
+
+pub used_by : (live : Rows Connection) (row : ℕ × Line) (lines : Rows Line) (b : Bool) → is_used live row ≡ b →
+    used_lines live (row ∷ lines) ≡ (if b then row ∷ used_lines live lines else used_lines live lines)
+used_by live row lines b e = ap (λ (c : Bool). if◌then◌else◌ {A = Rows Line} c (row ∷ used_lines live lines) (used_lines live lines)) e
+
+-- what holds if a line is dropped, and if it stays
+pub used_keep : (Q : Rows Line → Type 0) (live : Rows Connection) (row : ℕ × Line) (lines : Rows Line) → Q (used_lines live lines) →
+    (is_used live row ≡ true → Q (row ∷ used_lines live lines)) → Q (used_lines live (row ∷ lines))
+used_keep Q live row lines gone stays = grind arith
+
+-- lines of live connections stay
+used_live_by : (q p : ℕ) (y : Line) (live : Rows Connection) (lines : Rows Line) (b u : Bool) → (p == q) ≡ b → is_used live (p, y) ≡ u → is_some (value_at q live) ≡ true →
+    value_at q (used_lines live lines) ≡ value_at q lines → value_at q (used_lines live ((p, y) ∷ lines)) ≡ value_at q ((p, y) ∷ lines)
+used_live_by q p y live lines b u e used is more = grind arith
+
+pub used_live : (q : ℕ) (live : Rows Connection) (lines : Rows Line) → is_some (value_at q live) ≡ true → value_at q (used_lines live lines) ≡ value_at q lines
+used_live q live [] is = refl
+used_live q live ((p, y) ∷ lines) is = used_live_by q p y live lines (p == q) (is_used live (p, y)) refl refl is (used_live q live lines is)

@@ -1,0 +1,307 @@
+-- The lines of an end are in the order of their references, whatever packets come.
+use Rattle.std.proofs.Common.{◌≡◌, ◌≢◌, ℕ, zero, suc, ◌+◌, ◌<◌, ◌≤◌, ◌==◌, Bool, true, false, ◌||◌, not, List, ◌∷◌, ◌++◌, length, Option, Some, None, Result, Ok, Err, is_some, IsSome, refl, sym, ap, subst, ◌∙◌, inl, inr, ◌⊎◌, arith, if◌then◌else◌, []}
+use Rattle.osi_carrier.specs.Packets as carriers
+use Rattle.osi_carrier.specs.declared.faults.OpenError.TheVariants.{NotCaller}
+use Rattle.osi_stack.proofs.Vocabulary.{eqb-true, eq-eqb, Fed, units_of, Value, TpduFault, Standing as Link, Class, Zero, Local, open_link, may_connect, sent_on, closes, closed_on, sent, closed_with, Happening, tsdu, RiseFrom, AreUpTo, IsOrderly, told_of, reacts, Rows, value_at, Connection, asked, closing, State as Carrier, EndReason, Broken, NoMemory, OpenError, beyond, push_here, push_other, free_of, none_of, Input, opened as linked_up, awaits, calls_with, connects, connect_error, terms_error, breaks, carried, without_first, Feeds, opens, hears, hears_next, hears_times, hears_all, with_events, with_carrier, attends, after_packet, ends, starves, loses, all_lost, Starves, AreApart, Soundness, IsSound, line_by, by_line, to_session, IsOrdered, Line, End, Holding, IsAttended, fresh_end, used_lines, fresh_line, Connect, input_of, told_opened as opened, carrier_ends}
+use Rattle.osi_stack.proofs.carried.events_one_after_the_other.{times_quiet}
+use Rattle.osi_stack.proofs.carried.packets_without_events.{both, packet_is}
+use Rattle.osi_stack.proofs.carried.open_connections_stay_open.{SessionLaws, first_is, rest_is, used_at, apart_push, joined_lines, put_some}
+use Rattle.osi_stack.proofs.opening.connections_that_units_open.{AwaitedBefore, awaited_put, linked_not_asked, closing_not_asked, opened_in, Rises, AreAwaited, NoneAwaited, OpensAlong, along_units, along_end, along_over}
+use Rattle.osi_stack.proofs.each_line.references_rise.{rise_joins, rise_lost, rise_first, rise_session, rise_connect}
+use Rattle.osi_stack.proofs.sound.the_invariant_is_kept.{up_more, open_none, session_up, hale_kept, IsHale}
+use Rattle.osi_stack.proofs.carried.what_each_step_preserves.{Carries, session_carried, events_heard, concluded_end, broken_end}
+use Rattle.osi_stack.proofs.stream.what_feeding_keeps.{IsKeptBeside, feeds_beside}
+use Rattle.osi_stack.proofs.carried.what_a_move_leaves.{used_keep, first_keep}
+
+-- ---- what sessions leave of the carrier
+
+pub record Leaves (old new : Carrier) : Type 0 where
+  pub side : new.is_caller ≡ old.is_caller
+  pub awaited : AwaitedBefore old.live new.live
+
+left : (c : Carrier) → Leaves c c
+left c = record { side = refl; awaited = λ q h. h }
+
+sent_leaves : (r : ℕ) (octets : List ℕ) (o : Option (ℕ × Link)) (c : Carrier) → Leaves c (sent_on r octets o c)
+sent_leaves r octets None c = left c
+sent_leaves r octets (Some (peer, link)) c = record { side = refl; awaited = awaited_put r _ c.live (linked_not_asked _ _) }
+
+then_leaves : (a b c : Carrier) → Leaves a b → Leaves b c → Leaves a c
+then_leaves a b c h k = record { side = k.side ∙ h.side; awaited = λ q e. h.awaited q (k.awaited q e) }
+
+closes_leaves : (r peer reason : ℕ) (class : Option Class) (c : Carrier) → Leaves c (closes r peer reason class c)
+closes_leaves r peer reason (Some Zero) c = record { side = refl; awaited = λ q h. cc }
+closes_leaves r peer reason _ c = record { side = refl; awaited = awaited_put r (closing peer) c.live (closing_not_asked peer) }
+
+pub closed_leaves : (r reason : ℕ) (o : Option (ℕ × Link)) (c : Carrier) → Leaves c (closed_on r reason o c)
+closed_leaves r reason None c = left c
+closed_leaves r reason (Some (peer, link)) c = closes_leaves r peer reason c.class c
+
+sessions_leave : (c : Carrier) → Carries (Leaves c)
+sessions_leave c = record {
+  sends = λ r tsdu x l. then_leaves c x (sent r tsdu x) l (sent_leaves r tsdu (open_link r x) x);
+  closes = λ r x l. then_leaves c x (closed_with r 128 x) l (closed_leaves r 128 (open_link r x) x);
+}
+
+session_leaves : (r : ℕ) (input : Input) (e : End) → Leaves e.carrier (to_session r input e).carrier
+session_leaves r input e = session_carried (Leaves e.carrier) (sessions_leave e.carrier) r input e (left e.carrier)
+
+times_leave : (n : ℕ) (e : End) → Leaves e.carrier (hears_times n e).carrier
+times_leave n e =
+    events_heard (λ x. Leaves e.carrier x.carrier) (λ events x l. record { side = l.side; awaited = l.awaited }) (record {
+      begins = λ r x none l. l;
+      moves = λ event x l. session_carried (Leaves e.carrier) (sessions_leave e.carrier) (told_of event) (input_of event) x l;
+    }) n e (left e.carrier)
+
+-- ---- a line that is there
+
+has_cons : (r p : ℕ) (y z : Line) (lines rest : Rows Line) (b : Bool) → (p == r) ≡ b → IsSome (value_at r ((p, y) ∷ lines)) → (IsSome (value_at r lines) → IsSome (value_at r rest)) →
+    IsSome (value_at r ((p, z) ∷ rest))
+has_cons r p y z lines rest true e h more = rw e refl
+has_cons r p y z lines rest false e h more = rw e (more (rw e at h))
+
+has_lost : (r : ℕ) (lines : Rows Line) → IsSome (value_at r lines) → IsSome (value_at r (all_lost lines))
+has_lost r [] h = h
+has_lost r ((p, y) ∷ lines) h = has_cons r p y (loses y) lines (all_lost lines) (p == r) refl h (has_lost r lines)
+
+has_first : (r : ℕ) (lines : Rows Line) → IsSome (value_at r lines) → IsSome (value_at r (without_first lines))
+has_first r [] h = h
+has_first r ((p, y) ∷ lines) h =
+    first_keep (λ l. IsSome (value_at r l)) p y lines (has_cons r p y y lines (without_first lines) (p == r) refl h (has_first r lines))
+    (λ left. has_cons r p y (record y { waiting = left }) lines lines (p == r) refl h (λ some. some))
+
+-- that of a live connection is of use
+has_used : (r : ℕ) (live : Rows Connection) (lines : Rows Line) → AreApart lines → value_at r live ≡ Some asked → IsSome (value_at r lines) → IsSome (value_at r (used_lines live lines))
+has_used r live lines apart here h = grind (arith, used_at, asked)
+
+-- ---- the events of a caller
+
+abbrev pub HaveLines : Rows Line → List ℕ → Type 0
+HaveLines lines [] = Unit {0}
+HaveLines lines (r ∷ more) = IsSome (value_at r lines) × HaveLines lines more
+
+pub have_still : (old new : Rows Line) (l : List ℕ) → ((r : ℕ) → IsSome (value_at r old) → IsSome (value_at r new)) → HaveLines old l → HaveLines new l
+have_still old new [] kept all = tt
+have_still old new (r ∷ more) kept all = (kept r all.0, have_still old new more kept all.1)
+
+pub record Heard (old new : End) : Type 0 where
+  pub rise : RiseFrom 0 new.lines
+  pub kept : (r : ℕ) → IsSome (value_at r old.lines) → IsSome (value_at r new.lines)
+
+kept_by : (r : ℕ) (input : Input) (e : End) (o : Option Line) (q : ℕ) → IsSome (value_at q e.lines) → IsSome (value_at q (by_line r o input e).lines)
+kept_by r input e None q h = h
+kept_by r input e (Some line) q h = put_some q r (line_by line line.session input) e.lines h
+
+session_heard : (r : ℕ) (input : Input) (e : End) → RiseFrom 0 e.lines → Heard e (to_session r input e)
+session_heard r input e rise = record { rise = rise_session r input e rise; kept = kept_by r input e (value_at r e.lines) }
+
+opens_heard : (r : ℕ) (o : Option Line) (e : End) → IsSome o → RiseFrom 0 e.lines → Heard e (opens r o e)
+opens_heard r None e some rise = cc
+opens_heard r (Some line) e some rise = session_heard r linked_up e rise
+
+pub one_heard : (event : Happening) (rest : List Happening) (e : End) → HaveLines e.lines (opened_in (event ∷ rest)) → RiseFrom 0 e.lines → Heard e (hears event e)
+one_heard (opened r) rest e all rise = opens_heard r (value_at r e.lines) e all.0 rise
+one_heard event rest e all rise = session_heard (told_of event) _ e rise
+
+pub have_rest : (event : Happening) (rest : List Happening) (lines : Rows Line) → HaveLines lines (opened_in (event ∷ rest)) → HaveLines lines (opened_in rest)
+have_rest (opened r) rest lines all = all.1
+have_rest event rest lines all = all
+
+times_heard : (n : ℕ) (l : List Happening) (e : End) → e.carrier.events ≡ l → HaveLines e.lines (opened_in l) → RiseFrom 0 e.lines → Heard e (hears_times n e)
+times_heard zero l e h all rise = record { rise = rise; kept = λ r some. some }
+times_heard (suc n) [] e h all rise = subst (Heard e) (sym (times_quiet (suc n) e h)) (record { rise = rise; kept = λ r some. some })
+times_heard (suc n) (event ∷ rest) e h all rise =
+    let is = first_is event rest e h in
+    let one = one_heard event rest (with_events rest e) all rise in
+    let risen : RiseFrom 0 (hears_next e).lines = subst (λ (x : End). RiseFrom 0 x.lines) (sym is) one.rise in
+    let kept : (r : ℕ) → IsSome (value_at r e.lines) → IsSome (value_at r (hears_next e).lines) = λ r some. subst (λ (x : End). IsSome (value_at r x.lines)) (sym is) (one.kept r some) in
+    let more = times_heard n rest (hears_next e) (rest_is event rest e h) (have_still e.lines (hears_next e).lines (opened_in rest) kept (have_rest event rest e.lines all)) risen in
+    record { rise = more.rise; kept = λ r some. more.kept r (kept r some) }
+
+-- ---- the events of a called end
+
+up_push : (n r : ℕ) (line : Line) (lines : Rows Line) → n < r → AreUpTo n lines → AreUpTo r (lines ++ (r, line) ∷ [])
+up_push n r line [] above up = ((omega arith), tt)
+up_push n r line ((p, y) ∷ lines) above up = ((let low = up.0 in omega arith), up_push n r line lines above up.1)
+
+up_used : (n : ℕ) (live : Rows Connection) (lines : Rows Line) → AreUpTo n lines → AreUpTo n (used_lines live lines)
+up_used n live [] up = tt
+up_used n live (row ∷ lines) up =
+    let more = up_used n live lines up.1 in
+    used_keep (AreUpTo n) live row lines more (λ used. (up.0, more))
+
+record HeardUpTo (n : ℕ) (new : End) : Type 0 where
+  rise : RiseFrom 0 new.lines
+  up : AreUpTo n new.lines
+
+session_risen : (n r : ℕ) (input : Input) (e : End) → RiseFrom 0 e.lines → AreUpTo n e.lines → HeardUpTo n (to_session r input e)
+session_risen n r input e rise up = record { rise = rise_session r input e rise; up = session_up n r input e up }
+
+opens_up : (n r : ℕ) (o : Option Line) (e : End) → n < r → RiseFrom 0 e.lines → AreUpTo n e.lines → HeardUpTo r (opens r o e)
+opens_up n r None e above rise up = record {
+  rise = rise_joins n r awaits e above up rise;
+  up = up_used r e.carrier.live _ (up_push n r (fresh_line awaits) e.lines above up);
+}
+opens_up n r (Some line) e above rise up = session_risen r r linked_up e rise (up_more n r e.lines (omega arith) up)
+
+-- one more event was handled, and the references up to `reached` had lines by then
+record HasRisen (event : Happening) (rest : List Happening) (e : End) (last : ℕ) : Type 0 where
+  reached : ℕ
+  rises : Rises reached (opened_in rest) last
+  heard : HeardUpTo reached (hears event e)
+
+one_risen : (event : Happening) (rest : List Happening) (e : End) (g h : ℕ) → Rises g (opened_in (event ∷ rest)) h → RiseFrom 0 e.lines → AreUpTo g e.lines → HasRisen event rest e h
+one_risen (opened r) rest e g h rises rise up = record { reached = r; rises = rises.1; heard = opens_up g r (value_at r e.lines) e rises.0 rise up }
+one_risen event rest e g h rises rise up = record { reached = g; rises = rises; heard = session_risen g (told_of event) _ e rise up }
+
+times_up : (n : ℕ) (l : List Happening) (e : End) (g h : ℕ) → e.carrier.events ≡ l → Rises g (opened_in l) h → RiseFrom 0 e.lines → AreUpTo g e.lines → RiseFrom 0 (hears_times n e).lines
+times_up zero l e g h is rises rise up = rise
+times_up (suc n) [] e g h is rises rise up = subst (λ (x : End). RiseFrom 0 x.lines) (sym (times_quiet (suc n) e is)) rise
+times_up (suc n) (event ∷ rest) e g h is rises rise up =
+    let one = one_risen event rest (with_events rest e) g h rises rise up in
+    let now = subst (HeardUpTo one.reached) (sym (first_is event rest e is)) one.heard in
+    times_up n rest (hears_next e) one.reached h (rest_is event rest e is) one.rises now.rise now.up
+
+-- ---- events that are handled
+
+-- of connections that awaited a CC
+pub awaited_lines : (e : End) (l : List ℕ) → IsOrdered e → AreAwaited e.carrier.live l → HaveLines e.lines l
+awaited_lines e [] o all = tt
+awaited_lines e (r ∷ more) o all = ((o.awaiting r all.0).1, awaited_lines e more o all.1)
+
+heard_by : (b : Bool) (n : ℕ) (e : End) (c : Carrier) → e.carrier.is_caller ≡ b → e.carrier.events ≡ [] → AreUpTo e.carrier.given e.lines → IsOrdered e → OpensAlong e.carrier c →
+    IsOrdered (hears_times n (with_carrier c e))
+heard_by true n e c caller none known o a =
+    let mid = with_carrier c e in
+    let events : c.events ≡ a.told = a.events ∙ ap (λ (l : List Happening). l ++ a.told) none in
+    let heard = times_heard n a.told mid events (awaited_lines e (opened_in a.told) o (a.caller caller)) o.rise in
+    let leaves = times_leave n mid in
+    record {
+      rise = heard.rise;
+      awaiting = λ r h. (leaves.side ∙ a.side ∙ caller, heard.kept r (o.awaiting r (a.awaited r (leaves.awaited r h))).1);
+    }
+heard_by false n e c is_called none known o a =
+    let mid = with_carrier c e in
+    let nobody : NoneAwaited e.carrier.live = λ q h. both e.carrier.is_caller (o.awaiting q h).0 is_called in
+    record {
+      rise = times_up n a.told mid e.carrier.given c.given (a.events ∙ ap (λ (l : List Happening). l ++ a.told) none) (a.called is_called nobody) o.rise known;
+      awaiting = λ r h. absurd (nobody r (a.awaited r ((times_leave n mid).awaited r h)));
+    }
+
+heard_ordered : (n : ℕ) (e : End) (c : Carrier) → e.carrier.events ≡ [] → AreUpTo e.carrier.given e.lines → IsOrdered e → OpensAlong e.carrier c → IsOrdered (hears_times n (with_carrier c e))
+heard_ordered n e c none known o a = heard_by e.carrier.is_caller n e c refl none known o a
+
+pub lost_ordered : (e : End) → IsOrdered e → IsOrdered (record e { lines = all_lost e.lines })
+lost_ordered e o = record { rise = rise_lost 0 e.lines o.rise; awaiting = λ r h. ((o.awaiting r h).0, has_lost r e.lines (o.awaiting r h).1) }
+
+attends_ordered : (e : End) (c : Carrier) → e.carrier.events ≡ [] → AreUpTo e.carrier.given e.lines → IsOrdered e → OpensAlong e.carrier c → IsOrdered (attends (with_carrier c e))
+attends_ordered e c none known o a =
+    concluded_end IsOrdered lost_ordered (hears_all (with_carrier c e)) (heard_ordered (length c.events) e c none known o a)
+
+-- ---- a packet
+
+acts_along : (units : Result (List Value) TpduFault) (c : Carrier) → IsOrderly c → OpensAlong c (carriers.acts_by units c)
+acts_along (Ok units) c orderly = along_units units c orderly
+acts_along (Err fault) c orderly = along_over c _
+
+pub packet_along : (packet : List ℕ) (c : Carrier) → IsOrderly c → OpensAlong c (carriers.after_packet c packet)
+unfolding carriers.after_packet
+packet_along packet c orderly = acts_along (units_of packet) c orderly
+
+pub packet_ordered : (packet : List ℕ) (e : End) → e.carrier.events ≡ [] → Soundness e → IsOrdered e → IsOrdered (after_packet e packet)
+packet_ordered packet e none s o =
+    subst IsOrdered (sym (packet_is e packet)) (attends_ordered e (carriers.after_packet e.carrier packet) none s.known o (packet_along packet e.carrier s.orderly))
+
+-- ---- the end
+
+ends_ordered : (reason : EndReason) (e : End) → IsOrdered e → IsOrdered (ends reason e)
+ends_ordered reason e o = record { rise = rise_lost 0 e.lines o.rise; awaiting = λ r h. cc }
+
+starves_by : (b : Bool) (e : End) → IsOrdered e → IsOrdered (record { carrier = if b then e.carrier else carrier_ends NoMemory e.carrier; lines = all_lost e.lines })
+starves_by true e o = lost_ordered e o
+starves_by false e o = record { rise = rise_lost 0 e.lines o.rise; awaiting = λ r h. cc }
+
+starves_ordered : (e : End) → IsOrdered e → IsOrdered (starves e)
+starves_ordered e o = starves_by (is_some e.carrier.ended) e o
+
+out_along : (units : List Value) (old new : Carrier) → carriers.RunsOut old units new → IsOrderly old → OpensAlong old new
+out_along units old new h orderly = subst (OpensAlong old) (sym h.ended) (along_end old (reacts h.done old) NoMemory (along_units h.done old orderly))
+
+acted_along : (units : Result (List Value) TpduFault) (old new : Carrier) → carriers.ActsBy units old new → IsOrderly old → OpensAlong old new
+acted_along (Ok units) old new (inl is) orderly = subst (OpensAlong old) (sym is) (along_units units old orderly)
+acted_along (Ok units) old new (inr h) orderly = out_along units old new h orderly
+acted_along (Err fault) old new is orderly = subst (OpensAlong old) (sym is) (along_over old _)
+
+untold : (rest : List Happening) (e : End) → IsOrdered e → IsOrdered (with_events rest e)
+untold rest e o = record { rise = o.rise; awaiting = o.awaiting }
+
+starved_ordered : (e new : End) (packet : List ℕ) → Starves e packet new → e.carrier.events ≡ [] → Soundness e → IsOrdered e → IsOrdered new
+starved_ordered e new packet (inl h) none s o =
+    subst IsOrdered (sym h.2) (attends_ordered e h.0 none s.known o (out_along h.1.0 e.carrier h.0 h.1.2 s.orderly))
+starved_ordered e new packet (inr h) none s o =
+    let mid = hears_times h.2.heard (with_carrier h.0 e) in
+    subst IsOrdered (sym h.2.starved) (starves_ordered (with_events h.2.more mid)
+    (untold h.2.more mid (heard_ordered h.2.heard e h.0 none s.known o (acted_along (units_of packet) e.carrier h.0 h.1 s.orderly))))
+
+-- ---- feeding
+
+ordered_kept : IsKeptBeside IsHale IsOrdered
+ordered_kept = record {
+  each = λ packet e lasts hale o. packet_ordered packet e (hale.0 lasts) (hale.1 lasts) o;
+  over = λ reason e hale o. ends_ordered reason e o;
+  starved = λ packet e new lasts h hale o. starved_ordered e new packet h (hale.0 lasts) (hale.1 lasts) o;
+}
+
+pub feeds_ordered : SessionLaws → (old new : Holding) (piece : List ℕ) (fed : Fed) → Feeds old piece fed new → IsAttended old.end → IsSound old.end → IsOrdered old.end → IsOrdered new.end
+feeds_ordered laws old new piece fed h attended sound ordered = feeds_beside IsHale IsOrdered (hale_kept laws) ordered_kept old new piece fed h (attended, sound) ordered
+
+-- ---- calls
+
+pub fresh_ordered : (is_caller : Bool) (local : Local) → IsOrdered (fresh_end is_caller local)
+fresh_ordered is_caller local = record { rise = tt; awaiting = λ r h. cc }
+
+caller_by : (b : Bool) (o : Option OpenError) → (if not b then Some NotCaller else o) ≡ None → b ≡ true
+caller_by true o h = refl
+caller_by false o h = cc
+
+-- the new connection, and those before it
+joined_has : (r q : ℕ) (x : Line) (e : End) (b : Bool) → (r == q) ≡ b → value_at q e.lines ≡ None → IsOrdered e → value_at r (e.carrier.live ++ (q, asked) ∷ []) ≡ Some asked →
+    IsSome (value_at r (e.lines ++ (q, x) ∷ []))
+joined_has r q x e true at none o h = ap is_some (ap (λ n. value_at n (e.lines ++ (q, x) ∷ [])) (eqb-true r q at) ∙ push_here q x e.lines none)
+joined_has r q x e false at none o h =
+    let ne : r ≢ q = (λ same. both (r == q) (eq-eqb r q same) at) in
+    ap is_some (push_other r q x e.lines ne) ∙ (o.awaiting r (sym (push_other r q asked e.carrier.live ne) ∙ h)).1
+
+pub connect_ordered : (c : Connect) (e : End) → connect_error c e ≡ None → IsSound e → IsOrdered e → IsOrdered (connects c e)
+connect_ordered c e allowed sound o =
+    let may = open_none (may_connect e.carrier) (terms_error c) allowed in
+    let s = sound (none_of e.carrier.ended (free_of e.carrier may).lasts) in
+    let q = e.carrier.given + 1 in
+    let none : value_at q e.lines ≡ None = beyond q e.carrier.given e.lines s.known (omega arith) in
+    let x : Line = fresh_line (calls_with c) in
+    record {
+      rise = rise_connect c e s o.rise;
+      awaiting = λ r h. (
+        (caller_by e.carrier.is_caller _ may),
+        has_used r (e.carrier.live ++ (q, asked) ∷ []) (joined_lines q (calls_with c) e.lines) (apart_push q x e.lines none s.apart) h
+            (joined_has r q x e (r == q) refl none o h),
+      );
+    }
+
+pub call_ordered : (r : ℕ) (input : Input) (e : End) → IsOrdered e → IsOrdered (to_session r input e)
+call_ordered r input e o =
+    let heard = session_heard r input e o.rise in
+    let leaves = session_leaves r input e in
+    record {
+      rise = heard.rise;
+      awaiting = λ q h. (let was = o.awaiting q (leaves.awaited q h) in (leaves.side ∙ was.0, heard.kept q was.1));
+    }
+
+pub first_ordered : (e : End) → IsOrdered e → IsOrdered (record e { lines = without_first e.lines })
+first_ordered e o = record { rise = rise_first 0 e.lines o.rise; awaiting = λ r h. ((o.awaiting r h).0, has_first r e.lines (o.awaiting r h).1) }
+
+pub carried_ordered : (octets : ℕ) (e : End) → IsOrdered e → IsOrdered (carried octets e)
+carried_ordered octets e o = record { rise = o.rise; awaiting = o.awaiting }
+
+pub breaks_ordered : (e : End) → IsOrdered e → IsOrdered (breaks e)
+breaks_ordered e o = broken_end IsOrdered (ends_ordered Broken) e o

@@ -1,0 +1,96 @@
+-- The first connection for which an indication is pending.
+use Rattle.std.proofs.Common.{◌≡◌, ℕ, ◌+◌, ◌<◌, ◌≤◌, ◌==◌, Bool, zero, suc, true, false, not, List, [], ◌∷◌, length, map, get_or, set, Option, Some, None, refl, sym, ap, ◌∙◌, arith}
+use Rattle.std.proofs.lemmas.List.Quantifiers.{position-Some}
+use Rattle.osi_stack.proofs.Vocabulary.{position, position_or_len, common_steps, Rows, Shown, shown_by, Indication, first_by, first_shown, rest_by, without_first, TellsOf, Line, line_waits, waits}
+use Rattle.osi_stack.proofs.carried.events_one_after_the_other.{no_events}
+use Rattle.osi_stack.proofs.carried.packets_without_events.{or_first, or_second}
+
+-- ---- nothing is pending
+
+pub quiet_line : (l : Line) → line_waits l ≡ false → l.waiting ≡ []
+quiet_line l e = no_events l.waiting e
+
+pub record IsNone (rows : Rows Line) : Type 0 where
+  pub shown : first_shown rows ≡ None
+  pub rest : without_first rows ≡ rows
+
+none_cons : (r : ℕ) (l : Line) (rows : Rows Line) → l.waiting ≡ [] → IsNone rows → IsNone ((r, l) ∷ rows)
+none_cons r l rows e more = search
+
+none_by : (r : ℕ) (l : Line) (rows : Rows Line) (b : Bool) → line_waits l ≡ b → (length rows ≤ position_or_len (λ row. line_waits row.1) rows → IsNone rows) →
+    length ((r, l) ∷ rows) ≤ position_or_len (λ row. line_waits row.1) ((r, l) ∷ rows) → IsNone ((r, l) ∷ rows)
+none_by r l rows b t more h = grind arith
+
+none_at : (rows : Rows Line) → length rows ≤ position_or_len (λ row. line_waits row.1) rows → IsNone rows
+none_at [] h = record { shown = refl; rest = refl }
+none_at ((r, l) ∷ rows) h = none_by r l rows (line_waits l) refl (none_at rows) h
+
+pub none_waits : (rows : Rows Line) → position (λ row. line_waits row.1) rows ≡ None → IsNone rows
+none_waits rows e = none_at rows (grind (arith, common_steps))
+
+pub quiet_none : (rows : Rows Line) → waits rows ≡ false → IsNone rows
+quiet_none [] h = record { shown = refl; rest = refl }
+quiet_none ((r, l) ∷ rows) h =
+    none_cons r l rows (quiet_line l (or_first (line_waits l) (waits rows) h)) (quiet_none rows (or_second (line_waits l) (waits rows) h))
+
+-- ---- the first pending indication
+
+-- the oldest of the first line with one, which is at this place
+pub record IsFirst (rows : Rows Line) (i : ℕ) (d : ℕ × Line) : Type 0 where
+  pub within : i < length rows
+  pub shown : first_shown rows ≡ first_by (get_or rows i d).0 (get_or rows i d).1.waiting None
+  pub waits : line_waits (get_or rows i d).1 ≡ true
+  pub rest : (shown : Shown) (more : List Shown) → (get_or rows i d).1.waiting ≡ shown ∷ more →
+      without_first rows ≡ set rows i ((get_or rows i d).0, record (get_or rows i d).1 { waiting = more })
+
+some_by : (r : ℕ) (w : List Shown) (other : Option (ℕ × Shown)) → not (length w == 0) ≡ true → first_by r w other ≡ first_by r w None
+some_by r [] other h = cc
+some_by r (x ∷ w) other h = refl
+
+first_at : (rows : Rows Line) (i : ℕ) (d : ℕ × Line) → i < length rows → line_waits (get_or rows i d).1 ≡ true →
+    ((k : ℕ) → k < i → line_waits (get_or rows k d).1 ≡ false) → IsFirst rows i d
+first_at [] i d within here before = absurd (omega arith)
+first_at ((r, l) ∷ rows) zero d within here before = record {
+  within = within;
+  shown = some_by r l.waiting (first_shown rows) here;
+  waits = here;
+  rest = λ shown more e. ap (λ w. rest_by r l w rows (without_first rows)) e;
+}
+first_at ((r, l) ∷ rows) (suc i) d within here before =
+    let none = quiet_line l (before 0 (omega arith)) in
+    let more = first_at rows i d (omega arith) here (λ k h. before (suc k) (omega arith)) in
+    record {
+      within = within;
+      shown = ap (λ w. first_by r w (first_shown rows)) none ∙ more.shown;
+      waits = here;
+      rest = λ shown waiting e. ap (λ w. rest_by r l w rows (without_first rows)) none ∙ ap (λ k. (r, l) ∷ k) (more.rest shown waiting e);
+    }
+
+pub first_is : (rows : Rows Line) (i : ℕ) (d : ℕ × Line) → position (λ row. line_waits row.1) rows ≡ Some i → IsFirst rows i d
+first_is rows i d e =
+    let p = position-Some (λ row. line_waits row.1) rows i d e in
+    first_at rows i d p.0 p.1 p.2
+
+-- ---- it is reported
+
+-- a line with a pending indication can give one
+pub never_popped : {A : Type 0} (items : List Indication) (n : ℕ) → n ≡ length items → n ≡ 0 → not (length (map shown_by items) == 0) ≡ true → A
+never_popped [] n len none waits = cc
+never_popped (x ∷ items) n len none waits = absurd (omega arith)
+
+pub record IsTold (rows items : Rows Line) (i : ℕ) (row new : ℕ × Line) (shown : Shown) : Type 0 where
+  pub first : first_shown rows ≡ Some (row.0, shown)
+  pub rest : set items i new ≡ without_first rows
+
+pub told_first : (rows items : Rows Line) (i : ℕ) (row new : ℕ × Line) (shown : Shown) → position (λ row. line_waits row.1) rows ≡ Some i →
+    row ≡ get_or rows i row → items ≡ rows → TellsOf (Some shown) row new → IsTold rows items i row new shown
+told_first rows items i row new shown e here same h =
+    let p = first_is rows i row e in
+    let waiting : (get_or rows i row).1.waiting ≡ shown ∷ new.1.waiting = ap (λ (x : ℕ × Line). x.1.waiting) (sym here ∙ h) in
+    let named : (get_or rows i row).0 ≡ row.0 = ap (λ (x : ℕ × Line). x.0) (sym here) in
+    let left : ((get_or rows i row).0, record (get_or rows i row).1 { waiting = new.1.waiting }) ≡ new =
+    ap (λ (x : ℕ × Line). (x.0, record x.1 { waiting = new.1.waiting })) (sym here ∙ h) in
+    record {
+      first = p.shown ∙ ap (λ w. first_by (get_or rows i row).0 w None) waiting ∙ ap (λ n. Some (n, shown)) named;
+      rest = ap (λ l. set l i new) same ∙ ap (λ x. set rows i x) (sym left) ∙ sym (p.rest shown new.1.waiting waiting);
+    }

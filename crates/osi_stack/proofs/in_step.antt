@@ -1,0 +1,16 @@
+-- Two runs in step: the same octets in other pieces, indications fetched at other times.
+pub mod what_is_seen_is_the_same
+pub mod what_is_in_front_changes_nothing
+pub mod what_is_joined_is_the_same
+pub mod the_account_packet_by_packet
+pub mod lines_that_are_gone_do_not_matter
+pub mod what_happens_to_live_connections
+pub mod the_other_lines_may_be_dropped
+pub mod what_a_look_finds
+pub mod a_call_while_indications_are_pending
+pub mod a_request_while_indications_are_pending
+pub mod a_request_whatever_is_pending
+pub mod a_break_while_indications_are_pending
+pub mod two_runs_reach_the_same_state
+pub mod rounds_with_requests_at_any_time
+pub mod the_last_octets_of_two_runs

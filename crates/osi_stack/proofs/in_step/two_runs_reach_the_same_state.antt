@@ -1,0 +1,239 @@
+-- Two runs in step reach the same state, whatever the pieces.
+use Rattle.std.proofs.Common.{◌≡◌, ℕ, ◌+◌, ◌-◌, ◌<◌, ◌^◌, Bool, true, false, List, ◌∷◌, ◌++◌, Option, Some, None, is_some, length, option_map, arith, refl, sym, ap, subst, ◌∙◌, append_assoc, if◌then◌else◌, []}
+use Rattle.osi_stack.proofs.Vocabulary.{append-nil, flat_map-append, flat_map, IsPartial, ArePackets, offset_of, TpktFault, tsap_octets, apart_all, OneCut, user, Rows, asked, State as Carrier, Broken, called, Shown, connects, calls_with, ends, all_waiting, UserCall, user_does, Round, WaitForLive, MayCall, IsCalled, RoundsBy, RoundsAlong, calls_of, AreInStep, connecting, calling, disconnecting, breaking, hushed, put_back, Account, account_of, with_packet, with_packets, CallsAlong, used_in, told_in, carried_in, account_along, AreAlike, Line, End, Holding, joins, waits, Connect, none_of, connects_call, EndCall as Call}
+use Rattle.osi_stack.proofs.in_step.the_account_packet_by_packet.{made, after_more, account_quiet, account_joined, packets_apart}
+use Rattle.osi_stack.proofs.in_step.a_request_while_indications_are_pending.{wait_push, joins_alike}
+use Rattle.osi_stack.proofs.given_up.two_runs_stay_alike.{disconnects_apart}
+use Rattle.osi_stack.proofs.stream.how_calls_end_an_end.{faulted}
+use Rattle.osi_stack.proofs.in_step.a_call_while_indications_are_pending.{account_calling}
+use Rattle.osi_stack.proofs.stream.all_pieces_last_alike.{account_over}
+use Rattle.osi_stack.proofs.stream.an_end_is_what_its_packets_make.{calls_read}
+use Rattle.osi_stack.proofs.in_step.what_is_in_front_changes_nothing.{apart_session}
+use Rattle.osi_stack.proofs.carried.packets_without_events.{never}
+
+-- ---- accounts that are alike
+
+-- They stay so, whatever packet acts, and whatever call the user makes of both.
+pub record Likeness (May : UserCall → End → Type 0) (Like : Account → Account → Type 0) : Type 0 where
+  pub packet : (x y : Account) (unit : List ℕ) → x.end.carrier.ended ≡ None → Like x y → Like (with_packet x unit) (with_packet y unit)
+  pub fault : (x y : Account) (fault : TpktFault) → x.end.carrier.ended ≡ None → Like x y → Like (faulted fault x) (faulted fault y)
+  pub call : (t : List (ℕ × Shown)) (o : List ℕ) (a : End) (u : List (ℕ × Shown)) (p : List ℕ) (b : End) (call : UserCall) → a.carrier.ended ≡ None → May call a → May call b →
+      Like (account_of t o a) (account_of u p b) → Like (account_of t o (user_does call a)) (account_of u p (user_does call b))
+  pub ended : (x y : Account) → Like x y → x.end.carrier.ended ≡ y.end.carrier.ended
+  pub turned : (x y : Account) → Like x y → Like y x
+
+-- of what is the same
+pub alike_at : (Like : Account → Account → Type 0) (x y v w : Account) → x ≡ v → y ≡ w → Like v w → Like x y
+alike_at Like x y v w e f like = subst (λ (z : Account). Like z y) (sym e) (subst (Like v) (sym f) like)
+
+-- an end that lasts after packets lasted before them
+pub lasts_before : (units : List (List ℕ)) (x : Account) → (with_packets units x).end.carrier.ended ≡ None → x.end.carrier.ended ≡ None
+lasts_before units x lasts = by (is_some x.end.carrier.ended) refl
+  where
+    by : (b : Bool) → is_some x.end.carrier.ended ≡ b → x.end.carrier.ended ≡ None
+    by false e = none_of x.end.carrier.ended e
+    by true e = never (with_packets units x).end (account_over units x e) lasts
+
+pub packets_alike : (May : UserCall → End → Type 0) (Like : Account → Account → Type 0) → Likeness May Like → (units : List (List ℕ)) (x y : Account) →
+    (with_packets units x).end.carrier.ended ≡ None → Like x y → Like (with_packets units x) (with_packets units y)
+packets_alike May Like l [] x y lasts like = like
+packets_alike May Like l (unit ∷ units) x y lasts like =
+    packets_alike May Like l units (with_packet x unit) (with_packet y unit) lasts (l.packet x y unit (lasts_before (unit ∷ units) x lasts) like)
+
+-- two ends that are alike, after these indications were given and these octets sent
+pub record Same (Like : Account → Account → Type 0) (t : List (ℕ × Shown)) (o : List ℕ) (a : Holding) (u : List (ℕ × Shown)) (p : List ℕ) (b : Holding) : Type 0 where
+  pub octets : a.held.octets ≡ b.held.octets
+  pub account : Like (account_of t o a.end) (account_of u p b.end)
+
+-- and whose unfinished packets are at the same offset
+pub record Are (Like : Account → Account → Type 0) (t : List (ℕ × Shown)) (o : List ℕ) (a : Holding) (u : List (ℕ × Shown)) (p : List ℕ) (b : Holding) : Type 0 where
+  pub same : Same Like t o a u p b
+  pub partial : IsPartial a.held.octets
+  pub offset : a.held.offset ≡ b.held.offset
+  pub bound : a.held.offset < 2 ^ 64
+
+-- ---- octets and indications
+
+-- the account of what these calls led to
+account_on : (t : List (ℕ × Shown)) (o : List ℕ) (old : Holding) (calls : List Call) (new : Holding) (packets : List (List ℕ)) →
+    account_along calls new.end ≡ with_packets packets (account_of [] [] old.end) →
+    account_of (t ++ flat_map told_in calls) (o ++ flat_map carried_in calls) new.end ≡ with_packets packets (account_of t o old.end)
+account_on t o old calls new packets h =
+    account_joined t (flat_map told_in calls) o (flat_map carried_in calls) new.end
+    ∙ ap (after_more t o) h ∙ sym (packets_apart t o packets (account_of [] [] old.end))
+
+-- what was held and what was used
+pub used_alike : (a b : Holding) (xs ys : List Call) → a.held.octets ≡ b.held.octets → flat_map used_in xs ≡ flat_map used_in ys →
+    a.held.octets ++ flat_map used_in xs ≡ b.held.octets ++ flat_map used_in ys
+used_alike a b xs ys same used = ap (λ l. l ++ flat_map used_in xs) same ∙ ap (λ l. b.held.octets ++ l) used
+
+pub calls_alike : (May : UserCall → End → Type 0) (Like : Account → Account → Type 0) → Likeness May Like → IsPartial [] → OneCut →
+    (t : List (ℕ × Shown)) (o : List ℕ) (a : Holding) (u : List (ℕ × Shown)) (p : List ℕ) (b : Holding) (xs ys : List Call) (c d : Holding) → Are Like t o a u p b →
+    CallsAlong a xs c → CallsAlong b ys d → flat_map used_in xs ≡ flat_map used_in ys → c.end.carrier.ended ≡ None → d.end.carrier.ended ≡ None →
+    Are Like (t ++ flat_map told_in xs) (o ++ flat_map carried_in xs) c (u ++ flat_map told_in ys) (p ++ flat_map carried_in ys) d
+calls_alike May Like l nothing one_cut t o a u p b xs ys c d are h k used lasts still =
+    let m = calls_read nothing a xs c h lasts in
+    let n = calls_read nothing b ys d k still in
+    let same : a.held.octets ++ flat_map used_in xs ≡ b.held.octets ++ flat_map used_in ys = used_alike a b xs ys are.same.octets used in
+    let one = one_cut (a.held.octets ++ flat_map used_in xs) c.held.octets d.held.octets m.packets n.packets (m.partial are.partial)
+    (n.partial (subst IsPartial are.same.octets are.partial)) m.cut (subst (λ l. ArePackets n.packets l d.held.octets) (sym same) n.cut) in
+    let at = m.offset are.bound in
+    let at' = n.offset (subst (λ (k : ℕ). k < 2 ^ 64) are.offset are.bound) in
+    let left = account_of t o a.end in
+    let right = account_of u p b.end in
+    let here = account_on t o a xs c m.packets m.account in
+    let there = account_on u p b ys d n.packets n.account ∙ ap (λ us. with_packets us right) (sym one.0) in
+    record {
+      same = record {
+        octets = one.1;
+        account = alike_at Like (account_of (t ++ flat_map told_in xs) (o ++ flat_map carried_in xs) c.end) (account_of (u ++ flat_map told_in ys) (p ++ flat_map carried_in ys) d.end)
+            (with_packets m.packets left) (with_packets m.packets right) here there
+            (packets_alike May Like l m.packets left right (ap (λ (x : Account). x.end.carrier.ended) (sym here) ∙ lasts) are.same.account);
+      };
+      partial = m.partial are.partial;
+      offset = at ∙ ap (λ k. offset_of (k + (length (a.held.octets ++ flat_map used_in xs) - length c.held.octets))) are.offset
+          ∙ ap (λ l. offset_of (b.held.offset + (length l - length c.held.octets))) same
+          ∙ ap (λ l. offset_of (b.held.offset + (length (b.held.octets ++ flat_map used_in ys) - length l))) one.1 ∙ sym at';
+      bound = omega arith;
+    }
+
+-- ---- a call of the user
+
+pub connects_apart : (o : List ℕ) (c : Connect) (e : End) → connects c (put_back o e) ≡ put_back o (connects c e)
+connects_apart o c e =
+    ap (λ (x : Carrier). joins (e.carrier.given + 1) (calls_with c) (record e { carrier = x }))
+    (apart_all [] o (user (connects_call (option_map tsap_octets c.calling_tsap) (option_map tsap_octets c.called_tsap)) ∷ []) e.carrier)
+
+breaks_apart : (o : List ℕ) (over : Bool) (e : End) → (if over then put_back o e else ends Broken (put_back o e)) ≡ put_back o (if over then e else ends Broken e)
+breaks_apart o true e = refl
+breaks_apart o false e = refl
+
+user_apart : (o : List ℕ) (call : UserCall) (e : End) → user_does call (put_back o e) ≡ put_back o (user_does call e)
+user_apart o (connecting c) e = connects_apart o c e
+user_apart o (calling r call) e = apart_session o r (called call) e
+user_apart o (disconnecting r) e = disconnects_apart o r e
+user_apart o breaking e = breaks_apart o (is_some e.carrier.ended) e
+
+-- the account if nothing is pending
+account_still : (t : List (ℕ × Shown)) (o : List ℕ) (e : End) → waits e.lines ≡ false → account_of t o e ≡ made (put_back o e) t
+account_still t o e quiet = ap (after_more t o) (account_quiet e quiet) ∙ ap (made (put_back o e)) (append-nil t)
+
+-- what a call of the user makes of an account
+abbrev pub called_by : UserCall → Account → Account
+called_by call a = account_of a.told [] (user_does call a.end)
+
+-- a connection is requested while indications are pending, of live connections alone
+account_connecting : (t : List (ℕ × Shown)) (o : List ℕ) (c : Connect) (e : End) → WaitForLive e.carrier.live e.lines →
+    account_of t o (connects c e) ≡ called_by (connecting c) (account_of t o e)
+account_connecting t o c e h =
+    let there = connects c (hushed e) in
+    let told = t ++ all_waiting e.lines in
+    let q = e.carrier.given + 1 in
+    let j = joins_alike (e.carrier.live ++ (q, asked) ∷ []) q (calls_with c) e.lines (wait_push q asked e.carrier.live e.lines h) in
+    ap (λ (l : Rows Line). made (put_back o (record (connects c e) { lines = l })) (t ++ all_waiting (connects c e).lines)) j.same
+    ∙ ap (λ (w : List (ℕ × Shown)). made (put_back o (hushed there)) (t ++ w)) j.waiting
+    ∙ ap (made (put_back o (hushed there))) (sym (append-nil told) ∙ ap (λ (w : List (ℕ × Shown)). told ++ w) (sym j.none))
+    ∙ ap (account_of told []) (sym (connects_apart o c (hushed e)))
+
+pub account_called : (t : List (ℕ × Shown)) (o : List ℕ) (call : UserCall) (e : End) → MayCall call e → account_of t o (user_does call e) ≡ called_by call (account_of t o e)
+account_called t o (connecting c) e h = account_connecting t o c e h
+account_called t o (calling r call) e h = account_calling t o r call e h
+account_called t o (disconnecting r) e h =
+    ap (account_of t []) (sym (user_apart o (disconnecting r) e)) ∙ ap (called_by (disconnecting r)) (sym (account_still t o e h))
+account_called t o breaking e h = ap (account_of t []) (sym (user_apart o breaking e)) ∙ ap (called_by breaking) (sym (account_still t o e h))
+
+-- accounts that are the same
+pub exactly : Likeness MayCall (λ (x y : Account). x ≡ y)
+exactly = record {
+  packet = λ x y unit lasts same. ap (λ (a : Account). with_packet a unit) same;
+  fault = λ x y fault lasts same. ap (faulted fault) same;
+  call = λ t o a u p b call lasts h k same. account_called t o call a h ∙ ap (called_by call) same ∙ sym (account_called u p call b k);
+  ended = λ x y same. ap (λ (a : Account). a.end.carrier.ended) same;
+  turned = λ x y same. sym same;
+}
+
+-- ---- rounds
+
+-- the unfinished packet stays as it is
+held_alike : (Like : Account → Account → Type 0) (t : List (ℕ × Shown)) (o : List ℕ) (a : Holding) (u : List (ℕ × Shown)) (p : List ℕ) (b c d : Holding) → Are Like t o a u p b → c.held ≡ a.held → d.held ≡ b.held →
+    Like (account_of t o c.end) (account_of u p d.end) → Are Like t o c u p d
+held_alike Like t o a u p b c d are h k account = grind arith
+
+user_alike : (May : UserCall → End → Type 0) (Like : Account → Account → Type 0) → Likeness May Like → (t : List (ℕ × Shown)) (o : List ℕ) (a : Holding) (u : List (ℕ × Shown)) (p : List ℕ) (b : Holding) (call : Option UserCall) (c d : Holding) →
+    Are Like t o a u p b → IsCalled May a call c → IsCalled May b call d → Are Like t o c u p d
+user_alike May Like l t o a u p b call c d are h k = search (arith, held_alike, alike_at, account_of, user_does)
+
+called_lasts : (May : UserCall → End → Type 0) (old : Holding) (call : Option UserCall) (new : Holding) → IsCalled May old call new → old.end.carrier.ended ≡ None
+called_lasts May old None new h = h.0
+called_lasts May old (Some call) new h = h.0
+
+-- what was given, or sent, before the rounds and in them
+joined : {A : Type 0} (f : Call → List A) (front : List A) (calls rest : List Call) → (front ++ flat_map f calls) ++ flat_map f rest ≡ front ++ flat_map f (calls ++ rest)
+joined f front calls rest = append_assoc front (flat_map f calls) (flat_map f rest) ∙ ap (λ l. front ++ l) (sym (flat_map-append f calls rest))
+
+-- the account after more calls
+account_behind : (t : List (ℕ × Shown)) (o : List ℕ) (xs more : List Call) (e : End) →
+    account_of (t ++ flat_map told_in (xs ++ more)) (o ++ flat_map carried_in (xs ++ more)) e
+    ≡ account_of ((t ++ flat_map told_in xs) ++ flat_map told_in more) ((o ++ flat_map carried_in xs) ++ flat_map carried_in more) e
+account_behind t o xs more e =
+    ap (λ l. account_of l (o ++ flat_map carried_in (xs ++ more)) e) (sym (joined told_in t xs more))
+    ∙ ap (λ l. account_of ((t ++ flat_map told_in xs) ++ flat_map told_in more) l e) (sym (joined carried_in o xs more))
+
+abbrev pub SameAfter : (Account → Account → Type 0) → List (ℕ × Shown) → List ℕ → List Call → Holding → List (ℕ × Shown) → List ℕ → List Call → Holding → Type 0
+SameAfter Like t o xs a u p ys b = Same Like (t ++ flat_map told_in xs) (o ++ flat_map carried_in xs) a (u ++ flat_map told_in ys) (p ++ flat_map carried_in ys) b
+
+abbrev pub AreAfter : (Account → Account → Type 0) → List (ℕ × Shown) → List ℕ → List Call → Holding → List (ℕ × Shown) → List ℕ → List Call → Holding → Type 0
+AreAfter Like t o xs a u p ys b = Are Like (t ++ flat_map told_in xs) (o ++ flat_map carried_in xs) a (u ++ flat_map told_in ys) (p ++ flat_map carried_in ys) b
+
+pub same_joined : (Like : Account → Account → Type 0) (t : List (ℕ × Shown)) (o : List ℕ) (u : List (ℕ × Shown)) (p : List ℕ) (xs ys more rest : List Call) (a b : Holding) →
+    SameAfter Like (t ++ flat_map told_in xs) (o ++ flat_map carried_in xs) more a (u ++ flat_map told_in ys) (p ++ flat_map carried_in ys) rest b →
+    SameAfter Like t o (xs ++ more) a u p (ys ++ rest) b
+same_joined Like t o u p xs ys more rest a b h = grind (arith, alike_at, account_of, flat_map, told_in, carried_in, account_behind)
+
+are_joined : (Like : Account → Account → Type 0) (t : List (ℕ × Shown)) (o : List ℕ) (u : List (ℕ × Shown)) (p : List ℕ) (xs ys more rest : List Call) (a b : Holding) →
+    AreAfter Like (t ++ flat_map told_in xs) (o ++ flat_map carried_in xs) more a (u ++ flat_map told_in ys) (p ++ flat_map carried_in ys) rest b →
+    AreAfter Like t o (xs ++ more) a u p (ys ++ rest) b
+are_joined Like t o u p xs ys more rest a b h =
+    record { same = same_joined Like t o u p xs ys more rest a b h.same; partial = h.partial; offset = h.offset; bound = h.bound }
+
+-- no round
+account_none : (t : List (ℕ × Shown)) (o : List ℕ) (a c : Holding) → c ≡ a → account_of (t ++ []) (o ++ []) c.end ≡ account_of t o a.end
+account_none t o a c h =
+    ap (λ (x : Holding). account_of (t ++ []) (o ++ []) x.end) h ∙ ap (λ l. account_of l (o ++ []) a.end) (append-nil t) ∙ ap (λ l. account_of t l a.end) (append-nil o)
+
+are_behind : (Like : Account → Account → Type 0) (t : List (ℕ × Shown)) (o : List ℕ) (a : Holding) (u : List (ℕ × Shown)) (p : List ℕ) (b c d : Holding) → Are Like t o a u p b → c ≡ a → d ≡ b →
+    Are Like (t ++ []) (o ++ []) c (u ++ []) (p ++ []) d
+are_behind Like t o a u p b c d are h k = grind (arith, alike_at, account_of, account_none)
+
+pub rounds_alike : (May : UserCall → End → Type 0) (Like : Account → Account → Type 0) → Likeness May Like → IsPartial [] → OneCut →
+    (t : List (ℕ × Shown)) (o : List ℕ) (a : Holding) (u : List (ℕ × Shown)) (p : List ℕ) (b : Holding) (xs ys : List Round) (c d : Holding) →
+    Are Like t o a u p b → RoundsBy May a xs c → RoundsBy May b ys d → AreInStep xs ys → AreAfter Like t o (calls_of xs) c u p (calls_of ys) d
+rounds_alike May Like l nothing one_cut t o a u p b [] [] c d are h k step = are_behind Like t o a u p b c d are h k
+rounds_alike May Like l nothing one_cut t o a u p b [] (y ∷ ys) c d are h k step = absurd step
+rounds_alike May Like l nothing one_cut t o a u p b (x ∷ xs) [] c d are h k step = absurd step
+rounds_alike May Like l nothing one_cut t o a u p b (x ∷ xs) (y ∷ ys) c d are h k step =
+    let fed = calls_alike May Like l nothing one_cut t o a u p b x.calls y.calls h.0 k.0 are h.2 k.2 step.0
+    (called_lasts May h.0 x.user h.1 h.3) (called_lasts May k.0 y.user k.1 k.3) in
+    let t' = t ++ flat_map told_in x.calls in
+    let o' = o ++ flat_map carried_in x.calls in
+    let u' = u ++ flat_map told_in y.calls in
+    let p' = p ++ flat_map carried_in y.calls in
+    let met = user_alike May Like l t' o' h.0 u' p' k.0 x.user h.1 k.1 fed h.3 (subst (λ (call : Option UserCall). IsCalled May k.0 call k.1) (sym step.1) k.3) in
+    are_joined Like t o u p x.calls y.calls (calls_of xs) (calls_of ys) c d
+    (rounds_alike May Like l nothing one_cut t' o' h.1 u' p' k.1 xs ys c d met h.4 k.4 step.2)
+
+-- an end is like itself
+pub are_first : (Like : Account → Account → Type 0) (old : Holding) → IsPartial old.held.octets → old.held.offset < 2 ^ 64 → Like (account_of [] [] old.end) (account_of [] [] old.end) → Are Like [] [] old [] [] old
+are_first Like old partial bound like = record { same = record { octets = refl; account = like }; partial = partial; offset = refl; bound = bound }
+
+-- ---- ends that are the same
+
+pub same_alike : (a b : Holding) (xs ys : List Call) → SameAfter (λ (x y : Account). x ≡ y) [] [] xs a [] [] ys b → AreAlike a xs b ys
+same_alike a b xs ys h = record { octets = h.octets; end = ap (λ (x : Account). x.end) h.account; told = ap (λ (x : Account). x.told) h.account }
+
+pub runs_alike : IsPartial [] → OneCut → (old a b : Holding) (xs ys : List Round) → IsPartial old.held.octets → old.held.offset < 2 ^ 64 → RoundsAlong old xs a → RoundsAlong old ys b →
+    AreInStep xs ys → AreAlike a (calls_of xs) b (calls_of ys)
+runs_alike nothing one_cut old a b xs ys partial bound h k step =
+    let Like : Account → Account → Type 0 = λ (x y : Account). x ≡ y in
+    same_alike a b (calls_of xs) (calls_of ys)
+    (rounds_alike MayCall Like exactly nothing one_cut [] [] old [] [] old xs ys a b (are_first Like old partial bound refl) h k step).same

@@ -1,0 +1,200 @@
+-- What is seen of two ends that are the same except for lines of connections that are gone; and if a break is found.
+use Rattle.std.proofs.Common.{◌≡◌, ℕ, Bool, true, false, not, List, [], ◌∷◌, ◌++◌, length, Option, Some, None, is_some, IsSome, refl, sym, ap, subst, ◌∙◌, arith, if◌then◌else◌}
+use Rattle.osi_session.specs.declared.faults.CallError.TheVariants.{BadState}
+use Rattle.osi_stack.specs.Runs.{Call, told_of}
+use Rattle.osi_stack.proofs.Vocabulary.{flat_map-append, sum_by-cons, flat_map, Held, kept_in, Rows, value_at, Connection, Broken, none_of, Call as SessionCall, Listener, Shown, NoSuchConnection, has_given, awaits_transport, disconnect_error, connect_error, call_error, session_refusal, phase_of, phase_at, breaks, ends, shown_at_loss, all_lost, kept_at, shown_of, all_waiting, quieted, hushed, put_back, live_lines, pruned, Account, account_of, CallsAlong, told_in, carried_in, AreAlikeInLive, LookAlike, IsSettled, Line, End, Holding, session_in, session_at, joined_of, joined_live, joined_in}
+use Rattle.osi_stack.proofs.in_step.the_account_packet_by_packet.{after_more, account_joined}
+use Rattle.osi_stack.proofs.in_step.what_is_seen_is_the_same.{quieted_at, call_apart, call_hushed, look_alike}
+use Rattle.osi_stack.proofs.in_step.a_break_while_indications_are_pending.{lost_told}
+use Rattle.osi_stack.proofs.stream.how_calls_end_an_end.{stays_along}
+use Rattle.osi_stack.proofs.in_step.lines_that_are_gone_do_not_matter.{IsFit, gone_shows}
+use Rattle.osi_stack.proofs.in_step.what_is_joined_is_the_same.{joined_quiet, kept_same}
+use Rattle.osi_stack.proofs.in_step.the_other_lines_may_be_dropped.{only_at, only_row}
+
+-- ---- what is seen of one
+
+-- only the lines of live connections are looked at
+session_by : (r : ℕ) (live : Rows Connection) (lines : Rows Line) (b : Bool) → is_some (value_at r live) ≡ b →
+    (if b then session_in (value_at r (live_lines live lines)) else None) ≡ (if b then session_in (value_at r lines) else None)
+session_by r live lines false e = refl
+session_by r live lines true e = ap session_in (only_at (λ q. is_some (value_at q live)) r lines e)
+
+session_pruned : (r : ℕ) (e : End) → session_at r (pruned e) ≡ session_at r e
+session_pruned r e = session_by r e.carrier.live e.lines (is_some (value_at r e.carrier.live)) refl
+
+-- with all indications given, and what was sent put back
+session_view : (r : ℕ) (o : List ℕ) (e : End) → session_at r (put_back o (hushed (pruned e))) ≡ session_at r e
+session_view r o e =
+    ap (λ (s : Option Listener). if is_some (value_at r e.carrier.live) then s else None) (quieted_at r (live_lines e.carrier.live e.lines)) ∙ session_pruned r e
+
+phase_view : (r : ℕ) (o : List ℕ) (e : End) → phase_at r (put_back o (hushed (pruned e))) ≡ phase_at r e
+phase_view r o e = ap (λ (s : Option Listener). if has_given r e.carrier then Some (phase_of s) else None) (session_view r o e)
+
+call_view : (r : ℕ) (call : SessionCall) (o : List ℕ) (e : End) → call_error r call (put_back o (hushed (pruned e))) ≡ call_error r call e
+call_view r call o e =
+    call_apart o r call (hushed (pruned e)) ∙ call_hushed r call (pruned e)
+    ∙ ap (λ (s : Option Listener). if not (has_given r e.carrier) then Some NoSuchConnection else session_refusal r s call e.carrier) (session_pruned r e)
+
+disconnect_view : (r : ℕ) (o : List ℕ) (e : End) → disconnect_error r (put_back o (hushed (pruned e))) ≡ disconnect_error r e
+disconnect_view r o e =
+    ap (λ (s : Option Listener). if not (has_given r e.carrier) then Some NoSuchConnection else (if awaits_transport s then Some BadState else None)) (session_view r o e)
+
+gone_joined : (live : Rows Connection) (row : ℕ × Line) → is_some (value_at row.0 live) ≡ false → joined_live live row ≡ 0
+gone_joined live row e = ap (λ (b : Bool). if◌then◌else◌ {A = ℕ} b (joined_of row.1.session) 0) e
+
+joined_by : (live : Rows Connection) (q : ℕ) (y : Line) (lines : Rows Line) (b : Bool) → is_some (value_at q live) ≡ b → joined_in live (live_lines live lines) ≡ joined_in live lines →
+    joined_in live (live_lines live ((q, y) ∷ lines)) ≡ joined_in live ((q, y) ∷ lines)
+joined_by live q y lines true e more =
+    let one = sum_by-cons (λ row. joined_live live row) (q, y) (live_lines live lines) in
+    let two = sum_by-cons (λ row. joined_live live row) (q, y) lines in
+    let three = ap (joined_in live) (only_row (λ r. is_some (value_at r live)) q y lines true e) in
+    omega arith
+joined_by live q y lines false e more =
+    let none = gone_joined live (q, y) e in
+    let two = sum_by-cons (λ row. joined_live live row) (q, y) lines in
+    let three = ap (joined_in live) (only_row (λ r. is_some (value_at r live)) q y lines false e) in
+    omega arith
+
+joined_pruned : (live : Rows Connection) (lines : Rows Line) → joined_in live (live_lines live lines) ≡ joined_in live lines
+joined_pruned live [] = refl
+joined_pruned live ((q, y) ∷ lines) = joined_by live q y lines (is_some (value_at q live)) refl (joined_pruned live lines)
+
+joined_view : (e : End) → joined_in e.carrier.live e.lines ≡ joined_in e.carrier.live (quieted (live_lines e.carrier.live e.lines))
+joined_view e = sym (joined_quiet e.carrier.live (live_lines e.carrier.live e.lines) ∙ joined_pruned e.carrier.live e.lines)
+
+-- ---- two ends
+
+-- with the same indications for each reference
+looks : (a b : Holding) (xs ys : List Call) → a.held.octets ≡ b.held.octets → put_back (flat_map carried_in xs) (hushed (pruned a.end)) ≡ put_back (flat_map carried_in ys) (hushed (pruned b.end)) →
+    ((r : ℕ) → told_of r (flat_map told_in xs ++ all_waiting a.end.lines) ≡ told_of r (flat_map told_in ys ++ all_waiting b.end.lines)) → LookAlike a xs b ys
+looks a b xs ys octets same told =
+    let o = flat_map carried_in xs in
+    let p = flat_map carried_in ys in
+    record {
+      phases = λ r. sym (phase_view r o a.end) ∙ ap (phase_at r) same ∙ phase_view r p b.end;
+      sessions = λ r. sym (session_view r o a.end) ∙ ap (session_at r) same ∙ session_view r p b.end;
+      indications = told;
+      octets = ap (λ (e : End). e.carrier.outgoing) same;
+      ended = ap (λ (e : End). e.carrier.ended) same;
+      kept = kept_same a b (put_back o (hushed (pruned a.end))) (put_back p (hushed (pruned b.end))) (ap length octets) refl (joined_view a.end) refl (joined_view b.end)
+          (ap (λ (e : End). kept_in e.carrier.live) same) (ap (λ (e : End). joined_in e.carrier.live e.lines) same);
+      requests = λ c. ap (connect_error c) same;
+      answers = λ r call. sym (call_view r call o a.end) ∙ ap (call_error r call) same ∙ call_view r call p b.end;
+      disconnects = λ r. sym (disconnect_view r o a.end) ∙ ap (disconnect_error r) same ∙ disconnect_view r p b.end;
+    }
+
+pub looks_in_live : (a b : Holding) (xs ys : List Call) → AreAlikeInLive a xs b ys → LookAlike a xs b ys
+looks_in_live a b xs ys h = looks a b xs ys h.octets h.end (λ r. ap (told_of r) h.told)
+
+-- ---- a break
+
+none_live : (lines : Rows Line) → live_lines [] lines ≡ []
+none_live [] = refl
+none_live ((q, y) ∷ lines) = none_live lines
+
+-- no line is left
+ended_view : (o : List ℕ) (e : End) → put_back o (hushed (pruned (ends Broken e))) ≡ record (put_back o (ends Broken e)) { lines = [] }
+ended_view o e = ap (λ (l : Rows Line). record (put_back o (ends Broken e)) { lines = quieted l }) (none_live (all_lost e.lines))
+
+ended_same : (o p : List ℕ) (a b : End) → put_back o (hushed (pruned a)) ≡ put_back p (hushed (pruned b)) → put_back o (hushed (pruned (ends Broken a))) ≡ put_back p (hushed (pruned (ends Broken b)))
+ended_same o p a b same = ended_view o a ∙ ap (λ (e : End). record (ends Broken e) { lines = [] }) same ∙ sym (ended_view p b)
+
+-- the indications of a session that is lost, if it has none
+lost_none : (e : End) (r : ℕ) (o : Option Listener) → e.carrier.ended ≡ None → IsFit e → kept_at r e.lines ≡ o → value_at r e.carrier.live ≡ None → shown_at_loss o ≡ []
+lost_none e r None lasts f is none = refl
+lost_none e r (Some s) lasts f is none = gone_shows e r s lasts f is none
+
+-- that of a live connection
+kept_view : (r : ℕ) (o : List ℕ) (e : End) → is_some (value_at r e.carrier.live) ≡ true → kept_at r (put_back o (hushed (pruned e))).lines ≡ kept_at r e.lines
+kept_view r o e here = quieted_at r (live_lines e.carrier.live e.lines) ∙ ap session_in (only_at (λ q. is_some (value_at q e.carrier.live)) r e.lines here)
+
+lost_by : (r : ℕ) (o p : List ℕ) (a b : End) (here : Bool) → is_some (value_at r a.carrier.live) ≡ here → put_back o (hushed (pruned a)) ≡ put_back p (hushed (pruned b)) →
+    a.carrier.ended ≡ None → b.carrier.ended ≡ None → IsFit a → IsFit b → shown_at_loss (kept_at r a.lines) ≡ shown_at_loss (kept_at r b.lines)
+lost_by r o p a b true e same lasts still f g =
+    let there : is_some (value_at r b.carrier.live) ≡ true = ap (λ (x : End). is_some (value_at r x.carrier.live)) (sym same) ∙ e in
+    ap shown_at_loss (sym (kept_view r o a e) ∙ ap (λ (x : End). kept_at r x.lines) same ∙ kept_view r p b there)
+lost_by r o p a b false e same lasts still f g =
+    let there : is_some (value_at r b.carrier.live) ≡ false = ap (λ (x : End). is_some (value_at r x.carrier.live)) (sym same) ∙ e in
+    lost_none a r (kept_at r a.lines) lasts f refl (none_of (value_at r a.carrier.live) e)
+    ∙ sym (lost_none b r (kept_at r b.lines) still g refl (none_of (value_at r b.carrier.live) there))
+
+pub settled_fit : (e : End) → IsSettled e → IsFit e
+settled_fit e s = record { attended = s.attended; sound = s.sound; asks = s.asks }
+
+broken_told : (a b : Holding) (xs ys : List Call) (r : ℕ) → a.end.carrier.ended ≡ None → b.end.carrier.ended ≡ None → IsFit a.end → IsFit b.end → AreAlikeInLive a xs b ys →
+    told_of r (flat_map told_in xs ++ all_waiting (all_lost a.end.lines)) ≡ told_of r (flat_map told_in ys ++ all_waiting (all_lost b.end.lines))
+broken_told a b xs ys r lasts still f g h =
+    lost_told r (flat_map told_in xs) a.end.lines (f.sound lasts).apart
+    ∙ ap (λ (l : List (ℕ × Shown)). l ++ shown_of r (shown_at_loss (kept_at r a.end.lines))) (ap (told_of r) h.told)
+    ∙ ap (λ (w : List Shown). told_of r (flat_map told_in ys ++ all_waiting b.end.lines) ++ shown_of r w)
+    (lost_by r (flat_map carried_in xs) (flat_map carried_in ys) a.end b.end (is_some (value_at r a.end.carrier.live)) refl h.end lasts still f g)
+    ∙ sym (lost_told r (flat_map told_in ys) b.end.lines (g.sound still).apart)
+
+abbrev broken_by : Bool → Holding → Holding
+broken_by over h = record h { end = if over then h.end else ends Broken h.end }
+
+breaks_by : (over : Bool) (a b : Holding) (xs ys : List Call) → is_some a.end.carrier.ended ≡ over → IsFit a.end → IsFit b.end → AreAlikeInLive a xs b ys →
+    LookAlike (broken_by over a) xs (broken_by over b) ys
+breaks_by true a b xs ys over f g h = looks_in_live a b xs ys h
+breaks_by false a b xs ys over f g h =
+    let same = ap (λ (e : End). is_some e.carrier.ended) h.end in
+    looks (broken_by false a) (broken_by false b) xs ys h.octets (ended_same (flat_map carried_in xs) (flat_map carried_in ys) a.end b.end h.end)
+    (λ r. broken_told a b xs ys r (none_of a.end.carrier.ended over) (none_of b.end.carrier.ended (sym same ∙ over)) f g h)
+
+-- found whatever is pending
+pub looks_broken : (a b : Holding) (xs ys : List Call) → IsSettled a.end → IsSettled b.end → AreAlikeInLive a xs b ys →
+    LookAlike (record a { end = breaks a.end }) xs (record b { end = breaks b.end }) ys
+looks_broken a b xs ys s t h =
+    let same = ap (λ (e : End). is_some e.carrier.ended) h.end in
+    subst (λ (over : Bool). LookAlike (record a { end = breaks a.end }) xs (broken_by over b) ys) same
+    (breaks_by (is_some a.end.carrier.ended) a b xs ys refl (settled_fit a.end s) (settled_fit b.end t) h)
+
+-- ---- after an end
+
+look_turned : (a b : Holding) (xs ys : List Call) → LookAlike a xs b ys → LookAlike b ys a xs
+look_turned a b xs ys h = record {
+  phases = λ r. sym (h.phases r);
+  sessions = λ r. sym (h.sessions r);
+  indications = λ r. sym (h.indications r);
+  octets = sym h.octets;
+  ended = sym h.ended;
+  kept = sym h.kept;
+  requests = λ c. sym (h.requests c);
+  answers = λ r call. sym (h.answers r call);
+  disconnects = λ r. sym (h.disconnects r);
+}
+
+look_through : (a b c : Holding) (xs ys zs : List Call) → LookAlike a xs b ys → LookAlike b ys c zs → LookAlike a xs c zs
+look_through a b c xs ys zs h k = record {
+  phases = λ r. h.phases r ∙ k.phases r;
+  sessions = λ r. h.sessions r ∙ k.sessions r;
+  indications = λ r. h.indications r ∙ k.indications r;
+  octets = h.octets ∙ k.octets;
+  ended = h.ended ∙ k.ended;
+  kept = h.kept ∙ k.kept;
+  requests = λ d. h.requests d ∙ k.requests d;
+  answers = λ r call. h.answers r call ∙ k.answers r call;
+  disconnects = λ r. h.disconnects r ∙ k.disconnects r;
+}
+
+-- one that has ended looks the same, whatever it is fed, and whatever is reported and carried of it
+look_over : (a c : Holding) (xs zs : List Call) → is_some a.end.carrier.ended ≡ true → CallsAlong a zs c → LookAlike a xs c (xs ++ zs)
+look_over a c xs zs over h =
+    let t = flat_map told_in xs in
+    let o = flat_map carried_in xs in
+    let m = stays_along a zs c over h in
+    let same : account_of (flat_map told_in (xs ++ zs)) (flat_map carried_in (xs ++ zs)) c.end ≡ account_of t o a.end =
+    ap (λ (l : List (ℕ × Shown)). account_of l (flat_map carried_in (xs ++ zs)) c.end) (flat_map-append told_in xs zs)
+    ∙ ap (λ (l : List ℕ). account_of (t ++ flat_map told_in zs) l c.end) (flat_map-append carried_in xs zs)
+    ∙ account_joined t (flat_map told_in zs) o (flat_map carried_in zs) c.end ∙ ap (after_more t o) m.account in
+    look_alike a c xs (xs ++ zs) (record {
+      octets = ap (λ (x : Held). x.octets) (sym m.held);
+      end = ap (λ (x : Account). x.end) (sym same);
+      told = ap (λ (x : Account). x.told) (sym same);
+    })
+
+pub looks_behind : (a b c d : Holding) (xs ys zs ws : List Call) → IsSome a.end.carrier.ended → LookAlike a xs b ys → CallsAlong a zs c → CallsAlong b ws d →
+    LookAlike c (xs ++ zs) d (ys ++ ws)
+looks_behind a b c d xs ys zs ws over look h k =
+    look_through c a d (xs ++ zs) xs (ys ++ ws) (look_turned a c xs (xs ++ zs) (look_over a c xs zs over h))
+    (look_through a b d xs ys (ys ++ ws) look (look_over b d ys ws (sym (ap is_some look.ended) ∙ over) k))

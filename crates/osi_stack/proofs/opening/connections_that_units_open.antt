@@ -1,0 +1,443 @@
+-- The connections that units open: those that were requested, and new ones at a called end. A connection stays requested
+-- until its user is told that it is accepted or refused.
+use Rattle.std.proofs.Common.{◌≡◌, ◌≢◌, ℕ, ◌+◌, ◌<◌, ◌≤◌, ◌==◌, Bool, true, false, List, [], ◌∷◌, ◌++◌, take, Option, Some, None, Result, Ok, Err, is_some, IsSome, refl, sym, ap, subst, ◌∙◌, inl, inr, ◌⊎◌, arith, append_assoc, if◌then◌else◌}
+use Rattle.osi_tpdu.specs.Value.{Connect}
+use Rattle.osi_class.specs.Link.{taken}
+use Rattle.osi_class.specs.Negotiation.{Selection, accept, refuse, selected_by}
+use Rattle.osi_class.specs.declared.faults.LinkFault.{LinkFault}
+use Rattle.osi_carrier.specs.Negotiation.{confirmed}
+use Rattle.osi_carrier.specs.React.{answers, opens, breaks, react}
+use Rattle.osi_stack.proofs.Vocabulary.{eqb-true, eq-eqb, or_left, append-nil, AllByRecursion, Value, request, confirm, disconnect, disconnected, data0, data2, acknowledge, error, Standing, Class, Zero, Two, Happening, tsdu, closed, faulted, RiseFrom, told_of, IsOrderly, denies, is_full, has_peer, answers_request, to_unknown, to_asked, tells_of, taking, leaves, to_linked, to_closing, to_connection, to_reference, before_class, to_only, in_zero, in_two, in_class, react_by, reacts, Rows, value_at, put, without, Connection, asked, linked, closing, State, drops, EndReason, put_here, without_here, beyond, put_other, without_other, put_none, push_other, stays_gone, orderly_unit, react_over, told_opened as opened, told_refused as refused, carrier_ends as ends}
+use Rattle.osi_stack.proofs.opening.which_requests_are_answered.{answered, answered_front, answered_behind}
+use Rattle.osi_stack.proofs.sound.the_invariant_is_kept.{units_rise, up_at}
+use Rattle.osi_stack.proofs.carried.packets_without_events.{both}
+
+-- ---- connections that await a CC
+
+-- each that awaits one now did before
+abbrev pub AwaitedBefore : Rows Connection → Rows Connection → Type 0
+AwaitedBefore old new = (q : ℕ) → value_at q new ≡ Some asked → value_at q old ≡ Some asked
+
+put_at : (q r : ℕ) (c : Connection) (rows : Rows Connection) (b : Bool) (o : Option Connection) → (q == r) ≡ b → value_at q rows ≡ o → (c ≡ asked → ⊥) →
+    value_at q (put r c rows) ≡ Some asked → value_at q rows ≡ Some asked
+put_at q r c rows false o e is other h =
+    let ne : q ≢ r = (λ same. let yes : (q == r) ≡ true = eq-eqb q r same in let no : true ≡ false = sym yes ∙ e in cc) in
+    sym (put_other q r c rows ne) ∙ h
+put_at q r c rows true None e is other h = let no : None ≡ Some asked = sym (put_none q r c rows is) ∙ h in cc
+put_at q r c rows true (Some x) e is other h =
+    let two : Some c ≡ Some asked = sym (put_here q c x rows is) ∙ (ap (λ n. value_at q (put n c rows)) (eqb-true q r e) ∙ h) in
+    let one : c ≡ asked = cc in
+    absurd (other one)
+
+pub awaited_put : (r : ℕ) (c : Connection) (rows : Rows Connection) → (c ≡ asked → ⊥) → AwaitedBefore rows (put r c rows)
+awaited_put r c rows other = λ q h. put_at q r c rows (q == r) (value_at q rows) refl refl other h
+
+without_at : (q r : ℕ) (rows : Rows Connection) (b : Bool) → (q == r) ≡ b → RiseFrom 0 rows → value_at q (without r rows) ≡ Some asked → value_at q rows ≡ Some asked
+without_at q r rows b e rise h = grind (arith, eq-eqb, without_other, asked, without_here, value_at, without, eqb-true)
+
+awaited_without : (r : ℕ) (rows : Rows Connection) → RiseFrom 0 rows → AwaitedBefore rows (without r rows)
+awaited_without r rows rise = λ q h. without_at q r rows (q == r) refl rise h
+
+push_at : (q p n : ℕ) (c y : Connection) (rows : Rows Connection) (b : Bool) → (p == q) ≡ b → (value_at q (rows ++ (n, c) ∷ []) ≡ Some asked → value_at q rows ≡ Some asked) →
+    value_at q ((p, y) ∷ (rows ++ (n, c) ∷ [])) ≡ Some asked → value_at q ((p, y) ∷ rows) ≡ Some asked
+push_at q p n c y rows true e more h = rw e (rw e at h)
+push_at q p n c y rows false e more h = rw e (more (rw e at h))
+
+last_at : (q n : ℕ) (c : Connection) (b : Bool) → (n == q) ≡ b → (c ≡ asked → ⊥) → value_at q ((n, c) ∷ []) ≡ Some asked → value_at q [] ≡ Some asked
+last_at q n c true e other h = let two : Some c ≡ Some asked = rw e at h in let one : c ≡ asked = cc in absurd (other one)
+last_at q n c false e other h = rw e at h
+
+awaited_push : (n : ℕ) (c : Connection) (rows : Rows Connection) → (c ≡ asked → ⊥) → AwaitedBefore rows (rows ++ (n, c) ∷ [])
+awaited_push n c [] other = λ q h. last_at q n c (n == q) refl other h
+awaited_push n c ((p, y) ∷ rows) other = λ q h. push_at q p n c y rows (p == q) refl (awaited_push n c rows other q) h
+
+pub linked_not_asked : (peer : ℕ) (link : Standing) → linked peer link ≡ asked → ⊥
+linked_not_asked peer link e = cc
+
+pub closing_not_asked : (peer : ℕ) → closing peer ≡ asked → ⊥
+closing_not_asked peer e = cc
+
+-- ---- what is opened
+
+abbrev pub opened_in : List Happening → List ℕ
+opened_in [] = []
+opened_in (opened r ∷ events) = r ∷ opened_in events
+opened_in (event ∷ events) = opened_in events
+
+pub opened_join : (a b : List Happening) → opened_in (a ++ b) ≡ opened_in a ++ opened_in b
+opened_join [] b = refl
+opened_join (opened r ∷ a) b = ap (λ l. r ∷ l) (opened_join a b)
+opened_join (event ∷ a) b = opened_join a b
+
+-- one that was requested
+record Agreed (old new : State) (told : List Happening) : Type 0 where
+  reference : ℕ
+  event : told ≡ opened reference ∷ []
+  is : opened_in told ≡ reference ∷ []
+  here : value_at reference old.live ≡ Some asked
+  given : new.given ≡ old.given
+
+-- a new one
+record Accepted (old new : State) (told : List Happening) : Type 0 where
+  event : told ≡ opened (old.given + 1) ∷ []
+  is : opened_in told ≡ (old.given + 1) ∷ []
+  given : new.given ≡ old.given + 1
+  called : old.is_caller ≡ false
+
+-- none; what is reported is of a connection that is there
+record Unopened (old new : State) (told : List Happening) : Type 0 where
+  is : opened_in told ≡ []
+  about : AllByRecursion (λ event. IsSome (value_at (told_of event) old.live)) told
+  given : new.given ≡ old.given
+
+-- one that was requested is so still, or that is answered, while the carrier lasts
+abbrev pub StaysAsked : State → State → List Happening → Type 0
+StaysAsked old new told = (q : ℕ) → value_at q old.live ≡ Some asked → new.ended ≡ None → (value_at q new.live ≡ Some asked) ⊎ (answered q told ≡ true)
+
+record Opens (old new : State) : Type 0 where
+  told : List Happening
+  events : new.events ≡ old.events ++ told
+  how : Unopened old new told ⊎ (Agreed old new told ⊎ Accepted old new told)
+  side : new.is_caller ≡ old.is_caller
+  awaited : AwaitedBefore old.live new.live
+  stays : StaysAsked old new told
+
+silent : (old new : State) → new.events ≡ old.events → new.given ≡ old.given → new.is_caller ≡ old.is_caller → AwaitedBefore old.live new.live → StaysAsked old new [] → Opens old new
+silent old new same given side awaited stays = grind (arith, append-nil)
+
+telling : (old new : State) (event : Happening) → opened_in (event ∷ []) ≡ [] → IsSome (value_at (told_of event) old.live) → new.events ≡ old.events ++ event ∷ [] → new.given ≡ old.given → new.is_caller ≡ old.is_caller →
+    AwaitedBefore old.live new.live → StaysAsked old new (event ∷ []) → Opens old new
+telling old new event none here same given side awaited stays = grind arith
+
+opens_none : (s : State) → Opens s s
+opens_none s = silent s s refl refl refl (λ q h. h) (λ q h over. inl h)
+
+opens_end : (reason : EndReason) (s : State) → Opens s (ends reason s)
+opens_end reason s = silent s (ends reason s) refl refl refl (λ q h. cc) (λ q h over. cc)
+
+opens_denies : (reason peer : ℕ) (s : State) → Opens s (denies reason peer s)
+opens_denies reason peer s = silent s (denies reason peer s) refl refl refl (λ q h. h) (λ q h over. inl h)
+
+-- ---- a CR
+
+-- a CR is for no connection that is there
+stays_pushed : (c : Connection) (s : State) → IsOrderly s → (q : ℕ) → value_at q s.live ≡ Some asked → value_at q (s.live ++ (s.given + 1, c) ∷ []) ≡ Some asked
+stays_pushed c s o q h = grind (arith, asked, beyond, value_at, push_other)
+
+opens_accepts : (class : Class) (size : Option ℕ) (c : Connect) (s : State) → IsOrderly s → s.is_caller ≡ false → Opens s (answers c (accept class size) None s)
+opens_accepts class size c s o called = grind (arith, opened, awaited_push, linked_not_asked, stays_pushed)
+
+opens_answers : (c : Connect) (selection : Selection) (held : Option Class) (s : State) → IsOrderly s → s.is_caller ≡ false → Opens s (answers c selection held s)
+opens_answers c (refuse reason) held s o called = opens_denies reason c.source s
+opens_answers c (accept Two size) held s o called = opens_accepts Two size c s o called
+opens_answers c (accept Zero size) None s o called = opens_accepts Zero size c s o called
+opens_answers c (accept Zero size) (Some class) s o called = opens_denies 136 c.source s
+
+answers_by : (c : Connect) (s : State) (in_use full : Bool) → IsOrderly s → s.is_caller ≡ false →
+    Opens s (if in_use then denies 131 c.source s else (if full then denies 1 c.source s else answers c (selected_by c s.local) s.class s))
+answers_by c s true full o called = opens_denies 131 c.source s
+answers_by c s false true o called = opens_denies 1 c.source s
+answers_by c s false false o called = opens_answers c (selected_by c s.local) s.class s o called
+
+opens_request : (c : Connect) (s : State) → IsOrderly s → s.is_caller ≡ false → Opens s (answers_request c s)
+opens_request c s o called = answers_by c s (has_peer c.source s.live) (is_full s) o called
+
+-- ---- a unit for a connection
+
+opens_unknown : (unit : Value) (s : State) → Opens s (to_unknown unit s)
+opens_unknown (disconnect destination source reason user) s = silent s (to_unknown (disconnect destination source reason user) s) refl refl refl (λ q h. h) (λ q h over. inl h)
+opens_unknown (disconnected destination source) s = opens_none s
+opens_unknown unit s = opens_end _ s
+
+-- the answer for one, by whether it is this one
+stays_by : (q r : ℕ) (event : Happening) (new : Rows Connection) (b : Bool) → (r == q) ≡ b → ((r == q) ≡ true → answered q (event ∷ []) ≡ true) → (q ≢ r → value_at q new ≡ Some asked) →
+    (value_at q new ≡ Some asked) ⊎ (answered q (event ∷ []) ≡ true)
+stays_by q r event new true e here other = inr (here e)
+stays_by q r event new false e here other = inl (other (λ same. both (r == q) (eq-eqb r q (sym same)) e))
+
+opens_confirm : (r : ℕ) (c : Connect) (class : Option Class) (s : State) → value_at r s.live ≡ Some asked → Opens s (opens r c class s)
+opens_confirm r c class s here = grind (arith, opens_end, opened, awaited_put, linked_not_asked, stays_by, or_left, put_other)
+
+opens_asked : (r : ℕ) (unit : Value) (s : State) → IsOrderly s → value_at r s.live ≡ Some asked → Opens s (to_asked r unit s)
+opens_asked r (confirm destination c) s o here = opens_confirm r c (confirmed c s.local s.class) s here
+opens_asked r (disconnect destination source reason user) s o here =
+    telling s (to_asked r (disconnect destination source reason user) s) (refused r reason) refl (ap is_some here) refl refl refl (awaited_without r s.live o.rise)
+    (λ q h over. stays_by q r (refused r reason) _ (r == q) refl (or_left (r == q) false) (λ ne. without_other q r s.live ne ∙ h))
+opens_asked r (error destination cause) s o here =
+    telling s (to_asked r (error destination cause) s) (refused r 0) refl (ap is_some here) refl refl refl (awaited_without r s.live o.rise)
+    (λ q h over. stays_by q r (refused r 0) _ (r == q) refl (or_left (r == q) false) (λ ne. without_other q r s.live ne ∙ h))
+opens_asked r unit s o here = opens_unknown unit s
+
+-- a connection that is there, and was not asked for
+record IsThere (r : ℕ) (s : State) : Type 0 where
+  here : IsSome (value_at r s.live)
+  apart : (q : ℕ) → value_at q s.live ≡ Some asked → q ≢ r
+
+there : (r : ℕ) (c : Connection) (s : State) → value_at r s.live ≡ Some c → (c ≡ asked → ⊥) → IsThere r s
+there r c s here other = grind arith
+
+opens_settles : (r : ℕ) (whole : List (List ℕ)) (c : Connection) (s t : State) → IsThere r s → (c ≡ asked → ⊥) → t.given ≡ s.given → t.is_caller ≡ s.is_caller → t.live ≡ put r c s.live →
+    t.events ≡ s.events → Opens s (tells_of r (take 1 whole) t)
+opens_settles r [] c s t here other given side live events =
+    silent s (tells_of r [] t) (append-nil t.events ∙ events) given side (subst (AwaitedBefore s.live) (sym live) (awaited_put r c s.live other))
+    (λ q h over. inl (ap (value_at q) live ∙ put_other q r c s.live (here.apart q h) ∙ h))
+opens_settles r (first ∷ more) c s t here other given side live events =
+    telling s (tells_of r (first ∷ []) t) (tsdu r first) refl here.here (ap (λ l. l ++ tsdu r first ∷ []) events) given side (subst (AwaitedBefore s.live) (sym live) (awaited_put r c s.live other))
+    (λ q h over. inl (ap (value_at q) live ∙ put_other q r c s.live (here.apart q h) ∙ h))
+
+opens_breaks : (r peer : ℕ) (fault : LinkFault) (held : Option Class) (s : State) → IsThere r s → Opens s (breaks r peer fault held s)
+opens_breaks r peer fault held s here = search (arith, telling, faulted, awaited_put, closing, closing_not_asked, put_other, opens_end)
+
+opens_taking : (r peer : ℕ) (result : Result Standing LinkFault) (s : State) → IsThere r s → Opens s (taking r peer result s)
+opens_taking r peer (Ok link) s here = opens_settles r link.ends.joining.whole _ s _ here (linked_not_asked _ _) refl refl refl refl
+opens_taking r peer (Err fault) s here = opens_breaks r peer fault s.class s here
+
+opens_leaves : (r peer reason : ℕ) (held : Option Class) (s : State) → IsOrderly s → IsThere r s → Opens s (leaves r peer reason held s)
+opens_leaves r peer reason held s o here = grind (arith, telling, leaves, closed, awaited_without, without_other)
+
+opens_linked : (r peer : ℕ) (link : Standing) (unit : Value) (s : State) → IsOrderly s → IsThere r s → Opens s (to_linked r peer link unit s)
+opens_linked r peer link (disconnect destination source reason user) s o here = opens_leaves r peer reason s.class s o here
+opens_linked r peer link unit s o here = opens_taking r peer (taken link unit) s here
+
+opens_dropped : (r : ℕ) (s : State) → IsOrderly s → IsThere r s → Opens s (drops r s)
+opens_dropped r s o here = silent s (drops r s) refl refl refl (awaited_without r s.live o.rise) (λ q h over. inl (without_other q r s.live (here.apart q h) ∙ h))
+
+opens_closing : (r : ℕ) (unit : Value) (s : State) → IsOrderly s → IsThere r s → Opens s (to_closing r unit s)
+opens_closing r (disconnected destination source) s o here = opens_dropped r s o here
+opens_closing r (disconnect destination source reason user) s o here = opens_dropped r s o here
+opens_closing r unit s o here = opens_none s
+
+opens_connection : (r : ℕ) (o : Option Connection) (unit : Value) (s : State) → IsOrderly s → value_at r s.live ≡ o → Opens s (to_connection r o unit s)
+opens_connection r None unit s o here = opens_unknown unit s
+opens_connection r (Some asked) unit s o here = opens_asked r unit s o here
+opens_connection r (Some (linked peer link)) unit s o here = opens_linked r peer link unit s o (there r (linked peer link) s here (linked_not_asked peer link))
+opens_connection r (Some (closing peer)) unit s o here = opens_closing r unit s o (there r (closing peer) s here (closing_not_asked peer))
+
+opens_reference : (r : ℕ) (unit : Value) (s : State) → IsOrderly s → Opens s (to_reference r unit s)
+opens_reference r unit s o = opens_connection r (value_at r s.live) unit s o refl
+
+-- ---- by class
+
+opens_before : (b : Bool) (unit : Value) (s : State) → IsOrderly s → s.is_caller ≡ b → Opens s (before_class b unit s)
+opens_before b unit s o e = search (arith, confirm, opens_reference, disconnect, error, request, opens_request, opens_end)
+
+pub first_here : (r : ℕ) (x : Connection) (rows : Rows Connection) → value_at r ((r, x) ∷ rows) ≡ Some x
+first_here r x rows = let e = eq-eqb r r refl in rw e refl
+
+only_by : (live : Rows Connection) (unit : Value) (s : State) → IsOrderly s → s.live ≡ live → Opens s (to_only live unit s)
+only_by [] unit s o is = opens_none s
+only_by ((r, connection) ∷ rows) unit s o is = opens_connection r (Some connection) unit s o (ap (value_at r) is ∙ first_here r connection rows)
+
+opens_zero : (b : Bool) (unit : Value) (s : State) → IsOrderly s → Opens s (in_zero b unit s)
+opens_zero true (request c) s o = opens_end _ s
+opens_zero b unit s o = only_by s.live unit s o refl
+
+opens_two : (b : Bool) (unit : Value) (s : State) → IsOrderly s → s.is_caller ≡ b → Opens s (in_two b unit s)
+opens_two true (request c) s o e = opens_end _ s
+opens_two false (request c) s o e = opens_request c s o e
+opens_two b (confirm destination c) s o e = opens_reference destination (confirm destination c) s o
+opens_two b (disconnect destination source reason user) s o e = opens_reference destination (disconnect destination source reason user) s o
+opens_two b (disconnected destination source) s o e = opens_reference destination (disconnected destination source) s o
+opens_two b (data0 end user) s o e = opens_end _ s
+opens_two b (data2 destination number end user) s o e = opens_reference destination (data2 destination number end user) s o
+opens_two b (acknowledge credit destination number) s o e = opens_reference destination (acknowledge credit destination number) s o
+opens_two b (error destination cause) s o e = opens_reference destination (error destination cause) s o
+
+opens_class : (held : Option Class) (unit : Value) (s : State) → IsOrderly s → Opens s (in_class held unit s)
+opens_class None unit s o = opens_before s.is_caller unit s o refl
+opens_class (Some Zero) unit s o = opens_zero s.is_caller unit s o
+opens_class (Some Two) unit s o = opens_two s.is_caller unit s o refl
+
+opens_by : (over : Bool) (unit : Value) (s : State) → IsOrderly s → Opens s (react_by over unit s)
+opens_by true unit s o = opens_none s
+opens_by false unit s o = opens_class s.class unit s o
+
+opens_unit : (unit : Value) (s : State) → IsOrderly s → Opens s (react unit s)
+unfolding react
+opens_unit unit s o = opens_by (is_some s.ended) unit s o
+
+-- ---- units one after the other
+
+-- each is above those before it; the first is above one number, and the last at most another
+abbrev pub Rises : ℕ → List ℕ → ℕ → Type 0
+Rises g [] h = g ≤ h
+Rises g (r ∷ more) h = (g < r) × Rises r more h
+
+rises_from : (f g : ℕ) (l : List ℕ) (h : ℕ) → f ≤ g → Rises g l h → Rises f l h
+rises_from f g [] h le rise = omega arith
+rises_from f g (r ∷ more) h le rise = ((let above = rise.0 in omega arith), rise.1)
+
+rises_join : (g : ℕ) (a : List ℕ) (h : ℕ) (b : List ℕ) (k : ℕ) → Rises g a h → Rises h b k → Rises g (a ++ b) k
+rises_join g [] h b k first second = rises_from g h b k first second
+rises_join g (r ∷ a) h b k first second = (first.0, rises_join r a h b k first.1 second)
+
+abbrev pub AreAwaited : Rows Connection → List ℕ → Type 0
+AreAwaited live [] = Unit {0}
+AreAwaited live (r ∷ more) = (value_at r live ≡ Some asked) × AreAwaited live more
+
+awaited_from : (old mid : Rows Connection) (l : List ℕ) → AwaitedBefore old mid → AreAwaited mid l → AreAwaited old l
+awaited_from old mid [] before all = tt
+awaited_from old mid (r ∷ more) before all = (before r all.0, awaited_from old mid more before all.1)
+
+awaited_join : (live : Rows Connection) (a b : List ℕ) → AreAwaited live a → AreAwaited live b → AreAwaited live (a ++ b)
+awaited_join live [] b first second = second
+awaited_join live (r ∷ a) b first second = (first.0, awaited_join live a b first.1 second)
+
+-- none awaits a CC
+abbrev pub NoneAwaited : Rows Connection → Type 0
+NoneAwaited live = (q : ℕ) → value_at q live ≡ Some asked → ⊥
+
+-- ---- which connections events are of
+
+all_join : {X : Type 0} (P : X → Type 0) (a b : List X) → AllByRecursion P a → AllByRecursion P b → AllByRecursion P (a ++ b)
+all_join P [] b all more = more
+all_join P (x ∷ a) b all more = (all.0, all_join P a b all.1 more)
+
+all_still : {X : Type 0} (P Q : X → Type 0) (l : List X) → ((x : X) → P x → Q x) → AllByRecursion P l → AllByRecursion Q l
+all_still P Q [] still all = tt
+all_still P Q (x ∷ l) still all = (still x all.0, all_still P Q l still all.1)
+
+-- one that is there, or one that is new
+abbrev pub IsOf : State → Happening → Type 0
+IsOf s event = IsSome (value_at (told_of event) s.live) ⊎ (s.given < told_of event)
+
+-- one that was given
+abbrev pub IsGiven : ℕ → Happening → Type 0
+IsGiven g event = told_of event ≤ g
+
+-- at a called end: each is new when it is opened, and was given before otherwise
+abbrev pub Comes : ℕ → List Happening → ℕ → Type 0
+Comes g [] h = h ≡ g
+Comes g (opened r ∷ more) h = (g < r) × Comes r more h
+Comes g (event ∷ more) h = (told_of event ≤ g) × Comes g more h
+
+comes_join : (g : ℕ) (a : List Happening) (h : ℕ) (b : List Happening) (k : ℕ) → Comes g a h → Comes h b k → Comes g (a ++ b) k
+comes_join g [] h b k first second = subst (λ n. Comes n b k) first second
+comes_join g (opened r ∷ a) h b k first second = (first.0, comes_join r a h b k first.1 second)
+comes_join g (event ∷ a) h b k first second = (first.0, comes_join g a h b k first.1 second)
+
+comes_quiet : (g : ℕ) (l : List Happening) (h : ℕ) → h ≡ g → opened_in l ≡ [] → AllByRecursion (IsGiven g) l → Comes g l h
+comes_quiet g [] h same none all = same
+comes_quiet g (opened r ∷ more) h same none all = cc
+comes_quiet g (event ∷ more) h same none all = (all.0, comes_quiet g more h same none all.1)
+
+-- what was reported opens what a caller asked for, and at a called end what is new
+pub record OpensAlong (old new : State) : Type 0 where
+  pub told : List Happening
+  pub events : new.events ≡ old.events ++ told
+  pub caller : old.is_caller ≡ true → AreAwaited old.live (opened_in told)
+  pub called : old.is_caller ≡ false → NoneAwaited old.live → Rises old.given (opened_in told) new.given
+  pub side : new.is_caller ≡ old.is_caller
+  pub awaited : AwaitedBefore old.live new.live
+  pub about : AllByRecursion (IsOf old) told
+  pub known : old.is_caller ≡ true → (new.given ≡ old.given) × AllByRecursion (IsGiven old.given) told
+  pub comes : old.is_caller ≡ false → NoneAwaited old.live → Comes old.given told new.given
+  pub rises : old.given ≤ new.given
+  pub gone : (q : ℕ) → q ≤ old.given → value_at q old.live ≡ None → value_at q new.live ≡ None
+  pub stays : StaysAsked old new told
+  pub lasts : new.ended ≡ None → old.ended ≡ None
+
+caller_by : (old new : State) (told : List Happening) → Unopened old new told ⊎ (Agreed old new told ⊎ Accepted old new told) → old.is_caller ≡ true → AreAwaited old.live (opened_in told)
+caller_by old new told h3 caller = grind arith
+
+called_by : (old new : State) (told : List Happening) → Unopened old new told ⊎ (Agreed old new told ⊎ Accepted old new told) → NoneAwaited old.live →
+    Rises old.given (opened_in told) new.given
+called_by old new told h3 none = grind arith
+
+about_by : (old new : State) (told : List Happening) → Unopened old new told ⊎ (Agreed old new told ⊎ Accepted old new told) → AllByRecursion (IsOf old) told
+about_by old new told (inl h) = all_still (λ event. IsSome (value_at (told_of event) old.live)) (IsOf old) told (λ event here. inl here) h.about
+about_by old new told (inr (inl h)) = subst (AllByRecursion (IsOf old)) (sym h.event) (inl (ap is_some h.here), tt)
+about_by old new told (inr (inr h)) = subst (AllByRecursion (IsOf old)) (sym h.event) (inr (omega arith), tt)
+
+given_here : (s : State) → IsOrderly s → (l : List Happening) → AllByRecursion (λ event. IsSome (value_at (told_of event) s.live)) l → AllByRecursion (IsGiven s.given) l
+given_here s o l all = all_still (λ event. IsSome (value_at (told_of event) s.live)) (IsGiven s.given) l (λ event here. up_at (told_of event) s.given s.live o.up_to here) all
+
+known_by : (old new : State) (told : List Happening) → IsOrderly old → Unopened old new told ⊎ (Agreed old new told ⊎ Accepted old new told) → old.is_caller ≡ true →
+    (new.given ≡ old.given) × AllByRecursion (IsGiven old.given) told
+known_by old new told o h4 caller = grind (arith, given_here, up_at, is_some, both)
+
+comes_by : (old new : State) (told : List Happening) → IsOrderly old → Unopened old new told ⊎ (Agreed old new told ⊎ Accepted old new told) → NoneAwaited old.live →
+    Comes old.given told new.given
+comes_by old new told o h4 none = grind (arith, comes_quiet, given_here)
+
+unit_lasts : (unit : Value) (s : State) (over : Option EndReason) → s.ended ≡ over → (react unit s).ended ≡ None → s.ended ≡ None
+unit_lasts unit s None is lasts = is
+unit_lasts unit s (Some reason) is lasts = ap (λ (t : State). t.ended) (sym (react_over unit s (ap is_some is))) ∙ lasts
+
+along_unit : (unit : Value) (s : State) → IsOrderly s → OpensAlong s (react unit s)
+along_unit unit s orderly =
+    let o = opens_unit unit s orderly in
+    record {
+      told = o.told;
+      events = o.events;
+      caller = λ caller. caller_by s (react unit s) o.told o.how caller;
+      called = λ called none. called_by s (react unit s) o.told o.how none;
+      side = o.side;
+      awaited = o.awaited;
+      about = about_by s (react unit s) o.told o.how;
+      known = λ caller. known_by s (react unit s) o.told orderly o.how caller;
+      comes = λ called none. comes_by s (react unit s) o.told orderly o.how none;
+      rises = units_rise (unit ∷ []) s;
+      gone = λ q up none. stays_gone unit s q up none;
+      stays = o.stays;
+      lasts = unit_lasts unit s s.ended refl;
+    }
+
+about_join : (old mid : State) (event : Happening) → old.given ≤ mid.given → ((q : ℕ) → q ≤ old.given → value_at q old.live ≡ None → value_at q mid.live ≡ None) → IsOf mid event → IsOf old event
+about_join old mid event rises gone h5 = grind arith
+
+gone_join : (old mid new : State) → OpensAlong old mid → OpensAlong mid new → (q : ℕ) → q ≤ old.given → value_at q old.live ≡ None → value_at q new.live ≡ None
+gone_join old mid new a b q up none = let more = a.rises in b.gone q (omega arith) (a.gone q up none)
+
+known_join : (old mid new : State) (a : OpensAlong old mid) (b : OpensAlong mid new) → old.is_caller ≡ true → (new.given ≡ old.given) × AllByRecursion (IsGiven old.given) (a.told ++ b.told)
+known_join old mid new a b caller = grind (arith, all_join)
+
+stays_join : (old mid new : State) (a : OpensAlong old mid) (b : OpensAlong mid new) → StaysAsked old new (a.told ++ b.told)
+stays_join old mid new a b q h over = grind (arith, answered_front, answered_behind)
+
+along_join : (old mid new : State) → OpensAlong old mid → OpensAlong mid new → OpensAlong old new
+along_join old mid new a b = record {
+  told = a.told ++ b.told;
+  events = b.events ∙ ap (λ l. l ++ b.told) a.events ∙ append_assoc old.events a.told b.told;
+  caller = λ caller. subst (AreAwaited old.live) (sym (opened_join a.told b.told))
+      (awaited_join old.live (opened_in a.told) (opened_in b.told) (a.caller caller) (awaited_from old.live mid.live (opened_in b.told) a.awaited (b.caller (a.side ∙ caller))));
+  called = λ called none. subst (λ (l : List ℕ). Rises old.given l new.given) (sym (opened_join a.told b.told))
+      (rises_join old.given (opened_in a.told) mid.given (opened_in b.told) new.given (a.called called none) (b.called (a.side ∙ called) (λ q h. none q (a.awaited q h))));
+  side = b.side ∙ a.side;
+  awaited = λ q h. a.awaited q (b.awaited q h);
+  about = all_join (IsOf old) a.told b.told a.about (all_still (IsOf mid) (IsOf old) b.told (λ event. about_join old mid event a.rises a.gone) b.about);
+  known = λ caller. known_join old mid new a b caller;
+  comes = λ called none. comes_join old.given a.told mid.given b.told new.given (a.comes called none) (b.comes (a.side ∙ called) (λ q h. none q (a.awaited q h)));
+  rises = let first = a.rises in let second = b.rises in omega arith;
+  gone = gone_join old mid new a b;
+  stays = stays_join old mid new a b;
+  lasts = λ over. a.lasts (b.lasts over);
+}
+
+along_none : (s : State) → OpensAlong s s
+along_none s = record {
+  told = [];
+  events = sym (append-nil s.events);
+  caller = λ caller. tt;
+  called = λ called none. omega arith;
+  side = refl;
+  awaited = λ q h. h;
+  about = tt;
+  known = λ caller. (refl, tt);
+  comes = λ called none. refl;
+  rises = omega arith;
+  gone = λ q up none. none;
+  stays = λ q h over. inl h;
+  lasts = λ over. over;
+}
+
+pub along_units : (units : List Value) (s : State) → IsOrderly s → OpensAlong s (reacts units s)
+along_units [] s orderly = along_none s
+along_units (unit ∷ units) s orderly =
+    along_join s (react unit s) (reacts units (react unit s)) (along_unit unit s orderly) (along_units units (react unit s) (orderly_unit unit s orderly))
+
+pub along_end : (old mid : State) (reason : EndReason) → OpensAlong old mid → OpensAlong old (ends reason mid)
+along_end old mid reason a = grind arith
+
+pub along_over : (s : State) (reason : EndReason) → OpensAlong s (ends reason s)
+along_over s reason = along_end s s reason (along_none s)

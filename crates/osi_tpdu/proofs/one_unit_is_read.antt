@@ -1,0 +1,475 @@
+-- One unit: reading is sound and complete.
+use Rattle.std.proofs.Common.{◌≡◌, ℕ, ◌+◌, ◌*◌, ◌/◌, ◌%◌, ◌<◌, ◌≤◌, Bool, true, false, cond, eqb, ltb, leb, ◌||◌, List, [], ◌∷◌, ◌++◌, length, get_or, take, drop, Result, Ok, Err, refl, sym, ap, subst, ◌∙◌, arith, inl, inr}
+use Rattle.osi_tpkt.specs.Unit.{IsAtFront}
+use Rattle.osi_tpdu.proofs.Vocabulary.{flat_map, OnFalse, ltb-false, leb-true, leb-false, le-leb, lt-leb, le-ltb, eqb-true, eqb-false, ne_eqb, or_parts, cases_Bool, append-nil, take_at, drop_at, length-append, take-append-drop, length-take, length-take-le, take_all, drop_all, IsOctets, octets_take, octets_drop, octets_left, octets_right, TpduFault, BadLi, UnknownCode, Parameters, Connect, Value, request, confirm, disconnect, disconnected, data0, data2, acknowledge, error, user_data, may_be_followed, IsReference, IsConnect, HasFieldsInRange, Item, Means, item_octets, two, below_bit, connect_part, IsHeader, Spells, header_at, reference_at, known_at, all_skipped_at, connect_of, request_of, confirm_of, disconnect_of, disconnected_of, transfer_of, acknowledge_of, error_of, value_of, unit_at, Follows}
+use Rattle.osi_tpdu.proofs.the_steps_of_reading.{bind_ok, unless_ok, when_ok, chosen, ok_is, IsOctets-rest}
+use Rattle.osi_tpdu.proofs.parameters_are_read_as_they_mean.{known_found, known_only, skipped_found, skipped_only}
+
+-- ---- the length indicator
+
+abbrev Parts : Type 0
+Parts = List ℕ × List ℕ
+
+pub header_found : (at : ℕ) (b : List ℕ) (x : Parts) → header_at at b ≡ Ok x → (b ≡ length x.0 ∷ x.0 ++ x.1) × (1 ≤ length x.0) × (length x.0 ≤ 254)
+unfolding header_at
+header_found at [] x e = absurd cc
+header_found at (li ∷ os) x e = grind (arith, unless_ok, or_parts, eqb-false, ltb-false, leb-false, length-take, take-append-drop, ok_is)
+
+pub header_again : (at : ℕ) (h t : List ℕ) → 1 ≤ length h → length h ≤ 254 → header_at at (length h ∷ h ++ t) ≡ Ok (h, t)
+unfolding header_at
+header_again at h t some most = grind (arith, ne_eqb, lt-leb, length-append, le-ltb, take_at, drop_at)
+
+-- ---- octets at the front of a header
+
+split_two : (h : List ℕ) → 2 ≡ length h → h ≡ get_or h 0 0 ∷ get_or h 1 0 ∷ []
+split_two (a ∷ b ∷ []) e = refl
+split_two h e = absurd (omega arith)
+
+high_of : (a b : ℕ) → b < 256 → a ≡ (256 * a + b) / 256
+high_of a b lt = omega arith
+
+low_of : (a b : ℕ) → b < 256 → b ≡ (256 * a + b) % 256
+low_of a b lt = omega arith
+
+two_again : (n : ℕ) → 256 * (n / 256) + n % 256 ≡ n
+two_again n = omega arith
+
+is_reference : (a b : ℕ) → a < 256 → b < 256 → IsReference (256 * a + b)
+is_reference a b la lb = omega arith
+
+two_is : (a b : ℕ) → b < 256 → a ∷ b ∷ [] ≡ two (256 * a + b)
+two_is a b lt = grind (arith, high_of, low_of)
+
+front_four : (h : List ℕ) → IsOctets h → 4 ≤ length h → h ≡ get_or h 0 0 ∷ two (reference_at 1 h) ++ (get_or h 3 0 ∷ drop 4 h)
+front_four (a ∷ b ∷ c ∷ d ∷ h) octets le = ap (λ (t : List ℕ). a ∷ t ++ (d ∷ h)) (two_is b c (octets 2))
+front_four h octets le = absurd (omega arith)
+
+front_five : (h : List ℕ) → IsOctets h → length h ≡ 5 → h ≡ get_or h 0 0 ∷ two (reference_at 1 h) ++ two (reference_at 3 h)
+front_five (a ∷ b ∷ c ∷ d ∷ e ∷ []) octets le = let first = two_is b c (octets 2) in let second = two_is d e (octets 4) in λ i. a ∷ first i ++ second i
+front_five h octets le = absurd (omega arith)
+
+front_six : (h : List ℕ) → IsOctets h → 6 ≤ length h → h ≡ get_or h 0 0 ∷ two (reference_at 1 h) ++ two (reference_at 3 h) ++ (get_or h 5 0 ∷ drop 6 h)
+front_six (a ∷ b ∷ c ∷ d ∷ e ∷ f ∷ h) octets le = let first = two_is b c (octets 2) in let second = two_is d e (octets 4) in λ i. a ∷ first i ++ second i ++ (f ∷ h)
+front_six h octets le = absurd (omega arith)
+
+first_reference : (header : List ℕ) → IsOctets header → IsReference (reference_at 1 header)
+first_reference header octets = is_reference (get_or header 1 0) (get_or header 2 0) (octets 1) (octets 2)
+
+second_reference : (header : List ℕ) → IsOctets header → IsReference (reference_at 3 header)
+second_reference header octets = is_reference (get_or header 3 0) (get_or header 4 0) (octets 3) (octets 4)
+
+bit_above : (o : ℕ) → o < 256 → o ≡ below_bit (leb 128 o) (o % 128)
+bit_above o lt = grind (arith, cases_Bool, leb-true, leb-false)
+
+bit_read : (b : Bool) (n : ℕ) → n < 128 → leb 128 (below_bit b n) ≡ b
+bit_read true n lt = le-leb 128 (128 + n) (omega arith)
+bit_read false n lt = lt-leb 128 n lt
+
+number_read : (b : Bool) (n : ℕ) → n < 128 → below_bit b n % 128 ≡ n
+number_read true n lt = omega arith
+number_read false n lt = omega arith
+
+-- ---- found: what the fields of a unit were read from
+
+-- the header is one of the value, and the value's user data is what follows it
+pub record IsRead (v : Value) (header behind : List ℕ) : Type 0 where
+  pub fields : IsHeader v header
+  pub in_range : HasFieldsInRange v
+  pub user : user_data v ≡ cond (may_be_followed v) [] behind
+
+abbrev content : List ℕ → Parameters → List ℕ → Connect
+content header p user = record {
+  credit = get_or header 0 0 % 16;
+  source = reference_at 3 header;
+  class = get_or header 5 0 / 16;
+  options = get_or header 5 0 % 16;
+  parameters = p;
+  user = user;
+}
+
+record ConnectRead (code : ℕ) (header user : List ℕ) (c : Connect) : Type 0 where
+  pub items : List Item
+  pub means : Means c.parameters items
+  pub header_is : header ≡ connect_part code (reference_at 1 header) c ++ flat_map item_octets items
+  pub in_range : IsConnect c
+  pub user_is : c.user ≡ user
+
+connect_found : (at half : ℕ) (header user : List ℕ) (c : Connect) → get_or header 0 0 / 16 ≡ half → IsOctets header → IsOctets user → connect_of at header user ≡ Ok c → ConnectRead (16 * half) header user c
+unfolding connect_of
+connect_found at half header user c code octets behind e =
+    let a = unless_ok (ltb (length header) 6) (BadLi at) _ c e in
+    let long : 6 ≤ length header = ltb-false _ _ a.0 in
+    let b = bind_ok (known_at (at + 7) (drop 6 header)) (λ p. Ok (content header p user)) c a.1 in
+    let p = b.0 in
+    let f = known_found (at + 7) (drop 6 header) p (octets_drop 6 header octets) b.1 in
+    let o0 = get_or header 0 0 in
+    let o5 = get_or header 5 0 in
+    let l5 : o5 < 256 = octets 5 in
+    let e0 : o0 ≡ 16 * half + o0 % 16 = omega arith in
+    let e5 : o5 ≡ 16 * (o5 / 16) + o5 % 16 = omega arith in
+    let made = content header p user in
+    let pieces : o0 ∷ two (reference_at 1 header) ++ two (reference_at 3 header) ++ (o5 ∷ drop 6 header) ≡ connect_part (16 * half) (reference_at 1 header) made ++ flat_map item_octets f.0 =
+    λ i. e0 i ∷ two (reference_at 1 header) ++ two (reference_at 3 header) ++ (e5 i ∷ f.1 i) in
+    subst (λ (c' : Connect). ConnectRead (16 * half) header user c') (ok_is made c b.2) (record {
+      items = f.0;
+      means = f.2;
+      header_is = front_six header octets long ∙ pieces;
+      in_range = record {
+        credit = omega arith;
+        source = second_reference header octets;
+        class = omega arith;
+        options = omega arith;
+        parameters = f.3;
+        user = behind;
+      };
+      user_is = refl;
+    })
+
+abbrev Reading : (List ℕ → List ℕ → Result Value TpduFault) → List ℕ → List ℕ → Type 0
+Reading of header behind = (v : Value) → IsOctets header → IsOctets behind → of header behind ≡ Ok v → IsRead v header behind
+
+request_found : (at : ℕ) (header behind : List ℕ) → get_or header 0 0 / 16 ≡ 14 → Reading (request_of at) header behind
+unfolding request_of
+request_found at header behind code v octets back e =
+    let b = bind_ok (connect_of at header behind) (λ c. Ok (request c)) v e in
+    let r = connect_found at 14 header behind b.0 code octets back b.1 in
+    subst (λ (w : Value). IsRead w header behind) (ok_is (request b.0) v b.2) (record {
+      fields = (reference_at 1 header, r.items, r.means, r.header_is);
+      in_range = r.in_range;
+      user = r.user_is;
+    })
+
+confirm_found : (at : ℕ) (header behind : List ℕ) → get_or header 0 0 / 16 ≡ 13 → Reading (confirm_of at) header behind
+unfolding confirm_of
+confirm_found at header behind code v octets back e =
+    let b = bind_ok (connect_of at header behind) (λ c. Ok (confirm (reference_at 1 header) c)) v e in
+    let r = connect_found at 13 header behind b.0 code octets back b.1 in
+    subst (λ (w : Value). IsRead w header behind) (ok_is (confirm (reference_at 1 header) b.0) v b.2) (record {
+      fields = (r.items, r.means, r.header_is);
+      in_range = (first_reference header octets, r.in_range);
+      user = r.user_is;
+    })
+
+disconnect_found : (at : ℕ) (header behind : List ℕ) → get_or header 0 0 ≡ 0x80 → Reading (disconnect_of at) header behind
+unfolding disconnect_of
+disconnect_found at header behind code v octets back e =
+    let made = disconnect (reference_at 1 header) (reference_at 3 header) (get_or header 5 0) behind in
+    let a = unless_ok (ltb (length header) 6) (BadLi at) _ v e in
+    let b = bind_ok (all_skipped_at (at + 7) (drop 6 header)) (λ skipped. Ok made) v a.1 in
+    let f = skipped_found (at + 7) (drop 6 header) (octets_drop 6 header octets) b.1 in
+    let pieces : get_or header 0 0 ∷ two (reference_at 1 header) ++ two (reference_at 3 header) ++ (get_or header 5 0 ∷ drop 6 header)
+    ≡ 0x80 ∷ [] ++ two (reference_at 1 header) ++ two (reference_at 3 header) ++ (get_or header 5 0 ∷ []) ++ flat_map item_octets f.0 =
+    λ i. code i ∷ two (reference_at 1 header) ++ two (reference_at 3 header) ++ (get_or header 5 0 ∷ f.1 i) in
+    subst (λ (w : Value). IsRead w header behind) (ok_is made v b.2) (record {
+      fields = (f.0, front_six header octets (ltb-false _ _ a.0) ∙ pieces);
+      in_range = (first_reference header octets, second_reference header octets, octets 5, back);
+      user = refl;
+    })
+
+disconnected_found : (at : ℕ) (header behind : List ℕ) → get_or header 0 0 ≡ 0xC0 → Reading (λ h b. disconnected_of at h) header behind
+unfolding disconnected_of
+disconnected_found at header behind code v octets back e = grind (arith, when_ok, ok_is, front_five, eqb-true, first_reference, second_reference)
+
+data0_found : (header behind : List ℕ) → get_or header 0 0 ≡ 0xF0 → length header ≡ 2 → IsOctets header → IsOctets behind → IsRead (data0 (leb 128 (get_or header 1 0)) behind) header behind
+data0_found header behind code len octets back =
+    let o1 = get_or header 1 0 in
+    let e1 = bit_above o1 (octets 1) in
+    let pieces : get_or header 0 0 ∷ o1 ∷ [] ≡ 0xF0 ∷ below_bit (leb 128 o1) (o1 % 128) ∷ [] = λ i. code i ∷ e1 i ∷ [] in
+    record {
+      fields = (o1 % 128, omega arith, split_two header (sym len) ∙ pieces);
+      in_range = back;
+      user = refl;
+    }
+
+data2_found : (header behind : List ℕ) → get_or header 0 0 ≡ 0xF0 → length header ≡ 4 → IsOctets header → IsOctets behind
+    → IsRead (data2 (reference_at 1 header) (get_or header 3 0 % 128) (leb 128 (get_or header 3 0)) behind) header behind
+data2_found header behind code len octets back =
+    let o3 = get_or header 3 0 in
+    let e3 = bit_above o3 (octets 3) in
+    let none = drop_all 4 header (omega arith) in
+    let pieces : get_or header 0 0 ∷ two (reference_at 1 header) ++ (o3 ∷ drop 4 header) ≡ 0xF0 ∷ [] ++ two (reference_at 1 header) ++ (below_bit (leb 128 o3) (o3 % 128) ∷ []) =
+    λ i. code i ∷ two (reference_at 1 header) ++ (e3 i ∷ none i) in
+    record {
+      fields = front_four header octets (omega arith) ∙ pieces;
+      in_range = (first_reference header octets, omega arith, back);
+      user = refl;
+    }
+
+transfer_found : (at : ℕ) (header behind : List ℕ) → get_or header 0 0 ≡ 0xF0 → Reading (transfer_of at) header behind
+unfolding transfer_of
+transfer_found at header behind code v octets back e =
+    elim (chosen (eqb (length header) 2) (Ok (data0 (leb 128 (get_or header 1 0)) behind)) _ (Ok v) e) [
+      | inl s ↦ subst (λ (w : Value). IsRead w header behind) (ok_is (data0 (leb 128 (get_or header 1 0)) behind) v s.1) (data0_found header behind code (eqb-true _ _ s.0) octets back)
+      | inr s ↦
+          let made = data2 (reference_at 1 header) (get_or header 3 0 % 128) (leb 128 (get_or header 3 0)) behind in
+          let a = when_ok (eqb (length header) 4) (BadLi at) (Ok made) v s.1 in
+          subst (λ (w : Value). IsRead w header behind) (ok_is made v a.1) (data2_found header behind code (eqb-true _ _ a.0) octets back)
+    ]
+
+acknowledge_found : (at : ℕ) (header behind : List ℕ) → get_or header 0 0 / 16 ≡ 6 → Reading (λ h b. acknowledge_of at h) header behind
+unfolding acknowledge_of
+acknowledge_found at header behind code v octets back e =
+    let o0 = get_or header 0 0 in
+    let o3 = get_or header 3 0 in
+    let made = acknowledge (o0 % 16) (reference_at 1 header) (o3 % 128) in
+    let a = when_ok (eqb (length header) 4) (BadLi at) (Ok made) v e in
+    let len : length header ≡ 4 = eqb-true _ _ a.0 in
+    let e0 : o0 ≡ 0x60 + o0 % 16 = omega arith in
+    let e3 = bit_above o3 (octets 3) in
+    let none = drop_all 4 header (omega arith) in
+    let pieces : o0 ∷ two (reference_at 1 header) ++ (o3 ∷ drop 4 header) ≡ (0x60 + o0 % 16) ∷ [] ++ two (reference_at 1 header) ++ (below_bit (leb 128 o3) (o3 % 128) ∷ []) =
+    λ i. e0 i ∷ two (reference_at 1 header) ++ (e3 i ∷ none i) in
+    subst (λ (w : Value). IsRead w header behind) (ok_is made v a.1) (record {
+      fields = (leb 128 o3, front_four header octets (omega arith) ∙ pieces);
+      in_range = (omega arith, first_reference header octets, omega arith);
+      user = refl;
+    })
+
+error_found : (at : ℕ) (header behind : List ℕ) → get_or header 0 0 ≡ 0x70 → Reading (λ h b. error_of at h) header behind
+unfolding error_of
+error_found at header behind code v octets back e =
+    let made = error (reference_at 1 header) (get_or header 3 0) in
+    let a = unless_ok (ltb (length header) 4) (BadLi at) _ v e in
+    let b = bind_ok (all_skipped_at (at + 5) (drop 4 header)) (λ skipped. Ok made) v a.1 in
+    let f = skipped_found (at + 5) (drop 4 header) (octets_drop 4 header octets) b.1 in
+    let pieces : get_or header 0 0 ∷ two (reference_at 1 header) ++ (get_or header 3 0 ∷ drop 4 header) ≡ 0x70 ∷ [] ++ two (reference_at 1 header) ++ (get_or header 3 0 ∷ []) ++ flat_map item_octets f.0 =
+    λ i. code i ∷ two (reference_at 1 header) ++ (get_or header 3 0 ∷ f.1 i) in
+    subst (λ (w : Value). IsRead w header behind) (ok_is made v b.2) (record {
+      fields = (f.0, front_four header octets (ltb-false _ _ a.0) ∙ pieces);
+      in_range = (first_reference header octets, octets 3);
+      user = refl;
+    })
+
+value_found : (at : ℕ) (header behind : List ℕ) → Reading (value_of at) header behind
+unfolding value_of
+value_found at header behind v octets back e =
+    let code = get_or header 0 0 in
+    elim (chosen (eqb (code / 16) 0xE) (request_of at header behind) _ (Ok v) e) [
+      | inl s ↦ request_found at header behind (eqb-true _ _ s.0) v octets back s.1
+      | inr s ↦ elim (chosen (eqb (code / 16) 0xD) (confirm_of at header behind) _ (Ok v) s.1) [
+        | inl t ↦ confirm_found at header behind (eqb-true _ _ t.0) v octets back t.1
+        | inr t ↦ elim (chosen (eqb (code / 16) 0x6) (acknowledge_of at header) _ (Ok v) t.1) [
+          | inl u ↦ acknowledge_found at header behind (eqb-true _ _ u.0) v octets back u.1
+          | inr u ↦ elim (chosen (eqb code 0x80) (disconnect_of at header behind) _ (Ok v) u.1) [
+            | inl w ↦ disconnect_found at header behind (eqb-true _ _ w.0) v octets back w.1
+            | inr w ↦ elim (chosen (eqb code 0xC0) (disconnected_of at header) _ (Ok v) w.1) [
+              | inl x ↦ disconnected_found at header behind (eqb-true _ _ x.0) v octets back x.1
+              | inr x ↦ elim (chosen (eqb code 0xF0) (transfer_of at header behind) _ (Ok v) x.1) [
+                | inl y ↦ transfer_found at header behind (eqb-true _ _ y.0) v octets back y.1
+                | inr y ↦ error_found at header behind (eqb-true _ _ (when_ok (eqb code 0x70) (UnknownCode (at + 1)) (error_of at header) v y.1).0) v octets back (when_ok (eqb code 0x70) (UnknownCode (at + 1)) (error_of at header) v y.1).1
+              ]
+            ]
+          ]
+        ]
+      ]
+    ]
+
+-- ---- only: the fields of a unit are read
+
+abbrev ok : Value → Result Value TpduFault
+ok v = Ok v
+
+connect_only : (at code destination : ℕ) (c : Connect) (items : List Item) → IsConnect c → Means c.parameters items → code % 16 ≡ 0
+    → connect_of at (connect_part code destination c ++ flat_map item_octets items) c.user ≡ Ok c
+unfolding connect_of
+connect_only at code destination c items fits means even =
+    let rest = flat_map item_octets items in
+    let long : ltb (length (connect_part code destination c ++ rest)) 6 ≡ false = le-ltb _ _ (omega arith) in
+    let known = known_only (at + 7) items c.parameters fits.parameters means in
+    let credit : (code + c.credit) % 16 ≡ c.credit = omega (arith, fits.credit) in
+    let source = two_again c.source in
+    let class : (16 * c.class + c.options) / 16 ≡ c.class = omega (arith, fits.options) in
+    let options : (16 * c.class + c.options) % 16 ≡ c.options = omega (arith, fits.options) in
+    rw (long, known) (λ i. Ok (record { credit = credit i; source = source i; class = class i; options = options i; parameters = c.parameters; user = c.user }))
+
+request_only : (at : ℕ) (header behind : List ℕ) (destination : ℕ) (c : Connect) (items : List Item) → header ≡ connect_part 0xE0 destination c ++ flat_map item_octets items → IsConnect c → Means c.parameters items
+    → c.user ≡ behind → value_of at header behind ≡ Ok (request c)
+unfolding value_of request_of
+request_only at header behind destination c items header_is fits means user =
+    let code : (0xE0 + c.credit) / 16 ≡ 14 = omega (arith, fits.credit) in
+    let read = connect_only at 0xE0 destination c items fits means refl in
+    rw (header_is, ← user, code, read) refl
+
+confirm_only : (at : ℕ) (header behind : List ℕ) (destination : ℕ) (c : Connect) (items : List Item) → header ≡ connect_part 0xD0 destination c ++ flat_map item_octets items → IsConnect c → Means c.parameters items
+    → c.user ≡ behind → value_of at header behind ≡ Ok (confirm destination c)
+unfolding value_of confirm_of
+confirm_only at header behind destination c items header_is fits means user =
+    let code : (0xD0 + c.credit) / 16 ≡ 13 = omega (arith, fits.credit) in
+    let read = connect_only at 0xD0 destination c items fits means refl in
+    rw (header_is, ← user, code, read) (ap (λ (d : ℕ). ok (confirm d c)) (two_again destination))
+
+disconnect_only : (at : ℕ) (destination source reason : ℕ) (user : List ℕ) (items : List Item)
+    → value_of at (0x80 ∷ [] ++ two destination ++ two source ++ (reason ∷ []) ++ flat_map item_octets items) user ≡ Ok (disconnect destination source reason user)
+unfolding value_of disconnect_of
+disconnect_only at destination source reason user items = grind (arith, le-ltb, two_again, skipped_only)
+
+disconnected_only : (at : ℕ) (destination source : ℕ) (behind : List ℕ)
+    → value_of at (0xC0 ∷ [] ++ two destination ++ two source) behind ≡ Ok (disconnected destination source)
+unfolding value_of disconnected_of
+disconnected_only at destination source behind = grind (arith, two_again)
+
+data0_only : (at number : ℕ) (end : Bool) (user : List ℕ) → number < 128 → value_of at (0xF0 ∷ below_bit end number ∷ []) user ≡ Ok (data0 end user)
+unfolding value_of transfer_of
+data0_only at number end user lt = ap (λ (b : Bool). ok (data0 b user)) (bit_read end number lt)
+
+data2_only : (at destination number : ℕ) (end : Bool) (user : List ℕ) → number < 128
+    → value_of at (0xF0 ∷ [] ++ two destination ++ (below_bit end number ∷ [])) user ≡ Ok (data2 destination number end user)
+unfolding value_of transfer_of
+data2_only at destination number end user lt =
+    let first = two_again destination in
+    let bit = bit_read end number lt in
+    let low = number_read end number lt in
+    λ i. Ok (data2 (first i) (low i) (bit i) user)
+
+acknowledge_only : (at credit destination number : ℕ) (ignored : Bool) (behind : List ℕ) → credit < 16 → number < 128
+    → value_of at ((0x60 + credit) ∷ [] ++ two destination ++ (below_bit ignored number ∷ [])) behind ≡ Ok (acknowledge credit destination number)
+unfolding value_of acknowledge_of
+acknowledge_only at credit destination number ignored behind fits lt =
+    let code : (0x60 + credit) / 16 ≡ 6 = omega arith in
+    let given : (0x60 + credit) % 16 ≡ credit = omega arith in
+    let first = two_again destination in
+    let low = number_read ignored number lt in
+    rw code (λ i. Ok (acknowledge (given i) (first i) (low i)))
+
+error_only : (at destination cause : ℕ) (items : List Item) (behind : List ℕ)
+    → value_of at (0x70 ∷ [] ++ two destination ++ (cause ∷ []) ++ flat_map item_octets items) behind ≡ Ok (error destination cause)
+unfolding value_of error_of
+error_only at destination cause items behind = grind (arith, le-ltb, two_again, skipped_only)
+
+value_only : (at : ℕ) (v : Value) (header behind : List ℕ) → IsHeader v header → HasFieldsInRange v → user_data v ≡ cond (may_be_followed v) [] behind → value_of at header behind ≡ Ok v
+value_only at (request c) header behind f r user = request_only at header behind f.0 c f.1 f.3 r f.2 user
+value_only at (confirm destination c) header behind f r user = confirm_only at header behind destination c f.0 f.2 r.1 f.1 user
+value_only at (disconnect destination source reason user) header behind f r e =
+    ap (λ (h : List ℕ). value_of at h behind) f.1 ∙ ap (λ (u : List ℕ). value_of at (0x80 ∷ [] ++ two destination ++ two source ++ (reason ∷ []) ++ flat_map item_octets f.0) u) (sym e) ∙ disconnect_only at destination source reason user f.0
+value_only at (disconnected destination source) header behind f r e = ap (λ (h : List ℕ). value_of at h behind) f ∙ disconnected_only at destination source behind
+value_only at (data0 end user) header behind f r e =
+    ap (λ (h : List ℕ). value_of at h behind) f.2 ∙ ap (λ (u : List ℕ). value_of at (0xF0 ∷ below_bit end f.0 ∷ []) u) (sym e) ∙ data0_only at f.0 end user f.1
+value_only at (data2 destination number end user) header behind f r e =
+    ap (λ (h : List ℕ). value_of at h behind) f ∙ ap (λ (u : List ℕ). value_of at (0xF0 ∷ [] ++ two destination ++ (below_bit end number ∷ [])) u) (sym e) ∙ data2_only at destination number end user r.1
+value_only at (acknowledge credit destination number) header behind f r e =
+    ap (λ (h : List ℕ). value_of at h behind) f.1 ∙ acknowledge_only at credit destination number f.0 behind r.0 r.2
+value_only at (error destination cause) header behind f r e = ap (λ (h : List ℕ). value_of at h behind) f.1 ∙ error_only at destination cause f.0 behind
+
+-- ---- whole units
+
+header_least : (v : Value) (header : List ℕ) → IsHeader v header → 1 ≤ length header
+header_least (request c) header f = subst (λ (h : List ℕ). 1 ≤ length h) (sym f.3) (omega arith)
+header_least (confirm destination c) header f = subst (λ (h : List ℕ). 1 ≤ length h) (sym f.2) (omega arith)
+header_least (disconnected destination source) header f = subst (λ (h : List ℕ). 1 ≤ length h) (sym f) (omega arith)
+header_least (data0 end user) header f = subst (λ (h : List ℕ). 1 ≤ length h) (sym f.2) (omega arith)
+header_least (data2 destination number end user) header f = subst (λ (h : List ℕ). 1 ≤ length h) (sym f) (omega arith)
+header_least _ header f = subst (λ (h : List ℕ). 1 ≤ length h) (sym f.1) (omega arith)
+
+abbrev Measured : Type 0
+Measured = Value × ℕ
+
+abbrev ok_measured : Measured → Result Measured TpduFault
+ok_measured x = Ok x
+
+abbrev measured : Value → List ℕ → List ℕ → Measured
+measured v header b = (v, cond (may_be_followed v) (1 + length header) (length b))
+
+-- what is at the front
+abbrev Stands : List ℕ → Measured → Type 0
+Stands b x = IsAtFront Spells Follows x.0 x.1 b × (1 ≤ x.1)
+
+stands : (v : Value) (header behind : List ℕ) (may : Bool) → may_be_followed v ≡ may → IsRead v header behind → 1 ≤ length header → length header ≤ 254 → IsOctets (length header ∷ header ++ behind)
+    → Stands (length header ∷ header ++ behind) (v, cond may (1 + length header) (length (length header ∷ header ++ behind)))
+stands v header behind true may r some most octets = grind (arith, take_at, append-nil, octets_take, length-append)
+stands v header behind false may r some most octets = grind (arith, take_all, drop_all)
+
+-- sound: what is read is spelled by the octets
+pub unit_found : (at : ℕ) (b : List ℕ) (x : Value × ℕ) → IsOctets b → unit_at at b ≡ Ok x → Stands b x
+unfolding unit_at
+unit_found at b x octets e =
+    let p = bind_ok (header_at at b) _ x e in
+    let q = bind_ok (value_of at p.0.0 p.0.1) (λ v. Ok (measured v p.0.0 b)) x p.2 in
+    let header = p.0.0 in
+    let behind = p.0.1 in
+    let h = header_found at b p.0 p.1 in
+    let whole : IsOctets (length header ∷ header ++ behind) = subst (λ (s : List ℕ). IsOctets s) h.0 octets in
+    let inner = IsOctets-rest (length header) (header ++ behind) whole in
+    let r = value_found at header behind q.0 (octets_left header behind inner) (octets_right header behind inner) q.1 in
+    let s = stands q.0 header behind (may_be_followed q.0) refl r h.1 h.2 whole in
+    let there : Stands b (measured q.0 header b) = subst (λ (c : List ℕ). Stands c (measured q.0 header c)) (sym h.0) s in
+    subst (λ (y : Measured). Stands b y) (ok_is (measured q.0 header b) x q.2) there
+
+lead_user : (v : Value) → may_be_followed v ≡ true → user_data v ≡ []
+lead_user (disconnected destination source) e = refl
+lead_user (acknowledge credit destination number) e = refl
+lead_user (error destination cause) e = refl
+lead_user _ e = absurd cc
+
+read_again : (at : ℕ) (v : Value) (header behind : List ℕ) → IsHeader v header → HasFieldsInRange v → length header ≤ 254 → user_data v ≡ cond (may_be_followed v) [] behind
+    → unit_at at (length header ∷ header ++ behind) ≡ Ok (measured v header (length header ∷ header ++ behind))
+unfolding unit_at
+read_again at v header behind f r most user =
+    rw (header_again at header behind (header_least v header f) most, value_only at v header behind f r user) refl
+
+only_with : (at : ℕ) (v : Value) (x y : List ℕ) (may : Bool) → may_be_followed v ≡ may → Spells v x → Follows v y → unit_at at (x ++ y) ≡ Ok (v, length x)
+only_with at v x y true may s f =
+    let none = lead_user v may in
+    let front : x ≡ length s.header ∷ s.header = s.whole ∙ ap (λ (u : List ℕ). length s.header ∷ s.header ++ u) none ∙ ap (λ (h : List ℕ). length s.header ∷ h) (append-nil s.header) in
+    let user : user_data v ≡ cond (may_be_followed v) [] y = rw may none in
+    let read = read_again at v s.header y s.fields s.in_range s.counted user in
+    let n-is : cond (may_be_followed v) (1 + length s.header) (length (length s.header ∷ s.header ++ y)) ≡ length x =
+    ap (λ (m : Bool). cond m (1 + length s.header) (length (length s.header ∷ s.header ++ y))) may ∙ omega (arith, ap length front) in
+    ap (λ (w : List ℕ). unit_at at (w ++ y)) front ∙ read ∙ ap (λ (n : ℕ). ok_measured (v, n)) n-is
+only_with at v x y false may s f =
+    let none : y ≡ [] = let g : OnFalse false (y ≡ []) = rw may at f in g in
+    let user : user_data v ≡ cond (may_be_followed v) [] (user_data v) = rw may refl in
+    let read = read_again at v s.header (user_data v) s.fields s.in_range s.counted user in
+    let whole : x ++ y ≡ length s.header ∷ s.header ++ user_data v = ap (λ (w : List ℕ). x ++ w) none ∙ append-nil x ∙ s.whole in
+    let n-is : cond (may_be_followed v) (1 + length s.header) (length (length s.header ∷ s.header ++ user_data v)) ≡ length x =
+    ap (λ (m : Bool). cond m (1 + length s.header) (length (length s.header ∷ s.header ++ user_data v))) may ∙ sym (ap length s.whole) in
+    ap (λ (w : List ℕ). unit_at at w) whole ∙ read ∙ ap (λ (n : ℕ). ok_measured (v, n)) n-is
+
+-- complete: what the octets spell is read
+pub unit_only : (at : ℕ) (v : Value) (n : ℕ) (b : List ℕ) → IsAtFront Spells Follows v n b → unit_at at b ≡ Ok (v, n)
+unit_only at v n b f =
+    let read = only_with at v (take n b) (drop n b) (may_be_followed v) refl f.spelled f.followed in
+    let len : length (take n b) ≡ n = length-take-le n b f.within in
+    ap (λ (w : List ℕ). unit_at at w) (sym (take-append-drop n b)) ∙ read ∙ ap (λ (k : ℕ). ok_measured (v, k)) len
+
+-- a spelling is read, with what may follow it
+pub unit_spelled : (at : ℕ) (v : Value) (x y : List ℕ) → Spells v x → Follows v y → unit_at at (x ++ y) ≡ Ok (v, length x)
+unit_spelled at v x y s f = only_with at v x y (may_be_followed v) refl s f
+
+some_or_all : (may : Bool) (n all : ℕ) → 1 ≤ n → n ≤ all → (1 ≤ cond may n all) × (cond may n all ≤ all)
+some_or_all true n all some most = (some, most)
+some_or_all false n all some most = (omega arith, omega arith)
+
+-- a unit takes some of the octets
+pub unit_takes : (at : ℕ) (b : List ℕ) (x : Value × ℕ) → unit_at at b ≡ Ok x → (1 ≤ x.1) × (x.1 ≤ length b)
+unfolding unit_at
+unit_takes at b x e = grind (arith, bind_ok, header_found, length-append, ok_is, some_or_all)
+
+-- ---- the laws that a grammar of units asks for
+
+follows_nothing : (v : Value) (may : Bool) → may_be_followed v ≡ may → Follows v []
+follows_nothing v true may = rw may tt
+follows_nothing v false may = rw may refl
+
+-- a unit may be the last of its octets
+pub stands_alone : (v : Value) → Follows v []
+stands_alone v = follows_nothing v (may_be_followed v) refl
+
+-- at most one unit is at the front of octets
+pub one_reading : (v w : Value) (m n : ℕ) (octets : List ℕ) → IsOctets octets → IsAtFront Spells Follows v m octets → IsAtFront Spells Follows w n octets → (v ≡ w) × (m ≡ n)
+one_reading v w m n octets are_octets p q =
+    let first : unit_at 0 octets ≡ Ok (v, m) = unit_only 0 v m octets p in
+    let second : unit_at 0 octets ≡ Ok (w, n) = unit_only 0 w n octets q in
+    let same = ok_is (v, m) (w, n) (sym first ∙ second) in
+    (ap (λ (x : Value × ℕ). x.0) same, ap (λ (x : Value × ℕ). x.1) same)
+
+-- what was read is what is at the front
+pub same_front : (octets : List ℕ) (v : Value) (n : ℕ) (x : Value × ℕ) → IsAtFront Spells Follows v n octets → unit_at 0 octets ≡ Ok x → (x.0 ≡ v) × (x.1 ≡ n)
+same_front octets v n x stands read =
+    let same = ok_is x (v, n) (sym read ∙ unit_only 0 v n octets stands) in
+    (ap (λ (y : Value × ℕ). y.0) same, ap (λ (y : Value × ℕ). y.1) same)
+
+-- a unit at the front has no fault
+pub not_bad : (octets : List ℕ) (v : Value) (n : ℕ) (f : TpduFault) → IsAtFront Spells Follows v n octets → unit_at 0 octets ≡ Err f → ⊥
+not_bad octets v n f stands bad =
+    let read = unit_only 0 v n octets stands in
+    cc

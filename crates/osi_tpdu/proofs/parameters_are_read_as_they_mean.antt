@@ -1,0 +1,396 @@
+-- The parameters of a CR or CC: reading them gives what the items mean, and what the items mean is read.
+use Rattle.std.proofs.Common.{◌≡◌, ℕ, zero, suc, ◌+◌, ◌<◌, ◌≤◌, true, false, eqb, ltb, leb, not, ◌&&◌, List, [], ◌∷◌, ◌++◌, length, get_or, take, drop, Option, Some, None, Result, Ok, refl, sym, ap, subst, ◌∙◌, append_assoc, arith, inl, inr, ◌⊎◌}
+use Rattle.std.proofs.lemmas.List.Elements.{filter-append}
+use Rattle.osi_tpdu.proofs.Vocabulary.{map, filter, option_to_list, is_some, IfSome, flat_map, ltb-false, leb-true, le-leb, le-ltb, eqb-true, eq-eqb, ne_eqb, and_parts, not-false, cases_eq, append-nil, take_at, drop_at, length-append, take-append-drop, length-take, length-drop, map-append, IsOctets, octets_take, octets_drop, TpduFault, BadParameterLength, BadParameterValue, DuplicateParameter, Parameter, Size, Calling, Called, Additional, Alternative, code_of, Parameters, AreParameters, Item, item_octets, values_of, single, Means, parameter_at, no_parameters, with_size, with_calling, with_called, with_additional, with_alternative, with_parameter, parameters_at, known_at, skipped_at, all_skipped_at}
+use Rattle.osi_tpdu.proofs.the_steps_of_reading.{bind_ok, unless_ok, when_ok, chosen, ok_is, one_long}
+
+-- ---- what items add to a slot
+
+-- the octets of a parameter's value, if it is there
+abbrev pub slot : Parameter → Parameters → Option (List ℕ)
+slot Size p = single p.size
+slot Calling p = p.calling
+slot Called p = p.called
+slot Additional p = single p.additional
+slot Alternative p = p.alternative
+
+abbrev Gains : ℕ → Option (List ℕ) → List Item → Option (List ℕ) → Type 0
+Gains code old items new = option_to_list old ++ values_of code items ≡ option_to_list new
+
+-- the items that follow after those that gave p make it m
+abbrev pub Adds : Parameters → List Item → Parameters → Type 0
+Adds p items m = (k : Parameter) → Gains (code_of k) (slot k p) items (slot k m)
+
+pub values_of-append : (code : ℕ) (xs ys : List Item) → values_of code (xs ++ ys) ≡ values_of code xs ++ values_of code ys
+values_of-append code xs ys = grind (arith, filter-append, map-append)
+
+Gains-then : (code : ℕ) (a b c : Option (List ℕ)) (xs ys : List Item) → Gains code a xs b → Gains code b ys c → Gains code a (xs ++ ys) c
+Gains-then code a b c xs ys p q = grind (arith, values_of-append, append_assoc)
+
+pub Adds-then : (a b c : Parameters) (xs ys : List Item) → Adds a xs b → Adds b ys c → Adds a (xs ++ ys) c
+Adds-then a b c xs ys p q k = Gains-then (code_of k) (slot k a) (slot k b) (slot k c) xs ys (p k) (q k)
+
+pub Adds-none : (p : Parameters) → Adds p [] p
+Adds-none p k = append-nil (option_to_list (slot k p))
+
+abbrev item : ℕ → List ℕ → Item
+item code value = record { code = code; value = value }
+
+-- an item with another code adds nothing
+Gains-other : (code other : ℕ) (value : List ℕ) (o : Option (List ℕ)) → eqb other code ≡ false → Gains code o (item other value ∷ []) o
+Gains-other code other value o ne = rw ne (append-nil (option_to_list o))
+
+is_none : {A : Type 0} (o : Option A) → is_some o ≡ false → o ≡ None
+is_none None e = refl
+is_none (Some x) e = absurd cc
+
+-- ---- one parameter that was read
+
+abbrev Adding : ℕ → List ℕ → Parameters → Parameters → Type 0
+Adding code value p m = Adds p (item code value ∷ []) m × AreParameters m
+
+size_adds : (n : ℕ) (value : List ℕ) (p : Parameters) → value ≡ n ∷ [] → p.size ≡ None → Adds p (item 0xC0 value ∷ []) (record p { size = Some n })
+size_adds n value p one none Size = rw none (ap (λ (v : List ℕ). v ∷ []) one)
+size_adds n value p one none k = Adds-none p k
+
+calling_adds : (value : List ℕ) (p : Parameters) → p.calling ≡ None → Adds p (item 0xC1 value ∷ []) (record p { calling = Some value })
+calling_adds value p none Calling = rw none refl
+calling_adds value p none k = Adds-none p k
+
+called_adds : (value : List ℕ) (p : Parameters) → p.called ≡ None → Adds p (item 0xC2 value ∷ []) (record p { called = Some value })
+called_adds value p none Called = rw none refl
+called_adds value p none k = Adds-none p k
+
+additional_adds : (n : ℕ) (value : List ℕ) (p : Parameters) → value ≡ n ∷ [] → p.additional ≡ None → Adds p (item 0xC6 value ∷ []) (record p { additional = Some n })
+additional_adds n value p one none Additional = rw none (ap (λ (v : List ℕ). v ∷ []) one)
+additional_adds n value p one none k = Adds-none p k
+
+alternative_adds : (value : List ℕ) (p : Parameters) → p.alternative ≡ None → Adds p (item 0xC7 value ∷ []) (record p { alternative = Some value })
+alternative_adds value p none Alternative = rw none refl
+alternative_adds value p none k = Adds-none p k
+
+-- this holds in either order of the last two tests
+size_found : (at : ℕ) (value : List ℕ) (p m : Parameters) → AreParameters p → IsOctets value → with_size at value p ≡ Ok m → Adding 0xC0 value p m
+unfolding with_size
+size_found at value p m fits octets e = grind (arith, get_or, unless_ok, when_ok, and_parts, ok_is, size_adds, one_long, eqb-true, not-false, is_none, leb-true)
+
+calling_found : (at : ℕ) (value : List ℕ) (p m : Parameters) → AreParameters p → IsOctets value → with_calling at value p ≡ Ok m → Adding 0xC1 value p m
+unfolding with_calling
+calling_found at value p m fits octets e = grind (arith, unless_ok, ok_is, calling_adds, is_none, ltb-false)
+
+called_found : (at : ℕ) (value : List ℕ) (p m : Parameters) → AreParameters p → IsOctets value → with_called at value p ≡ Ok m → Adding 0xC2 value p m
+unfolding with_called
+called_found at value p m fits octets e = grind (arith, unless_ok, ok_is, called_adds, is_none, ltb-false)
+
+additional_found : (at : ℕ) (value : List ℕ) (p m : Parameters) → AreParameters p → IsOctets value → with_additional at value p ≡ Ok m → Adding 0xC6 value p m
+unfolding with_additional
+additional_found at value p m fits octets e = grind (arith, get_or, unless_ok, ok_is, additional_adds, one_long, eqb-true, not-false, is_none)
+
+alternative_found : (at : ℕ) (value : List ℕ) (p m : Parameters) → AreParameters p → IsOctets value → with_alternative at value p ≡ Ok m → Adding 0xC7 value p m
+unfolding with_alternative
+alternative_found at value p m fits octets e = grind (arith, unless_ok, ok_is, alternative_adds, is_none)
+
+-- a code that is not in the table is none of these
+pub other_code : (code : ℕ) → eqb code 0xC0 ≡ false → eqb code 0xC1 ≡ false → eqb code 0xC2 ≡ false → eqb code 0xC6 ≡ false → eqb code 0xC7 ≡ false → (k : Parameter) → eqb code (code_of k) ≡ false
+other_code code a b c d e Size = a
+other_code code a b c d e Calling = b
+other_code code a b c d e Called = c
+other_code code a b c d e Additional = d
+other_code code a b c d e Alternative = e
+
+pub with_found : (at code : ℕ) (value : List ℕ) (p m : Parameters) → AreParameters p → IsOctets value → with_parameter at code value p ≡ Ok m → Adding code value p m
+unfolding with_parameter
+with_found at code value p m fits octets e =
+    elim (chosen (eqb code 0xC0) (with_size at value p) _ (Ok m) e) [
+      | inl s ↦ subst (λ (k : ℕ). Adding k value p m) (sym (eqb-true code 0xC0 s.0)) (size_found at value p m fits octets s.1)
+      | inr s ↦ elim (chosen (eqb code 0xC1) (with_calling at value p) _ (Ok m) s.1) [
+        | inl t ↦ subst (λ (k : ℕ). Adding k value p m) (sym (eqb-true code 0xC1 t.0)) (calling_found at value p m fits octets t.1)
+        | inr t ↦ elim (chosen (eqb code 0xC2) (with_called at value p) _ (Ok m) t.1) [
+          | inl u ↦ subst (λ (k : ℕ). Adding k value p m) (sym (eqb-true code 0xC2 u.0)) (called_found at value p m fits octets u.1)
+          | inr u ↦ elim (chosen (eqb code 0xC6) (with_additional at value p) _ (Ok m) u.1) [
+            | inl v ↦ subst (λ (k : ℕ). Adding k value p m) (sym (eqb-true code 0xC6 v.0)) (additional_found at value p m fits octets v.1)
+            | inr v ↦ elim (chosen (eqb code 0xC7) (with_alternative at value p) (Ok p) (Ok m) v.1) [
+              | inl w ↦ subst (λ (k : ℕ). Adding k value p m) (sym (eqb-true code 0xC7 w.0)) (alternative_found at value p m fits octets w.1)
+              | inr w ↦ subst (λ (m' : Parameters). Adding code value p m') (ok_is p m w.1)
+                  ((λ k. Gains-other (code_of k) code value (slot k p) (other_code code s.0 t.0 u.0 v.0 w.0 k)), fits)
+            ]
+          ]
+        ]
+      ]
+    ]
+
+-- ---- all parameters that were read
+
+abbrev ok : Parameters → Result Parameters TpduFault
+ok p = Ok p
+
+abbrev Piece : Type 0
+Piece = ℕ × List ℕ × List ℕ
+
+-- a code, a length, the value, and the octets after it
+split_two : (s : List ℕ) → 2 ≤ length s → s ≡ get_or s 0 0 ∷ get_or s 1 0 ∷ drop 2 s
+split_two (a ∷ b ∷ s) le = refl
+split_two _ le = absurd (omega arith)
+
+pub parameter_found : (at : ℕ) (s : List ℕ) (x : Piece) → IsOctets s → parameter_at at s ≡ Ok x
+    → (s ≡ item_octets (item x.0 x.1) ++ x.2) × IsOctets x.1 × IsOctets x.2 × (length x.2 < length s)
+unfolding parameter_at
+parameter_found at s x octets e =
+    let n = get_or s 1 0 in
+    let made : Piece = (get_or s 0 0, take n (drop 2 s), drop n (drop 2 s)) in
+    let a = unless_ok (ltb (length s) (2 + n)) (BadParameterLength at) (Ok made) x e in
+    let long : 2 + n ≤ length s = ltb-false _ _ a.0 in
+    let len : length (take n (drop 2 s)) ≡ n = omega (arith, length-take n (drop 2 s), length-drop 2 s) in
+    let parts : s ≡ get_or s 0 0 ∷ n ∷ (take n (drop 2 s) ++ drop n (drop 2 s)) =
+    split_two s (omega arith) ∙ ap (λ (t : List ℕ). get_or s 0 0 ∷ n ∷ t) (sym (take-append-drop n (drop 2 s))) in
+    let whole : s ≡ item_octets (item made.0 made.1) ++ made.2 =
+    parts ∙ ap (λ (k : ℕ). get_or s 0 0 ∷ k ∷ (take n (drop 2 s) ++ drop n (drop 2 s))) (sym len) in
+    subst (λ (y : Piece). (s ≡ item_octets (item y.0 y.1) ++ y.2) × IsOctets y.1 × IsOctets y.2 × (length y.2 < length s)) (ok_is made x a.1)
+    (whole, octets_take n (drop 2 s) (octets_drop 2 s octets), octets_drop n (drop 2 s) (octets_drop 2 s octets), omega (arith, length-drop n (drop 2 s), length-drop 2 s))
+
+-- what the octets hold
+pub record Found (p : Parameters) (s : List ℕ) (m : Parameters) : Type 0 where
+  pub items : List Item
+  pub spelled : s ≡ flat_map item_octets items
+  pub adds : Adds p items m
+  pub fits : AreParameters m
+
+spelled_on : (s : List ℕ) (i : Item) (behind : List ℕ) (items : List Item) → s ≡ item_octets i ++ behind → behind ≡ flat_map item_octets items → s ≡ flat_map item_octets (i ∷ items)
+spelled_on s i behind items e f = e ∙ ap (λ (t : List ℕ). item_octets i ++ t) f
+
+parameters_found : (n at : ℕ) (p : Parameters) (s : List ℕ) (m : Parameters) → length s ≤ n → IsOctets s → AreParameters p → parameters_at n at p s ≡ Ok m → Found p s m
+unfolding parameters_at
+parameters_found n at p [] m le octets fits e =
+    subst (λ (m' : Parameters). Found p [] m') (ok_is p m e) (record { items = []; spelled = refl; adds = Adds-none p; fits = fits })
+parameters_found zero at p (o ∷ s) m le octets fits e = absurd (omega arith)
+parameters_found (suc n) at p (o ∷ s) m le octets fits e =
+    let a = bind_ok (parameter_at at (o ∷ s)) _ m e in
+    let b = bind_ok (with_parameter at a.0.0 a.0.1 p) _ m a.2 in
+    let one = parameter_found at (o ∷ s) a.0 octets a.1 in
+    let added = with_found at a.0.0 a.0.1 p b.0 fits one.1 b.1 in
+    let rest = parameters_found n (at + (2 + length a.0.1)) b.0 a.0.2 m (omega (arith, one.3)) one.2 added.1 b.2 in
+    let first = item a.0.0 a.0.1 in
+    record {
+      items = first ∷ rest.items;
+      spelled = spelled_on (o ∷ s) first a.0.2 rest.items one.0 rest.spelled;
+      adds = Adds-then p b.0 m (first ∷ []) rest.items added.0 rest.adds;
+      fits = rest.fits;
+    }
+
+-- with no parameter before, they are what the items mean
+pub known_found : (at : ℕ) (s : List ℕ) (m : Parameters) → IsOctets s → known_at at s ≡ Ok m
+    → (items : List Item) × (s ≡ flat_map item_octets items) × Means m items × AreParameters m
+known_found at s m octets e =
+    let none : AreParameters no_parameters = record { size = tt; calling = tt; called = tt; additional = tt; alternative = tt } in
+    let f = parameters_found (length s) at no_parameters s m (omega arith) octets none e in
+    (f.items, f.spelled, record { size = f.adds Size; calling = f.adds Calling; called = f.adds Called; additional = f.adds Additional; alternative = f.adds Alternative }, f.fits)
+
+skipped_found_with : (n at : ℕ) (s : List ℕ) → length s ≤ n → IsOctets s → skipped_at n at s ≡ Ok tt → (items : List Item) × (s ≡ flat_map item_octets items)
+unfolding skipped_at
+skipped_found_with n at [] le octets e = ([], refl)
+skipped_found_with zero at (o ∷ s) le octets e = absurd (omega arith)
+skipped_found_with (suc n) at (o ∷ s) le octets e =
+    let a = bind_ok (parameter_at at (o ∷ s)) _ tt e in
+    let one = parameter_found at (o ∷ s) a.0 octets a.1 in
+    let rest = skipped_found_with n (at + (2 + length a.0.1)) a.0.2 (omega (arith, one.3)) one.2 a.2 in
+    let first = item a.0.0 a.0.1 in
+    (first ∷ rest.0, one.0 ∙ ap (λ (t : List ℕ). item_octets first ++ t) rest.1)
+
+pub skipped_found : (at : ℕ) (s : List ℕ) → IsOctets s → all_skipped_at at s ≡ Ok tt → (items : List Item) × (s ≡ flat_map item_octets items)
+skipped_found at s octets e = skipped_found_with (length s) at s (omega arith) octets e
+
+-- ---- items are read
+
+pub parameter_again : (at : ℕ) (i : Item) (rest : List ℕ) → parameter_at at (item_octets i ++ rest) ≡ Ok (i.code, i.value, rest)
+unfolding parameter_at
+parameter_again at i rest = grind (arith, le-ltb, length-append, take_at, drop_at)
+
+-- the value of the first item with a code is the one value of its slot
+first_value : (o new : Option (List ℕ)) (v : List ℕ) (vs : List (List ℕ)) → option_to_list o ++ (v ∷ vs) ≡ option_to_list new → (o ≡ None) × (new ≡ Some v) × (vs ≡ [])
+first_value None None v vs e = absurd cc
+first_value None (Some w) v vs e = (refl, cc, cc)
+first_value (Some x) None v vs e = absurd cc
+first_value (Some x) (Some w) v [] e = absurd cc
+first_value (Some x) (Some w) v (y ∷ vs) e = absurd cc
+
+single_none : (o : Option ℕ) → single o ≡ None → o ≡ None
+single_none None e = refl
+single_none (Some n) e = absurd cc
+
+single_some : (o : Option ℕ) (v : List ℕ) → single o ≡ Some v → (n : ℕ) × (o ≡ Some n) × (v ≡ n ∷ [])
+single_some None v e = absurd cc
+single_some (Some n) v e = (n, refl, cc)
+
+Gains-same : (code : ℕ) (o new : Option (List ℕ)) → Gains code o [] new → o ≡ new
+Gains-same code None None e = refl
+Gains-same code None (Some w) e = absurd cc
+Gains-same code (Some v) None e = absurd cc
+Gains-same code (Some v) (Some w) e = cc
+
+single-injective : (a b : Option ℕ) → single a ≡ single b → a ≡ b
+single-injective None None e = refl
+single-injective None (Some n) e = absurd cc
+single-injective (Some n) None e = absurd cc
+single-injective (Some m) (Some n) e = cc
+
+same_parameters : (p m : Parameters) → Adds p [] m → p ≡ m
+same_parameters p m a =
+    let same = λ (k : Parameter). Gains-same (code_of k) (slot k p) (slot k m) (a k) in
+    let size = single-injective p.size m.size (same Size) in
+    let additional = single-injective p.additional m.additional (same Additional) in
+    λ i. record { size = size i; calling = same Calling i; called = same Called i; additional = additional i; alternative = same Alternative i }
+
+-- items after one with another code
+Gains-past : (code : ℕ) (i : Item) (items : List Item) (o new : Option (List ℕ)) → eqb i.code code ≡ false → Gains code o (i ∷ items) new → Gains code o items new
+Gains-past code i items o new ne e = rw ne at e
+
+-- the first item is read, and the others are still to be added
+pub record TakesItem (at : ℕ) (i : Item) (items : List Item) (p m : Parameters) : Type 0 where
+  pub more : Parameters
+  pub read : with_parameter at i.code i.value p ≡ Ok more
+  pub adds : Adds more items m
+
+size_value : (o : Option ℕ) (n : ℕ) → IfSome o (λ code. (7 ≤ code) × (code ≤ 13)) → o ≡ Some n → (7 ≤ n) × (n ≤ 13)
+size_value None n h e = absurd cc
+size_value (Some k) n h e = grind arith
+
+short_value : (o : Option (List ℕ)) (v : List ℕ) → IfSome o (λ s. (length s ≤ 32) × IsOctets s) → o ≡ Some v → length v ≤ 32
+short_value None v h e = absurd cc
+short_value (Some w) v h e = grind arith
+
+-- the result of reading an item with a code of the table, and what the other items add to it
+size_left : (n : ℕ) (value : List ℕ) (items : List Item) (p m : Parameters) → value ≡ n ∷ [] → p.size ≡ None → Adds p (item 0xC0 value ∷ items) m → Adds (record p { size = Some n }) items m
+size_left n value items p m one none a Size = ap (λ (v : List ℕ). v ∷ values_of 0xC0 items) (sym one) ∙ rw none at (a Size)
+size_left n value items p m one none a k = a k
+
+calling_left : (value : List ℕ) (items : List Item) (p m : Parameters) → p.calling ≡ None → Adds p (item 0xC1 value ∷ items) m → Adds (record p { calling = Some value }) items m
+calling_left value items p m none a Calling = rw none at (a Calling)
+calling_left value items p m none a k = a k
+
+called_left : (value : List ℕ) (items : List Item) (p m : Parameters) → p.called ≡ None → Adds p (item 0xC2 value ∷ items) m → Adds (record p { called = Some value }) items m
+called_left value items p m none a Called = rw none at (a Called)
+called_left value items p m none a k = a k
+
+additional_left : (n : ℕ) (value : List ℕ) (items : List Item) (p m : Parameters) → value ≡ n ∷ [] → p.additional ≡ None → Adds p (item 0xC6 value ∷ items) m → Adds (record p { additional = Some n }) items m
+additional_left n value items p m one none a Additional = ap (λ (v : List ℕ). v ∷ values_of 0xC6 items) (sym one) ∙ rw none at (a Additional)
+additional_left n value items p m one none a k = a k
+
+alternative_left : (value : List ℕ) (items : List Item) (p m : Parameters) → p.alternative ≡ None → Adds p (item 0xC7 value ∷ items) m → Adds (record p { alternative = Some value }) items m
+alternative_left value items p m none a Alternative = rw none at (a Alternative)
+alternative_left value items p m none a k = a k
+
+size_read : (at n : ℕ) (value : List ℕ) (p : Parameters) → value ≡ n ∷ [] → p.size ≡ None → (7 ≤ n) × (n ≤ 13) → with_parameter at 0xC0 value p ≡ Ok (record p { size = Some n })
+unfolding with_parameter with_size
+size_read at n value p one none bounds = rw (one, none, le-leb 7 n bounds.0, le-leb n 13 bounds.1) refl
+
+additional_read : (at n : ℕ) (value : List ℕ) (p : Parameters) → value ≡ n ∷ [] → p.additional ≡ None → with_parameter at 0xC6 value p ≡ Ok (record p { additional = Some n })
+unfolding with_parameter with_additional
+additional_read at n value p one none = rw (one, none) refl
+
+known_taken : (k : Parameter) (at : ℕ) (value : List ℕ) (items : List Item) (p m : Parameters) → AreParameters m → Adds p (item (code_of k) value ∷ items) m → TakesItem at (item (code_of k) value) items p m
+unfolding with_parameter with_calling with_called with_alternative
+known_taken Size at value items p m fits a =
+    let f = first_value (single p.size) (single m.size) value (values_of 0xC0 items) (a Size) in
+    let one = single_some m.size value f.1 in
+    let none = single_none p.size f.0 in
+    record {
+      more = record p { size = Some one.0 };
+      read = size_read at one.0 value p one.2 none (size_value m.size one.0 fits.size one.1);
+      adds = size_left one.0 value items p m one.2 none a;
+    }
+known_taken Calling at value items p m fits a =
+    let f = first_value p.calling m.calling value (values_of 0xC1 items) (a Calling) in
+    record {
+      more = record p { calling = Some value };
+      read = rw (le-ltb 32 (length value) (short_value m.calling value fits.calling f.1), f.0) refl;
+      adds = calling_left value items p m f.0 a;
+    }
+known_taken Called at value items p m fits a =
+    let f = first_value p.called m.called value (values_of 0xC2 items) (a Called) in
+    record {
+      more = record p { called = Some value };
+      read = rw (le-ltb 32 (length value) (short_value m.called value fits.called f.1), f.0) refl;
+      adds = called_left value items p m f.0 a;
+    }
+known_taken Additional at value items p m fits a =
+    let f = first_value (single p.additional) (single m.additional) value (values_of 0xC6 items) (a Additional) in
+    let one = single_some m.additional value f.1 in
+    let none = single_none p.additional f.0 in
+    record {
+      more = record p { additional = Some one.0 };
+      read = additional_read at one.0 value p one.2 none;
+      adds = additional_left one.0 value items p m one.2 none a;
+    }
+known_taken Alternative at value items p m fits a =
+    let f = first_value p.alternative m.alternative value (values_of 0xC7 items) (a Alternative) in
+    record {
+      more = record p { alternative = Some value };
+      read = rw f.0 refl;
+      adds = alternative_left value items p m f.0 a;
+    }
+
+abbrev Taken : ℕ → ℕ → List ℕ → List Item → Parameters → Parameters → Type 0
+Taken at code value items p m = Adds p (item code value ∷ items) m → TakesItem at (item code value) items p m
+
+pub test_eq : (a b : ℕ) → ((a ≡ b) × (eqb a b ≡ true)) ⊎ (eqb a b ≡ false)
+test_eq a b = grind (arith, cases_eq, eq-eqb, ne_eqb)
+
+taken : (at code : ℕ) (value : List ℕ) (items : List Item) (p m : Parameters) → AreParameters m → Taken at code value items p m
+unfolding with_parameter
+taken at code value items p m fits =
+    elim (test_eq code 0xC0) [
+      | inl s ↦ subst (λ (k : ℕ). Taken at k value items p m) (sym s.0) (known_taken Size at value items p m fits)
+      | inr s ↦ elim (test_eq code 0xC1) [
+        | inl t ↦ subst (λ (k : ℕ). Taken at k value items p m) (sym t.0) (known_taken Calling at value items p m fits)
+        | inr t ↦ elim (test_eq code 0xC2) [
+          | inl u ↦ subst (λ (k : ℕ). Taken at k value items p m) (sym u.0) (known_taken Called at value items p m fits)
+          | inr u ↦ elim (test_eq code 0xC6) [
+            | inl v ↦ subst (λ (k : ℕ). Taken at k value items p m) (sym v.0) (known_taken Additional at value items p m fits)
+            | inr v ↦ elim (test_eq code 0xC7) [
+              | inl w ↦ subst (λ (k : ℕ). Taken at k value items p m) (sym w.0) (known_taken Alternative at value items p m fits)
+              | inr w ↦ λ a. record {
+                more = p;
+                read = rw (s, t, u, v, w) refl;
+                adds = λ k. Gains-past (code_of k) (item code value) items (slot k p) (slot k m) (other_code code s t u v w k) (a k);
+              }
+            ]
+          ]
+        ]
+      ]
+    ]
+
+parameters_only : (n at : ℕ) (p : Parameters) (items : List Item) (m : Parameters) → length (flat_map item_octets items) ≤ n → AreParameters m → Adds p items m → parameters_at n at p (flat_map item_octets items) ≡ Ok m
+unfolding parameters_at
+parameters_only n at p [] m le fits a = ap (λ (q : Parameters). ok q) (same_parameters p m a)
+parameters_only zero at p (i ∷ items) m le fits a = absurd (omega arith)
+parameters_only (suc n) at p (i ∷ items) m le fits a =
+    let rest = flat_map item_octets items in
+    let t = taken at i.code i.value items p m fits a in
+    let shorter : length rest ≤ n = omega (arith, length-append i.value rest) in
+    let others = parameters_only n (at + (2 + length i.value)) t.more items m shorter fits t.adds in
+    rw (parameter_again at i rest, t.read) others
+
+meant : (items : List Item) (m : Parameters) → Means m items → Adds no_parameters items m
+meant items m means Size = means.size
+meant items m means Calling = means.calling
+meant items m means Called = means.called
+meant items m means Additional = means.additional
+meant items m means Alternative = means.alternative
+
+-- once items were read, their meaning is known
+pub known_only : (at : ℕ) (items : List Item) (m : Parameters) → AreParameters m → Means m items → known_at at (flat_map item_octets items) ≡ Ok m
+known_only at items m fits means =
+    parameters_only (length (flat_map item_octets items)) at no_parameters items m (omega arith) fits
+    (meant items m means)
+
+skipped_only_with : (n at : ℕ) (items : List Item) → length (flat_map item_octets items) ≤ n → skipped_at n at (flat_map item_octets items) ≡ Ok tt
+unfolding skipped_at
+skipped_only_with n at [] le = refl
+skipped_only_with zero at (i ∷ items) le = absurd (omega arith)
+skipped_only_with (suc n) at (i ∷ items) le =
+    let rest = flat_map item_octets items in
+    let shorter : length rest ≤ n = omega (arith, length-append i.value rest) in
+    rw (parameter_again at i rest) (skipped_only_with n (at + (2 + length i.value)) items shorter)
+
+pub skipped_only : (at : ℕ) (items : List Item) → all_skipped_at at (flat_map item_octets items) ≡ Ok tt
+skipped_only at items = skipped_only_with (length (flat_map item_octets items)) at items (omega arith)

@@ -1,0 +1,326 @@
+-- The fault that the reader of a unit returns is its first one.
+use Rattle.std.proofs.Common.{◌≡◌, ℕ, ◌+◌, ◌*◌, ◌/◌, ◌%◌, ◌<◌, ◌≤◌, true, false, cond, eqb, ltb, leb, ◌||◌, List, ◌∷◌, ◌++◌, length, get_or, take, drop, Option, Some, None, Result, Ok, Err, refl, sym, ap, subst, ◌∙◌, arith, inl, inr, ◌⊎◌}
+use Rattle.osi_tpdu.proofs.Vocabulary.{IsOk, false≢true, ltb-true, ltb-false, eqb-true, eqb-false, length-take-le, drop_at, take-append-drop, IsOctets, octets_drop, octets_left, TpduFault, BadLi, UnknownCode, Parameters, Connect, Value, request, confirm, disconnect, disconnected, data0, data2, acknowledge, error, may_be_followed, header_at, reference_at, known_at, all_skipped_at, connect_of, request_of, confirm_of, disconnect_of, disconnected_of, transfer_of, acknowledge_of, error_of, value_of, unit_at, Kind, Request, Confirm, Disconnect, Disconnected, Transfer, Acknowledge, Report, HasCode, MayCount, HasParametersBehind, LooksAtParameters, HasParameterFault, HasHeader, HasNoHeader, BeginsUnit, HasBadIndicator, HasUnknownCode, HasFault, StandsBefore, IsFirst, IsUnitFault}
+use Rattle.osi_tpdu.proofs.the_steps_of_reading.{chosen, ok_is, IsOctets-rest}
+use Rattle.osi_tpdu.proofs.one_unit_is_read.{header_found, header_again}
+use Rattle.osi_tpdu.proofs.the_first_fault_of_the_parameters.{Judges, judges_same, judges_bind, judges_map, judges_cond, parameters_judged, skips_judged, parameter_place}
+
+abbrev Parts : Type 0
+Parts = List ℕ × List ℕ
+
+-- ---- one header, one kind
+
+same_header : (b h t g u : List ℕ) → HasHeader b h t → HasHeader b g u → h ≡ g
+same_header b h t g u x y =
+    let first : header_at 0 b ≡ Ok (h, t) = ap (header_at 0) x.whole ∙ header_again 0 h t x.at_least x.at_most in
+    let second : header_at 0 b ≡ Ok (g, u) = ap (header_at 0) y.whole ∙ header_again 0 g u y.at_least y.at_most in
+    ap (λ (p : Parts). p.0) (ok_is (h, t) (g, u) (sym first ∙ second))
+
+abbrev kind_named : ℕ → Option Kind
+kind_named code =
+    cond (eqb (code / 16) 0xE) (Some Request) (cond (eqb (code / 16) 0xD) (Some Confirm) (cond (eqb (code / 16) 0x6) (Some Acknowledge)
+    (cond (eqb code 0x80) (Some Disconnect) (cond (eqb code 0xC0) (Some Disconnected) (cond (eqb code 0xF0) (Some Transfer) (cond (eqb code 0x70) (Some Report) None))))))
+
+named_kind : (kind : Kind) (code : ℕ) → HasCode kind code → kind_named code ≡ Some kind
+named_kind Request code h = (let half : code / 16 ≡ 14 = omega (arith, h.1, h.2) in rw half refl)
+named_kind Confirm code h = (let half : code / 16 ≡ 13 = omega (arith, h.1, h.2) in rw half refl)
+named_kind Acknowledge code h = (let half : code / 16 ≡ 6 = omega (arith, h.1, h.2) in rw half refl)
+named_kind _ code h = ap kind_named h
+
+some_is : (k j : Kind) → (let o : Option Kind = Some k in o) ≡ Some j → k ≡ j
+some_is k j e = cc
+
+same_kind : (k j : Kind) (code : ℕ) → HasCode k code → HasCode j code → k ≡ j
+same_kind k j code a b = some_is k j (sym (named_kind k code a) ∙ named_kind j code b)
+
+-- a statement about the unit at the front of the octets, for two names of the same kind
+same_unit : (P : Kind → List ℕ → Type 0) (k j : Kind) (b h g : List ℕ) → BeginsUnit k b h → BeginsUnit j b g → P k h → P j g
+same_unit P k j b h g x y p =
+    let headers : h ≡ g = same_header b h x.behind g y.behind x.there y.there in
+    let code : HasCode k (get_or g 0 0) = subst (λ (o : List ℕ). HasCode k (get_or o 0 0)) headers x.code in
+    subst (λ (o : List ℕ). P j o) headers (subst (λ (q : Kind). P q h) (same_kind k j (get_or g 0 0) code y.code) p)
+
+behind_one : (kind : Kind) (m n : ℕ) → HasParametersBehind kind m → HasParametersBehind kind n → m ≡ n
+behind_one Disconnected m n a b = absurd a
+behind_one Transfer m n a b = absurd a
+behind_one Acknowledge m n a b = absurd a
+behind_one _ m n a b = a ∙ sym b
+
+-- ---- a bad length indicator
+
+li_first : (at : ℕ) (b : List ℕ) → HasBadIndicator b → IsFirst (HasFault at b) (BadLi at)
+li_first at b bad = grind (arith, parameter_place)
+
+no_li : (b header : List ℕ) (kind : Kind) → BeginsUnit kind b header → MayCount kind (length header) → HasBadIndicator b → ⊥
+no_li b header kind u counts h =
+    elim h [
+      | inl none ↦ none header u.behind u.there
+      | inr c ↦ c.3 (same_unit (λ k o. MayCount k (length o)) kind c.0 b header c.1 u c.2 counts)
+    ]
+
+no_code : (b header : List ℕ) (kind : Kind) → BeginsUnit kind b header → HasUnknownCode b → ⊥
+no_code b header kind u h =
+    let headers : header ≡ h.0 = same_header b header u.behind h.0 h.1 u.there h.2 in
+    h.3 kind (subst (λ (o : List ℕ). HasCode kind (get_or o 0 0)) headers u.code)
+
+-- ---- units without parameters
+
+plain_fine : (at : ℕ) (b header : List ℕ) (kind : Kind) → BeginsUnit kind b header → MayCount kind (length header) → ((n : ℕ) → HasParametersBehind kind n → ⊥) → (f : TpduFault) → HasFault at b f → ⊥
+plain_fine at b header kind u counts none f h =
+    elim h [
+      | inl a ↦ no_li b header kind u counts a.1
+      | inr a ↦ elim a [
+        | inl c ↦ no_code b header kind u c.1
+        | inr p ↦ none (length p.1) (same_unit (λ k o. HasParametersBehind k (length p.1)) p.0 kind b (p.1 ++ p.2) header p.3 u p.4)
+      ]
+    ]
+
+-- ---- units with parameters
+
+same_front : (x y s t : List ℕ) → length x ≡ length y → x ++ s ≡ y ++ t → s ≡ t
+same_front x y s t len e = sym (drop_at x s (length x) refl) ∙ ap (drop (length x)) e ∙ drop_at y t (length x) (sym len)
+
+parameters_only : {A : Type 0} (at : ℕ) (b fixed s : List ℕ) (kind : Kind) (r : Result A TpduFault) → BeginsUnit kind b (fixed ++ s) → MayCount kind (length (fixed ++ s)) → HasParametersBehind kind (length fixed)
+    → Judges (HasParameterFault kind (at + (1 + length fixed)) s) r → Judges (HasFault at b) r
+parameters_only at b fixed s kind r u counts behind =
+    judges_same (HasParameterFault kind (at + (1 + length fixed)) s) (HasFault at b) r (λ f h. inr (inr (kind, fixed, s, u, behind, h)))
+    (λ f h. elim h [
+      | inl a ↦ absurd (no_li b (fixed ++ s) kind u counts a.1)
+      | inr a ↦ elim a [
+        | inl c ↦ absurd (no_code b (fixed ++ s) kind u c.1)
+        | inr p ↦
+            let x = p.1 in
+            let t = p.2 in
+            let headers : x ++ t ≡ fixed ++ s = same_header b (x ++ t) p.3.behind (fixed ++ s) u.behind p.3.there u.there in
+            let kinds : p.0 ≡ kind = same_unit (λ k o. p.0 ≡ k) p.0 kind b (x ++ t) (fixed ++ s) p.3 u refl in
+            let len : length x ≡ length fixed = behind_one kind (length x) (length fixed) (subst (λ (k : Kind). HasParametersBehind k (length x)) kinds p.4) behind in
+            let there : HasParameterFault kind (at + (1 + length x)) t f = subst (λ (k : Kind). HasParameterFault k (at + (1 + length x)) t f) kinds p.5 in
+            let moved : HasParameterFault kind (at + (1 + length fixed)) t f = subst (λ (n : ℕ). HasParameterFault kind (at + (1 + n)) t f) len there in
+            subst (λ (o : List ℕ). HasParameterFault kind (at + (1 + length fixed)) o f) (same_front x fixed t s len headers) moved
+      ]
+    ])
+
+-- the same if the fixed part has n octets
+behind_judged : {A : Type 0} (at n : ℕ) (b header : List ℕ) (kind : Kind) (r : Result A TpduFault) → n ≤ length header → BeginsUnit kind b header → MayCount kind (length header) → HasParametersBehind kind n
+    → Judges (HasParameterFault kind (at + (1 + n)) (drop n header)) r → Judges (HasFault at b) r
+behind_judged at n b header kind r long u counts behind j =
+    let parts : header ≡ take n header ++ drop n header = sym (take-append-drop n header) in
+    let len : length (take n header) ≡ n = length-take-le n header long in
+    parameters_only at b (take n header) (drop n header) kind r (subst (λ (o : List ℕ). BeginsUnit kind b o) parts u) (subst (λ (o : List ℕ). MayCount kind (length o)) parts counts)
+    (subst (λ (k : ℕ). HasParametersBehind kind k) (sym len) behind)
+    (subst (λ (k : ℕ). Judges (HasParameterFault kind (at + (1 + k)) (drop n header)) r) (sym len) j)
+
+-- ---- each kind
+
+too_short : (n least : ℕ) → ltb n least ≡ true → least ≤ n → ⊥
+too_short n least e le = omega (arith, ltb-true)
+
+offset_moved : {A : Type 0} (kind : Kind) (at to : ℕ) (s : List ℕ) (r : Result A TpduFault) → at ≡ to → Judges (HasParameterFault kind at s) r → Judges (HasParameterFault kind to s) r
+offset_moved kind at to s r e j = subst (λ (n : ℕ). Judges (HasParameterFault kind n s) r) e j
+
+abbrev made : List ℕ → List ℕ → Parameters → Connect
+made header user p = record {
+  credit = get_or header 0 0 % 16;
+  source = reference_at 3 header;
+  class = get_or header 5 0 / 16;
+  options = get_or header 5 0 % 16;
+  parameters = p;
+  user = user;
+}
+
+connect_judged : (at : ℕ) (b header user : List ℕ) (kind : Kind) → IsOctets header → BeginsUnit kind b header → LooksAtParameters kind → (6 ≤ length header → MayCount kind (length header)) → (MayCount kind (length header) → 6 ≤ length header)
+    → HasParametersBehind kind 6 → Judges (HasFault at b) (connect_of at header user)
+unfolding connect_of
+connect_judged at b header user kind octets u looks counts long behind =
+    judges_cond (HasFault at b) (ltb (length header) 6) (Err (BadLi at)) _ (λ e. li_first at b (inr (kind, header, u, λ c. too_short (length header) 6 e (long c))))
+    (λ e.
+    let le : 6 ≤ length header = ltb-false (length header) 6 e in
+    let j = parameters_judged kind (at + 7) (drop 6 header) looks (octets_drop 6 header octets) in
+    judges_map (HasFault at b) (known_at (at + 7) (drop 6 header)) (made header user)
+    (behind_judged at 6 b header kind (known_at (at + 7) (drop 6 header)) le u (counts le) behind
+    (offset_moved kind (at + 7) (at + (1 + 6)) (drop 6 header) (known_at (at + 7) (drop 6 header)) (omega arith) j)))
+
+request_judged : (at : ℕ) (b header user : List ℕ) → IsOctets header → BeginsUnit Request b header → Judges (HasFault at b) (request_of at header user)
+unfolding request_of
+request_judged at b header user octets u = judges_map (HasFault at b) (connect_of at header user) request (connect_judged at b header user Request octets u tt (λ le. le) (λ le. le) refl)
+
+confirm_judged : (at : ℕ) (b header user : List ℕ) → IsOctets header → BeginsUnit Confirm b header → Judges (HasFault at b) (confirm_of at header user)
+unfolding confirm_of
+confirm_judged at b header user octets u =
+    judges_map (HasFault at b) (connect_of at header user) (confirm (reference_at 1 header)) (connect_judged at b header user Confirm octets u tt (λ le. le) (λ le. le) refl)
+
+disconnect_judged : (at : ℕ) (b header user : List ℕ) → IsOctets header → BeginsUnit Disconnect b header → Judges (HasFault at b) (disconnect_of at header user)
+unfolding disconnect_of
+disconnect_judged at b header user octets u =
+    judges_cond (HasFault at b) (ltb (length header) 6) (Err (BadLi at)) _ (λ e. li_first at b (inr (Disconnect, header, u, too_short (length header) 6 e)))
+    (λ e.
+    let le : 6 ≤ length header = ltb-false (length header) 6 e in
+    let j = skips_judged Disconnect (at + 7) (drop 6 header) (λ no. no) (octets_drop 6 header octets) in
+    judges_map (HasFault at b) (all_skipped_at (at + 7) (drop 6 header)) (λ skipped. disconnect (reference_at 1 header) (reference_at 3 header) (get_or header 5 0) user)
+    (behind_judged at 6 b header Disconnect (all_skipped_at (at + 7) (drop 6 header)) le u le refl
+    (offset_moved Disconnect (at + 7) (at + (1 + 6)) (drop 6 header) (all_skipped_at (at + 7) (drop 6 header)) (omega arith) j)))
+
+error_judged : (at : ℕ) (b header : List ℕ) → IsOctets header → BeginsUnit Report b header → Judges (HasFault at b) (error_of at header)
+unfolding error_of
+error_judged at b header octets u =
+    judges_cond (HasFault at b) (ltb (length header) 4) (Err (BadLi at)) _ (λ e. li_first at b (inr (Report, header, u, too_short (length header) 4 e)))
+    (λ e.
+    let le : 4 ≤ length header = ltb-false (length header) 4 e in
+    let j = skips_judged Report (at + 5) (drop 4 header) (λ no. no) (octets_drop 4 header octets) in
+    judges_map (HasFault at b) (all_skipped_at (at + 5) (drop 4 header)) (λ skipped. error (reference_at 1 header) (get_or header 3 0))
+    (behind_judged at 4 b header Report (all_skipped_at (at + 5) (drop 4 header)) le u le refl
+    (offset_moved Report (at + 5) (at + (1 + 4)) (drop 4 header) (all_skipped_at (at + 5) (drop 4 header)) (omega arith) j)))
+
+disconnected_judged : (at : ℕ) (b header : List ℕ) → BeginsUnit Disconnected b header → Judges (HasFault at b) (disconnected_of at header)
+unfolding disconnected_of
+disconnected_judged at b header u =
+    judges_cond (HasFault at b) (eqb (length header) 5) (Ok (disconnected (reference_at 1 header) (reference_at 3 header))) (Err (BadLi at))
+    (λ e. plain_fine at b header Disconnected u (eqb-true (length header) 5 e) (λ n no. no)) (λ e. li_first at b (inr (Disconnected, header, u, eqb-false (length header) 5 e)))
+
+acknowledge_judged : (at : ℕ) (b header : List ℕ) → BeginsUnit Acknowledge b header → Judges (HasFault at b) (acknowledge_of at header)
+unfolding acknowledge_of
+acknowledge_judged at b header u =
+    judges_cond (HasFault at b) (eqb (length header) 4) (Ok (acknowledge (get_or header 0 0 % 16) (reference_at 1 header) (get_or header 3 0 % 128))) (Err (BadLi at))
+    (λ e. plain_fine at b header Acknowledge u (eqb-true (length header) 4 e) (λ n no. no)) (λ e. li_first at b (inr (Acknowledge, header, u, eqb-false (length header) 4 e)))
+
+neither : (n : ℕ) → eqb n 2 ≡ false → eqb n 4 ≡ false → (n ≡ 2) ⊎ (n ≡ 4) → ⊥
+neither n a b h = grind (arith, eqb-false)
+
+transfer_judged : (at : ℕ) (b header user : List ℕ) → BeginsUnit Transfer b header → Judges (HasFault at b) (transfer_of at header user)
+unfolding transfer_of
+transfer_judged at b header user u =
+    judges_cond (HasFault at b) (eqb (length header) 2) (Ok (data0 (leb 128 (get_or header 1 0)) user)) _ (λ e. plain_fine at b header Transfer u (inl (eqb-true (length header) 2 e)) (λ n no. no))
+    (λ e. judges_cond (HasFault at b) (eqb (length header) 4) (Ok (data2 (reference_at 1 header) (get_or header 3 0 % 128) (leb 128 (get_or header 3 0)) user)) (Err (BadLi at))
+    (λ d. plain_fine at b header Transfer u (inr (eqb-true (length header) 4 d)) (λ n no. no)) (λ d. li_first at b (inr (Transfer, header, u, neither (length header) e d))))
+
+-- ---- any code
+
+unnamed : (kind : Kind) (code : ℕ) → eqb (code / 16) 0xE ≡ false → eqb (code / 16) 0xD ≡ false → eqb (code / 16) 0x6 ≡ false → eqb code 0x80 ≡ false → eqb code 0xC0 ≡ false → eqb code 0xF0 ≡ false → eqb code 0x70 ≡ false
+    → HasCode kind code → ⊥
+unnamed Request code a b c d e f g h = eqb-false (code / 16) 0xE a (omega (arith, h.1, h.2))
+unnamed Confirm code a b c d e f g h = eqb-false (code / 16) 0xD b (omega (arith, h.1, h.2))
+unnamed Acknowledge code a b c d e f g h = eqb-false (code / 16) 0x6 c (omega (arith, h.1, h.2))
+unnamed Disconnect code a b c d e f g h = eqb-false code 0x80 d h
+unnamed Disconnected code a b c d e f g h = eqb-false code 0xC0 e h
+unnamed Transfer code a b c d e f g h = eqb-false code 0xF0 f h
+unnamed Report code a b c d e f g h = eqb-false code 0x70 g h
+
+code_first : (at : ℕ) (b header behind : List ℕ) → HasHeader b header behind → ((kind : Kind) → HasCode kind (get_or header 0 0) → ⊥) → IsFirst (HasFault at b) (UnknownCode (at + 1))
+code_first at b header behind there unknown =
+    let none = λ (kind : Kind) (h : List ℕ) (u : BeginsUnit kind b h). unknown kind (subst (λ (o : List ℕ). HasCode kind (get_or o 0 0)) (same_header b h u.behind header behind u.there there) u.code) in
+    record {
+      there = inr (inl (refl, (header, behind, there, unknown)));
+      first = λ f h. elim h [
+        | inl a ↦ elim a.1 [
+          | inl none_there ↦ absurd (none_there header behind there)
+          | inr c ↦ absurd (none c.0 c.1 c.2)
+        ]
+        | inr a ↦ elim a [
+          | inl c ↦ inl c.0
+          | inr p ↦ absurd (none p.0 (p.1 ++ p.2) p.3)
+        ]
+      ];
+    }
+
+half_is : (code half : ℕ) → code / 16 ≡ half → code ≡ 16 * half + code % 16
+half_is code half e = omega arith
+
+low_half : (code : ℕ) → code % 16 < 16
+low_half code = omega arith
+
+value_judged : (at : ℕ) (b header behind : List ℕ) → IsOctets header → HasHeader b header behind → Judges (HasFault at b) (value_of at header behind)
+unfolding value_of
+value_judged at b header behind octets there =
+    let P : TpduFault → Type 0 = HasFault at b in
+    let code = get_or header 0 0 in
+    let begins = λ (kind : Kind) (h : HasCode kind code). (let u : BeginsUnit kind b header = record { behind = behind; there = there; code = h } in u) in
+    judges_cond P (eqb (code / 16) 0xE) (request_of at header behind) _
+    (λ e. request_judged at b header behind octets (begins Request (code % 16, low_half code, half_is code 14 (eqb-true (code / 16) 0xE e))))
+    (λ nE. judges_cond P (eqb (code / 16) 0xD) (confirm_of at header behind) _
+    (λ e. confirm_judged at b header behind octets (begins Confirm (code % 16, low_half code, half_is code 13 (eqb-true (code / 16) 0xD e))))
+    (λ nD. judges_cond P (eqb (code / 16) 0x6) (acknowledge_of at header) _
+    (λ e. acknowledge_judged at b header (begins Acknowledge (code % 16, low_half code, half_is code 6 (eqb-true (code / 16) 0x6 e))))
+    (λ n6. judges_cond P (eqb code 0x80) (disconnect_of at header behind) _ (λ e. disconnect_judged at b header behind octets (begins Disconnect (eqb-true code 0x80 e)))
+    (λ n80. judges_cond P (eqb code 0xC0) (disconnected_of at header) _ (λ e. disconnected_judged at b header (begins Disconnected (eqb-true code 0xC0 e)))
+    (λ nC0. judges_cond P (eqb code 0xF0) (transfer_of at header behind) _ (λ e. transfer_judged at b header behind (begins Transfer (eqb-true code 0xF0 e)))
+    (λ nF0. judges_cond P (eqb code 0x70) (error_of at header) (Err (UnknownCode (at + 1))) (λ e. error_judged at b header octets (begins Report (eqb-true code 0x70 e)))
+    (λ n70. code_first at b header behind there (λ kind. unnamed kind code nE nD n6 n80 nC0 nF0 n70))))))))
+
+-- ---- whole units
+
+header_bad : (at : ℕ) (b : List ℕ) (f : TpduFault) → header_at at b ≡ Err f → f ≡ BadLi at
+unfolding header_at
+header_bad at b f e = grind (arith, get_or, chosen)
+
+header_none : (at : ℕ) (b : List ℕ) (f : TpduFault) → header_at at b ≡ Err f → HasNoHeader b
+header_none at b f e header behind h = grind (arith, header_again)
+
+pub unit_judged : (at : ℕ) (b : List ℕ) → IsOctets b → Judges (HasFault at b) (unit_at at b)
+unfolding unit_at
+unit_judged at b octets =
+    judges_bind (HasFault at b) (header_at at b) _
+    (λ f e. subst (λ (g : TpduFault). IsFirst (HasFault at b) g) (sym (header_bad at b f e)) (li_first at b (inl (header_none at b f e))))
+    (λ x e.
+    let found = header_found at b x e in
+    let there : HasHeader b x.0 x.1 = record { whole = found.0; at_least = found.1; at_most = found.2 } in
+    let whole : IsOctets (length x.0 ∷ x.0 ++ x.1) = subst (λ (s : List ℕ). IsOctets s) found.0 octets in
+    let inner = octets_left x.0 x.1 (IsOctets-rest (length x.0) (x.0 ++ x.1) whole) in
+    judges_map (HasFault at b) (value_of at x.0 x.1) (λ v. (v, cond (may_be_followed v) (1 + length x.0) (length b))) (value_judged at b x.0 x.1 inner there))
+
+abbrev Read : Type 0
+Read = Result (Value × ℕ) TpduFault
+
+fault_by : (at : ℕ) (b : List ℕ) (f : TpduFault) (r : Read) → r ≡ Err f → Judges (HasFault at b) r → IsUnitFault at b f
+fault_by at b f (Ok x) e j = absurd cc
+fault_by at b f (Err g) e j = grind arith
+
+-- the fault returned is the first
+pub unit_fault_found : (at : ℕ) (b : List ℕ) (f : TpduFault) → IsOctets b → unit_at at b ≡ Err f → IsUnitFault at b f
+unit_fault_found at b f octets e = fault_by at b f (unit_at at b) e (unit_judged at b octets)
+
+-- there is one first
+pub one_first : (Has : TpduFault → Type 0) (f g : TpduFault) → IsFirst Has f → IsFirst Has g → f ≡ g
+one_first Has f g a b =
+    elim (b.first f a.there) [
+      | inl same ↦ same
+      | inr behind ↦ elim (a.first g b.there) [
+        | inl same ↦ sym same
+        | inr before ↦ absurd (not_both f g behind before)
+      ]
+    ]
+  where
+    not_both : (f g : TpduFault) → StandsBefore g f → StandsBefore f g → ⊥
+    not_both f g x y =
+        elim x [
+          | inl p ↦ elim y [
+            | inl q ↦ omega arith
+            | inr q ↦ omega (arith, q.0)
+          ]
+          | inr p ↦ elim y [
+            | inl q ↦ omega (arith, p.0)
+            | inr q ↦ omega (arith, p.1, q.1)
+          ]
+        ]
+
+only_by : (at : ℕ) (b : List ℕ) (f : TpduFault) (r : Read) → IsUnitFault at b f → Judges (HasFault at b) r → r ≡ Err f
+only_by at b f (Ok x) first j = absurd (j f first.there)
+only_by at b f (Err g) first j = ap (λ (h : TpduFault). (let r : Read = Err h in r)) (one_first (HasFault at b) g f j first)
+
+-- and the first fault is returned
+pub unit_fault_only : (at : ℕ) (b : List ℕ) (f : TpduFault) → IsOctets b → IsUnitFault at b f → unit_at at b ≡ Err f
+unit_fault_only at b f octets first = only_by at b f (unit_at at b) first (unit_judged at b octets)
+
+read_by : (at : ℕ) (b : List ℕ) (r : Read) → Judges (HasFault at b) r → ((f : TpduFault) → ¬ (HasFault at b f)) → IsOk r
+read_by at b (Ok x) j none = refl
+read_by at b (Err g) j none = absurd (none g j.there)
+
+clean_by : (at : ℕ) (b : List ℕ) (r : Read) → Judges (HasFault at b) r → IsOk r → (f : TpduFault) → ¬ (HasFault at b f)
+clean_by at b (Ok x) j ok f h = j f h
+clean_by at b (Err g) j ok f h = absurd (false≢true ok)
+
+-- a unit without a fault is read, and no other
+pub unit_clean : (at : ℕ) (b : List ℕ) → IsOctets b → ((f : TpduFault) → ¬ (HasFault at b f)) → IsOk (unit_at at b)
+unit_clean at b octets none = read_by at b (unit_at at b) (unit_judged at b octets) none
+
+pub clean_unit : (at : ℕ) (b : List ℕ) → IsOctets b → IsOk (unit_at at b) → (f : TpduFault) → ¬ (HasFault at b f)
+clean_unit at b octets ok = clean_by at b (unit_at at b) (unit_judged at b octets) ok

@@ -1,0 +1,68 @@
+-- The code octet of a unit tells whether another unit may follow it.
+use Rattle.std.proofs.Common.{◌≡◌, ℕ, ◌+◌, ◌≤◌, ◌/◌, ◌%◌, Bool, true, false, eqb, ltb, leb, List, length, get_or, drop, Result, Ok, Err, refl, sym, ◌∙◌, subst, arith, inl, inr}
+use Rattle.osi_tpdu.proofs.Vocabulary.{ne_eqb, eqb-true, TpduFault, BadLi, UnknownCode, Value, request, confirm, disconnect, disconnected, data0, data2, acknowledge, error, may_be_followed, header_at, reference_at, all_skipped_at, connect_of, request_of, confirm_of, disconnect_of, disconnected_of, transfer_of, acknowledge_of, error_of, value_of, is_lead_code, used_by, unit_at, can_be_read}
+use Rattle.osi_tpdu.proofs.the_steps_of_reading.{bind_ok, unless_ok, when_ok, chosen, ok_is}
+use Rattle.osi_tpdu.proofs.the_units_of_a_packet.{none_bad}
+
+no_lead : (code : ℕ) → (code / 16 ≡ 0x6 → ⊥) → (code ≡ 0xC0 → ⊥) → (code ≡ 0x70 → ⊥) → is_lead_code code ≡ false
+unfolding is_lead_code
+no_lead code a d e = rw (ne_eqb (code / 16) 0x6 a, ne_eqb code 0xC0 d, ne_eqb code 0x70 e) refl
+
+abbrev Leads : Bool → Value → Type 0
+Leads may v = may_be_followed v ≡ may
+
+request_leads : (at : ℕ) (header behind : List ℕ) (v : Value) → request_of at header behind ≡ Ok v → Leads false v
+unfolding request_of
+request_leads at header behind v e = grind (arith, bind_ok, ok_is)
+
+confirm_leads : (at : ℕ) (header behind : List ℕ) (v : Value) → confirm_of at header behind ≡ Ok v → Leads false v
+unfolding confirm_of
+confirm_leads at header behind v e = grind (arith, bind_ok, ok_is)
+
+disconnect_leads : (at : ℕ) (header behind : List ℕ) (v : Value) → disconnect_of at header behind ≡ Ok v → Leads false v
+unfolding disconnect_of
+disconnect_leads at header behind v e = grind (arith, get_or, unless_ok, bind_ok, ok_is)
+
+disconnected_leads : (at : ℕ) (header : List ℕ) (v : Value) → disconnected_of at header ≡ Ok v → Leads true v
+unfolding disconnected_of
+disconnected_leads at header v e = grind (arith, when_ok, ok_is)
+
+transfer_leads : (at : ℕ) (header behind : List ℕ) (v : Value) → transfer_of at header behind ≡ Ok v → Leads false v
+unfolding transfer_of
+transfer_leads at header behind v e = grind (arith, get_or, chosen, ok_is, when_ok)
+
+acknowledge_leads : (at : ℕ) (header : List ℕ) (v : Value) → acknowledge_of at header ≡ Ok v → Leads true v
+unfolding acknowledge_of
+acknowledge_leads at header v e = grind (arith, get_or, when_ok, ok_is)
+
+error_leads : (at : ℕ) (header : List ℕ) (v : Value) → error_of at header ≡ Ok v → Leads true v
+unfolding error_of
+error_leads at header v e = grind (arith, get_or, unless_ok, bind_ok, ok_is)
+
+lead_code : (at : ℕ) (header behind : List ℕ) (v : Value) → value_of at header behind ≡ Ok v → may_be_followed v ≡ is_lead_code (get_or header 0 0)
+unfolding value_of is_lead_code
+lead_code at header behind v e = grind (arith, get_or, chosen, eqb-true, request_leads, no_lead, confirm_leads, acknowledge_leads, disconnect_leads, disconnected_leads, transfer_leads, when_ok, error_leads)
+
+-- the first unit by its header and its fields, and the number of octets it takes
+pub first_read : (at : ℕ) (b : List ℕ) (x : List ℕ × List ℕ) (v : Value) → header_at at b ≡ Ok x → value_of at x.0 x.1 ≡ Ok v → unit_at at b ≡ Ok (v, used_by x.0 (length b))
+unfolding unit_at
+first_read at b x v header fields = rw (header, fields, lead_code at x.0 x.1 v fields) refl
+
+-- a header or fields that can't be read are no part of octets that can
+pub no_bad_header : (at : ℕ) (b : List ℕ) (f : TpduFault) → 1 ≤ length b → can_be_read at b ≡ true → header_at at b ≡ Err f → ⊥
+unfolding unit_at
+no_bad_header at b f some can header = none_bad at b f some can (rw header refl)
+
+no_bad_fields : (at : ℕ) (b : List ℕ) (x : List ℕ × List ℕ) (f : TpduFault) → 1 ≤ length b → can_be_read at b ≡ true → header_at at b ≡ Ok x → value_of at x.0 x.1 ≡ Err f → ⊥
+unfolding unit_at
+no_bad_fields at b x f some can header fields = none_bad at b f some can (rw (header, fields) refl)
+
+read_by : (at : ℕ) (b : List ℕ) (x : List ℕ × List ℕ) (r : Result Value TpduFault) → 1 ≤ length b → can_be_read at b ≡ true → header_at at b ≡ Ok x → value_of at x.0 x.1 ≡ r
+    → (v : Value) × (value_of at x.0 x.1 ≡ Ok v) × (unit_at at b ≡ Ok (v, used_by x.0 (length b)))
+read_by at b x (Ok v) some can header fields = (v, fields, first_read at b x v header fields)
+read_by at b x (Err f) some can header fields = absurd (no_bad_fields at b x f some can header fields)
+
+-- after a header, octets that can be read begin with a unit
+pub first_stands : (at : ℕ) (b : List ℕ) (x : List ℕ × List ℕ) → 1 ≤ length b → can_be_read at b ≡ true → header_at at b ≡ Ok x
+    → (v : Value) × (value_of at x.0 x.1 ≡ Ok v) × (unit_at at b ≡ Ok (v, used_by x.0 (length b)))
+first_stands at b x some can header = read_by at b x (value_of at x.0 x.1) some can header refl

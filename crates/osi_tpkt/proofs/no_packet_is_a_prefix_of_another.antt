@@ -1,0 +1,67 @@
+-- Laws of packets: what a header states, that no packet is a prefix of another, and that the written form is a packet.
+use Rattle.std.proofs.Common.{◌≡◌, ℕ, ◌+◌, ◌*◌, ◌/◌, ◌%◌, ◌≤◌, List, ◌∷◌, ◌++◌, length, get_or, take, drop, refl, sym, ◌∙◌, ap, subst, arith}
+use Rattle.osi_tpkt.proofs.Vocabulary.{get_or_append_left, length-take-le, take_at, take-append-drop, IsOctets, IsPacket, IsUnit, packet_of, stated_length, IsFront, IsFull}
+use Rattle.osi_tpkt.proofs.lists_of_octets_stay_octets.{octets_cons}
+use Rattle.osi_tpkt.specs.PacketValue.{Anything}
+use Rattle.osi_tpkt.specs.Unit.{IsAtFront}
+
+-- what the header states is in its four octets, whatever follows
+pub stated_length-append : (r more : List ℕ) → 4 ≤ length r → stated_length (r ++ more) ≡ stated_length r
+stated_length-append r more h =
+    let a : get_or (r ++ more) 2 0 ≡ get_or r 2 0 = get_or_append_left r more 0 2 (omega arith) in
+    let b : get_or (r ++ more) 3 0 ≡ get_or r 3 0 = get_or_append_left r more 0 3 (omega arith) in
+    omega arith
+
+spelled_front : (r h l : ℕ) (u : List ℕ) → IsOctets (3 ∷ r ∷ h ∷ l ∷ u) → 256 * h + l ≡ length u + 4 → 3 ≤ length u →
+    IsFront (3 ∷ r ∷ h ∷ l ∷ u) × IsFull (3 ∷ r ∷ h ∷ l ∷ u)
+spelled_front r h l u o e m = (
+  record { octets = o; version = λ _. refl; at_least = λ _. omega arith; within = λ _. omega arith },
+  (omega arith, omega arith),
+)
+
+pub packet_front : (u b : List ℕ) → IsPacket u b → IsFront b × IsFull b
+packet_front u b p = grind (arith, spelled_front)
+
+pub packet_unit : (u b : List ℕ) → IsPacket u b → u ≡ drop 4 b
+packet_unit u b p = sym (ap (drop 4) p.spelled)
+
+-- no packet is a proper prefix of another
+pub one_packet : (u v b c x y : List ℕ) → IsPacket u b → IsPacket v c → b ++ x ≡ c ++ y → (b ≡ c) × (u ≡ v)
+one_packet u v b c x y p q e =
+    let f = packet_front u b p in
+    let g = packet_front v c q in
+    let left = stated_length-append b x f.1.0 in
+    let right = stated_length-append c y g.1.0 in
+    let same : stated_length (b ++ x) ≡ stated_length (c ++ y) = ap stated_length e in
+    let lengths : length c ≡ length b = omega arith in
+    let equal : b ≡ c = sym (take_at b x (length b) refl) ∙ ap (take (length b)) e ∙ take_at c y (length b) lengths in
+    (equal, packet_unit u b p ∙ ap (drop 4) equal ∙ sym (packet_unit v c q))
+
+-- two packets at the front of the same octets are the same
+pub one_front : (octets u v : List ℕ) (m n : ℕ) → m ≤ length octets → n ≤ length octets →
+    IsPacket u (take m octets) → IsPacket v (take n octets) → (u ≡ v) × (m ≡ n)
+one_front octets u v m n hm hn p q =
+    let one = one_packet u v (take m octets) (take n octets) (drop m octets) (drop n octets) p q
+    (take-append-drop m octets ∙ sym (take-append-drop n octets)) in
+    (one.1, sym (length-take-le m octets hm) ∙ ap length one.0 ∙ length-take-le n octets hn)
+
+-- what is written is a packet
+pub written_packet : (u : List ℕ) → IsUnit u → IsPacket u (packet_of u)
+written_packet u h =
+    record {
+      reserved = 0;
+      high = (length u + 4) / 256;
+      low = (length u + 4) % 256;
+      spelled = refl;
+      octets = octets_cons 3 (0 ∷ ((length u + 4) / 256) ∷ ((length u + 4) % 256) ∷ u) (omega arith)
+          (octets_cons 0 (((length u + 4) / 256) ∷ ((length u + 4) % 256) ∷ u) (omega arith)
+          (octets_cons ((length u + 4) / 256) (((length u + 4) % 256) ∷ u) (omega arith)
+          (octets_cons ((length u + 4) % 256) u (omega arith) h.octets)));
+      counted = omega arith;
+      at_least = h.at_least;
+      at_most = h.at_most;
+    }
+
+pub packet_reading : (v w : List ℕ) (m n : ℕ) (octets : List ℕ) → IsOctets octets →
+    IsAtFront IsPacket Anything v m octets → IsAtFront IsPacket Anything w n octets → (v ≡ w) × (m ≡ n)
+packet_reading v w m n octets known h k = one_front octets v w m n h.within k.within h.spelled k.spelled
