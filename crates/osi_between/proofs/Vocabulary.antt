@@ -52,10 +52,13 @@ pub use Rattle.osi_class.specs.declared.terms.Class.{Class}
 pub use Rattle.osi_class.specs.declared.terms.Class.TheVariants.{Two, Zero}
 pub use Rattle.osi_class.specs.declared.terms.Local.{Local}
 pub use Rattle.osi_carrier.proofs.references.what_a_change_leaves_there.{absent, beyond, found, push_here, put_here, without_here}
-pub use Rattle.osi_carrier.proofs.references.rows_after_a_change.{push_other, push_rise, push_up, put_other, without_other, without_rise, without_up}
-pub use Rattle.osi_carrier.proofs.stream.what_was_written_is_read.{Fronts, all_behind, alone_starved, fault_free, packet_reacts, reads_part, starved_unit}
+pub use Rattle.osi_carrier.proofs.references.rows_after_a_change.{push_other, push_rise, push_up, put_other, without_other, without_rise}
+pub use Rattle.osi_carrier.proofs.references.rows_after_a_change.{without_up}
+pub use Rattle.osi_carrier.proofs.stream.what_was_written_is_read.{Fronts, all_behind, alone_starved, fault_free, packet_reacts, reads_part}
+pub use Rattle.osi_carrier.proofs.stream.what_was_written_is_read.{starved_unit}
 pub use Rattle.osi_carrier.proofs.stream.what_was_written_is_read.{unit_packet, unit_read, units_front}
-pub use Rattle.osi_carrier.proofs.effects.a_unit_touches_one_connection.{free_of, orderly_asks, orderly_closed, orderly_fresh, orderly_same, orderly_sent, orderly_unit}
+pub use Rattle.osi_carrier.proofs.effects.a_unit_touches_one_connection.{free_of, orderly_asks, orderly_closed, orderly_fresh, orderly_same}
+pub use Rattle.osi_carrier.proofs.effects.a_unit_touches_one_connection.{orderly_sent, orderly_unit}
 pub use Rattle.osi_carrier.proofs.references.which_connections_have_selectors.{put_named, drop_named}
 pub use Rattle.osi_carrier.proofs.references.the_row_at_a_place.{put_same}
 pub use Rattle.osi_carrier.proofs.written.all_that_a_link_gives.{packets_join}

@@ -1,8 +1,10 @@
 -- What the proofs of this crate take from the library, from the crates below and from its own definitions.
-pub use Rattle.std.proofs.lemmas.Bool.{cases_lt, eq-eqb, eqb-false, eqb-true, le-leb, leb-false, leb-true, lt-ltb, ltb-true, ne_eqb, or_left, or_right}
+pub use Rattle.std.proofs.lemmas.Bool.{cases_lt, eq-eqb, eqb-false, eqb-true, le-leb, leb-false, leb-true, lt-ltb, ltb-true, ne_eqb}
+pub use Rattle.std.proofs.lemmas.Bool.{or_left, or_right}
 pub use Rattle.std.proofs.lemmas.Bool.Decides.{nat_tests}
 pub use Rattle.std.proofs.lemmas.Grind.{common_steps}
-pub use Rattle.std.proofs.lemmas.List.{append-nil, append_cancel_left, drop_all, get_or_append_left, length-set, length-take-le, map-append, take-append-drop, take_all, take_at}
+pub use Rattle.std.proofs.lemmas.List.{append-nil, append_cancel_left, drop_all, get_or_append_left, length-set, length-take-le, map-append}
+pub use Rattle.std.proofs.lemmas.List.{take-append-drop, take_all, take_at}
 pub use Rattle.std.proofs.lemmas.List.Sorted.{IsNonDecreasingBy-from_default}
 pub use Rattle.std.proofs.lemmas.List.Sums.{position_or_len_is, sum_by-cons}
 pub use Rattle.std.specs.Cow.{cow_slice_items}
@@ -10,9 +12,12 @@ pub use Rattle.std.specs.Prelude.{min}
 pub use Rattle.std.specs.List.{AllByRecursion, flat_map, list_any, position_or_len, remove}
 pub use Rattle.osi_class.proofs.giving.a_link_gives_finitely_many_units.{drained_leaves, drained_none, drained_some}
 pub use Rattle.osi_class.specs.AnyLink.{any_standing}
-pub use Rattle.osi_class.specs.Giving.{AllGoAtOnce, Drained, GivesPart, GivesSlot, GoesAtOnce, GoesWhole, IsNumbered, all_given, drained, first_in, given_one_by_one, header_octets, left_to_give, number_in, octets_in, octets_of, one_by_one, with_rest}
+pub use Rattle.osi_class.specs.Giving.{AllGoAtOnce, Drained, GivesPart, GivesSlot, GoesAtOnce, GoesWhole, IsNumbered, all_given, drained}
+pub use Rattle.osi_class.specs.Giving.{first_in, given_one_by_one, header_octets, left_to_give, number_in, octets_in, octets_of, one_by_one}
+pub use Rattle.osi_class.specs.Giving.{with_rest}
 pub use Rattle.osi_class.specs.declared.units.Slot.{Slot}
-pub use Rattle.osi_class.specs.Link.{Given, Gives, Hands, Standing, ack, given, needs_memory, next, part0, part2, part_needs_memory, part_under, taken, taken_by, taken_flow, unit_of, with_joined, with_tsdu, with_tsdus}
+pub use Rattle.osi_class.specs.Link.{Given, Gives, Hands, Standing, ack, given, needs_memory, next, part0, part2, part_needs_memory}
+pub use Rattle.osi_class.specs.Link.{part_under, taken, taken_by, taken_flow, unit_of, with_joined, with_tsdu, with_tsdus}
 pub use Rattle.osi_class.specs.Negotiation.{Selection, accept, refuse, selected_by, selection}
 pub use Rattle.osi_class.specs.declared.faults.LinkFault.{LinkFault}
 pub use Rattle.osi_class.specs.declared.terms.Class.{Class}
@@ -20,7 +25,8 @@ pub use Rattle.osi_class.specs.declared.terms.Class.TheVariants.{Two, Zero}
 pub use Rattle.osi_class.specs.declared.terms.Local.{Local}
 pub use Rattle.osi_tpdu.specs.Packet.{units_of}
 pub use Rattle.osi_tpdu.specs.Units.{units_left}
-pub use Rattle.osi_tpdu.specs.Value.{Connect, Value, acknowledge, confirm, data0, data2, disconnect, disconnected, error, request, user_data}
+pub use Rattle.osi_tpdu.specs.Value.{Connect, Value, acknowledge, confirm, data0, data2, disconnect, disconnected, error, request}
+pub use Rattle.osi_tpdu.specs.Value.{user_data}
 pub use Rattle.osi_tpdu.specs.View.{request_content, value}
 pub use Rattle.osi_tpdu.specs.Writing.{Fits, written, written_header}
 pub use Rattle.osi_tpdu.specs.declared.faults.TpduFault.{TpduFault}
@@ -34,7 +40,10 @@ pub use Rattle.osi_tpkt.specs.Stream.Ending.{Faulty}
 pub use Rattle.osi_tpkt.specs.declared.cutting.Fed.{Fed}
 pub use Rattle.osi_tpkt.specs.declared.faults.TpktFault.{TpktFault}
 pub use Rattle.osi_tpkt.specs.declared.faults.TpktFault.TheVariants.{BadLength, BadVersion, OutOfMemory}
-pub use Rattle.osi_carrier.specs.Calls.{Tells, WaitsAlone, WaitsOn, WaitTogether, AllWaitOn, asks, begun_by, class_error, close_error, closed_on, closed_with, closes, ended_by, fresh_state, kept_in, lengths_error, link_of, may_connect, open_link, or_else, pumps_all, room_error, send_all_error, send_error, sent, sent_all, sent_on, tsaps_at}
+pub use Rattle.osi_carrier.specs.Calls.{Tells, WaitsAlone, WaitsOn, WaitTogether, AllWaitOn, asks, begun_by, class_error, close_error}
+pub use Rattle.osi_carrier.specs.Calls.{closed_on, closed_with, closes, ended_by, fresh_state, kept_in, lengths_error, link_of, may_connect}
+pub use Rattle.osi_carrier.specs.Calls.{open_link, or_else, pumps_all, room_error, send_all_error, send_error, sent, sent_all, sent_on}
+pub use Rattle.osi_carrier.specs.Calls.{tsaps_at}
 pub use Rattle.osi_carrier.specs.Fetching.{EndsOver, Faults, Fetches, IsNoFront, LacksRoom, PacketActs, PartHeld}
 unfoldable pub use Rattle.osi_carrier.specs.Growth.{grows}
 pub use Rattle.osi_carrier.specs.Happenings.{Happening, closed, faulted, happening, opened, refused, tsdu}
@@ -42,18 +51,23 @@ pub use Rattle.osi_carrier.specs.Live.{IsPumped, connection}
 pub use Rattle.osi_carrier.specs.Named.{AreNamed, KeepsTsaps}
 pub use Rattle.osi_carrier.specs.Negotiation.{acceptance, agreed_size, confirmed, opened_link, proposal}
 pub use Rattle.osi_carrier.specs.Orderly.{AreUpTo, ChangesOne, IsOrderly, RiseFrom, connection_by, connection_of, only_of, told_of}
-pub use Rattle.osi_carrier.specs.Packets.{Acts, ActsBy, Carrying, Feeds, FindsNoMemory, Goes, HasToHold, IsReading, RunsDry, RunsOut, Starves, StopsBehind, TakesPackets, acts_by, after_refusal, is_spoilt, stops, waits}
+pub use Rattle.osi_carrier.specs.Packets.{Acts, ActsBy, Carrying, Feeds, FindsNoMemory, Goes, HasToHold, IsReading, RunsDry, RunsOut}
+pub use Rattle.osi_carrier.specs.Packets.{Starves, StopsBehind, TakesPackets, acts_by, after_refusal, is_spoilt, stops, waits}
 unfoldable pub use Rattle.osi_carrier.specs.Packets.{after_packet}
 pub use Rattle.osi_carrier.specs.Pump.{pumped, written_by, written_for}
-pub use Rattle.osi_carrier.specs.React.{accepts, answers, answers_request, before_class, breaks, denies, handed_out, has_peer, in_class, in_two, in_zero, is_full, leaves, opens, pumps, react_by, reacts, settles, taking, tells_of, to_asked, to_closing, to_connection, to_linked, to_only, to_reference, to_unknown, tsaps_of}
+pub use Rattle.osi_carrier.specs.React.{accepts, answers, answers_request, before_class, breaks, denies, handed_out, has_peer, in_class}
+pub use Rattle.osi_carrier.specs.React.{in_two, in_zero, is_full, leaves, opens, pumps, react_by, reacts, settles, taking, tells_of}
+pub use Rattle.osi_carrier.specs.React.{to_asked, to_closing, to_connection, to_linked, to_only, to_reference, to_unknown, tsaps_of}
 unfoldable pub use Rattle.osi_carrier.specs.React.{react}
 pub use Rattle.osi_carrier.specs.Rows.{Rows, first_of, place_of, put, value_at, without}
-pub use Rattle.osi_carrier.specs.Runs.{Act, AreAlike, Call, Calls, CallsAlong, EndAlike, Reads, UserCall, all_done, call_in, called_in, carried_in, does, packet_in, put_back, told_in, used_in, user_does}
+pub use Rattle.osi_carrier.specs.Runs.{Act, AreAlike, Call, Calls, CallsAlong, EndAlike, Reads, UserCall, all_done, call_in, called_in}
+pub use Rattle.osi_carrier.specs.Runs.{carried_in, does, packet_in, put_back, told_in, used_in, user_does}
 pub use Rattle.osi_carrier.specs.Runs.Act.{packet, user}
 pub use Rattle.osi_carrier.specs.Runs.Call.{calling, carrying, feeding, telling}
 pub use Rattle.osi_carrier.specs.Runs.UserCall.{connects, sends, sends_all}
 pub use Rattle.osi_carrier.specs.Opened.{link_in, peer_in}
-pub use Rattle.osi_carrier.specs.State.{Connection, State, TsapIds, asked, closing, drops, ends, fails, joins, linked, moves, packets, tells, writes}
+pub use Rattle.osi_carrier.specs.State.{Connection, State, TsapIds, asked, closing, drops, ends, fails, joins, linked, moves, packets}
+pub use Rattle.osi_carrier.specs.State.{tells, writes}
 pub use Rattle.osi_carrier.specs.Steps.{StepsTo, link_after, units_after, whole_after}
 unfoldable pub use Rattle.osi_carrier.specs.Steps.{link_grows}
 pub use Rattle.osi_carrier.specs.contracts.switch.Switch.{the_view}

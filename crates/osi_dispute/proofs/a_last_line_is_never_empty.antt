@@ -85,9 +85,11 @@ named d c f h b e =
     s.2 (nameless_said_nothing d c s.0 s.1 (subst (λ (r : Option ℕ). IsReferenceIn d c r) e h.reference))
 
 -- a side that broke the protocol, and gave a reference if its session did
-side_words : (d : Direction) (f : Finding) (count offset : ℕ) (stands : Stands) (by : Break) (stopped : Option Stopped) (reference : Option ℕ) (refused unanswered : Bool)
+side_words : (d : Direction) (f : Finding) (count offset : ℕ) (stands : Stands) (by : Break) (stopped : Option Stopped)
+    (reference : Option ℕ) (refused unanswered : Bool)
     → (broke_session f || breaks stopped) ≡ true → (broke_session f ≡ true → reference ≡ None → ⊥)
-    → HasWords (connection_first d stopped (connection_by false reference (broke_session f) refused unanswered (told_by f count offset stands by)))
+    → HasWords (connection_first d stopped
+        (connection_by false reference (broke_session f) refused unanswered (told_by f count offset stands by)))
 side_words d (Broke i) count offset stands by stopped None refused unanswered h n = absurd (n refl refl)
 side_words d (Broke i) count offset stands by stopped (Some r) refused unanswered h n = broke_words d offset by
 side_words d (Left i) count offset stands by stopped None refused unanswered h n = absurd (n refl refl)
@@ -104,7 +106,8 @@ side_words d TooMany count offset stands by stopped (Some r) false false h n = s
 account_words : (d : Direction) (c : Capture) (f right : Facts) → AreFacts d c f → is_broken f ≡ true
     → HasWords (first_line d (account_by false f right))
 account_words d c f right h b =
-    side_words d f.found f.count f.offset f.stands f.by f.stopped f.reference (is_refused right.stopped) (is_unanswered right.reference right.stopped) b (named d c f h)
+    side_words d f.found f.count f.offset f.stands f.by f.stopped f.reference (is_refused right.stopped)
+        (is_unanswered right.reference right.stopped) b (named d c f h)
 
 -- ---- the last line
 

@@ -15,11 +15,13 @@ use Rattle.osi_judge.specs.declared.stops.Stopped.{Stopped}
 use Rattle.osi_judge.specs.Captures.{Capture, other, stream}
 use Rattle.osi_judge.specs.Stops.{breaks, broke_session}
 use Rattle.osi_judge.specs.Transport.{met_before, opening, reference_in, Sent, packets_length, last_packet, stage_from, hasty_from, IsSent}
-use Rattle.osi_judge.specs.Tapping.{IsFoundIn, IsReadIn, IsReferenceIn, IsStoppedIn, IsPlaceIn, IsCountIn, stop_in, or_hasty, IsRuleIn, IsStandingIn, heard}
+use Rattle.osi_judge.specs.Tapping.{IsFoundIn, IsReadIn, IsReferenceIn, IsStoppedIn, IsPlaceIn, IsCountIn, stop_in, or_hasty, IsRuleIn}
+use Rattle.osi_judge.specs.Tapping.{IsStandingIn, heard}
 use Rattle.osi_dispute.specs.declared.verdicts.Told.{Told}
 use Rattle.osi_dispute.specs.declared.verdicts.Told.TheVariants as told
 use Rattle.osi_dispute.specs.declared.verdicts.Verdict.{Verdict}
-use Rattle.osi_dispute.specs.Facts.{Determined, is_broken, IsFirstOf, Facts, AreFacts, told_by, told_of, is_refused, is_unanswered, connection_by, left_first, outcome_by, verdict_by, IsToldBy, StandsIn}
+use Rattle.osi_dispute.specs.Facts.{Determined, is_broken, IsFirstOf, Facts, AreFacts, told_by, told_of, is_refused, is_unanswered}
+use Rattle.osi_dispute.specs.Facts.{connection_by, left_first, outcome_by, verdict_by, IsToldBy, StandsIn}
 use Rattle.osi_judge.specs.Foremost.{foremost}
 use Rattle.osi_judge.specs.Onward.{StandsBehind}
 use Rattle.osi_judge.proofs.a_session_stands_in_one_way.{one_stands}
@@ -48,7 +50,8 @@ one_reference d c r q h k =
 
 abbrev stop_at : Direction → Capture → (units others : List (List ℕ)) → Ending → Option Stopped
 stop_at d c units others ending =
-    or_hasty (option_map offset_of (hasty_from d (met_before d c others) opening None 0 units)) (stop_in (stage_from d (met_before d c others) opening 0 units) ending)
+    or_hasty (option_map offset_of (hasty_from d (met_before d c others) opening None 0 units))
+        (stop_in (stage_from d (met_before d c others) opening 0 units) ending)
 
 one_stop : (d : Direction) (c : Capture) (r q : Option Stopped) → IsStoppedIn d c r → IsStoppedIn d c q → r ≡ q
 one_stop d c r q h k =

@@ -93,14 +93,16 @@ nameless t right e = record {
 connects_as : (t right : Tapped) (r : ℕ) (blamed refused unanswered : Bool) (x : Told) → t.line.reference ≡ Some r
     → broke_session t.side.finding ≡ blamed → is_refused (stopped_of right) ≡ refused
     → is_unanswered right.line.reference (stopped_of right) ≡ unanswered
-    → connection_by false t.line.reference (broke_session t.side.finding) (is_refused (stopped_of right)) (is_unanswered right.line.reference (stopped_of right)) x ≡ connection_by false (Some r) blamed refused unanswered x
+    → connection_by false t.line.reference (broke_session t.side.finding) (is_refused (stopped_of right))
+        (is_unanswered right.line.reference (stopped_of right)) x ≡ connection_by false (Some r) blamed refused unanswered x
 connects_as t right r blamed refused unanswered x e b f a = λ i. connection_by false (e i) (b i) (f i) (a i) x
 
 pub refused : (t right : Tapped) (r : ℕ) → t.line.reference ≡ Some r → broke_session t.side.finding ≡ false
     → is_refused (stopped_of right) ≡ true → Connects false t right (Refused r)
 refused t right r e b f = record {
   stands = no_stands;
-  is = sym (connects_as t right r false true (is_unanswered right.line.reference (stopped_of right)) (told_of (facts_of t no_stands)) e b f refl);
+  is = sym (connects_as t right r false true (is_unanswered right.line.reference (stopped_of right)) (told_of (facts_of t no_stands)) e b f
+      refl);
   standing = tt;
 }
 
@@ -117,7 +119,8 @@ pub blamed : (t right : Tapped) (r : ℕ) (c : Connection) (x : Told) → t.line
     → c ≡ Session r x → IsToldOf t x → Connects false t right c
 blamed t right r c x e b q h = subst (λ (y : Connection). Connects false t right y) (sym q) (record {
   stands = h.stands;
-  is = ap (Session r) h.is ∙ sym (connects_as t right r true (is_refused (stopped_of right)) (is_unanswered right.line.reference (stopped_of right))
+  is = ap (Session r) h.is ∙
+      sym (connects_as t right r true (is_refused (stopped_of right)) (is_unanswered right.line.reference (stopped_of right))
       (told_of (facts_of t h.stands)) e b refl refl);
   standing = h.standing;
 })

@@ -11,7 +11,8 @@ use Rattle.osi_listing.specs.Traced.{IsListedInPart, Stands, KeepsOn, CountsOn, 
 use Rattle.osi_listing.proofs.what_is_written_is_the_listing.{stands_so_far}
 
 -- a trace that kept lines, or that counted, stops before a piece
-pub stops_lines : (k : Keeping) (lister : Lister) (octets piece given : List ℕ) → k ≡ Lines → Stands k lister octets given → IsListedInPart (octets ++ piece) given
+pub stops_lines : (k : Keeping) (lister : Lister) (octets piece given : List ℕ) → k ≡ Lines → Stands k lister octets given →
+    IsListedInPart (octets ++ piece) given
 stops_lines k lister octets piece given e h =
     let fed : IsFed lister octets given = subst (λ (k : Keeping). Stands k lister octets given) e h in
     record {
@@ -57,17 +58,20 @@ stays_stopped k lister octets piece given e h =
     })
 
 -- a trace that kept lines, after the lines of a piece
-pub kept : (k last : Keeping) (old new : Lister) (octets piece fetched text before lines slice after : List ℕ) (room streams : ℕ) → k ≡ Lines → before ≡ [] →
+pub kept : (k last : Keeping) (old new : Lister) (octets piece fetched text before lines slice after : List ℕ) (room streams : ℕ) →
+    k ≡ Lines → before ≡ [] →
     slice ≡ lines → KeepsOn room text slice streams last after → Feeds old piece before lines new → Stands k old octets (fetched ++ text) →
     Stands last new (octets ++ piece) (fetched ++ after)
 kept k Lines old new octets piece fetched text before lines slice after room streams e none same keeps feeds h =
     let went = feeds octets (fetched ++ text) (subst (λ (k : Keeping). Stands k old octets (fetched ++ text)) e h) in
     let gained : slice ≡ went.0 = same ∙ went.1 ∙ ap (λ (b : List ℕ). b ++ went.0) none in
     subst (λ (given : List ℕ). IsFed new (octets ++ piece) given)
-    (append_assoc fetched text went.0 ∙ ap (λ (m : List ℕ). fetched ++ (text ++ m)) (sym gained) ∙ ap (λ (a : List ℕ). fetched ++ a) (sym keeps.0)) went.2
+    (append_assoc fetched text went.0 ∙ ap (λ (m : List ℕ). fetched ++ (text ++ m)) (sym gained) ∙
+        ap (λ (a : List ℕ). fetched ++ a) (sym keeps.0)) went.2
 kept k Counters old new octets piece fetched text before lines slice after room streams e none same keeps feeds h = absurd keeps
 kept k Nothing old new octets piece fetched text before lines slice after room streams e none same keeps feeds h =
-    subst (λ (a : List ℕ). IsListedInPart (octets ++ piece) (fetched ++ a)) (sym keeps.0) (stops_lines k old octets piece (fetched ++ text) e h)
+    subst (λ (a : List ℕ). IsListedInPart (octets ++ piece) (fetched ++ a)) (sym keeps.0)
+        (stops_lines k old octets piece (fetched ++ text) e h)
 
 -- a trace that counted, after a piece
 pub counted_on : (k last : Keeping) (old new : Lister) (octets piece given before lines : List ℕ) (streams : ℕ) → k ≡ Counters →
@@ -103,8 +107,10 @@ no_more : (octets given : List ℕ) → IsListedInPart (octets ++ []) given → 
 no_more octets given h = subst (λ (o : List ℕ). IsListedInPart o given) (append-nil octets) h
 
 -- whatever a trace keeps, what was fetched is a prefix of the listing
-pub fetched_begins : (k : Keeping) (lister : Lister) (octets fetched text : List ℕ) → Stands k lister octets (fetched ++ text) → IsListedInPart octets fetched
-fetched_begins Lines lister octets fetched text h = given_less octets fetched text (no_more octets (fetched ++ text) (stops_lines Lines lister octets [] (fetched ++ text) refl h))
+pub fetched_begins : (k : Keeping) (lister : Lister) (octets fetched text : List ℕ) → Stands k lister octets (fetched ++ text) →
+    IsListedInPart octets fetched
+fetched_begins Lines lister octets fetched text h =
+    given_less octets fetched text (no_more octets (fetched ++ text) (stops_lines Lines lister octets [] (fetched ++ text) refl h))
 fetched_begins Counters lister octets fetched text h =
     given_less octets fetched text (no_more octets (fetched ++ text) (stops_counters Counters lister octets [] (fetched ++ text) refl h))
 fetched_begins Nothing lister octets fetched text h = given_less octets fetched text h

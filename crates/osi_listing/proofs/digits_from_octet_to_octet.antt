@@ -1,5 +1,6 @@
 -- The digits of a text, from one octet to the next.
-use Rattle.std.proofs.Common.{◌≡◌, ℕ, suc, take, Bool, true, false, cond, not, List, [], ◌∷◌, ◌++◌, refl, inl, inr, sym, ◌∙◌, ap, arith, ◌+◌, ◌==◌, filter}
+use Rattle.std.proofs.Common.{◌≡◌, ℕ, suc, take, Bool, true, false, cond, not, List, [], ◌∷◌, ◌++◌, refl, inl, inr, sym, ◌∙◌, ap, arith}
+use Rattle.std.proofs.Common.{◌+◌, ◌==◌, filter}
 use Rattle.std.specs.List.{before_first, flat_map, slice_split, onto_first, prefix_len}
 use Rattle.std.proofs.lemmas.Bool.Decides.{eqb_tells}
 use Rattle.std.proofs.lemmas.List.Splits.{slice_split-cons_yes, slice_split-cons_no}
@@ -17,7 +18,8 @@ has_lines (c ∷ text) = let e = has_lines text in more_lines (is_line_feed c) c
 
 -- an octet that does not end a line is added to the first line
 pub goes_on : (c : ℕ) (text : List ℕ) → is_line_feed c ≡ false →
-    (line : List ℕ) × (lines : List (List ℕ)) × (slice_split is_line_feed text ≡ line ∷ lines) × (slice_split is_line_feed (c ∷ text) ≡ (c ∷ line) ∷ lines)
+    (line : List ℕ) × (lines : List (List ℕ)) × (slice_split is_line_feed text ≡ line ∷ lines) ×
+        (slice_split is_line_feed (c ∷ text) ≡ (c ∷ line) ∷ lines)
 goes_on c text h =
     let e = has_lines text in
     (e.0, e.1, e.2, slice_split-cons_no is_line_feed c text h ∙ ap (onto_first c) e.2)
@@ -37,8 +39,10 @@ left_line_feed true c text h = ap (λ parts. digits_of_lines (later parts)) (sli
 left_line_feed false c text h = ap digits_of_lines (slice_split-cons_yes is_line_feed c text h)
 
 -- its character begins a comment, or is within one
-pub left_sign : (b : Bool) (c : ℕ) (text : List ℕ) → is_line_feed c ≡ false → is_comment_sign c ≡ true → digits_left b (c ∷ text) ≡ digits_left true text
-left_sign true c text h k = let e = goes_on c text h in ap (λ parts. digits_of_lines (later parts)) e.3 ∙ sym (ap (λ parts. digits_of_lines (later parts)) e.2)
+pub left_sign : (b : Bool) (c : ℕ) (text : List ℕ) → is_line_feed c ≡ false → is_comment_sign c ≡ true →
+    digits_left b (c ∷ text) ≡ digits_left true text
+left_sign true c text h k = let e = goes_on c text h in ap (λ parts. digits_of_lines (later parts)) e.3 ∙
+    sym (ap (λ parts. digits_of_lines (later parts)) e.2)
 left_sign false c text h k =
     let e = goes_on c text h in
     ap digits_of_lines e.3
@@ -79,5 +83,6 @@ pub left_digit_of : (b : Bool) (c : ℕ) (text : List ℕ) → b ≡ false → (
 left_digit_of true c text e feed sign blank = absurd (cc)
 left_digit_of false c text e feed sign blank = left_digit c text (other c 10 feed) (other c 35 sign) blank
 
-pub left_blank_of : (b : Bool) (c : ℕ) (text : List ℕ) → (c ≡ 10 → ⊥) → (c ≡ 35 → ⊥) → is_blank c ≡ true → digits_left b (c ∷ text) ≡ digits_left b text
+pub left_blank_of : (b : Bool) (c : ℕ) (text : List ℕ) → (c ≡ 10 → ⊥) → (c ≡ 35 → ⊥) → is_blank c ≡ true →
+    digits_left b (c ∷ text) ≡ digits_left b text
 left_blank_of b c text feed sign blank = left_blank b c text (other c 10 feed) (other c 35 sign) blank

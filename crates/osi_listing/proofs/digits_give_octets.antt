@@ -1,6 +1,7 @@
 -- Digits that are read one after the other give the octets that hex.decode gives, and nothing where it gives an error: for the
 -- reading of a capture's text.
-use Rattle.std.proofs.Common.{◌≡◌, ◌≢◌, ◌∙◌, ℕ, ◌+◌, ◌-◌, ◌*◌, ◌%◌, ◌==◌, ◌≤◌, Bool, true, false, List, [], ◌∷◌, ◌++◌, length, slice_index, take, drop, Option, Some, None, Result, Ok, Err, refl, inl, inr, sym, ap, arith}
+use Rattle.std.proofs.Common.{◌≡◌, ◌≢◌, ◌∙◌, ℕ, ◌+◌, ◌-◌, ◌*◌, ◌%◌, ◌==◌, ◌≤◌, Bool, true, false, List, [], ◌∷◌, ◌++◌, length, slice_index}
+use Rattle.std.proofs.Common.{take, drop, Option, Some, None, Result, Ok, Err, refl, inl, inr, sym, ap, arith}
 use Rattle.std.specs.Prelude.{IsErr}
 use Rattle.std.proofs.lemmas.List.{append_assoc, append-nil, nil_from_length, take_all}
 use Rattle.std.proofs.lemmas.Bool.Decides.{eqb_tells}
@@ -22,7 +23,8 @@ nothing_more None = refl
 
 -- two digits, and the octets after them
 two_digits : (a b i : ℕ) (high low : Option ℕ) (rest : Result (List ℕ) FromHexError) →
-    octets_in ((digit_or_error a i high >>= (λ h. digit_or_error b (i + 1) low >>= (λ l. Ok (h * 16 + l)))) >>= (λ byte. rest >>= (λ bytes. Ok (byte ∷ bytes))))
+    octets_in ((digit_or_error a i high >>= (λ h. digit_or_error b (i + 1) low >>= (λ l. Ok (h * 16 + l))))
+        >>= (λ byte. rest >>= (λ bytes. Ok (byte ∷ bytes))))
     ≡ if_digit high (λ h. if_digit low (λ l. after_octets ((h * 16 + l) ∷ []) (octets_in rest)))
 two_digits a b i None low rest = refl
 two_digits a b i (Some h) None rest = refl
@@ -35,7 +37,8 @@ pairs_give i [] = refl
 pairs_give i (a ∷ []) = sym (nothing_more (hex_digit_value a))
 pairs_give i (a ∷ b ∷ rest) =
     two_digits a b i (hex_digit_value a) (hex_digit_value b) (decode_pairs (i + 2) rest)
-    ∙ ap (λ o. if_digit (hex_digit_value a) (λ h. if_digit (hex_digit_value b) (λ l. after_octets ((h * 16 + l) ∷ []) o))) (pairs_give (i + 2) rest)
+    ∙ ap (λ o. if_digit (hex_digit_value a) (λ h. if_digit (hex_digit_value b) (λ l. after_octets ((h * 16 + l) ∷ []) o)))
+        (pairs_give (i + 2) rest)
 
 -- an odd number of digits gives nothing
 odd_gives : (s : List ℕ) (r : Result (List ℕ) FromHexError) → decode_pairs 0 s ≡ r → length s % 2 ≡ 1 → octets_in r ≡ None
@@ -102,7 +105,8 @@ digit_read b c v high rest h e =
     ∙ ap (λ o. if_digit o (λ digit. with_digit high digit (octets_from (digits_left false rest)))) h
 
 -- a digit in a comment
-pub digit_skipped : (b : Bool) (c v : ℕ) (rest : List ℕ) → hex_digit_value c ≡ Some v → b ≡ true → digits_left b (c ∷ rest) ≡ digits_left b rest
+pub digit_skipped : (b : Bool) (c v : ℕ) (rest : List ℕ) → hex_digit_value c ≡ Some v → b ≡ true →
+    digits_left b (c ∷ rest) ≡ digits_left b rest
 digit_skipped true c v rest h e = left_comment c rest (differ c 10 (digit_no_sign c v h).0)
 digit_skipped false c v rest h e = absurd (cc)
 
@@ -121,12 +125,14 @@ two_read a b high low rest h k = digit_read false a high None (b ∷ rest) h ref
 -- at the front of a text
 pub front_read : (text : List ℕ) (high low : ℕ) → 2 ≤ length text → hex_digit_value (slice_index text 0) ≡ Some high →
     hex_digit_value (slice_index text 1) ≡ Some low →
-    octets_from (digits_of text) None ≡ after_octets ((high * 16 + low) ∷ []) (octets_from (digits_of (take (length text - 2) (drop 2 text))) None)
+    octets_from (digits_of text) None ≡ after_octets ((high * 16 + low) ∷ [])
+        (octets_from (digits_of (take (length text - 2) (drop 2 text))) None)
 front_read [] high low two h k = absurd (omega arith)
 front_read (a ∷ []) high low two h k = absurd (omega arith)
 front_read (a ∷ b ∷ rest) high low two h k =
     two_read a b high low rest h k
-    ∙ ap (λ r. after_octets ((high * 16 + low) ∷ []) (octets_from (digits_of r) None)) (sym (take_all (length (a ∷ b ∷ rest) - 2) rest (omega arith)))
+    ∙ ap (λ r. after_octets ((high * 16 + low) ∷ []) (octets_from (digits_of r) None))
+        (sym (take_all (length (a ∷ b ∷ rest) - 2) rest (omega arith)))
 
 -- ---- the end of a text
 

@@ -1,5 +1,6 @@
 -- The fields of a session unit, from one to the next.
-use Rattle.std.proofs.Common.{◌≡◌, ℕ, ◌+◌, ◌/◌, ◌%◌, ◌^◌, ◌<◌, ◌≤◌, true, false, drop, length, List, [], ◌∷◌, ◌++◌, refl, sym, ap, ◌∙◌, append_assoc, arith, codes}
+use Rattle.std.proofs.Common.{◌≡◌, ℕ, ◌+◌, ◌/◌, ◌%◌, ◌^◌, ◌<◌, ◌≤◌, true, false, drop, length, List, [], ◌∷◌, ◌++◌, refl, sym, ap, ◌∙◌}
+use Rattle.std.proofs.Common.{append_assoc, arith, codes}
 use Rattle.std.specs.Prelude.{slice_index}
 use Rattle.std.specs.Fmt.{decimal}
 use Rattle.std.specs.List.{join_with_byte}
@@ -18,7 +19,8 @@ two_digits n some few =
 pub encode_lower_append : (a b : List ℕ) → encode_lower (a ++ b) ≡ encode_lower a ++ encode_lower b
 unfolding encode_with
 encode_lower_append [] b = refl
-encode_lower_append (x ∷ a) b = ap (λ t. slice_index lower_digits (x / 16) ∷ slice_index lower_digits (x % 16) ∷ t) (encode_lower_append a b)
+encode_lower_append (x ∷ a) b =
+    ap (λ t. slice_index lower_digits (x / 16) ∷ slice_index lower_digits (x % 16) ∷ t) (encode_lower_append a b)
 
 -- an octet, and those after it
 pub encode_lower_cons : (x : ℕ) (rest : List ℕ) → encode_lower (x ∷ rest) ≡ encode_lower (x ∷ []) ++ encode_lower rest

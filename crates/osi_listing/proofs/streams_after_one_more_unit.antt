@@ -1,15 +1,18 @@
 -- The joins of streams after one more data unit.
-use Rattle.std.proofs.Common.{◌≡◌, ℕ, Bool, true, false, cond, List, [], ◌∷◌, ◌++◌, Option, Some, None, refl, sym, ◌∙◌, ap, ◌==◌, ◌≢◌, ◌⊎◌, inl, inr, filter, Result, Ok, Err, IfOk, OnOk}
+use Rattle.std.proofs.Common.{◌≡◌, ℕ, Bool, true, false, cond, List, [], ◌∷◌, ◌++◌, Option, Some, None, refl, sym, ◌∙◌, ap, ◌==◌, ◌≢◌, ◌⊎◌}
+use Rattle.std.proofs.Common.{inl, inr, filter, Result, Ok, Err, IfOk, OnOk}
 use Rattle.std.proofs.lemmas.Bool.Decides.{eqb_tells}
 use Rattle.osi_listing.specs.Streams.{Part, Join, joined, after_parts, join_of, is_same_stream}
 use Rattle.osi_listing.specs.Streams.Join.{Begun}
 use Rattle.osi_listing.specs.Says.{AreJoins}
 
-after_parts-push : (join : Join) (parts : List Part) (p : Part) → after_parts join (parts ++ p ∷ []) ≡ joined (after_parts join parts) p.end p.octets
+after_parts-push : (join : Join) (parts : List Part) (p : Part) →
+    after_parts join (parts ++ p ∷ []) ≡ joined (after_parts join parts) p.end p.octets
 after_parts-push join [] p = refl
 after_parts-push join (q ∷ parts) p = after_parts-push (joined join q.end q.octets) parts p
 
-filter-push : (f : Part → Bool) (parts : List Part) (p : Part) → filter f (parts ++ p ∷ []) ≡ cond (f p) (filter f parts ++ p ∷ []) (filter f parts)
+filter-push : (f : Part → Bool) (parts : List Part) (p : Part) →
+    filter f (parts ++ p ∷ []) ≡ cond (f p) (filter f parts ++ p ∷ []) (filter f parts)
 filter-push f [] p = refl
 filter-push f (q ∷ parts) p = step (f q) (f p) q (filter f (parts ++ p ∷ [])) (filter f parts) p (filter-push f parts p)
   where
@@ -22,7 +25,8 @@ filter-push f (q ∷ parts) p = step (f q) (f p) q (filter f (parts ++ p ∷ [])
 
 -- one more part adds to its own stream, and to no other
 pub join_of-push : (stream : Option ℕ) (parts : List Part) (p : Part) →
-    join_of stream (parts ++ p ∷ []) ≡ cond (is_same_stream stream p.stream) (joined (join_of stream parts) p.end p.octets) (join_of stream parts)
+    join_of stream (parts ++ p ∷ []) ≡ cond (is_same_stream stream p.stream) (joined (join_of stream parts) p.end p.octets)
+        (join_of stream parts)
 unfolding join_of
 join_of-push stream parts p =
     let f : Part → Bool = λ q. is_same_stream stream q.stream in
@@ -37,14 +41,16 @@ pub no_joins : (others : ℕ → Join) → ((d : ℕ) → others d ≡ Begun [])
 unfolding join_of
 no_joins others none = record { zero = refl; two = none }
 
-pub took_zero : (first last : Join) (others : ℕ → Join) (earlier : List Part) (end : Bool) (octets : List ℕ) → last ≡ joined first end octets →
+pub took_zero : (first last : Join) (others : ℕ → Join) (earlier : List Part) (end : Bool) (octets : List ℕ) →
+    last ≡ joined first end octets →
     AreJoins first others earlier → AreJoins last others (earlier ++ record { stream = None; end = end; octets = octets } ∷ [])
 took_zero first last others earlier end octets e h = record {
   zero = e ∙ ap (λ j. joined j end octets) h.zero ∙ sym (join_of-push None earlier (record { stream = None; end = end; octets = octets }));
   two = λ d. h.two d ∙ sym (join_of-push (Some d) earlier (record { stream = None; end = end; octets = octets }));
 }
 
-chosen_two : (others : ℕ → Join) (d destination : ℕ) (earlier : List Part) (end : Bool) (octets : List ℕ) → ((k : ℕ) → others k ≡ join_of (Some k) earlier) →
+chosen_two : (others : ℕ → Join) (d destination : ℕ) (earlier : List Part) (end : Bool) (octets : List ℕ) →
+    ((k : ℕ) → others k ≡ join_of (Some k) earlier) →
     (((d == destination) ≡ true) × (d ≡ destination)) ⊎ (((d == destination) ≡ false) × (d ≢ destination)) →
     cond (d == destination) (joined (others destination) end octets) (others d)
     ≡ cond (d == destination) (joined (join_of (Some d) earlier) end octets) (join_of (Some d) earlier)
@@ -58,7 +64,8 @@ chosen_two others d destination earlier end octets h (inr other) =
 
 pub took_two : (first : Join) (others changed : ℕ → Join) (destination : ℕ) (earlier : List Part) (end : Bool) (octets : List ℕ) →
     ((d : ℕ) → changed d ≡ cond (d == destination) (joined (others destination) end octets) (others d)) →
-    AreJoins first others earlier → AreJoins first changed (earlier ++ record { stream = Some destination; end = end; octets = octets } ∷ [])
+    AreJoins first others earlier →
+        AreJoins first changed (earlier ++ record { stream = Some destination; end = end; octets = octets } ∷ [])
 took_two first others changed destination earlier end octets e h = record {
   zero = h.zero ∙ sym (join_of-push None earlier (record { stream = Some destination; end = end; octets = octets }));
   two = λ d. e d ∙ chosen_two others d destination earlier end octets h.two (eqb_tells d destination)

@@ -1,5 +1,6 @@
 -- The counts, one entry after the other, are the numbers of entries of each kind.
-use Rattle.std.proofs.Common.{◌≡◌, ◌∙◌, ℕ, inl, inr, ◌+◌, ◌-◌, ◌^◌, ◌<◌, ◌≤◌, ◌==◌, ◌||◌, Bool, true, false, cond, if◌then◌else◌, List, [], ◌∷◌, ◌++◌, refl, ap, arith}
+use Rattle.std.proofs.Common.{◌≡◌, ◌∙◌, ℕ, inl, inr, ◌+◌, ◌-◌, ◌^◌, ◌<◌, ◌≤◌, ◌==◌, ◌||◌, Bool, true, false, cond, if◌then◌else◌, List, []}
+use Rattle.std.proofs.Common.{◌∷◌, ◌++◌, refl, ap, arith}
 use Rattle.std.proofs.lemmas.Bool.Decides.{eqb_tells}
 use Rattle.std.specs.List.{count_by, list_any}
 use Rattle.std.proofs.lemmas.List.Sums.{sum_by-cons}
@@ -84,22 +85,27 @@ within false n m h e = omega arith
 count_cons : (p : Entry → Bool) (e : Entry) (es : List Entry) → count_by p (e ∷ es) ≡ cond (p e) 1 0 + count_by p es
 count_cons p e es = sum_by-cons (λ x. cond (p x) 1 0) e es
 
-field : (get : Counts → ℕ) (p : Entry → Bool) → Counting get p → (c : Counts) (es : List Entry) → get c ≤ 2 ^ 64 - 1 → get (counted c es) ≡ capped (get c + count_by p es)
+field : (get : Counts → ℕ) (p : Entry → Bool) → Counting get p → (c : Counts) (es : List Entry) → get c ≤ 2 ^ 64 - 1 →
+    get (counted c es) ≡ capped (get c + count_by p es)
 field get p step c [] h = omega arith
 field get p step c (e ∷ es) h =
     field get p step (one_more c e) es (within (p e) (get c) (get (one_more c e)) h (step c e))
     ∙ bumped (p e) (get c) (get (one_more c e)) (count_by p es) (count_by p (e ∷ es)) (step c e) (count_cons p e es)
 
-from_none : (get : Counts → ℕ) (p : Entry → Bool) → Counting get p → (es : List Entry) → get none ≡ 0 → get (counted none es) ≡ capped (count_by p es)
+from_none : (get : Counts → ℕ) (p : Entry → Bool) → Counting get p → (es : List Entry) → get none ≡ 0 →
+    get (counted none es) ≡ capped (count_by p es)
 from_none get p step es e = field get p step none es (omega arith) ∙ ap capped (omega arith)
 
-same_counts : (c d : Counts) → c.packets ≡ d.packets → c.units ≡ d.units → c.tsdus ≡ d.tsdus → c.session_units ≡ d.session_units → c.refused ≡ d.refused → c ≡ d
+same_counts : (c d : Counts) → c.packets ≡ d.packets → c.units ≡ d.units → c.tsdus ≡ d.tsdus → c.session_units ≡ d.session_units →
+    c.refused ≡ d.refused → c ≡ d
 same_counts c d e f g h k = λ i. record { packets = e i; units = f i; tsdus = g i; session_units = h i; refused = k i }
 
 pub counted_is : (es : List Entry) → counted none es ≡ counts_of es
 counted_is es =
-    same_counts (counted none es) (counts_of es) (from_none (λ c. c.packets) is_packet packets_counted es refl) (from_none (λ c. c.units) is_unit units_counted es refl)
-    (from_none (λ c. c.tsdus) is_tsdu tsdus_counted es refl) (from_none (λ c. c.session_units) is_session_unit session_units_counted es refl)
+    same_counts (counted none es) (counts_of es) (from_none (λ c. c.packets) is_packet packets_counted es refl)
+        (from_none (λ c. c.units) is_unit units_counted es refl)
+    (from_none (λ c. c.tsdus) is_tsdu tsdus_counted es refl)
+        (from_none (λ c. c.session_units) is_session_unit session_units_counted es refl)
     (from_none (λ c. c.refused) is_refused refused_counted es refl)
 
 -- ---- whether something was refused
@@ -118,7 +124,8 @@ some_counted p (e ∷ es) = by (p e) (count_by p es) (count_by p (e ∷ es)) (li
     positive : (n : ℕ) → 0 < n → zero_if (n == 0) ≡ 1
     positive n h = elim (eqb_tells n 0) [ inl e ↦ let none = e.1 in absurd (omega arith) | inr e ↦ ap zero_if e.0 ]
 
-    by : (b : Bool) (k total : ℕ) (c : Bool) → total ≡ cond b 1 0 + k → zero_if (capped k == 0) ≡ one_if c → zero_if (capped total == 0) ≡ one_if (b || c)
+    by : (b : Bool) (k total : ℕ) (c : Bool) → total ≡ cond b 1 0 + k → zero_if (capped k == 0) ≡ one_if c →
+        zero_if (capped total == 0) ≡ one_if (b || c)
     by true k total c e h = positive (capped total) (omega arith)
     by false k total c e h = let same : total ≡ k = omega arith in ap (λ n. zero_if (capped n == 0)) same ∙ h
 

@@ -28,7 +28,8 @@ counted-append c (x ∷ xs) ys = counted-append (one_more c x) xs ys
 pub says_none : (text : List ℕ) (c : Counts) → Says text text c c []
 says_none text c = record { text = sym (append-nil text); told = refl }
 
-pub says_both : (old mid new : List ℕ) (was then now : Counts) (xs ys : List Entry) → Says old mid was then xs → Says mid new then now ys → Says old new was now (xs ++ ys)
+pub says_both : (old mid new : List ℕ) (was then now : Counts) (xs ys : List Entry) → Says old mid was then xs → Says mid new then now ys →
+    Says old new was now (xs ++ ys)
 says_both old mid new was then now xs ys h k = record {
   text = k.text ∙ ap (λ x. x ++ flat_map line_of ys) h.text ∙ append_assoc old (flat_map line_of xs) (flat_map line_of ys)
       ∙ ap (λ x. old ++ x) (sym (flat_map-append line_of xs ys));
@@ -36,16 +37,19 @@ says_both old mid new was then now xs ys h k = record {
 }
 
 -- one line
-pub says_one : (old new : List ℕ) (was now : Counts) (entry : Entry) → new ≡ old ++ line_of entry → now ≡ one_more was entry → Says old new was now (entry ∷ [])
+pub says_one : (old new : List ℕ) (was now : Counts) (entry : Entry) → new ≡ old ++ line_of entry → now ≡ one_more was entry →
+    Says old new was now (entry ∷ [])
 says_one old new was now entry text told = record {
   text = text ∙ ap (λ x. old ++ x) (sym (append-nil (line_of entry)));
   told = told;
 }
 
 -- one line, and then others
-pub says_next : (old mid new : List ℕ) (was then now : Counts) (entry : Entry) (entries : List Entry) → mid ≡ old ++ line_of entry → then ≡ one_more was entry →
+pub says_next : (old mid new : List ℕ) (was then now : Counts) (entry : Entry) (entries : List Entry) → mid ≡ old ++ line_of entry →
+    then ≡ one_more was entry →
     Says mid new then now entries → Says old new was now (entry ∷ entries)
-says_next old mid new was then now entry entries text told h = says_both old mid new was then now (entry ∷ []) entries (says_one old mid was then entry text told) h
+says_next old mid new was then now entry entries text told h =
+    says_both old mid new was then now (entry ∷ []) entries (says_one old mid was then entry text told) h
 
 -- ---- the session units of a TSDU
 
@@ -55,7 +59,8 @@ pub record ListsUnits (old text : List ℕ) (was now : Counts) (left all : Units
   pub says : Says old text was now (map SessionUnit said)
   pub whole : said ++ left ≡ all
 
-pub lists_first : (old text : List ℕ) (was now : Counts) (first : Contents) (left all : Units) (a : Contents) (bs : Units) → all ≡ a ∷ bs → first ≡ a → left ≡ bs →
+pub lists_first : (old text : List ℕ) (was now : Counts) (first : Contents) (left all : Units) (a : Contents) (bs : Units) → all ≡ a ∷ bs →
+    first ≡ a → left ≡ bs →
     text ≡ old ++ session_line first → now ≡ one_more was (SessionUnit first) → ListsUnits old text was now left all
 unfolding line_of
 lists_first old text was now first left all a bs whole e f line told = record {
@@ -68,22 +73,27 @@ map-push : (us : Units) (u : Contents) → map SessionUnit (us ++ u ∷ []) ≡ 
 map-push [] u = refl
 map-push (v ∷ us) u = ap (λ es. SessionUnit v ∷ es) (map-push us u)
 
-pub lists_next : (old text more : List ℕ) (was then now : Counts) (unit : Contents) (left others all : Units) → left ≡ unit ∷ others → more ≡ text ++ session_line unit →
+pub lists_next : (old text more : List ℕ) (was then now : Counts) (unit : Contents) (left others all : Units) → left ≡ unit ∷ others →
+    more ≡ text ++ session_line unit →
     now ≡ one_more then (SessionUnit unit) → ListsUnits old text was then left all → ListsUnits old more was now others all
 unfolding line_of
 lists_next old text more was then now unit left others all e line told so_far = record {
   said = so_far.said ++ unit ∷ [];
   says = subst (λ es. Says old more was now es) (sym (map-push so_far.said unit))
-      (says_both old text more was then now (map SessionUnit so_far.said) (SessionUnit unit ∷ []) so_far.says (says_one text more then now (SessionUnit unit) line told));
+      (says_both old text more was then now (map SessionUnit so_far.said) (SessionUnit unit ∷ []) so_far.says
+          (says_one text more then now (SessionUnit unit) line told));
   whole = append_assoc so_far.said (unit ∷ []) others ∙ ap (λ (us : Units). so_far.said ++ us) (sym e) ∙ so_far.whole;
 }
 
-pub lists_end : (old text : List ℕ) (was now : Counts) (left all : Units) → left ≡ [] → ListsUnits old text was now left all → Says old text was now (map SessionUnit all)
+pub lists_end : (old text : List ℕ) (was now : Counts) (left all : Units) → left ≡ [] → ListsUnits old text was now left all →
+    Says old text was now (map SessionUnit all)
 lists_end old text was now left all e so_far =
-    subst (λ us. Says old text was now (map SessionUnit us)) (sym (append-nil so_far.said) ∙ ap (λ (us : Units). so_far.said ++ us) (sym e) ∙ so_far.whole) so_far.says
+    subst (λ us. Says old text was now (map SessionUnit us))
+        (sym (append-nil so_far.said) ∙ ap (λ (us : Units). so_far.said ++ us) (sym e) ∙ so_far.whole) so_far.says
 
 -- a TSDU, and its session units or their fault
-pub says_tsdu : {A E : Type 0} (r : Result A E) (old mid new octets : List ℕ) (was then now : Counts) (read : Result Units SpduFault) (entries : List Entry) → mid ≡ old ++ tsdu_line (length octets) →
+pub says_tsdu : {A E : Type 0} (r : Result A E) (old mid new octets : List ℕ) (was then now : Counts) (read : Result Units SpduFault)
+    (entries : List Entry) → mid ≡ old ++ tsdu_line (length octets) →
     then ≡ one_more was (Tsdu octets) → tsdu_at octets ≡ read → entries ≡ session_entries read → OnOk r (Says mid new then now entries) →
     OnOk r (Says old new was now (Tsdu octets ∷ session_entries (tsdu_at octets)))
 unfolding line_of
@@ -93,13 +103,15 @@ says_tsdu (Ok x) old mid new octets was then now read entries line told exact sa
 says_tsdu (Err x) old mid new octets was then now read entries line told exact same h = tt
 
 -- one line that a call writes
-pub then_one : {A E : Type 0} (r : Result A E) (old new : List ℕ) (was now : Counts) (entry : Entry) → OnOk r (new ≡ old ++ line_of entry) → now ≡ one_more was entry →
+pub then_one : {A E : Type 0} (r : Result A E) (old new : List ℕ) (was now : Counts) (entry : Entry) → OnOk r (new ≡ old ++ line_of entry) →
+    now ≡ one_more was entry →
     OnOk r (Says old new was now (entry ∷ []))
 then_one (Ok x) old new was now entry h told = says_one old new was now entry h told
 then_one (Err x) old new was now entry h told = tt
 
 -- the fault of a packet's units
-pub then_fault : {A E : Type 0} (r : Result A E) (old new unit : List ℕ) (was now : Counts) (f : TpduFault) (before : Streams) → units_of unit ≡ Err f →
+pub then_fault : {A E : Type 0} (r : Result A E) (old new unit : List ℕ) (was now : Counts) (f : TpduFault) (before : Streams) →
+    units_of unit ≡ Err f →
     OnOk r (new ≡ old ++ line_of (UnitFault f)) → now ≡ one_more was (UnitFault f) →
     OnOk r ((e : List Part) → Holds before e → Says old new was now (read_entries e (units_of unit)))
 then_fault (Ok x) old new unit was now f before exact h told = λ e k.
@@ -107,15 +119,19 @@ then_fault (Ok x) old new unit was now f before exact h told = λ e k.
 then_fault (Err x) old new unit was now f before exact h told = tt
 
 -- a line, and then the lines of a call
-pub then_more : {A E : Type 0} (r : Result A E) (old mid new : List ℕ) (was then now : Counts) (entry : Entry) (before : Streams) (entries : List Part → List Entry) →
+pub then_more : {A E : Type 0} (r : Result A E) (old mid new : List ℕ) (was then now : Counts) (entry : Entry) (before : Streams)
+    (entries : List Part → List Entry) →
     mid ≡ old ++ line_of entry → then ≡ one_more was entry → OnOk r ((e : List Part) → Holds before e → Says mid new then now (entries e)) →
     OnOk r ((e : List Part) → Holds before e → Says old new was now (entry ∷ entries e))
-then_more (Ok x) old mid new was then now entry before entries line told h = λ e k. says_next old mid new was then now entry (entries e) line told (h e k)
+then_more (Ok x) old mid new was then now entry before entries line told h = λ e k. says_next old mid new was then
+    now entry (entries e) line told (h e k)
 then_more (Err x) old mid new was then now entry before entries line told h = tt
 
 -- a unit, and then what it brings to its stream
-pub then_brought : {A E : Type 0} (r : Result A E) (old mid new : List ℕ) (was then now : Counts) (v : Value) (before : Streams) (brought : List Entry) →
-    mid ≡ old ++ line_of (TransportUnit v) → then ≡ one_more was (TransportUnit v) → ((e : List Part) → Holds before e → brought ≡ part_entries e (part_of v)) →
+pub then_brought : {A E : Type 0} (r : Result A E) (old mid new : List ℕ) (was then now : Counts) (v : Value) (before : Streams)
+    (brought : List Entry) →
+    mid ≡ old ++ line_of (TransportUnit v) → then ≡ one_more was (TransportUnit v) →
+        ((e : List Part) → Holds before e → brought ≡ part_entries e (part_of v)) →
     OnOk r (Says mid new then now brought) →
     OnOk r ((e : List Part) → Holds before e → Says old new was now (TransportUnit v ∷ part_entries e (part_of v)))
 then_brought (Ok x) old mid new was then now v before brought line told same h = λ e k.
@@ -126,7 +142,8 @@ then_brought (Err x) old mid new was then now v before brought line told same h 
 -- ---- the units of a packet
 
 -- some units of a packet are listed, and these are left
-pub record Advanced (old text : List ℕ) (was now : Counts) (streams : Streams) (left : List Value) (earlier : List Part) (all : List Value) : Type 0 where
+pub record Advanced (old text : List ℕ) (was now : Counts) (streams : Streams) (left : List Value) (earlier : List Part)
+    (all : List Value) : Type 0 where
   pub said : List Entry
   pub parts : List Part
   pub says : Says old text was now said
@@ -134,10 +151,13 @@ pub record Advanced (old text : List ℕ) (was now : Counts) (streams : Streams)
   pub entries : said ++ unit_entries parts left ≡ unit_entries earlier all
   pub brought : parts ++ parts_of left ≡ earlier ++ parts_of all
 
-pub advanced_none : (old : List ℕ) (was : Counts) (streams : Streams) (earlier : List Part) (all : List Value) → Holds streams earlier → Advanced old old was was streams all earlier all
-advanced_none old was streams earlier all h = record { said = []; parts = earlier; says = says_none old was; holds = h; entries = refl; brought = refl }
+pub advanced_none : (old : List ℕ) (was : Counts) (streams : Streams) (earlier : List Part) (all : List Value) → Holds streams earlier →
+    Advanced old old was was streams all earlier all
+advanced_none old was streams earlier all h =
+    record { said = []; parts = earlier; says = says_none old was; holds = h; entries = refl; brought = refl }
 
-pub advanced_step : (old mid new : List ℕ) (was then now : Counts) (before after : Streams) (v : Value) (left rest : List Value) (earlier : List Part) (all : List Value) →
+pub advanced_step : (old mid new : List ℕ) (was then now : Counts) (before after : Streams) (v : Value) (left rest : List Value)
+    (earlier : List Part) (all : List Value) →
     rest ≡ v ∷ left → ((e : List Part) → Holds before e → Says mid new then now (TransportUnit v ∷ part_entries e (part_of v))) →
     ((e : List Part) → Holds before e → Holds after (e ++ option_to_list (part_of v))) →
     Advanced old mid was then before rest earlier all → Advanced old new was now after left earlier all
@@ -153,12 +173,15 @@ advanced_step old mid new was then now before after v left rest earlier all is s
       brought = append_assoc a.parts (option_to_list (part_of v)) (parts_of left) ∙ ap (λ vs. a.parts ++ parts_of vs) (sym is) ∙ a.brought;
     }
 
-pub advanced_says : (old new : List ℕ) (was now : Counts) (streams : Streams) (left : List Value) (earlier : List Part) (all : List Value) → left ≡ [] →
+pub advanced_says : (old new : List ℕ) (was now : Counts) (streams : Streams) (left : List Value) (earlier : List Part) (all : List Value) →
+    left ≡ [] →
     Advanced old new was now streams left earlier all → Says old new was now (unit_entries earlier all)
 advanced_says old new was now streams left earlier all none a =
-    subst (λ es. Says old new was now es) (sym (append-nil a.said) ∙ ap (λ vs. a.said ++ unit_entries a.parts vs) (sym none) ∙ a.entries) a.says
+    subst (λ es. Says old new was now es) (sym (append-nil a.said) ∙ ap (λ vs. a.said ++ unit_entries a.parts vs) (sym none) ∙ a.entries)
+        a.says
 
-pub advanced_holds : (old new : List ℕ) (was now : Counts) (streams : Streams) (left : List Value) (earlier : List Part) (all : List Value) → left ≡ [] →
+pub advanced_holds : (old new : List ℕ) (was now : Counts) (streams : Streams) (left : List Value) (earlier : List Part)
+    (all : List Value) → left ≡ [] →
     Advanced old new was now streams left earlier all → Holds streams (earlier ++ parts_of all)
 advanced_holds old new was now streams left earlier all none a =
     subst (λ ps. Holds streams ps) (sym (append-nil a.parts) ∙ ap (λ vs. a.parts ++ parts_of vs) (sym none) ∙ a.brought) a.holds

@@ -1,5 +1,6 @@
 -- The packets of a stream: what one more of them adds to the listing, and what is left after them.
-use Rattle.std.proofs.Common.{◌≡◌, ◌≢◌, ◌∙◌, ℕ, ◌+◌, ◌-◌, ◌<◌, ◌≤◌, ◌^◌, Bool, true, false, MatchBool, List, [], ◌∷◌, ◌++◌, length, take, drop, refl, sym, ap, subst, arith, Option, None, Result, Ok, Err, IfOk, OnOk}
+use Rattle.std.proofs.Common.{◌≡◌, ◌≢◌, ◌∙◌, ℕ, ◌+◌, ◌-◌, ◌<◌, ◌≤◌, ◌^◌, Bool, true, false, MatchBool, List, [], ◌∷◌, ◌++◌, length, take}
+use Rattle.std.proofs.Common.{drop, refl, sym, ap, subst, arith, Option, None, Result, Ok, Err, IfOk, OnOk}
 use Rattle.std.specs.List.{flat_map}
 use Rattle.std.proofs.lemmas.List.{append_assoc, append-nil, length-append, take-append-drop, nil_from_length, take_all}
 use Rattle.osi_tpkt.specs.Cutter.{Gains, TakesPiece}
@@ -28,7 +29,8 @@ total_length (u ∷ us) = packet_length u + total_length us
 all_parts-push : (us : List (List ℕ)) (u : List ℕ) → all_parts (us ++ u ∷ []) ≡ all_parts us ++ read_parts (units_of u)
 all_parts-push [] u = append-nil (read_parts (units_of u))
 all_parts-push (v ∷ us) u =
-    ap (λ x. read_parts (units_of v) ++ x) (all_parts-push us u) ∙ sym (append_assoc (read_parts (units_of v)) (all_parts us) (read_parts (units_of u)))
+    ap (λ x. read_parts (units_of v) ++ x) (all_parts-push us u) ∙
+        sym (append_assoc (read_parts (units_of v)) (all_parts us) (read_parts (units_of u)))
 
 pub packets_total : (us : List (List ℕ)) (s r : List ℕ) → ArePackets us s r → length s ≡ total_length us + length r
 packets_total [] s r h = let e = ap length h in omega arith
@@ -54,14 +56,16 @@ packet_entries-push : (at : ℕ) (earlier : List Part) (us : List (List ℕ)) (u
     packet_entries at earlier (us ++ u ∷ []) ≡ packet_entries at earlier us ++ entries_of (at + total_length us) (earlier ++ all_parts us) u
 packet_entries-push at earlier [] u =
     let same : at ≡ at + 0 = omega arith in
-    append-nil (entries_of at earlier u) ∙ ap (λ n. entries_of n earlier u) same ∙ ap (λ ps. entries_of (at + 0) ps u) (sym (append-nil earlier))
+    append-nil (entries_of at earlier u) ∙ ap (λ n. entries_of n earlier u) same ∙
+        ap (λ ps. entries_of (at + 0) ps u) (sym (append-nil earlier))
 packet_entries-push at earlier (v ∷ us) u =
     let parts : List Part = read_parts (units_of v) in
     let same : at + packet_length v + total_length us ≡ at + (packet_length v + total_length us) = omega arith in
     ap (λ x. entries_of at earlier v ++ x) (packet_entries-push (at + packet_length v) (earlier ++ parts) us u)
     ∙ sym (append_assoc (entries_of at earlier v) (packet_entries (at + packet_length v) (earlier ++ parts) us)
     (entries_of (at + packet_length v + total_length us) ((earlier ++ parts) ++ all_parts us) u))
-    ∙ ap (λ n. (entries_of at earlier v ++ packet_entries (at + packet_length v) (earlier ++ parts) us) ++ entries_of n ((earlier ++ parts) ++ all_parts us) u) same
+    ∙ ap (λ n. (entries_of at earlier v ++ packet_entries (at + packet_length v) (earlier ++ parts) us) ++
+        entries_of n ((earlier ++ parts) ++ all_parts us) u) same
     ∙ ap (λ ps. (entries_of at earlier v ++ packet_entries (at + packet_length v) (earlier ++ parts) us)
     ++ entries_of (at + (packet_length v + total_length us)) ps u) (append_assoc earlier parts (all_parts us))
 
@@ -86,7 +90,8 @@ moves_both old mid new a b c r s t h k = record {
 }
 
 -- the offset after one more packet
-next_place : (stream rest left packet was now : ℕ) → stream < 2 ^ 64 → rest ≤ stream → rest ≡ packet + left → was ≡ offset_of (stream - rest) →
+next_place : (stream rest left packet was now : ℕ) → stream < 2 ^ 64 → rest ≤ stream → rest ≡ packet + left →
+    was ≡ offset_of (stream - rest) →
     now ≡ offset_of (was + packet) → now ≡ offset_of (stream - left)
 next_place stream rest left packet was now few within parts before after = omega arith
 
@@ -112,10 +117,12 @@ moves_packet old new before after rest left u b p parted says holds place = reco
           units = h.units ++ u ∷ [];
           packets = packets_more h.units stream rest u b left h.packets p parted;
           says = subst (λ es. Says [] (lines ++ more) none new.counts es) entries
-              (says_both [] lines (lines ++ more) none old.counts new.counts (packet_entries 0 [] h.units) (entries_of old.offset parts u) h.says
+              (says_both [] lines (lines ++ more) none old.counts new.counts (packet_entries 0 [] h.units) (entries_of old.offset parts u)
+                  h.says
               (record { text = refl; told = said.told }));
           holds = subst (λ ps. Holds new.streams ps) (sym (all_parts-push h.units u)) (holds parts h.holds);
-          place = next_place (length stream) (length rest) (length left) (packet_length u) old.offset new.offset few (omega arith) (omega arith) h.place place;
+          place = next_place (length stream) (length rest) (length left) (packet_length u) old.offset new.offset few (omega arith)
+              (omega arith) h.place place;
         },
       );
 }
@@ -140,7 +147,8 @@ held_partial true used old new piece e part gains going = cc
 held_partial false used old new piece e part gains going = holds_all old new piece used part gains going
 
 pub held_whole : (whole : Bool) (used : ℕ) (octets piece : List ℕ) → whole ≡ true →
-    MatchBool whole (IsOnePacket (octets ++ take used piece)) (IsPartial (octets ++ take used piece) × (used ≡ length piece)) → IsOnePacket (octets ++ take used piece)
+    MatchBool whole (IsOnePacket (octets ++ take used piece)) (IsPartial (octets ++ take used piece) × (used ≡ length piece)) →
+        IsOnePacket (octets ++ take used piece)
 held_whole true used octets piece e part = part
 held_whole false used octets piece e part = cc
 
@@ -170,7 +178,8 @@ fault_left old new piece f g same known h =
 -- what was taken of a piece, and the rest of it
 pub joined_again : (new held piece : List ℕ) (used : ℕ) → new ≡ held ++ take used piece → new ++ drop used piece ≡ held ++ piece
 joined_again new held piece used e =
-    ap (λ o. o ++ drop used piece) e ∙ append_assoc held (take used piece) (drop used piece) ∙ ap (λ p. held ++ p) (take-append-drop used piece)
+    ap (λ o. o ++ drop used piece) e ∙ append_assoc held (take used piece) (drop used piece) ∙
+        ap (λ p. held ++ p) (take-append-drop used piece)
 
 pub parted_at : (n used : ℕ) (rest left : List ℕ) → used ≡ n + 4 → left ≡ drop used rest → rest ≡ take (4 + n) rest ++ left
 parted_at n used rest left e back =
@@ -178,12 +187,14 @@ parted_at n used rest left e back =
     sym (take-append-drop (4 + n) rest) ∙ ap (λ k. take (4 + n) rest ++ drop k rest) same ∙ ap (λ l. take (4 + n) rest ++ l) (sym back)
 
 pub only_held : (old new : Work) (before after rest : List ℕ) → OnlyHolds old new → after ≡ before → Moves old before rest new after rest
-only_held old new before after rest same text = subst (λ t. Moves old before rest new t rest) (sym text) (moves_none old new before rest same)
+only_held old new before after rest same text =
+    subst (λ t. Moves old before rest new t rest) (sym text) (moves_none old new before rest same)
 
 -- the complete packets in a piece, and then what is left of it
 pub then_holds : {E : Type 0} (r : Result (Option TpktFault) E) (old mid last new : Work) (a b c piece rest left : List ℕ) →
     Moves old a (old.cutter.octets ++ piece) mid b rest → Moves mid b rest last c left → OnOk r (OnlyHolds last new) →
     IfOk r (λ f. Leaves new.cutter left f) → IfOk r (λ f. Goes old a piece f new c)
 then_holds (Ok f) old mid last new a b c piece rest left one two same leaves =
-    (left, moves_both old mid new a b c (old.cutter.octets ++ piece) rest left one (moves_both mid last new b c c rest left left two (moves_none last new c left same)), leaves)
+    (left, moves_both old mid new a b c (old.cutter.octets ++ piece) rest left one
+        (moves_both mid last new b c c rest left left two (moves_none last new c left same)), leaves)
 then_holds (Err e) old mid last new a b c piece rest left one two same leaves = tt

@@ -18,16 +18,22 @@ pub use Rattle.osi_spdu.specs.Spelling.{EndsTsdu, HasInformation, MayFollow, len
 unfoldable pub use Rattle.osi_spdu.specs.Spelling.{StandTogether}
 pub use Rattle.osi_spdu.specs.Values.{decimal, is_digit, is_numeral, is_size, numeral, six_digits}
 unfoldable pub use Rattle.osi_spdu.specs.Values.{canonical, decimal_from, digits_of, significant}
-pub use Rattle.osi_spdu.specs.Writing.{IsCanonical, IsFormedTsdu, IsFormedUnit, TsduFits, UnitFits, member_octets, members_octets, parameter_octets, value_len, value_octets, written_item}
+pub use Rattle.osi_spdu.specs.Writing.{IsCanonical, IsFormedTsdu, IsFormedUnit, TsduFits, UnitFits, member_octets, members_octets}
+pub use Rattle.osi_spdu.specs.Writing.{parameter_octets, value_len, value_octets, written_item}
 unfoldable pub use Rattle.osi_spdu.specs.Writing.{body_octets, free_len, group_octets, is_formed, tsdu_octets, unit_octets, written_code}
 pub use Rattle.osi_spdu.specs.declared.codes.Code.{Code}
-pub use Rattle.osi_spdu.specs.declared.codes.Code.TheVariants.{CalledSelector, CallingSelector, ConnectAcceptItem, ConnectionIdentifier, Enclosure, ExtendedUserData, InitialNumber, Number, ProtocolOptions, Reason, SyncType, TokenItem, TransportDisconnect, UserData, UserRequirements, Version}
+pub use Rattle.osi_spdu.specs.declared.codes.Code.TheVariants.{CalledSelector, CallingSelector, ConnectAcceptItem, ConnectionIdentifier}
+pub use Rattle.osi_spdu.specs.declared.codes.Code.TheVariants.{Enclosure, ExtendedUserData, InitialNumber, Number, ProtocolOptions, Reason}
+pub use Rattle.osi_spdu.specs.declared.codes.Code.TheVariants.{SyncType, TokenItem, TransportDisconnect, UserData, UserRequirements}
+pub use Rattle.osi_spdu.specs.declared.codes.Code.TheVariants.{Version}
 pub use Rattle.osi_spdu.specs.declared.faults.SpduFault.{SpduFault}
 pub use Rattle.osi_spdu.specs.declared.fields.ResyncType.{ResyncType}
 pub use Rattle.osi_spdu.specs.declared.fields.ResyncType.TheVariants.{Abandon, Restart, Set}
 pub use Rattle.osi_spdu.specs.declared.fields.TsduMaximumSize.{TsduMaximumSize}
 pub use Rattle.osi_spdu.specs.declared.kinds.Kind.{Kind}
-pub use Rattle.osi_spdu.specs.declared.kinds.Kind.TheVariants.{Abort, AbortAccept, Accept, Connect, DataTransfer, Disconnect, Finish, GiveTokens, MajorSyncAck, MajorSyncPoint, MinorSyncAck, MinorSyncPoint, NotFinished, PleaseTokens, Refuse, Resynchronize, ResynchronizeAck}
+pub use Rattle.osi_spdu.specs.declared.kinds.Kind.TheVariants.{Abort, AbortAccept, Accept, Connect, DataTransfer, Disconnect, Finish}
+pub use Rattle.osi_spdu.specs.declared.kinds.Kind.TheVariants.{GiveTokens, MajorSyncAck, MajorSyncPoint, MinorSyncAck, MinorSyncPoint}
+pub use Rattle.osi_spdu.specs.declared.kinds.Kind.TheVariants.{NotFinished, PleaseTokens, Refuse, Resynchronize, ResynchronizeAck}
 pub use Rattle.osi_spdu.specs.declared.settings.TokenSetting.{TokenSetting}
 pub use Rattle.osi_spdu.specs.declared.settings.Wish.{Wish}
 pub use Rattle.osi_spdu.specs.declared.settings.Wish.TheVariants.{Answerer, Asker, Choice}
@@ -36,16 +42,19 @@ pub use Rattle.osi_tpkt.specs.Octets.{IsOctets}
 pub use Rattle.osi_message.specs.InOctets.{IsInOctets}
 pub use Rattle.osi_message.specs.Meanings.{AA, AB, AC, CN, DN, DT, FN, GT, MAA, MAP, MIA, MIP, Meaning, NF, PT, RA, RF, RS, meant_by}
 pub use Rattle.osi_message.specs.Numbered.{AreNumberedWords, IsNumbered, IsNumberedWord, IsSmall}
-pub use Rattle.osi_message.specs.Parting.{AreFull, AreLater, AreParts, behind_no_token, in_one, is_parted, is_whole, joined, later_parts, parts_of, pieces, tsdus_of}
+pub use Rattle.osi_message.specs.Parting.{AreFull, AreLater, AreParts, behind_no_token, in_one, is_parted, is_whole, joined, later_parts}
+pub use Rattle.osi_message.specs.Parting.{parts_of, pieces, tsdus_of}
 unfoldable pub use Rattle.osi_message.specs.Parting.{words_sent}
 pub use Rattle.osi_message.specs.Plain.{data_octets, has_zero_in_front, plain_octets, plain_said, plain_word, point_octets}
-pub use Rattle.osi_message.specs.Reading.{alone, behind, first_in, meaning_by, number_in, octet_in, octets_in, resync_named, said_by_units, said_if_read, serial_in, setting_named, sizes_in, two_in, wish_named, word_at}
+pub use Rattle.osi_message.specs.Reading.{alone, behind, first_in, meaning_by, number_in, octet_in, octets_in, resync_named, said_by_units}
+pub use Rattle.osi_message.specs.Reading.{said_if_read, serial_in, setting_named, sizes_in, two_in, wish_named, word_at}
 unfoldable pub use Rattle.osi_message.specs.Reading.{meaning, place_of, said_at, word}
 pub use Rattle.osi_message.specs.Sendable.{IsAddress, IsAddressed, IsSendable, is_of_version_2, words_of}
 pub use Rattle.osi_message.specs.Tokens.{named, no_token}
 unfoldable pub use Rattle.osi_message.specs.Tokens.{token_octet}
 pub use Rattle.osi_message.specs.Words.{Word, Words, as_message, enclosure_of, part, part_head, part_octets, says, word_octets}
-pub use Rattle.osi_message.specs.Written.{alone_units, behind_tokens, connect_unit, numbered, put_some, sync_type, terms, unit_with, with_data, written}
+pub use Rattle.osi_message.specs.Written.{alone_units, behind_tokens, connect_unit, numbered, put_some, sync_type, terms, unit_with}
+pub use Rattle.osi_message.specs.Written.{with_data, written}
 unfoldable pub use Rattle.osi_message.specs.Written.{is_second, spelled, unit_of, user_data_of}
 pub use Rattle.osi_message.specs.declared.messages.Message.{Message}
 pub use Rattle.osi_message.specs.declared.places.Place.{Place}

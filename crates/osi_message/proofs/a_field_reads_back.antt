@@ -1,6 +1,9 @@
 -- What is written of a field reads back as it.
-use Rattle.std.proofs.Common.{◌≡◌, ◌∙◌, ℕ, ◌+◌, ◌*◌, ◌/◌, ◌%◌, ◌≤◌, ◌==◌, ◌&&◌, Bool, true, false, Some, None, option_map, if◌then◌else◌, refl, sym, ap, eqb, arith}
-use Rattle.osi_message.proofs.Vocabulary.{bit_and, and_parts, eqb-true, and_assoc, TsduMaximumSize, Wish, Asker, Answerer, Choice, TokenSetting, wish_number, size_octets, setting_octets, written_sizes, named, wish_named, sizes_in, setting_named, first_in}
+use Rattle.std.proofs.Common.{◌≡◌, ◌∙◌, ℕ, ◌+◌, ◌*◌, ◌/◌, ◌%◌, ◌≤◌, ◌==◌, ◌&&◌, Bool, true, false, Some, None, option_map, if◌then◌else◌}
+use Rattle.std.proofs.Common.{refl, sym, ap, eqb, arith}
+use Rattle.osi_message.proofs.Vocabulary.{bit_and, and_parts, eqb-true, and_assoc, TsduMaximumSize, Wish, Asker, Answerer, Choice}
+use Rattle.osi_message.proofs.Vocabulary.{TokenSetting, wish_number, size_octets, setting_octets, written_sizes, named, wish_named}
+use Rattle.osi_message.proofs.Vocabulary.{sizes_in, setting_named, first_in}
 
 same_bit : (t b : ℕ) → bit_and 85 b ≡ b → eqb (bit_and (bit_and t 85) b) b ≡ eqb (bit_and t b) b
 same_bit t b e = ap (λ (x : ℕ). eqb x b) (and_assoc b t 85 ∙ ap (bit_and t) e)

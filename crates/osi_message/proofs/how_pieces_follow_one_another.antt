@@ -1,10 +1,13 @@
 -- Data in parts: how its pieces follow one another, and what is true of them.
-use Rattle.std.proofs.Common.{◌≡◌, ◌∙◌, refl, sym, ap, subst, ℕ, zero, suc, ◌<◌, ◌≤◌, Bool, true, false, if◌then◌else◌, nat_le, List, [], ◌∷◌, ◌++◌, length, take, drop, map, arith, append_assoc}
-use Rattle.osi_message.proofs.Vocabulary.{le-leb, leb-false, lt-leb, length-append, length-drop, First, Middle, Last, part, Words, part_octets, word_octets, pieces, later_parts, parts_of}
+use Rattle.std.proofs.Common.{◌≡◌, ◌∙◌, refl, sym, ap, subst, ℕ, zero, suc, ◌<◌, ◌≤◌, Bool, true, false, if◌then◌else◌, nat_le, List, []}
+use Rattle.std.proofs.Common.{◌∷◌, ◌++◌, length, take, drop, map, arith, append_assoc}
+use Rattle.osi_message.proofs.Vocabulary.{le-leb, leb-false, lt-leb, length-append, length-drop, First, Middle, Last, part, Words}
+use Rattle.osi_message.proofs.Vocabulary.{part_octets, word_octets, pieces, later_parts, parts_of}
 
 -- ---- pieces
 
-same_if : (b : Bool) (o x : List ℕ) (xs ys : List (List ℕ)) → (b ≡ false → xs ≡ ys) → (if b then o ∷ [] else x ∷ xs) ≡ (if b then o ∷ [] else x ∷ ys)
+same_if : (b : Bool) (o x : List ℕ) (xs ys : List (List ℕ)) → (b ≡ false → xs ≡ ys) →
+    (if b then o ∷ [] else x ∷ xs) ≡ (if b then o ∷ [] else x ∷ ys)
 same_if true o x xs ys e = refl
 same_if false o x xs ys e = ap (λ r. x ∷ r) (e refl)
 
@@ -22,7 +25,8 @@ same_pieces (suc f) (suc g) size o some a b =
 abbrev pub all_pieces : ℕ → List ℕ → List (List ℕ)
 all_pieces size o = pieces (length o) size o
 
-step_of : (n size : ℕ) (o : List ℕ) → length o ≡ n → 0 < size → size < length o → pieces n size o ≡ take size o ∷ all_pieces size (drop size o)
+step_of : (n size : ℕ) (o : List ℕ) → length o ≡ n → 0 < size → size < length o →
+    pieces n size o ≡ take size o ∷ all_pieces size (drop size o)
 step_of zero size o e some long = absurd (omega arith)
 step_of (suc n) size o e some long =
     let no : nat_le (length o) size ≡ false = lt-leb (length o) size long in let d = length-drop size o in
@@ -58,14 +62,17 @@ rest_parts size o = later_parts (all_pieces size o)
 pub middle_of : (x : List ℕ) (os : List (List ℕ)) → IsCons os → later_parts (x ∷ os) ≡ part Middle x ∷ later_parts os
 middle_of x os c = subst (λ (l : List (List ℕ)). later_parts (x ∷ l) ≡ part Middle x ∷ later_parts l) (sym c.is) refl
 
-pub rest_step : (size : ℕ) (o : List ℕ) → 0 < size → size < length o → rest_parts size o ≡ part Middle (take size o) ∷ rest_parts size (drop size o)
+pub rest_step : (size : ℕ) (o : List ℕ) → 0 < size → size < length o →
+    rest_parts size o ≡ part Middle (take size o) ∷ rest_parts size (drop size o)
 rest_step size o some long =
-    ap later_parts (step size o some long) ∙ middle_of (take size o) (all_pieces size (drop size o)) (some_piece (length (drop size o)) size (drop size o))
+    ap later_parts (step size o some long) ∙ middle_of (take size o) (all_pieces size (drop size o))
+        (some_piece (length (drop size o)) size (drop size o))
 
 pub rest_end : (size : ℕ) (o : List ℕ) → length o ≤ size → rest_parts size o ≡ part Last o ∷ []
 rest_end size o short = ap later_parts (end_of (length o) size o short)
 
-pub parts_begin : (size : ℕ) (o : List ℕ) → 0 < size → size < length o → parts_of (all_pieces size o) ≡ part First (take size o) ∷ rest_parts size (drop size o)
+pub parts_begin : (size : ℕ) (o : List ℕ) → 0 < size → size < length o → parts_of (all_pieces size o) ≡ part First (take size o) ∷
+    rest_parts size (drop size o)
 parts_begin size o some long = ap parts_of (step size o some long)
 
 -- ---- as they are written
@@ -96,6 +103,7 @@ parting_goes_on size all rest piece behind old new some long f r t h =
     ∙ ap (λ (w : Words). old ++ octets_of w) (sym (rest_step size rest some long)) ∙ h)))
 
 -- what has something put after it is not empty
-pub some_put : {A : Type 0} (f : A → List ℕ) (new : List A) (old : List (List ℕ)) (tsdu : List ℕ) → map f new ≡ old ++ tsdu ∷ [] → 0 < length new
+pub some_put : {A : Type 0} (f : A → List ℕ) (new : List A) (old : List (List ℕ)) (tsdu : List ℕ) → map f new ≡ old ++ tsdu ∷ [] →
+    0 < length new
 some_put f [] old tsdu e = let n = ap length e in let m = length-append old (tsdu ∷ []) in absurd (omega arith)
 some_put f (v ∷ new) old tsdu e = omega arith

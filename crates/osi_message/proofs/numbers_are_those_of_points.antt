@@ -1,8 +1,12 @@
 -- The numbers in messages are those that a point may have.
-use Rattle.std.proofs.Common.{◌≡◌, refl, ℕ, ◌≤◌, ◌<◌, Bool, true, false, ◌&&◌, nat_le, nat_lt, List, [], ◌∷◌, length, Option, Some, None, unwrap_or, if◌then◌else◌, arith}
+use Rattle.std.proofs.Common.{◌≡◌, refl, ℕ, ◌≤◌, ◌<◌, Bool, true, false, ◌&&◌, nat_le, nat_lt, List, [], ◌∷◌, length, Option, Some, None}
+use Rattle.std.proofs.Common.{unwrap_or, if◌then◌else◌, arith}
 use Rattle.osi_spdu.specs.declared.kinds.Kind.TheVariants as kind
 use Rattle.osi_message.specs.declared.messages.Message.TheVariants as message
-use Rattle.osi_message.proofs.Vocabulary.{list_all, and_parts, leb-true, ltb-true, Kind, InitialNumber, Number, Known, Contents, Units, is_digit, is_numeral, decimal_from, decimal, numeral, Place, Message, meant_by, IsSmall, IsNumbered, IsNumberedWord, AreNumberedWords, serial_in, number_in, meaning_by, meaning, place_of, word_at, word, said_by_units}
+use Rattle.osi_message.proofs.Vocabulary.{list_all, and_parts, leb-true, ltb-true, Kind, InitialNumber, Number, Known, Contents, Units}
+use Rattle.osi_message.proofs.Vocabulary.{is_digit, is_numeral, decimal_from, decimal, numeral, Place, Message, meant_by, IsSmall}
+use Rattle.osi_message.proofs.Vocabulary.{IsNumbered, IsNumberedWord, AreNumberedWords, serial_in, number_in, meaning_by, meaning, place_of}
+use Rattle.osi_message.proofs.Vocabulary.{word_at, word, said_by_units}
 
 -- ---- numbers of at most six digits
 
@@ -15,7 +19,8 @@ split d digits h =
     let q = and_parts (nat_le 48 d) (nat_lt d 58) p.0 in
     ((leb-true 48 d q.0, ltb-true d 58 q.1), p.1)
 
-pub six : (a b c d e f : ℕ) → list_all is_digit (a ∷ b ∷ c ∷ d ∷ e ∷ f ∷ []) ≡ true → IsDigit a × IsDigit b × IsDigit c × IsDigit d × IsDigit e × IsDigit f
+pub six : (a b c d e f : ℕ) → list_all is_digit (a ∷ b ∷ c ∷ d ∷ e ∷ f ∷ []) ≡ true →
+    IsDigit a × IsDigit b × IsDigit c × IsDigit d × IsDigit e × IsDigit f
 six a b c d e f all =
     let p = split a (b ∷ c ∷ d ∷ e ∷ f ∷ []) all in let q = split b (c ∷ d ∷ e ∷ f ∷ []) p.1 in let r = split c (d ∷ e ∷ f ∷ []) q.1 in
     let s = split d (e ∷ f ∷ []) r.1 in let t = split e (f ∷ []) s.1 in let u = split f [] t.1 in

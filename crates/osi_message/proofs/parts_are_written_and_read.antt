@@ -1,6 +1,11 @@
 -- Parts of one Data: how they are written and read.
 use Rattle.std.proofs.Common.{◌≡◌, ◌∙◌, refl, sym, ap, ℕ, List, [], ◌∷◌, Some, Result, Ok, arith}
-use Rattle.osi_message.proofs.Vocabulary.{append-nil, DataTransfer, GiveTokens, Enclosure, SpduFault, number_of, is_group, category_of, codes_of, members_of, required_of, si_of, nothing, put, Contents, Units, canonical, tsdu_at, written_code, body_octets, unit_octets, tsdu_octets, is_formed, free_len, IsCanonical, IsFormedUnit, IsFormedTsdu, UnitFits, TsduFits, Place, First, Middle, Last, no_token, GT, says, part, Words, enclosure_of, part_octets, meaning, word, said_if_read, said_at, said_by_units, unit_with, behind_tokens}
+use Rattle.osi_message.proofs.Vocabulary.{append-nil, DataTransfer, GiveTokens, Enclosure, SpduFault, number_of, is_group, category_of}
+use Rattle.osi_message.proofs.Vocabulary.{codes_of, members_of, required_of, si_of, nothing, put, Contents, Units, canonical, tsdu_at}
+use Rattle.osi_message.proofs.Vocabulary.{written_code, body_octets, unit_octets, tsdu_octets, is_formed, free_len, IsCanonical}
+use Rattle.osi_message.proofs.Vocabulary.{IsFormedUnit, IsFormedTsdu, UnitFits, TsduFits, Place, First, Middle, Last, no_token, GT, says}
+use Rattle.osi_message.proofs.Vocabulary.{part, Words, enclosure_of, part_octets, meaning, word, said_if_read, said_at, said_by_units}
+use Rattle.osi_message.proofs.Vocabulary.{unit_with, behind_tokens}
 use Rattle.osi_message.proofs.what_can_be_sent_has_a_written_form.{HaveRoom, no_value, with_one, no_tokens_fit, behind_formed}
 
 -- ---- how a part is written
@@ -45,7 +50,8 @@ tokens_say : word (unit_with GiveTokens nothing) ≡ says (GT no_token)
 unfolding word meaning
 tokens_say = refl
 
-part_units_say : (place : Place) (octets : List ℕ) → said_by_units (behind_tokens (part_unit place octets)) ≡ says (GT no_token) ∷ part place octets ∷ []
+part_units_say : (place : Place) (octets : List ℕ) → said_by_units (behind_tokens (part_unit place octets)) ≡ says (GT no_token) ∷
+    part place octets ∷ []
 part_units_say place octets = λ i. tokens_say i ∷ part_says place octets i ∷ []
 
 -- the octets of a part read back as that part
@@ -55,5 +61,6 @@ unfolding said_at
 part_said room again place octets =
     let units = behind_tokens (part_unit place octets) in
     let read : tsdu_at (part_octets place octets) ≡ Ok units =
-    ap tsdu_at (sym (part_written place octets)) ∙ again units (part_behind place octets) (no_tokens_fit room, (part_fits room place octets, tt)) in
+    ap tsdu_at (sym (part_written place octets)) ∙
+        again units (part_behind place octets) (no_tokens_fit room, (part_fits room place octets, tt)) in
     ap said_if_read read ∙ ap {B = Result Words SpduFault} Ok (part_units_say place octets)

@@ -1,7 +1,13 @@
 -- What is true of the TSDUs in which a message is sent.
-use Rattle.std.proofs.Common.{◌≡◌, ◌∙◌, refl, sym, ap, subst, ℕ, zero, suc, ◌+◌, ◌-◌, ◌<◌, ◌≤◌, ◌==◌, Bool, true, false, not, ◌||◌, ◌&&◌, if◌then◌else◌, nat_le, List, [], ◌∷◌, ◌++◌, length, take, drop, map, Result, Ok, arith}
+use Rattle.std.proofs.Common.{◌≡◌, ◌∙◌, refl, sym, ap, subst, ℕ, zero, suc, ◌+◌, ◌-◌, ◌<◌, ◌≤◌, ◌==◌, Bool, true, false, not, ◌||◌, ◌&&◌}
+use Rattle.std.proofs.Common.{if◌then◌else◌, nat_le, List, [], ◌∷◌, ◌++◌, length, take, drop, map, Result, Ok, arith}
 use Rattle.osi_message.specs.declared.messages.Message.TheVariants as message
-use Rattle.osi_message.proofs.Vocabulary.{AllByRecursion, leb-true, leb-false, and_parts, ne_eqb, append-nil, take-append-drop, length-drop, length-take, IsOctets, octets_cons, octets_take, octets_drop, is_size, tsdu_at, SpduFault, Place, First, Middle, Last, Message, Meaning, DT, GT, meant_by, no_token, IsInOctets, Word, says, part, Words, enclosure_of, part_octets, word_octets, said_by_units, said_at, IsSendable, words_of, spelled, written, pieces, later_parts, parts_of, is_whole, is_parted, words_sent, tsdus_of, in_one, AreLater, AreParts, joined, behind_no_token, AreFull}
+use Rattle.osi_message.proofs.Vocabulary.{AllByRecursion, leb-true, leb-false, and_parts, ne_eqb, append-nil, take-append-drop, length-drop}
+use Rattle.osi_message.proofs.Vocabulary.{length-take, IsOctets, octets_cons, octets_take, octets_drop, is_size, tsdu_at, SpduFault, Place}
+use Rattle.osi_message.proofs.Vocabulary.{First, Middle, Last, Message, Meaning, DT, GT, meant_by, no_token, IsInOctets, Word, says, part}
+use Rattle.osi_message.proofs.Vocabulary.{Words, enclosure_of, part_octets, word_octets, said_by_units, said_at, IsSendable, words_of}
+use Rattle.osi_message.proofs.Vocabulary.{spelled, written, pieces, later_parts, parts_of, is_whole, is_parted, words_sent, tsdus_of}
+use Rattle.osi_message.proofs.Vocabulary.{in_one, AreLater, AreParts, joined, behind_no_token, AreFull}
 use Rattle.osi_message.proofs.units_of_the_fast_path.{data_written, said_data}
 use Rattle.osi_message.proofs.how_pieces_follow_one_another.{all_pieces, IsCons, some_piece, octets_of, rest_parts, middle_of, parts_begin}
 
@@ -25,12 +31,14 @@ parts_if : (b : Bool) (whole parts : Words) → not b ≡ true → (if b then wh
 parts_if true whole parts h = absurd cc
 parts_if false whole parts h = refl
 
-pub words_parted : (limit : ℕ) (octets : List ℕ) → is_parted limit (DT octets) ≡ true → words_sent limit (DT octets) ≡ parts_of (all_pieces (limit - 7) octets)
+pub words_parted : (limit : ℕ) (octets : List ℕ) → is_parted limit (DT octets) ≡ true →
+    words_sent limit (DT octets) ≡ parts_of (all_pieces (limit - 7) octets)
 unfolding words_sent
 words_parted limit octets h = parts_if (is_whole limit octets) (says (DT octets) ∷ []) (parts_of (all_pieces (limit - 7) octets)) h
 
 -- a message other than data, in memory
-pub message_alone : (limit : ℕ) (m : Message) → ((octets : _) → m ≡ message.Data octets → ⊥) → tsdus_of limit (meant_by m) ≡ in_one (meant_by m)
+pub message_alone : (limit : ℕ) (m : Message) → ((octets : _) → m ≡ message.Data octets → ⊥) →
+    tsdus_of limit (meant_by m) ≡ in_one (meant_by m)
 unfolding words_sent
 message_alone limit (message.Data octets) h = absurd (h octets refl)
 message_alone limit _ h = refl
@@ -40,7 +48,8 @@ message_alone limit _ h = refl
 pub sent_whole : (limit : ℕ) (octets : List ℕ) → is_whole limit octets ≡ true → tsdus_of limit (DT octets) ≡ in_one (DT octets)
 sent_whole limit octets h = sent_alone limit (DT octets) (ap not h)
 
-pub sent_parted : (limit : ℕ) (octets : List ℕ) → is_whole limit octets ≡ false → tsdus_of limit (DT octets) ≡ octets_of (parts_of (pieces (length octets) (limit - 7) octets))
+pub sent_parted : (limit : ℕ) (octets : List ℕ) → is_whole limit octets ≡ false →
+    tsdus_of limit (DT octets) ≡ octets_of (parts_of (pieces (length octets) (limit - 7) octets))
 sent_parted limit octets h = ap octets_of (words_parted limit octets (ap not h))
 
 size_if : (b c : Bool) → (b || c) ≡ true → (b ≡ false) → c ≡ true
@@ -51,7 +60,8 @@ neither : (b c : Bool) → (b || c) ≡ false → (b ≡ false) × (c ≡ false)
 neither true c h = absurd cc
 neither false c h = (refl, h)
 
-pub size_of_parts : (limit : ℕ) (octets : List ℕ) → is_size limit ≡ true → is_whole limit octets ≡ false → (64 ≤ limit) × (limit ≤ 65535) × (limit < 4 + length octets)
+pub size_of_parts : (limit : ℕ) (octets : List ℕ) → is_size limit ≡ true → is_whole limit octets ≡ false →
+    (64 ≤ limit) × (limit ≤ 65535) × (limit < 4 + length octets)
 size_of_parts limit octets size h =
     let n = neither (limit == 0) (nat_le (4 + length octets) limit) h in
     let p = and_parts (nat_le 64 limit) (nat_le limit 65535) (size_if (limit == 0) (nat_le 64 limit && nat_le limit 65535) size n.0) in
@@ -72,11 +82,15 @@ later_are o (x ∷ os) = later_are x os
 are_later : (os : List (List ℕ)) → IsCons os → AreLater (later_parts os)
 are_later os c = subst (λ (l : List (List ℕ)). AreLater (later_parts l)) (sym c.is) (later_are c.head c.tail)
 
-pub are_parts : (limit : ℕ) (octets : List ℕ) → is_size limit ≡ true → is_parted limit (DT octets) ≡ true → AreParts (words_sent limit (DT octets))
+pub are_parts : (limit : ℕ) (octets : List ℕ) → is_size limit ≡ true → is_parted limit (DT octets) ≡ true →
+    AreParts (words_sent limit (DT octets))
 are_parts limit octets size h =
     let w : is_whole limit octets ≡ false = not_true (is_whole limit octets) h in
-    subst AreParts (sym (words_parted limit octets h ∙ parts_begin (limit - 7) octets (some_octets limit octets size w) (more_octets limit octets size w)))
-    (are_later (all_pieces (limit - 7) (drop (limit - 7) octets)) (some_piece (length (drop (limit - 7) octets)) (limit - 7) (drop (limit - 7) octets)))
+    subst AreParts
+        (sym (words_parted limit octets h ∙ parts_begin (limit - 7) octets (some_octets limit octets size w)
+        (more_octets limit octets size w)))
+    (are_later (all_pieces (limit - 7) (drop (limit - 7) octets))
+        (some_piece (length (drop (limit - 7) octets)) (limit - 7) (drop (limit - 7) octets)))
 
 -- ---- the octets of all parts together
 
@@ -94,7 +108,8 @@ unfolding flat
 parts_joined [] = refl
 parts_joined (x ∷ os) = ap (λ r. x ++ r) (later_joined os)
 
-flat_if : (b : Bool) (size : ℕ) (o : List ℕ) (os : List (List ℕ)) → flat os ≡ drop size o → flat (if b then o ∷ [] else take size o ∷ os) ≡ o
+flat_if : (b : Bool) (size : ℕ) (o : List ℕ) (os : List (List ℕ)) → flat os ≡ drop size o →
+    flat (if b then o ∷ [] else take size o ∷ os) ≡ o
 unfolding flat
 flat_if true size o os e = append-nil o
 flat_if false size o os e = ap (λ r. take size o ++ r) e ∙ take-append-drop size o
@@ -102,7 +117,8 @@ flat_if false size o os e = ap (λ r. take size o ++ r) e ∙ take-append-drop s
 pieces_flat : (fuel size : ℕ) (o : List ℕ) → flat (pieces fuel size o) ≡ o
 unfolding flat
 pieces_flat zero size o = append-nil o
-pieces_flat (suc fuel) size o = flat_if (nat_le (length o) size) size o (pieces fuel size (drop size o)) (pieces_flat fuel size (drop size o))
+pieces_flat (suc fuel) size o =
+    flat_if (nat_le (length o) size) size o (pieces fuel size (drop size o)) (pieces_flat fuel size (drop size o))
 
 joined_if : (b : Bool) (o : List ℕ) (parts : Words) → joined parts ≡ o → joined (if b then says (DT o) ∷ [] else parts) ≡ o
 joined_if true o parts e = append-nil o
@@ -134,12 +150,14 @@ parts_read : ReadAsParts → (os : List (List ℕ)) → map said_at (octets_of (
 parts_read read [] = refl
 parts_read read (x ∷ os) = let a = read First x in let b = later_read read os in λ i. a i ∷ b i
 
-read_if : (b : Bool) (o : List ℕ) (parts : Words) → said_at (written (DT o)) ≡ read_so (says (DT o)) → map said_at (octets_of parts) ≡ map read_so parts
+read_if : (b : Bool) (o : List ℕ) (parts : Words) → said_at (written (DT o)) ≡ read_so (says (DT o)) →
+    map said_at (octets_of parts) ≡ map read_so parts
     → map said_at (octets_of (if b then says (DT o) ∷ [] else parts)) ≡ map read_so (if b then says (DT o) ∷ [] else parts)
 read_if true o parts e h = ap (λ (r : Read). r ∷ []) e
 read_if false o parts e h = h
 
-pub sent_read : ((m : Meaning) → IsSendable m → tsdu_at (written m) ≡ Ok (spelled m)) → ((m : Meaning) → IsSendable m → said_by_units (spelled m) ≡ words_of m)
+pub sent_read : ((m : Meaning) → IsSendable m → tsdu_at (written m) ≡ Ok (spelled m)) →
+    ((m : Meaning) → IsSendable m → said_by_units (spelled m) ≡ words_of m)
     → ReadAsParts → (limit : ℕ) (octets : List ℕ) → map said_at (tsdus_of limit (DT octets)) ≡ map read_so (words_sent limit (DT octets))
 unfolding words_sent
 sent_read read said parts limit octets =
@@ -155,12 +173,14 @@ later_some o (x ∷ os) = omega arith
 some_later : (os : List (List ℕ)) → IsCons os → 0 < length (octets_of (later_parts os))
 some_later os c = subst (λ (l : List (List ℕ)). 0 < length (octets_of (later_parts l))) (sym c.is) (later_some c.head c.tail)
 
-full_put : (limit : ℕ) (tsdu : List ℕ) (tsdus : List (List ℕ)) → length tsdu ≡ limit → 0 < length tsdus → AreFull limit tsdus → AreFull limit (tsdu ∷ tsdus)
+full_put : (limit : ℕ) (tsdu : List ℕ) (tsdus : List (List ℕ)) → length tsdu ≡ limit → 0 < length tsdus → AreFull limit tsdus →
+    AreFull limit (tsdu ∷ tsdus)
 full_put limit tsdu [] e some h = absurd (omega arith)
 full_put limit tsdu (t ∷ tsdus) e some h = (e, h)
 
 full_if : (b : Bool) (size : ℕ) (o : List ℕ) (os : List (List ℕ)) → (b ≡ true → length o ≤ size) → (b ≡ false → size ≤ length o) → IsCons os
-    → AreFull (7 + size) (octets_of (later_parts os)) → AreFull (7 + size) (octets_of (later_parts (if b then o ∷ [] else take size o ∷ os)))
+    → AreFull (7 + size) (octets_of (later_parts os)) →
+        AreFull (7 + size) (octets_of (later_parts (if b then o ∷ [] else take size o ∷ os)))
 full_if true size o os short long c h = let n = short refl in omega (arith, n)
 full_if false size o os short long c h =
     let n = long refl in let t = length-take size o in
@@ -171,7 +191,8 @@ later_full : (fuel size : ℕ) (o : List ℕ) → 0 < size → length o ≤ fuel
 later_full zero size o some few = omega (arith, few)
 later_full (suc fuel) size o some few =
     let d = length-drop size o in
-    full_if (nat_le (length o) size) size o (pieces fuel size (drop size o)) (λ h. leb-true (length o) size h) (λ h. let l = leb-false (length o) size h in omega (arith, l))
+    full_if (nat_le (length o) size) size o (pieces fuel size (drop size o)) (λ h. leb-true (length o) size h)
+        (λ h. let l = leb-false (length o) size h in omega (arith, l))
     (some_piece fuel size (drop size o)) (later_full fuel size (drop size o) some (omega (arith, few, d, some)))
 
 parts_full : (size : ℕ) (o : List ℕ) → 0 < size → size < length o → AreFull (7 + size) (octets_of (parts_of (all_pieces size o)))
@@ -183,7 +204,9 @@ parts_full size o some long =
 
 one_full : (limit : ℕ) (octets : List ℕ) → 0 < limit → is_whole limit octets ≡ true → AreFull limit (in_one (DT octets))
 one_full limit octets some h =
-    let short : 4 + length octets ≤ limit = leb-true (4 + length octets) limit (size_if (limit == 0) (nat_le (4 + length octets) limit) h (ne_eqb limit 0 (λ e. omega (arith, e, some)))) in
+    let short : 4 + length octets ≤ limit =
+        leb-true (4 + length octets) limit
+        (size_if (limit == 0) (nat_le (4 + length octets) limit) h (ne_eqb limit 0 (λ e. omega (arith, e, some)))) in
     let w = ap length (data_written octets) in
     omega (arith, short, w)
 
@@ -199,7 +222,8 @@ sent_full limit octets size some = by (is_whole limit octets) refl
         (subst (λ (l : ℕ). AreFull l (octets_of (parts_of (all_pieces (limit - 7) octets)))) e
         (parts_full (limit - 7) octets (some_octets limit octets size h) (more_octets limit octets size h)))
 
-full_short : (limit most : ℕ) (tsdus : List (List ℕ)) → limit ≤ most → AreFull limit tsdus → AllByRecursion (λ (t : List ℕ). length t ≤ most) tsdus
+full_short : (limit most : ℕ) (tsdus : List (List ℕ)) → limit ≤ most → AreFull limit tsdus →
+    AllByRecursion (λ (t : List ℕ). length t ≤ most) tsdus
 full_short limit most [] few h = tt
 full_short limit most (t ∷ []) few h = (omega (arith, h, few), tt)
 full_short limit most (t ∷ u ∷ tsdus) few h = (let e = h.0 in omega (arith, e, few), full_short limit most (u ∷ tsdus) few h.1)
@@ -233,14 +257,16 @@ part_is place o h =
     few Middle = omega arith
     few Last = omega arith
 
-pieces_if : (b : Bool) (o x : List ℕ) (os : List (List ℕ)) → IsOctets o → IsOctets x → AllByRecursion IsOctets os → AllByRecursion IsOctets (if b then o ∷ [] else x ∷ os)
+pieces_if : (b : Bool) (o x : List ℕ) (os : List (List ℕ)) → IsOctets o → IsOctets x → AllByRecursion IsOctets os →
+    AllByRecursion IsOctets (if b then o ∷ [] else x ∷ os)
 pieces_if true o x os h k l = (h, tt)
 pieces_if false o x os h k l = (k, l)
 
 pieces_are : (fuel size : ℕ) (o : List ℕ) → IsOctets o → AllByRecursion IsOctets (pieces fuel size o)
 pieces_are zero size o h = (h, tt)
 pieces_are (suc fuel) size o h =
-    pieces_if (nat_le (length o) size) o (take size o) (pieces fuel size (drop size o)) h (octets_take size o h) (pieces_are fuel size (drop size o) (octets_drop size o h))
+    pieces_if (nat_le (length o) size) o (take size o) (pieces fuel size (drop size o)) h (octets_take size o h)
+        (pieces_are fuel size (drop size o) (octets_drop size o h))
 
 later_octets : (os : List (List ℕ)) → AllByRecursion IsOctets os → AllByRecursion IsOctets (octets_of (later_parts os))
 later_octets [] h = tt
@@ -260,5 +286,6 @@ octets_if false m parts h k = k
 pub sent_octets : (limit : ℕ) (m : Meaning) → IsInOctets m → IsOctets (written m) → AllByRecursion IsOctets (tsdus_of limit m)
 unfolding words_sent
 sent_octets limit (DT octets) h k =
-    octets_if (is_whole limit octets) (DT octets) (parts_of (all_pieces (limit - 7) octets)) k (parts_octets (all_pieces (limit - 7) octets) (pieces_are (length octets) (limit - 7) octets h))
+    octets_if (is_whole limit octets) (DT octets) (parts_of (all_pieces (limit - 7) octets)) k
+        (parts_octets (all_pieces (limit - 7) octets) (pieces_are (length octets) (limit - 7) octets h))
 sent_octets limit _ h k = (k, tt)

@@ -1,8 +1,16 @@
 -- Data, points and confirmations in the form of the fast path.
-use Rattle.std.proofs.Common.{◌≡◌, ◌∙◌, refl, sym, ap, subst, ◌&&◌, nat_le, nat_lt, take, drop, if◌then◌else◌, ℕ, ◌+◌, ◌/◌, ◌%◌, ◌≤◌, ◌<◌, Bool, true, false, List, [], ◌∷◌, ◌++◌, length, Some, None, Result, Ok, eqb, arith}
+use Rattle.std.proofs.Common.{◌≡◌, ◌∙◌, refl, sym, ap, subst, ◌&&◌, nat_le, nat_lt, take, drop, if◌then◌else◌, ℕ, ◌+◌, ◌/◌, ◌%◌, ◌≤◌, ◌<◌}
+use Rattle.std.proofs.Common.{Bool, true, false, List, [], ◌∷◌, ◌++◌, length, Some, None, Result, Ok, eqb, arith}
 use Rattle.osi_message.specs.declared.plain.PlainUnit.{PlainUnit}
 use Rattle.osi_message.specs.declared.plain.PlainUnit.TheVariants as plain
-use Rattle.osi_message.proofs.Vocabulary.{list_all, ne_eqb, and_parts, leb-true, ltb-true, take-append-drop, append-nil, Kind, MinorSyncPoint, MinorSyncAck, Number, number_of, is_group, codes_of, si_of, nothing, put, significant, six_digits, digits_of, is_digit, is_numeral, decimal_from, decimal, numeral, written_code, body_octets, unit_octets, tsdu_octets, tsdu_at, SpduFault, Meaning, DT, GT, MIP, MIA, Place, no_token, says, part, Words, part_head, part_octets, as_message, plain_octets, plain_said, plain_word, data_octets, point_octets, has_zero_in_front, said_by_units, said_if_read, said_at, IsSendable, words_of, with_data, unit_with, unit_of, is_second, behind_tokens, spelled, written, user_data_of}
+use Rattle.osi_message.proofs.Vocabulary.{list_all, ne_eqb, and_parts, leb-true, ltb-true, take-append-drop, append-nil, Kind}
+use Rattle.osi_message.proofs.Vocabulary.{MinorSyncPoint, MinorSyncAck, Number, number_of, is_group, codes_of, si_of, nothing, put}
+use Rattle.osi_message.proofs.Vocabulary.{significant, six_digits, digits_of, is_digit, is_numeral, decimal_from, decimal, numeral}
+use Rattle.osi_message.proofs.Vocabulary.{written_code, body_octets, unit_octets, tsdu_octets, tsdu_at, SpduFault, Meaning, DT, GT, MIP}
+use Rattle.osi_message.proofs.Vocabulary.{MIA, Place, no_token, says, part, Words, part_head, part_octets, as_message, plain_octets}
+use Rattle.osi_message.proofs.Vocabulary.{plain_said, plain_word, data_octets, point_octets, has_zero_in_front, said_by_units, said_if_read}
+use Rattle.osi_message.proofs.Vocabulary.{said_at, IsSendable, words_of, with_data, unit_with, unit_of, is_second, behind_tokens, spelled}
+use Rattle.osi_message.proofs.Vocabulary.{written, user_data_of}
 use Rattle.osi_message.proofs.numbers_are_those_of_points.{six}
 
 -- ---- the digits of a number
@@ -15,29 +23,40 @@ some_there x h = ne_eqb (x % 10 + 48) 48 (λ e. omega arith)
 
 pub digits_1 : (n : ℕ) → n < 10 → digits_of n ≡ (n % 10 + 48) ∷ []
 unfolding digits_of significant
-digits_1 n to = rw (none_there (n / 100000) (omega arith), none_there (n / 10000) (omega arith), none_there (n / 1000) (omega arith), none_there (n / 100) (omega arith), none_there (n / 10) (omega arith)) refl
+digits_1 n to =
+    rw (none_there (n / 100000) (omega arith), none_there (n / 10000) (omega arith), none_there (n / 1000) (omega arith),
+    none_there (n / 100) (omega arith), none_there (n / 10) (omega arith)) refl
 
 pub digits_2 : (n : ℕ) → 10 ≤ n → n < 100 → digits_of n ≡ (n / 10 % 10 + 48) ∷ (n % 10 + 48) ∷ []
 unfolding digits_of significant
-digits_2 n from to = rw (none_there (n / 100000) (omega arith), none_there (n / 10000) (omega arith), none_there (n / 1000) (omega arith), none_there (n / 100) (omega arith), some_there (n / 10) (omega arith)) refl
+digits_2 n from to =
+    rw (none_there (n / 100000) (omega arith), none_there (n / 10000) (omega arith), none_there (n / 1000) (omega arith),
+    none_there (n / 100) (omega arith), some_there (n / 10) (omega arith)) refl
 
 pub digits_3 : (n : ℕ) → 100 ≤ n → n < 1000 → digits_of n ≡ (n / 100 % 10 + 48) ∷ (n / 10 % 10 + 48) ∷ (n % 10 + 48) ∷ []
 unfolding digits_of significant
-digits_3 n from to = rw (none_there (n / 100000) (omega arith), none_there (n / 10000) (omega arith), none_there (n / 1000) (omega arith), some_there (n / 100) (omega arith)) refl
+digits_3 n from to =
+    rw (none_there (n / 100000) (omega arith), none_there (n / 10000) (omega arith), none_there (n / 1000) (omega arith),
+    some_there (n / 100) (omega arith)) refl
 
-pub digits_4 : (n : ℕ) → 1000 ≤ n → n < 10000 → digits_of n ≡ (n / 1000 % 10 + 48) ∷ (n / 100 % 10 + 48) ∷ (n / 10 % 10 + 48) ∷ (n % 10 + 48) ∷ []
+pub digits_4 : (n : ℕ) → 1000 ≤ n → n < 10000 → digits_of n ≡ (n / 1000 % 10 + 48) ∷ (n / 100 % 10 + 48) ∷ (n / 10 % 10 + 48) ∷
+    (n % 10 + 48) ∷ []
 unfolding digits_of significant
-digits_4 n from to = rw (none_there (n / 100000) (omega arith), none_there (n / 10000) (omega arith), some_there (n / 1000) (omega arith)) refl
+digits_4 n from to = rw (none_there (n / 100000) (omega arith), none_there (n / 10000) (omega arith), some_there (n / 1000) (omega arith))
+    refl
 
-pub digits_5 : (n : ℕ) → 10000 ≤ n → n < 100000 → digits_of n ≡ (n / 10000 % 10 + 48) ∷ (n / 1000 % 10 + 48) ∷ (n / 100 % 10 + 48) ∷ (n / 10 % 10 + 48) ∷ (n % 10 + 48) ∷ []
+pub digits_5 : (n : ℕ) → 10000 ≤ n → n < 100000 → digits_of n ≡ (n / 10000 % 10 + 48) ∷ (n / 1000 % 10 + 48) ∷ (n / 100 % 10 + 48) ∷
+    (n / 10 % 10 + 48) ∷ (n % 10 + 48) ∷ []
 unfolding digits_of significant
 digits_5 n from to = rw (none_there (n / 100000) (omega arith), some_there (n / 10000) (omega arith)) refl
 
-pub digits_6 : (n : ℕ) → 100000 ≤ n → n < 1000000 → digits_of n ≡ (n / 100000 % 10 + 48) ∷ (n / 10000 % 10 + 48) ∷ (n / 1000 % 10 + 48) ∷ (n / 100 % 10 + 48) ∷ (n / 10 % 10 + 48) ∷ (n % 10 + 48) ∷ []
+pub digits_6 : (n : ℕ) → 100000 ≤ n → n < 1000000 → digits_of n ≡ (n / 100000 % 10 + 48) ∷ (n / 10000 % 10 + 48) ∷ (n / 1000 % 10 + 48) ∷
+    (n / 100 % 10 + 48) ∷ (n / 10 % 10 + 48) ∷ (n % 10 + 48) ∷ []
 unfolding digits_of significant
 digits_6 n from to = rw (some_there (n / 100000) (omega arith)) refl
 
-kept_short : (b : Bool) (digits kept : List ℕ) → length kept ≤ length digits → (d : ℕ) → length (if b then kept else d ∷ digits) ≤ length (d ∷ digits)
+kept_short : (b : Bool) (digits kept : List ℕ) → length kept ≤ length digits → (d : ℕ) →
+    length (if b then kept else d ∷ digits) ≤ length (d ∷ digits)
 kept_short true digits kept h d = omega arith
 kept_short false digits kept h d = omega arith
 
@@ -60,7 +79,8 @@ data_written octets = ap data_octets (append-nil octets)
 abbrev with_number : Kind → List ℕ → List ℕ
 with_number kind digits = tsdu_octets (behind_tokens (unit_with kind (with_data [] (put Number digits nothing))))
 
-points_with : (digits : List ℕ) → length digits ≤ 6 → (with_number MinorSyncPoint digits ≡ point_octets 49 digits) × (with_number MinorSyncAck digits ≡ point_octets 50 digits)
+points_with : (digits : List ℕ) → length digits ≤ 6 → (with_number MinorSyncPoint digits ≡ point_octets 49 digits) ×
+    (with_number MinorSyncAck digits ≡ point_octets 50 digits)
 unfolding tsdu_octets unit_octets body_octets written_code is_group codes_of si_of number_of
 points_with (a ∷ b ∷ c ∷ d ∷ e ∷ f ∷ g ∷ digits) few = absurd (omega arith)
 points_with _ few = (refl, refl)
@@ -76,7 +96,8 @@ ack_written n = (points_with (digits_of n) (digits_few n)).1
 -- ---- reading
 
 -- of six digits, the first ones may be zeros
-six_again : (a b c d e f : ℕ) → list_all is_digit (a ∷ b ∷ c ∷ d ∷ e ∷ f ∷ []) ≡ true → six_digits (decimal (a ∷ b ∷ c ∷ d ∷ e ∷ f ∷ [])) ≡ a ∷ b ∷ c ∷ d ∷ e ∷ f ∷ []
+six_again : (a b c d e f : ℕ) → list_all is_digit (a ∷ b ∷ c ∷ d ∷ e ∷ f ∷ []) ≡ true →
+    six_digits (decimal (a ∷ b ∷ c ∷ d ∷ e ∷ f ∷ [])) ≡ a ∷ b ∷ c ∷ d ∷ e ∷ f ∷ []
 unfolding decimal_from
 six_again a b c d e f all =
     let s = six a b c d e f all in
@@ -89,7 +110,8 @@ six_again a b c d e f all =
     let ef : n % 10 + 48 ≡ f = omega arith in
     λ i. ea i ∷ eb i ∷ ec i ∷ ed i ∷ ee i ∷ ef i ∷ []
 
-decimal_again : (digits : List ℕ) → length digits ≤ 6 → list_all is_digit digits ≡ true → 0 < length digits → has_zero_in_front digits ≡ false
+decimal_again : (digits : List ℕ) → length digits ≤ 6 → list_all is_digit digits ≡ true → 0 < length digits →
+    has_zero_in_front digits ≡ false
     → digits_of (decimal digits) ≡ digits
 unfolding digits_of significant decimal_from
 decimal_again (a ∷ []) few all some z = ap significant (six_again 48 48 48 48 48 a all)
@@ -110,7 +132,8 @@ pub data_parts : (tsdu head rest : List ℕ) → head ≡ take 4 tsdu → rest �
 data_parts tsdu head rest h r e =
     sym (take-append-drop 4 tsdu) ∙ (λ i. sym h i ++ sym r i) ∙ ap (λ (x : List ℕ). x ++ rest) e
 
-pub part_parts : (tsdu head rest : List ℕ) (place : Place) → head ≡ take 7 tsdu → rest ≡ drop 7 tsdu → head ≡ part_head place → tsdu ≡ part_octets place rest
+pub part_parts : (tsdu head rest : List ℕ) (place : Place) → head ≡ take 7 tsdu → rest ≡ drop 7 tsdu → head ≡ part_head place →
+    tsdu ≡ part_octets place rest
 part_parts tsdu head rest place h r e =
     sym (take-append-drop 7 tsdu) ∙ (λ i. sym h i ++ sym r i) ∙ ap (λ (x : List ℕ). x ++ rest) e
 
@@ -128,25 +151,32 @@ unfolding user_data_of
 plain_sendable p = grind arith
 
 -- octets in the written form of a message have its words
-said_whole : ((m : Meaning) → IsSendable m → tsdu_at (written m) ≡ Ok (spelled m)) → ((m : Meaning) → IsSendable m → said_by_units (spelled m) ≡ words_of m)
+said_whole : ((m : Meaning) → IsSendable m → tsdu_at (written m) ≡ Ok (spelled m)) →
+    ((m : Meaning) → IsSendable m → said_by_units (spelled m) ≡ words_of m)
     → (m : Meaning) → IsSendable m → said_at (written m) ≡ Ok (words_of m)
 unfolding said_at
 said_whole read said m h = ap said_if_read (read m h) ∙ ap {B = Result Words SpduFault} Ok (said m h)
 
-pub said_plain : ((m : Meaning) → IsSendable m → tsdu_at (written m) ≡ Ok (spelled m)) → ((m : Meaning) → IsSendable m → said_by_units (spelled m) ≡ words_of m)
+pub said_plain : ((m : Meaning) → IsSendable m → tsdu_at (written m) ≡ Ok (spelled m)) →
+    ((m : Meaning) → IsSendable m → said_by_units (spelled m) ≡ words_of m)
     → ((place : Place) (octets : List ℕ) → said_at (part_octets place octets) ≡ Ok (says (GT no_token) ∷ part place octets ∷ []))
     → (p : PlainUnit) (tsdu : List ℕ) → tsdu ≡ plain_octets p → said_at tsdu ≡ Ok (plain_said p)
 unfolding is_second
 said_plain read said parts (plain.Part place octets) tsdu e = ap said_at e ∙ parts place octets.now
-said_plain read said parts (plain.MinorPoint number) tsdu e = ap said_at e ∙ said_whole read said (MIP true number.number []) (plain_sendable (plain.MinorPoint number))
-said_plain read said parts (plain.MinorAck number) tsdu e = ap said_at e ∙ said_whole read said (MIA number.number []) (plain_sendable (plain.MinorAck number))
+said_plain read said parts (plain.MinorPoint number) tsdu e =
+    ap said_at e ∙ said_whole read said (MIP true number.number []) (plain_sendable (plain.MinorPoint number))
+said_plain read said parts (plain.MinorAck number) tsdu e =
+    ap said_at e ∙ said_whole read said (MIA number.number []) (plain_sendable (plain.MinorAck number))
 
 -- data is read after a GT that names no token
-pub said_data : ((m : Meaning) → IsSendable m → tsdu_at (written m) ≡ Ok (spelled m)) → ((m : Meaning) → IsSendable m → said_by_units (spelled m) ≡ words_of m)
+pub said_data : ((m : Meaning) → IsSendable m → tsdu_at (written m) ≡ Ok (spelled m)) →
+    ((m : Meaning) → IsSendable m → said_by_units (spelled m) ≡ words_of m)
     → (octets : List ℕ) → said_at (written (DT octets)) ≡ Ok (says (GT no_token) ∷ says (DT octets) ∷ [])
 unfolding is_second user_data_of
-said_data read said octets = said_whole read said (DT octets) (record { version = refl; numbered = tt; sized = refl; addressed = tt; short = omega arith })
+said_data read said octets =
+    said_whole read said (DT octets) (record { version = refl; numbered = tt; sized = refl; addressed = tt; short = omega arith })
 
-pub data_said : ((m : Meaning) → IsSendable m → tsdu_at (written m) ≡ Ok (spelled m)) → ((m : Meaning) → IsSendable m → said_by_units (spelled m) ≡ words_of m)
+pub data_said : ((m : Meaning) → IsSendable m → tsdu_at (written m) ≡ Ok (spelled m)) →
+    ((m : Meaning) → IsSendable m → said_by_units (spelled m) ≡ words_of m)
     → (octets tsdu : List ℕ) → tsdu ≡ data_octets octets → said_at tsdu ≡ Ok (says (GT no_token) ∷ says (DT octets) ∷ [])
 data_said read said octets tsdu e = ap said_at (e ∙ sym (data_written octets)) ∙ said_data read said octets

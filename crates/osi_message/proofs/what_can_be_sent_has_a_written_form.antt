@@ -1,10 +1,21 @@
 -- What can be sent has a written form.
-use Rattle.std.proofs.Common.{◌≡◌, ◌∙◌, refl, sym, ap, subst, ℕ, ◌+◌, ◌<◌, ◌≤◌, ◌==◌, Bool, true, false, cond, ◌&&◌, List, [], ◌∷◌, length, Option, Some, None, option_map, if◌then◌else◌, arith}
+use Rattle.std.proofs.Common.{◌≡◌, ◌∙◌, refl, sym, ap, subst, ℕ, ◌+◌, ◌<◌, ◌≤◌, ◌==◌, Bool, true, false, cond, ◌&&◌, List, [], ◌∷◌, length}
+use Rattle.std.proofs.Common.{Option, Some, None, option_map, if◌then◌else◌, arith}
 use Rattle.osi_spdu.specs.declared.codes.Code.TheVariants as code
 use Rattle.osi_spdu.specs.declared.kinds.Category.{Category}
 use Rattle.osi_spdu.specs.declared.kinds.Category.TheVariants.{Zero, One, Two}
 use Rattle.osi_spdu.proofs.basics.the_steps_of_reading.{same_true}
-use Rattle.osi_message.proofs.Vocabulary.{le-leb, lt-ltb, Code, ConnectAcceptItem, SyncType, TokenItem, TransportDisconnect, ProtocolOptions, UserRequirements, Version, InitialNumber, Number, Reason, CallingSelector, CalledSelector, UserData, ExtendedUserData, ResyncType, Restart, Abandon, Set, TsduMaximumSize, Kind, GiveTokens, Connect, DataTransfer, MinorSyncPoint, TokenSetting, Wish, Asker, Answerer, Choice, number_of, is_same, category_of, codes_of, members_of, required_of, may_stand, digits_of, canonical, wish_number, two_octets, size_octets, setting_octets, resync_octet, written_sizes, Known, Contents, nothing, put, some_octets, HasInformation, EndsTsdu, MayFollow, StandTogether, IsCanonical, IsFormedUnit, IsFormedTsdu, UnitFits, TsduFits, value_len, free_len, is_formed, Tokens, token_octet, Meaning, CN, AC, RF, DT, GT, PT, MIP, MIA, MAP, MAA, RS, RA, FN, DN, NF, AB, AA, IsSmall, IsNumbered, IsAddress, IsAddressed, put_some, with_data, terms, numbered, sync_type, unit_with, unit_of, is_second, user_data_of, alone_units, behind_tokens, spelled, connect_unit}
+use Rattle.osi_message.proofs.Vocabulary.{le-leb, lt-ltb, Code, ConnectAcceptItem, SyncType, TokenItem, TransportDisconnect}
+use Rattle.osi_message.proofs.Vocabulary.{ProtocolOptions, UserRequirements, Version, InitialNumber, Number, Reason, CallingSelector}
+use Rattle.osi_message.proofs.Vocabulary.{CalledSelector, UserData, ExtendedUserData, ResyncType, Restart, Abandon, Set, TsduMaximumSize}
+use Rattle.osi_message.proofs.Vocabulary.{Kind, GiveTokens, Connect, DataTransfer, MinorSyncPoint, TokenSetting, Wish, Asker, Answerer}
+use Rattle.osi_message.proofs.Vocabulary.{Choice, number_of, is_same, category_of, codes_of, members_of, required_of, may_stand, digits_of}
+use Rattle.osi_message.proofs.Vocabulary.{canonical, wish_number, two_octets, size_octets, setting_octets, resync_octet, written_sizes}
+use Rattle.osi_message.proofs.Vocabulary.{Known, Contents, nothing, put, some_octets, HasInformation, EndsTsdu, MayFollow, StandTogether}
+use Rattle.osi_message.proofs.Vocabulary.{IsCanonical, IsFormedUnit, IsFormedTsdu, UnitFits, TsduFits, value_len, free_len, is_formed}
+use Rattle.osi_message.proofs.Vocabulary.{Tokens, token_octet, Meaning, CN, AC, RF, DT, GT, PT, MIP, MIA, MAP, MAA, RS, RA, FN, DN, NF, AB}
+use Rattle.osi_message.proofs.Vocabulary.{AA, IsSmall, IsNumbered, IsAddress, IsAddressed, put_some, with_data, terms, numbered, sync_type}
+use Rattle.osi_message.proofs.Vocabulary.{unit_with, unit_of, is_second, user_data_of, alone_units, behind_tokens, spelled, connect_unit}
 use Rattle.osi_message.proofs.a_field_reads_back.{pairs_again, wish_small}
 use Rattle.osi_message.proofs.what_is_written_means_it.{HaveDigits}
 use Rattle.osi_message.proofs.the_octet_of_a_set_of_tokens.{octet_kept}
@@ -30,7 +41,8 @@ some_values : (b : Bool) (slot c : Code) (value : Option (List ℕ)) (v : List �
 some_values true slot c value v known s good is e = subst (λ (d : Code). canonical d v ≡ Some v) (sym (same_true c slot s)) (good v e)
 some_values false slot c value v known s good is e = is e
 
-with_some : (slot : Code) (value : Option (List ℕ)) (known : Known) → IsGood slot value → is_same ExtendedUserData slot ≡ false → is_same UserData slot ≡ false
+with_some : (slot : Code) (value : Option (List ℕ)) (known : Known) → IsGood slot value → is_same ExtendedUserData slot ≡ false →
+    is_same UserData slot ≡ false
     → IsCanonical known → IsCanonical (put_some slot value known)
 with_some slot value known good x u is = record {
   values = λ c v e. some_values (is_same c slot) slot c value v known refl good (is.values c v) e;
@@ -38,12 +50,14 @@ with_some slot value known good x u is = record {
   data_there = λ e. is.data_there (sym (ap (λ (b : Bool). cond b value (known UserData)) u) ∙ e);
 }
 
-pub with_one : (slot : Code) (value : List ℕ) (known : Known) → canonical slot value ≡ Some value → is_same ExtendedUserData slot ≡ false → is_same UserData slot ≡ false
+pub with_one : (slot : Code) (value : List ℕ) (known : Known) → canonical slot value ≡ Some value → is_same ExtendedUserData slot ≡ false →
+    is_same UserData slot ≡ false
     → IsCanonical known → IsCanonical (put slot value known)
 with_one slot value known good x u is = with_some slot (Some value) known (one_good slot value good) x u is
 
 data_values : (b : Bool) (c : Code) (octets v : List ℕ) (known : Known) → is_same c UserData ≡ b
-    → (known c ≡ Some v → canonical c v ≡ Some v) → cond b (some_octets (cond b (Some octets) (known c))) (cond b (Some octets) (known c)) ≡ Some v → canonical c v ≡ Some v
+    → (known c ≡ Some v → canonical c v ≡ Some v) →
+        cond b (some_octets (cond b (Some octets) (known c))) (cond b (Some octets) (known c)) ≡ Some v → canonical c v ≡ Some v
 unfolding canonical
 data_values true c octets v known s is e = subst (λ (d : Code). canonical d v ≡ Some v) (sym (same_true c UserData s)) refl
 data_values false c octets v known s is e = is e
@@ -104,12 +118,14 @@ reason_good reason octets = ap (λ (b : Bool). cond b (Some (reason ∷ octets))
 calling_good : (selector : Option (List ℕ)) → IsAddress selector → IsGood CallingSelector selector
 unfolding canonical
 calling_good None small v e = absurd cc
-calling_good (Some octets) small v e = one_good CallingSelector octets (ap (λ (b : Bool). cond b (Some octets) None) (le-leb (length octets) 16 small)) v e
+calling_good (Some octets) small v e =
+    one_good CallingSelector octets (ap (λ (b : Bool). cond b (Some octets) None) (le-leb (length octets) 16 small)) v e
 
 called_good : (selector : Option (List ℕ)) → IsAddress selector → IsGood CalledSelector selector
 unfolding canonical
 called_good None small v e = absurd cc
-called_good (Some octets) small v e = one_good CalledSelector octets (ap (λ (b : Bool). cond b (Some octets) None) (le-leb (length octets) 16 small)) v e
+called_good (Some octets) small v e =
+    one_good CalledSelector octets (ap (λ (b : Bool). cond b (Some octets) None) (le-leb (length octets) 16 small)) v e
 
 numbered_good : HaveDigits → (n : ℕ) → n ≤ 999999 → IsCanonical (numbered n)
 unfolding number_of
@@ -123,7 +139,8 @@ sync_good : (confirm : Bool) (known : Known) → IsCanonical known → IsCanonic
 sync_good true known is = is
 sync_good false known is = open_good known is
 
-terms_good : HaveDigits → (serial : Option ℕ) (setting : TokenSetting) (requirements : ℕ) (sizes : TsduMaximumSize) → IsSmall serial → IsCanonical (terms serial setting requirements sizes)
+terms_good : HaveDigits → (serial : Option ℕ) (setting : TokenSetting) (requirements : ℕ) (sizes : TsduMaximumSize) → IsSmall serial →
+    IsCanonical (terms serial setting requirements sizes)
 unfolding canonical number_of
 terms_good digits serial setting requirements sizes small =
     with_one ConnectAcceptItem [] _ refl refl refl
@@ -134,8 +151,11 @@ terms_good digits serial setting requirements sizes small =
     (with_one code.TokenSetting (setting_octets setting) _ (setting_good setting) refl refl
     (with_one UserRequirements (two_octets requirements) _ refl refl refl no_value))))))
 
-connect_good : HaveDigits → (requirements : ℕ) (serial : Option ℕ) (wishes : TokenSetting) (calling called : Option (List ℕ)) (sizes : TsduMaximumSize) (octets : List ℕ)
-    → IsSmall serial → IsAddress calling → IsAddress called → IsCanonical (connect_unit requirements serial wishes calling called sizes octets).known
+connect_good : HaveDigits →
+    (requirements : ℕ) (serial : Option ℕ) (wishes : TokenSetting) (calling called : Option (List ℕ)) (sizes : TsduMaximumSize)
+    (octets : List ℕ)
+    → IsSmall serial → IsAddress calling → IsAddress called →
+        IsCanonical (connect_unit requirements serial wishes calling called sizes octets).known
 unfolding number_of
 connect_good digits requirements serial wishes calling called sizes octets small from to =
     with_user_data octets _
@@ -150,7 +170,8 @@ tokens_good tokens = with_one TokenItem (token_octet tokens ∷ []) nothing (tok
 refuse_good : (reason : ℕ) (octets : List ℕ) → IsCanonical (put TransportDisconnect (1 ∷ []) (put Reason (reason ∷ octets) nothing))
 unfolding canonical number_of
 refuse_good reason octets =
-    with_one TransportDisconnect (1 ∷ []) _ refl refl refl (with_one Reason (reason ∷ octets) nothing (reason_good reason octets) refl refl no_value)
+    with_one TransportDisconnect (1 ∷ []) _ refl refl refl
+        (with_one Reason (reason ∷ octets) nothing (reason_good reason octets) refl refl no_value)
 
 abort_good : (bits : ℕ) → IsCanonical (put TransportDisconnect (bits ∷ []) nothing)
 unfolding canonical number_of
@@ -166,8 +187,10 @@ kind_good kind known is = with_one code.ResyncType (resync_octet kind ∷ []) kn
 
 unit_good : HaveDigits → (m : Meaning) → IsNumbered m → IsAddressed m → IsCanonical (unit_of m).known
 unfolding unit_of
-unit_good digits (CN version_2 requirements serial wishes calling called sizes octets) small to = connect_good digits requirements serial wishes calling called sizes octets small to.0 to.1
-unit_good digits (AC version_2 requirements serial sides sizes octets) small to = with_user_data octets _ (terms_good digits serial sides requirements sizes small)
+unit_good digits (CN version_2 requirements serial wishes calling called sizes octets) small to =
+    connect_good digits requirements serial wishes calling called sizes octets small to.0 to.1
+unit_good digits (AC version_2 requirements serial sides sizes octets) small to =
+    with_user_data octets _ (terms_good digits serial sides requirements sizes small)
 unit_good digits (RF reason octets) small to = refuse_good reason octets
 unit_good digits (GT tokens) small to = tokens_good tokens
 unit_good digits (PT tokens octets) small to = with_user_data octets _ (tokens_good tokens)
@@ -175,7 +198,8 @@ unit_good digits (MIP confirm n octets) small to = with_user_data octets _ (sync
 unit_good digits (MIA n octets) small to = with_user_data octets _ (numbered_good digits n small)
 unit_good digits (MAP n octets) small to = with_user_data octets _ (open_good _ (numbered_good digits n small))
 unit_good digits (MAA n octets) small to = with_user_data octets _ (numbered_good digits n small)
-unit_good digits (RS kind n wishes octets) small to = with_user_data octets _ (set_good wishes _ (kind_good kind _ (numbered_good digits n small)))
+unit_good digits (RS kind n wishes octets) small to =
+    with_user_data octets _ (set_good wishes _ (kind_good kind _ (numbered_good digits n small)))
 unit_good digits (RA n sides octets) small to = with_user_data octets _ (set_good sides _ (numbered_good digits n small))
 unit_good digits (FN octets) small to = with_user_data octets _ no_value
 unit_good digits (DN octets) small to = with_user_data octets _ no_value
@@ -185,7 +209,8 @@ unit_good digits _ small to = no_value
 
 -- ---- a unit has all mandatory parameters, and only those that it knows
 
-minor_formed : (confirm : Bool) (n : ℕ) (octets : List ℕ) → is_formed MinorSyncPoint (with_data octets (sync_type confirm (numbered n))) ≡ true
+minor_formed : (confirm : Bool) (n : ℕ) (octets : List ℕ) →
+    is_formed MinorSyncPoint (with_data octets (sync_type confirm (numbered n))) ≡ true
 unfolding is_formed codes_of members_of required_of number_of
 minor_formed true n octets = refl
 minor_formed false n octets = refl
@@ -268,11 +293,13 @@ alone_formed : (unit : Contents) → may_stand false (category_of unit.kind) ≡
 unfolding StandTogether
 alone_formed unit may is = record { together = (follows_none (category_of unit.kind) may, tt); formed = (is, tt) }
 
-place_formed : (b : Bool) (m : Meaning) → is_second m ≡ b → IsFormedUnit (unit_of m) → IsFormedTsdu (if b then behind_tokens (unit_of m) else alone_units (unit_of m))
+place_formed : (b : Bool) (m : Meaning) → is_second m ≡ b → IsFormedUnit (unit_of m) →
+    IsFormedTsdu (if b then behind_tokens (unit_of m) else alone_units (unit_of m))
 place_formed true m s is = behind_formed (unit_of m) (second_place m s) is
 place_formed false m s is = alone_formed (unit_of m) (first_place m s) is
 
-place_fits : HaveRoom → (b : Bool) (m : Meaning) → UnitFits (unit_of m) → TsduFits (if b then behind_tokens (unit_of m) else alone_units (unit_of m))
+place_fits : HaveRoom → (b : Bool) (m : Meaning) → UnitFits (unit_of m) →
+    TsduFits (if b then behind_tokens (unit_of m) else alone_units (unit_of m))
 place_fits room true m fit = (no_tokens_fit room, (fit, tt))
 place_fits room false m fit = (fit, tt)
 
@@ -280,6 +307,7 @@ pub spelled_formed : HaveDigits → (m : Meaning) → IsNumbered m → IsAddress
 unfolding spelled
 spelled_formed digits m small to = place_formed (is_second m) m refl (formed digits m small to)
 
-pub spelled_fits : HaveRoom → HaveDigits → (m : Meaning) → IsNumbered m → IsAddressed m → length (user_data_of m) < 65000 → TsduFits (spelled m)
+pub spelled_fits : HaveRoom → HaveDigits → (m : Meaning) → IsNumbered m → IsAddressed m → length (user_data_of m) < 65000 →
+    TsduFits (spelled m)
 unfolding spelled
 spelled_fits room digits m small to few = place_fits room (is_second m) m (fits room digits m small to few)

@@ -1,8 +1,20 @@
 -- What is sent is octets.
-use Rattle.std.proofs.Common.{◌≡◌, refl, subst, ℕ, suc, ◌+◌, ◌/◌, ◌%◌, ◌<◌, ◌≤◌, ◌==◌, Bool, true, false, cond, ◌&&◌, List, [], ◌∷◌, ◌++◌, length, length-append, nat_lt, Option, Some, None, option_map, if◌then◌else◌, arith}
+use Rattle.std.proofs.Common.{◌≡◌, refl, subst, ℕ, suc, ◌+◌, ◌/◌, ◌%◌, ◌<◌, ◌≤◌, ◌==◌, Bool, true, false, cond, ◌&&◌, List, [], ◌∷◌, ◌++◌}
+use Rattle.std.proofs.Common.{length, length-append, nat_lt, Option, Some, None, option_map, if◌then◌else◌, arith}
 use Rattle.std.proofs.lemmas.Bool.Decides.{nat_tests}
 use Rattle.osi_spdu.specs.declared.codes.Code.TheVariants as code
-use Rattle.osi_message.proofs.Vocabulary.{and_le_r, AllByRecursion, flat_map, IfSome, IsOctets, octets_nil, octets_cons, octets_append, Code, ConnectionIdentifier, ConnectAcceptItem, SyncType, TokenItem, TransportDisconnect, ProtocolOptions, UserRequirements, Version, InitialNumber, Number, Reason, CallingSelector, CalledSelector, UserData, ResyncType, Restart, Abandon, Set, TsduMaximumSize, Kind, GiveTokens, TokenSetting, Wish, Asker, Answerer, Choice, number_of, is_same, is_group, si_of, codes_of, members_of, significant, six_digits, digits_of, wish_number, two_octets, size_octets, setting_octets, resync_octet, written_sizes, Known, Contents, Units, nothing, put, some_octets, length_octets, written_item, written_code, member_octets, members_octets, group_octets, value_octets, parameter_octets, body_octets, unit_octets, tsdu_octets, UnitFits, TsduFits, Tokens, token_octet, IsInOctets, Meaning, CN, AC, RF, DT, GT, PT, MIP, MIA, MAP, MAA, RS, RA, FN, DN, NF, AB, AA, IsSendable, put_some, with_data, terms, numbered, sync_type, unit_with, unit_of, is_second, alone_units, behind_tokens, spelled, written}
+use Rattle.osi_message.proofs.Vocabulary.{and_le_r, AllByRecursion, flat_map, IfSome, IsOctets, octets_nil, octets_cons, octets_append}
+use Rattle.osi_message.proofs.Vocabulary.{Code, ConnectionIdentifier, ConnectAcceptItem, SyncType, TokenItem, TransportDisconnect}
+use Rattle.osi_message.proofs.Vocabulary.{ProtocolOptions, UserRequirements, Version, InitialNumber, Number, Reason, CallingSelector}
+use Rattle.osi_message.proofs.Vocabulary.{CalledSelector, UserData, ResyncType, Restart, Abandon, Set, TsduMaximumSize, Kind, GiveTokens}
+use Rattle.osi_message.proofs.Vocabulary.{TokenSetting, Wish, Asker, Answerer, Choice, number_of, is_same, is_group, si_of, codes_of}
+use Rattle.osi_message.proofs.Vocabulary.{members_of, significant, six_digits, digits_of, wish_number, two_octets, size_octets}
+use Rattle.osi_message.proofs.Vocabulary.{setting_octets, resync_octet, written_sizes, Known, Contents, Units, nothing, put, some_octets}
+use Rattle.osi_message.proofs.Vocabulary.{length_octets, written_item, written_code, member_octets, members_octets, group_octets}
+use Rattle.osi_message.proofs.Vocabulary.{value_octets, parameter_octets, body_octets, unit_octets, tsdu_octets, UnitFits, TsduFits, Tokens}
+use Rattle.osi_message.proofs.Vocabulary.{token_octet, IsInOctets, Meaning, CN, AC, RF, DT, GT, PT, MIP, MIA, MAP, MAA, RS, RA, FN, DN, NF}
+use Rattle.osi_message.proofs.Vocabulary.{AB, AA, IsSendable, put_some, with_data, terms, numbered, sync_type, unit_with, unit_of}
+use Rattle.osi_message.proofs.Vocabulary.{is_second, alone_units, behind_tokens, spelled, written}
 use Rattle.osi_message.proofs.what_can_be_sent_has_a_written_form.{HaveRoom, spelled_fits}
 use Rattle.osi_message.proofs.what_is_written_means_it.{HaveDigits}
 use Rattle.osi_message.proofs.the_octet_of_a_set_of_tokens.{octet_kept}
@@ -19,7 +31,8 @@ length_part true n e small =
 item_is : (code : ℕ) (value : List ℕ) → code < 256 → length value < 65536 → IsOctets value → IsOctets (written_item code value)
 item_is code value small few h =
     octets_cons code (length_octets (nat_lt 254 (length value)) (length value) ++ value) small
-    (octets_append (length_octets (nat_lt 254 (length value)) (length value)) value (length_part (nat_lt 254 (length value)) (length value) refl few) h)
+    (octets_append (length_octets (nat_lt 254 (length value)) (length value)) value
+        (length_part (nat_lt 254 (length value)) (length value) refl few) h)
 
 item_longer : (code : ℕ) (value : List ℕ) → length value ≤ length (written_item code value)
 item_longer code value = let e = length-append (length_octets (nat_lt 254 (length value)) (length value)) value in omega arith
@@ -47,7 +60,8 @@ member_is : (c : Code) (o : Option (List ℕ)) → IfSome o IsOctets → length 
 member_is c None h few = octets_nil
 member_is c (Some value) h few = item_is (number_of c) value (code_small c) (let l = item_longer (number_of c) value in omega arith) h
 
-members_are : (known : Known) (codes : List Code) → AreKnown known → length (members_octets known codes) < 65536 → IsOctets (members_octets known codes)
+members_are : (known : Known) (codes : List Code) → AreKnown known → length (members_octets known codes) < 65536 →
+    IsOctets (members_octets known codes)
 unfolding AreKnown
 members_are known [] h few = octets_nil
 members_are known (c ∷ codes) h few =
@@ -70,7 +84,8 @@ parameter_is kind known c (Some value) h is few =
     item_is (number_of (written_code kind c value)) (value_octets kind known c value) small (omega arith)
     (value_is (is_group c) kind known c value h is (omega arith))
 
-parameters_are : (kind : Kind) (known : Known) (codes : List Code) → AreKnown known → length (flat_map (λ c. parameter_octets kind known c (known c)) codes) < 65536 →
+parameters_are : (kind : Kind) (known : Known) (codes : List Code) → AreKnown known →
+    length (flat_map (λ c. parameter_octets kind known c (known c)) codes) < 65536 →
     IsOctets (flat_map (λ c. parameter_octets kind known c (known c)) codes)
 unfolding AreKnown
 parameters_are kind known [] h few = octets_nil
@@ -82,7 +97,8 @@ parameters_are kind known (c ∷ codes) h few =
 
 unit_is : (unit : Contents) → AreKnown unit.known → UnitFits unit → IsOctets (unit_octets unit)
 unfolding unit_octets body_octets
-unit_is unit h fits = item_is (si_of unit.kind) (body_octets unit.kind unit.known) (si_small unit.kind) fits (parameters_are unit.kind unit.known (codes_of unit.kind) h fits)
+unit_is unit h fits = item_is (si_of unit.kind) (body_octets unit.kind unit.known) (si_small unit.kind) fits
+    (parameters_are unit.kind unit.known (codes_of unit.kind) h fits)
 
 record IsUnit (unit : Contents) : Type 0 where
   known : AreKnown unit.known
@@ -101,11 +117,13 @@ none_known : AreKnown nothing
 unfolding AreKnown
 none_known c v e = absurd cc
 
-known_by : (b : Bool) (value here : Option (List ℕ)) (v : List ℕ) → IfSome value IsOctets → (here ≡ Some v → IsOctets v) → cond b value here ≡ Some v → IsOctets v
+known_by : (b : Bool) (value here : Option (List ℕ)) (v : List ℕ) → IfSome value IsOctets → (here ≡ Some v → IsOctets v) →
+    cond b value here ≡ Some v → IsOctets v
 known_by true value here v h is e = subst (λ (o : Option (List ℕ)). IfSome o IsOctets) e h
 known_by false value here v h is e = is e
 
-some_known : (slot : Code) (value : Option (List ℕ)) (known : Known) → IfSome value IsOctets → AreKnown known → AreKnown (put_some slot value known)
+some_known : (slot : Code) (value : Option (List ℕ)) (known : Known) → IfSome value IsOctets → AreKnown known →
+    AreKnown (put_some slot value known)
 unfolding AreKnown
 some_known slot value known h is c v e = known_by (is_same c slot) value (known c) v h (is c v) e
 
@@ -118,7 +136,8 @@ data_by b o v h0 h1 = grind arith
 
 data_known : (octets : List ℕ) (known : Known) → IsOctets octets → AreKnown known → AreKnown (with_data octets known)
 unfolding AreKnown
-data_known octets known h is c v e = data_by (is_same c UserData) (put UserData octets known c) v (one_known UserData octets known h is c v) e
+data_known octets known h is c v e = data_by (is_same c UserData) (put UserData octets known c) v (one_known UserData octets known h is c v)
+    e
 
 octet_is : (n : ℕ) → n < 256 → IsOctets (n ∷ [])
 octet_is n small = octets_cons n [] small octets_nil
@@ -132,7 +151,8 @@ either false xs ys h k = k
 
 significant_are : (digits : List ℕ) → IsOctets digits → IsOctets (significant digits)
 unfolding significant
-significant_are (d ∷ e ∷ digits) h = either (d == 48) (significant (e ∷ digits)) (d ∷ e ∷ digits) (significant_are (e ∷ digits) (λ i. h (suc i))) h
+significant_are (d ∷ e ∷ digits) h =
+    either (d == 48) (significant (e ∷ digits)) (d ∷ e ∷ digits) (significant_are (e ∷ digits) (λ i. h (suc i))) h
 significant_are _ h = h
 
 digit_small : (n : ℕ) → n % 10 + 48 < 256
@@ -149,13 +169,16 @@ digits_are n =
     let three = behind_is (n / 100) ((n / 10 % 10 + 48) ∷ (n % 10 + 48) ∷ []) two in
     let four = behind_is (n / 1000) ((n / 100 % 10 + 48) ∷ (n / 10 % 10 + 48) ∷ (n % 10 + 48) ∷ []) three in
     let five = behind_is (n / 10000) ((n / 1000 % 10 + 48) ∷ (n / 100 % 10 + 48) ∷ (n / 10 % 10 + 48) ∷ (n % 10 + 48) ∷ []) four in
-    significant_are (six_digits n) (behind_is (n / 100000) ((n / 10000 % 10 + 48) ∷ (n / 1000 % 10 + 48) ∷ (n / 100 % 10 + 48) ∷ (n / 10 % 10 + 48) ∷ (n % 10 + 48) ∷ []) five)
+    significant_are (six_digits n)
+        (behind_is (n / 100000) ((n / 10000 % 10 + 48) ∷ (n / 1000 % 10 + 48) ∷ (n / 100 % 10 + 48) ∷ (n / 10 % 10 + 48) ∷ (n % 10 + 48) ∷
+        []) five)
 
 serial_is : (serial : Option ℕ) → IfSome (option_map digits_of serial) IsOctets
 serial_is None = tt
 serial_is (Some n) = digits_are n
 
-sizes_are : (sizes : TsduMaximumSize) → sizes.from_asker < 65536 → sizes.from_answerer < 65536 → IfSome (option_map size_octets (written_sizes sizes)) IsOctets
+sizes_are : (sizes : TsduMaximumSize) → sizes.from_asker < 65536 → sizes.from_answerer < 65536 →
+    IfSome (option_map size_octets (written_sizes sizes)) IsOctets
 sizes_are sizes h0 h1 = grind (arith, octets_cons, two_are)
 
 setting_is : (s : TokenSetting) → IsOctets (setting_octets s)
@@ -179,7 +202,8 @@ sync_known : (confirm : Bool) (known : Known) → AreKnown known → AreKnown (s
 sync_known true known is = is
 sync_known false known is = type_known known is
 
-terms_known : (serial : Option ℕ) (setting : TokenSetting) (requirements : ℕ) (sizes : TsduMaximumSize) → requirements < 65536 → sizes.from_asker < 65536
+terms_known : (serial : Option ℕ) (setting : TokenSetting) (requirements : ℕ) (sizes : TsduMaximumSize) → requirements < 65536 →
+    sizes.from_asker < 65536
     → sizes.from_answerer < 65536 → AreKnown (terms serial setting requirements sizes)
 terms_known serial setting requirements sizes small asker answerer =
     one_known ConnectAcceptItem [] _ octets_nil
@@ -197,7 +221,8 @@ leave_known : (bits : ℕ) (known : Known) → bits < 256 → AreKnown known →
 leave_known bits known small is = one_known TransportDisconnect (bits ∷ []) known (octet_is bits small) is
 
 token_is : (tokens : Tokens) → IsOctets (token_octet tokens ∷ [])
-token_is tokens = let few = subst (λ (n : ℕ). n ≤ 85) (octet_kept tokens) (and_le_r (token_octet tokens) 85) in octet_is (token_octet tokens) (omega arith)
+token_is tokens = let few = subst (λ (n : ℕ). n ≤ 85) (octet_kept tokens) (and_le_r (token_octet tokens) 85) in
+    octet_is (token_octet tokens) (omega arith)
 
 tokens_known : (tokens : Tokens) → AreKnown (put TokenItem (token_octet tokens ∷ []) nothing)
 tokens_known tokens = one_known TokenItem (token_octet tokens ∷ []) nothing (token_is tokens) none_known
@@ -207,10 +232,14 @@ tokens_known tokens = one_known TokenItem (token_octet tokens ∷ []) nothing (t
 unit_known : (m : Meaning) → IsInOctets m → AreKnown (unit_of m).known
 unfolding unit_of
 unit_known (CN version_2 requirements serial wishes calling called sizes octets) h =
-    data_known octets _ h.5 (some_known CallingSelector calling _ h.1 (some_known CalledSelector called _ h.2 (terms_known serial wishes requirements sizes h.0 h.3 h.4)))
-unit_known (AC version_2 requirements serial sides sizes octets) h = data_known octets _ h.3 (terms_known serial sides requirements sizes h.0 h.1 h.2)
+    data_known octets _ h.5
+        (some_known CallingSelector calling _ h.1
+        (some_known CalledSelector called _ h.2 (terms_known serial wishes requirements sizes h.0 h.3 h.4)))
+unit_known (AC version_2 requirements serial sides sizes octets) h =
+    data_known octets _ h.3 (terms_known serial sides requirements sizes h.0 h.1 h.2)
 unit_known (RF reason octets) h =
-    one_known TransportDisconnect (1 ∷ []) _ (octet_is 1 (omega arith)) (one_known Reason (reason ∷ octets) nothing (octets_cons reason octets h.0 h.1) none_known)
+    one_known TransportDisconnect (1 ∷ []) _ (octet_is 1 (omega arith))
+        (one_known Reason (reason ∷ octets) nothing (octets_cons reason octets h.0 h.1) none_known)
 unit_known (GT tokens) h = tokens_known tokens
 unit_known (PT tokens octets) h = data_known octets _ h (tokens_known tokens)
 unit_known (MIP confirm n octets) h = data_known octets _ h (sync_known confirm _ (numbered_known n))
@@ -243,4 +272,5 @@ placed false m h = (meant m h, tt)
 
 pub written_octets : HaveRoom → HaveDigits → (m : Meaning) → IsSendable m → IsInOctets m → IsOctets (written m)
 unfolding spelled
-written_octets room digits m can h = tsdu_is (spelled m) (placed (is_second m) m h) (spelled_fits room digits m can.numbered can.addressed can.short)
+written_octets room digits m can h =
+    tsdu_is (spelled m) (placed (is_second m) m h) (spelled_fits room digits m can.numbered can.addressed can.short)

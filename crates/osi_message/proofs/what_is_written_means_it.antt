@@ -1,6 +1,11 @@
 -- What is written of a meaning means it.
-use Rattle.std.proofs.Common.{◌≡◌, ◌∙◌, refl, sym, ap, ℕ, ◌≤◌, Bool, true, false, List, [], ◌∷◌, map, Option, Some, None, option_map, unwrap_or, if◌then◌else◌, arith}
-use Rattle.osi_message.proofs.Vocabulary.{ResyncType, Restart, Abandon, Set, TsduMaximumSize, TokenSetting, number_of, digits_of, numeral, two_octets, resync_octet, some_octets, no_token, Meaning, CN, AC, RF, DT, GT, PT, MIP, MIA, MAP, MAA, RS, RA, FN, DN, NF, AB, AA, IsSmall, IsNumbered, octets_in, two_in, serial_in, number_in, resync_named, meaning, word, said_by_units, alone, behind, connect_unit, unit_of, is_second, alone_units, behind_tokens, spelled, words_of, is_of_version_2, Word, says}
+use Rattle.std.proofs.Common.{◌≡◌, ◌∙◌, refl, sym, ap, ℕ, ◌≤◌, Bool, true, false, List, [], ◌∷◌, map, Option, Some, None, option_map}
+use Rattle.std.proofs.Common.{unwrap_or, if◌then◌else◌, arith}
+use Rattle.osi_message.proofs.Vocabulary.{ResyncType, Restart, Abandon, Set, TsduMaximumSize, TokenSetting, number_of, digits_of, numeral}
+use Rattle.osi_message.proofs.Vocabulary.{two_octets, resync_octet, some_octets, no_token, Meaning, CN, AC, RF, DT, GT, PT, MIP, MIA, MAP}
+use Rattle.osi_message.proofs.Vocabulary.{MAA, RS, RA, FN, DN, NF, AB, AA, IsSmall, IsNumbered, octets_in, two_in, serial_in, number_in}
+use Rattle.osi_message.proofs.Vocabulary.{resync_named, meaning, word, said_by_units, alone, behind, connect_unit, unit_of, is_second}
+use Rattle.osi_message.proofs.Vocabulary.{alone_units, behind_tokens, spelled, words_of, is_of_version_2, Word, says}
 use Rattle.osi_message.proofs.a_field_reads_back.{setting_again, written_again}
 use Rattle.osi_message.proofs.the_octet_of_a_set_of_tokens.{named_octet}
 
@@ -27,15 +32,19 @@ resync_again Restart = refl
 resync_again _ = refl
 
 -- a CN with its selectors
-connect_again : HaveDigits → (requirements : ℕ) (serial : Option ℕ) (wishes : TokenSetting) (calling called : Option (List ℕ)) (sizes : TsduMaximumSize) (octets : List ℕ)
-    → IsSmall serial → meaning (connect_unit requirements serial wishes calling called sizes octets) ≡ CN true requirements serial wishes calling called sizes octets
+connect_again : HaveDigits →
+    (requirements : ℕ) (serial : Option ℕ) (wishes : TokenSetting) (calling called : Option (List ℕ)) (sizes : TsduMaximumSize)
+    (octets : List ℕ)
+    → IsSmall serial → meaning (connect_unit requirements serial wishes calling called sizes octets) ≡ CN true requirements serial wishes
+        calling called sizes octets
 unfolding meaning number_of
 connect_again digits requirements serial wishes calling called sizes octets small =
     let r = two_again requirements in let n = serial_again digits serial small in
     let w = setting_again wishes in let z = written_again sizes in let d = data_again octets in
     λ i. CN true (r i) (n i) (w i) calling called (z i) (d i)
 
-minor_again : HaveDigits → (confirm : Bool) (n : ℕ) (octets : List ℕ) → n ≤ 999999 → meaning (unit_of (MIP confirm n octets)) ≡ MIP confirm n octets
+minor_again : HaveDigits → (confirm : Bool) (n : ℕ) (octets : List ℕ) → n ≤ 999999 →
+    meaning (unit_of (MIP confirm n octets)) ≡ MIP confirm n octets
 unfolding meaning unit_of number_of
 minor_again digits true n octets small = let m = number_again digits n small in let d = data_again octets in λ i. MIP true (m i) (d i)
 minor_again digits false n octets small = let m = number_again digits n small in let d = data_again octets in λ i. MIP false (m i) (d i)
@@ -69,7 +78,8 @@ meaning_again digits _ v small = refl
 
 said_with_place : (b : Bool) (m : Meaning) → meaning (unit_of m) ≡ m
     → word (unit_of m) ≡ says (meaning (unit_of m))
-    → said_by_units (if b then behind_tokens (unit_of m) else alone_units (unit_of m)) ≡ map says (if b then behind (GT no_token) m else alone m)
+    → said_by_units (if b then behind_tokens (unit_of m) else alone_units (unit_of m)) ≡ map says
+        (if b then behind (GT no_token) m else alone m)
 unfolding word meaning number_of
 said_with_place true m e w = ap (λ (u : Word). says (GT no_token) ∷ u ∷ []) (w ∙ ap says e)
 said_with_place false m e w = ap (λ (u : Word). u ∷ []) (w ∙ ap says e)

@@ -16,7 +16,9 @@ use Rattle.osi_rules.specs.declared.routes.Route.TheVariants.{Asks, Named, Only,
 use Rattle.osi_rules.specs.Reaches.{reach_of, is_applied}
 use Rattle.osi_rules.specs.Rows.{first_failed}
 use Rattle.osi_rules.specs.Sides.{is_live, is_named}
-use Rattle.osi_rules.specs.Traffic.{State, Outcome, class_for, course_after, course_after_none, found_on, reached, unnamed, none_told, one_told, unnamed_told, at_found, at_place, asks_by, asks_of, request_tests, routed, route, is_stopped, stops_by, takes}
+use Rattle.osi_rules.specs.Traffic.{State, Outcome, class_for, course_after, course_after_none, found_on, reached, unnamed, none_told}
+use Rattle.osi_rules.specs.Traffic.{one_told, unnamed_told, at_found, at_place, asks_by, asks_of, request_tests, routed, route, is_stopped}
+use Rattle.osi_rules.specs.Traffic.{stops_by, takes}
 
 reached_says : (d : Direction) (r : Reach) (c : Course) (e : Direction) → is_stopped e (reached d r c) ≡ (stops_by d r e || is_stopped e c)
 reached_says d reach.Nothing c e = refl
@@ -76,7 +78,8 @@ to_unnamed d v s e =
 to_one : (d : Direction) (p : ℕ) (c : Connection) (v : Value) (s : State) → IsSaid d s (one_told d p c v s)
 to_one d p c v s e =
     let f = found_on d s c v in
-    then_says d (reach_of (class_for d s.course) f) (course_after d c v (is_applied f) s.course) s.course e (keeps d c v (is_applied f) s.course e)
+    then_says d (reach_of (class_for d s.course) f) (course_after d c v (is_applied f) s.course) s.course e
+        (keeps d c v (is_applied f) s.course e)
 
 at_one : (d : Direction) (v : Value) (s : State) (p : ℕ) (c : Option Connection) → IsSaid d s (at_found d v s p c)
 at_one d v s p None e = to_unnamed d v s e
@@ -109,7 +112,8 @@ by_route d v s (Named reference) e = at_any d v s (position (is_named d referenc
 by_route d v s Only e = at_any d v s (position (is_live d) s.connections) e
 by_route d v s (Unnamed finding) e = to_none d finding s e
 
-if_judged : (b : Bool) (d : Direction) (v : Value) (s : State) (r : Route) → IsSaid d s (if b then none_told d NotJudged s else routed d v s r)
+if_judged : (b : Bool) (d : Direction) (v : Value) (s : State) (r : Route) →
+    IsSaid d s (if b then none_told d NotJudged s else routed d v s r)
 if_judged true d v s r e = to_none d NotJudged s e
 if_judged false d v s r e = by_route d v s r e
 

@@ -1,6 +1,7 @@
 -- A unit changes the connection at the place that is told of it, and no other: for the law of that name. By the way that
 -- the unit takes: to no connection, to one at a place, or to a new one.
-use Rattle.std.proofs.Common.{◌≡◌, ◌≢◌, ℕ, ◌<◌, zero, suc, Bool, true, false, List, [], ◌∷◌, ◌++◌, length, set, arith, Option, Some, None, refl, if◌then◌else◌}
+use Rattle.std.proofs.Common.{◌≡◌, ◌≢◌, ℕ, ◌<◌, zero, suc, Bool, true, false, List, [], ◌∷◌, ◌++◌, length, set, arith, Option, Some, None}
+use Rattle.std.proofs.Common.{refl, if◌then◌else◌}
 use Rattle.std.specs.Prelude.{slice_get, position}
 use Rattle.osi_tpdu.specs.Value.{Value, Connect, request, confirm, disconnect, disconnected, data0, data2, acknowledge, error}
 use Rattle.osi_rules.specs.declared.connections.Connection.{Connection}
@@ -11,7 +12,8 @@ use Rattle.osi_rules.specs.declared.routes.Route.{Route}
 use Rattle.osi_rules.specs.declared.routes.Route.TheVariants.{Asks, Named, Only, Unnamed}
 use Rattle.osi_rules.specs.Rows.{first_failed}
 use Rattle.osi_rules.specs.Sides.{is_live, is_free, is_named}
-use Rattle.osi_rules.specs.Traffic.{State, Outcome, none_told, at_found, at_place, asked_by, asks_kept, asks_by, asks_of, request_tests, routed, route, is_stopped, takes}
+use Rattle.osi_rules.specs.Traffic.{State, Outcome, none_told, at_found, at_place, asked_by, asks_kept, asks_by, asks_of, request_tests}
+use Rattle.osi_rules.specs.Traffic.{routed, route, is_stopped, takes}
 
 get_other : {X : Type 0} (xs : List X) (i p : ℕ) (x : X) → Some p ≢ Some i → slice_get (set xs p x) i ≡ slice_get xs i
 get_other [] i p x h = refl

@@ -1,6 +1,7 @@
 -- A loop that changes each item of a list in turn gives the list of the changed items: for the connections of a byte
 -- connection, when a packet begins.
-use Rattle.std.proofs.Common.{◌≡◌, ℕ, ◌+◌, ◌<◌, zero, suc, List, [], ◌∷◌, ◌++◌, length, take, drop, map, get_or, set, arith, refl, ap, ◌∙◌, add-one}
+use Rattle.std.proofs.Common.{◌≡◌, ℕ, ◌+◌, ◌<◌, zero, suc, List, [], ◌∷◌, ◌++◌, length, take, drop, map, get_or, set, arith, refl, ap, ◌∙◌}
+use Rattle.std.proofs.Common.{add-one}
 
 record IsStep {A : Type 0} (f : A → A) (xs : List A) (i : ℕ) (d : A) : Type 0 where
   here : get_or (map f (take i xs) ++ drop i xs) i d ≡ get_or xs i d

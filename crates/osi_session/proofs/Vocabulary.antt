@@ -1,12 +1,14 @@
 -- What the proofs of this crate take from the library, from the crates below and from its own definitions.
-pub use Rattle.std.proofs.lemmas.Bool.{and_from, and_parts, cases_Bool, cases_order, eq-eqb, eqb-true, le-leb, le-ltb, leb-true, lt-ltb, ltb-true, ne_eqb, or_left, or_right}
+pub use Rattle.std.proofs.lemmas.Bool.{and_from, and_parts, cases_Bool, cases_order, eq-eqb, eqb-true, le-leb, le-ltb, leb-true, lt-ltb}
+pub use Rattle.std.proofs.lemmas.Bool.{ltb-true, ne_eqb, or_left, or_right}
 pub use Rattle.std.proofs.lemmas.List.{append-nil, append_assoc, length-append}
 pub use Rattle.std.specs.Int.RustNames.{bit_and}
 pub use Rattle.std.specs.List.{AllByRecursion, list_any}
 pub use Rattle.std.specs.Option.{option_and_then}
 pub use Rattle.std.specs.Prelude.{OnErr, is_none, is_some}
 pub use Rattle.osi_message.proofs.numbers_are_those_of_points.{meant_numbered, units_numbered}
-pub use Rattle.osi_message.specs.Meanings.{AA, AB, AC, CN, DN, DT, FN, GT, MAA, MAP, MIA, MIP, Meaning, NF, PT, RA, RF, RS, meant_by, selector_octets}
+pub use Rattle.osi_message.specs.Meanings.{AA, AB, AC, CN, DN, DT, FN, GT, MAA, MAP, MIA, MIP, Meaning, NF, PT, RA, RF, RS, meant_by}
+pub use Rattle.osi_message.specs.Meanings.{selector_octets}
 pub use Rattle.osi_message.specs.Numbered.{AreNumbered, AreNumberedWords, IsNumbered, IsNumberedWord, IsSmall}
 pub use Rattle.osi_message.specs.Parting.{AreFull, in_one, is_parted, is_whole, tsdus_of, tsdus_sent}
 unfoldable pub use Rattle.osi_message.specs.Parting.{words_sent}
@@ -36,33 +38,51 @@ pub use Rattle.osi_spdu.specs.declared.fields.TsduMaximumSize.{TsduMaximumSize}
 pub use Rattle.osi_spdu.specs.declared.kinds.Category.TheVariants.{One, Two, Zero}
 pub use Rattle.osi_spdu.specs.declared.kinds.Kind.{Kind}
 pub use Rattle.osi_spdu.specs.declared.settings.TokenSetting.{TokenSetting}
-pub use Rattle.osi_session.specs.Allowed.{AllHold, Answer, Passed, Step, Test, after, first_error, has_right, is_confirmable, is_restartable, last_number, may_call, most_data, most_of, most_user_data, needs, octets_of, opened_with, sends, sized}
+pub use Rattle.osi_session.specs.Allowed.{AllHold, Answer, Passed, Step, Test, after, first_error, has_right, is_confirmable}
+pub use Rattle.osi_session.specs.Allowed.{is_restartable, last_number, may_call, most_data, most_of, most_user_data, needs, octets_of}
+pub use Rattle.osi_session.specs.Allowed.{opened_with, sends, sized}
 unfoldable pub use Rattle.osi_session.specs.Allowed.{allowed, met}
-pub use Rattle.osi_session.specs.Calls.{Abort, Accept, Call, Data, Give, HasSerial, Major, MajorConfirm, Minor, MinorConfirm, Please, Refuse, Release, ReleaseAccept, ReleaseRefuse, Restart, RestartConfirm, called_by, refusal_octets}
-pub use Rattle.osi_session.specs.Causes.{asks_first, asks_for_connection, call_gives, call_holds, call_opens, call_renews, is_taken, opens_connection, renews, some_word, to_answerer, to_asker, unit_asks, unit_gives, unit_holds, unit_opens, unit_renews}
+pub use Rattle.osi_session.specs.Calls.{Abort, Accept, Call, Data, Give, HasSerial, Major, MajorConfirm, Minor, MinorConfirm, Please}
+pub use Rattle.osi_session.specs.Calls.{Refuse, Release, ReleaseAccept, ReleaseRefuse, Restart, RestartConfirm, called_by, refusal_octets}
+pub use Rattle.osi_session.specs.Causes.{asks_first, asks_for_connection, call_gives, call_holds, call_opens, call_renews, is_taken}
+pub use Rattle.osi_session.specs.Causes.{opens_connection, renews, some_word, to_answerer, to_asker, unit_asks, unit_gives, unit_holds}
+pub use Rattle.osi_session.specs.Causes.{unit_opens, unit_renews}
 pub use Rattle.osi_session.specs.Closing.{awaits_close, closes_alone, is_answer, may_close, may_close_word}
-pub use Rattle.osi_session.specs.Joining.{Hearing, Taker, begins_anew, drops_parts, enacted_word, enclosure_conditions, good_word, heard, heard_then, idle, is_in_place, is_last, is_restart_word, joined_by, joined_octets, kept_in, respond_came, respond_tsdu, word_conditions, word_verdict}
+pub use Rattle.osi_session.specs.Joining.{Hearing, Taker, begins_anew, drops_parts, enacted_word, enclosure_conditions, good_word, heard}
+pub use Rattle.osi_session.specs.Joining.{heard_then, idle, is_in_place, is_last, is_restart_word, joined_by, joined_octets, kept_in}
+pub use Rattle.osi_session.specs.Joining.{respond_came, respond_tsdu, word_conditions, word_verdict}
 unfoldable pub use Rattle.osi_session.specs.Joining.{acting_words, respond_word, respond_words}
 pub use Rattle.osi_session.specs.Kept.{IsJoined, IsJoinedAs, IsKept, IsKeptIn, IsNoFault, discards}
-pub use Rattle.osi_session.specs.Listening.{Input, Listener, Move, after_input, after_inputs, answered, begun, broken, called, came, came_as, denied, in_state, is_opened, moved, opened, refused, rests, taken, taker_of, unread}
+pub use Rattle.osi_session.specs.Listening.{Input, Listener, Move, after_input, after_inputs, answered, begun, broken, called, came}
+pub use Rattle.osi_session.specs.Listening.{came_as, denied, in_state, is_opened, moved, opened, refused, rests, taken, taker_of, unread}
 unfoldable pub use Rattle.osi_session.specs.Listening.{react}
 pub use Rattle.osi_session.specs.Numbers.{from_base, lower}
 unfoldable pub use Rattle.osi_session.specs.Numbers.{major_confirmed, minor_confirmed, point_sent, point_taken, restarted_at}
 pub use Rattle.osi_session.specs.Openings.{asked_for}
-pub use Rattle.osi_session.specs.Parts.{Act, AreAlike, AreParts, AreSilent, HasProfile, IsOfProfile, act_in_octets, act_in_words, calls, calls_in, comes, has_profile, part_comes}
-pub use Rattle.osi_session.specs.Phases.{every_phase, in_major, is_aborting, is_answering, is_connecting, is_ended, is_major_asked, is_major_due, is_over, is_ready, is_release_due, is_releasing, is_restart_due, is_restarting, is_settled, is_wait_cn, is_wait_transport, may_abort, may_ask, may_confirm_minor, may_give, may_hold, may_restart, shows_loss, takes_data, takes_minor_ack, takes_restart}
+pub use Rattle.osi_session.specs.Parts.{Act, AreAlike, AreParts, AreSilent, HasProfile, IsOfProfile, act_in_octets, act_in_words, calls}
+pub use Rattle.osi_session.specs.Parts.{calls_in, comes, has_profile, part_comes}
+pub use Rattle.osi_session.specs.Phases.{every_phase, in_major, is_aborting, is_answering, is_connecting, is_ended, is_major_asked}
+pub use Rattle.osi_session.specs.Phases.{is_major_due, is_over, is_ready, is_release_due, is_releasing, is_restart_due, is_restarting}
+pub use Rattle.osi_session.specs.Phases.{is_settled, is_wait_cn, is_wait_transport, may_abort, may_ask, may_confirm_minor, may_give}
+pub use Rattle.osi_session.specs.Phases.{may_hold, may_restart, shows_loss, takes_data, takes_minor_ack, takes_restart}
 pub use Rattle.osi_session.specs.Points.{PlansPoint, advanced, all_hold, call_for, has_next, in_numbers, may_advance, only_shows}
-pub use Rattle.osi_session.specs.Respond.{AllMet, Condition, IsGood, Outcome, Verdict, and_then, bad, becomes, by_fault, closes_for, conditions, dropped, drops, enacted, faulty, fine, first_fault, first_reply, good, has_no_effect, in_aborting, in_ended, is_acceptable, is_acknowledgeable, is_expected, is_faulty, is_nil, is_resynchronize, is_silent, is_token_item, judged, kind_of, lost, nothing, over, replies_abort, reply_for, respond, shown_for, shows, si, verdict}
+pub use Rattle.osi_session.specs.Respond.{AllMet, Condition, IsGood, Outcome, Verdict, and_then, bad, becomes, by_fault, closes_for}
+pub use Rattle.osi_session.specs.Respond.{conditions, dropped, drops, enacted, faulty, fine, first_fault, first_reply, good, has_no_effect}
+pub use Rattle.osi_session.specs.Respond.{in_aborting, in_ended, is_acceptable, is_acknowledgeable, is_expected, is_faulty, is_nil}
+pub use Rattle.osi_session.specs.Respond.{is_resynchronize, is_silent, is_token_item, judged, kind_of, lost, nothing, over, replies_abort}
+pub use Rattle.osi_session.specs.Respond.{reply_for, respond, shown_for, shows, si, verdict}
 unfoldable pub use Rattle.osi_session.specs.Respond.{acting, respond_all, respond_fault, respond_unit, stands, take_expected}
 pub use Rattle.osi_session.specs.Runs.{HasNumbers, HasNumbersInWords, IsFresh}
-pub use Rattle.osi_session.specs.Sessions.{CanBeSent, IsPlanOf, Planned, Refused, RefusedBy, Takes, asking, awaiting, is_memory, lone, lone_of, takes_memory}
+pub use Rattle.osi_session.specs.Sessions.{CanBeSent, IsPlanOf, Planned, Refused, RefusedBy, Takes, asking, awaiting, is_memory, lone}
+pub use Rattle.osi_session.specs.Sessions.{lone_of, takes_memory}
 unfoldable pub use Rattle.osi_session.specs.Sessions.{unit_in}
 pub use Rattle.osi_session.specs.Shown.{Aborted, BadUnit, Lost, MinorConfirmed, PeerAbort, Shown, is_connect, shown_by, shows_connect}
 pub use Rattle.osi_session.specs.Sizes.{fits_limit, is_bounded, is_data, limit_of, smaller}
 unfoldable pub use Rattle.osi_session.specs.Sizes.{answered_sizes, smaller_sizes}
 pub use Rattle.osi_session.specs.Sound.{AreOrdered, IsSound}
 pub use Rattle.osi_session.specs.State.{without_tokens}
-pub use Rattle.osi_session.specs.Steps.{Hears, Reacts, hearing_of, hearing_of_all, joined_after, outcome_of, outcome_of_all, shown_list, step_of, takes_room, told_of, word_by}
+pub use Rattle.osi_session.specs.Steps.{Hears, Reacts, hearing_of, hearing_of_all, joined_after, outcome_of, outcome_of_all, shown_list}
+pub use Rattle.osi_session.specs.Steps.{step_of, takes_room, told_of, word_by}
 pub use Rattle.osi_session.specs.Units.{functional_units, has_points, units_within}
 unfoldable pub use Rattle.osi_session.specs.Units.{available, both_units, has_data, is_profile}
 pub use Rattle.osi_session.specs.Whole.{in_words, is_apart, joins, listening, standing_of}
@@ -75,6 +95,7 @@ pub use Rattle.osi_session.specs.declared.indications.Indication.{Indication}
 pub use Rattle.osi_session.specs.declared.numbers.Numbers.{Numbers}
 pub use Rattle.osi_session.specs.declared.opening.Opening.{Opening}
 pub use Rattle.osi_session.specs.declared.phases.Phase.{Phase}
-pub use Rattle.osi_session.specs.declared.phases.Phase.TheVariants.{Aborting, Answering, Connecting, Ended, MajorAsked, MajorDue, Ready, ReleaseDue, Releasing, RestartDue, Restarting, WaitCn, WaitTransport}
+pub use Rattle.osi_session.specs.declared.phases.Phase.TheVariants.{Aborting, Answering, Connecting, Ended, MajorAsked, MajorDue, Ready}
+pub use Rattle.osi_session.specs.declared.phases.Phase.TheVariants.{ReleaseDue, Releasing, RestartDue, Restarting, WaitCn, WaitTransport}
 pub use Rattle.osi_session.specs.declared.selected.FunctionalUnits.{FunctionalUnits}
 pub use Rattle.osi_session.specs.declared.state.State.{State}

@@ -10,8 +10,12 @@ pub use Rattle.std.proofs.lemmas.List.Sums.{count_by-le-length, position_or_len_
 pub use Rattle.std.specs.List.{AllByRecursion, filter, flat_map, list_any, position, position_or_len, sum_by}
 pub use Rattle.std.specs.Prelude.{IfErr, IfSome, OnErr, OnOk}
 pub use Rattle.osi_carrier.proofs.references.what_a_change_leaves_there.{absent, beyond, push_here, put_here, without_here}
-pub use Rattle.osi_carrier.proofs.references.rows_after_a_change.{push_other, put_none, put_other, put_rise, put_up, rise_lower, without_other}
-pub use Rattle.osi_carrier.proofs.effects.a_unit_touches_one_connection.{How, closed_gone, effect, free_of, orderly_asks, orderly_closed, orderly_end, orderly_ended, orderly_fresh, orderly_packet, orderly_same, orderly_sent, orderly_unit, orderly_units, sent_gone, stays_gone}
+pub use Rattle.osi_carrier.proofs.references.rows_after_a_change.{push_other, put_none, put_other, put_rise, put_up, rise_lower}
+pub use Rattle.osi_carrier.proofs.references.rows_after_a_change.{without_other}
+pub use Rattle.osi_carrier.proofs.effects.a_unit_touches_one_connection.{How, closed_gone, effect, free_of, orderly_asks, orderly_closed}
+pub use Rattle.osi_carrier.proofs.effects.a_unit_touches_one_connection.{orderly_end, orderly_ended, orderly_fresh, orderly_packet}
+pub use Rattle.osi_carrier.proofs.effects.a_unit_touches_one_connection.{orderly_same, orderly_sent, orderly_unit, orderly_units, sent_gone}
+pub use Rattle.osi_carrier.proofs.effects.a_unit_touches_one_connection.{stays_gone}
 pub use Rattle.osi_carrier.proofs.effects.what_is_in_front_changes_nothing.{apart_all}
 pub use Rattle.osi_carrier.proofs.stream.all_pieces_last_alike.{PacketLaws, Parts, fault_behind, front_used, no_fault, packets_over, parts}
 pub use Rattle.osi_carrier.proofs.references.which_connections_have_selectors.{known_is}
@@ -20,11 +24,14 @@ pub use Rattle.osi_carrier.proofs.references.the_row_at_a_place.{here_is, placed
 pub use Rattle.osi_carrier.proofs.effects.units_one_after_the_other.{none_of, react_over}
 pub use Rattle.osi_carrier.proofs.stream.a_piece_is_read_packet_by_packet.{acts_cases, packets_leave, packets_more}
 pub use Rattle.osi_carrier.proofs.references.events_tell_what_is_open.{asks_opens, closed_opens, packet_opens, sent_opens}
-pub use Rattle.osi_carrier.specs.Calls.{Tells, asks, close_error, closed_on, closed_with, closes, ended_by, kept_in, lengths_error, link_of, may_connect, open_link, send_all_error, send_error, sent, sent_all, sent_on, tsaps_at}
+pub use Rattle.osi_carrier.specs.Calls.{Tells, asks, close_error, closed_on, closed_with, closes, ended_by, kept_in, lengths_error, link_of}
+pub use Rattle.osi_carrier.specs.Calls.{may_connect, open_link, send_all_error, send_error, sent, sent_all, sent_on, tsaps_at}
 pub use Rattle.osi_carrier.specs.Happenings.{Happening, closed, faulted, happening, tsdu, opened as told_opened, refused as told_refused}
 pub use Rattle.osi_carrier.specs.Orderly.{AreUpTo, IsOrderly, RiseFrom, connection_of, told_of}
 pub use Rattle.osi_carrier.specs.Packets.{ActsBy, Carrying, HasToHold, acts_by, is_spoilt}
-pub use Rattle.osi_carrier.specs.React.{answers_request, before_class, denies, has_peer, in_class, in_two, in_zero, is_full, leaves, react_by, reacts, taking, tells_of, to_asked, to_closing, to_connection, to_linked, to_only, to_reference, to_unknown}
+pub use Rattle.osi_carrier.specs.React.{answers_request, before_class, denies, has_peer, in_class, in_two, in_zero, is_full, leaves}
+pub use Rattle.osi_carrier.specs.React.{react_by, reacts, taking, tells_of, to_asked, to_closing, to_connection, to_linked, to_only}
+pub use Rattle.osi_carrier.specs.React.{to_reference, to_unknown}
 pub use Rattle.osi_carrier.specs.Rows.{Rows, place_of, put, value_at, without}
 pub use Rattle.osi_carrier.specs.Runs.Act.{packet, user}
 pub use Rattle.osi_carrier.specs.Runs.UserCall.{sends, connects as connects_call}
@@ -52,9 +59,11 @@ pub use Rattle.osi_message.specs.declared.places.Place.{Place}
 pub use Rattle.osi_session.proofs.tables.what_is_true_of_each_phase.{excluded, implied}
 pub use Rattle.osi_session.specs.Allowed.{Answer, Passed, Step, most_data, most_of, octets_of}
 unfoldable pub use Rattle.osi_session.specs.Allowed.{allowed}
-pub use Rattle.osi_session.specs.Calls.{Abort, Accept, Call, Data, Give, HasSerial, Major, MajorConfirm, Minor, MinorConfirm, Please, Refuse, Release, ReleaseAccept, ReleaseRefuse, Restart, RestartConfirm, called_by}
+pub use Rattle.osi_session.specs.Calls.{Abort, Accept, Call, Data, Give, HasSerial, Major, MajorConfirm, Minor, MinorConfirm, Please}
+pub use Rattle.osi_session.specs.Calls.{Refuse, Release, ReleaseAccept, ReleaseRefuse, Restart, RestartConfirm, called_by}
 pub use Rattle.osi_session.specs.Joining.{joined_octets}
-pub use Rattle.osi_session.specs.Listening.{Input, Listener, Move, after_input, after_inputs, answered, begun, broken, called, came, came_as, denied, is_opened, opened, refused, taken, unread}
+pub use Rattle.osi_session.specs.Listening.{Input, Listener, Move, after_input, after_inputs, answered, begun, broken, called, came}
+pub use Rattle.osi_session.specs.Listening.{came_as, denied, is_opened, opened, refused, taken, unread}
 unfoldable pub use Rattle.osi_session.specs.Listening.{react}
 pub use Rattle.osi_session.specs.Parts.{Act, AreSilent, HasProfile, IsSilent, act_in_octets, calls, calls_in, comes}
 pub use Rattle.osi_session.specs.Phases.{is_ended, is_over, is_wait_cn, is_wait_transport, may_abort, may_hold, shows_loss}
@@ -83,27 +92,39 @@ pub use Rattle.osi_tpkt.specs.Stream.{ArePackets, offset_of}
 pub use Rattle.osi_tpkt.specs.declared.cutting.Fed.{Fed}
 pub use Rattle.osi_tpkt.specs.declared.faults.TpktFault.{TpktFault}
 pub use Rattle.osi_stack.specs.Addresses.{addressed, addresses_at, asked_addresses, selectors_in}
-pub use Rattle.osi_stack.specs.Calls.{Refuses, RefusesBy, TellsOf, after_open, breaks, by_rule, call_error, calls_with, carried, connect_error, connects, first_by, first_shown, has_given, held_by, move_refusal, opening_of, or_else, phase_at, phase_of, reply_refusal, rest_by, send_refusal, session_error, session_refusal, table_error, terms_error, without_first}
+pub use Rattle.osi_stack.specs.Calls.{Refuses, RefusesBy, TellsOf, after_open, breaks, by_rule, call_error, calls_with, carried}
+pub use Rattle.osi_stack.specs.Calls.{connect_error, connects, first_by, first_shown, has_given, held_by, move_refusal, opening_of, or_else}
+pub use Rattle.osi_stack.specs.Calls.{phase_at, phase_of, reply_refusal, rest_by, send_refusal, session_error, session_refusal, table_error}
+pub use Rattle.osi_stack.specs.Calls.{terms_error, without_first}
 pub use Rattle.osi_stack.specs.Coming.{IsUnheard, TakesSome, TakesUnits, after_unit, carries_out}
 pub use Rattle.osi_stack.specs.Disconnecting.{awaits_transport, disconnect_error, disconnects}
 pub use Rattle.osi_stack.specs.Feeding.{Feeds, FindsNoMemory, FindsNoRoom, Goes, RunsDry, StopsBehind, TakesPackets, stops, uses_all}
 pub use Rattle.osi_stack.specs.Fetching.{Fetches, Interrupted, LeftOff}
 pub use Rattle.osi_stack.specs.Folds.{AllCameAbout, AllNamed, CameAbout, IsNamed, IsProfiled, OfLines, OfSession, OfSessions}
-pub use Rattle.osi_stack.specs.Hearing.{RunsOut, Starves, all_lost, attends, concludes, ends, hears, hears_all, hears_first, hears_next, hears_times, loses, opens, shown_at_loss, starves, with_carrier, with_events}
+pub use Rattle.osi_stack.specs.Hearing.{RunsOut, Starves, all_lost, attends, concludes, ends, hears, hears_all, hears_first, hears_next}
+pub use Rattle.osi_stack.specs.Hearing.{hears_times, loses, opens, shown_at_loss, starves, with_carrier, with_events}
 unfoldable pub use Rattle.osi_stack.specs.Hearing.{after_packet}
-pub use Rattle.osi_stack.specs.Inputs.{AreMadeBy, IsAccepted, Past, Steps, StepsAlong, begun_as, input_of, inputs_of, inputs_told, made_at, no_past, past_called, serving, then_came, told_along, using}
+pub use Rattle.osi_stack.specs.Inputs.{AreMadeBy, IsAccepted, Past, Steps, StepsAlong, begun_as, input_of, inputs_of, inputs_told, made_at}
+pub use Rattle.osi_stack.specs.Inputs.{no_past, past_called, serving, then_came, told_along, using}
 pub use Rattle.osi_stack.specs.Links.{AreApart, HasAsked, HasLinks, IsSound, Soundness, needs_link}
-pub use Rattle.osi_stack.specs.Messages.{Acts, AreLost, AreShort, Arrives, Becomes, CanHear, Effect, HasSession, Hears, IsFirstOf, IsGranted, IsShort, IsWhole, Message, Says, agree, all_waiting, ask, begins, bye, deny, does, effect_at, happens, kept_at, message_of, over, put_by, puts, rests, shown_of, told_all, told_at, unit, waiting_at, waiting_of}
+pub use Rattle.osi_stack.specs.Messages.{Acts, AreLost, AreShort, Arrives, Becomes, CanHear, Effect, HasSession, Hears, IsFirstOf}
+pub use Rattle.osi_stack.specs.Messages.{IsGranted, IsShort, IsWhole, Message, Says, agree, all_waiting, ask, begins, bye, deny, does}
+pub use Rattle.osi_stack.specs.Messages.{effect_at, happens, kept_at, message_of, over, put_by, puts, rests, shown_of, told_all, told_at}
+pub use Rattle.osi_stack.specs.Messages.{unit, waiting_at, waiting_of}
 pub use Rattle.osi_stack.specs.Moving.{answers, by_line, carrier_by, limit_for, line_by, to_session}
 pub use Rattle.osi_stack.specs.Needs.{needs_memory, session_needs}
 pub use Rattle.osi_stack.specs.Ordered.{IsLowest, IsOrdered, TellsLowest}
-pub use Rattle.osi_stack.specs.Rounds.{AreInStep, IsCalled, MayAsk, MayCall, Round, RoundsAlong, RoundsAsking, RoundsBy, UserCall, WaitForLive, calls_of, user_does}
+pub use Rattle.osi_stack.specs.Rounds.{AreInStep, IsCalled, MayAsk, MayCall, Round, RoundsAlong, RoundsAsking, RoundsBy, UserCall}
+pub use Rattle.osi_stack.specs.Rounds.{WaitForLive, calls_of, user_does}
 pub use Rattle.osi_stack.specs.Rounds.UserCall.{breaking, calling, connecting, disconnecting}
-pub use Rattle.osi_stack.specs.Runs.{Account, AreAlike, AreAlikeByReference, AreAlikeInLive, Calls, CallsAlong, CallsInRoom, HasRoom, LookAlike, Reads, account_along, account_of, carried_in, hushed, live_lines, pruned, put_back, quieted, told_in, used_in, with_packet, with_packets, Call as EndCall}
+pub use Rattle.osi_stack.specs.Runs.{Account, AreAlike, AreAlikeByReference, AreAlikeInLive, Calls, CallsAlong, CallsInRoom, HasRoom}
+pub use Rattle.osi_stack.specs.Runs.{LookAlike, Reads, account_along, account_of, carried_in, hushed, live_lines, pruned, put_back, quieted}
+pub use Rattle.osi_stack.specs.Runs.{told_in, used_in, with_packet, with_packets, Call as EndCall}
 pub use Rattle.osi_stack.specs.Runs.Call.{carrying, feeding, telling}
 pub use Rattle.osi_stack.specs.Selectors.{Selectors, selectors_of, selectors_said, selectors_told, session_selectors, shows_connect}
 pub use Rattle.osi_stack.specs.Settled.{IsGone, IsSettled}
-pub use Rattle.osi_stack.specs.State.{End, Holding, IsAttended, Line, fresh_end, fresh_line, holding, how_many_wait, is_used, joined_in, joined_live, joined_of, joins, kept_octets, line_waits, session_at, session_in, used_lines, waits}
+pub use Rattle.osi_stack.specs.State.{End, Holding, IsAttended, Line, fresh_end, fresh_line, holding, how_many_wait, is_used, joined_in}
+pub use Rattle.osi_stack.specs.State.{joined_live, joined_of, joins, kept_octets, line_waits, session_at, session_in, used_lines, waits}
 pub use Rattle.osi_stack.specs.Telling.{told_input}
 pub use Rattle.osi_stack.specs.Transport.{answers_by, hands, sent_unless}
 pub use Rattle.osi_stack.specs.declared.connecting.Connect.{Connect}

@@ -1,7 +1,15 @@
 -- One unit: reading is sound and complete.
-use Rattle.std.proofs.Common.{◌≡◌, ℕ, ◌+◌, ◌*◌, ◌/◌, ◌%◌, ◌<◌, ◌≤◌, Bool, true, false, cond, eqb, ltb, leb, ◌||◌, List, [], ◌∷◌, ◌++◌, length, get_or, take, drop, Result, Ok, Err, refl, sym, ap, subst, ◌∙◌, arith, inl, inr}
+use Rattle.std.proofs.Common.{◌≡◌, ℕ, ◌+◌, ◌*◌, ◌/◌, ◌%◌, ◌<◌, ◌≤◌, Bool, true, false, cond, eqb, ltb, leb, ◌||◌, List, [], ◌∷◌, ◌++◌}
+use Rattle.std.proofs.Common.{length, get_or, take, drop, Result, Ok, Err, refl, sym, ap, subst, ◌∙◌, arith, inl, inr}
 use Rattle.osi_tpkt.specs.Unit.{IsAtFront}
-use Rattle.osi_tpdu.proofs.Vocabulary.{flat_map, OnFalse, ltb-false, leb-true, leb-false, le-leb, lt-leb, le-ltb, eqb-true, eqb-false, ne_eqb, or_parts, cases_Bool, append-nil, take_at, drop_at, length-append, take-append-drop, length-take, length-take-le, take_all, drop_all, IsOctets, octets_take, octets_drop, octets_left, octets_right, TpduFault, BadLi, UnknownCode, Parameters, Connect, Value, request, confirm, disconnect, disconnected, data0, data2, acknowledge, error, user_data, may_be_followed, IsReference, IsConnect, HasFieldsInRange, Item, Means, item_octets, two, below_bit, connect_part, IsHeader, Spells, header_at, reference_at, known_at, all_skipped_at, connect_of, request_of, confirm_of, disconnect_of, disconnected_of, transfer_of, acknowledge_of, error_of, value_of, unit_at, Follows}
+use Rattle.osi_tpdu.proofs.Vocabulary.{flat_map, OnFalse, ltb-false, leb-true, leb-false, le-leb, lt-leb, le-ltb, eqb-true, eqb-false}
+use Rattle.osi_tpdu.proofs.Vocabulary.{ne_eqb, or_parts, cases_Bool, append-nil, take_at, drop_at, length-append, take-append-drop}
+use Rattle.osi_tpdu.proofs.Vocabulary.{length-take, length-take-le, take_all, drop_all, IsOctets, octets_take, octets_drop, octets_left}
+use Rattle.osi_tpdu.proofs.Vocabulary.{octets_right, TpduFault, BadLi, UnknownCode, Parameters, Connect, Value, request, confirm}
+use Rattle.osi_tpdu.proofs.Vocabulary.{disconnect, disconnected, data0, data2, acknowledge, error, user_data, may_be_followed, IsReference}
+use Rattle.osi_tpdu.proofs.Vocabulary.{IsConnect, HasFieldsInRange, Item, Means, item_octets, two, below_bit, connect_part, IsHeader}
+use Rattle.osi_tpdu.proofs.Vocabulary.{Spells, header_at, reference_at, known_at, all_skipped_at, connect_of, request_of, confirm_of}
+use Rattle.osi_tpdu.proofs.Vocabulary.{disconnect_of, disconnected_of, transfer_of, acknowledge_of, error_of, value_of, unit_at, Follows}
 use Rattle.osi_tpdu.proofs.the_steps_of_reading.{bind_ok, unless_ok, when_ok, chosen, ok_is, IsOctets-rest}
 use Rattle.osi_tpdu.proofs.parameters_are_read_as_they_mean.{known_found, known_only, skipped_found, skipped_only}
 
@@ -10,7 +18,8 @@ use Rattle.osi_tpdu.proofs.parameters_are_read_as_they_mean.{known_found, known_
 abbrev Parts : Type 0
 Parts = List ℕ × List ℕ
 
-pub header_found : (at : ℕ) (b : List ℕ) (x : Parts) → header_at at b ≡ Ok x → (b ≡ length x.0 ∷ x.0 ++ x.1) × (1 ≤ length x.0) × (length x.0 ≤ 254)
+pub header_found : (at : ℕ) (b : List ℕ) (x : Parts) → header_at at b ≡ Ok x →
+    (b ≡ length x.0 ∷ x.0 ++ x.1) × (1 ≤ length x.0) × (length x.0 ≤ 254)
 unfolding header_at
 header_found at [] x e = absurd cc
 header_found at (li ∷ os) x e = grind (arith, unless_ok, or_parts, eqb-false, ltb-false, leb-false, length-take, take-append-drop, ok_is)
@@ -45,11 +54,14 @@ front_four (a ∷ b ∷ c ∷ d ∷ h) octets le = ap (λ (t : List ℕ). a ∷ 
 front_four h octets le = absurd (omega arith)
 
 front_five : (h : List ℕ) → IsOctets h → length h ≡ 5 → h ≡ get_or h 0 0 ∷ two (reference_at 1 h) ++ two (reference_at 3 h)
-front_five (a ∷ b ∷ c ∷ d ∷ e ∷ []) octets le = let first = two_is b c (octets 2) in let second = two_is d e (octets 4) in λ i. a ∷ first i ++ second i
+front_five (a ∷ b ∷ c ∷ d ∷ e ∷ []) octets le = let first = two_is b c (octets 2) in let second =
+    two_is d e (octets 4) in λ i. a ∷ first i ++ second i
 front_five h octets le = absurd (omega arith)
 
-front_six : (h : List ℕ) → IsOctets h → 6 ≤ length h → h ≡ get_or h 0 0 ∷ two (reference_at 1 h) ++ two (reference_at 3 h) ++ (get_or h 5 0 ∷ drop 6 h)
-front_six (a ∷ b ∷ c ∷ d ∷ e ∷ f ∷ h) octets le = let first = two_is b c (octets 2) in let second = two_is d e (octets 4) in λ i. a ∷ first i ++ second i ++ (f ∷ h)
+front_six : (h : List ℕ) → IsOctets h → 6 ≤ length h → h ≡ get_or h 0 0 ∷ two (reference_at 1 h) ++ two (reference_at 3 h) ++
+    (get_or h 5 0 ∷ drop 6 h)
+front_six (a ∷ b ∷ c ∷ d ∷ e ∷ f ∷ h) octets le = let first = two_is b c (octets 2) in let second =
+    two_is d e (octets 4) in λ i. a ∷ first i ++ second i ++ (f ∷ h)
 front_six h octets le = absurd (omega arith)
 
 first_reference : (header : List ℕ) → IsOctets header → IsReference (reference_at 1 header)
@@ -94,7 +106,8 @@ record ConnectRead (code : ℕ) (header user : List ℕ) (c : Connect) : Type 0 
   pub in_range : IsConnect c
   pub user_is : c.user ≡ user
 
-connect_found : (at half : ℕ) (header user : List ℕ) (c : Connect) → get_or header 0 0 / 16 ≡ half → IsOctets header → IsOctets user → connect_of at header user ≡ Ok c → ConnectRead (16 * half) header user c
+connect_found : (at half : ℕ) (header user : List ℕ) (c : Connect) → get_or header 0 0 / 16 ≡ half → IsOctets header → IsOctets user →
+    connect_of at header user ≡ Ok c → ConnectRead (16 * half) header user c
 unfolding connect_of
 connect_found at half header user c code octets behind e =
     let a = unless_ok (ltb (length header) 6) (BadLi at) _ c e in
@@ -108,7 +121,8 @@ connect_found at half header user c code octets behind e =
     let e0 : o0 ≡ 16 * half + o0 % 16 = omega arith in
     let e5 : o5 ≡ 16 * (o5 / 16) + o5 % 16 = omega arith in
     let made = content header p user in
-    let pieces : o0 ∷ two (reference_at 1 header) ++ two (reference_at 3 header) ++ (o5 ∷ drop 6 header) ≡ connect_part (16 * half) (reference_at 1 header) made ++ flat_map item_octets f.0 =
+    let pieces : o0 ∷ two (reference_at 1 header) ++ two (reference_at 3 header) ++
+        (o5 ∷ drop 6 header) ≡ connect_part (16 * half) (reference_at 1 header) made ++ flat_map item_octets f.0 =
     λ i. e0 i ∷ two (reference_at 1 header) ++ two (reference_at 3 header) ++ (e5 i ∷ f.1 i) in
     subst (λ (c' : Connect). ConnectRead (16 * half) header user c') (ok_is made c b.2) (record {
       items = f.0;
@@ -168,9 +182,11 @@ disconnect_found at header behind code v octets back e =
 
 disconnected_found : (at : ℕ) (header behind : List ℕ) → get_or header 0 0 ≡ 0xC0 → Reading (λ h b. disconnected_of at h) header behind
 unfolding disconnected_of
-disconnected_found at header behind code v octets back e = grind (arith, when_ok, ok_is, front_five, eqb-true, first_reference, second_reference)
+disconnected_found at header behind code v octets back e =
+    grind (arith, when_ok, ok_is, front_five, eqb-true, first_reference, second_reference)
 
-data0_found : (header behind : List ℕ) → get_or header 0 0 ≡ 0xF0 → length header ≡ 2 → IsOctets header → IsOctets behind → IsRead (data0 (leb 128 (get_or header 1 0)) behind) header behind
+data0_found : (header behind : List ℕ) → get_or header 0 0 ≡ 0xF0 → length header ≡ 2 → IsOctets header → IsOctets behind →
+    IsRead (data0 (leb 128 (get_or header 1 0)) behind) header behind
 data0_found header behind code len octets back =
     let o1 = get_or header 1 0 in
     let e1 = bit_above o1 (octets 1) in
@@ -187,7 +203,8 @@ data2_found header behind code len octets back =
     let o3 = get_or header 3 0 in
     let e3 = bit_above o3 (octets 3) in
     let none = drop_all 4 header (omega arith) in
-    let pieces : get_or header 0 0 ∷ two (reference_at 1 header) ++ (o3 ∷ drop 4 header) ≡ 0xF0 ∷ [] ++ two (reference_at 1 header) ++ (below_bit (leb 128 o3) (o3 % 128) ∷ []) =
+    let pieces : get_or header 0 0 ∷ two (reference_at 1 header) ++ (o3 ∷ drop 4 header) ≡ 0xF0 ∷ [] ++ two (reference_at 1 header) ++
+        (below_bit (leb 128 o3) (o3 % 128) ∷ []) =
     λ i. code i ∷ two (reference_at 1 header) ++ (e3 i ∷ none i) in
     record {
       fields = front_four header octets (omega arith) ∙ pieces;
@@ -199,7 +216,8 @@ transfer_found : (at : ℕ) (header behind : List ℕ) → get_or header 0 0 ≡
 unfolding transfer_of
 transfer_found at header behind code v octets back e =
     elim (chosen (eqb (length header) 2) (Ok (data0 (leb 128 (get_or header 1 0)) behind)) _ (Ok v) e) [
-      | inl s ↦ subst (λ (w : Value). IsRead w header behind) (ok_is (data0 (leb 128 (get_or header 1 0)) behind) v s.1) (data0_found header behind code (eqb-true _ _ s.0) octets back)
+      | inl s ↦ subst (λ (w : Value). IsRead w header behind) (ok_is (data0 (leb 128 (get_or header 1 0)) behind) v s.1)
+          (data0_found header behind code (eqb-true _ _ s.0) octets back)
       | inr s ↦
           let made = data2 (reference_at 1 header) (get_or header 3 0 % 128) (leb 128 (get_or header 3 0)) behind in
           let a = when_ok (eqb (length header) 4) (BadLi at) (Ok made) v s.1 in
@@ -217,7 +235,8 @@ acknowledge_found at header behind code v octets back e =
     let e0 : o0 ≡ 0x60 + o0 % 16 = omega arith in
     let e3 = bit_above o3 (octets 3) in
     let none = drop_all 4 header (omega arith) in
-    let pieces : o0 ∷ two (reference_at 1 header) ++ (o3 ∷ drop 4 header) ≡ (0x60 + o0 % 16) ∷ [] ++ two (reference_at 1 header) ++ (below_bit (leb 128 o3) (o3 % 128) ∷ []) =
+    let pieces : o0 ∷ two (reference_at 1 header) ++ (o3 ∷ drop 4 header) ≡ (0x60 + o0 % 16) ∷ [] ++ two (reference_at 1 header) ++
+        (below_bit (leb 128 o3) (o3 % 128) ∷ []) =
     λ i. e0 i ∷ two (reference_at 1 header) ++ (e3 i ∷ none i) in
     subst (λ (w : Value). IsRead w header behind) (ok_is made v a.1) (record {
       fields = (leb 128 o3, front_four header octets (omega arith) ∙ pieces);
@@ -232,7 +251,8 @@ error_found at header behind code v octets back e =
     let a = unless_ok (ltb (length header) 4) (BadLi at) _ v e in
     let b = bind_ok (all_skipped_at (at + 5) (drop 4 header)) (λ skipped. Ok made) v a.1 in
     let f = skipped_found (at + 5) (drop 4 header) (octets_drop 4 header octets) b.1 in
-    let pieces : get_or header 0 0 ∷ two (reference_at 1 header) ++ (get_or header 3 0 ∷ drop 4 header) ≡ 0x70 ∷ [] ++ two (reference_at 1 header) ++ (get_or header 3 0 ∷ []) ++ flat_map item_octets f.0 =
+    let pieces : get_or header 0 0 ∷ two (reference_at 1 header) ++ (get_or header 3 0 ∷ drop 4 header) ≡ 0x70 ∷ [] ++
+        two (reference_at 1 header) ++ (get_or header 3 0 ∷ []) ++ flat_map item_octets f.0 =
     λ i. code i ∷ two (reference_at 1 header) ++ (get_or header 3 0 ∷ f.1 i) in
     subst (λ (w : Value). IsRead w header behind) (ok_is made v b.2) (record {
       fields = (f.0, front_four header octets (ltb-false _ _ a.0) ∙ pieces);
@@ -256,7 +276,9 @@ value_found at header behind v octets back e =
               | inl x ↦ disconnected_found at header behind (eqb-true _ _ x.0) v octets back x.1
               | inr x ↦ elim (chosen (eqb code 0xF0) (transfer_of at header behind) _ (Ok v) x.1) [
                 | inl y ↦ transfer_found at header behind (eqb-true _ _ y.0) v octets back y.1
-                | inr y ↦ error_found at header behind (eqb-true _ _ (when_ok (eqb code 0x70) (UnknownCode (at + 1)) (error_of at header) v y.1).0) v octets back (when_ok (eqb code 0x70) (UnknownCode (at + 1)) (error_of at header) v y.1).1
+                | inr y ↦ error_found at header behind
+                    (eqb-true _ _ (when_ok (eqb code 0x70) (UnknownCode (at + 1)) (error_of at header) v y.1).0) v octets back
+                    (when_ok (eqb code 0x70) (UnknownCode (at + 1)) (error_of at header) v y.1).1
               ]
             ]
           ]
@@ -280,9 +302,12 @@ connect_only at code destination c items fits means even =
     let source = two_again c.source in
     let class : (16 * c.class + c.options) / 16 ≡ c.class = omega (arith, fits.options) in
     let options : (16 * c.class + c.options) % 16 ≡ c.options = omega (arith, fits.options) in
-    rw (long, known) (λ i. Ok (record { credit = credit i; source = source i; class = class i; options = options i; parameters = c.parameters; user = c.user }))
+    rw (long, known)
+        (λ i. Ok (record { credit = credit i; source = source i; class = class i; options = options i; parameters = c.parameters;
+        user = c.user }))
 
-request_only : (at : ℕ) (header behind : List ℕ) (destination : ℕ) (c : Connect) (items : List Item) → header ≡ connect_part 0xE0 destination c ++ flat_map item_octets items → IsConnect c → Means c.parameters items
+request_only : (at : ℕ) (header behind : List ℕ) (destination : ℕ) (c : Connect) (items : List Item) →
+    header ≡ connect_part 0xE0 destination c ++ flat_map item_octets items → IsConnect c → Means c.parameters items
     → c.user ≡ behind → value_of at header behind ≡ Ok (request c)
 unfolding value_of request_of
 request_only at header behind destination c items header_is fits means user =
@@ -290,7 +315,8 @@ request_only at header behind destination c items header_is fits means user =
     let read = connect_only at 0xE0 destination c items fits means refl in
     rw (header_is, ← user, code, read) refl
 
-confirm_only : (at : ℕ) (header behind : List ℕ) (destination : ℕ) (c : Connect) (items : List Item) → header ≡ connect_part 0xD0 destination c ++ flat_map item_octets items → IsConnect c → Means c.parameters items
+confirm_only : (at : ℕ) (header behind : List ℕ) (destination : ℕ) (c : Connect) (items : List Item) →
+    header ≡ connect_part 0xD0 destination c ++ flat_map item_octets items → IsConnect c → Means c.parameters items
     → c.user ≡ behind → value_of at header behind ≡ Ok (confirm destination c)
 unfolding value_of confirm_of
 confirm_only at header behind destination c items header_is fits means user =
@@ -299,7 +325,8 @@ confirm_only at header behind destination c items header_is fits means user =
     rw (header_is, ← user, code, read) (ap (λ (d : ℕ). ok (confirm d c)) (two_again destination))
 
 disconnect_only : (at : ℕ) (destination source reason : ℕ) (user : List ℕ) (items : List Item)
-    → value_of at (0x80 ∷ [] ++ two destination ++ two source ++ (reason ∷ []) ++ flat_map item_octets items) user ≡ Ok (disconnect destination source reason user)
+    → value_of at (0x80 ∷ [] ++ two destination ++ two source ++ (reason ∷ []) ++ flat_map item_octets items) user ≡ Ok
+        (disconnect destination source reason user)
 unfolding value_of disconnect_of
 disconnect_only at destination source reason user items = grind (arith, le-ltb, two_again, skipped_only)
 
@@ -308,7 +335,8 @@ disconnected_only : (at : ℕ) (destination source : ℕ) (behind : List ℕ)
 unfolding value_of disconnected_of
 disconnected_only at destination source behind = grind (arith, two_again)
 
-data0_only : (at number : ℕ) (end : Bool) (user : List ℕ) → number < 128 → value_of at (0xF0 ∷ below_bit end number ∷ []) user ≡ Ok (data0 end user)
+data0_only : (at number : ℕ) (end : Bool) (user : List ℕ) → number < 128 →
+    value_of at (0xF0 ∷ below_bit end number ∷ []) user ≡ Ok (data0 end user)
 unfolding value_of transfer_of
 data0_only at number end user lt = ap (λ (b : Bool). ok (data0 b user)) (bit_read end number lt)
 
@@ -322,7 +350,8 @@ data2_only at destination number end user lt =
     λ i. Ok (data2 (first i) (low i) (bit i) user)
 
 acknowledge_only : (at credit destination number : ℕ) (ignored : Bool) (behind : List ℕ) → credit < 16 → number < 128
-    → value_of at ((0x60 + credit) ∷ [] ++ two destination ++ (below_bit ignored number ∷ [])) behind ≡ Ok (acknowledge credit destination number)
+    → value_of at ((0x60 + credit) ∷ [] ++ two destination ++ (below_bit ignored number ∷ [])) behind ≡ Ok
+        (acknowledge credit destination number)
 unfolding value_of acknowledge_of
 acknowledge_only at credit destination number ignored behind fits lt =
     let code : (0x60 + credit) / 16 ≡ 6 = omega arith in
@@ -336,19 +365,27 @@ error_only : (at destination cause : ℕ) (items : List Item) (behind : List ℕ
 unfolding value_of error_of
 error_only at destination cause items behind = grind (arith, le-ltb, two_again, skipped_only)
 
-value_only : (at : ℕ) (v : Value) (header behind : List ℕ) → IsHeader v header → HasFieldsInRange v → user_data v ≡ cond (may_be_followed v) [] behind → value_of at header behind ≡ Ok v
+value_only : (at : ℕ) (v : Value) (header behind : List ℕ) → IsHeader v header → HasFieldsInRange v →
+    user_data v ≡ cond (may_be_followed v) [] behind → value_of at header behind ≡ Ok v
 value_only at (request c) header behind f r user = request_only at header behind f.0 c f.1 f.3 r f.2 user
 value_only at (confirm destination c) header behind f r user = confirm_only at header behind destination c f.0 f.2 r.1 f.1 user
 value_only at (disconnect destination source reason user) header behind f r e =
-    ap (λ (h : List ℕ). value_of at h behind) f.1 ∙ ap (λ (u : List ℕ). value_of at (0x80 ∷ [] ++ two destination ++ two source ++ (reason ∷ []) ++ flat_map item_octets f.0) u) (sym e) ∙ disconnect_only at destination source reason user f.0
-value_only at (disconnected destination source) header behind f r e = ap (λ (h : List ℕ). value_of at h behind) f ∙ disconnected_only at destination source behind
+    ap (λ (h : List ℕ). value_of at h behind) f.1 ∙
+        ap (λ (u : List ℕ). value_of at (0x80 ∷ [] ++ two destination ++ two source ++ (reason ∷ []) ++ flat_map item_octets f.0) u)
+        (sym e) ∙ disconnect_only at destination source reason user f.0
+value_only at (disconnected destination source) header behind f r e = ap (λ (h : List ℕ). value_of at h behind) f ∙
+    disconnected_only at destination source behind
 value_only at (data0 end user) header behind f r e =
-    ap (λ (h : List ℕ). value_of at h behind) f.2 ∙ ap (λ (u : List ℕ). value_of at (0xF0 ∷ below_bit end f.0 ∷ []) u) (sym e) ∙ data0_only at f.0 end user f.1
+    ap (λ (h : List ℕ). value_of at h behind) f.2 ∙ ap (λ (u : List ℕ). value_of at (0xF0 ∷ below_bit end f.0 ∷ []) u) (sym e) ∙
+        data0_only at f.0 end user f.1
 value_only at (data2 destination number end user) header behind f r e =
-    ap (λ (h : List ℕ). value_of at h behind) f ∙ ap (λ (u : List ℕ). value_of at (0xF0 ∷ [] ++ two destination ++ (below_bit end number ∷ [])) u) (sym e) ∙ data2_only at destination number end user r.1
+    ap (λ (h : List ℕ). value_of at h behind) f ∙
+        ap (λ (u : List ℕ). value_of at (0xF0 ∷ [] ++ two destination ++ (below_bit end number ∷ [])) u) (sym e) ∙
+        data2_only at destination number end user r.1
 value_only at (acknowledge credit destination number) header behind f r e =
     ap (λ (h : List ℕ). value_of at h behind) f.1 ∙ acknowledge_only at credit destination number f.0 behind r.0 r.2
-value_only at (error destination cause) header behind f r e = ap (λ (h : List ℕ). value_of at h behind) f.1 ∙ error_only at destination cause f.0 behind
+value_only at (error destination cause) header behind f r e = ap (λ (h : List ℕ). value_of at h behind) f.1 ∙
+    error_only at destination cause f.0 behind
 
 -- ---- whole units
 
@@ -373,7 +410,8 @@ measured v header b = (v, cond (may_be_followed v) (1 + length header) (length b
 abbrev Stands : List ℕ → Measured → Type 0
 Stands b x = IsAtFront Spells Follows x.0 x.1 b × (1 ≤ x.1)
 
-stands : (v : Value) (header behind : List ℕ) (may : Bool) → may_be_followed v ≡ may → IsRead v header behind → 1 ≤ length header → length header ≤ 254 → IsOctets (length header ∷ header ++ behind)
+stands : (v : Value) (header behind : List ℕ) (may : Bool) → may_be_followed v ≡ may → IsRead v header behind → 1 ≤ length header →
+    length header ≤ 254 → IsOctets (length header ∷ header ++ behind)
     → Stands (length header ∷ header ++ behind) (v, cond may (1 + length header) (length (length header ∷ header ++ behind)))
 stands v header behind true may r some most octets = grind (arith, take_at, append-nil, octets_take, length-append)
 stands v header behind false may r some most octets = grind (arith, take_all, drop_all)
@@ -400,16 +438,19 @@ lead_user (acknowledge credit destination number) e = refl
 lead_user (error destination cause) e = refl
 lead_user _ e = absurd cc
 
-read_again : (at : ℕ) (v : Value) (header behind : List ℕ) → IsHeader v header → HasFieldsInRange v → length header ≤ 254 → user_data v ≡ cond (may_be_followed v) [] behind
+read_again : (at : ℕ) (v : Value) (header behind : List ℕ) → IsHeader v header → HasFieldsInRange v → length header ≤ 254 →
+    user_data v ≡ cond (may_be_followed v) [] behind
     → unit_at at (length header ∷ header ++ behind) ≡ Ok (measured v header (length header ∷ header ++ behind))
 unfolding unit_at
 read_again at v header behind f r most user =
     rw (header_again at header behind (header_least v header f) most, value_only at v header behind f r user) refl
 
-only_with : (at : ℕ) (v : Value) (x y : List ℕ) (may : Bool) → may_be_followed v ≡ may → Spells v x → Follows v y → unit_at at (x ++ y) ≡ Ok (v, length x)
+only_with : (at : ℕ) (v : Value) (x y : List ℕ) (may : Bool) → may_be_followed v ≡ may → Spells v x → Follows v y →
+    unit_at at (x ++ y) ≡ Ok (v, length x)
 only_with at v x y true may s f =
     let none = lead_user v may in
-    let front : x ≡ length s.header ∷ s.header = s.whole ∙ ap (λ (u : List ℕ). length s.header ∷ s.header ++ u) none ∙ ap (λ (h : List ℕ). length s.header ∷ h) (append-nil s.header) in
+    let front : x ≡ length s.header ∷ s.header = s.whole ∙ ap (λ (u : List ℕ). length s.header ∷ s.header ++ u) none ∙
+        ap (λ (h : List ℕ). length s.header ∷ h) (append-nil s.header) in
     let user : user_data v ≡ cond (may_be_followed v) [] y = rw may none in
     let read = read_again at v s.header y s.fields s.in_range s.counted user in
     let n-is : cond (may_be_followed v) (1 + length s.header) (length (length s.header ∷ s.header ++ y)) ≡ length x =
@@ -455,7 +496,8 @@ pub stands_alone : (v : Value) → Follows v []
 stands_alone v = follows_nothing v (may_be_followed v) refl
 
 -- at most one unit is at the front of octets
-pub one_reading : (v w : Value) (m n : ℕ) (octets : List ℕ) → IsOctets octets → IsAtFront Spells Follows v m octets → IsAtFront Spells Follows w n octets → (v ≡ w) × (m ≡ n)
+pub one_reading : (v w : Value) (m n : ℕ) (octets : List ℕ) → IsOctets octets → IsAtFront Spells Follows v m octets →
+    IsAtFront Spells Follows w n octets → (v ≡ w) × (m ≡ n)
 one_reading v w m n octets are_octets p q =
     let first : unit_at 0 octets ≡ Ok (v, m) = unit_only 0 v m octets p in
     let second : unit_at 0 octets ≡ Ok (w, n) = unit_only 0 w n octets q in
@@ -463,7 +505,8 @@ one_reading v w m n octets are_octets p q =
     (ap (λ (x : Value × ℕ). x.0) same, ap (λ (x : Value × ℕ). x.1) same)
 
 -- what was read is what is at the front
-pub same_front : (octets : List ℕ) (v : Value) (n : ℕ) (x : Value × ℕ) → IsAtFront Spells Follows v n octets → unit_at 0 octets ≡ Ok x → (x.0 ≡ v) × (x.1 ≡ n)
+pub same_front : (octets : List ℕ) (v : Value) (n : ℕ) (x : Value × ℕ) → IsAtFront Spells Follows v n octets → unit_at 0 octets ≡ Ok x →
+    (x.0 ≡ v) × (x.1 ≡ n)
 same_front octets v n x stands read =
     let same = ok_is x (v, n) (sym read ∙ unit_only 0 v n octets stands) in
     (ap (λ (y : Value × ℕ). y.0) same, ap (λ (y : Value × ℕ). y.1) same)

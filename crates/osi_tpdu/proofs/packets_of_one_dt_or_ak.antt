@@ -1,6 +1,8 @@
 -- Packets of one DT or one AK.
-use Rattle.std.proofs.Common.{◌≡◌, ℕ, ◌+◌, ◌-◌, ◌*◌, ◌/◌, ◌%◌, ◌<◌, ◌≤◌, Bool, true, eqb, leb, List, [], ◌∷◌, length, get_or, take, drop, Ok, refl, sym, ap, ◌∙◌, arith}
-use Rattle.osi_tpdu.proofs.Vocabulary.{eq-eqb, length-drop, take_all, IsOctets, units_at, units_of, header_at, unit_at, value_of, transfer_of, acknowledge_of, Spells, Value, data0, data2, acknowledge, written}
+use Rattle.std.proofs.Common.{◌≡◌, ℕ, ◌+◌, ◌-◌, ◌*◌, ◌/◌, ◌%◌, ◌<◌, ◌≤◌, Bool, true, eqb, leb, List, [], ◌∷◌, length, get_or, take, drop}
+use Rattle.std.proofs.Common.{Ok, refl, sym, ap, ◌∙◌, arith}
+use Rattle.osi_tpdu.proofs.Vocabulary.{eq-eqb, length-drop, take_all, IsOctets, units_at, units_of, header_at, unit_at, value_of}
+use Rattle.osi_tpdu.proofs.Vocabulary.{transfer_of, acknowledge_of, Spells, Value, data0, data2, acknowledge, written}
 use Rattle.osi_tpdu.proofs.one_unit_is_read.{header_again}
 use Rattle.osi_tpdu.proofs.the_written_form_spells_its_value.{written_spells}
 use Rattle.osi_tpdu.proofs.the_units_of_a_packet.{units_found, units_only}
@@ -13,7 +15,8 @@ only_unit unit octets e = grind (arith, eq-eqb)
 data0_only : (last : ℕ) (user : List ℕ) → units_of (2 ∷ 240 ∷ last ∷ user) ≡ Ok (data0 (leb 128 last) user ∷ [])
 unfolding unit_at value_of transfer_of
 data0_only last user =
-    let header : header_at 0 (2 ∷ 240 ∷ last ∷ user) ≡ Ok (240 ∷ last ∷ [], user) = header_again 0 (240 ∷ last ∷ []) user (omega arith) (omega arith) in
+    let header : header_at 0 (2 ∷ 240 ∷ last ∷ user) ≡ Ok (240 ∷ last ∷ [], user) =
+        header_again 0 (240 ∷ last ∷ []) user (omega arith) (omega arith) in
     only_unit (data0 (leb 128 last) user) (2 ∷ 240 ∷ last ∷ user) (rw header refl)
 
 data2_only : (high low last : ℕ) (user : List ℕ) →
@@ -21,7 +24,8 @@ data2_only : (high low last : ℕ) (user : List ℕ) →
 unfolding unit_at value_of transfer_of
 data2_only high low last user =
     let front = 240 ∷ high ∷ low ∷ last ∷ [] in
-    let header : header_at 0 (4 ∷ 240 ∷ high ∷ low ∷ last ∷ user) ≡ Ok (front, user) = header_again 0 front user (omega arith) (omega arith) in
+    let header : header_at 0 (4 ∷ 240 ∷ high ∷ low ∷ last ∷ user) ≡ Ok (front, user) =
+        header_again 0 front user (omega arith) (omega arith) in
     only_unit (data2 (256 * high + low) (last % 128) (leb 128 last) user) (4 ∷ 240 ∷ high ∷ low ∷ last ∷ user) (rw header refl)
 
 ack_only : (first high low last : ℕ) → first / 16 ≡ 6 →
@@ -38,7 +42,8 @@ abbrev data0_in : List ℕ → Value
 data0_in packet = data0 (leb 128 (get_or packet 2 0)) (take (length packet - 3) (drop 3 packet))
 
 abbrev data2_in : List ℕ → Value
-data2_in packet = data2 (256 * get_or packet 2 0 + get_or packet 3 0) (get_or packet 4 0 % 128) (leb 128 (get_or packet 4 0)) (take (length packet - 5) (drop 5 packet))
+data2_in packet = data2 (256 * get_or packet 2 0 + get_or packet 3 0) (get_or packet 4 0 % 128) (leb 128 (get_or packet 4 0))
+    (take (length packet - 5) (drop 5 packet))
 
 abbrev ack_in : List ℕ → Value
 ack_in packet = acknowledge (get_or packet 1 0 % 16) (256 * get_or packet 2 0 + get_or packet 3 0) (get_or packet 4 0 % 128)
@@ -47,7 +52,8 @@ ack_in packet = acknowledge (get_or packet 1 0 % 16) (256 * get_or packet 2 0 + 
 behind : (n : ℕ) (packet : List ℕ) → drop n packet ≡ take (length packet - n) (drop n packet)
 behind n packet = sym (take_all (length packet - n) (drop n packet) (omega (arith, length-drop n packet)))
 
-pub data0_read : (packet : List ℕ) → 3 ≤ length packet → get_or packet 0 0 ≡ 2 → get_or packet 1 0 ≡ 240 → units_of packet ≡ Ok (data0_in packet ∷ [])
+pub data0_read : (packet : List ℕ) → 3 ≤ length packet → get_or packet 0 0 ≡ 2 → get_or packet 1 0 ≡ 240 →
+    units_of packet ≡ Ok (data0_in packet ∷ [])
 data0_read [] long a b = absurd (omega arith)
 data0_read (x ∷ []) long a b = absurd (omega arith)
 data0_read (x ∷ y ∷ []) long a b = absurd (omega arith)
@@ -55,30 +61,36 @@ data0_read (x ∷ y ∷ last ∷ user) long a b =
     ap (λ n. units_of (n ∷ y ∷ last ∷ user)) a ∙ ap (λ n. units_of (2 ∷ n ∷ last ∷ user)) b ∙ data0_only last user
     ∙ ap (λ u. Ok (data0 (leb 128 last) u ∷ [])) (behind 3 (x ∷ y ∷ last ∷ user))
 
-pub data2_read : (packet : List ℕ) → 5 ≤ length packet → get_or packet 0 0 ≡ 4 → get_or packet 1 0 ≡ 240 → units_of packet ≡ Ok (data2_in packet ∷ [])
+pub data2_read : (packet : List ℕ) → 5 ≤ length packet → get_or packet 0 0 ≡ 4 → get_or packet 1 0 ≡ 240 →
+    units_of packet ≡ Ok (data2_in packet ∷ [])
 data2_read [] long a b = absurd (omega arith)
 data2_read (x ∷ []) long a b = absurd (omega arith)
 data2_read (x ∷ y ∷ []) long a b = absurd (omega arith)
 data2_read (x ∷ y ∷ high ∷ []) long a b = absurd (omega arith)
 data2_read (x ∷ y ∷ high ∷ low ∷ []) long a b = absurd (omega arith)
 data2_read (x ∷ y ∷ high ∷ low ∷ last ∷ user) long a b =
-    ap (λ n. units_of (n ∷ y ∷ high ∷ low ∷ last ∷ user)) a ∙ ap (λ n. units_of (4 ∷ n ∷ high ∷ low ∷ last ∷ user)) b ∙ data2_only high low last user
+    ap (λ n. units_of (n ∷ y ∷ high ∷ low ∷ last ∷ user)) a ∙ ap (λ n. units_of (4 ∷ n ∷ high ∷ low ∷ last ∷ user)) b ∙
+        data2_only high low last user
     ∙ ap (λ u. Ok (data2 (256 * high + low) (last % 128) (leb 128 last) u ∷ [])) (behind 5 (x ∷ y ∷ high ∷ low ∷ last ∷ user))
 
-pub ack_read : (packet : List ℕ) → length packet ≡ 5 → get_or packet 0 0 ≡ 4 → get_or packet 1 0 / 16 ≡ 6 → units_of packet ≡ Ok (ack_in packet ∷ [])
+pub ack_read : (packet : List ℕ) → length packet ≡ 5 → get_or packet 0 0 ≡ 4 → get_or packet 1 0 / 16 ≡ 6 →
+    units_of packet ≡ Ok (ack_in packet ∷ [])
 ack_read (x ∷ first ∷ high ∷ low ∷ last ∷ []) long a b =
     ap (λ n. units_of (n ∷ first ∷ high ∷ low ∷ last ∷ [])) a ∙ ack_only first high low last b
 ack_read _ long a b = absurd (omega arith)
 
 -- so they spell that unit
 
-pub data0_found : (packet : List ℕ) → IsOctets packet → 3 ≤ length packet → get_or packet 0 0 ≡ 2 → get_or packet 1 0 ≡ 240 → Spells (data0_in packet) packet
+pub data0_found : (packet : List ℕ) → IsOctets packet → 3 ≤ length packet → get_or packet 0 0 ≡ 2 → get_or packet 1 0 ≡ 240 →
+    Spells (data0_in packet) packet
 data0_found packet octets long a b = units_found packet (data0_in packet ∷ []) octets (data0_read packet long a b)
 
-pub data2_found : (packet : List ℕ) → IsOctets packet → 5 ≤ length packet → get_or packet 0 0 ≡ 4 → get_or packet 1 0 ≡ 240 → Spells (data2_in packet) packet
+pub data2_found : (packet : List ℕ) → IsOctets packet → 5 ≤ length packet → get_or packet 0 0 ≡ 4 → get_or packet 1 0 ≡ 240 →
+    Spells (data2_in packet) packet
 data2_found packet octets long a b = units_found packet (data2_in packet ∷ []) octets (data2_read packet long a b)
 
-pub ack_found : (packet : List ℕ) → IsOctets packet → length packet ≡ 5 → get_or packet 0 0 ≡ 4 → get_or packet 1 0 / 16 ≡ 6 → Spells (ack_in packet) packet
+pub ack_found : (packet : List ℕ) → IsOctets packet → length packet ≡ 5 → get_or packet 0 0 ≡ 4 → get_or packet 1 0 / 16 ≡ 6 →
+    Spells (ack_in packet) packet
 ack_found packet octets long a b = units_found packet (ack_in packet ∷ []) octets (ack_read packet long a b)
 
 -- ---- what is written spells the unit, and is read as it
@@ -91,17 +103,22 @@ data0_again end user octets = units_only (written (data0 end user)) (data0 end u
 
 pub data2_spelled : (destination number : ℕ) (end : Bool) (user : List ℕ) → destination < 65536 → number < 128 → IsOctets user →
     Spells (data2 destination number end user) (written (data2 destination number end user))
-data2_spelled destination number end user d n octets = written_spells (data2 destination number end user) (record { in_range = (d, n, octets); counted = omega arith })
+data2_spelled destination number end user d n octets =
+    written_spells (data2 destination number end user) (record { in_range = (d, n, octets); counted = omega arith })
 
 pub data2_again : (destination number : ℕ) (end : Bool) (user : List ℕ) → destination < 65536 → number < 128 → IsOctets user →
     units_of (written (data2 destination number end user)) ≡ Ok (data2 destination number end user ∷ [])
 data2_again destination number end user d n octets =
-    units_only (written (data2 destination number end user)) (data2 destination number end user ∷ []) (data2_spelled destination number end user d n octets)
+    units_only (written (data2 destination number end user)) (data2 destination number end user ∷ [])
+        (data2_spelled destination number end user d n octets)
 
 pub ack_spelled : (credit destination number : ℕ) → credit < 16 → destination < 65536 → number < 128 →
     Spells (acknowledge credit destination number) (written (acknowledge credit destination number))
-ack_spelled credit destination number c d n = written_spells (acknowledge credit destination number) (record { in_range = (c, d, n); counted = omega arith })
+ack_spelled credit destination number c d n =
+    written_spells (acknowledge credit destination number) (record { in_range = (c, d, n); counted = omega arith })
 
 pub ack_again : (credit destination number : ℕ) → credit < 16 → destination < 65536 → number < 128 →
     units_of (written (acknowledge credit destination number)) ≡ Ok (acknowledge credit destination number ∷ [])
-ack_again credit destination number c d n = units_only (written (acknowledge credit destination number)) (acknowledge credit destination number ∷ []) (ack_spelled credit destination number c d n)
+ack_again credit destination number c d n =
+    units_only (written (acknowledge credit destination number)) (acknowledge credit destination number ∷ [])
+    (ack_spelled credit destination number c d n)

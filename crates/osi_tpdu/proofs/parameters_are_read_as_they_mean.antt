@@ -1,7 +1,15 @@
 -- The parameters of a CR or CC: reading them gives what the items mean, and what the items mean is read.
-use Rattle.std.proofs.Common.{◌≡◌, ℕ, zero, suc, ◌+◌, ◌<◌, ◌≤◌, true, false, eqb, ltb, leb, not, ◌&&◌, List, [], ◌∷◌, ◌++◌, length, get_or, take, drop, Option, Some, None, Result, Ok, refl, sym, ap, subst, ◌∙◌, append_assoc, arith, inl, inr, ◌⊎◌}
+use Rattle.std.proofs.Common.{◌≡◌, ℕ, zero, suc, ◌+◌, ◌<◌, ◌≤◌, true, false, eqb, ltb, leb, not, ◌&&◌, List, [], ◌∷◌, ◌++◌, length, get_or}
+use Rattle.std.proofs.Common.{take, drop, Option, Some, None, Result, Ok, refl, sym, ap, subst, ◌∙◌, append_assoc, arith, inl, inr, ◌⊎◌}
 use Rattle.std.proofs.lemmas.List.Elements.{filter-append}
-use Rattle.osi_tpdu.proofs.Vocabulary.{map, filter, option_to_list, is_some, IfSome, flat_map, ltb-false, leb-true, le-leb, le-ltb, eqb-true, eq-eqb, ne_eqb, and_parts, not-false, cases_eq, append-nil, take_at, drop_at, length-append, take-append-drop, length-take, length-drop, map-append, IsOctets, octets_take, octets_drop, TpduFault, BadParameterLength, BadParameterValue, DuplicateParameter, Parameter, Size, Calling, Called, Additional, Alternative, code_of, Parameters, AreParameters, Item, item_octets, values_of, single, Means, parameter_at, no_parameters, with_size, with_calling, with_called, with_additional, with_alternative, with_parameter, parameters_at, known_at, skipped_at, all_skipped_at}
+use Rattle.osi_tpdu.proofs.Vocabulary.{map, filter, option_to_list, is_some, IfSome, flat_map, ltb-false, leb-true, le-leb, le-ltb}
+use Rattle.osi_tpdu.proofs.Vocabulary.{eqb-true, eq-eqb, ne_eqb, and_parts, not-false, cases_eq, append-nil, take_at, drop_at}
+use Rattle.osi_tpdu.proofs.Vocabulary.{length-append, take-append-drop, length-take, length-drop, map-append, IsOctets, octets_take}
+use Rattle.osi_tpdu.proofs.Vocabulary.{octets_drop, TpduFault, BadParameterLength, BadParameterValue, DuplicateParameter, Parameter, Size}
+use Rattle.osi_tpdu.proofs.Vocabulary.{Calling, Called, Additional, Alternative, code_of, Parameters, AreParameters, Item, item_octets}
+use Rattle.osi_tpdu.proofs.Vocabulary.{values_of, single, Means, parameter_at, no_parameters, with_size, with_calling, with_called}
+use Rattle.osi_tpdu.proofs.Vocabulary.{with_additional, with_alternative, with_parameter, parameters_at, known_at, skipped_at}
+use Rattle.osi_tpdu.proofs.Vocabulary.{all_skipped_at}
 use Rattle.osi_tpdu.proofs.the_steps_of_reading.{bind_ok, unless_ok, when_ok, chosen, ok_is, one_long}
 
 -- ---- what items add to a slot
@@ -49,7 +57,8 @@ is_none (Some x) e = absurd cc
 abbrev Adding : ℕ → List ℕ → Parameters → Parameters → Type 0
 Adding code value p m = Adds p (item code value ∷ []) m × AreParameters m
 
-size_adds : (n : ℕ) (value : List ℕ) (p : Parameters) → value ≡ n ∷ [] → p.size ≡ None → Adds p (item 0xC0 value ∷ []) (record p { size = Some n })
+size_adds : (n : ℕ) (value : List ℕ) (p : Parameters) → value ≡ n ∷ [] → p.size ≡ None →
+    Adds p (item 0xC0 value ∷ []) (record p { size = Some n })
 size_adds n value p one none Size = rw none (ap (λ (v : List ℕ). v ∷ []) one)
 size_adds n value p one none k = Adds-none p k
 
@@ -61,44 +70,55 @@ called_adds : (value : List ℕ) (p : Parameters) → p.called ≡ None → Adds
 called_adds value p none Called = rw none refl
 called_adds value p none k = Adds-none p k
 
-additional_adds : (n : ℕ) (value : List ℕ) (p : Parameters) → value ≡ n ∷ [] → p.additional ≡ None → Adds p (item 0xC6 value ∷ []) (record p { additional = Some n })
+additional_adds : (n : ℕ) (value : List ℕ) (p : Parameters) → value ≡ n ∷ [] → p.additional ≡ None →
+    Adds p (item 0xC6 value ∷ []) (record p { additional = Some n })
 additional_adds n value p one none Additional = rw none (ap (λ (v : List ℕ). v ∷ []) one)
 additional_adds n value p one none k = Adds-none p k
 
-alternative_adds : (value : List ℕ) (p : Parameters) → p.alternative ≡ None → Adds p (item 0xC7 value ∷ []) (record p { alternative = Some value })
+alternative_adds : (value : List ℕ) (p : Parameters) → p.alternative ≡ None →
+    Adds p (item 0xC7 value ∷ []) (record p { alternative = Some value })
 alternative_adds value p none Alternative = rw none refl
 alternative_adds value p none k = Adds-none p k
 
 -- this holds in either order of the last two tests
-size_found : (at : ℕ) (value : List ℕ) (p m : Parameters) → AreParameters p → IsOctets value → with_size at value p ≡ Ok m → Adding 0xC0 value p m
+size_found : (at : ℕ) (value : List ℕ) (p m : Parameters) → AreParameters p → IsOctets value → with_size at value p ≡ Ok m →
+    Adding 0xC0 value p m
 unfolding with_size
-size_found at value p m fits octets e = grind (arith, get_or, unless_ok, when_ok, and_parts, ok_is, size_adds, one_long, eqb-true, not-false, is_none, leb-true)
+size_found at value p m fits octets e =
+    grind (arith, get_or, unless_ok, when_ok, and_parts, ok_is, size_adds, one_long, eqb-true, not-false, is_none, leb-true)
 
-calling_found : (at : ℕ) (value : List ℕ) (p m : Parameters) → AreParameters p → IsOctets value → with_calling at value p ≡ Ok m → Adding 0xC1 value p m
+calling_found : (at : ℕ) (value : List ℕ) (p m : Parameters) → AreParameters p → IsOctets value → with_calling at value p ≡ Ok m →
+    Adding 0xC1 value p m
 unfolding with_calling
 calling_found at value p m fits octets e = grind (arith, unless_ok, ok_is, calling_adds, is_none, ltb-false)
 
-called_found : (at : ℕ) (value : List ℕ) (p m : Parameters) → AreParameters p → IsOctets value → with_called at value p ≡ Ok m → Adding 0xC2 value p m
+called_found : (at : ℕ) (value : List ℕ) (p m : Parameters) → AreParameters p → IsOctets value → with_called at value p ≡ Ok m →
+    Adding 0xC2 value p m
 unfolding with_called
 called_found at value p m fits octets e = grind (arith, unless_ok, ok_is, called_adds, is_none, ltb-false)
 
-additional_found : (at : ℕ) (value : List ℕ) (p m : Parameters) → AreParameters p → IsOctets value → with_additional at value p ≡ Ok m → Adding 0xC6 value p m
+additional_found : (at : ℕ) (value : List ℕ) (p m : Parameters) → AreParameters p → IsOctets value → with_additional at value p ≡ Ok m →
+    Adding 0xC6 value p m
 unfolding with_additional
-additional_found at value p m fits octets e = grind (arith, get_or, unless_ok, ok_is, additional_adds, one_long, eqb-true, not-false, is_none)
+additional_found at value p m fits octets e =
+    grind (arith, get_or, unless_ok, ok_is, additional_adds, one_long, eqb-true, not-false, is_none)
 
-alternative_found : (at : ℕ) (value : List ℕ) (p m : Parameters) → AreParameters p → IsOctets value → with_alternative at value p ≡ Ok m → Adding 0xC7 value p m
+alternative_found : (at : ℕ) (value : List ℕ) (p m : Parameters) → AreParameters p → IsOctets value → with_alternative at value p ≡ Ok m →
+    Adding 0xC7 value p m
 unfolding with_alternative
 alternative_found at value p m fits octets e = grind (arith, unless_ok, ok_is, alternative_adds, is_none)
 
 -- a code that is not in the table is none of these
-pub other_code : (code : ℕ) → eqb code 0xC0 ≡ false → eqb code 0xC1 ≡ false → eqb code 0xC2 ≡ false → eqb code 0xC6 ≡ false → eqb code 0xC7 ≡ false → (k : Parameter) → eqb code (code_of k) ≡ false
+pub other_code : (code : ℕ) → eqb code 0xC0 ≡ false → eqb code 0xC1 ≡ false → eqb code 0xC2 ≡ false → eqb code 0xC6 ≡ false →
+    eqb code 0xC7 ≡ false → (k : Parameter) → eqb code (code_of k) ≡ false
 other_code code a b c d e Size = a
 other_code code a b c d e Calling = b
 other_code code a b c d e Called = c
 other_code code a b c d e Additional = d
 other_code code a b c d e Alternative = e
 
-pub with_found : (at code : ℕ) (value : List ℕ) (p m : Parameters) → AreParameters p → IsOctets value → with_parameter at code value p ≡ Ok m → Adding code value p m
+pub with_found : (at code : ℕ) (value : List ℕ) (p m : Parameters) → AreParameters p → IsOctets value →
+    with_parameter at code value p ≡ Ok m → Adding code value p m
 unfolding with_parameter
 with_found at code value p m fits octets e =
     elim (chosen (eqb code 0xC0) (with_size at value p) _ (Ok m) e) [
@@ -110,7 +130,8 @@ with_found at code value p m fits octets e =
           | inr u ↦ elim (chosen (eqb code 0xC6) (with_additional at value p) _ (Ok m) u.1) [
             | inl v ↦ subst (λ (k : ℕ). Adding k value p m) (sym (eqb-true code 0xC6 v.0)) (additional_found at value p m fits octets v.1)
             | inr v ↦ elim (chosen (eqb code 0xC7) (with_alternative at value p) (Ok p) (Ok m) v.1) [
-              | inl w ↦ subst (λ (k : ℕ). Adding k value p m) (sym (eqb-true code 0xC7 w.0)) (alternative_found at value p m fits octets w.1)
+              | inl w ↦ subst (λ (k : ℕ). Adding k value p m) (sym (eqb-true code 0xC7 w.0))
+                  (alternative_found at value p m fits octets w.1)
               | inr w ↦ subst (λ (m' : Parameters). Adding code value p m') (ok_is p m w.1)
                   ((λ k. Gains-other (code_of k) code value (slot k p) (other_code code s.0 t.0 u.0 v.0 w.0 k)), fits)
             ]
@@ -145,8 +166,10 @@ parameter_found at s x octets e =
     split_two s (omega arith) ∙ ap (λ (t : List ℕ). get_or s 0 0 ∷ n ∷ t) (sym (take-append-drop n (drop 2 s))) in
     let whole : s ≡ item_octets (item made.0 made.1) ++ made.2 =
     parts ∙ ap (λ (k : ℕ). get_or s 0 0 ∷ k ∷ (take n (drop 2 s) ++ drop n (drop 2 s))) (sym len) in
-    subst (λ (y : Piece). (s ≡ item_octets (item y.0 y.1) ++ y.2) × IsOctets y.1 × IsOctets y.2 × (length y.2 < length s)) (ok_is made x a.1)
-    (whole, octets_take n (drop 2 s) (octets_drop 2 s octets), octets_drop n (drop 2 s) (octets_drop 2 s octets), omega (arith, length-drop n (drop 2 s), length-drop 2 s))
+    subst (λ (y : Piece). (s ≡ item_octets (item y.0 y.1) ++ y.2) × IsOctets y.1 × IsOctets y.2 × (length y.2 < length s))
+        (ok_is made x a.1)
+    (whole, octets_take n (drop 2 s) (octets_drop 2 s octets), octets_drop n (drop 2 s) (octets_drop 2 s octets),
+        omega (arith, length-drop n (drop 2 s), length-drop 2 s))
 
 -- what the octets hold
 pub record Found (p : Parameters) (s : List ℕ) (m : Parameters) : Type 0 where
@@ -155,10 +178,12 @@ pub record Found (p : Parameters) (s : List ℕ) (m : Parameters) : Type 0 where
   pub adds : Adds p items m
   pub fits : AreParameters m
 
-spelled_on : (s : List ℕ) (i : Item) (behind : List ℕ) (items : List Item) → s ≡ item_octets i ++ behind → behind ≡ flat_map item_octets items → s ≡ flat_map item_octets (i ∷ items)
+spelled_on : (s : List ℕ) (i : Item) (behind : List ℕ) (items : List Item) → s ≡ item_octets i ++ behind →
+    behind ≡ flat_map item_octets items → s ≡ flat_map item_octets (i ∷ items)
 spelled_on s i behind items e f = e ∙ ap (λ (t : List ℕ). item_octets i ++ t) f
 
-parameters_found : (n at : ℕ) (p : Parameters) (s : List ℕ) (m : Parameters) → length s ≤ n → IsOctets s → AreParameters p → parameters_at n at p s ≡ Ok m → Found p s m
+parameters_found : (n at : ℕ) (p : Parameters) (s : List ℕ) (m : Parameters) → length s ≤ n → IsOctets s → AreParameters p →
+    parameters_at n at p s ≡ Ok m → Found p s m
 unfolding parameters_at
 parameters_found n at p [] m le octets fits e =
     subst (λ (m' : Parameters). Found p [] m') (ok_is p m e) (record { items = []; spelled = refl; adds = Adds-none p; fits = fits })
@@ -183,9 +208,12 @@ pub known_found : (at : ℕ) (s : List ℕ) (m : Parameters) → IsOctets s → 
 known_found at s m octets e =
     let none : AreParameters no_parameters = record { size = tt; calling = tt; called = tt; additional = tt; alternative = tt } in
     let f = parameters_found (length s) at no_parameters s m (omega arith) octets none e in
-    (f.items, f.spelled, record { size = f.adds Size; calling = f.adds Calling; called = f.adds Called; additional = f.adds Additional; alternative = f.adds Alternative }, f.fits)
+    (f.items, f.spelled,
+        record { size = f.adds Size; calling = f.adds Calling; called = f.adds Called; additional = f.adds Additional;
+        alternative = f.adds Alternative }, f.fits)
 
-skipped_found_with : (n at : ℕ) (s : List ℕ) → length s ≤ n → IsOctets s → skipped_at n at s ≡ Ok tt → (items : List Item) × (s ≡ flat_map item_octets items)
+skipped_found_with : (n at : ℕ) (s : List ℕ) → length s ≤ n → IsOctets s → skipped_at n at s ≡ Ok tt →
+    (items : List Item) × (s ≡ flat_map item_octets items)
 unfolding skipped_at
 skipped_found_with n at [] le octets e = ([], refl)
 skipped_found_with zero at (o ∷ s) le octets e = absurd (omega arith)
@@ -196,7 +224,8 @@ skipped_found_with (suc n) at (o ∷ s) le octets e =
     let first = item a.0.0 a.0.1 in
     (first ∷ rest.0, one.0 ∙ ap (λ (t : List ℕ). item_octets first ++ t) rest.1)
 
-pub skipped_found : (at : ℕ) (s : List ℕ) → IsOctets s → all_skipped_at at s ≡ Ok tt → (items : List Item) × (s ≡ flat_map item_octets items)
+pub skipped_found : (at : ℕ) (s : List ℕ) → IsOctets s → all_skipped_at at s ≡ Ok tt →
+    (items : List Item) × (s ≡ flat_map item_octets items)
 skipped_found at s octets e = skipped_found_with (length s) at s (omega arith) octets e
 
 -- ---- items are read
@@ -206,7 +235,8 @@ unfolding parameter_at
 parameter_again at i rest = grind (arith, le-ltb, length-append, take_at, drop_at)
 
 -- the value of the first item with a code is the one value of its slot
-first_value : (o new : Option (List ℕ)) (v : List ℕ) (vs : List (List ℕ)) → option_to_list o ++ (v ∷ vs) ≡ option_to_list new → (o ≡ None) × (new ≡ Some v) × (vs ≡ [])
+first_value : (o new : Option (List ℕ)) (v : List ℕ) (vs : List (List ℕ)) → option_to_list o ++ (v ∷ vs) ≡ option_to_list new →
+    (o ≡ None) × (new ≡ Some v) × (vs ≡ [])
 first_value None None v vs e = absurd cc
 first_value None (Some w) v vs e = (refl, cc, cc)
 first_value (Some x) None v vs e = absurd cc
@@ -238,10 +268,12 @@ same_parameters p m a =
     let same = λ (k : Parameter). Gains-same (code_of k) (slot k p) (slot k m) (a k) in
     let size = single-injective p.size m.size (same Size) in
     let additional = single-injective p.additional m.additional (same Additional) in
-    λ i. record { size = size i; calling = same Calling i; called = same Called i; additional = additional i; alternative = same Alternative i }
+    λ i. record { size = size i; calling = same Calling i; called = same Called i; additional = additional i;
+        alternative = same Alternative i }
 
 -- items after one with another code
-Gains-past : (code : ℕ) (i : Item) (items : List Item) (o new : Option (List ℕ)) → eqb i.code code ≡ false → Gains code o (i ∷ items) new → Gains code o items new
+Gains-past : (code : ℕ) (i : Item) (items : List Item) (o new : Option (List ℕ)) → eqb i.code code ≡ false → Gains code o (i ∷ items) new →
+    Gains code o items new
 Gains-past code i items o new ne e = rw ne at e
 
 -- the first item is read, and the others are still to be added
@@ -259,35 +291,44 @@ short_value None v h e = absurd cc
 short_value (Some w) v h e = grind arith
 
 -- the result of reading an item with a code of the table, and what the other items add to it
-size_left : (n : ℕ) (value : List ℕ) (items : List Item) (p m : Parameters) → value ≡ n ∷ [] → p.size ≡ None → Adds p (item 0xC0 value ∷ items) m → Adds (record p { size = Some n }) items m
+size_left : (n : ℕ) (value : List ℕ) (items : List Item) (p m : Parameters) → value ≡ n ∷ [] → p.size ≡ None →
+    Adds p (item 0xC0 value ∷ items) m → Adds (record p { size = Some n }) items m
 size_left n value items p m one none a Size = ap (λ (v : List ℕ). v ∷ values_of 0xC0 items) (sym one) ∙ rw none at (a Size)
 size_left n value items p m one none a k = a k
 
-calling_left : (value : List ℕ) (items : List Item) (p m : Parameters) → p.calling ≡ None → Adds p (item 0xC1 value ∷ items) m → Adds (record p { calling = Some value }) items m
+calling_left : (value : List ℕ) (items : List Item) (p m : Parameters) → p.calling ≡ None → Adds p (item 0xC1 value ∷ items) m →
+    Adds (record p { calling = Some value }) items m
 calling_left value items p m none a Calling = rw none at (a Calling)
 calling_left value items p m none a k = a k
 
-called_left : (value : List ℕ) (items : List Item) (p m : Parameters) → p.called ≡ None → Adds p (item 0xC2 value ∷ items) m → Adds (record p { called = Some value }) items m
+called_left : (value : List ℕ) (items : List Item) (p m : Parameters) → p.called ≡ None → Adds p (item 0xC2 value ∷ items) m →
+    Adds (record p { called = Some value }) items m
 called_left value items p m none a Called = rw none at (a Called)
 called_left value items p m none a k = a k
 
-additional_left : (n : ℕ) (value : List ℕ) (items : List Item) (p m : Parameters) → value ≡ n ∷ [] → p.additional ≡ None → Adds p (item 0xC6 value ∷ items) m → Adds (record p { additional = Some n }) items m
-additional_left n value items p m one none a Additional = ap (λ (v : List ℕ). v ∷ values_of 0xC6 items) (sym one) ∙ rw none at (a Additional)
+additional_left : (n : ℕ) (value : List ℕ) (items : List Item) (p m : Parameters) → value ≡ n ∷ [] → p.additional ≡ None →
+    Adds p (item 0xC6 value ∷ items) m → Adds (record p { additional = Some n }) items m
+additional_left n value items p m one none a Additional = ap (λ (v : List ℕ). v ∷ values_of 0xC6 items) (sym one) ∙
+    rw none at (a Additional)
 additional_left n value items p m one none a k = a k
 
-alternative_left : (value : List ℕ) (items : List Item) (p m : Parameters) → p.alternative ≡ None → Adds p (item 0xC7 value ∷ items) m → Adds (record p { alternative = Some value }) items m
+alternative_left : (value : List ℕ) (items : List Item) (p m : Parameters) → p.alternative ≡ None → Adds p (item 0xC7 value ∷ items) m →
+    Adds (record p { alternative = Some value }) items m
 alternative_left value items p m none a Alternative = rw none at (a Alternative)
 alternative_left value items p m none a k = a k
 
-size_read : (at n : ℕ) (value : List ℕ) (p : Parameters) → value ≡ n ∷ [] → p.size ≡ None → (7 ≤ n) × (n ≤ 13) → with_parameter at 0xC0 value p ≡ Ok (record p { size = Some n })
+size_read : (at n : ℕ) (value : List ℕ) (p : Parameters) → value ≡ n ∷ [] → p.size ≡ None → (7 ≤ n) × (n ≤ 13) →
+    with_parameter at 0xC0 value p ≡ Ok (record p { size = Some n })
 unfolding with_parameter with_size
 size_read at n value p one none bounds = rw (one, none, le-leb 7 n bounds.0, le-leb n 13 bounds.1) refl
 
-additional_read : (at n : ℕ) (value : List ℕ) (p : Parameters) → value ≡ n ∷ [] → p.additional ≡ None → with_parameter at 0xC6 value p ≡ Ok (record p { additional = Some n })
+additional_read : (at n : ℕ) (value : List ℕ) (p : Parameters) → value ≡ n ∷ [] → p.additional ≡ None →
+    with_parameter at 0xC6 value p ≡ Ok (record p { additional = Some n })
 unfolding with_parameter with_additional
 additional_read at n value p one none = rw (one, none) refl
 
-known_taken : (k : Parameter) (at : ℕ) (value : List ℕ) (items : List Item) (p m : Parameters) → AreParameters m → Adds p (item (code_of k) value ∷ items) m → TakesItem at (item (code_of k) value) items p m
+known_taken : (k : Parameter) (at : ℕ) (value : List ℕ) (items : List Item) (p m : Parameters) → AreParameters m →
+    Adds p (item (code_of k) value ∷ items) m → TakesItem at (item (code_of k) value) items p m
 unfolding with_parameter with_calling with_called with_alternative
 known_taken Size at value items p m fits a =
     let f = first_value (single p.size) (single m.size) value (values_of 0xC0 items) (a Size) in
@@ -359,7 +400,8 @@ taken at code value items p m fits =
       ]
     ]
 
-parameters_only : (n at : ℕ) (p : Parameters) (items : List Item) (m : Parameters) → length (flat_map item_octets items) ≤ n → AreParameters m → Adds p items m → parameters_at n at p (flat_map item_octets items) ≡ Ok m
+parameters_only : (n at : ℕ) (p : Parameters) (items : List Item) (m : Parameters) → length (flat_map item_octets items) ≤ n →
+    AreParameters m → Adds p items m → parameters_at n at p (flat_map item_octets items) ≡ Ok m
 unfolding parameters_at
 parameters_only n at p [] m le fits a = ap (λ (q : Parameters). ok q) (same_parameters p m a)
 parameters_only zero at p (i ∷ items) m le fits a = absurd (omega arith)
@@ -378,12 +420,14 @@ meant items m means Additional = means.additional
 meant items m means Alternative = means.alternative
 
 -- once items were read, their meaning is known
-pub known_only : (at : ℕ) (items : List Item) (m : Parameters) → AreParameters m → Means m items → known_at at (flat_map item_octets items) ≡ Ok m
+pub known_only : (at : ℕ) (items : List Item) (m : Parameters) → AreParameters m → Means m items →
+    known_at at (flat_map item_octets items) ≡ Ok m
 known_only at items m fits means =
     parameters_only (length (flat_map item_octets items)) at no_parameters items m (omega arith) fits
     (meant items m means)
 
-skipped_only_with : (n at : ℕ) (items : List Item) → length (flat_map item_octets items) ≤ n → skipped_at n at (flat_map item_octets items) ≡ Ok tt
+skipped_only_with : (n at : ℕ) (items : List Item) → length (flat_map item_octets items) ≤ n →
+    skipped_at n at (flat_map item_octets items) ≡ Ok tt
 unfolding skipped_at
 skipped_only_with n at [] le = refl
 skipped_only_with zero at (i ∷ items) le = absurd (omega arith)

@@ -1,9 +1,18 @@
 -- The fault that the reader of a unit returns is its first one.
-use Rattle.std.proofs.Common.{◌≡◌, ℕ, ◌+◌, ◌*◌, ◌/◌, ◌%◌, ◌<◌, ◌≤◌, true, false, cond, eqb, ltb, leb, ◌||◌, List, ◌∷◌, ◌++◌, length, get_or, take, drop, Option, Some, None, Result, Ok, Err, refl, sym, ap, subst, ◌∙◌, arith, inl, inr, ◌⊎◌}
-use Rattle.osi_tpdu.proofs.Vocabulary.{IsOk, false≢true, ltb-true, ltb-false, eqb-true, eqb-false, length-take-le, drop_at, take-append-drop, IsOctets, octets_drop, octets_left, TpduFault, BadLi, UnknownCode, Parameters, Connect, Value, request, confirm, disconnect, disconnected, data0, data2, acknowledge, error, may_be_followed, header_at, reference_at, known_at, all_skipped_at, connect_of, request_of, confirm_of, disconnect_of, disconnected_of, transfer_of, acknowledge_of, error_of, value_of, unit_at, Kind, Request, Confirm, Disconnect, Disconnected, Transfer, Acknowledge, Report, HasCode, MayCount, HasParametersBehind, LooksAtParameters, HasParameterFault, HasHeader, HasNoHeader, BeginsUnit, HasBadIndicator, HasUnknownCode, HasFault, StandsBefore, IsFirst, IsUnitFault}
+use Rattle.std.proofs.Common.{◌≡◌, ℕ, ◌+◌, ◌*◌, ◌/◌, ◌%◌, ◌<◌, ◌≤◌, true, false, cond, eqb, ltb, leb, ◌||◌, List, ◌∷◌, ◌++◌, length, get_or}
+use Rattle.std.proofs.Common.{take, drop, Option, Some, None, Result, Ok, Err, refl, sym, ap, subst, ◌∙◌, arith, inl, inr, ◌⊎◌}
+use Rattle.osi_tpdu.proofs.Vocabulary.{IsOk, false≢true, ltb-true, ltb-false, eqb-true, eqb-false, length-take-le, drop_at}
+use Rattle.osi_tpdu.proofs.Vocabulary.{take-append-drop, IsOctets, octets_drop, octets_left, TpduFault, BadLi, UnknownCode, Parameters}
+use Rattle.osi_tpdu.proofs.Vocabulary.{Connect, Value, request, confirm, disconnect, disconnected, data0, data2, acknowledge, error}
+use Rattle.osi_tpdu.proofs.Vocabulary.{may_be_followed, header_at, reference_at, known_at, all_skipped_at, connect_of, request_of}
+use Rattle.osi_tpdu.proofs.Vocabulary.{confirm_of, disconnect_of, disconnected_of, transfer_of, acknowledge_of, error_of, value_of, unit_at}
+use Rattle.osi_tpdu.proofs.Vocabulary.{Kind, Request, Confirm, Disconnect, Disconnected, Transfer, Acknowledge, Report, HasCode, MayCount}
+use Rattle.osi_tpdu.proofs.Vocabulary.{HasParametersBehind, LooksAtParameters, HasParameterFault, HasHeader, HasNoHeader, BeginsUnit}
+use Rattle.osi_tpdu.proofs.Vocabulary.{HasBadIndicator, HasUnknownCode, HasFault, StandsBefore, IsFirst, IsUnitFault}
 use Rattle.osi_tpdu.proofs.the_steps_of_reading.{chosen, ok_is, IsOctets-rest}
 use Rattle.osi_tpdu.proofs.one_unit_is_read.{header_found, header_again}
-use Rattle.osi_tpdu.proofs.the_first_fault_of_the_parameters.{Judges, judges_same, judges_bind, judges_map, judges_cond, parameters_judged, skips_judged, parameter_place}
+use Rattle.osi_tpdu.proofs.the_first_fault_of_the_parameters.{Judges, judges_same, judges_bind, judges_map, judges_cond, parameters_judged}
+use Rattle.osi_tpdu.proofs.the_first_fault_of_the_parameters.{skips_judged, parameter_place}
 
 abbrev Parts : Type 0
 Parts = List ℕ × List ℕ
@@ -19,7 +28,8 @@ same_header b h t g u x y =
 abbrev kind_named : ℕ → Option Kind
 kind_named code =
     cond (eqb (code / 16) 0xE) (Some Request) (cond (eqb (code / 16) 0xD) (Some Confirm) (cond (eqb (code / 16) 0x6) (Some Acknowledge)
-    (cond (eqb code 0x80) (Some Disconnect) (cond (eqb code 0xC0) (Some Disconnected) (cond (eqb code 0xF0) (Some Transfer) (cond (eqb code 0x70) (Some Report) None))))))
+    (cond (eqb code 0x80) (Some Disconnect)
+        (cond (eqb code 0xC0) (Some Disconnected) (cond (eqb code 0xF0) (Some Transfer) (cond (eqb code 0x70) (Some Report) None))))))
 
 named_kind : (kind : Kind) (code : ℕ) → HasCode kind code → kind_named code ≡ Some kind
 named_kind Request code h = (let half : code / 16 ≡ 14 = omega (arith, h.1, h.2) in rw half refl)
@@ -65,7 +75,8 @@ no_code b header kind u h =
 
 -- ---- units without parameters
 
-plain_fine : (at : ℕ) (b header : List ℕ) (kind : Kind) → BeginsUnit kind b header → MayCount kind (length header) → ((n : ℕ) → HasParametersBehind kind n → ⊥) → (f : TpduFault) → HasFault at b f → ⊥
+plain_fine : (at : ℕ) (b header : List ℕ) (kind : Kind) → BeginsUnit kind b header → MayCount kind (length header) →
+    ((n : ℕ) → HasParametersBehind kind n → ⊥) → (f : TpduFault) → HasFault at b f → ⊥
 plain_fine at b header kind u counts none f h =
     elim h [
       | inl a ↦ no_li b header kind u counts a.1
@@ -80,7 +91,8 @@ plain_fine at b header kind u counts none f h =
 same_front : (x y s t : List ℕ) → length x ≡ length y → x ++ s ≡ y ++ t → s ≡ t
 same_front x y s t len e = sym (drop_at x s (length x) refl) ∙ ap (drop (length x)) e ∙ drop_at y t (length x) (sym len)
 
-parameters_only : {A : Type 0} (at : ℕ) (b fixed s : List ℕ) (kind : Kind) (r : Result A TpduFault) → BeginsUnit kind b (fixed ++ s) → MayCount kind (length (fixed ++ s)) → HasParametersBehind kind (length fixed)
+parameters_only : {A : Type 0} (at : ℕ) (b fixed s : List ℕ) (kind : Kind) (r : Result A TpduFault) → BeginsUnit kind b (fixed ++ s) →
+    MayCount kind (length (fixed ++ s)) → HasParametersBehind kind (length fixed)
     → Judges (HasParameterFault kind (at + (1 + length fixed)) s) r → Judges (HasFault at b) r
 parameters_only at b fixed s kind r u counts behind =
     judges_same (HasParameterFault kind (at + (1 + length fixed)) s) (HasFault at b) r (λ f h. inr (inr (kind, fixed, s, u, behind, h)))
@@ -93,20 +105,25 @@ parameters_only at b fixed s kind r u counts behind =
             let t = p.2 in
             let headers : x ++ t ≡ fixed ++ s = same_header b (x ++ t) p.3.behind (fixed ++ s) u.behind p.3.there u.there in
             let kinds : p.0 ≡ kind = same_unit (λ k o. p.0 ≡ k) p.0 kind b (x ++ t) (fixed ++ s) p.3 u refl in
-            let len : length x ≡ length fixed = behind_one kind (length x) (length fixed) (subst (λ (k : Kind). HasParametersBehind k (length x)) kinds p.4) behind in
-            let there : HasParameterFault kind (at + (1 + length x)) t f = subst (λ (k : Kind). HasParameterFault k (at + (1 + length x)) t f) kinds p.5 in
-            let moved : HasParameterFault kind (at + (1 + length fixed)) t f = subst (λ (n : ℕ). HasParameterFault kind (at + (1 + n)) t f) len there in
+            let len : length x ≡ length fixed =
+                behind_one kind (length x) (length fixed) (subst (λ (k : Kind). HasParametersBehind k (length x)) kinds p.4) behind in
+            let there : HasParameterFault kind (at + (1 + length x)) t f =
+                subst (λ (k : Kind). HasParameterFault k (at + (1 + length x)) t f) kinds p.5 in
+            let moved : HasParameterFault kind (at + (1 + length fixed)) t f =
+                subst (λ (n : ℕ). HasParameterFault kind (at + (1 + n)) t f) len there in
             subst (λ (o : List ℕ). HasParameterFault kind (at + (1 + length fixed)) o f) (same_front x fixed t s len headers) moved
       ]
     ])
 
 -- the same if the fixed part has n octets
-behind_judged : {A : Type 0} (at n : ℕ) (b header : List ℕ) (kind : Kind) (r : Result A TpduFault) → n ≤ length header → BeginsUnit kind b header → MayCount kind (length header) → HasParametersBehind kind n
+behind_judged : {A : Type 0} (at n : ℕ) (b header : List ℕ) (kind : Kind) (r : Result A TpduFault) → n ≤ length header →
+    BeginsUnit kind b header → MayCount kind (length header) → HasParametersBehind kind n
     → Judges (HasParameterFault kind (at + (1 + n)) (drop n header)) r → Judges (HasFault at b) r
 behind_judged at n b header kind r long u counts behind j =
     let parts : header ≡ take n header ++ drop n header = sym (take-append-drop n header) in
     let len : length (take n header) ≡ n = length-take-le n header long in
-    parameters_only at b (take n header) (drop n header) kind r (subst (λ (o : List ℕ). BeginsUnit kind b o) parts u) (subst (λ (o : List ℕ). MayCount kind (length o)) parts counts)
+    parameters_only at b (take n header) (drop n header) kind r (subst (λ (o : List ℕ). BeginsUnit kind b o) parts u)
+        (subst (λ (o : List ℕ). MayCount kind (length o)) parts counts)
     (subst (λ (k : ℕ). HasParametersBehind kind k) (sym len) behind)
     (subst (λ (k : ℕ). Judges (HasParameterFault kind (at + (1 + k)) (drop n header)) r) (sym len) j)
 
@@ -115,7 +132,8 @@ behind_judged at n b header kind r long u counts behind j =
 too_short : (n least : ℕ) → ltb n least ≡ true → least ≤ n → ⊥
 too_short n least e le = omega (arith, ltb-true)
 
-offset_moved : {A : Type 0} (kind : Kind) (at to : ℕ) (s : List ℕ) (r : Result A TpduFault) → at ≡ to → Judges (HasParameterFault kind at s) r → Judges (HasParameterFault kind to s) r
+offset_moved : {A : Type 0} (kind : Kind) (at to : ℕ) (s : List ℕ) (r : Result A TpduFault) → at ≡ to →
+    Judges (HasParameterFault kind at s) r → Judges (HasParameterFault kind to s) r
 offset_moved kind at to s r e j = subst (λ (n : ℕ). Judges (HasParameterFault kind n s) r) e j
 
 abbrev made : List ℕ → List ℕ → Parameters → Connect
@@ -128,11 +146,13 @@ made header user p = record {
   user = user;
 }
 
-connect_judged : (at : ℕ) (b header user : List ℕ) (kind : Kind) → IsOctets header → BeginsUnit kind b header → LooksAtParameters kind → (6 ≤ length header → MayCount kind (length header)) → (MayCount kind (length header) → 6 ≤ length header)
+connect_judged : (at : ℕ) (b header user : List ℕ) (kind : Kind) → IsOctets header → BeginsUnit kind b header → LooksAtParameters kind →
+    (6 ≤ length header → MayCount kind (length header)) → (MayCount kind (length header) → 6 ≤ length header)
     → HasParametersBehind kind 6 → Judges (HasFault at b) (connect_of at header user)
 unfolding connect_of
 connect_judged at b header user kind octets u looks counts long behind =
-    judges_cond (HasFault at b) (ltb (length header) 6) (Err (BadLi at)) _ (λ e. li_first at b (inr (kind, header, u, λ c. too_short (length header) 6 e (long c))))
+    judges_cond (HasFault at b) (ltb (length header) 6) (Err (BadLi at)) _
+        (λ e. li_first at b (inr (kind, header, u, λ c. too_short (length header) 6 e (long c))))
     (λ e.
     let le : 6 ≤ length header = ltb-false (length header) 6 e in
     let j = parameters_judged kind (at + 7) (drop 6 header) looks (octets_drop 6 header octets) in
@@ -140,30 +160,39 @@ connect_judged at b header user kind octets u looks counts long behind =
     (behind_judged at 6 b header kind (known_at (at + 7) (drop 6 header)) le u (counts le) behind
     (offset_moved kind (at + 7) (at + (1 + 6)) (drop 6 header) (known_at (at + 7) (drop 6 header)) (omega arith) j)))
 
-request_judged : (at : ℕ) (b header user : List ℕ) → IsOctets header → BeginsUnit Request b header → Judges (HasFault at b) (request_of at header user)
+request_judged : (at : ℕ) (b header user : List ℕ) → IsOctets header → BeginsUnit Request b header →
+    Judges (HasFault at b) (request_of at header user)
 unfolding request_of
-request_judged at b header user octets u = judges_map (HasFault at b) (connect_of at header user) request (connect_judged at b header user Request octets u tt (λ le. le) (λ le. le) refl)
+request_judged at b header user octets u =
+    judges_map (HasFault at b) (connect_of at header user) request
+    (connect_judged at b header user Request octets u tt (λ le. le) (λ le. le) refl)
 
-confirm_judged : (at : ℕ) (b header user : List ℕ) → IsOctets header → BeginsUnit Confirm b header → Judges (HasFault at b) (confirm_of at header user)
+confirm_judged : (at : ℕ) (b header user : List ℕ) → IsOctets header → BeginsUnit Confirm b header →
+    Judges (HasFault at b) (confirm_of at header user)
 unfolding confirm_of
 confirm_judged at b header user octets u =
-    judges_map (HasFault at b) (connect_of at header user) (confirm (reference_at 1 header)) (connect_judged at b header user Confirm octets u tt (λ le. le) (λ le. le) refl)
+    judges_map (HasFault at b) (connect_of at header user) (confirm (reference_at 1 header))
+        (connect_judged at b header user Confirm octets u tt (λ le. le) (λ le. le) refl)
 
-disconnect_judged : (at : ℕ) (b header user : List ℕ) → IsOctets header → BeginsUnit Disconnect b header → Judges (HasFault at b) (disconnect_of at header user)
+disconnect_judged : (at : ℕ) (b header user : List ℕ) → IsOctets header → BeginsUnit Disconnect b header →
+    Judges (HasFault at b) (disconnect_of at header user)
 unfolding disconnect_of
 disconnect_judged at b header user octets u =
-    judges_cond (HasFault at b) (ltb (length header) 6) (Err (BadLi at)) _ (λ e. li_first at b (inr (Disconnect, header, u, too_short (length header) 6 e)))
+    judges_cond (HasFault at b) (ltb (length header) 6) (Err (BadLi at)) _
+        (λ e. li_first at b (inr (Disconnect, header, u, too_short (length header) 6 e)))
     (λ e.
     let le : 6 ≤ length header = ltb-false (length header) 6 e in
     let j = skips_judged Disconnect (at + 7) (drop 6 header) (λ no. no) (octets_drop 6 header octets) in
-    judges_map (HasFault at b) (all_skipped_at (at + 7) (drop 6 header)) (λ skipped. disconnect (reference_at 1 header) (reference_at 3 header) (get_or header 5 0) user)
+    judges_map (HasFault at b) (all_skipped_at (at + 7) (drop 6 header))
+        (λ skipped. disconnect (reference_at 1 header) (reference_at 3 header) (get_or header 5 0) user)
     (behind_judged at 6 b header Disconnect (all_skipped_at (at + 7) (drop 6 header)) le u le refl
     (offset_moved Disconnect (at + 7) (at + (1 + 6)) (drop 6 header) (all_skipped_at (at + 7) (drop 6 header)) (omega arith) j)))
 
 error_judged : (at : ℕ) (b header : List ℕ) → IsOctets header → BeginsUnit Report b header → Judges (HasFault at b) (error_of at header)
 unfolding error_of
 error_judged at b header octets u =
-    judges_cond (HasFault at b) (ltb (length header) 4) (Err (BadLi at)) _ (λ e. li_first at b (inr (Report, header, u, too_short (length header) 4 e)))
+    judges_cond (HasFault at b) (ltb (length header) 4) (Err (BadLi at)) _
+        (λ e. li_first at b (inr (Report, header, u, too_short (length header) 4 e)))
     (λ e.
     let le : 4 ≤ length header = ltb-false (length header) 4 e in
     let j = skips_judged Report (at + 5) (drop 4 header) (λ no. no) (octets_drop 4 header octets) in
@@ -175,13 +204,16 @@ disconnected_judged : (at : ℕ) (b header : List ℕ) → BeginsUnit Disconnect
 unfolding disconnected_of
 disconnected_judged at b header u =
     judges_cond (HasFault at b) (eqb (length header) 5) (Ok (disconnected (reference_at 1 header) (reference_at 3 header))) (Err (BadLi at))
-    (λ e. plain_fine at b header Disconnected u (eqb-true (length header) 5 e) (λ n no. no)) (λ e. li_first at b (inr (Disconnected, header, u, eqb-false (length header) 5 e)))
+    (λ e. plain_fine at b header Disconnected u (eqb-true (length header) 5 e) (λ n no. no))
+        (λ e. li_first at b (inr (Disconnected, header, u, eqb-false (length header) 5 e)))
 
 acknowledge_judged : (at : ℕ) (b header : List ℕ) → BeginsUnit Acknowledge b header → Judges (HasFault at b) (acknowledge_of at header)
 unfolding acknowledge_of
 acknowledge_judged at b header u =
-    judges_cond (HasFault at b) (eqb (length header) 4) (Ok (acknowledge (get_or header 0 0 % 16) (reference_at 1 header) (get_or header 3 0 % 128))) (Err (BadLi at))
-    (λ e. plain_fine at b header Acknowledge u (eqb-true (length header) 4 e) (λ n no. no)) (λ e. li_first at b (inr (Acknowledge, header, u, eqb-false (length header) 4 e)))
+    judges_cond (HasFault at b) (eqb (length header) 4)
+        (Ok (acknowledge (get_or header 0 0 % 16) (reference_at 1 header) (get_or header 3 0 % 128))) (Err (BadLi at))
+    (λ e. plain_fine at b header Acknowledge u (eqb-true (length header) 4 e) (λ n no. no))
+        (λ e. li_first at b (inr (Acknowledge, header, u, eqb-false (length header) 4 e)))
 
 neither : (n : ℕ) → eqb n 2 ≡ false → eqb n 4 ≡ false → (n ≡ 2) ⊎ (n ≡ 4) → ⊥
 neither n a b h = grind (arith, eqb-false)
@@ -189,13 +221,17 @@ neither n a b h = grind (arith, eqb-false)
 transfer_judged : (at : ℕ) (b header user : List ℕ) → BeginsUnit Transfer b header → Judges (HasFault at b) (transfer_of at header user)
 unfolding transfer_of
 transfer_judged at b header user u =
-    judges_cond (HasFault at b) (eqb (length header) 2) (Ok (data0 (leb 128 (get_or header 1 0)) user)) _ (λ e. plain_fine at b header Transfer u (inl (eqb-true (length header) 2 e)) (λ n no. no))
-    (λ e. judges_cond (HasFault at b) (eqb (length header) 4) (Ok (data2 (reference_at 1 header) (get_or header 3 0 % 128) (leb 128 (get_or header 3 0)) user)) (Err (BadLi at))
-    (λ d. plain_fine at b header Transfer u (inr (eqb-true (length header) 4 d)) (λ n no. no)) (λ d. li_first at b (inr (Transfer, header, u, neither (length header) e d))))
+    judges_cond (HasFault at b) (eqb (length header) 2) (Ok (data0 (leb 128 (get_or header 1 0)) user)) _
+        (λ e. plain_fine at b header Transfer u (inl (eqb-true (length header) 2 e)) (λ n no. no))
+    (λ e. judges_cond (HasFault at b) (eqb (length header) 4)
+        (Ok (data2 (reference_at 1 header) (get_or header 3 0 % 128) (leb 128 (get_or header 3 0)) user)) (Err (BadLi at))
+    (λ d. plain_fine at b header Transfer u (inr (eqb-true (length header) 4 d)) (λ n no. no))
+        (λ d. li_first at b (inr (Transfer, header, u, neither (length header) e d))))
 
 -- ---- any code
 
-unnamed : (kind : Kind) (code : ℕ) → eqb (code / 16) 0xE ≡ false → eqb (code / 16) 0xD ≡ false → eqb (code / 16) 0x6 ≡ false → eqb code 0x80 ≡ false → eqb code 0xC0 ≡ false → eqb code 0xF0 ≡ false → eqb code 0x70 ≡ false
+unnamed : (kind : Kind) (code : ℕ) → eqb (code / 16) 0xE ≡ false → eqb (code / 16) 0xD ≡ false → eqb (code / 16) 0x6 ≡ false →
+    eqb code 0x80 ≡ false → eqb code 0xC0 ≡ false → eqb code 0xF0 ≡ false → eqb code 0x70 ≡ false
     → HasCode kind code → ⊥
 unnamed Request code a b c d e f g h = eqb-false (code / 16) 0xE a (omega (arith, h.1, h.2))
 unnamed Confirm code a b c d e f g h = eqb-false (code / 16) 0xD b (omega (arith, h.1, h.2))
@@ -205,9 +241,11 @@ unnamed Disconnected code a b c d e f g h = eqb-false code 0xC0 e h
 unnamed Transfer code a b c d e f g h = eqb-false code 0xF0 f h
 unnamed Report code a b c d e f g h = eqb-false code 0x70 g h
 
-code_first : (at : ℕ) (b header behind : List ℕ) → HasHeader b header behind → ((kind : Kind) → HasCode kind (get_or header 0 0) → ⊥) → IsFirst (HasFault at b) (UnknownCode (at + 1))
+code_first : (at : ℕ) (b header behind : List ℕ) → HasHeader b header behind → ((kind : Kind) → HasCode kind (get_or header 0 0) → ⊥) →
+    IsFirst (HasFault at b) (UnknownCode (at + 1))
 code_first at b header behind there unknown =
-    let none = λ (kind : Kind) (h : List ℕ) (u : BeginsUnit kind b h). unknown kind (subst (λ (o : List ℕ). HasCode kind (get_or o 0 0)) (same_header b h u.behind header behind u.there there) u.code) in
+    let none = λ (kind : Kind) (h : List ℕ) (u : BeginsUnit kind b h). unknown kind
+        (subst (λ (o : List ℕ). HasCode kind (get_or o 0 0)) (same_header b h u.behind header behind u.there there) u.code) in
     record {
       there = inr (inl (refl, (header, behind, there, unknown)));
       first = λ f h. elim h [
@@ -228,22 +266,30 @@ half_is code half e = omega arith
 low_half : (code : ℕ) → code % 16 < 16
 low_half code = omega arith
 
-value_judged : (at : ℕ) (b header behind : List ℕ) → IsOctets header → HasHeader b header behind → Judges (HasFault at b) (value_of at header behind)
+value_judged : (at : ℕ) (b header behind : List ℕ) → IsOctets header → HasHeader b header behind →
+    Judges (HasFault at b) (value_of at header behind)
 unfolding value_of
 value_judged at b header behind octets there =
     let P : TpduFault → Type 0 = HasFault at b in
     let code = get_or header 0 0 in
-    let begins = λ (kind : Kind) (h : HasCode kind code). (let u : BeginsUnit kind b header = record { behind = behind; there = there; code = h } in u) in
+    let begins = λ (kind : Kind) (h : HasCode kind code).
+        (let u : BeginsUnit kind b header = record { behind = behind; there = there; code = h } in u) in
     judges_cond P (eqb (code / 16) 0xE) (request_of at header behind) _
-    (λ e. request_judged at b header behind octets (begins Request (code % 16, low_half code, half_is code 14 (eqb-true (code / 16) 0xE e))))
+    (λ e. request_judged at b header behind octets
+        (begins Request (code % 16, low_half code, half_is code 14 (eqb-true (code / 16) 0xE e))))
     (λ nE. judges_cond P (eqb (code / 16) 0xD) (confirm_of at header behind) _
-    (λ e. confirm_judged at b header behind octets (begins Confirm (code % 16, low_half code, half_is code 13 (eqb-true (code / 16) 0xD e))))
+    (λ e. confirm_judged at b header behind octets
+        (begins Confirm (code % 16, low_half code, half_is code 13 (eqb-true (code / 16) 0xD e))))
     (λ nD. judges_cond P (eqb (code / 16) 0x6) (acknowledge_of at header) _
     (λ e. acknowledge_judged at b header (begins Acknowledge (code % 16, low_half code, half_is code 6 (eqb-true (code / 16) 0x6 e))))
-    (λ n6. judges_cond P (eqb code 0x80) (disconnect_of at header behind) _ (λ e. disconnect_judged at b header behind octets (begins Disconnect (eqb-true code 0x80 e)))
-    (λ n80. judges_cond P (eqb code 0xC0) (disconnected_of at header) _ (λ e. disconnected_judged at b header (begins Disconnected (eqb-true code 0xC0 e)))
-    (λ nC0. judges_cond P (eqb code 0xF0) (transfer_of at header behind) _ (λ e. transfer_judged at b header behind (begins Transfer (eqb-true code 0xF0 e)))
-    (λ nF0. judges_cond P (eqb code 0x70) (error_of at header) (Err (UnknownCode (at + 1))) (λ e. error_judged at b header octets (begins Report (eqb-true code 0x70 e)))
+    (λ n6. judges_cond P (eqb code 0x80) (disconnect_of at header behind) _
+        (λ e. disconnect_judged at b header behind octets (begins Disconnect (eqb-true code 0x80 e)))
+    (λ n80. judges_cond P (eqb code 0xC0) (disconnected_of at header) _
+        (λ e. disconnected_judged at b header (begins Disconnected (eqb-true code 0xC0 e)))
+    (λ nC0. judges_cond P (eqb code 0xF0) (transfer_of at header behind) _
+        (λ e. transfer_judged at b header behind (begins Transfer (eqb-true code 0xF0 e)))
+    (λ nF0. judges_cond P (eqb code 0x70) (error_of at header) (Err (UnknownCode (at + 1)))
+        (λ e. error_judged at b header octets (begins Report (eqb-true code 0x70 e)))
     (λ n70. code_first at b header behind there (λ kind. unnamed kind code nE nD n6 n80 nC0 nF0 n70))))))))
 
 -- ---- whole units
@@ -265,7 +311,8 @@ unit_judged at b octets =
     let there : HasHeader b x.0 x.1 = record { whole = found.0; at_least = found.1; at_most = found.2 } in
     let whole : IsOctets (length x.0 ∷ x.0 ++ x.1) = subst (λ (s : List ℕ). IsOctets s) found.0 octets in
     let inner = octets_left x.0 x.1 (IsOctets-rest (length x.0) (x.0 ++ x.1) whole) in
-    judges_map (HasFault at b) (value_of at x.0 x.1) (λ v. (v, cond (may_be_followed v) (1 + length x.0) (length b))) (value_judged at b x.0 x.1 inner there))
+    judges_map (HasFault at b) (value_of at x.0 x.1) (λ v. (v, cond (may_be_followed v) (1 + length x.0) (length b)))
+        (value_judged at b x.0 x.1 inner there))
 
 abbrev Read : Type 0
 Read = Result (Value × ℕ) TpduFault

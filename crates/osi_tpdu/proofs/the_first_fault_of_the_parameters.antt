@@ -1,8 +1,18 @@
 -- The fault that the reader of parameters returns is their first one.
-use Rattle.std.proofs.Common.{◌≡◌, ℕ, zero, suc, ◌+◌, ◌<◌, ◌≤◌, Bool, true, false, cond, eqb, ltb, leb, not, ◌&&◌, List, [], ◌∷◌, ◌++◌, length, get_or, Option, Some, None, Result, Ok, Err, refl, sym, ap, subst, ◌∙◌, append_assoc, arith, inl, inr, ◌⊎◌, add-zero}
-use Rattle.osi_tpdu.proofs.Vocabulary.{option_to_list, is_some, flat_map, false≢true, ltb-true, ltb-false, leb-true, le-leb, eqb-true, eqb-false, eq-eqb, and_parts, not-false, append-nil, length-append, IsOctets, TpduFault, BadParameterLength, BadParameterValue, DuplicateParameter, Parameters, AreParameters, Item, item_octets, values_of, single, ◌>>=◌, parameter_at, no_parameters, with_size, with_calling, with_called, with_additional, with_alternative, with_parameter, parameters_at, known_at, skipped_at, all_skipped_at, Kind, LooksAtParameters, Parameter, Size, Calling, Called, Additional, Alternative, code_of, MayBeLong, MayHold, HasNoItem, BeginsWith, HasBadLength, IsRepeated, HasBadValue, HasItemFault, HasParameterFault, place_of, StandsBefore, IsFirst}
+use Rattle.std.proofs.Common.{◌≡◌, ℕ, zero, suc, ◌+◌, ◌<◌, ◌≤◌, Bool, true, false, cond, eqb, ltb, leb, not, ◌&&◌, List, [], ◌∷◌, ◌++◌}
+use Rattle.std.proofs.Common.{length, get_or, Option, Some, None, Result, Ok, Err, refl, sym, ap, subst, ◌∙◌, append_assoc, arith, inl, inr}
+use Rattle.std.proofs.Common.{◌⊎◌, add-zero}
+use Rattle.osi_tpdu.proofs.Vocabulary.{option_to_list, is_some, flat_map, false≢true, ltb-true, ltb-false, leb-true, le-leb, eqb-true}
+use Rattle.osi_tpdu.proofs.Vocabulary.{eqb-false, eq-eqb, and_parts, not-false, append-nil, length-append, IsOctets, TpduFault}
+use Rattle.osi_tpdu.proofs.Vocabulary.{BadParameterLength, BadParameterValue, DuplicateParameter, Parameters, AreParameters, Item}
+use Rattle.osi_tpdu.proofs.Vocabulary.{item_octets, values_of, single, ◌>>=◌, parameter_at, no_parameters, with_size, with_calling}
+use Rattle.osi_tpdu.proofs.Vocabulary.{with_called, with_additional, with_alternative, with_parameter, parameters_at, known_at, skipped_at}
+use Rattle.osi_tpdu.proofs.Vocabulary.{all_skipped_at, Kind, LooksAtParameters, Parameter, Size, Calling, Called, Additional, Alternative}
+use Rattle.osi_tpdu.proofs.Vocabulary.{code_of, MayBeLong, MayHold, HasNoItem, BeginsWith, HasBadLength, IsRepeated, HasBadValue}
+use Rattle.osi_tpdu.proofs.Vocabulary.{HasItemFault, HasParameterFault, place_of, StandsBefore, IsFirst}
 use Rattle.osi_tpdu.proofs.the_steps_of_reading.{chosen, ok_is}
-use Rattle.osi_tpdu.proofs.parameters_are_read_as_they_mean.{Adds, other_code, Adds-then, Adds-none, with_found, parameter_found, parameter_again}
+use Rattle.osi_tpdu.proofs.parameters_are_read_as_they_mean.{Adds, other_code, Adds-then, Adds-none, with_found, parameter_found}
+use Rattle.osi_tpdu.proofs.parameters_are_read_as_they_mean.{parameter_again}
 
 -- ---- a result is the first fault, or there is none
 
@@ -10,11 +20,13 @@ abbrev pub Judges : {A : Type 0} → (TpduFault → Type 0) → Result A TpduFau
 Judges Has (Ok x) = (f : TpduFault) → Has f → ⊥
 Judges Has (Err f) = IsFirst Has f
 
-pub judges_same : {A : Type 0} (P Q : TpduFault → Type 0) (r : Result A TpduFault) → ((f : TpduFault) → P f → Q f) → ((f : TpduFault) → Q f → P f) → Judges P r → Judges Q r
+pub judges_same : {A : Type 0} (P Q : TpduFault → Type 0) (r : Result A TpduFault) → ((f : TpduFault) → P f → Q f) →
+    ((f : TpduFault) → Q f → P f) → Judges P r → Judges Q r
 judges_same P Q (Ok x) to back j = λ f q. j f (back f q)
 judges_same P Q (Err g) to back j = record { there = to g j.there; first = λ f q. j.first f (back f q) }
 
-pub judges_bind : {A B : Type 0} (P : TpduFault → Type 0) (r : Result A TpduFault) (k : A → Result B TpduFault) → ((f : TpduFault) → r ≡ Err f → IsFirst P f) → ((x : A) → r ≡ Ok x → Judges P (k x)) → Judges P (r >>= k)
+pub judges_bind : {A B : Type 0} (P : TpduFault → Type 0) (r : Result A TpduFault) (k : A → Result B TpduFault) →
+    ((f : TpduFault) → r ≡ Err f → IsFirst P f) → ((x : A) → r ≡ Ok x → Judges P (k x)) → Judges P (r >>= k)
 judges_bind P (Ok x) k bad good = good x refl
 judges_bind P (Err f) k bad good = bad f refl
 
@@ -22,7 +34,8 @@ pub judges_map : {A B : Type 0} (P : TpduFault → Type 0) (r : Result A TpduFau
 judges_map P (Ok x) g j = j
 judges_map P (Err f) g j = j
 
-pub judges_cond : {A : Type 0} (P : TpduFault → Type 0) (b : Bool) (x y : Result A TpduFault) → (b ≡ true → Judges P x) → (b ≡ false → Judges P y) → Judges P (cond b x y)
+pub judges_cond : {A : Type 0} (P : TpduFault → Type 0) (b : Bool) (x y : Result A TpduFault) → (b ≡ true → Judges P x) →
+    (b ≡ false → Judges P y) → Judges P (cond b x y)
 judges_cond P true x y t f = t refl
 judges_cond P false x y t f = f refl
 
@@ -49,12 +62,15 @@ pub record SameItem (i j : Item) (x y : List ℕ) : Type 0 where
 
 pub same_item : (i j : Item) (x y : List ℕ) → item_octets i ++ x ≡ item_octets j ++ y → SameItem i j x y
 same_item i j x y e =
-    let same = ok_is (i.code, i.value, x) (j.code, j.value, y) (sym (parameter_again 0 i x) ∙ ap (parameter_at 0) e ∙ parameter_again 0 j y) in
+    let same = ok_is (i.code, i.value, x) (j.code, j.value, y) (sym (parameter_again 0 i x) ∙ ap (parameter_at 0) e ∙ parameter_again 0 j y)
+        in
     record { code = ap (λ (t : Taken). t.0) same; value = ap (λ (t : Taken). t.1) same; behind = ap (λ (t : Taken). t.2) same }
 
 abbrev named : ℕ → Option Parameter
 named code =
-    cond (eqb code 0xC0) (Some Size) (cond (eqb code 0xC1) (Some Calling) (cond (eqb code 0xC2) (Some Called) (cond (eqb code 0xC6) (Some Additional) (cond (eqb code 0xC7) (Some Alternative) None))))
+    cond (eqb code 0xC0) (Some Size)
+        (cond (eqb code 0xC1) (Some Calling)
+        (cond (eqb code 0xC2) (Some Called) (cond (eqb code 0xC6) (Some Additional) (cond (eqb code 0xC7) (Some Alternative) None))))
 
 named_again : (k : Parameter) → named (code_of k) ≡ Some k
 named_again Size = refl
@@ -67,39 +83,47 @@ same_parameter : (k j : Parameter) → code_of k ≡ code_of j → k ≡ j
 same_parameter k j e = some_is k j (sym (named_again k) ∙ ap named e ∙ named_again j)
 
 -- a statement about the parameter at the front, for two names of the same parameter
-same_front : (P : Parameter → List ℕ → Type 0) (kind : Kind) (k j : Parameter) (v w s : List ℕ) → BeginsWith kind k v s → BeginsWith kind j w s → P k v → P j w
+same_front : (P : Parameter → List ℕ → Type 0) (kind : Kind) (k j : Parameter) (v w s : List ℕ) → BeginsWith kind k v s →
+    BeginsWith kind j w s → P k v → P j w
 same_front P kind k j v w s b c p =
     let same = same_item (item (code_of k) v) (item (code_of j) w) b.rest c.rest (sym b.whole ∙ c.whole) in
     subst (λ (x : List ℕ). P j x) same.value (subst (λ (q : Parameter). P q v) (same_parameter k j same.code) p)
 
 -- ---- the faults of one item
 
-pub item_place : (kind : Kind) (at : ℕ) (before : List Item) (s : List ℕ) (f : TpduFault) → HasItemFault kind at before s f → place_of f ≡ at
+pub item_place : (kind : Kind) (at : ℕ) (before : List Item) (s : List ℕ) (f : TpduFault) → HasItemFault kind at before s f →
+    place_of f ≡ at
 item_place kind at before s f h = grind arith
 
 -- a bad length comes before all other faults of an item
-length_first : (kind : Kind) (at : ℕ) (before : List Item) (s : List ℕ) (f : TpduFault) → HasItemFault kind at before s f → (f ≡ BadParameterLength at) ⊎ StandsBefore (BadParameterLength at) f
+length_first : (kind : Kind) (at : ℕ) (before : List Item) (s : List ℕ) (f : TpduFault) → HasItemFault kind at before s f →
+    (f ≡ BadParameterLength at) ⊎ StandsBefore (BadParameterLength at) f
 length_first kind at before s f h = grind arith
 
-no_length : (kind : Kind) (k : Parameter) (value s : List ℕ) → BeginsWith kind k value s → MayBeLong k (length value) → HasBadLength kind s → ⊥
+no_length : (kind : Kind) (k : Parameter) (value s : List ℕ) → BeginsWith kind k value s → MayBeLong k (length value) →
+    HasBadLength kind s → ⊥
 no_length kind k value s b long h =
     elim h [
       | inl none ↦ none (item (code_of k) value) b.rest b.whole
       | inr c ↦ c.3 (same_front (λ q v. MayBeLong q (length v)) kind k c.0 value c.1 s b c.2 long)
     ]
 
-not_twice : (kind : Kind) (before : List Item) (k : Parameter) (value s : List ℕ) → BeginsWith kind k value s → length (values_of (code_of k) before) ≡ 0 → IsRepeated kind before s → ⊥
+not_twice : (kind : Kind) (before : List Item) (k : Parameter) (value s : List ℕ) → BeginsWith kind k value s →
+    length (values_of (code_of k) before) ≡ 0 → IsRepeated kind before s → ⊥
 not_twice kind before k value s b once h =
-    let none : length (values_of (code_of h.0) before) ≡ 0 = same_front (λ q v. length (values_of (code_of q) before) ≡ 0) kind k h.0 value h.1 s b h.2 once in
+    let none : length (values_of (code_of h.0) before) ≡ 0 =
+        same_front (λ q v. length (values_of (code_of q) before) ≡ 0) kind k h.0 value h.1 s b h.2 once in
     omega (arith, none, h.3)
 
 not_bad : (kind : Kind) (k : Parameter) (value s : List ℕ) → BeginsWith kind k value s → MayHold k value → HasBadValue kind s → ⊥
 not_bad kind k value s b holds h = h.3 (same_front (λ q v. MayHold q v) kind k h.0 value h.1 s b h.2 holds)
 
-too_long : (kind : Kind) (at : ℕ) (before : List Item) (k : Parameter) (value s : List ℕ) → BeginsWith kind k value s → (MayBeLong k (length value) → ⊥) → IsFirst (HasItemFault kind at before s) (BadParameterLength at)
+too_long : (kind : Kind) (at : ℕ) (before : List Item) (k : Parameter) (value s : List ℕ) → BeginsWith kind k value s →
+    (MayBeLong k (length value) → ⊥) → IsFirst (HasItemFault kind at before s) (BadParameterLength at)
 too_long kind at before k value s b long = record { there = inl (refl, inr (k, value, b, long)); first = length_first kind at before s }
 
-twice : (kind : Kind) (at : ℕ) (before : List Item) (k : Parameter) (value s : List ℕ) → BeginsWith kind k value s → MayBeLong k (length value) → 1 ≤ length (values_of (code_of k) before)
+twice : (kind : Kind) (at : ℕ) (before : List Item) (k : Parameter) (value s : List ℕ) → BeginsWith kind k value s →
+    MayBeLong k (length value) → 1 ≤ length (values_of (code_of k) before)
     → IsFirst (HasItemFault kind at before s) (DuplicateParameter at)
 twice kind at before k value s b long again = record {
   there = inr (inl (refl, (k, value, b, again)));
@@ -112,7 +136,8 @@ twice kind at before k value s b long again = record {
   ];
 }
 
-bad_value : (kind : Kind) (at : ℕ) (before : List Item) (k : Parameter) (value s : List ℕ) → BeginsWith kind k value s → MayBeLong k (length value) → length (values_of (code_of k) before) ≡ 0
+bad_value : (kind : Kind) (at : ℕ) (before : List Item) (k : Parameter) (value s : List ℕ) → BeginsWith kind k value s →
+    MayBeLong k (length value) → length (values_of (code_of k) before) ≡ 0
     → (MayHold k value → ⊥) → IsFirst (HasItemFault kind at before s) (BadParameterValue at)
 bad_value kind at before k value s b long once bad = record {
   there = inr (inr (refl, (k, value, b, bad)));
@@ -125,7 +150,8 @@ bad_value kind at before k value s b long once bad = record {
   ];
 }
 
-fine : (kind : Kind) (at : ℕ) (before : List Item) (k : Parameter) (value s : List ℕ) → BeginsWith kind k value s → MayBeLong k (length value) → length (values_of (code_of k) before) ≡ 0
+fine : (kind : Kind) (at : ℕ) (before : List Item) (k : Parameter) (value s : List ℕ) → BeginsWith kind k value s →
+    MayBeLong k (length value) → length (values_of (code_of k) before) ≡ 0
     → MayHold k value → (f : TpduFault) → HasItemFault kind at before s f → ⊥
 fine kind at before k value s b long once holds f h =
     elim h [
@@ -162,49 +188,65 @@ out_of_range n e h = grind (arith, le-leb, false≢true)
 in_bounds : (n : ℕ) → leb 7 n && leb n 13 ≡ true → (7 ≤ n) × (n ≤ 13)
 in_bounds n e = grind (arith, and_parts, leb-true)
 
-size_judged : (kind : Kind) (at : ℕ) (before : List Item) (value s : List ℕ) (p : Parameters) → BeginsWith kind Size value s → Adds no_parameters before p → Judges (HasItemFault kind at before s) (with_size at value p)
+size_judged : (kind : Kind) (at : ℕ) (before : List Item) (value s : List ℕ) (p : Parameters) → BeginsWith kind Size value s →
+    Adds no_parameters before p → Judges (HasItemFault kind at before s) (with_size at value p)
 unfolding with_size
 size_judged kind at before value s p b adds =
     let P : TpduFault → Type 0 = HasItemFault kind at before s in
     let n = get_or value 0 0 in
-    judges_cond P (not (eqb (length value) 1)) (Err (BadParameterLength at)) _ (λ e. too_long kind at before Size value s b (not_one (length value) e))
-    (λ e. judges_cond P (is_some p.size) (Err (DuplicateParameter at)) _ (λ d. twice kind at before Size value s b (one_of (length value) e) (full (single p.size) (values_of 0xC0 before) (adds Size) (single_there p.size ∙ d)))
+    judges_cond P (not (eqb (length value) 1)) (Err (BadParameterLength at)) _
+        (λ e. too_long kind at before Size value s b (not_one (length value) e))
+    (λ e. judges_cond P (is_some p.size) (Err (DuplicateParameter at)) _
+        (λ d. twice kind at before Size value s b (one_of (length value) e)
+        (full (single p.size) (values_of 0xC0 before) (adds Size) (single_there p.size ∙ d)))
     (λ d. judges_cond P (leb 7 n && leb n 13) (Ok (record p { size = Some n })) (Err (BadParameterValue at))
-    (λ h. fine kind at before Size value s b (one_of (length value) e) (empty (single p.size) (values_of 0xC0 before) (adds Size) (single_there p.size ∙ d)) (in_bounds n h))
-    (λ h. bad_value kind at before Size value s b (one_of (length value) e) (empty (single p.size) (values_of 0xC0 before) (adds Size) (single_there p.size ∙ d)) (out_of_range n h))))
+    (λ h. fine kind at before Size value s b (one_of (length value) e)
+        (empty (single p.size) (values_of 0xC0 before) (adds Size) (single_there p.size ∙ d)) (in_bounds n h))
+    (λ h. bad_value kind at before Size value s b (one_of (length value) e)
+        (empty (single p.size) (values_of 0xC0 before) (adds Size) (single_there p.size ∙ d)) (out_of_range n h))))
 
 above_32 : (n : ℕ) → ltb 32 n ≡ true → n ≤ 32 → ⊥
 above_32 n e le = omega (arith, ltb-true)
 
-calling_judged : (kind : Kind) (at : ℕ) (before : List Item) (value s : List ℕ) (p : Parameters) → BeginsWith kind Calling value s → Adds no_parameters before p → Judges (HasItemFault kind at before s) (with_calling at value p)
+calling_judged : (kind : Kind) (at : ℕ) (before : List Item) (value s : List ℕ) (p : Parameters) → BeginsWith kind Calling value s →
+    Adds no_parameters before p → Judges (HasItemFault kind at before s) (with_calling at value p)
 unfolding with_calling
 calling_judged kind at before value s p b adds =
     let P : TpduFault → Type 0 = HasItemFault kind at before s in
-    judges_cond P (ltb 32 (length value)) (Err (BadParameterLength at)) _ (λ e. too_long kind at before Calling value s b (above_32 (length value) e))
+    judges_cond P (ltb 32 (length value)) (Err (BadParameterLength at)) _
+        (λ e. too_long kind at before Calling value s b (above_32 (length value) e))
     (λ e. judges_cond P (is_some p.calling) (Err (DuplicateParameter at)) (Ok (record p { calling = Some value }))
     (λ d. twice kind at before Calling value s b (ltb-false 32 (length value) e) (full p.calling (values_of 0xC1 before) (adds Calling) d))
-    (λ d. fine kind at before Calling value s b (ltb-false 32 (length value) e) (empty p.calling (values_of 0xC1 before) (adds Calling) d) tt))
+    (λ d. fine kind at before Calling value s b (ltb-false 32 (length value) e) (empty p.calling (values_of 0xC1 before) (adds Calling) d)
+        tt))
 
-called_judged : (kind : Kind) (at : ℕ) (before : List Item) (value s : List ℕ) (p : Parameters) → BeginsWith kind Called value s → Adds no_parameters before p → Judges (HasItemFault kind at before s) (with_called at value p)
+called_judged : (kind : Kind) (at : ℕ) (before : List Item) (value s : List ℕ) (p : Parameters) → BeginsWith kind Called value s →
+    Adds no_parameters before p → Judges (HasItemFault kind at before s) (with_called at value p)
 unfolding with_called
 called_judged kind at before value s p b adds =
     let P : TpduFault → Type 0 = HasItemFault kind at before s in
-    judges_cond P (ltb 32 (length value)) (Err (BadParameterLength at)) _ (λ e. too_long kind at before Called value s b (above_32 (length value) e))
+    judges_cond P (ltb 32 (length value)) (Err (BadParameterLength at)) _
+        (λ e. too_long kind at before Called value s b (above_32 (length value) e))
     (λ e. judges_cond P (is_some p.called) (Err (DuplicateParameter at)) (Ok (record p { called = Some value }))
     (λ d. twice kind at before Called value s b (ltb-false 32 (length value) e) (full p.called (values_of 0xC2 before) (adds Called) d))
     (λ d. fine kind at before Called value s b (ltb-false 32 (length value) e) (empty p.called (values_of 0xC2 before) (adds Called) d) tt))
 
-additional_judged : (kind : Kind) (at : ℕ) (before : List Item) (value s : List ℕ) (p : Parameters) → BeginsWith kind Additional value s → Adds no_parameters before p
+additional_judged : (kind : Kind) (at : ℕ) (before : List Item) (value s : List ℕ) (p : Parameters) → BeginsWith kind Additional value s →
+    Adds no_parameters before p
     → Judges (HasItemFault kind at before s) (with_additional at value p)
 unfolding with_additional
 additional_judged kind at before value s p b adds =
     let P : TpduFault → Type 0 = HasItemFault kind at before s in
-    judges_cond P (not (eqb (length value) 1)) (Err (BadParameterLength at)) _ (λ e. too_long kind at before Additional value s b (not_one (length value) e))
+    judges_cond P (not (eqb (length value) 1)) (Err (BadParameterLength at)) _
+        (λ e. too_long kind at before Additional value s b (not_one (length value) e))
     (λ e. judges_cond P (is_some p.additional) (Err (DuplicateParameter at)) (Ok (record p { additional = Some (get_or value 0 0) }))
-    (λ d. twice kind at before Additional value s b (one_of (length value) e) (full (single p.additional) (values_of 0xC6 before) (adds Additional) (single_there p.additional ∙ d)))
-    (λ d. fine kind at before Additional value s b (one_of (length value) e) (empty (single p.additional) (values_of 0xC6 before) (adds Additional) (single_there p.additional ∙ d)) tt))
+    (λ d. twice kind at before Additional value s b (one_of (length value) e)
+        (full (single p.additional) (values_of 0xC6 before) (adds Additional) (single_there p.additional ∙ d)))
+    (λ d. fine kind at before Additional value s b (one_of (length value) e)
+        (empty (single p.additional) (values_of 0xC6 before) (adds Additional) (single_there p.additional ∙ d)) tt))
 
-alternative_judged : (kind : Kind) (at : ℕ) (before : List Item) (value s : List ℕ) (p : Parameters) → BeginsWith kind Alternative value s → Adds no_parameters before p
+alternative_judged : (kind : Kind) (at : ℕ) (before : List Item) (value s : List ℕ) (p : Parameters) → BeginsWith kind Alternative value s →
+    Adds no_parameters before p
     → Judges (HasItemFault kind at before s) (with_alternative at value p)
 unfolding with_alternative
 alternative_judged kind at before value s p b adds =
@@ -214,7 +256,8 @@ alternative_judged kind at before value s p b adds =
     (λ d. fine kind at before Alternative value s b tt (empty p.alternative (values_of 0xC7 before) (adds Alternative) d) tt)
 
 -- an item that is not looked at has no fault
-ignored : (kind : Kind) (at code : ℕ) (before : List Item) (value rest s : List ℕ) → s ≡ item_octets (item code value) ++ rest → ((k : Parameter) (v : List ℕ) → BeginsWith kind k v s → ⊥)
+ignored : (kind : Kind) (at code : ℕ) (before : List Item) (value rest s : List ℕ) → s ≡ item_octets (item code value) ++ rest →
+    ((k : Parameter) (v : List ℕ) → BeginsWith kind k v s → ⊥)
     → (f : TpduFault) → HasItemFault kind at before s f → ⊥
 ignored kind at code before value rest s whole none f h =
     elim h [
@@ -228,18 +271,28 @@ ignored kind at code before value rest s whole none f h =
       ]
     ]
 
-with_judged : (kind : Kind) (at code : ℕ) (before : List Item) (value rest s : List ℕ) (p : Parameters) → LooksAtParameters kind → s ≡ item_octets (item code value) ++ rest → Adds no_parameters before p
+with_judged : (kind : Kind) (at code : ℕ) (before : List Item) (value rest s : List ℕ) (p : Parameters) → LooksAtParameters kind →
+    s ≡ item_octets (item code value) ++ rest → Adds no_parameters before p
     → Judges (HasItemFault kind at before s) (with_parameter at code value p)
 unfolding with_parameter
 with_judged kind at code before value rest s p looks whole adds =
     let P : TpduFault → Type 0 = HasItemFault kind at before s in
-    let begins = λ (k : Parameter) (e : code ≡ code_of k). (let b : BeginsWith kind k value s = record { looks = looks; rest = rest; whole = whole ∙ ap (λ (c : ℕ). item_octets (item c value) ++ rest) e } in b) in
-    judges_cond P (eqb code 0xC0) (with_size at value p) _ (λ e. size_judged kind at before value s p (begins Size (eqb-true code 0xC0 e)) adds)
-    (λ n0. judges_cond P (eqb code 0xC1) (with_calling at value p) _ (λ e. calling_judged kind at before value s p (begins Calling (eqb-true code 0xC1 e)) adds)
-    (λ n1. judges_cond P (eqb code 0xC2) (with_called at value p) _ (λ e. called_judged kind at before value s p (begins Called (eqb-true code 0xC2 e)) adds)
-    (λ n2. judges_cond P (eqb code 0xC6) (with_additional at value p) _ (λ e. additional_judged kind at before value s p (begins Additional (eqb-true code 0xC6 e)) adds)
-    (λ n6. judges_cond P (eqb code 0xC7) (with_alternative at value p) (Ok p) (λ e. alternative_judged kind at before value s p (begins Alternative (eqb-true code 0xC7 e)) adds)
-    (λ n7. ignored kind at code before value rest s whole (λ k v b. eqb-false code (code_of k) (other_code code n0 n1 n2 n6 n7 k) (same_item (item code value) (item (code_of k) v) rest b.rest (sym whole ∙ b.whole)).code))))))
+    let begins = λ (k : Parameter) (e : code ≡ code_of k).
+        (let b : BeginsWith kind k value
+        s = record { looks = looks; rest = rest; whole = whole ∙ ap (λ (c : ℕ). item_octets (item c value) ++ rest) e } in b) in
+    judges_cond P (eqb code 0xC0) (with_size at value p) _
+        (λ e. size_judged kind at before value s p (begins Size (eqb-true code 0xC0 e)) adds)
+    (λ n0. judges_cond P (eqb code 0xC1) (with_calling at value p) _
+        (λ e. calling_judged kind at before value s p (begins Calling (eqb-true code 0xC1 e)) adds)
+    (λ n1. judges_cond P (eqb code 0xC2) (with_called at value p) _
+        (λ e. called_judged kind at before value s p (begins Called (eqb-true code 0xC2 e)) adds)
+    (λ n2. judges_cond P (eqb code 0xC6) (with_additional at value p) _
+        (λ e. additional_judged kind at before value s p (begins Additional (eqb-true code 0xC6 e)) adds)
+    (λ n6. judges_cond P (eqb code 0xC7) (with_alternative at value p) (Ok p)
+        (λ e. alternative_judged kind at before value s p (begins Alternative (eqb-true code 0xC7 e)) adds)
+    (λ n7. ignored kind at code before value rest s whole
+        (λ k v b. eqb-false code (code_of k) (other_code code n0 n1 n2 n6 n7 k)
+        (same_item (item code value) (item (code_of k) v) rest b.rest (sym whole ∙ b.whole)).code))))))
 
 -- ---- items after others
 
@@ -251,30 +304,40 @@ pub record HasLater (kind : Kind) (at : ℕ) (before : List Item) (octets : List
   pub some : 1 ≤ length rest
   pub bad : HasItemFault kind (at + length (flat_map item_octets items)) (before ++ items) rest fault
 
-moved : (kind : Kind) (at to : ℕ) (before others : List Item) (s : List ℕ) (f : TpduFault) → at ≡ to → before ≡ others → HasItemFault kind at before s f → HasItemFault kind to others s f
-moved kind at to before others s f e same h = subst (λ (is : List Item). HasItemFault kind to is s f) same (subst (λ (n : ℕ). HasItemFault kind n before s f) e h)
+moved : (kind : Kind) (at to : ℕ) (before others : List Item) (s : List ℕ) (f : TpduFault) → at ≡ to → before ≡ others →
+    HasItemFault kind at before s f → HasItemFault kind to others s f
+moved kind at to before others s f e same h =
+    subst (λ (is : List Item). HasItemFault kind to is s f) same (subst (λ (n : ℕ). HasItemFault kind n before s f) e h)
 
-here : (kind : Kind) (at : ℕ) (before : List Item) (s : List ℕ) (f : TpduFault) → 1 ≤ length s → HasItemFault kind at before s f → HasLater kind at before s f
+here : (kind : Kind) (at : ℕ) (before : List Item) (s : List ℕ) (f : TpduFault) → 1 ≤ length s → HasItemFault kind at before s f →
+    HasLater kind at before s f
 here kind at before s f there h = grind (arith, moved, add-zero, append-nil)
 
-later : (kind : Kind) (at : ℕ) (before : List Item) (i : Item) (s t : List ℕ) (f : TpduFault) → s ≡ item_octets i ++ t → HasLater kind (at + (2 + length i.value)) (before ++ i ∷ []) t f → HasLater kind at before s f
+later : (kind : Kind) (at : ℕ) (before : List Item) (i : Item) (s t : List ℕ) (f : TpduFault) → s ≡ item_octets i ++ t →
+    HasLater kind (at + (2 + length i.value)) (before ++ i ∷ []) t f → HasLater kind at before s f
 later kind at before i s t f e h = record {
   items = i ∷ h.items;
   rest = h.rest;
   whole = e ∙ ap (λ (o : List ℕ). item_octets i ++ o) h.whole ∙ sym (append_assoc (item_octets i) (flat_map item_octets h.items) h.rest);
   some = h.some;
-  bad = moved kind (at + (2 + length i.value) + length (flat_map item_octets h.items)) (at + length (flat_map item_octets (i ∷ h.items))) ((before ++ i ∷ []) ++ h.items) (before ++ i ∷ h.items) h.rest f
+  bad = moved kind (at + (2 + length i.value) + length (flat_map item_octets h.items)) (at + length (flat_map item_octets (i ∷ h.items)))
+      ((before ++ i ∷ []) ++ h.items) (before ++ i ∷ h.items) h.rest f
       (omega (arith, length-append i.value (flat_map item_octets h.items))) (append_assoc before (i ∷ []) h.items) h.bad;
 }
 
-here_or_later : (kind : Kind) (at : ℕ) (before : List Item) (i : Item) (s t : List ℕ) (f : TpduFault) (items : List Item) (rest : List ℕ) → s ≡ item_octets i ++ t → s ≡ flat_map item_octets items ++ rest → 1 ≤ length rest
-    → HasItemFault kind (at + length (flat_map item_octets items)) (before ++ items) rest f → HasItemFault kind at before s f ⊎ HasLater kind (at + (2 + length i.value)) (before ++ i ∷ []) t f
+here_or_later : (kind : Kind) (at : ℕ) (before : List Item) (i : Item) (s t : List ℕ) (f : TpduFault) (items : List Item) (rest : List ℕ) →
+    s ≡ item_octets i ++ t → s ≡ flat_map item_octets items ++ rest → 1 ≤ length rest
+    → HasItemFault kind (at + length (flat_map item_octets items)) (before ++ items) rest f →
+        HasItemFault kind at before s f ⊎ HasLater kind (at + (2 + length i.value)) (before ++ i ∷ []) t f
 here_or_later kind at before i s t f [] rest e whole some bad =
-    inl (subst (λ (o : List ℕ). HasItemFault kind at before o f) (sym whole) (moved kind (at + 0) at (before ++ []) before rest f (add-zero at) (append-nil before) bad))
+    inl (subst (λ (o : List ℕ). HasItemFault kind at before o f) (sym whole)
+        (moved kind (at + 0) at (before ++ []) before rest f (add-zero at) (append-nil before) bad))
 here_or_later kind at before i s t f (j ∷ items) rest e whole some bad =
-    let same = same_item i j t (flat_map item_octets items ++ rest) (sym e ∙ whole ∙ append_assoc (item_octets j) (flat_map item_octets items) rest) in
+    let same = same_item i j t (flat_map item_octets items ++ rest)
+        (sym e ∙ whole ∙ append_assoc (item_octets j) (flat_map item_octets items) rest) in
     let is : j ≡ i = λ k. record { code = sym same.code k; value = sym same.value k } in
-    let lists : before ++ j ∷ items ≡ (before ++ i ∷ []) ++ items = ap (λ (x : Item). before ++ x ∷ items) is ∙ sym (append_assoc before (i ∷ []) items) in
+    let lists : before ++ j ∷ items ≡ (before ++ i ∷ []) ++ items = ap (λ (x : Item). before ++ x ∷ items) is ∙
+        sym (append_assoc before (i ∷ []) items) in
     let offset : at + length (flat_map item_octets (j ∷ items)) ≡ at + (2 + length i.value) + length (flat_map item_octets items) =
     omega (arith, length-append j.value (flat_map item_octets items), ap length same.value) in
     inr (record {
@@ -282,14 +345,17 @@ here_or_later kind at before i s t f (j ∷ items) rest e whole some bad =
       rest = rest;
       whole = same.behind;
       some = some;
-      bad = moved kind (at + length (flat_map item_octets (j ∷ items))) (at + (2 + length i.value) + length (flat_map item_octets items)) (before ++ j ∷ items) ((before ++ i ∷ []) ++ items) rest f offset lists bad;
+      bad = moved kind (at + length (flat_map item_octets (j ∷ items))) (at + (2 + length i.value) + length (flat_map item_octets items))
+          (before ++ j ∷ items) ((before ++ i ∷ []) ++ items) rest f offset lists bad;
     })
 
 pub later_place : (kind : Kind) (at : ℕ) (before : List Item) (s : List ℕ) (f : TpduFault) → HasLater kind at before s f → at ≤ place_of f
-later_place kind at before s f h = omega (arith, item_place kind (at + length (flat_map item_octets h.items)) (before ++ h.items) h.rest f h.bad)
+later_place kind at before s f h =
+    omega (arith, item_place kind (at + length (flat_map item_octets h.items)) (before ++ h.items) h.rest f h.bad)
 
 -- if the item has a fault, it is the first
-item_first : (kind : Kind) (at : ℕ) (before : List Item) (i : Item) (s t : List ℕ) (f : TpduFault) → s ≡ item_octets i ++ t → IsFirst (HasItemFault kind at before s) f → IsFirst (HasLater kind at before s) f
+item_first : (kind : Kind) (at : ℕ) (before : List Item) (i : Item) (s t : List ℕ) (f : TpduFault) → s ≡ item_octets i ++ t →
+    IsFirst (HasItemFault kind at before s) f → IsFirst (HasLater kind at before s) f
 item_first kind at before i s t f e h = record {
   there = here kind at before s f (subst (λ (o : List ℕ). 1 ≤ length o) (sym e) (omega arith)) h.there;
   first = λ g l. elim (here_or_later kind at before i s t g l.items l.rest e l.whole l.some l.bad) [
@@ -302,10 +368,12 @@ item_first kind at before i s t f e h = record {
 }
 
 -- if it has none, the first comes after it
-item_passed : {A : Type 0} (kind : Kind) (at : ℕ) (before : List Item) (i : Item) (s t : List ℕ) (r : Result A TpduFault) → s ≡ item_octets i ++ t → ((f : TpduFault) → HasItemFault kind at before s f → ⊥)
+item_passed : {A : Type 0} (kind : Kind) (at : ℕ) (before : List Item) (i : Item) (s t : List ℕ) (r : Result A TpduFault) →
+    s ≡ item_octets i ++ t → ((f : TpduFault) → HasItemFault kind at before s f → ⊥)
     → Judges (HasLater kind (at + (2 + length i.value)) (before ++ i ∷ []) t) r → Judges (HasLater kind at before s) r
 item_passed kind at before i s t r e none =
-    judges_same (HasLater kind (at + (2 + length i.value)) (before ++ i ∷ []) t) (HasLater kind at before s) r (λ f h. later kind at before i s t f e h)
+    judges_same (HasLater kind (at + (2 + length i.value)) (before ++ i ∷ []) t) (HasLater kind at before s) r
+        (λ f h. later kind at before i s t f e h)
     (λ f h. elim (here_or_later kind at before i s t f h.items h.rest e h.whole h.some h.bad) [
       | inl now ↦ absurd (none f now)
       | inr after ↦ after
@@ -318,13 +386,18 @@ parameter_bad at s f e = grind (arith, chosen, get_or)
 parameter_none : (at : ℕ) (s : List ℕ) (f : TpduFault) → parameter_at at s ≡ Err f → HasNoItem s
 parameter_none at s f e i rest whole = grind (arith, parameter_again)
 
-cut_by : (kind : Kind) (at : ℕ) (before : List Item) (s : List ℕ) (f : TpduFault) (items : List Item) (rest : List ℕ) → HasNoItem s → s ≡ flat_map item_octets items ++ rest
-    → HasItemFault kind (at + length (flat_map item_octets items)) (before ++ items) rest f → (f ≡ BadParameterLength at) ⊎ StandsBefore (BadParameterLength at) f
-cut_by kind at before s f [] rest none whole bad = length_first kind at before rest f (moved kind (at + 0) at (before ++ []) before rest f (add-zero at) (append-nil before) bad)
-cut_by kind at before s f (j ∷ items) rest none whole bad = absurd (none j (flat_map item_octets items ++ rest) (whole ∙ append_assoc (item_octets j) (flat_map item_octets items) rest))
+cut_by : (kind : Kind) (at : ℕ) (before : List Item) (s : List ℕ) (f : TpduFault) (items : List Item) (rest : List ℕ) → HasNoItem s →
+    s ≡ flat_map item_octets items ++ rest
+    → HasItemFault kind (at + length (flat_map item_octets items)) (before ++ items) rest f →
+        (f ≡ BadParameterLength at) ⊎ StandsBefore (BadParameterLength at) f
+cut_by kind at before s f [] rest none whole bad =
+    length_first kind at before rest f (moved kind (at + 0) at (before ++ []) before rest f (add-zero at) (append-nil before) bad)
+cut_by kind at before s f (j ∷ items) rest none whole bad =
+    absurd (none j (flat_map item_octets items ++ rest) (whole ∙ append_assoc (item_octets j) (flat_map item_octets items) rest))
 
 -- no complete item is there
-cut_first : (kind : Kind) (at : ℕ) (before : List Item) (s : List ℕ) (f : TpduFault) → 1 ≤ length s → parameter_at at s ≡ Err f → IsFirst (HasLater kind at before s) f
+cut_first : (kind : Kind) (at : ℕ) (before : List Item) (s : List ℕ) (f : TpduFault) → 1 ≤ length s → parameter_at at s ≡ Err f →
+    IsFirst (HasLater kind at before s) f
 cut_first kind at before s f there e = grind (arith, parameter_none, here, cut_by, parameter_bad)
 
 nothing_later : (kind : Kind) (at : ℕ) (before : List Item) (f : TpduFault) → HasLater kind at before [] f → ⊥
@@ -332,7 +405,8 @@ nothing_later kind at before f h = omega (arith, ap length h.whole, length-appen
 
 -- ---- the loops
 
-known_judged : (n at : ℕ) (kind : Kind) (before : List Item) (s : List ℕ) (p : Parameters) → LooksAtParameters kind → length s ≤ n → IsOctets s → AreParameters p → Adds no_parameters before p
+known_judged : (n at : ℕ) (kind : Kind) (before : List Item) (s : List ℕ) (p : Parameters) → LooksAtParameters kind → length s ≤ n →
+    IsOctets s → AreParameters p → Adds no_parameters before p
     → Judges (HasLater kind at before s) (parameters_at n at p s)
 unfolding parameters_at
 known_judged n at kind before [] p looks enough octets fits adds = nothing_later kind at before
@@ -345,7 +419,8 @@ known_judged (suc n) at kind before (o ∷ s) p looks enough octets fits adds =
     let i = item x.0 x.1 in
     let judged = with_judged kind at x.0 before x.1 x.2 (o ∷ s) p looks one.0 adds in
     judges_bind P (with_parameter at x.0 x.1 p) _
-    (λ f bad. item_first kind at before i (o ∷ s) x.2 f one.0 (judges_err (HasItemFault kind at before (o ∷ s)) (with_parameter at x.0 x.1 p) f bad judged))
+    (λ f bad. item_first kind at before i (o ∷ s) x.2 f one.0
+        (judges_err (HasItemFault kind at before (o ∷ s)) (with_parameter at x.0 x.1 p) f bad judged))
     (λ more good.
     let added = with_found at x.0 x.1 p more fits one.1 good in
     let joined = Adds-then no_parameters p more before (i ∷ []) adds added.0 in
@@ -353,7 +428,8 @@ known_judged (suc n) at kind before (o ∷ s) p looks enough octets fits adds =
     (judges_ok (HasItemFault kind at before (o ∷ s)) (with_parameter at x.0 x.1 p) more good judged)
     (known_judged n (at + (2 + length x.1)) kind (before ++ i ∷ []) x.2 more looks (omega (arith, one.3)) one.2 added.1 joined)))
 
-skipped_judged : (n at : ℕ) (kind : Kind) (before : List Item) (s : List ℕ) → (LooksAtParameters kind → ⊥) → length s ≤ n → IsOctets s → Judges (HasLater kind at before s) (skipped_at n at s)
+skipped_judged : (n at : ℕ) (kind : Kind) (before : List Item) (s : List ℕ) → (LooksAtParameters kind → ⊥) → length s ≤ n → IsOctets s →
+    Judges (HasLater kind at before s) (skipped_at n at s)
 unfolding skipped_at
 skipped_judged n at kind before [] blind enough octets = nothing_later kind at before
 skipped_judged zero at kind before (o ∷ s) blind enough octets = absurd (omega arith)
@@ -369,16 +445,21 @@ skipped_judged (suc n) at kind before (o ∷ s) blind enough octets =
 
 -- ---- the parameters of a unit
 
-from_start : {A : Type 0} (kind : Kind) (at : ℕ) (s : List ℕ) (r : Result A TpduFault) → Judges (HasLater kind at [] s) r → Judges (HasParameterFault kind at s) r
+from_start : {A : Type 0} (kind : Kind) (at : ℕ) (s : List ℕ) (r : Result A TpduFault) → Judges (HasLater kind at [] s) r →
+    Judges (HasParameterFault kind at s) r
 from_start kind at s r = grind (arith, judges_same)
 
-pub parameters_judged : (kind : Kind) (at : ℕ) (s : List ℕ) → LooksAtParameters kind → IsOctets s → Judges (HasParameterFault kind at s) (known_at at s)
+pub parameters_judged : (kind : Kind) (at : ℕ) (s : List ℕ) → LooksAtParameters kind → IsOctets s →
+    Judges (HasParameterFault kind at s) (known_at at s)
 parameters_judged kind at s looks octets =
     let none : AreParameters no_parameters = record { size = tt; calling = tt; called = tt; additional = tt; alternative = tt } in
-    from_start kind at s (known_at at s) (known_judged (length s) at kind [] s no_parameters looks (omega arith) octets none (Adds-none no_parameters))
+    from_start kind at s (known_at at s)
+        (known_judged (length s) at kind [] s no_parameters looks (omega arith) octets none (Adds-none no_parameters))
 
-pub skips_judged : (kind : Kind) (at : ℕ) (s : List ℕ) → (LooksAtParameters kind → ⊥) → IsOctets s → Judges (HasParameterFault kind at s) (all_skipped_at at s)
-skips_judged kind at s blind octets = from_start kind at s (all_skipped_at at s) (skipped_judged (length s) at kind [] s blind (omega arith) octets)
+pub skips_judged : (kind : Kind) (at : ℕ) (s : List ℕ) → (LooksAtParameters kind → ⊥) → IsOctets s →
+    Judges (HasParameterFault kind at s) (all_skipped_at at s)
+skips_judged kind at s blind octets =
+    from_start kind at s (all_skipped_at at s) (skipped_judged (length s) at kind [] s blind (omega arith) octets)
 
 pub parameter_place : (kind : Kind) (at : ℕ) (s : List ℕ) (f : TpduFault) → HasParameterFault kind at s f → at ≤ place_of f
 parameter_place kind at s f h = omega (arith, item_place kind (at + length (flat_map item_octets h.items)) h.items h.rest f h.bad)

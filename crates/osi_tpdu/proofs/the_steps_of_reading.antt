@@ -1,13 +1,16 @@
 -- Steps of reading that did not fail, and lists of octets.
-use Rattle.std.proofs.Common.{◌≡◌, ℕ, zero, suc, ◌+◌, ◌<◌, Bool, true, false, cond, List, [], ◌∷◌, ◌++◌, length, get_or, take, drop, Result, Ok, Err, refl, arith, inl, inr, ◌⊎◌}
+use Rattle.std.proofs.Common.{◌≡◌, ℕ, zero, suc, ◌+◌, ◌<◌, Bool, true, false, cond, List, [], ◌∷◌, ◌++◌, length, get_or, take, drop, Result}
+use Rattle.std.proofs.Common.{Ok, Err, refl, arith, inl, inr, ◌⊎◌}
 use Rattle.osi_tpdu.proofs.Vocabulary.{cases_lt, get_or-drop, get_or-take, get_or_past, length-take, IsOctets, TpduFault, ◌>>=◌}
 
-pub bind_ok : {A B : Type 0} (r : Result A TpduFault) (f : A → Result B TpduFault) (y : B) → (r >>= f) ≡ Ok y → (x : A) × (r ≡ Ok x) × (f x ≡ Ok y)
+pub bind_ok : {A B : Type 0} (r : Result A TpduFault) (f : A → Result B TpduFault) (y : B) → (r >>= f) ≡ Ok y →
+    (x : A) × (r ≡ Ok x) × (f x ≡ Ok y)
 bind_ok (Ok x) f y e = (x, refl, e)
 bind_ok (Err d) f y e = absurd cc
 
 -- a test that did not fail
-pub unless_ok : {A : Type 0} (b : Bool) (d : TpduFault) (r : Result A TpduFault) (y : A) → cond b (Err d) r ≡ Ok y → (b ≡ false) × (r ≡ Ok y)
+pub unless_ok : {A : Type 0} (b : Bool) (d : TpduFault) (r : Result A TpduFault) (y : A) → cond b (Err d) r ≡ Ok y →
+    (b ≡ false) × (r ≡ Ok y)
 unless_ok true d r y e = absurd cc
 unless_ok false d r y e = (refl, e)
 

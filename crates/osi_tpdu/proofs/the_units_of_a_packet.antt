@@ -1,7 +1,12 @@
 -- The units of a packet: reading is sound and complete, and what is left after the first unit.
-use Rattle.std.proofs.Common.{◌≡◌, ℕ, zero, suc, ◌+◌, ◌<◌, ◌≤◌, Bool, true, false, cond, eqb, List, [], ◌∷◌, ◌++◌, length, take, drop, Result, Ok, Err, refl, sym, ap, subst, ◌∙◌, append_assoc, arith, inl, inr, add-zero, zero-add}
+use Rattle.std.proofs.Common.{◌≡◌, ℕ, zero, suc, ◌+◌, ◌<◌, ◌≤◌, Bool, true, false, cond, eqb, List, [], ◌∷◌, ◌++◌, length, take, drop}
+use Rattle.std.proofs.Common.{Result, Ok, Err, refl, sym, ap, subst, ◌∙◌, append_assoc, arith, inl, inr, add-zero, zero-add}
 use Rattle.std.specs.Result.{result_unwrap_or}
-use Rattle.osi_tpdu.proofs.Vocabulary.{is_ok, IsTrue, IsOk, OnFalse, AllByRecursion, false≢true, eqb-true, eqb-false, eq-eqb, ne_eqb, cases_Bool, append-nil, take_all, drop_all, drop_at, length-append, take-append-drop, length-drop, length-take-le, IsOctets, octets_right, octets_drop, TpduFault, Value, may_be_followed, Spells, ◌>>=◌, header_at, value_of, unit_at, AreUnits, AreLeads, IsFirstFault, Follows, units_at, units_of, Fits, can_be_read, rest_at}
+use Rattle.osi_tpdu.proofs.Vocabulary.{is_ok, IsTrue, IsOk, OnFalse, AllByRecursion, false≢true, eqb-true, eqb-false, eq-eqb, ne_eqb}
+use Rattle.osi_tpdu.proofs.Vocabulary.{cases_Bool, append-nil, take_all, drop_all, drop_at, length-append, take-append-drop, length-drop}
+use Rattle.osi_tpdu.proofs.Vocabulary.{length-take-le, IsOctets, octets_right, octets_drop, TpduFault, Value, may_be_followed, Spells}
+use Rattle.osi_tpdu.proofs.Vocabulary.{◌>>=◌, header_at, value_of, unit_at, AreUnits, AreLeads, IsFirstFault, Follows, units_at, units_of}
+use Rattle.osi_tpdu.proofs.Vocabulary.{Fits, can_be_read, rest_at}
 use Rattle.osi_tpdu.proofs.the_written_form_spells_its_value.{spelled_fits}
 use Rattle.osi_tpdu.proofs.the_steps_of_reading.{bind_ok, chosen, ok_is}
 use Rattle.osi_tpdu.proofs.one_unit_is_read.{unit_takes, unit_found, unit_spelled, stands_alone}
@@ -24,13 +29,15 @@ with_first v others = others >>= λ vs. Ok (v ∷ vs)
 
 -- ---- sound: what is read is spelled by the octets
 
-lead_by_rest : (v : Value) (rest : List ℕ) (may : Bool) → may_be_followed v ≡ may → 1 ≤ length rest → Follows v rest → IsTrue (may_be_followed v)
+lead_by_rest : (v : Value) (rest : List ℕ) (may : Bool) → may_be_followed v ≡ may → 1 ≤ length rest → Follows v rest →
+    IsTrue (may_be_followed v)
 lead_by_rest v rest true may some f = may
 lead_by_rest v rest false may some f =
     let none : rest ≡ [] = let g : OnFalse false (rest ≡ []) = rw may at f in g in
     absurd (omega (arith, ap length none))
 
-cons_units : (v : Value) (vs : List Value) (x y : List ℕ) (b : List ℕ) → b ≡ x ++ y → IsTrue (may_be_followed v) → Spells v x → AreUnits vs y → AreUnits (v ∷ vs) b
+cons_units : (v : Value) (vs : List Value) (x y : List ℕ) (b : List ℕ) → b ≡ x ++ y → IsTrue (may_be_followed v) → Spells v x →
+    AreUnits vs y → AreUnits (v ∷ vs) b
 cons_units v [] x y b e lead s us = absurd us
 cons_units v (w ∷ vs) x y b e lead s us = (lead, x, y, e, s, us)
 
@@ -68,7 +75,8 @@ spelling_least v x s = subst (λ (y : List ℕ). 1 ≤ length y) (sym s.whole) (
 units_least : (vs : List Value) (b : List ℕ) → AreUnits vs b → 1 ≤ length b
 units_least [] b us = absurd us
 units_least (v ∷ []) b us = spelling_least v b us
-units_least (v ∷ w ∷ vs) b us = subst (λ (y : List ℕ). 1 ≤ length y) (sym us.3) (omega (arith, length-append us.1 us.2, spelling_least v us.1 us.4))
+units_least (v ∷ w ∷ vs) b us =
+    subst (λ (y : List ℕ). 1 ≤ length y) (sym us.3) (omega (arith, length-append us.1 us.2, spelling_least v us.1 us.4))
 
 follows_lead : (v : Value) (y : List ℕ) → IsTrue (may_be_followed v) → (may : Bool) → may_be_followed v ≡ may → Follows v y
 follows_lead v y lead true may = rw may tt
@@ -88,7 +96,8 @@ units_at_only (suc n) at (v ∷ w ∷ vs) b le us =
     let least = units_least (w ∷ vs) y us.5 in
     let least' = spelling_least v x us.4 in
     let len = length-append x y in
-    let read : unit_at at b ≡ Ok (v, length x) = ap (unit_at at) us.3 ∙ unit_spelled at v x y us.4 (follows_lead v y us.0 (may_be_followed v) refl) in
+    let read : unit_at at b ≡ Ok (v, length x) =
+        ap (unit_at at) us.3 ∙ unit_spelled at v x y us.4 (follows_lead v y us.0 (may_be_followed v) refl) in
     let more : eqb (length x) (length b) ≡ false = ne_eqb _ _ (λ e. omega (arith, ap length us.3)) in
     let behind : drop (length x) b ≡ y = ap (drop (length x)) us.3 ∙ drop_at x y (length x) refl in
     let others = units_at_only n (at + length x) (w ∷ vs) y (omega (arith, ap length us.3)) us.5 in
@@ -101,7 +110,8 @@ units_only b vs us = units_at_only (suc (length b)) 0 vs b (omega arith) us
 -- ---- fuel
 
 enough_by : (n m at : ℕ) (b : List ℕ) (first : Result (Value × ℕ) TpduFault) → unit_at at b ≡ first → length b < suc n → length b < suc m
-    → ((k : ℕ) → 1 ≤ k → k ≤ length b → units_at n (at + k) (drop k b) ≡ units_at m (at + k) (drop k b)) → units_at (suc n) at b ≡ units_at (suc m) at b
+    → ((k : ℕ) → 1 ≤ k → k ≤ length b → units_at n (at + k) (drop k b) ≡ units_at m (at + k) (drop k b)) →
+        units_at (suc n) at b ≡ units_at (suc m) at b
 unfolding units_at
 enough_by n m at b (Err f) e ln lm same = rw e refl
 enough_by n m at b (Ok x) e ln lm same = grind (arith, unit_takes)
@@ -138,7 +148,8 @@ SameEnd-others : (v : Value) (others whole : Read) → SameEnd (with_first v oth
 SameEnd-others v (Ok vs) whole s = s
 SameEnd-others v (Err f) whole s = s
 
-Ends-more-with : (n at : ℕ) (rest : List ℕ) (whole : Read) (x : Value × ℕ) → length rest < n → SameEnd (units_at n at rest) whole → unit_at at rest ≡ Ok x → x.1 < length rest → 1 ≤ x.1
+Ends-more-with : (n at : ℕ) (rest : List ℕ) (whole : Read) (x : Value × ℕ) → length rest < n → SameEnd (units_at n at rest) whole →
+    unit_at at rest ≡ Ok x → x.1 < length rest → 1 ≤ x.1
     → Ends (at + x.1) (drop x.1 rest) whole
 unfolding units_at
 Ends-more-with zero at rest whole x enough same read more some = absurd (omega arith)
@@ -150,10 +161,12 @@ Ends-more-with (suc n) at rest whole x enough same read more some =
       same = SameEnd-others x.0 (units_at n (at + x.1) (drop x.1 rest)) whole (rw (read, not_all) at same);
     }
 
-pub Ends-more : (at : ℕ) (rest : List ℕ) (whole : Read) (x : Value × ℕ) → Ends at rest whole → unit_at at rest ≡ Ok x → x.1 < length rest → 1 ≤ x.1 → Ends (at + x.1) (drop x.1 rest) whole
+pub Ends-more : (at : ℕ) (rest : List ℕ) (whole : Read) (x : Value × ℕ) → Ends at rest whole → unit_at at rest ≡ Ok x → x.1 < length rest →
+    1 ≤ x.1 → Ends (at + x.1) (drop x.1 rest) whole
 Ends-more at rest whole x s read more some = Ends-more-with s.fuel at rest whole x s.enough s.same read more some
 
-Ends-bad-with : (n at : ℕ) (rest : List ℕ) (whole : Read) (f : TpduFault) → length rest < n → SameEnd (units_at n at rest) whole → unit_at at rest ≡ Err f → whole ≡ Err f
+Ends-bad-with : (n at : ℕ) (rest : List ℕ) (whole : Read) (f : TpduFault) → length rest < n → SameEnd (units_at n at rest) whole →
+    unit_at at rest ≡ Err f → whole ≡ Err f
 unfolding units_at
 Ends-bad-with zero at rest whole f enough same read = absurd (omega arith)
 Ends-bad-with (suc n) at rest whole f enough same read = rw read at same
@@ -161,12 +174,14 @@ Ends-bad-with (suc n) at rest whole f enough same read = rw read at same
 pub Ends-bad : (at : ℕ) (rest : List ℕ) (whole : Read) (f : TpduFault) → Ends at rest whole → unit_at at rest ≡ Err f → whole ≡ Err f
 Ends-bad at rest whole f s read = Ends-bad-with s.fuel at rest whole f s.enough s.same read
 
-Ends-last-with : (n at : ℕ) (rest : List ℕ) (whole : Read) (x : Value × ℕ) → length rest < n → SameEnd (units_at n at rest) whole → unit_at at rest ≡ Ok x → x.1 ≡ length rest → IsOk whole
+Ends-last-with : (n at : ℕ) (rest : List ℕ) (whole : Read) (x : Value × ℕ) → length rest < n → SameEnd (units_at n at rest) whole →
+    unit_at at rest ≡ Ok x → x.1 ≡ length rest → IsOk whole
 unfolding units_at
 Ends-last-with zero at rest whole x enough same read all = absurd (omega arith)
 Ends-last-with (suc n) at rest whole x enough same read all = rw (read, eq-eqb x.1 (length rest) all) at same
 
-pub Ends-last : (at : ℕ) (rest : List ℕ) (whole : Read) (x : Value × ℕ) → Ends at rest whole → unit_at at rest ≡ Ok x → x.1 ≡ length rest → IsOk whole
+pub Ends-last : (at : ℕ) (rest : List ℕ) (whole : Read) (x : Value × ℕ) → Ends at rest whole → unit_at at rest ≡ Ok x → x.1 ≡ length rest →
+    IsOk whole
 Ends-last at rest whole x s read all = Ends-last-with s.fuel at rest whole x s.enough s.same read all
 
 -- ---- the first of what is left
@@ -180,12 +195,14 @@ pub nothing_left : (at : ℕ) (rest : List ℕ) → rest ≡ [] → (can_be_read
 unfolding can_be_read rest_at
 nothing_left at rest e = (ap (can_be_read at) e, ap (rest_at at) e)
 
-some_left : (at : ℕ) (rest : List ℕ) → 1 ≤ length rest → (can_be_read at rest ≡ is_ok (units_at (suc (length rest)) at rest)) × (rest_at at rest ≡ result_unwrap_or (units_at (suc (length rest)) at rest) [])
+some_left : (at : ℕ) (rest : List ℕ) → 1 ≤ length rest → (can_be_read at rest ≡ is_ok (units_at (suc (length rest)) at rest)) ×
+    (rest_at at rest ≡ result_unwrap_or (units_at (suc (length rest)) at rest) [])
 unfolding can_be_read rest_at
 some_left at [] some = absurd (omega arith)
 some_left at (o ∷ rest) some = (refl, refl)
 
-others_left : (v : Value) (others : Read) → is_ok (with_first v others) ≡ true → (is_ok others ≡ true) × (result_unwrap_or (with_first v others) [] ≡ v ∷ result_unwrap_or others [])
+others_left : (v : Value) (others : Read) → is_ok (with_first v others) ≡ true →
+    (is_ok others ≡ true) × (result_unwrap_or (with_first v others) [] ≡ v ∷ result_unwrap_or others [])
 others_left v (Ok vs) e = (refl, refl)
 others_left v (Err f) e = absurd cc
 
@@ -195,7 +212,8 @@ is_ok_read r = is_ok r
 abbrev left_of : Read → List Value
 left_of r = result_unwrap_or r []
 
-pub first_left : (at : ℕ) (rest : List ℕ) (x : Value × ℕ) → 1 ≤ length rest → can_be_read at rest ≡ true → unit_at at rest ≡ Ok x → Gives-one at rest x
+pub first_left : (at : ℕ) (rest : List ℕ) (x : Value × ℕ) → 1 ≤ length rest → can_be_read at rest ≡ true → unit_at at rest ≡ Ok x →
+    Gives-one at rest x
 unfolding units_at
 first_left at rest x some can read =
     let here = some_left at rest some in
@@ -209,8 +227,10 @@ first_left at rest x some can read =
           let shorter = length-drop x.1 rest in
           let there = some_left (at + x.1) (drop x.1 rest) (omega arith) in
           let same = units_enough (suc (length (drop x.1 rest))) (length rest) (at + x.1) (drop x.1 rest) (omega arith) (omega arith) in
-          let whole : units_at (suc (length rest)) at rest ≡ with_first x.0 (units_at (suc (length (drop x.1 rest))) (at + x.1) (drop x.1 rest)) = rw (read, not_all, same) refl in
-          let others = others_left x.0 (units_at (suc (length (drop x.1 rest))) (at + x.1) (drop x.1 rest)) (ap is_ok_read (sym whole) ∙ sym here.0 ∙ can) in
+          let whole : units_at (suc (length rest)) at rest ≡ with_first x.0
+              (units_at (suc (length (drop x.1 rest))) (at + x.1) (drop x.1 rest)) = rw (read, not_all, same) refl in
+          let others = others_left x.0 (units_at (suc (length (drop x.1 rest))) (at + x.1) (drop x.1 rest))
+              (ap is_ok_read (sym whole) ∙ sym here.0 ∙ can) in
           record {
             readable = there.0 ∙ others.0;
             given = here.1 ∙ ap left_of whole ∙ others.1 ∙ ap (λ (vs : List Value). x.0 ∷ vs) (sym there.1);
@@ -222,7 +242,8 @@ pub none_bad : (at : ℕ) (rest : List ℕ) (f : TpduFault) → 1 ≤ length res
 unfolding units_at
 none_bad at rest f some can read = grind (arith, some_left, false≢true)
 
-packet_by : (b : List ℕ) (r : Read) → units_at (suc (length b)) 0 b ≡ r → 1 ≤ length b → IsOk r → (can_be_read 0 b ≡ true) × (r ≡ Ok (rest_at 0 b))
+packet_by : (b : List ℕ) (r : Read) → units_at (suc (length b)) 0 b ≡ r → 1 ≤ length b → IsOk r →
+    (can_be_read 0 b ≡ true) × (r ≡ Ok (rest_at 0 b))
 packet_by b (Ok vs) e some h =
     let here = some_left 0 b some in
     (here.0 ∙ ap is_ok_read e, ap (λ (us : List Value). ok us) (sym (ap left_of e) ∙ sym here.1))
@@ -248,7 +269,8 @@ one_reading b vs ws read us =
 
 -- ---- units after others
 
-units_behind : (leads : List Value) (front x : List ℕ) (v : Value) → AreLeads leads front → Spells v x → AreUnits (leads ++ v ∷ []) (front ++ x)
+units_behind : (leads : List Value) (front x : List ℕ) (v : Value) → AreLeads leads front → Spells v x →
+    AreUnits (leads ++ v ∷ []) (front ++ x)
 units_behind [] front x v none s = subst (λ (f : List ℕ). Spells v (f ++ x)) (sym none) s
 units_behind (w ∷ leads) front x v l s =
     let others = units_behind leads l.2 x v l.5 s in
@@ -256,7 +278,8 @@ units_behind (w ∷ leads) front x v l s =
     cons_units w (leads ++ v ∷ []) l.1 (l.2 ++ x) (front ++ x) whole l.0 l.4 others
 
 -- a spelling is read, whatever units come before it
-pub behind_read : (leads : List Value) (front x : List ℕ) (v : Value) → AreLeads leads front → Spells v x → units_of (front ++ x) ≡ Ok (leads ++ v ∷ [])
+pub behind_read : (leads : List Value) (front x : List ℕ) (v : Value) → AreLeads leads front → Spells v x →
+    units_of (front ++ x) ≡ Ok (leads ++ v ∷ [])
 behind_read leads front x v l s = units_only (front ++ x) (leads ++ v ∷ []) (units_behind leads front x v l s)
 
 -- a packet has one reading
@@ -271,7 +294,8 @@ units_fit (v ∷ []) b us = (spelled_fits v b us, tt)
 units_fit (v ∷ w ∷ vs) b us = (spelled_fits v us.1 us.4, units_fit (w ∷ vs) us.2 us.5)
 
 -- what was read by its header and its fields has a written form
-pub read_fits : (at : ℕ) (b : List ℕ) (x : List ℕ × List ℕ) (v : Value) → IsOctets b → header_at at b ≡ Ok x → value_of at x.0 x.1 ≡ Ok v → Fits v
+pub read_fits : (at : ℕ) (b : List ℕ) (x : List ℕ × List ℕ) (v : Value) → IsOctets b → header_at at b ≡ Ok x → value_of at x.0 x.1 ≡ Ok v →
+    Fits v
 unfolding unit_at
 read_fits at b x v octets header fields =
     let n = cond (may_be_followed v) (1 + length x.0) (length b) in
@@ -303,7 +327,8 @@ others_bad v (Err g) f e = cc
 stops_here : (at : ℕ) (b : List ℕ) (f : TpduFault) → unit_at at b ≡ Err f → Stops at b f
 stops_here at b f e = grind (arith, add-zero)
 
-stops_later : (at k : ℕ) (v : Value) (b : List ℕ) (f : TpduFault) → Spells v (take k b) → k < length b → IsTrue (may_be_followed v) → Stops (at + k) (drop k b) f → Stops at b f
+stops_later : (at k : ℕ) (v : Value) (b : List ℕ) (f : TpduFault) → Spells v (take k b) → k < length b → IsTrue (may_be_followed v) →
+    Stops (at + k) (drop k b) f → Stops at b f
 stops_later at k v b f s less lead stop =
     let len : length (take k b) ≡ k = length-take-le k b (omega arith) in
     let joined : take k b ++ drop k b ≡ take k b ++ (stop.front ++ stop.rest) = ap (λ (t : List ℕ). take k b ++ t) stop.whole in
@@ -319,7 +344,8 @@ stops_later at k v b f s less lead stop =
       bad = ap (λ (o : ℕ). unit_at o stop.rest) offset ∙ stop.bad;
     }
 
-stop_by : (n at : ℕ) (b : List ℕ) (f : TpduFault) (first : Result (Value × ℕ) TpduFault) → unit_at at b ≡ first → length b < suc n → IsOctets b → units_at (suc n) at b ≡ Err f
+stop_by : (n at : ℕ) (b : List ℕ) (f : TpduFault) (first : Result (Value × ℕ) TpduFault) → unit_at at b ≡ first → length b < suc n →
+    IsOctets b → units_at (suc n) at b ≡ Err f
     → ((at' : ℕ) (c : List ℕ) → length c < n → IsOctets c → units_at n at' c ≡ Err f → Stops at' c f) → Stops at b f
 unfolding units_at
 stop_by n at b f (Err g) e enough octets failed later =
@@ -337,12 +363,14 @@ stop_by n at b f (Ok x) e enough octets bad later =
           let left : 1 ≤ length (drop k b) = omega (arith, length-drop k b) in
           let lead = lead_by_rest v (drop k b) (may_be_followed v) refl left s.0.followed in
           let more : length (drop k b) < n = omega (arith, length-drop k b, s.1) in
-          stops_later at k v b f s.0.spelled (omega arith) lead (later (at + k) (drop k b) more (octets_drop k b octets) (others_bad v (units_at n (at + k) (drop k b)) f t.1))
+          stops_later at k v b f s.0.spelled (omega arith) lead
+              (later (at + k) (drop k b) more (octets_drop k b octets) (others_bad v (units_at n (at + k) (drop k b)) f t.1))
     ]
 
 units_at_stop : (n at : ℕ) (b : List ℕ) (f : TpduFault) → length b < n → IsOctets b → units_at n at b ≡ Err f → Stops at b f
 units_at_stop zero at b f enough octets bad = absurd (omega arith)
-units_at_stop (suc n) at b f enough octets bad = stop_by n at b f (unit_at at b) refl enough octets bad (λ at' c le o e. units_at_stop n at' c f le o e)
+units_at_stop (suc n) at b f enough octets bad =
+    stop_by n at b f (unit_at at b) refl enough octets bad (λ at' c le o e. units_at_stop n at' c f le o e)
 
 pub fault_found : (b : List ℕ) (f : TpduFault) → IsOctets b → units_of b ≡ Err f → IsFirstFault b f
 unfolding units_of
@@ -355,16 +383,19 @@ fault_found b f octets bad =
       whole = s.whole;
       are_leads = s.are_leads;
       some = s.some;
-      bad = unit_fault_found (length s.front) s.rest f (octets_right s.front s.rest (subst (λ (t : List ℕ). IsOctets t) s.whole octets)) (ap (λ (k : ℕ). unit_at k s.rest) (sym (zero-add (length s.front))) ∙ s.bad);
+      bad = unit_fault_found (length s.front) s.rest f (octets_right s.front s.rest (subst (λ (t : List ℕ). IsOctets t) s.whole octets))
+          (ap (λ (k : ℕ). unit_at k s.rest) (sym (zero-add (length s.front))) ∙ s.bad);
     }
 
-units_at_bad : (n at : ℕ) (leads : List Value) (front rest : List ℕ) (f : TpduFault) → length (front ++ rest) < n → AreLeads leads front → (1 ≤ length (front ++ rest) → 1 ≤ length rest)
+units_at_bad : (n at : ℕ) (leads : List Value) (front rest : List ℕ) (f : TpduFault) → length (front ++ rest) < n → AreLeads leads front →
+    (1 ≤ length (front ++ rest) → 1 ≤ length rest)
     → unit_at (at + length front) rest ≡ Err f → units_at n at (front ++ rest) ≡ Err f
 unfolding units_at
 units_at_bad zero at leads front rest f enough are some bad = absurd (omega arith)
 units_at_bad (suc n) at [] front rest f enough are some bad =
     let here : unit_at at (front ++ rest) ≡ Err f =
-    ap (λ (t : List ℕ). unit_at at (t ++ rest)) are ∙ ap (λ (k : ℕ). unit_at k rest) (sym (add-zero at) ∙ ap (λ (t : List ℕ). at + length t) (sym are)) ∙ bad in
+    ap (λ (t : List ℕ). unit_at at (t ++ rest)) are ∙
+        ap (λ (k : ℕ). unit_at k rest) (sym (add-zero at) ∙ ap (λ (t : List ℕ). at + length t) (sym are)) ∙ bad in
     rw here refl
 units_at_bad (suc n) at (v ∷ leads) front rest f enough are some bad =
     let x = are.1 in
@@ -375,7 +406,8 @@ units_at_bad (suc n) at (v ∷ leads) front rest f enough are some bad =
     let parts = length-append x (y ++ rest) in
     let parts' = length-append y rest in
     let left : 1 ≤ length rest = some (omega arith) in
-    let read : unit_at at (front ++ rest) ≡ Ok (v, length x) = ap (unit_at at) whole ∙ unit_spelled at v x (y ++ rest) are.4 (follows_lead v (y ++ rest) are.0 (may_be_followed v) refl) in
+    let read : unit_at at (front ++ rest) ≡ Ok (v, length x) =
+        ap (unit_at at) whole ∙ unit_spelled at v x (y ++ rest) are.4 (follows_lead v (y ++ rest) are.0 (may_be_followed v) refl) in
     let more : eqb (length x) (length (front ++ rest)) ≡ false = ne_eqb _ _ (λ e. omega arith) in
     let behind : drop (length x) (front ++ rest) ≡ y ++ rest = ap (drop (length x)) whole ∙ drop_at x (y ++ rest) (length x) refl in
     let offset : at + length x + length y ≡ at + length front = omega (arith, ap length are.3, length-append x y) in
@@ -387,7 +419,10 @@ pub fault_only : (b : List ℕ) (f : TpduFault) → IsOctets b → IsFirstFault 
 unfolding units_of
 fault_only b f octets first =
     let behind : IsOctets first.rest = octets_right first.front first.rest (subst (λ (t : List ℕ). IsOctets t) first.whole octets) in
-    let some : 1 ≤ length (first.front ++ first.rest) → 1 ≤ length first.rest = λ h. first.some (subst (λ (t : List ℕ). 1 ≤ length t) (sym first.whole) h) in
-    let bad : unit_at (0 + length first.front) first.rest ≡ Err f = ap (λ (k : ℕ). unit_at k first.rest) (zero-add (length first.front)) ∙ unit_fault_only (length first.front) first.rest f behind first.bad in
-    let there = units_at_bad (suc (length (first.front ++ first.rest))) 0 first.leads first.front first.rest f (omega arith) first.are_leads some bad in
+    let some : 1 ≤ length (first.front ++ first.rest) → 1 ≤ length first.rest =
+        λ h. first.some (subst (λ (t : List ℕ). 1 ≤ length t) (sym first.whole) h) in
+    let bad : unit_at (0 + length first.front) first.rest ≡ Err f = ap (λ (k : ℕ). unit_at k first.rest) (zero-add (length first.front)) ∙
+        unit_fault_only (length first.front) first.rest f behind first.bad in
+    let there = units_at_bad (suc (length (first.front ++ first.rest))) 0 first.leads first.front first.rest f (omega arith) first.are_leads
+        some bad in
     ap (λ (t : List ℕ). units_at (suc (length t)) 0 t) first.whole ∙ there

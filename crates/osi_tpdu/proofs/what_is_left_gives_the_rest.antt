@@ -11,45 +11,57 @@ pub record Reads (at : ℕ) (p : Parameters) (rest : List ℕ) (whole : Result P
 abbrev pub Item : Type 0
 Item = ℕ × List ℕ × List ℕ
 
-Reads-with : (n at : ℕ) (p : Parameters) (rest : List ℕ) (whole : Result Parameters TpduFault) (item : Item) (more : Parameters) → 1 ≤ length rest → length rest ≤ n → parameters_at n at p rest ≡ whole
-    → parameter_at at rest ≡ Ok item → with_parameter at item.0 item.1 p ≡ Ok more → length item.2 < length rest → Reads (at + (2 + length item.1)) more item.2 whole
+Reads-with : (n at : ℕ) (p : Parameters) (rest : List ℕ) (whole : Result Parameters TpduFault) (item : Item) (more : Parameters) →
+    1 ≤ length rest → length rest ≤ n → parameters_at n at p rest ≡ whole
+    → parameter_at at rest ≡ Ok item → with_parameter at item.0 item.1 p ≡ Ok more → length item.2 < length rest →
+        Reads (at + (2 + length item.1)) more item.2 whole
 unfolding parameters_at
 Reads-with n at p [] whole item more some enough same took added shorter = absurd (omega arith)
 Reads-with zero at p (o ∷ rest) whole item more some enough same took added shorter = absurd (omega arith)
 Reads-with (suc n) at p (o ∷ rest) whole item more some enough same took added shorter =
     record { fuel = n; enough = omega arith; same = rw (took, added) at same }
 
-pub Reads-more : (at : ℕ) (p : Parameters) (rest : List ℕ) (whole : Result Parameters TpduFault) (item : Item) (more : Parameters) → Reads at p rest whole → 1 ≤ length rest
-    → parameter_at at rest ≡ Ok item → with_parameter at item.0 item.1 p ≡ Ok more → length item.2 < length rest → Reads (at + (2 + length item.1)) more item.2 whole
-Reads-more at p rest whole item more r some took added shorter = Reads-with r.fuel at p rest whole item more some r.enough r.same took added shorter
+pub Reads-more : (at : ℕ) (p : Parameters) (rest : List ℕ) (whole : Result Parameters TpduFault) (item : Item) (more : Parameters) →
+    Reads at p rest whole → 1 ≤ length rest
+    → parameter_at at rest ≡ Ok item → with_parameter at item.0 item.1 p ≡ Ok more → length item.2 < length rest →
+        Reads (at + (2 + length item.1)) more item.2 whole
+Reads-more at p rest whole item more r some took added shorter =
+    Reads-with r.fuel at p rest whole item more some r.enough r.same took added shorter
 
-Reads-cut-with : (n at : ℕ) (p : Parameters) (rest : List ℕ) (whole : Result Parameters TpduFault) (f : TpduFault) → 1 ≤ length rest → length rest ≤ n → parameters_at n at p rest ≡ whole
+Reads-cut-with : (n at : ℕ) (p : Parameters) (rest : List ℕ) (whole : Result Parameters TpduFault) (f : TpduFault) → 1 ≤ length rest →
+    length rest ≤ n → parameters_at n at p rest ≡ whole
     → parameter_at at rest ≡ Err f → whole ≡ Err f
 unfolding parameters_at
 Reads-cut-with n at p [] whole f some enough same cut = absurd (omega arith)
 Reads-cut-with zero at p (o ∷ rest) whole f some enough same cut = absurd (omega arith)
 Reads-cut-with (suc n) at p (o ∷ rest) whole f some enough same cut = sym (rw cut at same)
 
-pub Reads-cut : (at : ℕ) (p : Parameters) (rest : List ℕ) (whole : Result Parameters TpduFault) (f : TpduFault) → Reads at p rest whole → 1 ≤ length rest → parameter_at at rest ≡ Err f → whole ≡ Err f
+pub Reads-cut : (at : ℕ) (p : Parameters) (rest : List ℕ) (whole : Result Parameters TpduFault) (f : TpduFault) → Reads at p rest whole →
+    1 ≤ length rest → parameter_at at rest ≡ Err f → whole ≡ Err f
 Reads-cut at p rest whole f r some cut = Reads-cut-with r.fuel at p rest whole f some r.enough r.same cut
 
-Reads-refused-with : (n at : ℕ) (p : Parameters) (rest : List ℕ) (whole : Result Parameters TpduFault) (item : Item) (f : TpduFault) → 1 ≤ length rest → length rest ≤ n → parameters_at n at p rest ≡ whole
+Reads-refused-with : (n at : ℕ) (p : Parameters) (rest : List ℕ) (whole : Result Parameters TpduFault) (item : Item) (f : TpduFault) →
+    1 ≤ length rest → length rest ≤ n → parameters_at n at p rest ≡ whole
     → parameter_at at rest ≡ Ok item → with_parameter at item.0 item.1 p ≡ Err f → whole ≡ Err f
 unfolding parameters_at
 Reads-refused-with n at p [] whole item f some enough same took refused = absurd (omega arith)
 Reads-refused-with zero at p (o ∷ rest) whole item f some enough same took refused = absurd (omega arith)
 Reads-refused-with (suc n) at p (o ∷ rest) whole item f some enough same took refused = sym (rw (took, refused) at same)
 
-pub Reads-refused : (at : ℕ) (p : Parameters) (rest : List ℕ) (whole : Result Parameters TpduFault) (item : Item) (f : TpduFault) → Reads at p rest whole → 1 ≤ length rest
+pub Reads-refused : (at : ℕ) (p : Parameters) (rest : List ℕ) (whole : Result Parameters TpduFault) (item : Item) (f : TpduFault) →
+    Reads at p rest whole → 1 ≤ length rest
     → parameter_at at rest ≡ Ok item → with_parameter at item.0 item.1 p ≡ Err f → whole ≡ Err f
-Reads-refused at p rest whole item f r some took refused = Reads-refused-with r.fuel at p rest whole item f some r.enough r.same took refused
+Reads-refused at p rest whole item f r some took refused =
+    Reads-refused-with r.fuel at p rest whole item f some r.enough r.same took refused
 
-Reads-all-with : (n at : ℕ) (p : Parameters) (rest : List ℕ) (whole : Result Parameters TpduFault) → length rest ≡ 0 → parameters_at n at p rest ≡ whole → whole ≡ Ok p
+Reads-all-with : (n at : ℕ) (p : Parameters) (rest : List ℕ) (whole : Result Parameters TpduFault) → length rest ≡ 0 →
+    parameters_at n at p rest ≡ whole → whole ≡ Ok p
 unfolding parameters_at
 Reads-all-with n at p [] whole none same = sym same
 Reads-all-with n at p (o ∷ rest) whole none same = absurd (omega arith)
 
-pub Reads-all : (at : ℕ) (p : Parameters) (rest : List ℕ) (whole : Result Parameters TpduFault) → Reads at p rest whole → length rest ≡ 0 → whole ≡ Ok p
+pub Reads-all : (at : ℕ) (p : Parameters) (rest : List ℕ) (whole : Result Parameters TpduFault) → Reads at p rest whole → length rest ≡ 0 →
+    whole ≡ Ok p
 Reads-all at p rest whole r none = Reads-all-with r.fuel at p rest whole none r.same
 
 -- the same if none is known
@@ -58,7 +70,8 @@ pub record Skips (at : ℕ) (rest : List ℕ) (whole : Result (Unit {0}) TpduFau
   pub enough : length rest ≤ fuel
   pub same : skipped_at fuel at rest ≡ whole
 
-Skips-with : (n at : ℕ) (rest : List ℕ) (whole : Result (Unit {0}) TpduFault) (item : Item) → 1 ≤ length rest → length rest ≤ n → skipped_at n at rest ≡ whole
+Skips-with : (n at : ℕ) (rest : List ℕ) (whole : Result (Unit {0}) TpduFault) (item : Item) → 1 ≤ length rest → length rest ≤ n →
+    skipped_at n at rest ≡ whole
     → parameter_at at rest ≡ Ok item → length item.2 < length rest → Skips (at + (2 + length item.1)) item.2 whole
 unfolding skipped_at
 Skips-with n at [] whole item some enough same took shorter = absurd (omega arith)
@@ -70,17 +83,20 @@ pub Skips-more : (at : ℕ) (rest : List ℕ) (whole : Result (Unit {0}) TpduFau
     → parameter_at at rest ≡ Ok item → length item.2 < length rest → Skips (at + (2 + length item.1)) item.2 whole
 Skips-more at rest whole item r some took shorter = Skips-with r.fuel at rest whole item some r.enough r.same took shorter
 
-Skips-cut-with : (n at : ℕ) (rest : List ℕ) (whole : Result (Unit {0}) TpduFault) (f : TpduFault) → 1 ≤ length rest → length rest ≤ n → skipped_at n at rest ≡ whole
+Skips-cut-with : (n at : ℕ) (rest : List ℕ) (whole : Result (Unit {0}) TpduFault) (f : TpduFault) → 1 ≤ length rest → length rest ≤ n →
+    skipped_at n at rest ≡ whole
     → parameter_at at rest ≡ Err f → whole ≡ Err f
 unfolding skipped_at
 Skips-cut-with n at [] whole f some enough same cut = absurd (omega arith)
 Skips-cut-with zero at (o ∷ rest) whole f some enough same cut = absurd (omega arith)
 Skips-cut-with (suc n) at (o ∷ rest) whole f some enough same cut = sym (rw cut at same)
 
-pub Skips-cut : (at : ℕ) (rest : List ℕ) (whole : Result (Unit {0}) TpduFault) (f : TpduFault) → Skips at rest whole → 1 ≤ length rest → parameter_at at rest ≡ Err f → whole ≡ Err f
+pub Skips-cut : (at : ℕ) (rest : List ℕ) (whole : Result (Unit {0}) TpduFault) (f : TpduFault) → Skips at rest whole → 1 ≤ length rest →
+    parameter_at at rest ≡ Err f → whole ≡ Err f
 Skips-cut at rest whole f r some cut = Skips-cut-with r.fuel at rest whole f some r.enough r.same cut
 
-Skips-all-with : (n at : ℕ) (rest : List ℕ) (whole : Result (Unit {0}) TpduFault) → length rest ≡ 0 → skipped_at n at rest ≡ whole → whole ≡ Ok tt
+Skips-all-with : (n at : ℕ) (rest : List ℕ) (whole : Result (Unit {0}) TpduFault) → length rest ≡ 0 → skipped_at n at rest ≡ whole →
+    whole ≡ Ok tt
 unfolding skipped_at
 Skips-all-with n at [] whole none same = sym same
 Skips-all-with n at (o ∷ rest) whole none same = absurd (omega arith)

@@ -1,6 +1,10 @@
 -- The code octet of a unit tells whether another unit may follow it.
-use Rattle.std.proofs.Common.{◌≡◌, ℕ, ◌+◌, ◌≤◌, ◌/◌, ◌%◌, Bool, true, false, eqb, ltb, leb, List, length, get_or, drop, Result, Ok, Err, refl, sym, ◌∙◌, subst, arith, inl, inr}
-use Rattle.osi_tpdu.proofs.Vocabulary.{ne_eqb, eqb-true, TpduFault, BadLi, UnknownCode, Value, request, confirm, disconnect, disconnected, data0, data2, acknowledge, error, may_be_followed, header_at, reference_at, all_skipped_at, connect_of, request_of, confirm_of, disconnect_of, disconnected_of, transfer_of, acknowledge_of, error_of, value_of, is_lead_code, used_by, unit_at, can_be_read}
+use Rattle.std.proofs.Common.{◌≡◌, ℕ, ◌+◌, ◌≤◌, ◌/◌, ◌%◌, Bool, true, false, eqb, ltb, leb, List, length, get_or, drop, Result, Ok, Err}
+use Rattle.std.proofs.Common.{refl, sym, ◌∙◌, subst, arith, inl, inr}
+use Rattle.osi_tpdu.proofs.Vocabulary.{ne_eqb, eqb-true, TpduFault, BadLi, UnknownCode, Value, request, confirm, disconnect, disconnected}
+use Rattle.osi_tpdu.proofs.Vocabulary.{data0, data2, acknowledge, error, may_be_followed, header_at, reference_at, all_skipped_at}
+use Rattle.osi_tpdu.proofs.Vocabulary.{connect_of, request_of, confirm_of, disconnect_of, disconnected_of, transfer_of, acknowledge_of}
+use Rattle.osi_tpdu.proofs.Vocabulary.{error_of, value_of, is_lead_code, used_by, unit_at, can_be_read}
 use Rattle.osi_tpdu.proofs.the_steps_of_reading.{bind_ok, unless_ok, when_ok, chosen, ok_is}
 use Rattle.osi_tpdu.proofs.the_units_of_a_packet.{none_bad}
 
@@ -39,12 +43,16 @@ error_leads : (at : ℕ) (header : List ℕ) (v : Value) → error_of at header 
 unfolding error_of
 error_leads at header v e = grind (arith, get_or, unless_ok, bind_ok, ok_is)
 
-lead_code : (at : ℕ) (header behind : List ℕ) (v : Value) → value_of at header behind ≡ Ok v → may_be_followed v ≡ is_lead_code (get_or header 0 0)
+lead_code : (at : ℕ) (header behind : List ℕ) (v : Value) → value_of at header behind ≡ Ok v →
+    may_be_followed v ≡ is_lead_code (get_or header 0 0)
 unfolding value_of is_lead_code
-lead_code at header behind v e = grind (arith, get_or, chosen, eqb-true, request_leads, no_lead, confirm_leads, acknowledge_leads, disconnect_leads, disconnected_leads, transfer_leads, when_ok, error_leads)
+lead_code at header behind v e =
+    grind (arith, get_or, chosen, eqb-true, request_leads, no_lead, confirm_leads, acknowledge_leads, disconnect_leads, disconnected_leads,
+    transfer_leads, when_ok, error_leads)
 
 -- the first unit by its header and its fields, and the number of octets it takes
-pub first_read : (at : ℕ) (b : List ℕ) (x : List ℕ × List ℕ) (v : Value) → header_at at b ≡ Ok x → value_of at x.0 x.1 ≡ Ok v → unit_at at b ≡ Ok (v, used_by x.0 (length b))
+pub first_read : (at : ℕ) (b : List ℕ) (x : List ℕ × List ℕ) (v : Value) → header_at at b ≡ Ok x → value_of at x.0 x.1 ≡ Ok v →
+    unit_at at b ≡ Ok (v, used_by x.0 (length b))
 unfolding unit_at
 first_read at b x v header fields = rw (header, fields, lead_code at x.0 x.1 v fields) refl
 
@@ -53,11 +61,13 @@ pub no_bad_header : (at : ℕ) (b : List ℕ) (f : TpduFault) → 1 ≤ length b
 unfolding unit_at
 no_bad_header at b f some can header = none_bad at b f some can (rw header refl)
 
-no_bad_fields : (at : ℕ) (b : List ℕ) (x : List ℕ × List ℕ) (f : TpduFault) → 1 ≤ length b → can_be_read at b ≡ true → header_at at b ≡ Ok x → value_of at x.0 x.1 ≡ Err f → ⊥
+no_bad_fields : (at : ℕ) (b : List ℕ) (x : List ℕ × List ℕ) (f : TpduFault) → 1 ≤ length b → can_be_read at b ≡ true →
+    header_at at b ≡ Ok x → value_of at x.0 x.1 ≡ Err f → ⊥
 unfolding unit_at
 no_bad_fields at b x f some can header fields = none_bad at b f some can (rw (header, fields) refl)
 
-read_by : (at : ℕ) (b : List ℕ) (x : List ℕ × List ℕ) (r : Result Value TpduFault) → 1 ≤ length b → can_be_read at b ≡ true → header_at at b ≡ Ok x → value_of at x.0 x.1 ≡ r
+read_by : (at : ℕ) (b : List ℕ) (x : List ℕ × List ℕ) (r : Result Value TpduFault) → 1 ≤ length b → can_be_read at b ≡ true →
+    header_at at b ≡ Ok x → value_of at x.0 x.1 ≡ r
     → (v : Value) × (value_of at x.0 x.1 ≡ Ok v) × (unit_at at b ≡ Ok (v, used_by x.0 (length b)))
 read_by at b x (Ok v) some can header fields = (v, fields, first_read at b x v header fields)
 read_by at b x (Err f) some can header fields = absurd (no_bad_fields at b x f some can header fields)

@@ -1,6 +1,11 @@
 -- Prefixes of packets: a full one is a packet, a short one a proper prefix, and the converse.
-use Rattle.std.proofs.Common.{Result, Ok, Err, IfOk, OnOk, not, Option, Some, None, IfNone, Bool, true, false, MatchBool, ◌≡◌, ℕ, ◌+◌, ◌-◌, ◌*◌, ◌<◌, ◌≤◌, ◌⊎◌, inl, inr, List, [], ◌∷◌, ◌++◌, length, get_or, take, drop, replicate, refl, sym, ◌∙◌, ap, subst, arith}
-use Rattle.osi_tpkt.proofs.Vocabulary.{cases_lt, append_assoc, get_or_append_left, length-append, length-replicate, length-take-le, take-append-drop, append-nil, drop_all, take_all, drop-take, IsOctets, IsPacket, IsOnePacket, IsPartial, IsBadVersion, IsBadLength, IsFaultOf, packet_of, stated_length, TpktFault, BadVersion, BadLength, OutOfMemory, IsFront, IsFull, IsUnfinished, Held, Belongs, Fed, HeaderFault}
+use Rattle.std.proofs.Common.{Result, Ok, Err, IfOk, OnOk, not, Option, Some, None, IfNone, Bool, true, false, MatchBool, ◌≡◌, ℕ, ◌+◌, ◌-◌}
+use Rattle.std.proofs.Common.{◌*◌, ◌<◌, ◌≤◌, ◌⊎◌, inl, inr, List, [], ◌∷◌, ◌++◌, length, get_or, take, drop, replicate, refl, sym, ◌∙◌, ap}
+use Rattle.std.proofs.Common.{subst, arith}
+use Rattle.osi_tpkt.proofs.Vocabulary.{cases_lt, append_assoc, get_or_append_left, length-append, length-replicate, length-take-le}
+use Rattle.osi_tpkt.proofs.Vocabulary.{take-append-drop, append-nil, drop_all, take_all, drop-take, IsOctets, IsPacket, IsOnePacket}
+use Rattle.osi_tpkt.proofs.Vocabulary.{IsPartial, IsBadVersion, IsBadLength, IsFaultOf, packet_of, stated_length, TpktFault, BadVersion}
+use Rattle.osi_tpkt.proofs.Vocabulary.{BadLength, OutOfMemory, IsFront, IsFull, IsUnfinished, Held, Belongs, Fed, HeaderFault}
 use Rattle.osi_tpkt.proofs.no_packet_is_a_prefix_of_another.{stated_length-append, packet_front, written_packet}
 use Rattle.osi_tpkt.proofs.lists_of_octets_stay_octets.{octets_nil, octets_cons, octets_append, octets_left, octets_right, octets_zeros}
 
@@ -23,7 +28,8 @@ front_within held piece front least = elim (cases_lt (length held) 4) [
 ]
 
 -- a header in the part that was taken states what the header states
-stated_taken : (held piece : List ℕ) (n : ℕ) → 4 ≤ length (held ++ take n piece) → stated_length (held ++ piece) ≡ stated_length (held ++ take n piece)
+stated_taken : (held piece : List ℕ) (n : ℕ) → 4 ≤ length (held ++ take n piece) →
+    stated_length (held ++ piece) ≡ stated_length (held ++ take n piece)
 stated_taken held piece n long =
     ap stated_length (ap (λ x. held ++ x) (sym (take-append-drop n piece)) ∙ sym (append_assoc held (take n piece) (drop n piece)))
     ∙ stated_length-append (held ++ take n piece) (drop n piece) long
@@ -91,7 +97,8 @@ long_partial r f g h =
       at_least = λ _. omega arith;
       within = λ _. omega arith;
     } in
-    record { more = replicate n 0; some = omega arith; completes = (drop 4 (r ++ replicate n 0), full_packet (r ++ replicate n 0) front (omega arith, omega arith)) }
+    record { more = replicate n 0; some = omega arith;
+        completes = (drop 4 (r ++ replicate n 0), full_packet (r ++ replicate n 0) front (omega arith, omega arith)) }
 
 -- fewer than four: first the header is completed
 pub completed_partial : (r header : List ℕ) → IsPartial (r ++ header) → IsPartial r
@@ -101,11 +108,14 @@ completed_partial r header p = grind (arith, length-append, append_assoc)
 header_partial : (b c d : ℕ) → b < 256 → c < 256 → d < 256 → 7 ≤ 256 * c + d → IsPartial (3 ∷ b ∷ c ∷ d ∷ [])
 header_partial b c d hb hc hd h =
     long_partial (3 ∷ b ∷ c ∷ d ∷ [])
-    (record { octets = octets_cons 3 (b ∷ c ∷ d ∷ []) (omega arith) (octets_cons b (c ∷ d ∷ []) hb (octets_cons c (d ∷ []) hc (octets_cons d [] hd octets_nil))); version = λ _. refl; at_least = λ _. h; within = λ _. omega arith })
+    (record { octets = octets_cons 3 (b ∷ c ∷ d ∷ []) (omega arith)
+        (octets_cons b (c ∷ d ∷ []) hb (octets_cons c (d ∷ []) hc (octets_cons d [] hd octets_nil))); version = λ _. refl; at_least =
+        λ _. h; within = λ _. omega arith })
     (λ _. omega arith) (omega arith)
 
 pub short_partial : (r : List ℕ) → IsFront r → IsUnfinished r → IsPartial r
-short_partial [] f g = completed_partial [] (3 ∷ 0 ∷ 0 ∷ 7 ∷ []) (header_partial 0 0 7 (omega arith) (omega arith) (omega arith) (omega arith))
+short_partial [] f g =
+    completed_partial [] (3 ∷ 0 ∷ 0 ∷ 7 ∷ []) (header_partial 0 0 7 (omega arith) (omega arith) (omega arith) (omega arith))
 short_partial (a ∷ []) f g =
     subst (λ x. IsPartial (x ∷ [])) (sym (f.version (omega arith)))
     (completed_partial (3 ∷ []) (0 ∷ 0 ∷ 7 ∷ []) (header_partial 0 0 7 (omega arith) (omega arith) (omega arith) (omega arith)))
@@ -170,7 +180,8 @@ one_fault at s OutOfMemory g h k = absurd h
 one_fault at s _ OutOfMemory h k = absurd k
 
 -- a statement about a prefix and its header, as one about packets
-pub stood : (whole : Bool) (x : List ℕ) (P : Type 0) → IsFront x → MatchBool whole (IsFull x) (IsUnfinished x × P) → MatchBool whole (IsOnePacket x) (IsPartial x × P)
+pub stood : (whole : Bool) (x : List ℕ) (P : Type 0) → IsFront x → MatchBool whole (IsFull x) (IsUnfinished x × P) →
+    MatchBool whole (IsOnePacket x) (IsPartial x × P)
 stood true x P f g = (drop 4 x, full_packet x f g)
 stood false x P f g = (short_partial x f g.0, g.1)
 
@@ -194,7 +205,8 @@ where_short P Q true e h = absurd (cc)
 where_short P Q false e h = h
 
 -- a piece all of which was used
-pub short_whole_piece : (octets : List ℕ) (used : ℕ) → IsFront (take used octets) → IsUnfinished (take used octets) × (used ≡ length octets) → IsPartial octets
+pub short_whole_piece : (octets : List ℕ) (used : ℕ) → IsFront (take used octets) →
+    IsUnfinished (take used octets) × (used ≡ length octets) → IsPartial octets
 short_whole_piece octets used front short =
     let all : take used octets ≡ octets = ap (λ k. take k octets) short.1 ∙ take_all (length octets) octets (omega arith) in
     subst IsPartial all (short_partial (take used octets) front short.0)
@@ -210,12 +222,14 @@ surveyed held octets piece fed same within front whole =
     subst (λ x. Belongs x piece fed) same
     (record { within = within; whole = stood fed.whole (held ++ take fed.used piece) (fed.used ≡ length piece) front whole })
 
-long_or_all : (whole : Bool) (x : List ℕ) (P : Type 0) → MatchBool whole (IsOnePacket x) (IsPartial x × P) → IsFront x × ((4 ≤ length x) ⊎ P)
+long_or_all : (whole : Bool) (x : List ℕ) (P : Type 0) → MatchBool whole (IsOnePacket x) (IsPartial x × P) →
+    IsFront x × ((4 ≤ length x) ⊎ P)
 long_or_all true x P h = let front = packet_front h.0 x h.1 in (front.0, inl front.1.0)
 long_or_all false x P h = ((partial_front x h.0).0, inr h.1)
 
 -- if some of a piece belongs to the packet, the octets have no fault
-pub belonging_no_fault : (octets piece : List ℕ) (fed : Fed) (at : ℕ) (f : TpktFault) → Belongs octets piece fed → IsFaultOf at (octets ++ piece) f → ⊥
+pub belonging_no_fault : (octets piece : List ℕ) (fed : Fed) (at : ℕ) (f : TpktFault) → Belongs octets piece fed →
+    IsFaultOf at (octets ++ piece) f → ⊥
 belonging_no_fault octets piece fed at f h fault =
     let front = long_or_all fed.whole (octets ++ take fed.used piece) (fed.used ≡ length piece) h.whole in
     no_fault octets piece fed.used at f front.0 front.1 fault
@@ -228,7 +242,8 @@ pub same_held : (offset : ℕ) (fault : Option TpktFault) (xs ys : List ℕ) (m 
     holding offset fault xs m ≡ holding offset fault ys n
 same_held offset fault xs ys m n e f = ap (λ x. holding offset fault x m) e ∙ ap (λ k. holding offset fault ys k) f
 
-counted : (whole : Bool) (held used stated piece : ℕ) → MatchBool whole (held + used ≡ stated) ((held + piece < stated) × (used ≡ piece)) → held + used ≤ stated
+counted : (whole : Bool) (held used stated piece : ℕ) → MatchBool whole (held + used ≡ stated) ((held + piece < stated) × (used ≡ piece)) →
+    held + used ≤ stated
 counted true held used stated piece h = omega arith
 counted false held used stated piece h = omega (arith, h.0, h.1)
 
@@ -240,7 +255,8 @@ whole_part true held piece used least some h = omega (arith, length-append {A = 
 whole_part false held piece used least some h = omega (arith, length-append {A = ℕ}, length-take-le {A = ℕ}, stated_taken)
 
 -- what `part_of` ensures about lengths, as a statement about the octets themselves
-pub part_front : (r : Result Fed HeaderFault) (held piece : List ℕ) → IsFront held → get_or (held ++ piece) 0 0 ≡ 3 → IsOctets piece → 4 ≤ length (held ++ piece) →
+pub part_front : (r : Result Fed HeaderFault) (held piece : List ℕ) → IsFront held → get_or (held ++ piece) 0 0 ≡ 3 → IsOctets piece →
+    4 ≤ length (held ++ piece) →
     OnOk r (7 ≤ stated_length (held ++ piece)) → IfOk r (λ fed. fed.used ≤ length piece) →
     IfOk r (λ fed. MatchBool fed.whole (length held + fed.used ≡ stated_length (held ++ piece))
     ((length held + length piece < stated_length (held ++ piece)) × (fed.used ≡ length piece))) →
@@ -254,13 +270,15 @@ pub part_whole : (r : Result Fed HeaderFault) (held piece : List ℕ) → IsFron
     OnOk r (7 ≤ stated_length (held ++ piece)) → IfOk r (λ fed. fed.used ≤ length piece) →
     IfOk r (λ fed. MatchBool fed.whole (length held + fed.used ≡ stated_length (held ++ piece))
     ((length held + length piece < stated_length (held ++ piece)) × (fed.used ≡ length piece))) →
-    IfOk r (λ fed. MatchBool fed.whole (IsFull (held ++ take fed.used piece)) (IsUnfinished (held ++ take fed.used piece) × (fed.used ≡ length piece)))
+    IfOk r (λ fed. MatchBool fed.whole (IsFull (held ++ take fed.used piece))
+        (IsUnfinished (held ++ take fed.used piece) × (fed.used ≡ length piece)))
 part_whole (Err e) held piece front long least used part = tt
 part_whole (Ok fed) held piece front long least used part =
     whole_part fed.whole held piece fed.used least used part
 
 -- what is written after other octets and a header is a packet
-pub packet_behind : (before unit octets : List ℕ) → octets ≡ before ++ packet_of unit → IsOctets octets → 3 ≤ length unit → length unit ≤ 65531 →
+pub packet_behind : (before unit octets : List ℕ) → octets ≡ before ++ packet_of unit → IsOctets octets → 3 ≤ length unit →
+    length unit ≤ 65531 →
     IsPacket unit (packet_of unit)
 packet_behind before unit octets same known least most =
     let packet : IsOctets (packet_of unit) = octets_right before (packet_of unit) (subst IsOctets same known) in
@@ -278,7 +296,8 @@ belonging_some octets piece fed partial h whole = elim (cases_lt 0 fed.used) [
       let no_more : fed.used ≡ 0 = omega arith in
       let same : octets ++ take fed.used piece ≡ octets = ap (λ n. octets ++ take n piece) no_more ∙ append-nil octets in
       absurd (partial_not_whole octets partial (subst IsOnePacket same
-      (whole_where (IsOnePacket (octets ++ take fed.used piece)) (IsPartial (octets ++ take fed.used piece) × (fed.used ≡ length piece)) fed.whole whole h.whole)))
+      (whole_where (IsOnePacket (octets ++ take fed.used piece)) (IsPartial (octets ++ take fed.used piece) × (fed.used ≡ length piece))
+          fed.whole whole h.whole)))
 ]
 
 -- of two lists of octets, the first of which has the version

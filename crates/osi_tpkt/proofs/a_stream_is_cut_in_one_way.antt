@@ -1,11 +1,16 @@
 -- A stream is cut into packets in one way.
-use Rattle.std.proofs.Common.{◌≡◌, ℕ, zero, suc, ◌+◌, ◌-◌, ◌<◌, ◌≤◌, ◌⊎◌, inl, inr, List, [], ◌∷◌, ◌++◌, length, get_or, take, drop, refl, sym, ◌∙◌, ap, subst, arith, Result, Err}
-use Rattle.osi_tpkt.proofs.Vocabulary.{cases_lt, cases_eq, append_cancel_left, length-append, length-take-le, take-append-drop, append-nil, IsOctets, IsPacket, IsPartial, IsBadVersion, IsBadLength, IsFaultOf, stated_length, IsFront, ArePackets, EndsAt, Cuts, offset_of, Ending, Fed, HeaderFault, TpktFault, BadVersion, BadLength, OutOfMemory}
+use Rattle.std.proofs.Common.{◌≡◌, ℕ, zero, suc, ◌+◌, ◌-◌, ◌<◌, ◌≤◌, ◌⊎◌, inl, inr, List, [], ◌∷◌, ◌++◌, length, get_or, take, drop, refl}
+use Rattle.std.proofs.Common.{sym, ◌∙◌, ap, subst, arith, Result, Err}
+use Rattle.osi_tpkt.proofs.Vocabulary.{cases_lt, cases_eq, append_cancel_left, length-append, length-take-le, take-append-drop, append-nil}
+use Rattle.osi_tpkt.proofs.Vocabulary.{IsOctets, IsPacket, IsPartial, IsBadVersion, IsBadLength, IsFaultOf, stated_length, IsFront}
+use Rattle.osi_tpkt.proofs.Vocabulary.{ArePackets, EndsAt, Cuts, offset_of, Ending, Fed, HeaderFault, TpktFault, BadVersion, BadLength}
+use Rattle.osi_tpkt.proofs.Vocabulary.{OutOfMemory}
 use Rattle.osi_tpkt.proofs.lists_of_octets_stay_octets.{octets_right}
 use Rattle.osi_tpkt.proofs.no_packet_is_a_prefix_of_another.{packet_front, one_packet, stated_length-append}
 use Rattle.osi_tpkt.specs.Stream.Ending.{Faulty, Rest}
 use Rattle.osi_tpkt.specs.declared.headers.HeaderFault.TheVariants.{Version, Length}
-use Rattle.osi_tpkt.proofs.a_prefix_of_a_packet.{full_packet, short_partial, partial_front, front_version, front_length, front_part, one_fault, fault_behind}
+use Rattle.osi_tpkt.proofs.a_prefix_of_a_packet.{full_packet, short_partial, partial_front, front_version, front_length, front_part}
+use Rattle.osi_tpkt.proofs.a_prefix_of_a_packet.{one_fault, fault_behind}
 
 -- no packet is ready at the front
 abbrev NoPacket : List ℕ → Type 0
@@ -39,7 +44,8 @@ end_no_packet at r (Faulty f) h = fault_no_packet at r f h
 end_no_packet at r (Rest n) h = partial_no_packet r h.0
 
 -- two readings of a stream, up to octets with no packet at the front, are the same
-one_reading : (us vs : List (List ℕ)) (s r q : List ℕ) → NoPacket r → NoPacket q → ArePackets us s r → ArePackets vs s q → (us ≡ vs) × (r ≡ q)
+one_reading : (us vs : List (List ℕ)) (s r q : List ℕ) → NoPacket r → NoPacket q → ArePackets us s r → ArePackets vs s q →
+    (us ≡ vs) × (r ≡ q)
 one_reading [] [] s r q nr nq h k = (refl, sym h ∙ k)
 one_reading [] (v ∷ vs) s r q nr nq h k = absurd (nr v k.0 k.1 k.2 (sym h ∙ k.3))
 one_reading (u ∷ us) [] s r q nr nq h k = absurd (nq u h.0 h.1 h.2 (sym k ∙ h.3))
@@ -50,7 +56,8 @@ one_reading (u ∷ us) (v ∷ vs) s r q nr nq h k =
     (ap (λ x. x ∷ us) one.1 ∙ ap (λ x. v ∷ x) more.0, more.1)
 
 -- the same if an unfinished packet is left
-pub one_list : (s r q : List ℕ) (us vs : List (List ℕ)) → IsPartial r → IsPartial q → ArePackets us s r → ArePackets vs s q → (us ≡ vs) × (r ≡ q)
+pub one_list : (s r q : List ℕ) (us vs : List (List ℕ)) → IsPartial r → IsPartial q → ArePackets us s r → ArePackets vs s q →
+    (us ≡ vs) × (r ≡ q)
 one_list s r q us vs left right h k = one_reading us vs s r q (partial_no_packet r left) (partial_no_packet q right) h k
 
 -- octets end a stream in at most one way
@@ -84,15 +91,24 @@ front_whole s octets version long least enough =
     (drop 4 b, b, drop n s, full_packet b front (omega arith, omega arith), same)
 
 front_of : (s : List ℕ) → IsOctets s → Front s
-front_of [] octets = inr (inr (inr (short_partial [] (record { octets = octets; version = λ h. absurd (omega arith); at_least = λ h. absurd (omega arith); within = λ h. absurd (omega arith) }) (λ h. absurd (omega arith)))))
+front_of [] octets =
+    inr (inr (inr
+    (short_partial []
+    (record { octets = octets; version = λ h. absurd (omega arith); at_least = λ h. absurd (omega arith);
+    within = λ h. absurd (omega arith) }) (λ h. absurd (omega arith)))))
 front_of (a ∷ s) octets = elim (cases_eq a 3) [
   | inr other ↦ inr (inl (omega arith, other))
   | inl version ↦ elim (cases_lt (length (a ∷ s)) 4) [
-    | inl less ↦ inr (inr (inr (short_partial (a ∷ s) (record { octets = octets; version = λ _. version; at_least = λ h. absurd (omega arith); within = λ h. absurd (omega arith) }) (λ h. absurd (omega arith)))))
+    | inl less ↦ inr
+        (inr (inr (short_partial (a ∷ s)
+        (record { octets = octets; version = λ _. version; at_least = λ h. absurd (omega arith); within = λ h. absurd (omega arith) })
+        (λ h. absurd (omega arith)))))
     | inr long ↦ elim (cases_lt (stated_length (a ∷ s)) 7) [
       | inl low ↦ inr (inr (inl (long, version, low)))
       | inr least ↦ elim (cases_lt (length (a ∷ s)) (stated_length (a ∷ s))) [
-        | inl less ↦ inr (inr (inr (short_partial (a ∷ s) (record { octets = octets; version = λ _. version; at_least = λ _. least; within = λ _. omega arith }) (λ _. less))))
+        | inl less ↦ inr
+            (inr (inr (short_partial (a ∷ s)
+            (record { octets = octets; version = λ _. version; at_least = λ _. least; within = λ _. omega arith }) (λ _. less))))
         | inr enough ↦ inl (front_whole (a ∷ s) octets version long least enough)
       ]
     ]
@@ -127,7 +143,8 @@ some_cut s octets =
     (packets.0, end.0, (packets.1, packets.2, end.1))
 
 -- octets that a survey refuses begin with no packet
-pub refused_no_packet : (s : List ℕ) (r : Result Fed HeaderFault) (e : HeaderFault) → r ≡ Err e → (r ≡ Err Version → IsBadVersion s) → (r ≡ Err Length → IsBadLength s) →
+pub refused_no_packet : (s : List ℕ) (r : Result Fed HeaderFault) (e : HeaderFault) → r ≡ Err e → (r ≡ Err Version → IsBadVersion s) →
+    (r ≡ Err Length → IsBadLength s) →
     (u b t : List ℕ) → IsPacket u b → s ≡ b ++ t → ⊥
 refused_no_packet s r Version is version length u b t p same = fault_no_packet 0 s (BadVersion 0) (version is, refl) u b t p same
 refused_no_packet s r Length is version length u b t p same = fault_no_packet 0 s (BadLength 0) (length is, refl) u b t p same

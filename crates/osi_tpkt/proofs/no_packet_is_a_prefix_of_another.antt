@@ -1,6 +1,8 @@
 -- Laws of packets: what a header states, that no packet is a prefix of another, and that the written form is a packet.
-use Rattle.std.proofs.Common.{◌≡◌, ℕ, ◌+◌, ◌*◌, ◌/◌, ◌%◌, ◌≤◌, List, ◌∷◌, ◌++◌, length, get_or, take, drop, refl, sym, ◌∙◌, ap, subst, arith}
-use Rattle.osi_tpkt.proofs.Vocabulary.{get_or_append_left, length-take-le, take_at, take-append-drop, IsOctets, IsPacket, IsUnit, packet_of, stated_length, IsFront, IsFull}
+use Rattle.std.proofs.Common.{◌≡◌, ℕ, ◌+◌, ◌*◌, ◌/◌, ◌%◌, ◌≤◌, List, ◌∷◌, ◌++◌, length, get_or, take, drop, refl, sym, ◌∙◌, ap, subst}
+use Rattle.std.proofs.Common.{arith}
+use Rattle.osi_tpkt.proofs.Vocabulary.{get_or_append_left, length-take-le, take_at, take-append-drop, IsOctets, IsPacket, IsUnit, packet_of}
+use Rattle.osi_tpkt.proofs.Vocabulary.{stated_length, IsFront, IsFull}
 use Rattle.osi_tpkt.proofs.lists_of_octets_stay_octets.{octets_cons}
 use Rattle.osi_tpkt.specs.PacketValue.{Anything}
 use Rattle.osi_tpkt.specs.Unit.{IsAtFront}

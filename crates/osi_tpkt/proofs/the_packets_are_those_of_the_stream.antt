@@ -1,8 +1,12 @@
 -- Over every run of calls, a cutter's packets are those of the stream that was used.
-use Rattle.std.proofs.Common.{◌≡◌, ℕ, ◌+◌, ◌-◌, ◌≤◌, inl, inr, List, [], ◌∷◌, ◌++◌, length, take, refl, sym, ◌∙◌, ap, subst, arith, true, Some, None, Result, Ok, Err, Contains}
+use Rattle.std.proofs.Common.{◌≡◌, ℕ, ◌+◌, ◌-◌, ◌≤◌, inl, inr, List, [], ◌∷◌, ◌++◌, length, take, refl, sym, ◌∙◌, ap, subst, arith, true}
+use Rattle.std.proofs.Common.{Some, None, Result, Ok, Err, Contains}
 use Rattle.std.proofs.lemmas.List.Concat.{flat_map-append}
 use Rattle.std.proofs.lemmas.List.Elements.{Contains-append_left, Contains-append_right}
-use Rattle.osi_tpkt.proofs.Vocabulary.{append_assoc, append-nil, length-append, none-some, IsPacket, IsPartial, IsFaultOf, ArePackets, offset_of, Held, IsHolding, fresh, TakesPiece, Feeds, Advances, CutterCall, used_by, stream_of, CutterStep, CutterRun, CutterReads, CutterReadsOn, Feed, Advance, TpktFault, BadVersion, BadLength, OutOfMemory, Fed}
+use Rattle.osi_tpkt.proofs.Vocabulary.{append_assoc, append-nil, length-append, none-some, IsPacket, IsPartial, IsFaultOf, ArePackets}
+use Rattle.osi_tpkt.proofs.Vocabulary.{offset_of, Held, IsHolding, fresh, TakesPiece, Feeds, Advances, CutterCall, used_by, stream_of}
+use Rattle.osi_tpkt.proofs.Vocabulary.{CutterStep, CutterRun, CutterReads, CutterReadsOn, Feed, Advance, TpktFault, BadVersion, BadLength}
+use Rattle.osi_tpkt.proofs.Vocabulary.{OutOfMemory, Fed}
 use Rattle.osi_tpkt.proofs.a_prefix_of_a_packet.{empty_partial}
 use Rattle.osi_tpkt.proofs.what_a_cutter_holds.{none_or_some, feeds_sound, fresh_holding}
 
@@ -22,12 +26,14 @@ packets_rest (u ∷ us) s r h =
     let more = packets_rest us h.1 r h.4 in omega arith
 
 -- two runs of packets that follow one another are one
-pub packets_joined : (us vs : List (List ℕ)) (s m t r : List ℕ) → ArePackets us s m → ArePackets vs (m ++ t) r → ArePackets (us ++ vs) (s ++ t) r
+pub packets_joined : (us vs : List (List ℕ)) (s m t r : List ℕ) → ArePackets us s m → ArePackets vs (m ++ t) r →
+    ArePackets (us ++ vs) (s ++ t) r
 packets_joined [] vs s m t r h k = subst (λ x. ArePackets vs (x ++ t) r) (sym h) k
 packets_joined (u ∷ us) vs s m t r h k =
     (h.0, h.1 ++ t, h.2, ap (λ x. x ++ t) h.3 ∙ append_assoc h.0 h.1 t, packets_joined us vs h.1 m t r h.4 k)
 
-pub packets_parted : (us vs : List (List ℕ)) (s r : List ℕ) → ArePackets (us ++ vs) s r → (m : List ℕ) × ArePackets us s m × ArePackets vs m r
+pub packets_parted : (us vs : List (List ℕ)) (s r : List ℕ) → ArePackets (us ++ vs) s r →
+    (m : List ℕ) × ArePackets us s m × ArePackets vs m r
 packets_parted [] vs s r h = (s, refl, h)
 packets_parted (u ∷ us) vs s r h = let more = packets_parted us vs h.1 r h.4 in (more.0, (h.0, h.1, h.2, h.3, more.1), more.2)
 
@@ -44,7 +50,8 @@ used-none : (held : List ℕ) (made : List CutterCall) (call : CutterCall) → u
 used-none held made call none = grind (arith, used-push, append-nil)
 
 -- a call that uses nothing and changes nothing
-unchanged : (start : Held) (made : List CutterCall) (us : List (List ℕ)) (old new : Held) (call : CutterCall) → used_by call ≡ [] → new ≡ old →
+unchanged : (start : Held) (made : List CutterCall) (us : List (List ℕ)) (old new : Held) (call : CutterCall) → used_by call ≡ [] →
+    new ≡ old →
     CutterReadsOn start made us old → CutterReadsOn start (made ++ call ∷ []) us new
 unchanged start made us old new call none same k = grind (arith, used-none, Contains-append_left)
 
@@ -58,7 +65,8 @@ taken : (start : Held) (made : List CutterCall) (us : List (List ℕ)) (old new 
 taken start made us old new piece fed unfaulted h t k =
     let s : List ℕ = start.octets ++ stream_of made in
     let more : List ℕ = take fed.used piece in
-    let stream : start.octets ++ stream_of (made ++ Feed piece (Ok fed) ∷ []) ≡ s ++ more = used-push start.octets made (Feed piece (Ok fed)) in
+    let stream : start.octets ++ stream_of (made ++ Feed piece (Ok fed) ∷ []) ≡ s ++ more =
+        used-push start.octets made (Feed piece (Ok fed)) in
     let octets : new.octets ≡ old.octets ++ more = ap (λ (h : Held). h.octets) t.1.octets in
     let fault : new.fault ≡ None = ap (λ (h : Held). h.fault) t.1.octets ∙ unfaulted in
     let offset : new.offset ≡ old.offset = ap (λ (h : Held). h.offset) t.1.octets in
@@ -68,14 +76,16 @@ taken start made us old new piece fed unfaulted h t k =
     record {
       packets = subst (λ x. ArePackets us x new.octets) (sym stream)
           (subst (λ r. ArePackets us (s ++ more) r) (sym octets) (packets-append us s old.octets more k.packets));
-      offset = offset ∙ k.offset ∙ ap offset_of (sym left) ∙ ap (λ r. offset_of (start.offset + (length (s ++ more) - length r))) (sym octets)
+      offset = offset ∙ k.offset ∙ ap offset_of (sym left) ∙ ap (λ r. offset_of (start.offset + (length (s ++ more) - length r)))
+          (sym octets)
           ∙ ap (λ x. offset_of (start.offset + (length x - length new.octets))) (sym stream);
       sound = feeds_sound old piece (Ok fed) new k.sound h;
       faulty = λ f e. absurd (none-some f (sym fault ∙ e));
     }
 
 -- a fault that is kept
-refused : (start : Held) (made : List CutterCall) (us : List (List ℕ)) (old new : Held) (piece : List ℕ) (g : TpktFault) → IsPartial old.octets →
+refused : (start : Held) (made : List CutterCall) (us : List (List ℕ)) (old new : Held) (piece : List ℕ) (g : TpktFault) →
+    IsPartial old.octets →
     IsFaultOf old.offset (old.octets ++ piece) g → new ≡ record old { fault = Some g } → CutterReadsOn start made us old →
     CutterReadsOn start (made ++ Feed piece (Err g) ∷ []) us new
 refused start made us old new piece g partial fault same k =
@@ -95,15 +105,19 @@ refused start made us old new piece g partial fault same k =
 
 -- a piece that was fed while no packet was ready and no fault was returned
 fed : (start : Held) (made : List CutterCall) (us : List (List ℕ)) (old new : Held) (piece : List ℕ) (result : Result Fed TpktFault) →
-    old.fault ≡ None → IsPartial old.octets → Feeds old piece result new → TakesPiece old piece result new → CutterReadsOn start made us old →
+    old.fault ≡ None → IsPartial old.octets → Feeds old piece result new → TakesPiece old piece result new →
+        CutterReadsOn start made us old →
     CutterReadsOn start (made ++ Feed piece result ∷ []) us new
 fed start made us old new piece (Ok f) unfaulted partial h t k = taken start made us old new piece f unfaulted h t k
-fed start made us old new piece (Err (BadVersion at)) unfaulted partial h t k = refused start made us old new piece (BadVersion at) partial t.0 t.1 k
-fed start made us old new piece (Err (BadLength at)) unfaulted partial h t k = refused start made us old new piece (BadLength at) partial t.0 t.1 k
+fed start made us old new piece (Err (BadVersion at)) unfaulted partial h t k =
+    refused start made us old new piece (BadVersion at) partial t.0 t.1 k
+fed start made us old new piece (Err (BadLength at)) unfaulted partial h t k =
+    refused start made us old new piece (BadLength at) partial t.0 t.1 k
 fed start made us old new piece (Err OutOfMemory) unfaulted partial h t k =
     unchanged start made us old new (Feed piece (Err OutOfMemory)) refl t.3 k
 
-used_none : (piece : List ℕ) (result : Result Fed TpktFault) → result ≡ Ok (record { used = 0; whole = true }) → used_by (Feed piece result) ≡ []
+used_none : (piece : List ℕ) (result : Result Fed TpktFault) → result ≡ Ok (record { used = 0; whole = true }) →
+    used_by (Feed piece result) ≡ []
 used_none piece result e = ap (λ r. used_by (Feed piece r)) e
 
 used_fault : (piece : List ℕ) (result : Result Fed TpktFault) (f : TpktFault) → result ≡ Err f → used_by (Feed piece result) ≡ []
@@ -124,7 +138,8 @@ feeding start made us old new piece result h k = elim (none_or_some old.fault) [
 ]
 
 -- a packet that is dropped
-dropped : (start : Held) (made : List CutterCall) (us : List (List ℕ)) (old new : Held) (u : List ℕ) → IsPacket u old.octets → Advances old new →
+dropped : (start : Held) (made : List CutterCall) (us : List (List ℕ)) (old new : Held) (u : List ℕ) → IsPacket u old.octets →
+    Advances old new →
     CutterReadsOn start made us old → CutterReadsOn start (made ++ Advance ∷ []) (us ++ u ∷ []) new
 dropped start made us old new u p h k =
     let s : List ℕ = start.octets ++ stream_of made in
@@ -138,14 +153,16 @@ dropped start made us old new u p h k =
       faulty = λ f e. absurd (none-some f e);
     })
 
-stepping : (start : Held) (made : List CutterCall) (us : List (List ℕ)) (old : Held) (call : CutterCall) (given : List (List ℕ)) (new : Held) →
+stepping : (start : Held) (made : List CutterCall) (us : List (List ℕ)) (old : Held) (call : CutterCall) (given : List (List ℕ))
+    (new : Held) →
     CutterStep old call given new → CutterReadsOn start made us old → CutterReadsOn start (made ++ call ∷ []) (us ++ given) new
 stepping start made us old (Feed piece result) given new h k =
     subst (λ x. CutterReadsOn start (made ++ Feed piece result ∷ []) x new) (sym (ap (λ x. us ++ x) h.1 ∙ append-nil us))
     (feeding start made us old new piece result h.0 k)
 stepping start made us old Advance given new h k = elim h.1 [
   | inl packet ↦
-      subst (λ x. CutterReadsOn start (made ++ Advance ∷ []) (us ++ x) new) (sym packet.2) (dropped start made us old new packet.0 packet.1 h.0 k)
+      subst (λ x. CutterReadsOn start (made ++ Advance ∷ []) (us ++ x) new) (sym packet.2)
+          (dropped start made us old new packet.0 packet.1 h.0 k)
   | inr partial ↦
       subst (λ x. CutterReadsOn start (made ++ Advance ∷ []) x new) (sym (ap (λ x. us ++ x) partial.1 ∙ append-nil us))
       (unchanged start made us old new Advance refl (h.0.partial partial.0) k)
@@ -155,7 +172,8 @@ running : (start : Held) (calls made : List CutterCall) (us units : List (List �
     CutterReadsOn start made us old → CutterReadsOn start (made ++ calls) (us ++ units) new
 running start [] made us units old new h k =
     subst (λ x. CutterReadsOn start x (us ++ units) new) (sym (append-nil made))
-    (subst (λ x. CutterReadsOn start made x new) (sym (ap (λ x. us ++ x) h.0 ∙ append-nil us)) (subst (λ x. CutterReadsOn start made us x) (sym h.1) k))
+    (subst (λ x. CutterReadsOn start made x new) (sym (ap (λ x. us ++ x) h.0 ∙ append-nil us))
+        (subst (λ x. CutterReadsOn start made us x) (sym h.1) k))
 running start (call ∷ calls) made us units old new h k =
     let step = stepping start made us old call h.1 h.0 h.3 k in
     let rest = running start calls (made ++ call ∷ []) (us ++ h.1) h.2 h.0 new h.4 step in
@@ -174,10 +192,12 @@ no_call start h =
     }
 
 -- whatever a cutter holds
-pub any_run_on : (old new : Held) (calls : List CutterCall) (units : List (List ℕ)) → IsHolding old → CutterRun old calls units new → CutterReadsOn old calls units new
+pub any_run_on : (old new : Held) (calls : List CutterCall) (units : List (List ℕ)) → IsHolding old → CutterRun old calls units new →
+    CutterReadsOn old calls units new
 any_run_on old new calls units h run = running old calls [] [] units old new run (no_call old h)
 
-pub any_run : (calls : List CutterCall) (units : List (List ℕ)) (held : Held) → CutterRun fresh calls units held → CutterReads calls units held
+pub any_run : (calls : List CutterCall) (units : List (List ℕ)) (held : Held) → CutterRun fresh calls units held →
+    CutterReads calls units held
 any_run calls units held h =
     let k = any_run_on fresh held calls units fresh_holding h in
     let s : List ℕ = stream_of calls in
@@ -203,7 +223,8 @@ any_run calls units held h =
     }
 
 -- two runs of calls, one after the other, are one run
-pub runs_joined : (old mid new : Held) (calls more : List CutterCall) (us vs : List (List ℕ)) → CutterRun old calls us mid → CutterRun mid more vs new →
+pub runs_joined : (old mid new : Held) (calls more : List CutterCall) (us vs : List (List ℕ)) → CutterRun old calls us mid →
+    CutterRun mid more vs new →
     CutterRun old (calls ++ more) (us ++ vs) new
 runs_joined old mid new [] more us vs h k = grind arith
 runs_joined old mid new (call ∷ calls) more us vs h k =

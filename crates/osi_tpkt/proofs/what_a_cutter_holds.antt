@@ -1,16 +1,21 @@
 -- What every cutter holds, and what its calls do to it.
-use Rattle.std.proofs.Common.{◌≡◌, ℕ, ◌+◌, ◌-◌, ◌<◌, ◌≤◌, ◌^◌, ◌∷◌, ◌⊎◌, inl, inr, List, [], ◌++◌, length, take, drop, refl, sym, ◌∙◌, ap, subst, arith, Bool, true, false, Option, Some, None, Result, Ok, Err, IfOk, MatchBool}
+use Rattle.std.proofs.Common.{◌≡◌, ℕ, ◌+◌, ◌-◌, ◌<◌, ◌≤◌, ◌^◌, ◌∷◌, ◌⊎◌, inl, inr, List, [], ◌++◌, length, take, drop, refl, sym, ◌∙◌, ap}
+use Rattle.std.proofs.Common.{subst, arith, Bool, true, false, Option, Some, None, Result, Ok, Err, IfOk, MatchBool}
 use Rattle.osi_tpkt.specs.declared.cutting.Progress.{Progress}
 use Rattle.osi_tpkt.specs.declared.cutting.Progress.TheVariants.{Awaited, Partial, Stopped}
 use Rattle.osi_tpkt.specs.declared.cutting.Stop.TheVariants.{Whole, Version, Length}
-use Rattle.osi_tpkt.proofs.Vocabulary.{length-take-le, none-some, IsPacket, IsOnePacket, IsPartial, IsFaultOf, offset_of, IsFront, IsFull, IsUnfinished, Held, IsHolding, fresh, Gains, TakesPiece, Feeds, Passes, Advances, CutterRun, Feed, Advance, fault_of, FitsProgress, IsKept, TpktFault, BadVersion, BadLength, OutOfMemory, Fed}
-use Rattle.osi_tpkt.proofs.a_prefix_of_a_packet.{short_partial, full_packet, front_packet, partial_not_whole, belonging_some, belonging_no_fault, surveyed, one_fault, holding, empty_partial}
+use Rattle.osi_tpkt.proofs.Vocabulary.{length-take-le, none-some, IsPacket, IsOnePacket, IsPartial, IsFaultOf, offset_of, IsFront, IsFull}
+use Rattle.osi_tpkt.proofs.Vocabulary.{IsUnfinished, Held, IsHolding, fresh, Gains, TakesPiece, Feeds, Passes, Advances, CutterRun, Feed}
+use Rattle.osi_tpkt.proofs.Vocabulary.{Advance, fault_of, FitsProgress, IsKept, TpktFault, BadVersion, BadLength, OutOfMemory, Fed}
+use Rattle.osi_tpkt.proofs.a_prefix_of_a_packet.{short_partial, full_packet, front_packet, partial_not_whole, belonging_some}
+use Rattle.osi_tpkt.proofs.a_prefix_of_a_packet.{belonging_no_fault, surveyed, one_fault, holding, empty_partial}
 
 -- the fields of a cutter, in terms of what contracts see
 pub holding_sound : (offset : ℕ) (octets : List ℕ) (progress : Progress) (room : ℕ) → IsKept offset octets progress →
     IsHolding (holding offset (fault_of offset progress) octets room)
 holding_sound offset octets Awaited room h = record { offset = h.offset; octets = inl (subst IsPartial (sym h.progress) empty_partial) }
-holding_sound offset octets (Stopped Whole) room h = record { offset = h.offset; octets = inr ((drop 4 octets, full_packet octets h.progress.0 h.progress.1), refl) }
+holding_sound offset octets (Stopped Whole) room h =
+    record { offset = h.offset; octets = inr ((drop 4 octets, full_packet octets h.progress.0 h.progress.1), refl) }
 holding_sound offset octets _ room h = record { offset = h.offset; octets = inl (short_partial octets h.progress.0 h.progress.1) }
 
 -- the same of its value
@@ -19,7 +24,8 @@ pub kept_sound : (offset : ℕ) (octets : List ℕ) (progress : Progress) (room 
 kept_sound offset octets progress room now h same = subst IsHolding same (holding_sound offset octets progress room h)
 
 -- a cutter that awaits a packet, or whose packet continues, has no fault
-goes_on : (offset : ℕ) (octets : List ℕ) (progress : Progress) → (progress ≡ Awaited) ⊎ (progress ≡ Partial) → IsKept offset octets progress →
+goes_on : (offset : ℕ) (octets : List ℕ) (progress : Progress) → (progress ≡ Awaited) ⊎ (progress ≡ Partial) →
+    IsKept offset octets progress →
     (fault_of offset progress ≡ None) × IsPartial octets
 goes_on offset octets progress (inl is) fits =
     (ap (λ p. fault_of offset p) is, subst IsPartial (sym (subst (λ p. FitsProgress octets p) is fits.progress)) empty_partial)
@@ -27,7 +33,8 @@ goes_on offset octets progress (inr is) fits =
     let front : IsFront octets × IsUnfinished octets × (0 < length octets) = subst (λ p. FitsProgress octets p) is fits.progress in
     (ap (λ p. fault_of offset p) is, short_partial octets front.0 front.1)
 
-pub going_on : (offset : ℕ) (octets : List ℕ) (progress : Progress) (room : ℕ) (now : Held) → (progress ≡ Awaited) ⊎ (progress ≡ Partial) → IsKept offset octets progress →
+pub going_on : (offset : ℕ) (octets : List ℕ) (progress : Progress) (room : ℕ) (now : Held) → (progress ≡ Awaited) ⊎ (progress ≡ Partial) →
+    IsKept offset octets progress →
     holding offset (fault_of offset progress) octets room ≡ now → (now.fault ≡ None) × IsPartial now.octets
 going_on offset octets progress room now is fits same =
     let on = goes_on offset octets progress is fits in
@@ -38,7 +45,8 @@ pub awaiting : (offset : ℕ) (octets : List ℕ) (progress : Progress) → prog
 awaiting offset octets progress is fits = subst (λ p. FitsProgress octets p) is fits.progress
 
 -- if a piece was taken, it was fed
-taken_used : (old : Held) (piece : List ℕ) (result : Result Fed TpktFault) (new : Held) → IsPartial old.octets → TakesPiece old piece result new →
+taken_used : (old : Held) (piece : List ℕ) (result : Result Fed TpktFault) (new : Held) → IsPartial old.octets →
+    TakesPiece old piece result new →
     IfOk result (λ fed. fed.used ≤ length piece) × IfOk result (λ fed. fed.whole ≡ true → 0 < fed.used)
 taken_used old piece (Ok fed) new partial t = (t.0.within, belonging_some old.octets piece fed partial t.0)
 taken_used old piece (Err f) new partial t = (tt, tt)
@@ -65,17 +73,20 @@ stands P true octets fault h e = inr (h, e)
 stands P false octets fault h e = inl h.0
 
 -- a cutter that holds a proper prefix, with the fault that it may have answered
-with_fault : (old new : Held) (fault : Option TpktFault) → IsHolding old → IsPartial old.octets → new ≡ record old { fault = fault } → IsHolding new
+with_fault : (old new : Held) (fault : Option TpktFault) → IsHolding old → IsPartial old.octets → new ≡ record old { fault = fault } →
+    IsHolding new
 with_fault old new fault h partial same = subst IsHolding (sym same) (record { offset = h.offset; octets = inl partial })
 
-pub taken_sound : (old : Held) (piece : List ℕ) (result : Result Fed TpktFault) (new : Held) → IsHolding old → old.fault ≡ None → IsPartial old.octets →
+pub taken_sound : (old : Held) (piece : List ℕ) (result : Result Fed TpktFault) (new : Held) → IsHolding old → old.fault ≡ None →
+    IsPartial old.octets →
     TakesPiece old piece result new → IsHolding new
 taken_sound old piece (Ok fed) new h unfaulted partial t = grind (arith, stands)
 taken_sound old piece (Err (BadVersion at)) new h unfaulted partial t = with_fault old new (Some (BadVersion at)) h partial t.1
 taken_sound old piece (Err (BadLength at)) new h unfaulted partial t = with_fault old new (Some (BadLength at)) h partial t.1
 taken_sound old piece (Err OutOfMemory) new h unfaulted partial t = subst IsHolding (sym t.3) h
 
-pub feeds_sound : (old : Held) (piece : List ℕ) (result : Result Fed TpktFault) (new : Held) → IsHolding old → Feeds old piece result new → IsHolding new
+pub feeds_sound : (old : Held) (piece : List ℕ) (result : Result Fed TpktFault) (new : Held) → IsHolding old → Feeds old piece result new →
+    IsHolding new
 feeds_sound old piece result new h k = elim (none_or_some old.fault) [
   | inr faulty ↦ subst IsHolding (sym (k.again faulty.0 faulty.1).1) h
   | inl unfaulted ↦ elim h.octets [
@@ -99,17 +110,21 @@ begins at room octets none fits =
     subst (λ x. IsHolding (holding at None x room)) (sym none) (record { offset = fits; octets = inl empty_partial })
 
 -- if a piece was refused, its fault was returned, and `OutOfMemory` is not kept
-pub taken_refused : (old : Held) (piece : List ℕ) (result : Result Fed TpktFault) (new : Held) (f : TpktFault) → TakesPiece old piece result new →
+pub taken_refused : (old : Held) (piece : List ℕ) (result : Result Fed TpktFault) (new : Held) (f : TpktFault) →
+    TakesPiece old piece result new →
     IsFaultOf old.offset (old.octets ++ piece) f → result ≡ Err f
 taken_refused old piece (Ok fed) new f t fault = absurd (belonging_no_fault old.octets piece fed old.offset f t.0 fault)
-taken_refused old piece (Err (BadVersion at)) new f t fault = ap Err (one_fault old.offset (old.octets ++ piece) (BadVersion at) f t.0 fault)
+taken_refused old piece (Err (BadVersion at)) new f t fault =
+    ap Err (one_fault old.offset (old.octets ++ piece) (BadVersion at) f t.0 fault)
 taken_refused old piece (Err (BadLength at)) new f t fault = ap Err (one_fault old.offset (old.octets ++ piece) (BadLength at) f t.0 fault)
 taken_refused old piece (Err OutOfMemory) new f t fault = absurd (belonging_no_fault old.octets piece t.0 old.offset f t.1 fault)
 
-pub taken_lasting : (old : Held) (piece : List ℕ) (result : Result Fed TpktFault) (new : Held) → old.fault ≡ None → TakesPiece old piece result new →
+pub taken_lasting : (old : Held) (piece : List ℕ) (result : Result Fed TpktFault) (new : Held) → old.fault ≡ None →
+    TakesPiece old piece result new →
     new.fault ≡ Some OutOfMemory → ⊥
 taken_lasting old piece (Ok fed) new unfaulted t e = none-some OutOfMemory (sym unfaulted ∙ sym (ap (λ (h : Held). h.fault) t.1.octets) ∙ e)
-taken_lasting old piece (Err OutOfMemory) new unfaulted t e = none-some OutOfMemory (sym unfaulted ∙ sym (ap (λ (h : Held). h.fault) t.3) ∙ e)
+taken_lasting old piece (Err OutOfMemory) new unfaulted t e =
+    none-some OutOfMemory (sym unfaulted ∙ sym (ap (λ (h : Held). h.fault) t.3) ∙ e)
 taken_lasting old piece _ new unfaulted t e = absurd (let f = ap (λ (h : Held). h.fault) t.1 in cc)
 
 -- ---- what the storage holds
@@ -121,13 +136,16 @@ pub gathered : (offset held used before after : ℕ) (fault : Option TpktFault) 
 gathered offset held used before after fault old mid new part count put stays unfaulted more = grind (arith, holding)
 
 -- a complete packet at the front of a piece, put where one was awaited
-pub taken_whole : (offset used before after : ℕ) (octets piece items : List ℕ) (progress : Progress) (now : Held) → progress ≡ Awaited → IsKept offset octets progress →
-    holding offset (fault_of offset progress) octets before ≡ now → used ≤ length piece → IsFront (take used piece) → IsFull (take used piece) →
+pub taken_whole : (offset used before after : ℕ) (octets piece items : List ℕ) (progress : Progress) (now : Held) → progress ≡ Awaited →
+    IsKept offset octets progress →
+    holding offset (fault_of offset progress) octets before ≡ now → used ≤ length piece → IsFront (take used piece) →
+        IsFull (take used piece) →
     take used items ≡ take used piece → after ≡ before →
     TakesPiece now piece (Ok (record { used = used; whole = true })) (holding offset None (take used items) after)
 taken_whole offset used before after octets piece items progress now is kept same within front full put room =
     let none : octets ≡ [] = awaiting offset octets progress is kept in
-    subst (λ (h : Held). TakesPiece h piece (Ok (record { used = used; whole = true })) (holding offset None (take used items) after)) same (
+    subst (λ (h : Held). TakesPiece h piece (Ok (record { used = used; whole = true })) (holding offset None (take used items) after)) same
+        (
       surveyed [] octets piece (record { used = used; whole = true }) (sym none) within front full,
       record {
         octets = ap (λ x. holding offset None x after) put ∙ ap (λ l. holding offset None (l ++ take used piece) after) (sym none)
@@ -138,26 +156,34 @@ taken_whole offset used before after octets piece items progress now is kept sam
 
 -- ---- a packet that is taken without a copy
 
-pub passed : (offset sum room used : ℕ) (octets piece : List ℕ) (progress : Progress) (now : Held) → progress ≡ Awaited → IsKept offset octets progress → used ≤ length piece →
-    IsFront (take used piece) → IsFull (take used piece) → sum ≡ offset_of (offset + used) → holding offset (fault_of offset progress) octets room ≡ now →
+pub passed : (offset sum room used : ℕ) (octets piece : List ℕ) (progress : Progress) (now : Held) → progress ≡ Awaited →
+    IsKept offset octets progress → used ≤ length piece →
+    IsFront (take used piece) → IsFull (take used piece) → sum ≡ offset_of (offset + used) →
+        holding offset (fault_of offset progress) octets room ≡ now →
     Passes now (take (used - 4) (drop 4 piece)) piece (holding sum (fault_of sum progress) octets room)
-passed offset sum room used octets piece progress now is fits within front full end same = grind (arith, front_packet, length-take-le, holding, awaiting)
+passed offset sum room used octets piece progress now is fits within front full end same =
+    grind (arith, front_packet, length-take-le, holding, awaiting)
 
-pub passed_sound : (offset sum room : ℕ) (octets : List ℕ) (progress : Progress) → progress ≡ Awaited → IsKept offset octets progress → sum < 2 ^ 64 →
+pub passed_sound : (offset sum room : ℕ) (octets : List ℕ) (progress : Progress) → progress ≡ Awaited → IsKept offset octets progress →
+    sum < 2 ^ 64 →
     IsHolding (holding sum (fault_of sum progress) octets room)
 passed_sound offset sum room octets progress is kept fits =
-    subst (λ f. IsHolding (holding sum f octets room)) (sym (ap (fault_of sum) is)) (begins sum room octets (awaiting offset octets progress is kept) fits)
+    subst (λ f. IsHolding (holding sum f octets room)) (sym (ap (fault_of sum) is))
+        (begins sum room octets (awaiting offset octets progress is kept) fits)
 
 passing_feeds : (old new : Held) (unit piece : List ℕ) → Passes old unit piece new →
     Feeds old piece (Ok (record { used = 4 + length unit; whole = true })) (record old { octets = take (4 + length unit) piece })
 passing_feeds old new unit piece p =
-    taken_feeds old piece (Ok (record { used = 4 + length unit; whole = true })) (record old { octets = take (4 + length unit) piece }) p.faultless
+    taken_feeds old piece (Ok (record { used = 4 + length unit; whole = true })) (record old { octets = take (4 + length unit) piece })
+        p.faultless
     (subst IsPartial (sym p.empty) empty_partial) (
       record { within = p.within; whole = (unit, subst (λ l. IsPacket unit (l ++ take (4 + length unit) piece)) (sym p.empty) p.packet) },
-      record { octets = ap (λ l. holding old.offset old.fault (l ++ take (4 + length unit) piece) old.room) (sym p.empty); room = omega arith },
+      record { octets = ap (λ l. holding old.offset old.fault (l ++ take (4 + length unit) piece) old.room) (sym p.empty);
+          room = omega arith },
     )
 
-passing_advances : (old new : Held) (unit piece : List ℕ) → Passes old unit piece new → Advances (record old { octets = take (4 + length unit) piece }) new
+passing_advances : (old new : Held) (unit piece : List ℕ) → Passes old unit piece new →
+    Advances (record old { octets = take (4 + length unit) piece }) new
 passing_advances old new unit piece p =
     let size = length-take-le (4 + length unit) piece p.within in
     record {
@@ -180,7 +206,8 @@ passing_runs old new unit piece p = (
 )
 
 -- a cutter that holds nothing and answered no fault awaits a packet
-pub awaits : (offset : ℕ) (octets : List ℕ) (progress : Progress) (room : ℕ) (now : Held) → (progress ≡ Awaited → ⊥) → IsKept offset octets progress →
+pub awaits : (offset : ℕ) (octets : List ℕ) (progress : Progress) (room : ℕ) (now : Held) → (progress ≡ Awaited → ⊥) →
+    IsKept offset octets progress →
     holding offset (fault_of offset progress) octets room ≡ now → now.octets ≡ [] → now.fault ≡ None → ⊥
 awaits offset octets Awaited room now other fits same none unfaulted = other refl
 awaits offset octets Partial room now other fits same none unfaulted =

@@ -1,7 +1,9 @@
 -- When a link refuses a unit, nothing has changed yet.
 use Rattle.std.proofs.Common.{◌≡◌, ℕ, List, [], ◌∷◌, ◌++◌, map, Some, Result, Ok, Err, OnOk, sym, ap, ◌∙◌}
 use Rattle.osi_carrier.specs.declared.events.Event.{Event}
-use Rattle.osi_carrier.proofs.Vocabulary.{append-nil, map-append, disconnect, Standing, LinkFault, Two, Happening, happening, faulted, breaks, taking, Rows, value_at, put, peer_in, link_in, Connection, linked, closing, State, packets, link_after, units_after}
+use Rattle.osi_carrier.proofs.Vocabulary.{append-nil, map-append, disconnect, Standing, LinkFault, Two, Happening, happening, faulted}
+use Rattle.osi_carrier.proofs.Vocabulary.{breaks, taking, Rows, value_at, put, peer_in, link_in, Connection, linked, closing, State}
+use Rattle.osi_carrier.proofs.Vocabulary.{packets, link_after, units_after}
 use Rattle.osi_carrier.proofs.references.what_is_open.{open_is}
 use Rattle.osi_carrier.proofs.references.the_row_at_a_place.{put_same}
 
@@ -15,9 +17,11 @@ pub broke_octets : (peer : ℕ) (before after : List ℕ) (t : Result Standing L
     after ≡ before ++ packets (units_after peer t) → after ≡ before
 broke_octets peer before after t fault e h = h ∙ ap (λ u. before ++ packets (units_after peer u)) e ∙ append-nil before
 
-pub broke_taking : {A E : Type 0} (result : Result A E) (r peer : ℕ) (s mid new : State) (t : Result Standing LinkFault) (fault : LinkFault) → t ≡ Err fault → mid ≡ s →
+pub broke_taking : {A E : Type 0} (result : Result A E) (r peer : ℕ) (s mid new : State) (t : Result Standing LinkFault)
+    (fault : LinkFault) → t ≡ Err fault → mid ≡ s →
     OnOk result (new ≡ breaks r peer fault mid.class mid) → OnOk result (new ≡ taking r peer t s)
-broke_taking (Ok a) r peer s mid new t fault e same h = h ∙ ap (λ (x : State). breaks r peer fault x.class x) same ∙ sym (ap (λ u. taking r peer u s) e)
+broke_taking (Ok a) r peer s mid new t fault e same h = h ∙ ap (λ (x : State). breaks r peer fault x.class x) same ∙
+    sym (ap (λ u. taking r peer u s) e)
 broke_taking (Err f) r peer s mid new t fault e same h = tt
 
 -- ---- what is changed of a state
@@ -26,10 +30,12 @@ pub changed : (s : State) (l k : Rows Connection) (o p : List ℕ) (e f : List H
     record s { live = l; outgoing = o; events = e } ≡ record s { live = k; outgoing = p; events = f }
 changed s l k o p e f x y z = cc
 
-pub told : (event : Event) (events more now : List Event) → more ≡ events → now ≡ more ++ event ∷ [] → map happening now ≡ map happening events ++ happening event ∷ []
+pub told : (event : Event) (events more now : List Event) → more ≡ events → now ≡ more ++ event ∷ [] →
+    map happening now ≡ map happening events ++ happening event ∷ []
 told event events more now same h = ap (map happening) (h ∙ ap (λ l. l ++ event ∷ []) same) ∙ map-append happening events (event ∷ [])
 
 pub breaks_two : (r peer : ℕ) (fault : LinkFault) (s t : State) → s.class ≡ Some Two →
-    t ≡ record s { live = put r (closing peer) s.live; outgoing = s.outgoing ++ packets (disconnect peer r 133 [] ∷ []); events = s.events ++ faulted r fault ∷ [] } →
+    t ≡ record s { live = put r (closing peer) s.live; outgoing = s.outgoing ++ packets (disconnect peer r 133 [] ∷ []);
+        events = s.events ++ faulted r fault ∷ [] } →
     t ≡ breaks r peer fault s.class s
 breaks_two r peer fault s t class h = h ∙ sym (ap (λ k. breaks r peer fault k s) class)

@@ -1,9 +1,22 @@
 -- The effect of a unit apart from what it writes: it is for one connection, and touches no other.
-use Rattle.std.proofs.Common.{◌≡◌, ◌≢◌, ℕ, ◌+◌, ◌<◌, ◌≤◌, Bool, true, false, List, [], ◌∷◌, ◌++◌, length, take, Option, Some, None, Result, Ok, Err, IsSome, is_some, nat_le, ◌||◌, refl, sym, ap, subst, ◌∙◌, ◌⊎◌, inl, inr, arith, length-append, not, if◌then◌else◌}
+use Rattle.std.proofs.Common.{◌≡◌, ◌≢◌, ℕ, ◌+◌, ◌<◌, ◌≤◌, Bool, true, false, List, [], ◌∷◌, ◌++◌, length, take, Option, Some, None, Result}
+use Rattle.std.proofs.Common.{Ok, Err, IsSome, is_some, nat_le, ◌||◌, refl, sym, ap, subst, ◌∙◌, ◌⊎◌, inl, inr, arith, length-append, not}
+use Rattle.std.proofs.Common.{if◌then◌else◌}
 use Rattle.osi_carrier.specs.declared.faults.OpenError.{OpenError}
 use Rattle.osi_carrier.specs.declared.faults.OpenError.TheVariants.{NotCaller, Ended, TooMany, ReferencesUsedUp}
-use Rattle.osi_carrier.proofs.Vocabulary.{nat_tests, append-nil, AllByRecursion, units_of, TpduFault, Value, Connect, request, confirm, disconnect, disconnected, data0, error, Standing, taken, Selection, accept, refuse, selected_by, LinkFault, Class, Zero, Two, Local, Happening, refused, confirmed, fresh_state, class_error, or_else, room_error, may_connect, asks, sent_on, open_link, sent, closes, closed_on, closed_with, ended_by, RiseFrom, AreUpTo, only_of, connection_by, connection_of, told_of, IsOrderly, ChangesOne, acts_by, after_packet, denies, answers, is_full, has_peer, answers_request, to_unknown, opens, to_asked, tells_of, taking, breaks, leaves, to_linked, to_closing, to_connection, to_reference, before_class, to_only, in_zero, in_two, in_class, react, react_by, reacts, Rows, value_at, put, without, Connection, asked, closing, State, drops, ends, EndReason, AreNamed, sent_all}
-use Rattle.osi_carrier.proofs.references.rows_after_a_change.{put_other, without_other, push_other, put_none, without_none, put_rise, without_rise, push_rise, put_up, without_up, push_up, put_length, without_length}
+use Rattle.osi_carrier.proofs.Vocabulary.{nat_tests, append-nil, AllByRecursion, units_of, TpduFault, Value, Connect, request, confirm}
+use Rattle.osi_carrier.proofs.Vocabulary.{disconnect, disconnected, data0, error, Standing, taken, Selection, accept, refuse, selected_by}
+use Rattle.osi_carrier.proofs.Vocabulary.{LinkFault, Class, Zero, Two, Local, Happening, refused, confirmed, fresh_state, class_error}
+use Rattle.osi_carrier.proofs.Vocabulary.{or_else, room_error, may_connect, asks, sent_on, open_link, sent, closes, closed_on, closed_with}
+use Rattle.osi_carrier.proofs.Vocabulary.{ended_by, RiseFrom, AreUpTo, only_of, connection_by, connection_of, told_of, IsOrderly}
+use Rattle.osi_carrier.proofs.Vocabulary.{ChangesOne, acts_by, after_packet, denies, answers, is_full, has_peer, answers_request}
+use Rattle.osi_carrier.proofs.Vocabulary.{to_unknown, opens, to_asked, tells_of, taking, breaks, leaves, to_linked, to_closing}
+use Rattle.osi_carrier.proofs.Vocabulary.{to_connection, to_reference, before_class, to_only, in_zero, in_two, in_class, react, react_by}
+use Rattle.osi_carrier.proofs.Vocabulary.{reacts, Rows, value_at, put, without, Connection, asked, closing, State, drops, ends, EndReason}
+use Rattle.osi_carrier.proofs.Vocabulary.{AreNamed, sent_all}
+use Rattle.osi_carrier.proofs.references.rows_after_a_change.{put_other, without_other, push_other, put_none, without_none, put_rise}
+use Rattle.osi_carrier.proofs.references.rows_after_a_change.{without_rise, push_rise, put_up, without_up, push_up, put_length}
+use Rattle.osi_carrier.proofs.references.rows_after_a_change.{without_length}
 use Rattle.osi_carrier.proofs.references.which_connections_have_selectors.{Naming, named, unit_named, asks_named, sent_names, closes_names}
 use Rattle.osi_carrier.proofs.effects.units_one_after_the_other.{react_over}
 
@@ -47,7 +60,8 @@ pub record Effect (r : ℕ) (old new : State) : Type 0 where
 silent : (r : ℕ) (old new : State) → new.events ≡ old.events → How r old new → Effect r old new
 silent r old new same how = record { told = []; events = same ∙ sym (append-nil old.events); about = tt; one = omega arith; how = how }
 
-telling : (r : ℕ) (old new : State) (event : Happening) → told_of event ≡ r → new.events ≡ old.events ++ event ∷ [] → How r old new → Effect r old new
+telling : (r : ℕ) (old new : State) (event : Happening) → told_of event ≡ r → new.events ≡ old.events ++ event ∷ [] → How r old new →
+    Effect r old new
 telling r old new event about same how = record { told = event ∷ []; events = same; about = (about, tt); one = omega arith; how = how }
 
 -- the live connections, the references and the end are unchanged
@@ -79,13 +93,16 @@ has_room : (n given : ℕ) (b d : Bool) → nat_le 64 n ≡ b → nat_le 65535 g
 has_room n given b d e f h = grind (arith, nat_tests)
 
 answers_by : (c : Connect) (s : State) (in_use full : Bool) → (full ≡ false → (length s.live < 64) × (s.given < 65535)) →
-    Effect (s.given + 1) s (if in_use then denies 131 c.source s else (if full then denies 1 c.source s else answers c (selected_by c s.local) s.class s))
+    Effect (s.given + 1) s
+        (if in_use then denies 131 c.source s else (if full then denies 1 c.source s else answers c (selected_by c s.local) s.class s))
 answers_by c s true full room = effect_denies (s.given + 1) 131 c.source s
 answers_by c s false true room = effect_denies (s.given + 1) 1 c.source s
 answers_by c s false false room = effect_answers c (selected_by c s.local) s.class s (room refl).0 (room refl).1
 
 effect_request : (c : Connect) (s : State) → Effect (s.given + 1) s (answers_request c s)
-effect_request c s = answers_by c s (has_peer c.source s.live) (is_full s) (λ h. has_room (length s.live) s.given (nat_le 64 (length s.live)) (nat_le 65535 s.given) refl refl h)
+effect_request c s =
+    answers_by c s (has_peer c.source s.live) (is_full s)
+    (λ h. has_room (length s.live) s.given (nat_le 64 (length s.live)) (nat_le 65535 s.given) refl refl h)
 
 -- ---- a unit for a connection
 
@@ -97,18 +114,22 @@ effect_unknown r unit s = effect_end r _ s
 effect_opens : (r : ℕ) (c : Connect) (class : Option Class) (s : State) → Effect r s (opens r c class s)
 effect_opens r c class s = grind (arith, effect_end, telling)
 
-effect_refused : (r reason : ℕ) (s t : State) → t.given ≡ s.given → t.ended ≡ s.ended → t.live ≡ without r s.live → t.events ≡ s.events ++ refused r reason ∷ [] →
+effect_refused : (r reason : ℕ) (s t : State) → t.given ≡ s.given → t.ended ≡ s.ended → t.live ≡ without r s.live →
+    t.events ≡ s.events ++ refused r reason ∷ [] →
     Effect r s t
-effect_refused r reason s t given ended live events = telling r s t (refused r reason) refl events (inl (record { given = given; ended = ended; live = inr (inr live) }))
+effect_refused r reason s t given ended live events =
+    telling r s t (refused r reason) refl events (inl (record { given = given; ended = ended; live = inr (inr live) }))
 
 effect_asked : (r : ℕ) (unit : Value) (s : State) → Effect r s (to_asked r unit s)
 effect_asked r (confirm destination c) s = effect_opens r c (confirmed c s.local s.class) s
-effect_asked r (disconnect destination source reason user) s = effect_refused r reason s (to_asked r (disconnect destination source reason user) s) refl refl refl refl
+effect_asked r (disconnect destination source reason user) s =
+    effect_refused r reason s (to_asked r (disconnect destination source reason user) s) refl refl refl refl
 effect_asked r (error destination cause) s = effect_refused r 0 s (to_asked r (error destination cause) s) refl refl refl refl
 effect_asked r unit s = effect_unknown r unit s
 
 -- at most one TSDU is handed out
-effect_settles : (r : ℕ) (whole : List (List ℕ)) (c : Connection) (s t : State) → t.given ≡ s.given → t.ended ≡ s.ended → t.live ≡ put r c s.live →
+effect_settles : (r : ℕ) (whole : List (List ℕ)) (c : Connection) (s t : State) → t.given ≡ s.given → t.ended ≡ s.ended →
+    t.live ≡ put r c s.live →
     t.events ≡ s.events → Effect r s (tells_of r (take 1 whole) t)
 effect_settles r whole c s t given h live events = grind (arith, silent, append-nil, telling)
 
@@ -143,7 +164,8 @@ effect_reference r unit s = effect_connection r (value_at r s.live) unit s
 
 effect_before : (is_caller : Bool) (unit : Value) (s : State) → Effect (connection_by None unit s) s (before_class is_caller unit s)
 effect_before true (confirm destination c) s = effect_reference destination (confirm destination c) s
-effect_before true (disconnect destination source reason user) s = effect_reference destination (disconnect destination source reason user) s
+effect_before true (disconnect destination source reason user) s =
+    effect_reference destination (disconnect destination source reason user) s
 effect_before true (error destination cause) s = effect_reference destination (error destination cause) s
 effect_before false (request c) s = effect_request c s
 effect_before is_caller unit s = effect_end _ _ s
@@ -183,7 +205,8 @@ touched_other q r old new other h = grind (arith, put_other, without_other)
 how_other : (q r : ℕ) (old new : State) → q ≢ r → new.ended ≡ None → How r old new → value_at q new.live ≡ value_at q old.live
 how_other q r old new other lasts (inl kept) = touched_other q r old.live new.live other kept.live
 how_other q r old new other lasts (inr (inl joined)) = grind (arith, push_other)
-how_other q r old new other lasts (inr (inr over)) = let ended = over.ended in let e : is_some new.ended ≡ false = ap is_some lasts in absurd cc
+how_other q r old new other lasts (inr (inr over)) = let ended = over.ended in let e : is_some new.ended ≡ false =
+    ap is_some lasts in absurd cc
 
 pub changes_one : (unit : Value) (s : State) → (react unit s).ended ≡ None → ChangesOne (connection_of unit s) s (react unit s)
 changes_one unit s lasts =
@@ -225,7 +248,8 @@ touched_orderly given r old new h (inl same) = subst (AreOrderly given) (sym sam
 touched_orderly given r old new h (inr (inl (c, same))) = grind (arith, put_length, put_rise, put_up)
 touched_orderly given r old new h (inr (inr same)) = grind (arith, without_length, without_rise, without_up)
 
-joined_orderly : (given : ℕ) (c : Connection) (old : Rows Connection) → AreOrderly given old → length old < 64 → AreOrderly (given + 1) (old ++ (given + 1, c) ∷ [])
+joined_orderly : (given : ℕ) (c : Connection) (old : Rows Connection) → AreOrderly given old → length old < 64 →
+    AreOrderly (given + 1) (old ++ (given + 1, c) ∷ [])
 joined_orderly given c old h room = grind (arith, length-append, push_rise, push_up)
 
 orderly_of : (s : State) → AreOrderly s.given s.live → s.given ≤ 65535 → (IsSome s.ended → s.live ≡ []) → AreNamed s → IsOrderly s
@@ -237,7 +261,8 @@ none_over o e h = grind arith
 -- of a carrier that has not ended
 how_orderly : (r : ℕ) (old new : State) → IsOrderly old → is_some old.ended ≡ false → How r old new → AreNamed new → IsOrderly new
 how_orderly r old new h lasts (inl kept) names =
-    orderly_of new (subst (λ n. AreOrderly n new.live) (sym kept.given) (touched_orderly old.given r old.live new.live (rows_of old h) kept.live))
+    orderly_of new
+        (subst (λ n. AreOrderly n new.live) (sym kept.given) (touched_orderly old.given r old.live new.live (rows_of old h) kept.live))
     (let g = h.given in let e = kept.given in omega arith)
     (λ some. none_over old.ended lasts (subst IsSome kept.ended some)) names
 how_orderly r old new h lasts (inr (inl joined)) names =
@@ -249,7 +274,8 @@ how_orderly r old new h lasts (inr (inr over)) names = grind (arith, orderly_of)
 
 orderly_by : (unit : Value) (s : State) (b : Bool) → is_some s.ended ≡ b → IsOrderly s → IsOrderly (react unit s)
 orderly_by unit s true over h = subst IsOrderly (sym (react_over unit s over)) h
-orderly_by unit s false lasts h = how_orderly (connection_of unit s) s (react unit s) h lasts (effect unit s).how (unit_named unit s h.named)
+orderly_by unit s false lasts h =
+    how_orderly (connection_of unit s) s (react unit s) h lasts (effect unit s).how (unit_named unit s h.named)
 
 pub orderly_unit : (unit : Value) (s : State) → IsOrderly s → IsOrderly (react unit s)
 orderly_unit unit s h = orderly_by unit s (is_some s.ended) refl h
@@ -280,7 +306,8 @@ pub record MayJoin (s : State) : Type 0 where
   pub room : length s.live < 64
   pub left : s.given < 65535
 
-room_free : (n given : ℕ) (b d : Bool) → nat_le 64 n ≡ b → nat_le 65535 given ≡ d → (if b then Some TooMany else (if d then Some ReferencesUsedUp else None)) ≡ None →
+room_free : (n given : ℕ) (b d : Bool) → nat_le 64 n ≡ b → nat_le 65535 given ≡ d →
+    (if b then Some TooMany else (if d then Some ReferencesUsedUp else None)) ≡ None →
     (n < 64) × (given < 65535)
 room_free n given b d e f h = grind (arith, nat_tests)
 
@@ -288,7 +315,8 @@ or_none : (first other : Option OpenError) → or_else first other ≡ None → 
 or_none first other h = grind arith
 
 free_by : (s : State) (caller over : Bool) → is_some s.ended ≡ over →
-    (if not caller then Some NotCaller else (if over then Some Ended else or_else (class_error s.class s.live) (room_error s))) ≡ None → MayJoin s
+    (if not caller then Some NotCaller else (if over then Some Ended else or_else (class_error s.class s.live) (room_error s))) ≡ None →
+        MayJoin s
 free_by s caller over e h = grind (arith, room_free, length, nat_le, or_none)
 
 pub free_of : (s : State) → may_connect s ≡ None → MayJoin s
@@ -301,16 +329,19 @@ orderly_asks calling called s may h =
     (inr (inl (record { next = refl; given = refl; ended = refl; connection = asked; live = refl; room = free.room; left = free.left })))
     (asks_named calling called s h.named)
 
-put_over : (r : ℕ) (c : Connection) (s t : State) → t.given ≡ s.given → t.ended ≡ s.ended → t.live ≡ put r c s.live → Naming s t → IsOrderly s → IsOrderly t
+put_over : (r : ℕ) (c : Connection) (s t : State) → t.given ≡ s.given → t.ended ≡ s.ended → t.live ≡ put r c s.live → Naming s t →
+    IsOrderly s → IsOrderly t
 put_over r c s t given ended live names h =
-    orderly_of t (subst (λ n. AreOrderly n t.live) (sym given) (touched_orderly s.given r s.live t.live (rows_of s h) (inr (inl (c, live)))))
+    orderly_of t (subst (λ n. AreOrderly n t.live) (sym given)
+        (touched_orderly s.given r s.live t.live (rows_of s h) (inr (inl (c, live)))))
     (let g = h.given in omega arith)
     (λ some. live ∙ ap (put r c) (h.over (subst IsSome ended some)))
     (named s t names h.named)
 
 sent_by : (r : ℕ) (octets : List ℕ) (link : Option (ℕ × Standing)) (s : State) → IsOrderly s → IsOrderly (sent_on r octets link s)
 sent_by r octets None s h = h
-sent_by r octets (Some (peer, link)) s h = put_over r _ s (sent_on r octets (Some (peer, link)) s) refl refl refl (sent_names r octets (Some (peer, link)) s) h
+sent_by r octets (Some (peer, link)) s h =
+    put_over r _ s (sent_on r octets (Some (peer, link)) s) refl refl refl (sent_names r octets (Some (peer, link)) s) h
 
 pub orderly_sent : (r : ℕ) (octets : List ℕ) (s : State) → IsOrderly s → IsOrderly (sent r octets s)
 orderly_sent r octets s h = sent_by r octets (open_link r s) s h
@@ -321,7 +352,8 @@ orderly_sent_all r (tsdu ∷ tsdus) s h = orderly_sent_all r tsdus (sent r tsdu 
 
 closes_by : (r peer reason : ℕ) (held : Option Class) (s : State) → IsOrderly s → IsOrderly (closes r peer reason held s)
 closes_by r peer reason (Some Zero) s h = orderly_end _ s h
-closes_by r peer reason held s h = put_over r (closing peer) s (closes r peer reason held s) refl refl refl (closes_names r peer reason held s) h
+closes_by r peer reason held s h =
+    put_over r (closing peer) s (closes r peer reason held s) refl refl refl (closes_names r peer reason held s) h
 
 closed_by : (r reason : ℕ) (link : Option (ℕ × Standing)) (s : State) → IsOrderly s → IsOrderly (closed_on r reason link s)
 closed_by r reason None s h = h
@@ -337,15 +369,18 @@ pub orderly_ended : (reason : EndReason) (s : State) → IsOrderly s → IsOrder
 orderly_ended reason s h = ended_at reason s (is_some s.ended) h
 
 -- what is taken out of the queues changes nothing of it
-pub orderly_same : (s : State) (outgoing : List ℕ) (events : List Happening) → IsOrderly s → IsOrderly (record s { outgoing = outgoing; events = events })
+pub orderly_same : (s : State) (outgoing : List ℕ) (events : List Happening) → IsOrderly s →
+    IsOrderly (record s { outgoing = outgoing; events = events })
 orderly_same s outgoing events h = record { rise = h.rise; up_to = h.up_to; given = h.given; live = h.live; over = h.over; named = h.named }
 
 -- ---- what is gone, after calls
 
-pub asks_gone : (calling called : Option (List ℕ)) (s : State) (r : ℕ) → r ≤ s.given → value_at r s.live ≡ None → value_at r (asks calling called s).live ≡ None
+pub asks_gone : (calling called : Option (List ℕ)) (s : State) (r : ℕ) → r ≤ s.given → value_at r s.live ≡ None →
+    value_at r (asks calling called s).live ≡ None
 asks_gone calling called s r up none = push_other r (s.given + 1) asked s.live (λ e. omega arith) ∙ none
 
-sent_gone_by : (r : ℕ) (q : ℕ) (octets : List ℕ) (link : Option (ℕ × Standing)) (s : State) → value_at r s.live ≡ None → value_at r (sent_on q octets link s).live ≡ None
+sent_gone_by : (r : ℕ) (q : ℕ) (octets : List ℕ) (link : Option (ℕ × Standing)) (s : State) → value_at r s.live ≡ None →
+    value_at r (sent_on q octets link s).live ≡ None
 sent_gone_by r q octets link s none = grind (arith, put_none)
 
 pub sent_gone : (q r : ℕ) (octets : List ℕ) (s : State) → value_at r s.live ≡ None → value_at r (sent q octets s).live ≡ None
@@ -355,10 +390,12 @@ pub sent_all_gone : (q r : ℕ) (tsdus : List (List ℕ)) (s : State) → value_
 sent_all_gone q r [] s none = none
 sent_all_gone q r (tsdu ∷ tsdus) s none = sent_all_gone q r tsdus (sent q tsdu s) (sent_gone q r tsdu s none)
 
-closes_gone : (r q peer reason : ℕ) (held : Option Class) (s : State) → value_at r s.live ≡ None → value_at r (closes q peer reason held s).live ≡ None
+closes_gone : (r q peer reason : ℕ) (held : Option Class) (s : State) → value_at r s.live ≡ None →
+    value_at r (closes q peer reason held s).live ≡ None
 closes_gone r q peer reason held s none = grind (arith, put_none)
 
-closed_gone_by : (r q reason : ℕ) (link : Option (ℕ × Standing)) (s : State) → value_at r s.live ≡ None → value_at r (closed_on q reason link s).live ≡ None
+closed_gone_by : (r q reason : ℕ) (link : Option (ℕ × Standing)) (s : State) → value_at r s.live ≡ None →
+    value_at r (closed_on q reason link s).live ≡ None
 closed_gone_by r q reason link s none = grind (arith, closes_gone)
 
 pub closed_gone : (q r reason : ℕ) (s : State) → value_at r s.live ≡ None → value_at r (closed_with q reason s).live ≡ None

@@ -53,15 +53,18 @@ along_over start now after all left more unit h e acts over =
     ∙ ap (λ s. reacts (unit ∷ more) s) (sym h.acted) ∙ ap (reacts more) (sym one) ∙ rest))
 
 -- a unit for which memory ran out did nothing
-pub along_starved : (start now tried after : State) (all left more : List Value) (unit : Value) → IsAlong start all now left → left ≡ unit ∷ more →
-    ends NoMemory tried ≡ ends NoMemory now → grows now (in_class now.class unit now) ≡ true → after ≡ ends NoMemory tried → Act start all after
+pub along_starved : (start now tried after : State) (all left more : List Value) (unit : Value) → IsAlong start all now left →
+    left ≡ unit ∷ more →
+    ends NoMemory tried ≡ ends NoMemory now → grows now (in_class now.class unit now) ≡ true → after ≡ ends NoMemory tried →
+        Act start all after
 along_starved start now tried after all left more unit h e nothing needs ended = grind (arith, react_quiet)
 
 pub none_of : {A : Type 0} (o : Option A) → is_some o ≡ false → o ≡ None
 none_of o e = grind arith
 
 -- one unit acts, or memory ran out for it
-pub one_acts : (start after : State) (unit : Value) → start.ended ≡ None → after ≡ in_class start.class unit start → Act start (unit ∷ []) after
+pub one_acts : (start after : State) (unit : Value) → start.ended ≡ None → after ≡ in_class start.class unit start →
+    Act start (unit ∷ []) after
 one_acts start after unit quiet acts = inl (acts ∙ sym (react_quiet unit start quiet))
 
 pub one_starved : (start tried after : State) (unit : Value) → start.ended ≡ None → ends NoMemory tried ≡ ends NoMemory start →
@@ -69,5 +72,6 @@ pub one_starved : (start tried after : State) (unit : Value) → start.ended ≡
 one_starved start tried after unit quiet nothing needs ended =
     along_starved start start tried after (unit ∷ []) (unit ∷ []) [] unit (along_first start (unit ∷ []) quiet) refl nothing needs ended
 
-pub one_taken : (start after then : State) (unit : Value) → start.ended ≡ None → in_class start.class unit start ≡ then → after ≡ then → Act start (unit ∷ []) after
+pub one_taken : (start after then : State) (unit : Value) → start.ended ≡ None → in_class start.class unit start ≡ then → after ≡ then →
+    Act start (unit ∷ []) after
 one_taken start after then unit quiet acts is = one_acts start after unit quiet (is ∙ sym acts)

@@ -1,7 +1,17 @@
 -- The effects on a carrier don't depend on queued events and octets to send: they are the same with others in front.
-use Rattle.std.proofs.Common.{◌≡◌, ℕ, ◌+◌, Bool, true, false, List, [], ◌∷◌, ◌++◌, take, map, Option, Some, None, Result, Ok, Err, is_some, refl, ap, ◌∙◌, append_assoc, if◌then◌else◌}
+use Rattle.std.proofs.Common.{◌≡◌, ℕ, ◌+◌, Bool, true, false, List, [], ◌∷◌, ◌++◌, take, map, Option, Some, None, Result, Ok, Err, is_some}
+use Rattle.std.proofs.Common.{refl, ap, ◌∙◌, append_assoc, if◌then◌else◌}
 use Rattle.osi_carrier.specs.Runs.UserCall.{closes as closing_call, breaks as breaking_call}
-use Rattle.osi_carrier.proofs.Vocabulary.{connection_by, units_of, Value, Connect, request, confirm, disconnect, disconnected, data0, error, TpduFault, Standing, taken, Selection, accept, refuse, selected_by, LinkFault, Class, Zero, Two, sent_on, open_link, closes, closed_on, Happening, opened, refused, tsdu, closed, faulted, proposal, acceptance, confirmed, agreed_size, opened_link, acts_by, after_packet, written_by, pumped, denies, tsaps_of, answers, is_full, has_peer, answers_request, to_unknown, opens, to_asked, handed_out, pumps, tells_of, settles, taking, breaks, leaves, to_linked, to_closing, to_connection, to_reference, before_class, to_only, in_zero, in_two, in_class, react, react_by, reacts, Rows, value_at, UserCall, Act, user_does, does, all_done, put_back, connects, sends, packet, user, Connection, asked, linked, closing, State, writes, tells, joins, moves, drops, ends, packets, EndReason, sent_all, sends_all, sent}
+use Rattle.osi_carrier.proofs.Vocabulary.{connection_by, units_of, Value, Connect, request, confirm, disconnect, disconnected, data0, error}
+use Rattle.osi_carrier.proofs.Vocabulary.{TpduFault, Standing, taken, Selection, accept, refuse, selected_by, LinkFault, Class, Zero, Two}
+use Rattle.osi_carrier.proofs.Vocabulary.{sent_on, open_link, closes, closed_on, Happening, opened, refused, tsdu, closed, faulted}
+use Rattle.osi_carrier.proofs.Vocabulary.{proposal, acceptance, confirmed, agreed_size, opened_link, acts_by, after_packet, written_by}
+use Rattle.osi_carrier.proofs.Vocabulary.{pumped, denies, tsaps_of, answers, is_full, has_peer, answers_request, to_unknown, opens}
+use Rattle.osi_carrier.proofs.Vocabulary.{to_asked, handed_out, pumps, tells_of, settles, taking, breaks, leaves, to_linked, to_closing}
+use Rattle.osi_carrier.proofs.Vocabulary.{to_connection, to_reference, before_class, to_only, in_zero, in_two, in_class, react, react_by}
+use Rattle.osi_carrier.proofs.Vocabulary.{reacts, Rows, value_at, UserCall, Act, user_does, does, all_done, put_back, connects, sends}
+use Rattle.osi_carrier.proofs.Vocabulary.{packet, user, Connection, asked, linked, closing, State, writes, tells, joins, moves, drops, ends}
+use Rattle.osi_carrier.proofs.Vocabulary.{packets, EndReason, sent_all, sends_all, sent}
 
 -- with these events and octets in front
 module _ (e : List Happening) (o : List ℕ) where
@@ -9,13 +19,15 @@ module _ (e : List Happening) (o : List ℕ) where
   apart_writes units s = ap (λ out. record s { events = e ++ s.events; outgoing = out }) (append_assoc o s.outgoing (packets units))
 
   apart_tells_of : (r : ℕ) (whole : List (List ℕ)) (s : State) → tells_of r whole (put_back e o s) ≡ put_back e o (tells_of r whole s)
-  apart_tells_of r whole s = ap (λ waiting. record s { events = waiting; outgoing = o ++ s.outgoing }) (append_assoc e s.events (map (tsdu r) whole))
+  apart_tells_of r whole s =
+      ap (λ waiting. record s { events = waiting; outgoing = o ++ s.outgoing }) (append_assoc e s.events (map (tsdu r) whole))
 
   apart_tells : (event : Happening) (s : State) → tells event (put_back e o s) ≡ put_back e o (tells event s)
   apart_tells event s = ap (λ waiting. record s { events = waiting; outgoing = o ++ s.outgoing }) (append_assoc e s.events (event ∷ []))
 
   -- an event is reported after units that are written
-  apart_both : (event : Happening) (units : List Value) (s : State) → tells event (writes units (put_back e o s)) ≡ put_back e o (tells event (writes units s))
+  apart_both : (event : Happening) (units : List Value) (s : State) →
+      tells event (writes units (put_back e o s)) ≡ put_back e o (tells event (writes units s))
   apart_both event units s = ap (tells event) (apart_writes units s) ∙ apart_tells event (writes units s)
 
   -- ---- a CR
@@ -26,12 +38,14 @@ module _ (e : List Happening) (o : List ℕ) where
   apart_answers c (accept Zero size) (Some class) s = apart_writes (disconnect c.source 0 136 [] ∷ []) s
   apart_answers c (accept class size) held s =
       apart_both (opened (s.given + 1)) (confirm c.source (acceptance class size c s.local (s.given + 1)) ∷ [])
-      (joins (s.given + 1) (linked c.source (opened_link class size s.local c.credit)) (tsaps_of c) (record s { class = Some class; given = s.given + 1 }))
+      (joins (s.given + 1) (linked c.source (opened_link class size s.local c.credit)) (tsaps_of c)
+          (record s { class = Some class; given = s.given + 1 }))
 
   apart_request_by : (c : Connect) (s : State) (in_use full : Bool) →
       (if in_use then denies 131 c.source (put_back e o s)
       else (if full then denies 1 c.source (put_back e o s) else answers c (selected_by c s.local) s.class (put_back e o s)))
-      ≡ put_back e o (if in_use then denies 131 c.source s else (if full then denies 1 c.source s else answers c (selected_by c s.local) s.class s))
+      ≡ put_back e o
+          (if in_use then denies 131 c.source s else (if full then denies 1 c.source s else answers c (selected_by c s.local) s.class s))
   apart_request_by c s true full = apart_writes (disconnect c.source 0 131 [] ∷ []) s
   apart_request_by c s false true = apart_writes (disconnect c.source 0 1 [] ∷ []) s
   apart_request_by c s false false = apart_answers c (selected_by c s.local) s.class s
@@ -45,10 +59,13 @@ module _ (e : List Happening) (o : List ℕ) where
   apart_unknown (disconnect destination source reason octets) s = apart_writes (disconnected source destination ∷ []) s
   apart_unknown unit s = refl
 
-  apart_opens : (r : ℕ) (c : Connect) (class : Option Class) (s : State) → opens r c class (put_back e o s) ≡ put_back e o (opens r c class s)
+  apart_opens : (r : ℕ) (c : Connect) (class : Option Class) (s : State) →
+      opens r c class (put_back e o s) ≡ put_back e o (opens r c class s)
   apart_opens r c None s = refl
   apart_opens r c (Some class) s =
-      apart_tells (opened r) (moves r (linked c.source (opened_link class (agreed_size c.parameters.size s.local) s.local c.credit)) (record s { class = Some class }))
+      apart_tells (opened r)
+          (moves r (linked c.source (opened_link class (agreed_size c.parameters.size s.local) s.local c.credit))
+          (record s { class = Some class }))
 
   apart_asked : (r : ℕ) (unit : Value) (s : State) → to_asked r unit (put_back e o s) ≡ put_back e o (to_asked r unit s)
   apart_asked r (confirm destination c) s = apart_opens r c (confirmed c s.local s.class) s
@@ -69,15 +86,18 @@ module _ (e : List Happening) (o : List ℕ) where
   apart_breaks r peer fault (Some Two) s = apart_both (faulted r fault) (disconnect peer r 133 [] ∷ []) (moves r (closing peer) s)
   apart_breaks r peer fault held s = refl
 
-  apart_taking : (r peer : ℕ) (result : Result Standing LinkFault) (s : State) → taking r peer result (put_back e o s) ≡ put_back e o (taking r peer result s)
+  apart_taking : (r peer : ℕ) (result : Result Standing LinkFault) (s : State) →
+      taking r peer result (put_back e o s) ≡ put_back e o (taking r peer result s)
   apart_taking r peer (Ok link) s = apart_settles r peer link s
   apart_taking r peer (Err fault) s = apart_breaks r peer fault s.class s
 
-  apart_leaves : (r peer reason : ℕ) (held : Option Class) (s : State) → leaves r peer reason held (put_back e o s) ≡ put_back e o (leaves r peer reason held s)
+  apart_leaves : (r peer reason : ℕ) (held : Option Class) (s : State) →
+      leaves r peer reason held (put_back e o s) ≡ put_back e o (leaves r peer reason held s)
   apart_leaves r peer reason (Some Two) s = apart_both (closed r reason) (disconnected peer r ∷ []) (drops r s)
   apart_leaves r peer reason held s = ap (ends _) (apart_tells (closed r reason) s)
 
-  apart_linked : (r peer : ℕ) (link : Standing) (unit : Value) (s : State) → to_linked r peer link unit (put_back e o s) ≡ put_back e o (to_linked r peer link unit s)
+  apart_linked : (r peer : ℕ) (link : Standing) (unit : Value) (s : State) →
+      to_linked r peer link unit (put_back e o s) ≡ put_back e o (to_linked r peer link unit s)
   apart_linked r peer link (disconnect destination source reason octets) s = apart_leaves r peer reason s.class s
   apart_linked r peer link unit s = apart_taking r peer (taken link unit) s
 
@@ -85,7 +105,8 @@ module _ (e : List Happening) (o : List ℕ) where
   apart_closing r (request c) s = refl
   apart_closing r unit s = refl
 
-  apart_connection : (r : ℕ) (at : Option Connection) (unit : Value) (s : State) → to_connection r at unit (put_back e o s) ≡ put_back e o (to_connection r at unit s)
+  apart_connection : (r : ℕ) (at : Option Connection) (unit : Value) (s : State) →
+      to_connection r at unit (put_back e o s) ≡ put_back e o (to_connection r at unit s)
   apart_connection r None unit s = apart_unknown unit s
   apart_connection r (Some asked) unit s = apart_asked r unit s
   apart_connection r (Some (linked peer link)) unit s = apart_linked r peer link unit s
@@ -96,9 +117,11 @@ module _ (e : List Happening) (o : List ℕ) where
 
   -- ---- by class
 
-  apart_before : (is_caller : Bool) (unit : Value) (s : State) → before_class is_caller unit (put_back e o s) ≡ put_back e o (before_class is_caller unit s)
+  apart_before : (is_caller : Bool) (unit : Value) (s : State) →
+      before_class is_caller unit (put_back e o s) ≡ put_back e o (before_class is_caller unit s)
   apart_before true (confirm destination c) s = apart_reference destination (confirm destination c) s
-  apart_before true (disconnect destination source reason octets) s = apart_reference destination (disconnect destination source reason octets) s
+  apart_before true (disconnect destination source reason octets) s =
+      apart_reference destination (disconnect destination source reason octets) s
   apart_before true (error destination cause) s = apart_reference destination (error destination cause) s
   apart_before false (request c) s = apart_request c s
   apart_before is_caller unit s = refl
@@ -107,11 +130,13 @@ module _ (e : List Happening) (o : List ℕ) where
   apart_only [] unit s = refl
   apart_only ((r, connection) ∷ rows) unit s = apart_connection r (Some connection) unit s
 
-  apart_zero : (is_caller : Bool) (unit : Value) (s : State) → in_zero is_caller unit (put_back e o s) ≡ put_back e o (in_zero is_caller unit s)
+  apart_zero : (is_caller : Bool) (unit : Value) (s : State) →
+      in_zero is_caller unit (put_back e o s) ≡ put_back e o (in_zero is_caller unit s)
   apart_zero true (request c) s = refl
   apart_zero is_caller unit s = apart_only s.live unit s
 
-  apart_two : (is_caller : Bool) (unit : Value) (s : State) → in_two is_caller unit (put_back e o s) ≡ put_back e o (in_two is_caller unit s)
+  apart_two : (is_caller : Bool) (unit : Value) (s : State) →
+      in_two is_caller unit (put_back e o s) ≡ put_back e o (in_two is_caller unit s)
   apart_two true (request c) s = refl
   apart_two false (request c) s = apart_request c s
   apart_two is_caller (data0 end octets) s = refl
@@ -144,19 +169,23 @@ module _ (e : List Happening) (o : List ℕ) where
   unfolding after_packet
   apart_packet unit s = apart_acts (units_of unit) s
 
-  apart_sent : (r : ℕ) (octets : List ℕ) (link : Option (ℕ × Standing)) (s : State) → sent_on r octets link (put_back e o s) ≡ put_back e o (sent_on r octets link s)
+  apart_sent : (r : ℕ) (octets : List ℕ) (link : Option (ℕ × Standing)) (s : State) →
+      sent_on r octets link (put_back e o s) ≡ put_back e o (sent_on r octets link s)
   apart_sent r octets None s = refl
   apart_sent r octets (Some (peer, link)) s = apart_pumps r peer _ s
 
   apart_sent_all : (r : ℕ) (tsdus : List (List ℕ)) (s : State) → sent_all r tsdus (put_back e o s) ≡ put_back e o (sent_all r tsdus s)
   apart_sent_all r [] s = refl
-  apart_sent_all r (octets ∷ tsdus) s = ap (sent_all r tsdus) (apart_sent r octets (open_link r s) s) ∙ apart_sent_all r tsdus (sent r octets s)
+  apart_sent_all r (octets ∷ tsdus) s = ap (sent_all r tsdus) (apart_sent r octets (open_link r s) s) ∙
+      apart_sent_all r tsdus (sent r octets s)
 
-  apart_closes : (r peer reason : ℕ) (held : Option Class) (s : State) → closes r peer reason held (put_back e o s) ≡ put_back e o (closes r peer reason held s)
+  apart_closes : (r peer reason : ℕ) (held : Option Class) (s : State) →
+      closes r peer reason held (put_back e o s) ≡ put_back e o (closes r peer reason held s)
   apart_closes r peer reason (Some Zero) s = refl
   apart_closes r peer reason held s = apart_writes (disconnect peer r reason [] ∷ []) (moves r (closing peer) s)
 
-  apart_closed : (r reason : ℕ) (link : Option (ℕ × Standing)) (s : State) → closed_on r reason link (put_back e o s) ≡ put_back e o (closed_on r reason link s)
+  apart_closed : (r reason : ℕ) (link : Option (ℕ × Standing)) (s : State) →
+      closed_on r reason link (put_back e o s) ≡ put_back e o (closed_on r reason link s)
   apart_closed r reason None s = refl
   apart_closed r reason (Some (peer, link)) s = apart_closes r peer reason s.class s
 
@@ -167,7 +196,8 @@ module _ (e : List Happening) (o : List ℕ) where
 
   apart_user : (call : UserCall) (s : State) → user_does call (put_back e o s) ≡ put_back e o (user_does call s)
   apart_user (connects calling called) s =
-      apart_writes (request (proposal s.local s.class calling called (s.given + 1)) ∷ []) (joins (s.given + 1) asked (record { calling = calling; called = called }) (record s { given = s.given + 1 }))
+      apart_writes (request (proposal s.local s.class calling called (s.given + 1)) ∷ [])
+          (joins (s.given + 1) asked (record { calling = calling; called = called }) (record s { given = s.given + 1 }))
   apart_user (sends r octets) s = apart_sent r octets (open_link r s) s
   apart_user (sends_all r tsdus) s = apart_sent_all r tsdus s
   apart_user (closing_call r reason) s = apart_closed r reason (open_link r s) s

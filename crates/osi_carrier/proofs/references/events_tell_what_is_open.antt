@@ -1,8 +1,16 @@
 -- The events tell which connections are open.
-use Rattle.std.proofs.Common.{◌≡◌, ◌≢◌, ℕ, ◌+◌, ◌==◌, Bool, true, false, ◌&&◌, ◌||◌, not, List, [], ◌∷◌, ◌++◌, take, Option, Some, None, Result, Ok, Err, is_some, refl, sym, ap, subst, ◌∙◌, arith, append_assoc, if◌then◌else◌}
+use Rattle.std.proofs.Common.{◌≡◌, ◌≢◌, ℕ, ◌+◌, ◌==◌, Bool, true, false, ◌&&◌, ◌||◌, not, List, [], ◌∷◌, ◌++◌, take, Option, Some, None}
+use Rattle.std.proofs.Common.{Result, Ok, Err, is_some, refl, sym, ap, subst, ◌∙◌, arith, append_assoc, if◌then◌else◌}
 use Rattle.std.proofs.Common.{eq-eqb}
 use Rattle.osi_carrier.specs.Told.{is_open, open_after, TellsOpen}
-use Rattle.osi_carrier.proofs.Vocabulary.{connection_by, eqb-true, append-nil, units_of, Value, Connect, request, confirm, disconnect, disconnected, data0, error, TpduFault, Standing, taken, Selection, accept, refuse, selected_by, LinkFault, Class, Zero, Two, asks, link_of, open_link, sent_on, sent, closes, closed_on, closed_with, Happening, opened, refused, closed, faulted, confirmed, RiseFrom, AreUpTo, IsOrderly, acts_by, after_packet, denies, answers, is_full, has_peer, answers_request, to_unknown, opens, to_asked, tells_of, taking, breaks, leaves, to_linked, to_closing, to_connection, to_reference, before_class, to_only, in_zero, in_two, in_class, react, react_by, reacts, Rows, value_at, put, without, Connection, asked, linked, closing, State, ends, EndReason, sent_all}
+use Rattle.osi_carrier.proofs.Vocabulary.{connection_by, eqb-true, append-nil, units_of, Value, Connect, request, confirm, disconnect}
+use Rattle.osi_carrier.proofs.Vocabulary.{disconnected, data0, error, TpduFault, Standing, taken, Selection, accept, refuse, selected_by}
+use Rattle.osi_carrier.proofs.Vocabulary.{LinkFault, Class, Zero, Two, asks, link_of, open_link, sent_on, sent, closes, closed_on}
+use Rattle.osi_carrier.proofs.Vocabulary.{closed_with, Happening, opened, refused, closed, faulted, confirmed, RiseFrom, AreUpTo, IsOrderly}
+use Rattle.osi_carrier.proofs.Vocabulary.{acts_by, after_packet, denies, answers, is_full, has_peer, answers_request, to_unknown, opens}
+use Rattle.osi_carrier.proofs.Vocabulary.{to_asked, tells_of, taking, breaks, leaves, to_linked, to_closing, to_connection, to_reference}
+use Rattle.osi_carrier.proofs.Vocabulary.{before_class, to_only, in_zero, in_two, in_class, react, react_by, reacts, Rows, value_at, put}
+use Rattle.osi_carrier.proofs.Vocabulary.{without, Connection, asked, linked, closing, State, ends, EndReason, sent_all}
 use Rattle.osi_carrier.proofs.references.what_a_change_leaves_there.{put_here, without_here, push_here, beyond}
 use Rattle.osi_carrier.proofs.references.rows_after_a_change.{put_other, without_other, push_other}
 use Rattle.osi_carrier.proofs.effects.a_unit_touches_one_connection.{orderly_unit}
@@ -29,7 +37,8 @@ open_put : (r q : ℕ) (x y : Connection) (rows : Rows Connection) (b : Bool) �
 open_put r q x y rows true e h = grind (arith, is_some, eqb-true, put_here)
 open_put r q x y rows false e h = ap (λ o. is_some (link_of o)) (put_other r q x rows (other_than q r e))
 
-open_without : (r q : ℕ) (rows : Rows Connection) (b : Bool) → (q == r) ≡ b → RiseFrom 0 rows → open_in r (without q rows) ≡ (if b then false else open_in r rows)
+open_without : (r q : ℕ) (rows : Rows Connection) (b : Bool) → (q == r) ≡ b → RiseFrom 0 rows →
+    open_in r (without q rows) ≡ (if b then false else open_in r rows)
 open_without r q rows b e h = grind (arith, is_some, eqb-true, without_here, without_other, other_than)
 
 open_push : (r n : ℕ) (x : Connection) (rows : Rows Connection) (b : Bool) → (n == r) ≡ b → value_at n rows ≡ None →
@@ -75,7 +84,8 @@ opens_told r q b old new e events is = grind (arith, or_true, or_false)
 
 -- it is open no more
 leaves_told : (r q : ℕ) (b : Bool) (old new : State) (event : Happening) → (q == r) ≡ b → new.events ≡ old.events ++ event ∷ [] →
-    ((was : Bool) → open_after r was (event ∷ []) ≡ (was && not (q == r))) → open_in r new.live ≡ (if b then false else open_in r old.live) → Told r old new
+    ((was : Bool) → open_after r was (event ∷ []) ≡ (was && not (q == r))) →
+        open_in r new.live ≡ (if b then false else open_in r old.live) → Told r old new
 leaves_told r q b old new event e events means is = grind (arith, and_false, and_true)
 
 -- a connection that was not open, or stays open: no event is reported of it
@@ -85,10 +95,12 @@ stays_told r q b was old now e here is = grind arith
 
 -- ---- a CR
 
-accepts_told : (r : ℕ) (class : Class) (size : Option ℕ) (c : Connect) (s : State) → AreUpTo s.given s.live → Told r s (answers c (accept class size) None s)
+accepts_told : (r : ℕ) (class : Class) (size : Option ℕ) (c : Connect) (s : State) → AreUpTo s.given s.live →
+    Told r s (answers c (accept class size) None s)
 accepts_told r class size c s up = grind (arith, opens_told, open_push, next_none)
 
-answers_told : (r : ℕ) (c : Connect) (selection : Selection) (held : Option Class) (s : State) → AreUpTo s.given s.live → Told r s (answers c selection held s)
+answers_told : (r : ℕ) (c : Connect) (selection : Selection) (held : Option Class) (s : State) → AreUpTo s.given s.live →
+    Told r s (answers c selection held s)
 answers_told r c (refuse reason) held s up = same_told r s (denies reason c.source s) refl refl
 answers_told r c (accept Zero size) (Some class) s up = same_told r s (denies 136 c.source s) refl refl
 answers_told r c (accept class size) held s up = accepts_told r class size c s up
@@ -107,13 +119,15 @@ request_told r c s up = request_by r c s (has_peer c.source s.live) (is_full s) 
 unknown_told : (r : ℕ) (unit : Value) (s : State) → (to_unknown unit s).ended ≡ None → Told r s (to_unknown unit s)
 unknown_told r unit s h = grind (arith, same_told, still_told, over_told)
 
-confirm_told : (r q : ℕ) (c : Connect) (class : Option Class) (s : State) → value_at q s.live ≡ Some asked → (opens q c class s).ended ≡ None → Told r s (opens q c class s)
+confirm_told : (r q : ℕ) (c : Connect) (class : Option Class) (s : State) → value_at q s.live ≡ Some asked →
+    (opens q c class s).ended ≡ None → Told r s (opens q c class s)
 confirm_told r q c None s here h = over_told _ s h
 confirm_told r q c (Some class) s here h =
     opens_told r q (q == r) s (opens q c (Some class) s) refl refl (open_put r q _ asked s.live (q == r) refl here)
 
 -- one that was not open is dropped
-dropped_told : (r q : ℕ) (y : Connection) (s : State) → RiseFrom 0 s.live → value_at q s.live ≡ Some y → is_link y ≡ false → open_in r (without q s.live) ≡ open_in r s.live
+dropped_told : (r q : ℕ) (y : Connection) (s : State) → RiseFrom 0 s.live → value_at q s.live ≡ Some y → is_link y ≡ false →
+    open_in r (without q s.live) ≡ open_in r s.live
 dropped_told r q y s rise here none = grind (arith, stays_told, open_was, open_without)
 
 refused_told : (r q reason : ℕ) (s t : State) → RiseFrom 0 s.live → value_at q s.live ≡ Some asked → t.live ≡ without q s.live →
@@ -121,9 +135,11 @@ refused_told : (r q reason : ℕ) (s t : State) → RiseFrom 0 s.live → value_
 refused_told r q reason s t rise here live events =
     record { told = refused q reason ∷ []; events = events; is = ap (open_in r) live ∙ dropped_told r q asked s rise here refl }
 
-asked_told : (r q : ℕ) (unit : Value) (s : State) → RiseFrom 0 s.live → value_at q s.live ≡ Some asked → (to_asked q unit s).ended ≡ None → Told r s (to_asked q unit s)
+asked_told : (r q : ℕ) (unit : Value) (s : State) → RiseFrom 0 s.live → value_at q s.live ≡ Some asked → (to_asked q unit s).ended ≡ None →
+    Told r s (to_asked q unit s)
 asked_told r q (confirm destination c) s rise here h = confirm_told r q c (confirmed c s.local s.class) s here h
-asked_told r q (disconnect destination source reason user) s rise here h = refused_told r q reason s (to_asked q (disconnect destination source reason user) s) rise here refl refl
+asked_told r q (disconnect destination source reason user) s rise here h =
+    refused_told r q reason s (to_asked q (disconnect destination source reason user) s) rise here refl refl
 asked_told r q (error destination cause) s rise here h = refused_told r q 0 s (to_asked q (error destination cause) s) rise here refl refl
 asked_told r q unit s rise here h = unknown_told r unit s h
 
@@ -132,17 +148,20 @@ kept_open : (r q peer next : ℕ) (link after : Standing) (rows : Rows Connectio
     open_in r (put q (linked next after) rows) ≡ open_in r rows
 kept_open r q peer next link after rows here = grind (arith, stays_told, open_was, open_put)
 
-settles_told : (r q : ℕ) (whole : List (List ℕ)) (s t : State) → open_in r t.live ≡ open_in r s.live → t.events ≡ s.events → Told r s (tells_of q (take 1 whole) t)
+settles_told : (r q : ℕ) (whole : List (List ℕ)) (s t : State) → open_in r t.live ≡ open_in r s.live → t.events ≡ s.events →
+    Told r s (tells_of q (take 1 whole) t)
 settles_told r q whole s t is events = grind (arith, same_told, append-nil)
 
-breaks_told : (r q peer : ℕ) (link : Standing) (fault : LinkFault) (held : Option Class) (s : State) → value_at q s.live ≡ Some (linked peer link) →
+breaks_told : (r q peer : ℕ) (link : Standing) (fault : LinkFault) (held : Option Class) (s : State) →
+    value_at q s.live ≡ Some (linked peer link) →
     (breaks q peer fault held s).ended ≡ None → Told r s (breaks q peer fault held s)
 breaks_told r q peer link fault (Some Two) s here h =
     leaves_told r q (q == r) s (breaks q peer fault (Some Two) s) (faulted q fault) refl refl (λ was. refl)
     (open_put r q (closing peer) (linked peer link) s.live (q == r) refl here)
 breaks_told r q peer link fault held s here h = over_told _ s h
 
-taking_told : (r q peer : ℕ) (link : Standing) (result : Result Standing LinkFault) (s : State) → value_at q s.live ≡ Some (linked peer link) →
+taking_told : (r q peer : ℕ) (link : Standing) (result : Result Standing LinkFault) (s : State) →
+    value_at q s.live ≡ Some (linked peer link) →
     (taking q peer result s).ended ≡ None → Told r s (taking q peer result s)
 taking_told r q peer link (Ok after) s here h =
     settles_told r q after.ends.joining.whole s _ (kept_open r q peer peer link _ s.live here) refl
@@ -152,14 +171,18 @@ leaving_told : (r q peer reason : ℕ) (link : Standing) (held : Option Class) (
     (leaves q peer reason held s).ended ≡ None → Told r s (leaves q peer reason held s)
 leaving_told r q peer reason link held s rise h = grind (arith, leaves_told, open_without)
 
-linked_told : (r q peer : ℕ) (link : Standing) (unit : Value) (s : State) → RiseFrom 0 s.live → value_at q s.live ≡ Some (linked peer link) →
+linked_told : (r q peer : ℕ) (link : Standing) (unit : Value) (s : State) → RiseFrom 0 s.live →
+    value_at q s.live ≡ Some (linked peer link) →
     (to_linked q peer link unit s).ended ≡ None → Told r s (to_linked q peer link unit s)
 linked_told r q peer link (disconnect destination source reason user) s rise here h = leaving_told r q peer reason link s.class s rise h
 linked_told r q peer link unit s rise here h = taking_told r q peer link (taken link unit) s here h
 
-closing_told : (r q peer : ℕ) (unit : Value) (s : State) → RiseFrom 0 s.live → value_at q s.live ≡ Some (closing peer) → Told r s (to_closing q unit s)
-closing_told r q peer (disconnected destination source) s rise here = same_told r s _ refl (dropped_told r q (closing peer) s rise here refl)
-closing_told r q peer (disconnect destination source reason user) s rise here = same_told r s _ refl (dropped_told r q (closing peer) s rise here refl)
+closing_told : (r q peer : ℕ) (unit : Value) (s : State) → RiseFrom 0 s.live → value_at q s.live ≡ Some (closing peer) →
+    Told r s (to_closing q unit s)
+closing_told r q peer (disconnected destination source) s rise here =
+    same_told r s _ refl (dropped_told r q (closing peer) s rise here refl)
+closing_told r q peer (disconnect destination source reason user) s rise here =
+    same_told r s _ refl (dropped_told r q (closing peer) s rise here refl)
 closing_told r q peer unit s rise here = still_told r s
 
 connection_told : (r q : ℕ) (o : Option Connection) (unit : Value) (s : State) → RiseFrom 0 s.live → value_at q s.live ≡ o →
@@ -169,41 +192,49 @@ connection_told r q (Some asked) unit s rise here h = asked_told r q unit s rise
 connection_told r q (Some (linked peer link)) unit s rise here h = linked_told r q peer link unit s rise here h
 connection_told r q (Some (closing peer)) unit s rise here h = closing_told r q peer unit s rise here
 
-reference_told : (r q : ℕ) (unit : Value) (s : State) → RiseFrom 0 s.live → (to_reference q unit s).ended ≡ None → Told r s (to_reference q unit s)
+reference_told : (r q : ℕ) (unit : Value) (s : State) → RiseFrom 0 s.live → (to_reference q unit s).ended ≡ None →
+    Told r s (to_reference q unit s)
 reference_told r q unit s rise h = connection_told r q (value_at q s.live) unit s rise refl h
 
 -- ---- by class
 
-before_told : (r : ℕ) (is_caller : Bool) (unit : Value) (s : State) → IsOrderly s → (before_class is_caller unit s).ended ≡ None → Told r s (before_class is_caller unit s)
+before_told : (r : ℕ) (is_caller : Bool) (unit : Value) (s : State) → IsOrderly s → (before_class is_caller unit s).ended ≡ None →
+    Told r s (before_class is_caller unit s)
 before_told r true (confirm destination c) s o h = reference_told r destination (confirm destination c) s o.rise h
-before_told r true (disconnect destination source reason user) s o h = reference_told r destination (disconnect destination source reason user) s o.rise h
+before_told r true (disconnect destination source reason user) s o h =
+    reference_told r destination (disconnect destination source reason user) s o.rise h
 before_told r true (error destination cause) s o h = reference_told r destination (error destination cause) s o.rise h
 before_told r false (request c) s o h = request_told r c s o.up_to
 before_told r is_caller unit s o h = over_told _ s h
 
-only_told : (r : ℕ) (live : Rows Connection) (unit : Value) (s : State) → s.live ≡ live → RiseFrom 0 s.live → (to_only live unit s).ended ≡ None → Told r s (to_only live unit s)
+only_told : (r : ℕ) (live : Rows Connection) (unit : Value) (s : State) → s.live ≡ live → RiseFrom 0 s.live →
+    (to_only live unit s).ended ≡ None → Told r s (to_only live unit s)
 only_told r [] unit s e rise h = still_told r s
 only_told r ((q, c) ∷ rows) unit s e rise h =
     let test = eq-eqb q q refl in
     let here : value_at q ((q, c) ∷ rows) ≡ Some c = rw test refl in
     connection_told r q (Some c) unit s rise (ap (value_at q) e ∙ here) h
 
-zero_told : (r : ℕ) (is_caller : Bool) (unit : Value) (s : State) → RiseFrom 0 s.live → (in_zero is_caller unit s).ended ≡ None → Told r s (in_zero is_caller unit s)
+zero_told : (r : ℕ) (is_caller : Bool) (unit : Value) (s : State) → RiseFrom 0 s.live → (in_zero is_caller unit s).ended ≡ None →
+    Told r s (in_zero is_caller unit s)
 zero_told r true (request c) s rise h = over_told _ s h
 zero_told r is_caller unit s rise h = only_told r s.live unit s refl rise h
 
-two_told : (r : ℕ) (is_caller : Bool) (unit : Value) (s : State) → IsOrderly s → (in_two is_caller unit s).ended ≡ None → Told r s (in_two is_caller unit s)
+two_told : (r : ℕ) (is_caller : Bool) (unit : Value) (s : State) → IsOrderly s → (in_two is_caller unit s).ended ≡ None →
+    Told r s (in_two is_caller unit s)
 two_told r true (request c) s o h = over_told _ s h
 two_told r false (request c) s o h = request_told r c s o.up_to
 two_told r is_caller (data0 end user) s o h = over_told _ s h
 two_told r is_caller unit s o h = reference_told r (connection_by (Some Two) unit s) unit s o.rise h
 
-class_told : (r : ℕ) (held : Option Class) (unit : Value) (s : State) → IsOrderly s → (in_class held unit s).ended ≡ None → Told r s (in_class held unit s)
+class_told : (r : ℕ) (held : Option Class) (unit : Value) (s : State) → IsOrderly s → (in_class held unit s).ended ≡ None →
+    Told r s (in_class held unit s)
 class_told r None unit s o h = before_told r s.is_caller unit s o h
 class_told r (Some Zero) unit s o h = zero_told r s.is_caller unit s o.rise h
 class_told r (Some Two) unit s o h = two_told r s.is_caller unit s o h
 
-by_told : (r : ℕ) (over : Bool) (unit : Value) (s : State) → IsOrderly s → (react_by over unit s).ended ≡ None → Told r s (react_by over unit s)
+by_told : (r : ℕ) (over : Bool) (unit : Value) (s : State) → IsOrderly s → (react_by over unit s).ended ≡ None →
+    Told r s (react_by over unit s)
 by_told r over unit s o h = grind (arith, still_told, class_told)
 
 react_told : (r : ℕ) (unit : Value) (s : State) → IsOrderly s → (react unit s).ended ≡ None → Told r s (react unit s)
@@ -233,10 +264,12 @@ units_last units s over e h = grind (arith, reacts_over, none_of)
 units_told : (r : ℕ) (units : List Value) (s : State) → IsOrderly s → (reacts units s).ended ≡ None → Told r s (reacts units s)
 units_told r [] s o h = still_told r s
 units_told r (unit ∷ units) s o h =
-    told_joined r s (react unit s) (reacts units (react unit s)) (react_told r unit s o (units_last units (react unit s) (is_some (react unit s).ended) refl h))
+    told_joined r s (react unit s) (reacts units (react unit s))
+        (react_told r unit s o (units_last units (react unit s) (is_some (react unit s).ended) refl h))
     (units_told r units (react unit s) (orderly_unit unit s o) h)
 
-acts_told : (r : ℕ) (units : Result (List Value) TpduFault) (s : State) → IsOrderly s → (acts_by units s).ended ≡ None → Told r s (acts_by units s)
+acts_told : (r : ℕ) (units : Result (List Value) TpduFault) (s : State) → IsOrderly s → (acts_by units s).ended ≡ None →
+    Told r s (acts_by units s)
 acts_told r (Ok units) s o h = units_told r units s o h
 acts_told r (Err fault) s o h = over_told _ s h
 
@@ -263,12 +296,14 @@ packet_lasts : (packet : List ℕ) (s : State) → (after_packet s packet).ended
 unfolding after_packet
 packet_lasts packet s h = acts_last (units_of packet) s h
 
-pub packet_opens : (packet : List ℕ) (s : State) (r : ℕ) → IsOrderly s → (after_packet s packet).ended ≡ None → TellsOpen r s (after_packet s packet)
+pub packet_opens : (packet : List ℕ) (s : State) (r : ℕ) → IsOrderly s → (after_packet s packet).ended ≡ None →
+    TellsOpen r s (after_packet s packet)
 packet_opens packet s r o h = tells_open r s (after_packet s packet) (packet_lasts packet s h) h (packet_told r packet s o h)
 
 -- ---- calls
 
-asks_by : (r : ℕ) (s : State) (b : Bool) → (s.given + 1 == r) ≡ b → AreUpTo s.given s.live → open_in r (s.live ++ (s.given + 1, asked) ∷ []) ≡ open_in r s.live
+asks_by : (r : ℕ) (s : State) (b : Bool) → (s.given + 1 == r) ≡ b → AreUpTo s.given s.live →
+    open_in r (s.live ++ (s.given + 1, asked) ∷ []) ≡ open_in r s.live
 asks_by r s b e up = grind (arith, open_push, next_none, is_some, eqb-true)
 
 at_end : (over : Bool) (a b : Option Connection) → is_some (link_of a) ≡ is_some (link_of b) →
@@ -283,7 +318,8 @@ link_there : (q peer : ℕ) (link : Standing) (over : Bool) (o : Option Connecti
     (o ≡ Some (linked peer link)) × (over ≡ false)
 link_there q peer link over o h = grind arith
 
-sent_by : (r q : ℕ) (octets : List ℕ) (link : Option (ℕ × Standing)) (s : State) → open_link q s ≡ link → is_open r (sent_on q octets link s) ≡ is_open r s
+sent_by : (r q : ℕ) (octets : List ℕ) (link : Option (ℕ × Standing)) (s : State) → open_link q s ≡ link →
+    is_open r (sent_on q octets link s) ≡ is_open r s
 sent_by r q octets link s e = grind (arith, link_there, is_some, at_end, kept_open)
 
 pub sent_opens : (q r : ℕ) (octets : List ℕ) (s : State) → is_open r (sent q octets s) ≡ is_open r s
@@ -296,7 +332,8 @@ sent_all_opens q r (tsdu ∷ tsdus) s = sent_all_opens q r tsdus (sent q tsdu s)
 closing_by : (b was : Bool) → (if b then false else was) ≡ (was && not b)
 closing_by b was = grind arith
 
-closes_by : (r q peer reason : ℕ) (link : Standing) (held : Option Class) (s : State) → value_at q s.live ≡ Some (linked peer link) → s.ended ≡ None →
+closes_by : (r q peer reason : ℕ) (link : Standing) (held : Option Class) (s : State) → value_at q s.live ≡ Some (linked peer link) →
+    s.ended ≡ None →
     (closes q peer reason held s).ended ≡ None → is_open r (closes q peer reason held s) ≡ (is_open r s && not (q == r))
 closes_by r q peer reason link (Some Zero) s here lasts h = over_told _ s h
 closes_by r q peer reason link held s here lasts h = grind (arith, open_lasts, open_put, closing_by, not)
@@ -311,5 +348,6 @@ closed_by r q reason (Some (peer, link)) s e h =
     let there = link_there q peer link (is_some s.ended) (value_at q s.live) e in
     closes_by r q peer reason link s.class s there.0 (none_of s.ended there.1) h
 
-pub closed_opens : (q r reason : ℕ) (s : State) → (closed_with q reason s).ended ≡ None → is_open r (closed_with q reason s) ≡ (is_open r s && not (q == r))
+pub closed_opens : (q r reason : ℕ) (s : State) → (closed_with q reason s).ended ≡ None →
+    is_open r (closed_with q reason s) ≡ (is_open r s && not (q == r))
 closed_opens q r reason s h = closed_by r q reason (open_link q s) s refl h

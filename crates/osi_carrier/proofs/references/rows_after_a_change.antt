@@ -64,7 +64,8 @@ pub rise_lower : {X : Type 0} (m n : ℕ) (rows : Rows X) → m ≤ n → RiseFr
 rise_lower m n [] le h = tt
 rise_lower m n ((r, x) ∷ rows) le h = (let above = h.0 in omega arith, h.1)
 
-put_rise_by : {X : Type 0} (n r p : ℕ) (x y : X) (rows : Rows X) (b : Bool) → (p == r) ≡ b → n < p → RiseFrom p rows → RiseFrom p (put r x rows) →
+put_rise_by : {X : Type 0} (n r p : ℕ) (x y : X) (rows : Rows X) (b : Bool) → (p == r) ≡ b → n < p → RiseFrom p rows →
+    RiseFrom p (put r x rows) →
     RiseFrom n (put r x ((p, y) ∷ rows))
 put_rise_by n r p x y rows b e above h more = grind arith
 
@@ -72,7 +73,8 @@ pub put_rise : {X : Type 0} (n r : ℕ) (x : X) (rows : Rows X) → RiseFrom n r
 put_rise n r x [] h = tt
 put_rise n r x ((p, y) ∷ rows) h = put_rise_by n r p x y rows (p == r) refl h.0 h.1 (put_rise p r x rows h.1)
 
-without_rise_by : {X : Type 0} (n r p : ℕ) (y : X) (rows : Rows X) (b : Bool) → (p == r) ≡ b → n < p → RiseFrom p rows → RiseFrom p (without r rows) →
+without_rise_by : {X : Type 0} (n r p : ℕ) (y : X) (rows : Rows X) (b : Bool) → (p == r) ≡ b → n < p → RiseFrom p rows →
+    RiseFrom p (without r rows) →
     RiseFrom n (without r ((p, y) ∷ rows))
 without_rise_by n r p y rows true e above h more = rw e (rise_lower n p rows (omega arith) h)
 without_rise_by n r p y rows false e above h more = rw e (above, more)
@@ -81,11 +83,13 @@ pub without_rise : {X : Type 0} (n r : ℕ) (rows : Rows X) → RiseFrom n rows 
 without_rise n r [] h = tt
 without_rise n r ((p, y) ∷ rows) h = without_rise_by n r p y rows (p == r) refl h.0 h.1 (without_rise p r rows h.1)
 
-pub push_rise : {X : Type 0} (n given : ℕ) (x : X) (rows : Rows X) → n ≤ given → RiseFrom n rows → AreUpTo given rows → RiseFrom n (rows ++ (given + 1, x) ∷ [])
+pub push_rise : {X : Type 0} (n given : ℕ) (x : X) (rows : Rows X) → n ≤ given → RiseFrom n rows → AreUpTo given rows →
+    RiseFrom n (rows ++ (given + 1, x) ∷ [])
 push_rise n given x [] le h up = (omega arith, tt)
 push_rise n given x ((p, y) ∷ rows) le h up = (h.0, push_rise p given x rows up.0 h.1 up.1)
 
-put_up_by : {X : Type 0} (n r p : ℕ) (x y : X) (rows : Rows X) (b : Bool) → (p == r) ≡ b → p ≤ n → AreUpTo n rows → AreUpTo n (put r x rows) →
+put_up_by : {X : Type 0} (n r p : ℕ) (x y : X) (rows : Rows X) (b : Bool) → (p == r) ≡ b → p ≤ n → AreUpTo n rows →
+    AreUpTo n (put r x rows) →
     AreUpTo n (put r x ((p, y) ∷ rows))
 put_up_by n r p x y rows b e up h more = grind arith
 
@@ -93,7 +97,8 @@ pub put_up : {X : Type 0} (n r : ℕ) (x : X) (rows : Rows X) → AreUpTo n rows
 put_up n r x [] h = tt
 put_up n r x ((p, y) ∷ rows) h = put_up_by n r p x y rows (p == r) refl h.0 h.1 (put_up n r x rows h.1)
 
-without_up_by : {X : Type 0} (n r p : ℕ) (y : X) (rows : Rows X) (b : Bool) → (p == r) ≡ b → p ≤ n → AreUpTo n rows → AreUpTo n (without r rows) →
+without_up_by : {X : Type 0} (n r p : ℕ) (y : X) (rows : Rows X) (b : Bool) → (p == r) ≡ b → p ≤ n → AreUpTo n rows →
+    AreUpTo n (without r rows) →
     AreUpTo n (without r ((p, y) ∷ rows))
 without_up_by n r p y rows b e up h more = grind arith
 

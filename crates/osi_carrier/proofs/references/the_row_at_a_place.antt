@@ -1,7 +1,9 @@
 -- The row at the place of a reference, and the effect of a write there; no place, no value.
-use Rattle.std.proofs.Common.{◌≡◌, ℕ, Bool, zero, suc, ◌+◌, ◌<◌, ◌≤◌, ◌==◌, true, false, [], ◌∷◌, length, get_or, set, Option, Some, None, is_some, Result, Ok, Err, OnOk, refl, sym, ap, ◌∙◌, arith}
+use Rattle.std.proofs.Common.{◌≡◌, ℕ, Bool, zero, suc, ◌+◌, ◌<◌, ◌≤◌, ◌==◌, true, false, [], ◌∷◌, length, get_or, set, Option, Some, None}
+use Rattle.std.proofs.Common.{is_some, Result, Ok, Err, OnOk, refl, sym, ap, ◌∙◌, arith}
 use Rattle.std.proofs.lemmas.List.Quantifiers.{position-Some}
-use Rattle.osi_carrier.proofs.Vocabulary.{common_steps, position_or_len, remove, eqb-true, Connection, asked, Rows, value_at, place_of, put, without}
+use Rattle.osi_carrier.proofs.Vocabulary.{common_steps, position_or_len, remove, eqb-true, Connection, asked, Rows, value_at, place_of, put}
+use Rattle.osi_carrier.proofs.Vocabulary.{without}
 
 -- if the place `i` of a reference is, `d` being any row
 pub record IsPlace {X : Type 0} (r : ℕ) (rows : Rows X) (i : ℕ) (d : ℕ × X) : Type 0 where
@@ -40,8 +42,10 @@ placed r rows i d e =
     placed_at r rows i d p.0 p.1 p.2
 
 -- the row at the place of a reference has its value, if the rows are held under another name
-pub here_is : {X : Type 0} (r : ℕ) (rows items : Rows X) (i : ℕ) (row : ℕ × X) → place_of r rows ≡ Some i → row ≡ get_or items i row → items ≡ rows → value_at r rows ≡ Some row.1
-here_is r rows items i row e here same = (placed r rows i row e).there ∙ ap (λ (x : ℕ × _). Some x.1) (sym (here ∙ ap (λ l. get_or l i row) same))
+pub here_is : {X : Type 0} (r : ℕ) (rows items : Rows X) (i : ℕ) (row : ℕ × X) → place_of r rows ≡ Some i → row ≡ get_or items i row →
+    items ≡ rows → value_at r rows ≡ Some row.1
+here_is r rows items i row e here same =
+    (placed r rows i row e).there ∙ ap (λ (x : ℕ × _). Some x.1) (sym (here ∙ ap (λ l. get_or l i row) same))
 
 -- a write at that place
 pub put_row : {X : Type 0} (r : ℕ) (rows items : Rows X) (i : ℕ) (row new : ℕ × X) (x : X) → place_of r rows ≡ Some i →
@@ -51,13 +55,15 @@ put_row r rows items i row new x e here same h =
     let named = ap (λ (y : ℕ × _). y.0) (here ∙ ap (λ l. get_or l i row) same) ∙ p.named in
     ap (λ l. set l i new) same ∙ ap (λ y. set rows i y) (h ∙ ap (λ n. (n, x)) named) ∙ sym (p.put_is x)
 
-pub stepped_rows : {X A E : Type 0} (result : Result A E) (r : ℕ) (rows items : Rows X) (i : ℕ) (row new : ℕ × X) (x : X) → place_of r rows ≡ Some i →
+pub stepped_rows : {X A E : Type 0} (result : Result A E) (r : ℕ) (rows items : Rows X) (i : ℕ) (row new : ℕ × X) (x : X) →
+    place_of r rows ≡ Some i →
     row ≡ get_or items i row → items ≡ rows → OnOk result (new ≡ (row.0, x)) → OnOk result (set items i new ≡ put r x rows)
 stepped_rows (Ok a) r rows items i row new x e here same h = put_row r rows items i row new x e here same h
 stepped_rows (Err f) r rows items i row new x e here same h = tt
 
 -- a value that a reference has is put there with no change
-put_same_by : {X : Type 0} (r q : ℕ) (y x : X) (rows : Rows X) (b : Bool) → (q == r) ≡ b → (value_at r rows ≡ Some x → put r x rows ≡ rows) →
+put_same_by : {X : Type 0} (r q : ℕ) (y x : X) (rows : Rows X) (b : Bool) → (q == r) ≡ b →
+    (value_at r rows ≡ Some x → put r x rows ≡ rows) →
     value_at r ((q, y) ∷ rows) ≡ Some x → put r x ((q, y) ∷ rows) ≡ (q, y) ∷ rows
 put_same_by r q y x rows true t more h = let same : Some y ≡ Some x = rw t at h in rw t (ap (λ z. (q, z) ∷ rows) (let e : x ≡ y = cc in e))
 put_same_by r q y x rows false t more h = let behind : value_at r rows ≡ Some x = rw t at h in rw t (ap (λ l. (q, y) ∷ l) (more behind))

@@ -1,6 +1,7 @@
 -- What is open, and what is not.
 use Rattle.std.proofs.Common.{◌≡◌, ℕ, List, Bool, true, false, Option, Some, None, is_some, refl, ap, if◌then◌else◌}
-use Rattle.osi_carrier.proofs.Vocabulary.{Standing, value_at, open_link, link_of, WaitsAlone, WaitsOn, WaitTogether, AllWaitOn, peer_in, link_in, State, Connection, linked}
+use Rattle.osi_carrier.proofs.Vocabulary.{Standing, value_at, open_link, link_of, WaitsAlone, WaitsOn, WaitTogether, AllWaitOn, peer_in}
+use Rattle.osi_carrier.proofs.Vocabulary.{link_in, State, Connection, linked}
 
 pub open_is : (o : Option Connection) (peer : ℕ) → peer_in o ≡ Some peer → o ≡ Some (linked peer (link_in o))
 open_is (Some (linked q link)) peer e = cc
@@ -18,7 +19,8 @@ pub no_link : (r : ℕ) (s : State) → value_at r s.live ≡ None → open_link
 no_link r s e = not_open r s (ap link_of e)
 
 -- a TSDU that is queued at an open connection is queued at its link
-waits_by : (over : Bool) (o : Option Connection) (octets : List ℕ) → WaitsOn (if over then None else link_of o) octets → WaitsAlone (link_in o) octets
+waits_by : (over : Bool) (o : Option Connection) (octets : List ℕ) → WaitsOn (if over then None else link_of o) octets →
+    WaitsAlone (link_in o) octets
 waits_by false (Some (linked peer link)) octets h = h
 waits_by over o octets h = absurd h
 
@@ -26,9 +28,11 @@ pub waits_at : (r : ℕ) (s : State) (octets : List ℕ) → WaitsOn (open_link 
 waits_at r s octets h = waits_by (is_some s.ended) (value_at r s.live) octets h
 
 -- TSDUs that are queued together at an open connection are queued at its link
-all_wait_by : (over : Bool) (o : Option Connection) (tsdus : List (List ℕ)) → AllWaitOn (if over then None else link_of o) tsdus → WaitTogether (link_in o) tsdus
+all_wait_by : (over : Bool) (o : Option Connection) (tsdus : List (List ℕ)) → AllWaitOn (if over then None else link_of o) tsdus →
+    WaitTogether (link_in o) tsdus
 all_wait_by false (Some (linked peer link)) tsdus h = h
 all_wait_by over o tsdus h = absurd h
 
-pub all_wait_at : (r : ℕ) (s : State) (tsdus : List (List ℕ)) → AllWaitOn (open_link r s) tsdus → WaitTogether (link_in (value_at r s.live)) tsdus
+pub all_wait_at : (r : ℕ) (s : State) (tsdus : List (List ℕ)) → AllWaitOn (open_link r s) tsdus →
+    WaitTogether (link_in (value_at r s.live)) tsdus
 all_wait_at r s tsdus h = all_wait_by (is_some s.ended) (value_at r s.live) tsdus h

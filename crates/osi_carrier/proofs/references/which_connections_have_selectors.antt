@@ -1,14 +1,22 @@
 -- Which connections have transport selectors, and that these stay.
-use Rattle.std.proofs.Common.{◌≡◌, ℕ, ◌+◌, ◌==◌, Bool, true, false, List, [], ◌∷◌, ◌++◌, Option, Some, None, is_some, IsSome, Result, Ok, Err, refl, sym, ap, subst, ◌∙◌, arith, if◌then◌else◌}
+use Rattle.std.proofs.Common.{◌≡◌, ℕ, ◌+◌, ◌==◌, Bool, true, false, List, [], ◌∷◌, ◌++◌, Option, Some, None, is_some, IsSome, Result, Ok}
+use Rattle.std.proofs.Common.{Err, refl, sym, ap, subst, ◌∙◌, arith, if◌then◌else◌}
 use Rattle.std.proofs.Common.{eq-eqb}
 use Rattle.osi_carrier.specs.References.{references, dropped}
-use Rattle.osi_carrier.proofs.Vocabulary.{connection_by, eqb-true, Value, Connect, request, confirm, disconnect, disconnected, data0, error, Standing, taken, Selection, accept, refuse, selected_by, LinkFault, Class, Zero, Two, Local, fresh_state, asks, sent_on, sent, open_link, closes, closed_on, closed_with, ended_by, tsaps_at, AreNamed, KeepsTsaps, confirmed, IsOrderly, denies, answers, is_full, has_peer, answers_request, to_unknown, opens, to_asked, taking, breaks, leaves, to_linked, to_closing, to_connection, to_reference, before_class, to_only, in_zero, in_two, in_class, react, react_by, Rows, value_at, put, without, Connection, asked, linked, closing, TsapIds, State, ends, EndReason, sent_all}
+use Rattle.osi_carrier.proofs.Vocabulary.{connection_by, eqb-true, Value, Connect, request, confirm, disconnect, disconnected, data0, error}
+use Rattle.osi_carrier.proofs.Vocabulary.{Standing, taken, Selection, accept, refuse, selected_by, LinkFault, Class, Zero, Two, Local}
+use Rattle.osi_carrier.proofs.Vocabulary.{fresh_state, asks, sent_on, sent, open_link, closes, closed_on, closed_with, ended_by, tsaps_at}
+use Rattle.osi_carrier.proofs.Vocabulary.{AreNamed, KeepsTsaps, confirmed, IsOrderly, denies, answers, is_full, has_peer, answers_request}
+use Rattle.osi_carrier.proofs.Vocabulary.{to_unknown, opens, to_asked, taking, breaks, leaves, to_linked, to_closing, to_connection}
+use Rattle.osi_carrier.proofs.Vocabulary.{to_reference, before_class, to_only, in_zero, in_two, in_class, react, react_by, Rows, value_at}
+use Rattle.osi_carrier.proofs.Vocabulary.{put, without, Connection, asked, linked, closing, TsapIds, State, ends, EndReason, sent_all}
 use Rattle.osi_carrier.proofs.references.what_a_change_leaves_there.{without_here}
 use Rattle.osi_carrier.proofs.references.rows_after_a_change.{without_other, push_other}
 
 -- ---- tables
 
-put_named_by : (r q : ℕ) (x y : Connection) (rows : Rows Connection) (b : Bool) → (q == r) ≡ b → references (put r x rows) ≡ references rows →
+put_named_by : (r q : ℕ) (x y : Connection) (rows : Rows Connection) (b : Bool) → (q == r) ≡ b →
+    references (put r x rows) ≡ references rows →
     references (put r x ((q, y) ∷ rows)) ≡ references ((q, y) ∷ rows)
 put_named_by r q x y rows b e more = grind arith
 
@@ -16,7 +24,8 @@ pub put_named : (r : ℕ) (x : Connection) (rows : Rows Connection) → referenc
 put_named r x [] = refl
 put_named r x ((q, y) ∷ rows) = put_named_by r q x y rows (q == r) refl (put_named r x rows)
 
-drop_named_by : {X : Type 0} (r q : ℕ) (y : X) (rows : Rows X) (b : Bool) → (q == r) ≡ b → references (without r rows) ≡ dropped r (references rows) →
+drop_named_by : {X : Type 0} (r q : ℕ) (y : X) (rows : Rows X) (b : Bool) → (q == r) ≡ b →
+    references (without r rows) ≡ dropped r (references rows) →
     references (without r ((q, y) ∷ rows)) ≡ dropped r (q ∷ references rows)
 drop_named_by r q y rows b e more = grind arith
 
@@ -28,11 +37,13 @@ join_named : {X : Type 0} (r : ℕ) (x : X) (rows : Rows X) → references (rows
 join_named r x [] = refl
 join_named r x ((q, y) ∷ rows) = ap (λ (l : List ℕ). q ∷ l) (join_named r x rows)
 
-there_by : {X Y : Type 0} (r q : ℕ) (x : X) (y : Y) (xs : Rows X) (ys : Rows Y) (b : Bool) → (q == r) ≡ b → is_some (value_at r xs) ≡ is_some (value_at r ys) →
+there_by : {X Y : Type 0} (r q : ℕ) (x : X) (y : Y) (xs : Rows X) (ys : Rows Y) (b : Bool) → (q == r) ≡ b →
+    is_some (value_at r xs) ≡ is_some (value_at r ys) →
     is_some (value_at r ((q, x) ∷ xs)) ≡ is_some (value_at r ((q, y) ∷ ys))
 there_by r q x y xs ys b e more = grind arith
 
-there_named : {X Y : Type 0} (r : ℕ) (xs : Rows X) (ys : Rows Y) → references xs ≡ references ys → is_some (value_at r xs) ≡ is_some (value_at r ys)
+there_named : {X Y : Type 0} (r : ℕ) (xs : Rows X) (ys : Rows Y) → references xs ≡ references ys →
+    is_some (value_at r xs) ≡ is_some (value_at r ys)
 there_named r [] [] e = refl
 there_named r ((q, x) ∷ xs) ((p, y) ∷ ys) e =
     let head : q ≡ p = cc in
@@ -45,7 +56,8 @@ there_named r xs ys e = absurd (cc)
 pub data Naming : State → State → Type 0 where
   stays : {s t : State} → t.tsaps ≡ s.tsaps → references t.live ≡ references s.live → Naming s t
   loses : {s t : State} → (r : ℕ) → t.tsaps ≡ without r s.tsaps → t.live ≡ without r s.live → Naming s t
-  gains : {s t : State} → (c : Connection) (ids : TsapIds) → t.tsaps ≡ s.tsaps ++ (s.given + 1, ids) ∷ [] → t.live ≡ s.live ++ (s.given + 1, c) ∷ [] → Naming s t
+  gains : {s t : State} → (c : Connection) (ids : TsapIds) → t.tsaps ≡ s.tsaps ++ (s.given + 1, ids) ∷ [] →
+      t.live ≡ s.live ++ (s.given + 1, c) ∷ [] → Naming s t
   clears : {s t : State} → t.tsaps ≡ [] → t.live ≡ [] → Naming s t
 
 answers_names : (c : Connect) (selection : Selection) (held : Option Class) (s : State) → Naming s (answers c selection held s)
@@ -76,9 +88,11 @@ asked_names r (disconnect destination source reason octets) s = loses r refl ref
 asked_names r (error destination cause) s = loses r refl refl
 asked_names r unit s = unknown_names unit s
 
-taking_names : (r peer : ℕ) (result : Result Standing LinkFault) (held : Option Class) (s : State) → s.class ≡ held → Naming s (taking r peer result s)
+taking_names : (r peer : ℕ) (result : Result Standing LinkFault) (held : Option Class) (s : State) → s.class ≡ held →
+    Naming s (taking r peer result s)
 taking_names r peer (Ok link) held s e = stays refl (put_named r _ s.live)
-taking_names r peer (Err fault) (Some Two) s e = subst (λ (k : Option Class). Naming s (breaks r peer fault k s)) (sym e) (stays refl (put_named r _ s.live))
+taking_names r peer (Err fault) (Some Two) s e =
+    subst (λ (k : Option Class). Naming s (breaks r peer fault k s)) (sym e) (stays refl (put_named r _ s.live))
 taking_names r peer (Err fault) held s e = subst (λ (k : Option Class). Naming s (breaks r peer fault k s)) (sym e) (clears refl refl)
 
 leaves_names : (r peer reason : ℕ) (held : Option Class) (s : State) → Naming s (leaves r peer reason held s)
@@ -107,7 +121,8 @@ reference_names r unit s = connection_names r (value_at r s.live) unit s
 
 before_names : (is_caller : Bool) (unit : Value) (s : State) → Naming s (before_class is_caller unit s)
 before_names true (confirm destination c) s = reference_names destination (confirm destination c) s
-before_names true (disconnect destination source reason octets) s = reference_names destination (disconnect destination source reason octets) s
+before_names true (disconnect destination source reason octets) s =
+    reference_names destination (disconnect destination source reason octets) s
 before_names true (error destination cause) s = reference_names destination (error destination cause) s
 before_names false (request c) s = request_names c s
 before_names is_caller unit s = clears refl refl
@@ -161,7 +176,8 @@ closed_names r reason (Some (peer, link)) s = closes_names r peer reason s.class
 pub named : (s t : State) → Naming s t → AreNamed s → AreNamed t
 named s t h h_ = grind (arith, drop_named, join_named)
 
-lost_by : (r q : ℕ) (s t : State) (b : Bool) → (q == r) ≡ b → IsOrderly s → t.tsaps ≡ without r s.tsaps → t.live ≡ without r s.live → IsSome (value_at q t.live) →
+lost_by : (r q : ℕ) (s t : State) (b : Bool) → (q == r) ≡ b → IsOrderly s → t.tsaps ≡ without r s.tsaps → t.live ≡ without r s.live →
+    IsSome (value_at q t.live) →
     value_at q t.tsaps ≡ value_at q s.tsaps
 lost_by r q s t b e orderly tsaps live there = grind (arith, eqb-true, without_here, is_some, without_other, eq-eqb)
 
@@ -169,7 +185,8 @@ keeps : (s t : State) → Naming s t → IsOrderly s → KeepsTsaps s t
 keeps s t (stays tsaps live) orderly q within there = ap (value_at q) tsaps
 keeps s t (loses r tsaps live) orderly q within there = lost_by r q s t (q == r) refl orderly tsaps live there
 keeps s t (gains c ids tsaps live) orderly q within there = grind (arith, push_other)
-keeps s t (clears tsaps live) orderly q within there = absurd (let no : true ≡ false = sym there ∙ ap (λ (l : Rows Connection). is_some (value_at q l)) live in cc)
+keeps s t (clears tsaps live) orderly q within there =
+    absurd (let no : true ≡ false = sym there ∙ ap (λ (l : Rows Connection). is_some (value_at q l)) live in cc)
 
 -- ---- the laws
 

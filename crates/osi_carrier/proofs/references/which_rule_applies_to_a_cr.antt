@@ -5,7 +5,8 @@ use Rattle.osi_carrier.proofs.Vocabulary.{nat_tests, Connect, Selection, selecte
 pub has_room : (s : State) → length s.live < 64 → s.given < 65535 → is_full s ≡ false
 has_room s few more = grind (arith, nat_tests)
 
-pub is_answered : {A E : Type 0} (result : Result A E) (c : Connect) (s new : State) (sel : Selection) → has_peer c.source s.live ≡ false → is_full s ≡ false →
+pub is_answered : {A E : Type 0} (result : Result A E) (c : Connect) (s new : State) (sel : Selection) → has_peer c.source s.live ≡ false →
+    is_full s ≡ false →
     sel ≡ selected_by c s.local → OnOk result (new ≡ answers c sel s.class s) → OnOk result (new ≡ answers_request c s)
 is_answered (Ok a) c s new sel free room same h = rw (free, room) (h ∙ ap (λ x. answers c x s.class s) same)
 is_answered (Err f) c s new sel free room same h = tt

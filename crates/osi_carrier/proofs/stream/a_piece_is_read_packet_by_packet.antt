@@ -1,7 +1,13 @@
 -- Reading a piece of the stream, packet by packet.
-use Rattle.std.proofs.Common.{◌≡◌, ℕ, ◌+◌, ◌-◌, ◌*◌, ◌<◌, ◌≤◌, ◌||◌, true, false, Bool, List, [], ◌∷◌, ◌++◌, length, take, drop, Option, Some, None, Result, Ok, Err, is_some, refl, sym, ap, subst, ◌∙◌, inl, inr, ◌⊎◌, arith, length-append, length-take, append_assoc, if◌then◌else◌}
+use Rattle.std.proofs.Common.{◌≡◌, ℕ, ◌+◌, ◌-◌, ◌*◌, ◌<◌, ◌≤◌, ◌||◌, true, false, Bool, List, [], ◌∷◌, ◌++◌, length, take, drop, Option}
+use Rattle.std.proofs.Common.{Some, None, Result, Ok, Err, is_some, refl, sym, ap, subst, ◌∙◌, inl, inr, ◌⊎◌, arith, length-append}
+use Rattle.std.proofs.Common.{length-take, append_assoc, if◌then◌else◌}
 use Rattle.std.proofs.Math.Seq.{drop-append_seam}
-use Rattle.osi_carrier.proofs.Vocabulary.{append-nil, take-append-drop, take_at, IsPacket, IsFaultOf, ArePackets, offset_of, Fed, TpktFault, BadVersion, BadLength, OutOfMemory, units_of, Value, TpduFault, PacketActs, PartHeld, Faults, LacksRoom, EndsOver, Carrying, IsReading, Acts, ActsBy, acts_by, after_packet, stops, waits, is_spoilt, TakesPackets, StopsBehind, Starves, HasToHold, FindsNoMemory, Goes, Feeds, RunsOut, State, EndReason}
+use Rattle.osi_carrier.proofs.Vocabulary.{append-nil, take-append-drop, take_at, IsPacket, IsFaultOf, ArePackets, offset_of, Fed, TpktFault}
+use Rattle.osi_carrier.proofs.Vocabulary.{BadVersion, BadLength, OutOfMemory, units_of, Value, TpduFault, PacketActs, PartHeld, Faults}
+use Rattle.osi_carrier.proofs.Vocabulary.{LacksRoom, EndsOver, Carrying, IsReading, Acts, ActsBy, acts_by, after_packet, stops, waits}
+use Rattle.osi_carrier.proofs.Vocabulary.{is_spoilt, TakesPackets, StopsBehind, Starves, HasToHold, FindsNoMemory, Goes, Feeds, RunsOut}
+use Rattle.osi_carrier.proofs.Vocabulary.{State, EndReason}
 
 -- ---- packets
 
@@ -15,7 +21,8 @@ packets_more [] s r t h = ap (λ l. l ++ t) h
 packets_more (u ∷ units) s r t h =
     (h.0, h.1 ++ t, h.2, ap (λ l. l ++ t) h.3 ∙ append_assoc h.0 h.1 t, packets_more units h.1 r t h.4)
 
-pub packets_snoc : (units : List (List ℕ)) (s r : List ℕ) (packet : List ℕ) → ArePackets units s r → IsPacket packet r → ArePackets (units ++ packet ∷ []) s []
+pub packets_snoc : (units : List (List ℕ)) (s r : List ℕ) (packet : List ℕ) → ArePackets units s r → IsPacket packet r →
+    ArePackets (units ++ packet ∷ []) s []
 packets_snoc [] s r packet h p = (s, [], subst (IsPacket packet) (sym h) p, sym (append-nil s), refl)
 packets_snoc (u ∷ units) s r packet h p = (h.0, h.1, h.2, h.3, packets_snoc units h.1 r packet h.4 p)
 
@@ -56,7 +63,8 @@ pub record IsRead (old : Carrying) (piece : List ℕ) (now : Carrying) (rest : L
   pub some : 0 < length piece
   pub begun : stops old.state ≡ false
 
-pub read_first : (old : Carrying) (piece : List ℕ) → is_some old.state.ended ≡ false → waits old.state ≡ false → IsReading old.held → (length piece ≡ 0 → ⊥) → IsRead old piece old piece
+pub read_first : (old : Carrying) (piece : List ℕ) → is_some old.state.ended ≡ false → waits old.state ≡ false → IsReading old.held →
+    (length piece ≡ 0 → ⊥) → IsRead old piece old piece
 read_first old piece alive none_waits reading some =
     let bound = reading.holding.offset in
     let none = length-append old.held.octets [] in
@@ -78,15 +86,18 @@ read_first old piece alive none_waits reading some =
 
 -- ---- the next packet
 
-record Behind (old : Carrying) (piece : List ℕ) (now : Carrying) (rest : List ℕ) (used : ℕ) (new : Carrying) (packet : List ℕ) (read : IsRead old piece now rest) : Type 0 where
+record Behind (old : Carrying) (piece : List ℕ) (now : Carrying) (rest : List ℕ) (used : ℕ) (new : Carrying) (packet : List ℕ)
+    (read : IsRead old piece now rest) : Type 0 where
   cut : piece ≡ (read.front ++ take used rest) ++ drop used rest
   packets : ArePackets (read.units ++ packet ∷ []) (old.held.octets ++ (read.front ++ take used rest)) []
   offset : new.held.offset ≡ offset_of (old.held.offset + length (old.held.octets ++ (read.front ++ take used rest)))
 
-behind : (old : Carrying) (piece : List ℕ) (now : Carrying) (rest : List ℕ) (used : ℕ) (new : Carrying) (read : IsRead old piece now rest) (acts : PacketActs now rest used new) →
+behind : (old : Carrying) (piece : List ℕ) (now : Carrying) (rest : List ℕ) (used : ℕ) (new : Carrying) (read : IsRead old piece now rest)
+    (acts : PacketActs now rest used new) →
     Behind old piece now rest used new acts.packet read
 behind old piece now rest used new read acts =
-    let assoc : (old.held.octets ++ read.front) ++ take used rest ≡ old.held.octets ++ (read.front ++ take used rest) = append_assoc old.held.octets read.front (take used rest) in
+    let assoc : (old.held.octets ++ read.front) ++ take used rest ≡ old.held.octets ++ (read.front ++ take used rest) =
+        append_assoc old.held.octets read.front (take used rest) in
     let left = packets_leave read.units (old.held.octets ++ read.front) now.held.octets read.packets in
     let joined = length-append (old.held.octets ++ read.front) (take used rest) in
     let same = ap length assoc in
@@ -94,7 +105,8 @@ behind old piece now rest used new read acts =
     let before = read.offset in
     let after = acts.offset in
     record {
-      cut = read.cut ∙ ap (λ l. read.front ++ l) (sym (take-append-drop used rest)) ∙ sym (append_assoc read.front (take used rest) (drop used rest));
+      cut = read.cut ∙ ap (λ l. read.front ++ l) (sym (take-append-drop used rest)) ∙
+          sym (append_assoc read.front (take used rest) (drop used rest));
       packets = subst (λ l. ArePackets (read.units ++ acts.packet ∷ []) l []) assoc
           (packets_snoc read.units ((old.held.octets ++ read.front) ++ take used rest) (now.held.octets ++ take used rest) acts.packet
           (packets_more read.units (old.held.octets ++ read.front) now.held.octets (take used rest) read.packets) acts.whole);
@@ -106,7 +118,8 @@ pub read_next : (old : Carrying) (piece : List ℕ) (now : Carrying) (rest : Lis
 read_next old piece now rest used new read acts quiet =
     let b = behind old piece now rest used new read acts in
     let same : new.state ≡ after_packet now.state acts.packet =
-    elim (acts_cases now.state new.state acts.packet acts.acted) [ inl h ↦ h | inr h ↦ (let over : stops new.state ≡ true = ap stops h.2.ended in cc) ] in
+    elim (acts_cases now.state new.state acts.packet acts.acted)
+        [ inl h ↦ h | inr h ↦ (let over : stops new.state ≡ true = ap stops h.2.ended in cc) ] in
     let none = ap length acts.held in
     let far = b.offset in
     let before = read.room in
@@ -115,8 +128,10 @@ read_next old piece now rest used new read acts quiet =
       front = read.front ++ take used rest;
       units = read.units ++ acts.packet ∷ [];
       cut = b.cut;
-      packets = subst (ArePackets (read.units ++ acts.packet ∷ []) (old.held.octets ++ (read.front ++ take used rest))) (sym acts.held) b.packets;
-      taken = subst (TakesPackets old.state (read.units ++ acts.packet ∷ [])) (sym same) (takes_snoc old.state now.state read.units acts.packet read.taken read.quiet);
+      packets = subst (ArePackets (read.units ++ acts.packet ∷ []) (old.held.octets ++ (read.front ++ take used rest))) (sym acts.held)
+          b.packets;
+      taken = subst (TakesPackets old.state (read.units ++ acts.packet ∷ [])) (sym same)
+          (takes_snoc old.state now.state read.units acts.packet read.taken read.quiet);
       quiet = quiet;
       reading = acts.reading;
       offset = omega arith;
@@ -131,9 +146,11 @@ looked : (piece front rest : List ℕ) (used : ℕ) → piece ≡ (front ++ take
     (take (length (front ++ take used rest)) piece ≡ front ++ take used rest) × (length (front ++ take used rest) ≤ length piece)
 looked piece front rest used cut =
     let sizes = ap length cut ∙ length-append (front ++ take used rest) (drop used rest) in
-    (ap (take (length (front ++ take used rest))) cut ∙ take_at (front ++ take used rest) (drop used rest) (length (front ++ take used rest)) refl, omega arith)
+    (ap (take (length (front ++ take used rest))) cut ∙
+        take_at (front ++ take used rest) (drop used rest) (length (front ++ take used rest)) refl, omega arith)
 
-stopped_by : (old : Carrying) (piece : List ℕ) (now : Carrying) (rest : List ℕ) (used uses : ℕ) (new : Carrying) (read : IsRead old piece now rest) (acts : PacketActs now rest used new) →
+stopped_by : (old : Carrying) (piece : List ℕ) (now : Carrying) (rest : List ℕ) (used uses : ℕ) (new : Carrying)
+    (read : IsRead old piece now rest) (acts : PacketActs now rest used new) →
     new.state ≡ after_packet now.state acts.packet → stops new.state ≡ true →
     uses ≡ (if is_spoilt new.state.ended then length piece else length (read.front ++ take used rest)) → StopsBehind old piece uses new
 stopped_by old piece now rest used uses new read acts same stopped e =
@@ -153,7 +170,8 @@ stopped_by old piece now rest used uses new read acts same stopped e =
       one = omega arith;
       bound = seen.1;
       packets = subst (λ l. ArePackets (read.units ++ acts.packet ∷ []) (old.held.octets ++ l) []) (sym seen.0) b.packets;
-      taken = subst (TakesPackets old.state (read.units ++ acts.packet ∷ [])) (sym same) (takes_snoc old.state now.state read.units acts.packet read.taken read.quiet);
+      taken = subst (TakesPackets old.state (read.units ++ acts.packet ∷ [])) (sym same)
+          (takes_snoc old.state now.state read.units acts.packet read.taken read.quiet);
       stopped = stopped;
       uses = e;
       held = acts.held;
@@ -161,12 +179,15 @@ stopped_by old piece now rest used uses new read acts same stopped e =
       room = omega arith;
     }
 
-pub read_stops : (old : Carrying) (piece : List ℕ) (now : Carrying) (rest : List ℕ) (used : ℕ) (new : Carrying) → IsRead old piece now rest →
-    PacketActs now rest used new → stops new.state ≡ true → is_spoilt new.state.ended ≡ false → Goes old piece (length piece - length (drop used rest)) new
+pub read_stops : (old : Carrying) (piece : List ℕ) (now : Carrying) (rest : List ℕ) (used : ℕ) (new : Carrying) →
+    IsRead old piece now rest →
+    PacketActs now rest used new → stops new.state ≡ true → is_spoilt new.state.ended ≡ false →
+        Goes old piece (length piece - length (drop used rest)) new
 read_stops old piece now rest used new read acts stopped sound =
     let b = behind old piece now rest used new read acts in
     let same : new.state ≡ after_packet now.state acts.packet =
-    elim (acts_cases now.state new.state acts.packet acts.acted) [ inl h ↦ h | inr h ↦ (let over : is_spoilt new.state.ended ≡ true = ap (λ (s : State). is_spoilt s.ended) h.2.ended in cc) ] in
+    elim (acts_cases now.state new.state acts.packet acts.acted)
+        [ inl h ↦ h | inr h ↦ (let over : is_spoilt new.state.ended ≡ true = ap (λ (s : State). is_spoilt s.ended) h.2.ended in cc) ] in
     let sizes = ap length b.cut ∙ length-append (read.front ++ take used rest) (drop used rest) in
     let uses : length piece - length (drop used rest) ≡ length (read.front ++ take used rest) = omega arith in
     inl (inr (stopped_by old piece now rest used (length piece - length (drop used rest)) new read acts same stopped (rw sound uses)))
@@ -179,7 +200,8 @@ spoilt_stops : (s : State) → is_spoilt s.ended ≡ true → stops s ≡ true
 spoilt_stops s e = ap (λ b. b || waits s) (spoilt_over s.ended e)
 
 -- what begins with a packet has no fault
-spelled_faultless : (reserved high low : ℕ) (u more : List ℕ) → 256 * high + low ≡ length u + 4 → 3 ≤ length u → (at : ℕ) (fault : TpktFault) →
+spelled_faultless : (reserved high low : ℕ) (u more : List ℕ) → 256 * high + low ≡ length u + 4 → 3 ≤ length u →
+    (at : ℕ) (fault : TpktFault) →
     IsFaultOf at ((3 ∷ reserved ∷ high ∷ low ∷ u) ++ more) fault → ⊥
 spelled_faultless reserved high low u more counted least at (BadVersion o) h = h.0.1 refl
 spelled_faultless reserved high low u more counted least at (BadLength o) h = let short : 256 * high + low < 7 = h.0.2 in omega arith
@@ -190,12 +212,14 @@ packet_faultless u b more p =
     subst (λ x. (at : ℕ) (fault : TpktFault) → IsFaultOf at (x ++ more) fault → ⊥) (sym p.spelled)
     (spelled_faultless p.reserved p.high p.low u more p.counted p.at_least)
 
-starved_by : (old : Carrying) (piece : List ℕ) (now : Carrying) (rest : List ℕ) (used : ℕ) (new : Carrying) (read : IsRead old piece now rest) (acts : PacketActs now rest used new) →
+starved_by : (old : Carrying) (piece : List ℕ) (now : Carrying) (rest : List ℕ) (used : ℕ) (new : Carrying)
+    (read : IsRead old piece now rest) (acts : PacketActs now rest used new) →
     Starves now.state acts.packet new.state → FindsNoMemory old piece (length piece) new
 starved_by old piece now rest used new read acts starves =
     let b = behind old piece now rest used new read acts in
     let seen = looked piece read.front rest used b.cut in
-    let assoc : (old.held.octets ++ read.front) ++ take used rest ≡ old.held.octets ++ (read.front ++ take used rest) = append_assoc old.held.octets read.front (take used rest) in
+    let assoc : (old.held.octets ++ read.front) ++ take used rest ≡ old.held.octets ++ (read.front ++ take used rest) =
+        append_assoc old.held.octets read.front (take used rest) in
     record {
       within = length (read.front ++ take used rest);
       units = read.units;
@@ -203,21 +227,26 @@ starved_by old piece now rest used new read acts starves =
       before = now.state;
       all = refl;
       bound = seen.1;
-      packets = subst (λ l. ArePackets read.units l (now.held.octets ++ take used rest)) (assoc ∙ ap (λ l. old.held.octets ++ l) (sym seen.0))
+      packets = subst (λ l. ArePackets read.units l (now.held.octets ++ take used rest))
+          (assoc ∙ ap (λ l. old.held.octets ++ l) (sym seen.0))
           (packets_more read.units (old.held.octets ++ read.front) now.held.octets (take used rest) read.packets);
       taken = read.taken;
       quiet = read.quiet;
-      how = inr (acts.packet, (now.held.octets ++ take used rest, [], acts.whole, sym (append-nil (now.held.octets ++ take used rest)), refl), starves);
+      how = inr (acts.packet,
+          (now.held.octets ++ take used rest, [], acts.whole, sym (append-nil (now.held.octets ++ take used rest)), refl), starves);
       held = acts.held;
-      faultless = packet_faultless acts.packet (now.held.octets ++ take used rest) (drop (length (read.front ++ take used rest)) piece) acts.whole;
+      faultless = packet_faultless acts.packet (now.held.octets ++ take used rest) (drop (length (read.front ++ take used rest)) piece)
+          acts.whole;
     }
 
-pub read_spoilt : (old : Carrying) (piece : List ℕ) (now : Carrying) (rest : List ℕ) (used : ℕ) (new : Carrying) → IsRead old piece now rest →
+pub read_spoilt : (old : Carrying) (piece : List ℕ) (now : Carrying) (rest : List ℕ) (used : ℕ) (new : Carrying) →
+    IsRead old piece now rest →
     PacketActs now rest used new → is_spoilt new.state.ended ≡ true → Goes old piece (length piece) new
 read_spoilt old piece now rest used new read acts spoilt =
     let b = behind old piece now rest used new read acts in
     elim (acts_cases now.state new.state acts.packet acts.acted) [
-      | inl h ↦ inl (inr (stopped_by old piece now rest used (length piece) new read acts h (spoilt_stops new.state spoilt) (rw spoilt refl)))
+      | inl h ↦ inl
+          (inr (stopped_by old piece now rest used (length piece) new read acts h (spoilt_stops new.state spoilt) (rw spoilt refl)))
       | inr h ↦ inr (inr (starved_by old piece now rest used new read acts h))
     ]
 
@@ -238,7 +267,8 @@ whole_offset old piece now rest read =
     let a = length-append old.held.octets read.front in
     let b = length-append old.held.octets piece in
     let c = length-append now.held.octets rest in
-    let same : length (old.held.octets ++ piece) - length (now.held.octets ++ rest) ≡ length (old.held.octets ++ read.front) - length now.held.octets = omega arith in
+    let same : length (old.held.octets ++ piece) - length (now.held.octets ++ rest) ≡ length (old.held.octets ++ read.front) - length
+        now.held.octets = omega arith in
     before ∙ ap (λ n. offset_of (old.held.offset + n)) (sym same)
 
 pub read_part : (old : Carrying) (piece : List ℕ) (now : Carrying) (rest : List ℕ) (new : Carrying) → IsRead old piece now rest →
@@ -253,7 +283,8 @@ read_part old piece now rest new read part =
       partial = part.partial;
       taken = subst (TakesPackets old.state read.units) (sym part.state) read.taken;
       quiet = ap stops part.state ∙ read.quiet;
-      offset = part.offset ∙ whole_offset old piece now rest read ∙ ap (λ l. offset_of (old.held.offset + (length (old.held.octets ++ piece) - length l))) (sym part.held);
+      offset = part.offset ∙ whole_offset old piece now rest read ∙
+          ap (λ l. offset_of (old.held.offset + (length (old.held.octets ++ piece) - length l))) (sym part.held);
       room = omega arith;
     }))
 
@@ -283,7 +314,8 @@ over_by old piece now rest new read held (inl fault) =
     }))
 over_by old piece now rest new read held (inr none) =
     let sizes = ap length read.cut ∙ length-append read.front rest in
-    let seen : take (length read.front) piece ≡ read.front = ap (take (length read.front)) read.cut ∙ take_at read.front rest (length read.front) refl in
+    let seen : take (length read.front) piece ≡ read.front = ap (take (length read.front)) read.cut ∙
+        take_at read.front rest (length read.front) refl in
     let behind : drop (length read.front) piece ≡ rest = ap (drop (length read.front)) read.cut ∙ drop-append_seam read.front rest in
     inr (inr (record {
       within = length read.front;
@@ -298,7 +330,8 @@ over_by old piece now rest new read held (inr none) =
       how = inl (record {
         ended = none.ended;
         first = elim read.first [ inl nothing ↦ inl (ap length nothing) | inr nothing ↦ inr nothing ];
-        holds = subst (HasToHold old.held.room now.held.octets) (sym behind) (less_room now.held.room old.held.room now.held.octets rest read.room none.holds);
+        holds = subst (HasToHold old.held.room now.held.octets) (sym behind)
+            (less_room now.held.room old.held.room now.held.octets rest read.room none.holds);
       });
       held = held;
       faultless = subst (λ l. (at : ℕ) (fault : TpktFault) → IsFaultOf at (now.held.octets ++ l) fault → ⊥) (sym behind) none.faultless;
@@ -317,16 +350,19 @@ used_some false used n m e a b = omega arith
 -- some of a piece that is not empty is used
 pub goes_on : (old : Carrying) (piece : List ℕ) (used : ℕ) (new : Carrying) → Goes old piece used new → 0 < length piece → 0 < used
 goes_on old piece used new (inl (inl dry)) some = let all = dry.all in omega arith
-goes_on old piece used new (inl (inr stop)) some = used_some (is_spoilt new.state.ended) used (length piece) stop.within stop.uses some stop.some
+goes_on old piece used new (inl (inr stop)) some =
+    used_some (is_spoilt new.state.ended) used (length piece) stop.within stop.uses some stop.some
 goes_on old piece used new (inr (inl refused)) some = let all = refused.all in omega arith
 goes_on old piece used new (inr (inr starved)) some = let all = starved.all in omega arith
 
 -- feeding that goes on feeds
-pub fed_goes : (old : Carrying) (piece : List ℕ) (now : Carrying) (rest : List ℕ) (used : ℕ) (fed : Fed) (new : Carrying) → IsRead old piece now rest → Goes old piece used new → used ≤ length piece →
+pub fed_goes : (old : Carrying) (piece : List ℕ) (now : Carrying) (rest : List ℕ) (used : ℕ) (fed : Fed) (new : Carrying) →
+    IsRead old piece now rest → Goes old piece used new → used ≤ length piece →
     fed.used ≡ used → fed.whole ≡ waits new.state → Feeds old piece fed new
 fed_goes old piece now rest used fed new read goes bound is whole = record {
   over = λ over. absurd (let stopped : stops old.state ≡ true = ap (λ b. b || waits old.state) over in let quiet = read.begun in cc);
-  waiting = λ none waiting. absurd (let stopped : stops old.state ≡ true = ap (λ o. is_some o || waits old.state) none ∙ waiting in let quiet = read.begun in cc);
+  waiting = λ none waiting. absurd (let stopped : stops old.state ≡ true = ap (λ o. is_some o || waits old.state) none ∙ waiting in
+      let quiet = read.begun in cc);
   goes = λ _. subst (λ (n : ℕ). Goes old piece n new) (sym is) goes;
   whole = whole;
   bound = omega arith;

@@ -1,8 +1,15 @@
 -- If one list of pieces does not end a carrier, no other with the same octets does.
-use Rattle.std.proofs.Common.{◌≡◌, ℕ, ◌≤◌, ◌||◌, Bool, true, false, List, [], ◌∷◌, ◌++◌, length, take, drop, map, Option, Some, None, Result, is_some, refl, sym, ap, subst, ◌∙◌, ◌⊎◌, inl, inr, arith, append_assoc, length-append, if◌then◌else◌}
-use Rattle.osi_carrier.proofs.Vocabulary.{append-nil, take_all, take-append-drop, get_or_append_left, flat_map, IsPacket, IsOnePacket, IsPartial, IsFaultOf, stated_length-append, ArePackets, Faulty, Fed, TpktFault, partial_no_fault, end_no_packet, units_of, Value, TpduFault, Tells, Happening, Carrying, Feeds, Goes, acts_by, after_packet, waits, is_spoilt, UserCall, Call, all_done, packet_in, Calls, CallsAlong, used_in, told_in, carried_in, called_in, put_back, packet, feeding, telling, carrying, calling, State, EndReason, NoMemory}
+use Rattle.std.proofs.Common.{◌≡◌, ℕ, ◌≤◌, ◌||◌, Bool, true, false, List, [], ◌∷◌, ◌++◌, length, take, drop, map, Option, Some, None}
+use Rattle.std.proofs.Common.{Result, is_some, refl, sym, ap, subst, ◌∙◌, ◌⊎◌, inl, inr, arith, append_assoc, length-append, if◌then◌else◌}
+use Rattle.osi_carrier.proofs.Vocabulary.{append-nil, take_all, take-append-drop, get_or_append_left, flat_map, IsPacket, IsOnePacket}
+use Rattle.osi_carrier.proofs.Vocabulary.{IsPartial, IsFaultOf, stated_length-append, ArePackets, Faulty, Fed, TpktFault, partial_no_fault}
+use Rattle.osi_carrier.proofs.Vocabulary.{end_no_packet, units_of, Value, TpduFault, Tells, Happening, Carrying, Feeds, Goes, acts_by}
+use Rattle.osi_carrier.proofs.Vocabulary.{after_packet, waits, is_spoilt, UserCall, Call, all_done, packet_in, Calls, CallsAlong, used_in}
+use Rattle.osi_carrier.proofs.Vocabulary.{told_in, carried_in, called_in, put_back, packet, feeding, telling, carrying, calling, State}
+use Rattle.osi_carrier.proofs.Vocabulary.{EndReason, NoMemory}
 use Rattle.osi_carrier.proofs.effects.what_is_in_front_changes_nothing.{apart_all}
-use Rattle.osi_carrier.proofs.stream.a_carrier_does_what_its_packets_do.{calls_read, reads_one, ReadsOne, only_packets, packets_done, all_joined}
+use Rattle.osi_carrier.proofs.stream.a_carrier_does_what_its_packets_do.{calls_read, reads_one, ReadsOne, only_packets, packets_done}
+use Rattle.osi_carrier.proofs.stream.a_carrier_does_what_its_packets_do.{all_joined}
 use Rattle.osi_carrier.proofs.effects.units_one_after_the_other.{none_of, reacts_over}
 
 -- ---- packets in front of others
@@ -23,7 +30,8 @@ pub record Parts (us vs : List (List ℕ)) (m t r : List ℕ) : Type 0 where
   pub all : us ≡ vs ++ more
   pub packets : ArePackets more (m ++ t) r
 
-pub parts : PacketLaws → (us vs : List (List ℕ)) (s m t r : List ℕ) → IsPartial r → ArePackets us (s ++ t) r → ArePackets vs s m → Parts us vs m t r
+pub parts : PacketLaws → (us vs : List (List ℕ)) (s m t r : List ℕ) → IsPartial r → ArePackets us (s ++ t) r → ArePackets vs s m →
+    Parts us vs m t r
 parts laws us [] s m t r partial h k = record { more = us; all = refl; packets = subst (λ l. ArePackets us (l ++ t) r) k h }
 parts laws [] (v ∷ vs) s m t r partial h k =
     let whole : r ≡ k.0 ++ (k.1 ++ t) = sym h ∙ ap (λ l. l ++ t) k.3 ∙ append_assoc k.0 k.1 t in
@@ -59,14 +67,16 @@ pub tells_ended : (event : Option Happening) (old new : State) → Tells event o
 tells_ended event old new h = grind arith
 
 -- with no call of the user an end stays as it is
-over_call : (old : Carrying) (call : Call) (new : Carrying) → called_in call ≡ [] → is_some old.state.ended ≡ true → Calls old call new → new.state.ended ≡ old.state.ended
+over_call : (old : Carrying) (call : Call) (new : Carrying) → called_in call ≡ [] → is_some old.state.ended ≡ true → Calls old call new →
+    new.state.ended ≡ old.state.ended
 over_call old call new none h h_ = grind (arith, tells_ended)
 
 pub none_first : (a b : List UserCall) → a ++ b ≡ [] → (a ≡ []) × (b ≡ [])
 none_first [] b e = (refl, e)
 none_first (x ∷ a) b e = absurd cc
 
-pub over_calls : (old : Carrying) (calls : List Call) (new : Carrying) → flat_map called_in calls ≡ [] → is_some old.state.ended ≡ true → CallsAlong old calls new →
+pub over_calls : (old : Carrying) (calls : List Call) (new : Carrying) → flat_map called_in calls ≡ [] → is_some old.state.ended ≡ true →
+    CallsAlong old calls new →
     new.state.ended ≡ old.state.ended
 over_calls old [] new none over h = ap (λ (x : Carrying). x.state.ended) h
 over_calls old (call ∷ calls) new none over h =
@@ -94,7 +104,8 @@ never s over none = let e : is_some s.ended ≡ false = ap is_some none in absur
 pub fault_behind : (at : ℕ) (r t : List ℕ) (f : TpktFault) → IsFaultOf at r f → IsFaultOf at (r ++ t) f
 fault_behind at r t f h = grind (arith, length-append, get_or_append_left, stated_length-append)
 
-pub no_fault : PacketLaws → (at : ℕ) (ws : List (List ℕ)) (r t rest : List ℕ) (f : TpktFault) → IsFaultOf at r f → IsPartial rest → ArePackets ws (r ++ t) rest → ⊥
+pub no_fault : PacketLaws → (at : ℕ) (ws : List (List ℕ)) (r t rest : List ℕ) (f : TpktFault) → IsFaultOf at r f → IsPartial rest →
+    ArePackets ws (r ++ t) rest → ⊥
 no_fault laws at [] r t rest f fault partial h = partial_no_fault at r f (laws.front r t (subst IsPartial (sym h) partial)) fault
 no_fault laws at (u ∷ ws) r t rest f fault partial h = end_no_packet at (r ++ t) (Faulty f) (fault_behind at r t f fault) u h.0 h.1 h.2 h.3
 
@@ -104,9 +115,11 @@ pub front_used : (b : Bool) (piece : List ℕ) (used within : ℕ) → within �
 front_used true piece used within bound e = (drop within piece, take_all used piece (omega arith) ∙ sym (take-append-drop within piece))
 front_used false piece used within bound e = ([], ap (λ n. take n piece) e ∙ sym (append-nil (take within piece)))
 
-over_goes : PacketLaws → (old : Carrying) (piece : List ℕ) (fed : Fed) (new : Carrying) (later : List ℕ) → Lasts old (old.held.octets ++ (take fed.used piece ++ later)) →
+over_goes : PacketLaws → (old : Carrying) (piece : List ℕ) (fed : Fed) (new : Carrying) (later : List ℕ) →
+    Lasts old (old.held.octets ++ (take fed.used piece ++ later)) →
     Goes old piece fed.used new → is_some new.state.ended ≡ true → new.state.ended ≡ Some NoMemory
-over_goes laws old piece fed new later lasts (inl (inl dry)) over = let quiet = dry.quiet in absurd (let e : (true || waits new.state) ≡ false = ap (λ b. b || waits new.state) (sym over) ∙ quiet in cc)
+over_goes laws old piece fed new later lasts (inl (inl dry)) over = let quiet =
+    dry.quiet in absurd (let e : (true || waits new.state) ≡ false = ap (λ b. b || waits new.state) (sym over) ∙ quiet in cc)
 over_goes laws old piece fed new later lasts (inl (inr stop)) over =
     let front = front_used (is_spoilt new.state.ended) piece fed.used stop.within stop.bound stop.uses in
     let s = old.held.octets ++ take stop.within piece in
@@ -116,8 +129,10 @@ over_goes laws old piece fed new later lasts (inl (inr stop)) over =
     let parted = parts laws lasts.units stop.units s [] (front.0 ++ later) lasts.rest lasts.partial
     (subst (λ l. ArePackets lasts.units l lasts.rest) same lasts.packets) stop.packets in
     let done = packets_done stop.units old.state new.state stop.taken in
-    let gone = packets_over parted.more (all_done (map packet stop.units) old.state) (ap (λ (x : State). is_some x.ended) (sym done) ∙ over) in
-    never (all_done (map packet parted.more) (all_done (map packet stop.units) old.state)) gone (parted_lasts old lasts.units stop.units parted.more parted.all lasts.lasts)
+    let gone = packets_over parted.more (all_done (map packet stop.units) old.state) (ap (λ (x : State). is_some x.ended) (sym done) ∙ over)
+        in
+    never (all_done (map packet parted.more) (all_done (map packet stop.units) old.state)) gone
+        (parted_lasts old lasts.units stop.units parted.more parted.all lasts.lasts)
 over_goes laws old piece fed new later lasts (inr (inl refused)) over =
     let whole : take fed.used piece ≡ piece = let all = refused.all in take_all fed.used piece (omega arith) in
     let same : old.held.octets ++ (take fed.used piece ++ later) ≡ (old.held.octets ++ piece) ++ later =
@@ -128,18 +143,24 @@ over_goes laws old piece fed new later lasts (inr (inl refused)) over =
 over_goes laws old piece fed new later lasts (inr (inr starved)) over =
     elim starved.how [ inl none ↦ ap (λ (x : State). x.ended) none.ended | inr h ↦ ap (λ (x : State). x.ended) h.2.2.ended ]
 
-over_feed : PacketLaws → (old : Carrying) (piece : List ℕ) (fed : Fed) (new : Carrying) (later : List ℕ) (waiting : Bool) → waits old.state ≡ waiting → old.state.ended ≡ None →
-    Lasts old (old.held.octets ++ (take fed.used piece ++ later)) → Feeds old piece fed new → is_some new.state.ended ≡ true → new.state.ended ≡ Some NoMemory
+over_feed : PacketLaws → (old : Carrying) (piece : List ℕ) (fed : Fed) (new : Carrying) (later : List ℕ) (waiting : Bool) →
+    waits old.state ≡ waiting → old.state.ended ≡ None →
+    Lasts old (old.held.octets ++ (take fed.used piece ++ later)) → Feeds old piece fed new → is_some new.state.ended ≡ true →
+        new.state.ended ≡ Some NoMemory
 over_feed laws old piece fed new later true e quiet lasts h over =
     never new.state over (ap (λ (x : Carrying). x.state.ended) (h.waiting quiet e).1 ∙ quiet)
 over_feed laws old piece fed new later false e quiet lasts h over =
     over_goes laws old piece fed new later lasts (h.goes (ap (λ (o : Option EndReason). is_some o || waits old.state) quiet ∙ e)) over
 
 over_one : PacketLaws → (old : Carrying) (call : Call) (new : Carrying) (later : List ℕ) → called_in call ≡ [] → old.state.ended ≡ None →
-    Lasts old (old.held.octets ++ (used_in call ++ later)) → Calls old call new → is_some new.state.ended ≡ true → new.state.ended ≡ Some NoMemory
-over_one laws old (feeding piece fed) new later none quiet lasts h over = over_feed laws old piece fed new later (waits old.state) refl quiet lasts h over
-over_one laws old (telling event) new later none quiet lasts h over = never new.state over (tells_ended event old.state new.state h.0 ∙ quiet)
-over_one laws old (carrying octets) new later none quiet lasts h over = never new.state over (ap (λ (x : Carrying). x.state.ended) (sym h) ∙ quiet)
+    Lasts old (old.held.octets ++ (used_in call ++ later)) → Calls old call new → is_some new.state.ended ≡ true →
+        new.state.ended ≡ Some NoMemory
+over_one laws old (feeding piece fed) new later none quiet lasts h over =
+    over_feed laws old piece fed new later (waits old.state) refl quiet lasts h over
+over_one laws old (telling event) new later none quiet lasts h over =
+    never new.state over (tells_ended event old.state new.state h.0 ∙ quiet)
+over_one laws old (carrying octets) new later none quiet lasts h over =
+    never new.state over (ap (λ (x : Carrying). x.state.ended) (sym h) ∙ quiet)
 over_one laws old (calling call) new later none quiet lasts h over = absurd cc
 
 -- the later octets do not end the carrier after a call either
@@ -149,15 +170,19 @@ lasts_on laws old call new later none one lasts =
     let vs = flat_map packet_in one.acts in
     let acts : one.acts ≡ map packet vs = only_packets one.acts (one.called ∙ none) in
     let parted = parts laws lasts.units vs (old.held.octets ++ used_in call) new.held.octets later lasts.rest lasts.partial
-    (subst (λ l. ArePackets lasts.units l lasts.rest) (sym (append_assoc old.held.octets (used_in call) later)) lasts.packets) one.packets in
-    let state : put_back (told_in call) (carried_in call) new.state ≡ all_done (map packet vs) old.state = one.state ∙ ap (λ l. all_done l old.state) acts in
+    (subst (λ l. ArePackets lasts.units l lasts.rest) (sym (append_assoc old.held.octets (used_in call) later)) lasts.packets) one.packets
+        in
+    let state : put_back (told_in call) (carried_in call) new.state ≡ all_done (map packet vs) old.state =
+        one.state ∙ ap (λ l. all_done l old.state) acts in
     let behind = parted_lasts old lasts.units vs parted.more parted.all lasts.lasts in
-    search (ap (λ (s : State). s.ended) (sym (apart_all (told_in call) (carried_in call) (map packet parted.more) new.state) ∙ ap (all_done (map packet parted.more)) state) ∙ behind)
+    search (ap (λ (s : State). s.ended) (sym (apart_all (told_in call) (carried_in call) (map packet parted.more) new.state) ∙
+        ap (all_done (map packet parted.more)) state) ∙ behind)
 
 abbrev LastsOrStarves : Carrying → Type 0
 LastsOrStarves new = (new.state.ended ≡ None) ⊎ (new.state.ended ≡ Some NoMemory)
 
-lasts_by : PacketLaws → IsPartial [] → (old : Carrying) (call : Call) (mid : Carrying) (calls : List Call) (new : Carrying) (over : Bool) → is_some mid.state.ended ≡ over →
+lasts_by : PacketLaws → IsPartial [] → (old : Carrying) (call : Call) (mid : Carrying) (calls : List Call) (new : Carrying) (over : Bool) →
+    is_some mid.state.ended ≡ over →
     called_in call ≡ [] → flat_map called_in calls ≡ [] → old.state.ended ≡ None → Calls old call mid → CallsAlong mid calls new →
     Lasts old (old.held.octets ++ (used_in call ++ flat_map used_in calls)) →
     (mid.state.ended ≡ None → Lasts mid (mid.held.octets ++ flat_map used_in calls) → LastsOrStarves new) → LastsOrStarves new
@@ -167,7 +192,8 @@ lasts_by laws nothing old call mid calls new false e none nor quiet h rest lasts
     let quiet' = none_of mid.state.ended e in
     on quiet' (lasts_on laws old call mid (flat_map used_in calls) none (reads_one nothing old call mid h quiet') lasts)
 
-lasts_along : PacketLaws → IsPartial [] → (old : Carrying) (calls : List Call) (new : Carrying) → flat_map called_in calls ≡ [] → old.state.ended ≡ None →
+lasts_along : PacketLaws → IsPartial [] → (old : Carrying) (calls : List Call) (new : Carrying) → flat_map called_in calls ≡ [] →
+    old.state.ended ≡ None →
     CallsAlong old calls new → Lasts old (old.held.octets ++ flat_map used_in calls) → LastsOrStarves new
 lasts_along laws nothing old [] new none quiet h lasts = inl (ap (λ (x : Carrying). x.state.ended) h ∙ quiet)
 lasts_along laws nothing old (call ∷ calls) new none quiet h lasts =
@@ -175,8 +201,10 @@ lasts_along laws nothing old (call ∷ calls) new none quiet h lasts =
     lasts_by laws nothing old call h.0 calls new (is_some h.0.state.ended) refl parted.0 parted.1 quiet h.1 h.2 lasts
     (λ quiet' more. lasts_along laws nothing h.0 calls new parted.1 quiet' h.2 more)
 
-pub pieces_last : PacketLaws → IsPartial [] → (old a b : Carrying) (xs ys : List Call) → IsPartial old.held.octets → old.state.ended ≡ None →
-    CallsAlong old xs a → CallsAlong old ys b → flat_map called_in xs ≡ [] → flat_map called_in ys ≡ [] → flat_map used_in xs ≡ flat_map used_in ys →
+pub pieces_last : PacketLaws → IsPartial [] → (old a b : Carrying) (xs ys : List Call) → IsPartial old.held.octets →
+    old.state.ended ≡ None →
+    CallsAlong old xs a → CallsAlong old ys b → flat_map called_in xs ≡ [] → flat_map called_in ys ≡ [] →
+        flat_map used_in xs ≡ flat_map used_in ys →
     a.state.ended ≡ None → LastsOrStarves b
 pieces_last laws nothing old a b xs ys partial quiet h k none nor used lasts =
     let m = calls_read nothing old xs a h lasts in

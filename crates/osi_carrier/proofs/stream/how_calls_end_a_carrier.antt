@@ -1,11 +1,18 @@
 -- How a list of calls ends a carrier: after a packet, or at a fault of the stream. Two lists with the same octets end
 -- it alike.
-use Rattle.std.proofs.Common.{◌≡◌, ℕ, ◌+◌, ◌-◌, ◌<◌, ◌≤◌, ◌^◌, ◌||◌, Bool, true, false, List, [], ◌∷◌, ◌++◌, length, take, map, Option, Some, None, is_some, refl, sym, ap, subst, ◌∙◌, ◌⊎◌, inl, inr, arith, append_assoc, length-append}
+use Rattle.std.proofs.Common.{◌≡◌, ℕ, ◌+◌, ◌-◌, ◌<◌, ◌≤◌, ◌^◌, ◌||◌, Bool, true, false, List, [], ◌∷◌, ◌++◌, length, take, map, Option}
+use Rattle.std.proofs.Common.{Some, None, is_some, refl, sym, ap, subst, ◌∙◌, ◌⊎◌, inl, inr, arith, append_assoc, length-append}
 use Rattle.osi_carrier.specs.declared.ends.CarrierFault.TheVariants.{Tpkt}
-use Rattle.osi_carrier.proofs.Vocabulary.{append-nil, take_all, flat_map, IsPartial, IsFaultOf, ArePackets, offset_of, Faulty, Fed, TpktFault, Held, one_fault, end_no_packet, Tells, Happening, Carrying, Feeds, Goes, TakesPackets, after_packet, waits, stops, is_spoilt, Call, all_done, packet_in, Calls, CallsAlong, used_in, told_in, carried_in, called_in, put_back, EndAlike, packet, feeding, telling, carrying, calling, State, fails, EndReason, NoMemory}
+use Rattle.osi_carrier.proofs.Vocabulary.{append-nil, take_all, flat_map, IsPartial, IsFaultOf, ArePackets, offset_of, Faulty, Fed}
+use Rattle.osi_carrier.proofs.Vocabulary.{TpktFault, Held, one_fault, end_no_packet, Tells, Happening, Carrying, Feeds, Goes, TakesPackets}
+use Rattle.osi_carrier.proofs.Vocabulary.{after_packet, waits, stops, is_spoilt, Call, all_done, packet_in, Calls, CallsAlong, used_in}
+use Rattle.osi_carrier.proofs.Vocabulary.{told_in, carried_in, called_in, put_back, EndAlike, packet, feeding, telling, carrying, calling}
+use Rattle.osi_carrier.proofs.Vocabulary.{State, fails, EndReason, NoMemory}
 use Rattle.osi_carrier.proofs.effects.what_is_in_front_changes_nothing.{apart_all}
-use Rattle.osi_carrier.proofs.stream.all_pieces_last_alike.{PacketLaws, behind_same, packets_over, map_joined, tells_ended, none_first, over_calls, never, fault_behind, front_used, pieces_last}
-use Rattle.osi_carrier.proofs.stream.a_carrier_does_what_its_packets_do.{ReadsOne, reads_one, only_packets, packets_done, packets_joined, all_joined, back_joined}
+use Rattle.osi_carrier.proofs.stream.all_pieces_last_alike.{PacketLaws, behind_same, packets_over, map_joined, tells_ended, none_first}
+use Rattle.osi_carrier.proofs.stream.all_pieces_last_alike.{over_calls, never, fault_behind, front_used, pieces_last}
+use Rattle.osi_carrier.proofs.stream.a_carrier_does_what_its_packets_do.{ReadsOne, reads_one, only_packets, packets_done, packets_joined}
+use Rattle.osi_carrier.proofs.stream.a_carrier_does_what_its_packets_do.{all_joined, back_joined}
 use Rattle.osi_carrier.proofs.effects.units_one_after_the_other.{none_of}
 use Rattle.osi_carrier.proofs.stream.a_piece_is_read_packet_by_packet.{packets_leave, packets_more}
 
@@ -63,11 +70,14 @@ Ending old at s final = InPacket old s final ⊎ InFault old at s final
 after_more : (us vs more : List (List ℕ)) (old : State) → us ≡ vs ++ more → after us old ≡ after more (after vs old)
 after_more us vs more old all = grind (arith, map_joined, all_joined, map)
 
-over_front : (us vs more : List (List ℕ)) (old : State) → us ≡ vs ++ more → is_some (after vs old).ended ≡ true → is_some (after us old).ended ≡ true
-over_front us vs more old all over = ap (λ (s : State). is_some s.ended) (after_more us vs more old all) ∙ packets_over more (after vs old) over
+over_front : (us vs more : List (List ℕ)) (old : State) → us ≡ vs ++ more → is_some (after vs old).ended ≡ true →
+    is_some (after us old).ended ≡ true
+over_front us vs more old all over = ap (λ (s : State). is_some s.ended) (after_more us vs more old all) ∙
+    packets_over more (after vs old) over
 
 -- the packets before the last one
-pub init_front : (before ws ms : List (List ℕ)) (last m : List ℕ) → before ++ last ∷ [] ≡ ws ++ m ∷ ms → (more : List (List ℕ)) × (before ≡ ws ++ more)
+pub init_front : (before ws ms : List (List ℕ)) (last m : List ℕ) → before ++ last ∷ [] ≡ ws ++ m ∷ ms →
+    (more : List (List ℕ)) × (before ≡ ws ++ more)
 init_front before [] ms last m e = (before, refl)
 init_front [] (w ∷ []) ms last m e = let none : [] ≡ m ∷ ms = cc in cc
 init_front [] (w ∷ x ∷ ws) ms last m e = let none : [] ≡ x ∷ (ws ++ m ∷ ms) = cc in cc
@@ -79,38 +89,50 @@ init_front (b ∷ before) (w ∷ ws) ms last m e =
 
 -- ---- they end alike
 
-same_packet : (old : State) (s : List ℕ) (f g : State) (a : InPacket old s f) (b : InPacket old s g) (more : List (List ℕ)) → a.before ++ a.last ∷ [] ≡ (b.before ++ b.last ∷ []) ++ more → f ≡ g
+same_packet : (old : State) (s : List ℕ) (f g : State) (a : InPacket old s f) (b : InPacket old s g) (more : List (List ℕ)) →
+    a.before ++ a.last ∷ [] ≡ (b.before ++ b.last ∷ []) ++ more → f ≡ g
 same_packet old s f g a b [] e = a.state ∙ ap (λ l. after l old) (e ∙ append-nil (b.before ++ b.last ∷ [])) ∙ sym b.state
 same_packet old s f g a b (m ∷ ms) e = grind (arith, init_front, never, over_front)
 
-both_packets : (old : State) (s : List ℕ) (f g : State) (a : InPacket old s f) (b : InPacket old s g) → Compared (a.before ++ a.last ∷ []) (b.before ++ b.last ∷ []) b.rest a.rest → f ≡ g
+both_packets : (old : State) (s : List ℕ) (f g : State) (a : InPacket old s f) (b : InPacket old s g) →
+    Compared (a.before ++ a.last ∷ []) (b.before ++ b.last ∷ []) b.rest a.rest → f ≡ g
 both_packets old s f g a b (inl x) = same_packet old s f g a b x.more x.all
 both_packets old s f g a b (inr x) = sym (same_packet old s g f b a x.more x.all)
 
-pub no_further : (at : ℕ) (more : List (List ℕ)) (m rest r : List ℕ) (fault : TpktFault) → IsFaultOf at rest fault → ArePackets (m ∷ more) rest r → ⊥
+pub no_further : (at : ℕ) (more : List (List ℕ)) (m rest r : List ℕ) (fault : TpktFault) → IsFaultOf at rest fault →
+    ArePackets (m ∷ more) rest r → ⊥
 no_further at more m rest r fault is h = end_no_packet at rest (Faulty fault) is m h.0 h.1 h.2 h.3
 
-packet_fault_by : {B : Type 0} (old : State) (at : ℕ) (s : List ℕ) (f g : State) (a : InPacket old s f) (b : InFault old at s g) (more : List (List ℕ)) → a.before ++ a.last ∷ [] ≡ b.before ++ more → ArePackets more b.rest a.rest → B
+packet_fault_by : {B : Type 0} (old : State) (at : ℕ) (s : List ℕ) (f g : State) (a : InPacket old s f) (b : InFault old at s g)
+    (more : List (List ℕ)) → a.before ++ a.last ∷ [] ≡ b.before ++ more → ArePackets more b.rest a.rest → B
 packet_fault_by old at s f g a b [] e h = grind (arith, never, is_some, append-nil)
 packet_fault_by old at s f g a b (m ∷ ms) e h = absurd (no_further _ ms m b.rest a.rest b.fault b.is h)
 
-packet_fault : {B : Type 0} (old : State) (at : ℕ) (s : List ℕ) (f g : State) (a : InPacket old s f) (b : InFault old at s g) → Compared (a.before ++ a.last ∷ []) b.before b.rest a.rest → B
+packet_fault : {B : Type 0} (old : State) (at : ℕ) (s : List ℕ) (f g : State) (a : InPacket old s f) (b : InFault old at s g) →
+    Compared (a.before ++ a.last ∷ []) b.before b.rest a.rest → B
 packet_fault old at s f g a b (inl x) = packet_fault_by old at s f g a b x.more x.all x.packets
-packet_fault old at s f g a b (inr x) = never (after b.before old) (over_front b.before (a.before ++ a.last ∷ []) x.more old x.all a.over) b.lasts
+packet_fault old at s f g a b (inr x) = never (after b.before old) (over_front b.before (a.before ++ a.last ∷ []) x.more old x.all a.over)
+    b.lasts
 
-same_fault : (old : State) (at : ℕ) (s : List ℕ) (f g : State) (a : InFault old at s f) (b : InFault old at s g) (more : List (List ℕ)) → a.before ≡ b.before ++ more → ArePackets more b.rest a.rest → f ≡ g
+same_fault : (old : State) (at : ℕ) (s : List ℕ) (f g : State) (a : InFault old at s f) (b : InFault old at s g) (more : List (List ℕ)) →
+    a.before ≡ b.before ++ more → ArePackets more b.rest a.rest → f ≡ g
 same_fault old at s f g a b [] e rests = grind (arith, one_fault, length, append-nil)
 same_fault old at s f g a b (m ∷ ms) e h = absurd (no_further _ ms m b.rest a.rest b.fault b.is h)
 
-both_faults : (old : State) (at : ℕ) (s : List ℕ) (f g : State) (a : InFault old at s f) (b : InFault old at s g) → Compared a.before b.before b.rest a.rest → f ≡ g
+both_faults : (old : State) (at : ℕ) (s : List ℕ) (f g : State) (a : InFault old at s f) (b : InFault old at s g) →
+    Compared a.before b.before b.rest a.rest → f ≡ g
 both_faults old at s f g a b (inl x) = same_fault old at s f g a b x.more x.all x.packets
 both_faults old at s f g a b (inr x) = sym (same_fault old at s g f b a x.more x.all x.packets)
 
 end_alike : PacketLaws → (old : State) (at : ℕ) (s : List ℕ) (f g : State) → Ending old at s f → Ending old at s g → f ≡ g
-end_alike laws old at s f g (inl a) (inl b) = both_packets old s f g a b (compare laws (a.before ++ a.last ∷ []) (b.before ++ b.last ∷ []) s a.rest b.rest a.packets b.packets)
-end_alike laws old at s f g (inl a) (inr b) = packet_fault old at s f g a b (compare laws (a.before ++ a.last ∷ []) b.before s a.rest b.rest a.packets b.packets)
-end_alike laws old at s f g (inr a) (inl b) = packet_fault old at s g f b a (compare laws (b.before ++ b.last ∷ []) a.before s b.rest a.rest b.packets a.packets)
-end_alike laws old at s f g (inr a) (inr b) = both_faults old at s f g a b (compare laws a.before b.before s a.rest b.rest a.packets b.packets)
+end_alike laws old at s f g (inl a) (inl b) =
+    both_packets old s f g a b (compare laws (a.before ++ a.last ∷ []) (b.before ++ b.last ∷ []) s a.rest b.rest a.packets b.packets)
+end_alike laws old at s f g (inl a) (inr b) =
+    packet_fault old at s f g a b (compare laws (a.before ++ a.last ∷ []) b.before s a.rest b.rest a.packets b.packets)
+end_alike laws old at s f g (inr a) (inl b) =
+    packet_fault old at s g f b a (compare laws (b.before ++ b.last ∷ []) a.before s b.rest a.rest b.packets a.packets)
+end_alike laws old at s f g (inr a) (inr b) =
+    both_faults old at s f g a b (compare laws a.before b.before s a.rest b.rest a.packets b.packets)
 
 -- ---- a feed that ends it
 
@@ -138,9 +160,11 @@ takes_last (u ∷ v ∷ us) old new h some =
 pub at_same : (at : ℕ) (s r t : List ℕ) → at + (length s - length r) ≡ at + (length (s ++ t) - length (r ++ t))
 at_same at s r t = let a = length-append s t in let b = length-append r t in omega arith
 
-ends_goes : (old : Carrying) (piece : List ℕ) (fed : Fed) (new : Carrying) (later : List ℕ) → Goes old piece fed.used new → is_some new.state.ended ≡ true → (new.state.ended ≡ Some NoMemory → ⊥) →
+ends_goes : (old : Carrying) (piece : List ℕ) (fed : Fed) (new : Carrying) (later : List ℕ) → Goes old piece fed.used new →
+    is_some new.state.ended ≡ true → (new.state.ended ≡ Some NoMemory → ⊥) →
     Outcome old (old.held.octets ++ (take fed.used piece ++ later)) new.state new.held.octets
-ends_goes old piece fed new later (inl (inl dry)) over full = never new.state over (stops_not new.state (is_some new.state.ended) refl dry.quiet)
+ends_goes old piece fed new later (inl (inl dry)) over full =
+    never new.state over (stops_not new.state (is_some new.state.ended) refl dry.quiet)
 ends_goes old piece fed new later (inl (inr stop)) over full =
     let front = front_used (is_spoilt new.state.ended) piece fed.used stop.within stop.bound stop.uses in
     let s = old.held.octets ++ take stop.within piece in
@@ -155,7 +179,8 @@ ends_goes old piece fed new later (inl (inr stop)) over full =
         last = t.last;
         rest = front.0 ++ later;
         packets = subst (λ l. ArePackets (t.before ++ t.last ∷ []) l (front.0 ++ later)) (sym same)
-            (subst (λ us. ArePackets us (s ++ (front.0 ++ later)) (front.0 ++ later)) t.all (packets_more stop.units s [] (front.0 ++ later) stop.packets));
+            (subst (λ us. ArePackets us (s ++ (front.0 ++ later)) (front.0 ++ later)) t.all
+                (packets_more stop.units s [] (front.0 ++ later) stop.packets));
         lasts = t.lasts;
         over = ap (λ (x : State). is_some x.ended) (sym done) ∙ over;
         state = done;
@@ -185,17 +210,22 @@ ends_goes old piece fed new later (inr (inl refused)) over full =
     }
 ends_goes old piece fed new later (inr (inr starved)) over full = grind arith
 
-ends_feed : (old : Carrying) (piece : List ℕ) (fed : Fed) (new : Carrying) (later : List ℕ) (waiting : Bool) → waits old.state ≡ waiting → old.state.ended ≡ None → Feeds old piece fed new → is_some new.state.ended ≡ true →
+ends_feed : (old : Carrying) (piece : List ℕ) (fed : Fed) (new : Carrying) (later : List ℕ) (waiting : Bool) → waits old.state ≡ waiting →
+    old.state.ended ≡ None → Feeds old piece fed new → is_some new.state.ended ≡ true →
     (new.state.ended ≡ Some NoMemory → ⊥) → Outcome old (old.held.octets ++ (take fed.used piece ++ later)) new.state new.held.octets
-ends_feed old piece fed new later true e quiet h over full = never new.state over (ap (λ (x : Carrying). x.state.ended) (h.waiting quiet e).1 ∙ quiet)
+ends_feed old piece fed new later true e quiet h over full =
+    never new.state over (ap (λ (x : Carrying). x.state.ended) (h.waiting quiet e).1 ∙ quiet)
 ends_feed old piece fed new later false e quiet h over full =
     ends_goes old piece fed new later (h.goes (ap (λ (o : Option EndReason). is_some o || waits old.state) quiet ∙ e)) over full
 
-ends_one : (old : Carrying) (call : Call) (new : Carrying) (later : List ℕ) → called_in call ≡ [] → old.state.ended ≡ None → Calls old call new → is_some new.state.ended ≡ true → (new.state.ended ≡ Some NoMemory → ⊥) →
+ends_one : (old : Carrying) (call : Call) (new : Carrying) (later : List ℕ) → called_in call ≡ [] → old.state.ended ≡ None →
+    Calls old call new → is_some new.state.ended ≡ true → (new.state.ended ≡ Some NoMemory → ⊥) →
     Outcome old (old.held.octets ++ (used_in call ++ later)) (put_back (told_in call) (carried_in call) new.state) new.held.octets
-ends_one old (feeding piece fed) new later none quiet h over full = ends_feed old piece fed new later (waits old.state) refl quiet h over full
+ends_one old (feeding piece fed) new later none quiet h over full =
+    ends_feed old piece fed new later (waits old.state) refl quiet h over full
 ends_one old (telling event) new later none quiet h over full = never new.state over (tells_ended event old.state new.state h.0 ∙ quiet)
-ends_one old (carrying octets) new later none quiet h over full = never new.state over (ap (λ (x : Carrying). x.state.ended) (sym h) ∙ quiet)
+ends_one old (carrying octets) new later none quiet h over full =
+    never new.state over (ap (λ (x : Carrying). x.state.ended) (sym h) ∙ quiet)
 ends_one old (calling call) new later none quiet h over full = absurd cc
 
 -- ---- after the end
@@ -204,13 +234,16 @@ record Stays (old : Carrying) (told : List Happening) (carried : List ℕ) (new 
   state : put_back told carried new.state ≡ old.state
   held : new.held ≡ old.held
 
-stays_told : (old : Carrying) (event : Option Happening) (new : Carrying) → Tells event old.state new.state → new.held ≡ old.held → Stays old (told_in (telling event)) [] new
+stays_told : (old : Carrying) (event : Option Happening) (new : Carrying) → Tells event old.state new.state → new.held ≡ old.held →
+    Stays old (told_in (telling event)) [] new
 stays_told old event new h held = grind arith
 
-stays_one : (old : Carrying) (call : Call) (new : Carrying) → called_in call ≡ [] → is_some old.state.ended ≡ true → Calls old call new → Stays old (told_in call) (carried_in call) new
+stays_one : (old : Carrying) (call : Call) (new : Carrying) → called_in call ≡ [] → is_some old.state.ended ≡ true → Calls old call new →
+    Stays old (told_in call) (carried_in call) new
 stays_one old call new none h h_ = grind (arith, stays_told)
 
-stays_along : (old : Carrying) (calls : List Call) (new : Carrying) → flat_map called_in calls ≡ [] → is_some old.state.ended ≡ true → CallsAlong old calls new → Stays old (flat_map told_in calls) (flat_map carried_in calls) new
+stays_along : (old : Carrying) (calls : List Call) (new : Carrying) → flat_map called_in calls ≡ [] → is_some old.state.ended ≡ true →
+    CallsAlong old calls new → Stays old (flat_map told_in calls) (flat_map carried_in calls) new
 stays_along old [] new none over h = record { state = ap (λ (x : Carrying). x.state) h; held = ap (λ (x : Carrying). x.held) h }
 stays_along old (call ∷ calls) new none over h =
     let parted = none_first (called_in call) (flat_map called_in calls) none in
@@ -225,20 +258,24 @@ stays_along old (call ∷ calls) new none over h =
 -- ---- calls one after the other
 
 -- the offset after two runs of octets, each with some octets held
-pub offsets_join : (at mid s m t r : ℕ) → mid ≡ offset_of (at + (s - m)) → m ≤ s → r ≤ m + t → offset_of (mid + ((m + t) - r)) ≡ offset_of (at + ((s + t) - r))
+pub offsets_join : (at mid s m t r : ℕ) → mid ≡ offset_of (at + (s - m)) → m ≤ s → r ≤ m + t →
+    offset_of (mid + ((m + t) - r)) ≡ offset_of (at + ((s + t) - r))
 offsets_join at mid s m t r e less few = omega arith
 
 -- what packets did after the call
-behind_call : (told : List Happening) (carried : List ℕ) (vs more us : List (List ℕ)) (old mid : State) → us ≡ vs ++ more → put_back told carried mid ≡ after vs old → after us old ≡ put_back told carried (after more mid)
+behind_call : (told : List Happening) (carried : List ℕ) (vs more us : List (List ℕ)) (old mid : State) → us ≡ vs ++ more →
+    put_back told carried mid ≡ after vs old → after us old ≡ put_back told carried (after more mid)
 behind_call told carried vs more us old mid all e =
     after_more us vs more old all ∙ ap (after more) (sym e) ∙ apart_all told carried (map packet more) mid
 
-ending_more : (old mid : Carrying) (call : Call) (t : List ℕ) (final : State) → called_in call ≡ [] → old.held.offset < 2 ^ 64 → ReadsOne old call mid → Ending mid.state mid.held.offset (mid.held.octets ++ t) final →
+ending_more : (old mid : Carrying) (call : Call) (t : List ℕ) (final : State) → called_in call ≡ [] → old.held.offset < 2 ^ 64 →
+    ReadsOne old call mid → Ending mid.state mid.held.offset (mid.held.octets ++ t) final →
     Ending old.state old.held.offset (old.held.octets ++ (used_in call ++ t)) (put_back (told_in call) (carried_in call) final)
 ending_more old mid call t final none bound one (inl a) =
     let vs = flat_map packet_in one.acts in
     let us = a.before ++ a.last ∷ [] in
-    let state : put_back (told_in call) (carried_in call) mid.state ≡ after vs old.state = one.state ∙ ap (λ l. all_done l old.state) (only_packets one.acts (one.called ∙ none)) in
+    let state : put_back (told_in call) (carried_in call) mid.state ≡ after vs old.state =
+        one.state ∙ ap (λ l. all_done l old.state) (only_packets one.acts (one.called ∙ none)) in
     let parts : (vs ++ a.before) ++ a.last ∷ [] ≡ vs ++ us = append_assoc vs a.before (a.last ∷ []) in
     let first = behind_call (told_in call) (carried_in call) vs a.before (vs ++ a.before) old.state mid.state refl state in
     let all = behind_call (told_in call) (carried_in call) vs us ((vs ++ a.before) ++ a.last ∷ []) old.state mid.state parts state in
@@ -256,15 +293,18 @@ ending_more old mid call t final none bound one (inl a) =
 ending_more old mid call t final none bound one (inr a) =
     let vs = flat_map packet_in one.acts in
     let s = old.held.octets ++ used_in call in
-    let state : put_back (told_in call) (carried_in call) mid.state ≡ after vs old.state = one.state ∙ ap (λ l. all_done l old.state) (only_packets one.acts (one.called ∙ none)) in
+    let state : put_back (told_in call) (carried_in call) mid.state ≡ after vs old.state =
+        one.state ∙ ap (λ l. all_done l old.state) (only_packets one.acts (one.called ∙ none)) in
     let all = behind_call (told_in call) (carried_in call) vs a.before (vs ++ a.before) old.state mid.state refl state in
     let left = packets_leave vs s mid.held.octets one.packets in
     let leaves = packets_leave a.before (mid.held.octets ++ t) a.rest a.packets in
     let m = length-append mid.held.octets t in
     let n = length-append s t in
-    let at : offset_of (mid.held.offset + (length (mid.held.octets ++ t) - length a.rest)) ≡ offset_of (old.held.offset + (length (s ++ t) - length a.rest)) =
+    let at : offset_of (mid.held.offset + (length (mid.held.octets ++ t) - length a.rest)) ≡ offset_of
+        (old.held.offset + (length (s ++ t) - length a.rest)) =
     ap (λ k. offset_of (mid.held.offset + (k - length a.rest))) m
-    ∙ offsets_join old.held.offset mid.held.offset (length s) (length mid.held.octets) (length t) (length a.rest) (one.offset bound) (omega arith) (omega arith)
+    ∙ offsets_join old.held.offset mid.held.offset (length s) (length mid.held.octets) (length t) (length a.rest) (one.offset bound)
+        (omega arith) (omega arith)
     ∙ ap (λ k. offset_of (old.held.offset + (k - length a.rest))) (sym n) in
     inr (record {
       before = vs ++ a.before;
@@ -272,23 +312,32 @@ ending_more old mid call t final none bound one (inr a) =
       fault = a.fault;
       packets = subst (λ l. ArePackets (vs ++ a.before) l a.rest) (append_assoc old.held.octets (used_in call) t)
           (packets_joined vs a.before s mid.held.octets t a.rest one.packets a.packets);
-      is = subst (λ l. IsFaultOf (offset_of (old.held.offset + (length l - length a.rest))) a.rest a.fault) (append_assoc old.held.octets (used_in call) t)
+      is = subst (λ l. IsFaultOf (offset_of (old.held.offset + (length l - length a.rest))) a.rest a.fault)
+          (append_assoc old.held.octets (used_in call) t)
           (subst (λ n. IsFaultOf n a.rest a.fault) at a.is);
       lasts = ap (λ (s : State). s.ended) all ∙ a.lasts;
       state = ap (put_back (told_in call) (carried_in call)) a.state ∙ ap (fails (Tpkt a.fault)) (sym all);
     })
 
-outcome_by : IsPartial [] → (old : Carrying) (call : Call) (mid : Carrying) (calls : List Call) (new : Carrying) (over : Bool) → is_some mid.state.ended ≡ over → called_in call ≡ [] → flat_map called_in calls ≡ [] → old.state.ended ≡ None →
+outcome_by : IsPartial [] → (old : Carrying) (call : Call) (mid : Carrying) (calls : List Call) (new : Carrying) (over : Bool) →
+    is_some mid.state.ended ≡ over → called_in call ≡ [] → flat_map called_in calls ≡ [] → old.state.ended ≡ None →
     old.held.offset < 2 ^ 64 → Calls old call mid → CallsAlong mid calls new → (new.state.ended ≡ Some NoMemory → ⊥) →
-    (mid.state.ended ≡ None → mid.held.offset < 2 ^ 64 → Outcome mid (mid.held.octets ++ flat_map used_in calls) (put_back (flat_map told_in calls) (flat_map carried_in calls) new.state) new.held.octets) →
-    Outcome old (old.held.octets ++ (used_in call ++ flat_map used_in calls)) (put_back (told_in call ++ flat_map told_in calls) (carried_in call ++ flat_map carried_in calls) new.state) new.held.octets
+    (mid.state.ended ≡ None → mid.held.offset < 2 ^ 64 →
+        Outcome mid (mid.held.octets ++ flat_map used_in calls) (put_back (flat_map told_in calls) (flat_map carried_in calls) new.state)
+        new.held.octets) →
+    Outcome old (old.held.octets ++ (used_in call ++ flat_map used_in calls))
+        (put_back (told_in call ++ flat_map told_in calls) (carried_in call ++ flat_map carried_in calls) new.state) new.held.octets
 outcome_by nothing old call mid calls new true e none nor quiet bound h rest full on =
     let still = stays_along mid calls new nor e rest in
-    let one = ends_one old call mid (flat_map used_in calls) none quiet h e (λ starved. full (over_calls mid calls new nor e rest ∙ starved)) in
-    let same : put_back (told_in call ++ flat_map told_in calls) (carried_in call ++ flat_map carried_in calls) new.state ≡ put_back (told_in call) (carried_in call) mid.state =
-    back_joined (told_in call) (flat_map told_in calls) (carried_in call) (flat_map carried_in calls) new.state ∙ ap (put_back (told_in call) (carried_in call)) still.state in
+    let one = ends_one old call mid (flat_map used_in calls) none quiet h e
+        (λ starved. full (over_calls mid calls new nor e rest ∙ starved)) in
+    let same : put_back (told_in call ++ flat_map told_in calls) (carried_in call ++ flat_map carried_in calls) new.state ≡ put_back
+        (told_in call) (carried_in call) mid.state =
+    back_joined (told_in call) (flat_map told_in calls) (carried_in call) (flat_map carried_in calls) new.state ∙
+        ap (put_back (told_in call) (carried_in call)) still.state in
     record {
-      how = subst (λ (s : State). Ending old.state old.held.offset (old.held.octets ++ (used_in call ++ flat_map used_in calls)) s) (sym same) one.how;
+      how = subst (λ (s : State). Ending old.state old.held.offset (old.held.octets ++ (used_in call ++ flat_map used_in calls)) s)
+          (sym same) one.how;
       nothing = ap (λ (x : Held). x.octets) still.held ∙ one.nothing;
     }
 outcome_by nothing old call mid calls new false e none nor quiet bound h rest full on =
@@ -299,12 +348,16 @@ outcome_by nothing old call mid calls new false e none nor quiet bound h rest fu
     record {
       how = subst (λ (s : State). Ending old.state old.held.offset (old.held.octets ++ (used_in call ++ flat_map used_in calls)) s)
           (sym (back_joined (told_in call) (flat_map told_in calls) (carried_in call) (flat_map carried_in calls) new.state))
-          (ending_more old mid call (flat_map used_in calls) (put_back (flat_map told_in calls) (flat_map carried_in calls) new.state) none bound one more.how);
+          (ending_more old mid call (flat_map used_in calls) (put_back (flat_map told_in calls) (flat_map carried_in calls) new.state) none
+              bound one more.how);
       nothing = more.nothing;
     }
 
-outcome_along : IsPartial [] → (old : Carrying) (calls : List Call) (new : Carrying) → flat_map called_in calls ≡ [] → old.state.ended ≡ None → old.held.offset < 2 ^ 64 → CallsAlong old calls new → is_some new.state.ended ≡ true →
-    (new.state.ended ≡ Some NoMemory → ⊥) → Outcome old (old.held.octets ++ flat_map used_in calls) (put_back (flat_map told_in calls) (flat_map carried_in calls) new.state) new.held.octets
+outcome_along : IsPartial [] → (old : Carrying) (calls : List Call) (new : Carrying) → flat_map called_in calls ≡ [] →
+    old.state.ended ≡ None → old.held.offset < 2 ^ 64 → CallsAlong old calls new → is_some new.state.ended ≡ true →
+    (new.state.ended ≡ Some NoMemory → ⊥) →
+        Outcome old (old.held.octets ++ flat_map used_in calls) (put_back (flat_map told_in calls) (flat_map carried_in calls) new.state)
+        new.held.octets
 outcome_along nothing old [] new none quiet bound h over full = never new.state over (ap (λ (x : Carrying). x.state.ended) h ∙ quiet)
 outcome_along nothing old (call ∷ calls) new none quiet bound h over full =
     let parted = none_first (called_in call) (flat_map called_in calls) none in
@@ -316,11 +369,14 @@ outcome_along nothing old (call ∷ calls) new none quiet bound h over full =
 some_of : {A : Type 0} (o : Option A) → (o ≡ None → ⊥) → is_some o ≡ true
 some_of o h = grind arith
 
-ends_too : {B : Type 0} (s : State) → (s.ended ≡ None) ⊎ (s.ended ≡ Some NoMemory) → (s.ended ≡ None → ⊥) → (s.ended ≡ Some NoMemory → ⊥) → B
+ends_too : {B : Type 0} (s : State) → (s.ended ≡ None) ⊎ (s.ended ≡ Some NoMemory) → (s.ended ≡ None → ⊥) → (s.ended ≡ Some NoMemory → ⊥) →
+    B
 ends_too s h h_ full = grind arith
 
-alike_by : PacketLaws → IsPartial [] → (old a b : Carrying) (xs ys : List Call) (over : Bool) → is_some b.state.ended ≡ over → IsPartial old.held.octets → old.held.offset < 2 ^ 64 → old.state.ended ≡ None →
-    CallsAlong old xs a → CallsAlong old ys b → flat_map called_in xs ≡ [] → flat_map called_in ys ≡ [] → flat_map used_in xs ≡ flat_map used_in ys →
+alike_by : PacketLaws → IsPartial [] → (old a b : Carrying) (xs ys : List Call) (over : Bool) → is_some b.state.ended ≡ over →
+    IsPartial old.held.octets → old.held.offset < 2 ^ 64 → old.state.ended ≡ None →
+    CallsAlong old xs a → CallsAlong old ys b → flat_map called_in xs ≡ [] → flat_map called_in ys ≡ [] →
+        flat_map used_in xs ≡ flat_map used_in ys →
     (a.state.ended ≡ None → ⊥) → (a.state.ended ≡ Some NoMemory → ⊥) → (b.state.ended ≡ Some NoMemory → ⊥) → EndAlike a xs b ys
 alike_by laws nothing old a b xs ys false e partial bound quiet h k none nor used ended full full_too =
     ends_too a.state (pieces_last laws nothing old b a ys xs partial quiet k h nor none (sym used) (none_of b.state.ended e)) ended full
@@ -330,12 +386,17 @@ alike_by laws nothing old a b xs ys true e partial bound quiet h k none nor used
     record {
       octets = m.nothing;
       octets_too = n.nothing;
-      state = end_alike laws old.state old.held.offset (old.held.octets ++ flat_map used_in xs) (put_back (flat_map told_in xs) (flat_map carried_in xs) a.state) (put_back (flat_map told_in ys) (flat_map carried_in ys) b.state)
-          m.how (subst (λ l. Ending old.state old.held.offset (old.held.octets ++ l) (put_back (flat_map told_in ys) (flat_map carried_in ys) b.state)) (sym used) n.how);
+      state = end_alike laws old.state old.held.offset (old.held.octets ++ flat_map used_in xs)
+          (put_back (flat_map told_in xs) (flat_map carried_in xs) a.state)
+          (put_back (flat_map told_in ys) (flat_map carried_in ys) b.state)
+          m.how (subst (λ l. Ending old.state old.held.offset (old.held.octets ++ l)
+              (put_back (flat_map told_in ys) (flat_map carried_in ys) b.state)) (sym used) n.how);
     }
 
-pub pieces_end : PacketLaws → IsPartial [] → (old a b : Carrying) (xs ys : List Call) → IsPartial old.held.octets → old.held.offset < 2 ^ 64 → old.state.ended ≡ None →
-    CallsAlong old xs a → CallsAlong old ys b → flat_map called_in xs ≡ [] → flat_map called_in ys ≡ [] → flat_map used_in xs ≡ flat_map used_in ys →
+pub pieces_end : PacketLaws → IsPartial [] → (old a b : Carrying) (xs ys : List Call) → IsPartial old.held.octets →
+    old.held.offset < 2 ^ 64 → old.state.ended ≡ None →
+    CallsAlong old xs a → CallsAlong old ys b → flat_map called_in xs ≡ [] → flat_map called_in ys ≡ [] →
+        flat_map used_in xs ≡ flat_map used_in ys →
     (a.state.ended ≡ None → ⊥) → (a.state.ended ≡ Some NoMemory → ⊥) → (b.state.ended ≡ Some NoMemory → ⊥) → EndAlike a xs b ys
 pieces_end laws nothing old a b xs ys partial bound quiet h k none nor used ended full full_too =
     alike_by laws nothing old a b xs ys (is_some b.state.ended) refl partial bound quiet h k none nor used ended full full_too

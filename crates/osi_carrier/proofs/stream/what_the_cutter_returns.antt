@@ -1,7 +1,10 @@
 -- The result of the cutter, as the carrier's look at the stream.
-use Rattle.std.proofs.Common.{◌≡◌, ℕ, zero, suc, ◌+◌, ◌<◌, ◌≤◌, Bool, true, false, List, [], ◌++◌, length, take, drop, None, Result, Ok, Err, MatchBool, refl, sym, ap, subst, ◌∙◌, inl, inr, arith}
+use Rattle.std.proofs.Common.{◌≡◌, ℕ, zero, suc, ◌+◌, ◌<◌, ◌≤◌, Bool, true, false, List, [], ◌++◌, length, take, drop, None, Result, Ok}
+use Rattle.std.proofs.Common.{Err, MatchBool, refl, sym, ap, subst, ◌∙◌, inl, inr, arith}
 use Rattle.osi_tpkt.specs.Cutter.{TakesPiece, Belongs, Passes}
-use Rattle.osi_carrier.proofs.Vocabulary.{append-nil, take-append-drop, length-take-le, Held, IsHolding, IsPacket, IsOnePacket, IsPartial, IsFaultOf, offset_of, Fed, TpktFault, BadVersion, BadLength, OutOfMemory, PacketActs, EndsOver, IsNoFront, Carrying, IsReading, HasToHold, Acts, after_refusal}
+use Rattle.osi_carrier.proofs.Vocabulary.{append-nil, take-append-drop, length-take-le, Held, IsHolding, IsPacket, IsOnePacket, IsPartial}
+use Rattle.osi_carrier.proofs.Vocabulary.{IsFaultOf, offset_of, Fed, TpktFault, BadVersion, BadLength, OutOfMemory, PacketActs, EndsOver}
+use Rattle.osi_carrier.proofs.Vocabulary.{IsNoFront, Carrying, IsReading, HasToHold, Acts, after_refusal}
 
 -- a proper prefix of a packet is no packet
 abbrev pub Proper : Type 0
@@ -16,7 +19,8 @@ second_out true A B h never = refl
 second_out false A B h never = absurd (never h)
 
 -- if any fault would have been answered, and none was
-never_faulty : (at : ℕ) (octets : List ℕ) → ((f : TpktFault) → IsFaultOf at octets f → f ≡ OutOfMemory) → (place : ℕ) (f : TpktFault) → IsFaultOf place octets f → ⊥
+never_faulty : (at : ℕ) (octets : List ℕ) → ((f : TpktFault) → IsFaultOf at octets f → f ≡ OutOfMemory) → (place : ℕ) (f : TpktFault) →
+    IsFaultOf place octets f → ⊥
 never_faulty at octets only place (BadVersion o) h = let e = only (BadVersion at) (h.0, refl) in cc
 never_faulty at octets only place (BadLength o) h = let e = only (BadLength at) (h.0, refl) in cc
 never_faulty at octets only place OutOfMemory h = h
@@ -47,16 +51,20 @@ has_to_hold proper room held octets partial some parted fed belongs more = recor
   belongs = belongs;
   some = some_belongs proper held octets fed.used fed.whole partial some belongs.whole;
   parted = λ none. parted_belongs octets fed.used fed.whole (parted none)
-      (subst (λ h. MatchBool fed.whole (IsOnePacket (h ++ take fed.used octets)) (IsPartial (h ++ take fed.used octets) × (fed.used ≡ length octets))) none belongs.whole);
+      (subst (λ h. MatchBool fed.whole (IsOnePacket (h ++ take fed.used octets))
+          (IsPartial (h ++ take fed.used octets) × (fed.used ≡ length octets))) none belongs.whole);
   more = more;
 }
 
-pub ended_over : Proper → (old new : Carrying) (octets : List ℕ) (fault : TpktFault) (held : Held) → IsPartial old.held.octets → 0 < length octets →
+pub ended_over : Proper → (old new : Carrying) (octets : List ℕ) (fault : TpktFault) (held : Held) → IsPartial old.held.octets →
+    0 < length octets →
     (old.held.octets ≡ [] → IsNoFront octets) → TakesPiece old.held octets (Err fault) held →
     ((f : TpktFault) → IsFaultOf old.held.offset (old.held.octets ++ octets) f → f ≡ fault) →
     new.state ≡ after_refusal fault old.state → new.held.octets ≡ [] → EndsOver old octets new
-ended_over proper old new octets (BadVersion at) held partial some parted taken only h none = record { how = inl (record { fault = BadVersion at; is = taken.0; ended = h }); held = none }
-ended_over proper old new octets (BadLength at) held partial some parted taken only h none = record { how = inl (record { fault = BadLength at; is = taken.0; ended = h }); held = none }
+ended_over proper old new octets (BadVersion at) held partial some parted taken only h none =
+    record { how = inl (record { fault = BadVersion at; is = taken.0; ended = h }); held = none }
+ended_over proper old new octets (BadLength at) held partial some parted taken only h none =
+    record { how = inl (record { fault = BadLength at; is = taken.0; ended = h }); held = none }
 ended_over proper old new octets OutOfMemory held partial some parted taken only h none = record {
   how = inr (record {
     faultless = never_faulty old.held.offset (old.held.octets ++ octets) only;
@@ -66,15 +74,18 @@ ended_over proper old new octets OutOfMemory held partial some parted taken only
   held = none;
 }
 
-pub fetched_packet : Proper → IsPartial [] → (old new : Carrying) (octets : List ℕ) (fed : Fed) (held : Held) (packet : List ℕ) → TakesPiece old.held octets (Ok fed) held →
+pub fetched_packet : Proper → IsPartial [] → (old new : Carrying) (octets : List ℕ) (fed : Fed) (held : Held) (packet : List ℕ) →
+    TakesPiece old.held octets (Ok fed) held →
     IsPacket packet held.octets → (fed.whole ≡ true → 0 < fed.used) → Acts old.state packet new.state →
-    new.held ≡ record { offset = offset_of (held.offset + length held.octets); octets = []; fault = None; room = held.room } → IsHolding new.held →
+    new.held ≡ record { offset = offset_of (held.offset + length held.octets); octets = []; fault = None; room = held.room } →
+        IsHolding new.held →
     PacketActs old octets fed.used new
 fetched_packet proper nothing old new octets fed held packet taken stands progress acted advanced holding =
     let belongs = taken.0 in
     let gains = taken.1 in
     let joined : held.octets ≡ old.held.octets ++ take fed.used octets = ap (λ (h : Held). h.octets) gains.octets in
-    let whole = second_out fed.whole (IsOnePacket (old.held.octets ++ take fed.used octets)) (IsPartial (old.held.octets ++ take fed.used octets) × (fed.used ≡ length octets))
+    let whole = second_out fed.whole (IsOnePacket (old.held.octets ++ take fed.used octets))
+        (IsPartial (old.held.octets ++ take fed.used octets) × (fed.used ≡ length octets))
     belongs.whole (λ part. proper (old.held.octets ++ take fed.used octets) part.0 (packet, subst (IsPacket packet) joined stands)) in
     record {
       packet = packet;
@@ -83,8 +94,10 @@ fetched_packet proper nothing old new octets fed held packet taken stands progre
       whole = subst (IsPacket packet) joined stands;
       acted = acted;
       held = ap (λ (h : Held). h.octets) advanced;
-      reading = record { holding = holding; partial = subst IsPartial (sym (ap (λ (h : Held). h.octets) advanced)) nothing; fault = ap (λ (h : Held). h.fault) advanced };
-      offset = ap (λ (h : Held). h.offset) advanced ∙ ap (λ n. offset_of (n + length held.octets)) (ap (λ (h : Held). h.offset) gains.octets)
+      reading = record { holding = holding; partial = subst IsPartial (sym (ap (λ (h : Held). h.octets) advanced)) nothing;
+          fault = ap (λ (h : Held). h.fault) advanced };
+      offset = ap (λ (h : Held). h.offset) advanced ∙
+          ap (λ n. offset_of (n + length held.octets)) (ap (λ (h : Held). h.offset) gains.octets)
           ∙ ap (λ l. offset_of (old.held.offset + length l)) joined;
       room = subst (λ n. old.held.room ≤ n) (sym (ap (λ (h : Held). h.room) advanced)) gains.room;
     }
@@ -92,9 +105,11 @@ fetched_packet proper nothing old new octets fed held packet taken stands progre
 -- ---- a packet that is taken without a copy
 
 pub passed_reading : IsPartial [] → (old new : Held) (unit piece : List ℕ) → Passes old unit piece new → IsHolding new → IsReading new
-passed_reading nothing old new unit piece p holding = search (subst IsPartial (sym (ap (λ (h : Held). h.octets) p.after ∙ p.empty)) nothing, ap (λ (h : Held). h.fault) p.after ∙ p.faultless)
+passed_reading nothing old new unit piece p holding =
+    search (subst IsPartial (sym (ap (λ (h : Held). h.octets) p.after ∙ p.empty)) nothing, ap (λ (h : Held). h.fault) p.after ∙ p.faultless)
 
-pub passed_packet : IsPartial [] → (old new : Carrying) (octets packet : List ℕ) → Passes old.held packet octets new.held → IsHolding new.held →
+pub passed_packet : IsPartial [] → (old new : Carrying) (octets packet : List ℕ) → Passes old.held packet octets new.held →
+    IsHolding new.held →
     Acts old.state packet new.state → PacketActs old octets (4 + length packet) new
 passed_packet nothing old new octets packet p holding acted =
     let size = length-take-le (4 + length packet) octets p.within in

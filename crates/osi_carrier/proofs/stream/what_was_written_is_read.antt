@@ -1,9 +1,14 @@
 -- Octets that a carrier wrote read back as the units that it wrote.
-use Rattle.std.proofs.Common.{◌≡◌, ℕ, ◌<◌, ◌≤◌, List, [], ◌∷◌, ◌++◌, length, map, take, drop, Result, Ok, refl, sym, ap, subst, ◌∙◌, arith, append_assoc, length-append}
+use Rattle.std.proofs.Common.{◌≡◌, ℕ, ◌<◌, ◌≤◌, List, [], ◌∷◌, ◌++◌, length, map, take, drop, Result, Ok, refl, sym, ap, subst, ◌∙◌, arith}
+use Rattle.std.proofs.Common.{append_assoc, length-append}
 use Rattle.osi_tpdu.proofs.the_written_form_spells_its_value.{written_spells}
 use Rattle.osi_tpdu.proofs.the_units_of_a_packet.{units_only}
 use Rattle.osi_carrier.specs.Coming.{IsSendable, AreComing}
-use Rattle.osi_carrier.proofs.Vocabulary.{AllByRecursion, append_cancel_left, get_or_append_left, take-append-drop, IsPacket, IsFaultOf, IsBadVersion, IsBadLength, packet_of, one_packet, packet_front, written_packet, stated_length-append, ArePackets, TpktFault, BadVersion, BadLength, OutOfMemory, front_version, front_length, units_of, Value, written, TpduFault, acts_by, after_packet, Starves, react, reacts, State, packets, ends, NoMemory}
+use Rattle.osi_carrier.proofs.Vocabulary.{AllByRecursion, append_cancel_left, get_or_append_left, take-append-drop, IsPacket, IsFaultOf}
+use Rattle.osi_carrier.proofs.Vocabulary.{IsBadVersion, IsBadLength, packet_of, one_packet, packet_front, written_packet}
+use Rattle.osi_carrier.proofs.Vocabulary.{stated_length-append, ArePackets, TpktFault, BadVersion, BadLength, OutOfMemory, front_version}
+use Rattle.osi_carrier.proofs.Vocabulary.{front_length, units_of, Value, written, TpduFault, acts_by, after_packet, Starves, react, reacts}
+use Rattle.osi_carrier.proofs.Vocabulary.{State, packets, ends, NoMemory}
 use Rattle.osi_carrier.proofs.written.the_length_of_a_unit.{written_least}
 
 pub all_behind : (us vs : List Value) → AllByRecursion IsSendable us → AllByRecursion IsSendable vs → AllByRecursion IsSendable (us ++ vs)
@@ -13,7 +18,9 @@ all_behind (u ∷ us) vs a b = (a.0, all_behind us vs a.1 b)
 -- ---- one unit
 
 pub unit_packet : (unit : Value) → IsSendable unit → IsPacket (written unit) (packet_of (written unit))
-unit_packet unit h = written_packet (written unit) (record { at_least = written_least unit; at_most = h.most; octets = (written_spells unit h.fits).are_octets })
+unit_packet unit h =
+    written_packet (written unit)
+    (record { at_least = written_least unit; at_most = h.most; octets = (written_spells unit h.fits).are_octets })
 
 pub unit_read : (unit : Value) → IsSendable unit → units_of (written unit) ≡ Ok (unit ∷ [])
 unit_read unit h = units_only (written unit) (unit ∷ []) (written_spells unit h.fits)
@@ -37,7 +44,8 @@ pub record Fronts (units : List (List ℕ)) (coming : List Value) (r t : List �
 some_octets : (u b : List ℕ) → IsPacket u b → 0 < length b
 some_octets u b p = let e = ap length p.spelled in omega arith
 
-pub units_front : (units : List (List ℕ)) (coming : List Value) (s r t : List ℕ) → AllByRecursion IsSendable coming → ArePackets units s r → s ++ t ≡ packets coming →
+pub units_front : (units : List (List ℕ)) (coming : List Value) (s r t : List ℕ) → AllByRecursion IsSendable coming → ArePackets units s r →
+    s ++ t ≡ packets coming →
     Fronts units coming r t
 units_front [] coming s r t all h e = record {
   done = [];
@@ -57,7 +65,8 @@ units_front (u ∷ us) (v ∷ vs) s r t all h e =
     let packet = unit_packet v all.0 in
     let same : h.0 ++ (h.1 ++ t) ≡ packet_of (written v) ++ packets vs = sym (append_assoc h.0 h.1 t) ∙ ap (λ l. l ++ t) (sym h.3) ∙ e in
     let one = one_packet u (written v) h.0 (packet_of (written v)) (h.1 ++ t) (packets vs) h.2 packet same in
-    let behind : h.1 ++ t ≡ packets vs = append_cancel_left (packet_of (written v)) (h.1 ++ t) (packets vs) (ap (λ l. l ++ (h.1 ++ t)) (sym one.0) ∙ same) in
+    let behind : h.1 ++ t ≡ packets vs =
+        append_cancel_left (packet_of (written v)) (h.1 ++ t) (packets vs) (ap (λ l. l ++ (h.1 ++ t)) (sym one.0) ∙ same) in
     let more = units_front us vs h.1 r t all.1 h.4 behind in
     record {
       done = v ∷ more.done;
@@ -87,7 +96,8 @@ short_none : (r t : List ℕ) → r ++ t ≡ [] → length r ≡ 0
 short_none r t e = let total = length-append r t in let none = ap length e in omega arith
 
 pub fault_free : (at : ℕ) (r t : List ℕ) (f : TpktFault) (units : List Value) → AreComing r t units → IsFaultOf at r f → ⊥
-fault_free at r t f (u ∷ us) c bad = front_free at (packet_of (written u)) r t (packets us) (written u) f (unit_packet u c.sendable.0) c.octets bad
+fault_free at r t f (u ∷ us) c bad = front_free at (packet_of (written u)) r t (packets us) (written u) f (unit_packet u c.sendable.0)
+    c.octets bad
 fault_free at r t OutOfMemory [] c bad = bad
 fault_free at r t f [] c bad = let none = short_none r t c.octets in let some = bad.0.0 in omega arith
 
@@ -97,18 +107,22 @@ whole_piece : (held outgoing : List ℕ) (n : ℕ) → (held ++ take n outgoing)
 whole_piece held outgoing n = append_assoc held (take n outgoing) (drop n outgoing) ∙ ap (λ l. held ++ l) (take-append-drop n outgoing)
 
 -- one unit for which memory ran out had done nothing
-pub alone_starved : (old new : State) (unit : Value) (done more : List Value) (next : Value) → unit ∷ [] ≡ done ++ (next ∷ more) → new ≡ ends NoMemory (reacts done old) → new ≡ ends NoMemory old
+pub alone_starved : (old new : State) (unit : Value) (done more : List Value) (next : Value) → unit ∷ [] ≡ done ++ (next ∷ more) →
+    new ≡ ends NoMemory (reacts done old) → new ≡ ends NoMemory old
 alone_starved old new unit [] more next e is = is
 alone_starved old new unit (d ∷ []) more next e is = cc
 alone_starved old new unit (d ∷ f ∷ ds) more next e is = cc
 
-pub starved_unit : (old new : State) (packet : List ℕ) (unit : Value) → IsSendable unit → packet ≡ written unit → Starves old packet new → new ≡ ends NoMemory old
+pub starved_unit : (old new : State) (packet : List ℕ) (unit : Value) → IsSendable unit → packet ≡ written unit → Starves old packet new →
+    new ≡ ends NoMemory old
 starved_unit old new packet unit sendable is h =
     let same : Ok (unit ∷ []) ≡ Ok h.0 = sym (unit_read unit sendable) ∙ ap units_of (sym is) ∙ h.1 in
     let us : unit ∷ [] ≡ h.0 = cc in
     alone_starved old new unit h.2.done h.2.more h.2.next (us ∙ h.2.all) h.2.ended
 
 -- the packets of a prefix of what is in flight
-pub reads_part : (held outgoing : List ℕ) (coming : List Value) (n : ℕ) (units : List (List ℕ)) (r : List ℕ) → AreComing held outgoing coming →
+pub reads_part : (held outgoing : List ℕ) (coming : List Value) (n : ℕ) (units : List (List ℕ)) (r : List ℕ) →
+    AreComing held outgoing coming →
     ArePackets units (held ++ take n outgoing) r → Fronts units coming r (drop n outgoing)
-reads_part held outgoing coming n units r c h = units_front units coming (held ++ take n outgoing) r (drop n outgoing) c.sendable h (whole_piece held outgoing n ∙ c.octets)
+reads_part held outgoing coming n units r c h =
+    units_front units coming (held ++ take n outgoing) r (drop n outgoing) c.sendable h (whole_piece held outgoing n ∙ c.octets)

@@ -1,10 +1,13 @@
 -- Writing a TSDU straight from its octets, part after part, and keeping what may not be sent yet.
-use Rattle.std.proofs.Common.{◌≡◌, ℕ, ◌+◌, ◌<◌, ◌≤◌, List, [], ◌∷◌, ◌++◌, length, drop, Option, Some, None, refl, sym, ap, ◌∙◌, subst, append_assoc, length-append, arith}
+use Rattle.std.proofs.Common.{◌≡◌, ℕ, ◌+◌, ◌<◌, ◌≤◌, List, [], ◌∷◌, ◌++◌, length, drop, Option, Some, None, refl, sym, ap, ◌∙◌, subst}
+use Rattle.std.proofs.Common.{append_assoc, length-append, arith}
 use Rattle.std.proofs.Math.Seq.{drop-append-add}
 use Rattle.std.proofs.lemmas.List.{drop-drop}
 use Rattle.osi_class.proofs.giving.a_part_that_is_given_at_once.{goes_at_once, some_rest}
-use Rattle.osi_carrier.proofs.Vocabulary.{Drained, drained, all_given, octets_of, octets_in, GoesAtOnce, GivesPart, with_rest, Standing, Given, next, unit_of, with_tsdu, drained_none, drained_some, pumped, written_by, packets}
-use Rattle.osi_carrier.proofs.written.all_that_a_link_gives.{IsPumping, pumping_first, pumping_next, pumping_octets, pumping_link, pumping_room}
+use Rattle.osi_carrier.proofs.Vocabulary.{Drained, drained, all_given, octets_of, octets_in, GoesAtOnce, GivesPart, with_rest, Standing}
+use Rattle.osi_carrier.proofs.Vocabulary.{Given, next, unit_of, with_tsdu, drained_none, drained_some, pumped, written_by, packets}
+use Rattle.osi_carrier.proofs.written.all_that_a_link_gives.{IsPumping, pumping_first, pumping_next, pumping_octets, pumping_link}
+use Rattle.osi_carrier.proofs.written.all_that_a_link_gives.{pumping_room}
 
 -- what is left of a TSDU is sent now, except for what is kept
 pub record Goes (link : Standing) (rest kept : List ℕ) : Type 0 where
@@ -13,14 +16,17 @@ pub record Goes (link : Standing) (rest kept : List ℕ) : Type 0 where
   pub left : kept ≡ drop (octets_in (all_given (with_tsdu link rest))) rest
 
 -- some parts of a TSDU were written, and there is room for the others that may be sent
-pub record IsParting (peer : ℕ) (first : Standing) (before : List ℕ) (link : Standing) (rest kept octets : List ℕ) (spare : ℕ) : Type 0 where
+pub record IsParting (peer : ℕ) (first : Standing) (before : List ℕ) (link : Standing) (rest kept octets : List ℕ) (spare : ℕ) : Type
+    0 where
   pub goes : Goes link rest kept
   pub pumping : IsPumping peer first before (with_tsdu link rest) octets
   pub room : length (packets (written_by peer (with_tsdu link rest))) ≤ spare
 
 pub parting_first : (peer : ℕ) (link : Standing) (tsdu kept before : List ℕ) (spare : ℕ) → Goes link tsdu kept →
-    length (packets (written_by peer (with_tsdu link tsdu))) ≤ spare → IsParting peer (with_tsdu link tsdu) before link tsdu kept before spare
-parting_first peer link tsdu kept before spare goes room = record { goes = goes; pumping = pumping_first peer (with_tsdu link tsdu) before; room = room }
+    length (packets (written_by peer (with_tsdu link tsdu))) ≤ spare →
+        IsParting peer (with_tsdu link tsdu) before link tsdu kept before spare
+parting_first peer link tsdu kept before spare goes room =
+    record { goes = goes; pumping = pumping_first peer (with_tsdu link tsdu) before; room = room }
 
 -- a part of it may be given if any may
 pub part_goes : (link : Standing) (rest : List ℕ) → next link ≡ None → 0 < length (all_given (with_tsdu link rest)) → GoesAtOnce link
@@ -34,26 +40,31 @@ nothing_by : (link : Standing) (rest : List ℕ) (o : Option (Given × Standing)
     next (with_tsdu link rest) ≡ o → next (with_tsdu link rest) ≡ None
 nothing_by link rest None quiet never e = e
 nothing_by link rest (Some p) quiet never e =
-    absurd (never (goes_at_once link rest quiet (λ (none : next (with_tsdu link rest) ≡ None). (let no : Some p ≡ None = sym e ∙ none in cc))))
+    absurd (never
+        (goes_at_once link rest quiet (λ (none : next (with_tsdu link rest) ≡ None). (let no : Some p ≡ None = sym e ∙ none in cc))))
 
 pub nothing_goes : (link : Standing) (rest : List ℕ) → next link ≡ None → (GoesAtOnce link → ⊥) → next (with_tsdu link rest) ≡ None
 nothing_goes link rest quiet never = nothing_by link rest (next (with_tsdu link rest)) quiet never refl
 
 -- what is left of two pieces after this many octets is left of the second
-pub left_behind : (head body rest : List ℕ) (octets n : ℕ) → length head + n ≡ octets → rest ≡ drop n body → rest ≡ drop octets (head ++ body)
+pub left_behind : (head body rest : List ℕ) (octets n : ℕ) → length head + n ≡ octets → rest ≡ drop n body →
+    rest ≡ drop octets (head ++ body)
 left_behind head body rest octets n is e = e ∙ sym (drop-append-add head body n) ∙ ap (λ (m : ℕ). drop m (head ++ body)) is
 
 -- what the link gives then, from the part on
 pub parts_from : (link new : Standing) (rest : List ℕ) (unit : Given) → 0 < link.ends.limit → GivesPart unit rest link new →
     drained (with_tsdu link rest)
-    ≡ record { units = unit ∷ (drained (with_rest new (drop (octets_of unit) rest))).units; link = (drained (with_rest new (drop (octets_of unit) rest))).link }
-parts_from link new rest unit room part = drained_some (with_tsdu link rest) (with_rest new (drop (octets_of unit) rest)) unit room part.gives
+    ≡ record { units = unit ∷ (drained (with_rest new (drop (octets_of unit) rest))).units;
+        link = (drained (with_rest new (drop (octets_of unit) rest))).link }
+parts_from link new rest unit room part = drained_some (with_tsdu link rest) (with_rest new (drop (octets_of unit) rest)) unit room
+    part.gives
 
 -- there is room for its next part if there is room for all
 pub part_room : (peer : ℕ) (link new : Standing) (rest : List ℕ) (unit : Given) → 0 < link.ends.limit → GivesPart unit rest link new →
     length (packets (unit_of peer unit ∷ [])) ≤ length (packets (written_by peer (with_tsdu link rest)))
 part_room peer link new rest unit room part =
-    let all = pumping_room peer (with_tsdu link rest) (with_rest new (drop (octets_of unit) rest)) unit (parts_from link new rest unit room part) in
+    let all = pumping_room peer (with_tsdu link rest) (with_rest new (drop (octets_of unit) rest)) unit
+        (parts_from link new rest unit room part) in
     omega arith
 
 pub empty_list : (l : List ℕ) → length l ≡ 0 → l ≡ []
@@ -65,7 +76,8 @@ pub put_length : (octets after unit : List ℕ) → after ≡ octets ++ unit →
 put_length octets after unit e = ap length e ∙ length-append octets unit
 
 -- what is left of it may be sent now too, except for the same that is kept
-pub rest_goes : (link new : Standing) (rest kept : List ℕ) (unit : Given) → Goes link rest kept → 0 < link.ends.limit → GivesPart unit rest link new →
+pub rest_goes : (link new : Standing) (rest kept : List ℕ) (unit : Given) → Goes link rest kept → 0 < link.ends.limit →
+    GivesPart unit rest link new →
     new.ends.unsent ≡ [] → 0 < length (drop (octets_of unit) rest) → Goes new (drop (octets_of unit) rest) kept
 rest_goes link new rest kept unit goes room part alone some =
     let behind = drop (octets_of unit) rest in
@@ -74,7 +86,8 @@ rest_goes link new rest kept unit goes room part alone some =
     record {
       quiet = part.last;
       alone = alone;
-      left = goes.left ∙ ap (λ (n : ℕ). drop n rest) all ∙ sym (drop-drop (octets_in (all_given (with_rest new behind))) (octets_of unit) rest)
+      left = goes.left ∙ ap (λ (n : ℕ). drop n rest) all ∙
+          sym (drop-drop (octets_in (all_given (with_rest new behind))) (octets_of unit) rest)
           ∙ ap (λ (n : ℕ). drop n behind) after;
     }
 
@@ -118,7 +131,8 @@ pub record IsKept (peer : ℕ) (first : Standing) (before : List ℕ) (now : Sta
   pub quiet : next now ≡ None
 
 pub parting_kept : (peer : ℕ) (first link now : Standing) (before rest kept octets : List ℕ) (spare : ℕ) →
-    IsParting peer first before link rest kept octets spare → (GoesAtOnce link → ⊥) → now ≡ with_tsdu link kept → IsKept peer first before now octets
+    IsParting peer first before link rest kept octets spare → (GoesAtOnce link → ⊥) → now ≡ with_tsdu link kept →
+        IsKept peer first before now octets
 parting_kept peer first link now before rest kept octets spare h never is =
     let then = with_tsdu link rest in
     let none = nothing_goes link rest h.goes.quiet never in
@@ -126,27 +140,34 @@ parting_kept peer first link now before rest kept octets spare h never is =
     let all : kept ≡ rest = h.goes.left ∙ ap (λ (d : Drained). drop (octets_in d.units) rest) end in
     let same : now ≡ then = is ∙ ap (with_tsdu link) all in
     record {
-      whole = record { link = same ∙ pumping_link peer first then before octets h.pumping end; written = pumping_octets peer first then before octets h.pumping end };
+      whole = record { link = same ∙ pumping_link peer first then before octets h.pumping end; written = pumping_octets peer first then
+          before octets h.pumping end };
       quiet = ap next same ∙ none;
     }
 
 -- the first part was written, which ends before these octets
-pub parting_then : (peer : ℕ) (link new : Standing) (tsdu rest kept before after : List ℕ) (unit : Given) (spare left : ℕ) → Goes link tsdu kept →
-    length (packets (written_by peer (with_tsdu link tsdu))) ≤ spare → 0 < link.ends.limit → GivesPart unit tsdu link new → new.ends.unsent ≡ [] →
-    drop (octets_of unit) tsdu ≡ rest → after ≡ before ++ packets (unit_of peer unit ∷ []) → spare ≤ left + length (packets (unit_of peer unit ∷ [])) →
+pub parting_then : (peer : ℕ) (link new : Standing) (tsdu rest kept before after : List ℕ) (unit : Given) (spare left : ℕ) →
+    Goes link tsdu kept →
+    length (packets (written_by peer (with_tsdu link tsdu))) ≤ spare → 0 < link.ends.limit → GivesPart unit tsdu link new →
+        new.ends.unsent ≡ [] →
+    drop (octets_of unit) tsdu ≡ rest → after ≡ before ++ packets (unit_of peer unit ∷ []) →
+        spare ≤ left + length (packets (unit_of peer unit ∷ [])) →
     0 < length rest → IsParting peer (with_tsdu link tsdu) before new rest kept after left
 parting_then peer link new tsdu rest kept before after unit spare left goes room limit part alone behind put took some =
     subst (λ (r : List ℕ). IsParting peer (with_tsdu link tsdu) before new r kept after left) behind
-    (parting_next peer (with_tsdu link tsdu) link new before tsdu kept before after unit spare left (parting_first peer link tsdu kept before spare goes room) limit
+    (parting_next peer (with_tsdu link tsdu) link new before tsdu kept before after unit spare left
+        (parting_first peer link tsdu kept before spare goes room) limit
     part alone put took (subst (λ (r : List ℕ). 0 < length r) (sym behind) some))
 
 -- and then all others
 pub parting_all : (peer : ℕ) (first link last : Standing) (before rest kept octets after : List ℕ) (spare : ℕ) →
     IsParting peer first before link rest kept octets spare →
-    last ≡ pumped (with_tsdu link rest) → after ≡ octets ++ packets (written_by peer (with_tsdu link rest)) → IsWhole peer first before last after
+    last ≡ pumped (with_tsdu link rest) → after ≡ octets ++ packets (written_by peer (with_tsdu link rest)) →
+        IsWhole peer first before last after
 parting_all peer first link last before rest kept octets after spare h e put =
     let others = packets (written_by peer (with_tsdu link rest)) in
     record {
       link = e ∙ h.pumping.link;
-      written = put ∙ ap (λ (l : List ℕ). l ++ others) h.pumping.is ∙ append_assoc before h.pumping.more others ∙ ap (λ (l : List ℕ). before ++ l) h.pumping.all;
+      written = put ∙ ap (λ (l : List ℕ). l ++ others) h.pumping.is ∙ append_assoc before h.pumping.more others ∙
+          ap (λ (l : List ℕ). before ++ l) h.pumping.all;
     }

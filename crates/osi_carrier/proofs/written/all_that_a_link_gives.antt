@@ -1,10 +1,13 @@
 -- Writing all that a link gives, one unit after the other.
-use Rattle.std.proofs.Common.{◌≡◌, ℕ, ◌+◌, ◌*◌, ◌<◌, ◌≤◌, List, [], ◌∷◌, ◌++◌, length, take, map, refl, sym, ap, ◌∙◌, append_assoc, length-append, arith, inl, inr}
-use Rattle.osi_carrier.proofs.Vocabulary.{cases_lt, append-nil, take_at, packet_of, Value, written, Drained, drained, octets_of, octets_in, Standing, Given, part0, unit_of, next, pumped, written_by, packets}
+use Rattle.std.proofs.Common.{◌≡◌, ℕ, ◌+◌, ◌*◌, ◌<◌, ◌≤◌, List, [], ◌∷◌, ◌++◌, length, take, map, refl, sym, ap, ◌∙◌, append_assoc}
+use Rattle.std.proofs.Common.{length-append, arith, inl, inr}
+use Rattle.osi_carrier.proofs.Vocabulary.{cases_lt, append-nil, take_at, packet_of, Value, written, Drained, drained, octets_of, octets_in}
+use Rattle.osi_carrier.proofs.Vocabulary.{Standing, Given, part0, unit_of, next, pumped, written_by, packets}
 
 pub packets_join : (us vs : List Value) → packets (us ++ vs) ≡ packets us ++ packets vs
 packets_join [] vs = refl
-packets_join (u ∷ us) vs = ap (λ l. packet_of (written u) ++ l) (packets_join us vs) ∙ sym (append_assoc (packet_of (written u)) (packets us) (packets vs))
+packets_join (u ∷ us) vs = ap (λ l. packet_of (written u) ++ l) (packets_join us vs) ∙
+    sym (append_assoc (packet_of (written u)) (packets us) (packets vs))
 
 -- some units of a link were written, and this is the link after them
 pub record IsPumping (peer : ℕ) (first : Standing) (before : List ℕ) (now : Standing) (octets : List ℕ) : Type 0 where
@@ -16,8 +19,10 @@ pub record IsPumping (peer : ℕ) (first : Standing) (before : List ℕ) (now : 
 pub pumping_first : (peer : ℕ) (first : Standing) (before : List ℕ) → IsPumping peer first before first before
 pumping_first peer first before = record { more = []; is = sym (append-nil before); all = refl; link = refl }
 
-pub pumping_next : (peer : ℕ) (first now next : Standing) (before octets after : List ℕ) (unit : Given) → IsPumping peer first before now octets →
-    drained now ≡ record { units = unit ∷ (drained next).units; link = (drained next).link } → after ≡ octets ++ packets (unit_of peer unit ∷ []) →
+pub pumping_next : (peer : ℕ) (first now next : Standing) (before octets after : List ℕ) (unit : Given) →
+    IsPumping peer first before now octets →
+    drained now ≡ record { units = unit ∷ (drained next).units; link = (drained next).link } →
+        after ≡ octets ++ packets (unit_of peer unit ∷ []) →
     IsPumping peer first before next after
 pumping_next peer first now next before octets after unit h e put =
     let one = packets (unit_of peer unit ∷ []) in
@@ -25,7 +30,8 @@ pumping_next peer first now next before octets after unit h e put =
     record {
       more = h.more ++ one;
       is = put ∙ ap (λ l. l ++ one) h.is ∙ append_assoc before h.more one;
-      all = append_assoc h.more one (packets (written_by peer next)) ∙ ap (λ l. h.more ++ l) (sym (packets_join (unit_of peer unit ∷ []) (written_by peer next)))
+      all = append_assoc h.more one (packets (written_by peer next)) ∙
+          ap (λ l. h.more ++ l) (sym (packets_join (unit_of peer unit ∷ []) (written_by peer next)))
           ∙ ap (λ us. h.more ++ packets us) (sym given) ∙ h.all;
       link = sym (ap (λ (d : Drained). d.link) e) ∙ h.link;
     }
@@ -42,10 +48,12 @@ pumping_link peer first now before octets h e = sym (ap (λ (d : Drained). d.lin
 
 pub pumping_full : (peer : ℕ) (first now : Standing) (before octets after : List ℕ) → IsPumping peer first before now octets →
     after ≡ octets → take (length before) after ≡ before
-pumping_full peer first now before octets after h same = ap (take (length before)) (same ∙ h.is) ∙ take_at before h.more (length before) refl
+pumping_full peer first now before octets after h same = ap (take (length before)) (same ∙ h.is) ∙
+    take_at before h.more (length before) refl
 
 -- the room that is left is enough for the units after it
-pub pumping_room : (peer : ℕ) (now next : Standing) (unit : Given) → drained now ≡ record { units = unit ∷ (drained next).units; link = (drained next).link } →
+pub pumping_room : (peer : ℕ) (now next : Standing) (unit : Given) →
+    drained now ≡ record { units = unit ∷ (drained next).units; link = (drained next).link } →
     length (packets (written_by peer now)) ≡ length (packets (unit_of peer unit ∷ [])) + length (packets (written_by peer next))
 pumping_room peer now next unit e =
     let given : written_by peer now ≡ unit_of peer unit ∷ written_by peer next = ap (λ (d : Drained). map (unit_of peer) d.units) e in
@@ -53,8 +61,10 @@ pumping_room peer now next unit e =
     ∙ length-append (packets (unit_of peer unit ∷ [])) (packets (written_by peer next))
 
 -- if there is no room for the next unit, there was not room for all
-pub pumping_short : (peer : ℕ) (first now then : Standing) (unit : Given) (room left : ℕ) → drained now ≡ record { units = unit ∷ (drained then).units; link = (drained then).link } →
-    (length (packets (written_by peer first)) ≤ room → length (packets (written_by peer now)) ≤ left) → left < length (packets (unit_of peer unit ∷ [])) → room < length (packets (written_by peer first))
+pub pumping_short : (peer : ℕ) (first now then : Standing) (unit : Given) (room left : ℕ) →
+    drained now ≡ record { units = unit ∷ (drained then).units; link = (drained then).link } →
+    (length (packets (written_by peer first)) ≤ room → length (packets (written_by peer now)) ≤ left) →
+        left < length (packets (unit_of peer unit ∷ [])) → room < length (packets (written_by peer first))
 pumping_short peer first now then unit room left e more full =
     let less = pumping_room peer now then unit e in
     elim (cases_lt room (length (packets (written_by peer first)))) [
@@ -81,7 +91,8 @@ pub whole_link : (s new : Standing) (unit : Given) → drained s ≡ record { un
 whole_link s new unit first last = sym (ap (λ (d : Drained). d.link) first ∙ ap (λ (d : Drained). d.link) last)
 
 -- and what is written
-pub whole_written : (peer : ℕ) (s new : Standing) (unit : Given) → drained s ≡ record { units = unit ∷ (drained new).units; link = (drained new).link } →
+pub whole_written : (peer : ℕ) (s new : Standing) (unit : Given) →
+    drained s ≡ record { units = unit ∷ (drained new).units; link = (drained new).link } →
     drained new ≡ record { units = []; link = new } → unit_of peer unit ∷ [] ≡ written_by peer s
 whole_written peer s new unit first last =
     sym (ap (λ (d : Drained). map (unit_of peer) d.units) first ∙ ap (λ (d : Drained). unit_of peer unit ∷ map (unit_of peer) d.units) last)

@@ -16,7 +16,8 @@ no_room headers e (Some f) none =
     let both = (class_2 e f).0 none in
     let acks = none_of f.receiver.waiting headers both.0 in
     elim both.1 as (λ _. most_by headers e (Some f) ≡ 0) [
-      | inl unsent ↦ let parts : octets_in_parts headers e.limit e.unsent ≡ 0 = ap (octets_in_parts headers e.limit) unsent in omega (arith, acks, parts)
+      | inl unsent ↦ let parts : octets_in_parts headers e.limit e.unsent ≡ 0 = ap (octets_in_parts headers e.limit) unsent in
+          omega (arith, acks, parts)
       | inr closed ↦ let open_units = none_of f.sender.credit (e.limit + headers) closed in omega (arith, acks, open_units)
     ]
 

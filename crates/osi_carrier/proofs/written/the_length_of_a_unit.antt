@@ -1,6 +1,7 @@
 -- The length of the written form of a unit, and that one unit makes one packet.
 use Rattle.std.proofs.Common.{◌≡◌, ℕ, ◌+◌, ◌≤◌, [], ◌∷◌, length, ap, arith, length-append}
-use Rattle.osi_carrier.proofs.Vocabulary.{append-nil, packet_of, Value, request, confirm, data0, data2, acknowledge, user_data, written, written_header, Fits, header_octets, octets_of, Given, part0, part2, ack, unit_of, packets}
+use Rattle.osi_carrier.proofs.Vocabulary.{append-nil, packet_of, Value, request, confirm, data0, data2, acknowledge, user_data, written}
+use Rattle.osi_carrier.proofs.Vocabulary.{written_header, Fits, header_octets, octets_of, Given, part0, part2, ack, unit_of, packets}
 
 pub one_packet_of : (unit : Value) → packets (unit ∷ []) ≡ packet_of (written unit)
 one_packet_of unit = append-nil (packet_of (written unit))
@@ -25,7 +26,8 @@ written_least unit =
 -- the octets of a packet with a unit that a link gave: its header, the unit's header, and the data
 pub given_size : (peer : ℕ) (given : Given) → length (packets (unit_of peer given ∷ [])) ≡ 4 + header_octets given + octets_of given
 given_size peer (part0 end octets) =
-    let one : length (packets (data0 end octets ∷ [])) ≡ length (packet_of (written (data0 end octets))) = ap length (one_packet_of (data0 end octets)) in
+    let one : length (packets (data0 end octets ∷ [])) ≡ length (packet_of (written (data0 end octets))) =
+        ap length (one_packet_of (data0 end octets)) in
     omega arith
 given_size peer (part2 number end octets) =
     let unit = data2 peer number end octets in

@@ -1,8 +1,11 @@
 -- TSDUs that are sent together.
-use Rattle.std.proofs.Common.{◌≡◌, ℕ, ◌==◌, Bool, true, false, ◌||◌, List, [], ◌∷◌, ◌++◌, length, map, nat_lt, Option, Some, None, is_some, refl, sym, ap, ◌∙◌, append_assoc, arith, if◌then◌else◌}
+use Rattle.std.proofs.Common.{◌≡◌, ℕ, ◌==◌, Bool, true, false, ◌||◌, List, [], ◌∷◌, ◌++◌, length, map, nat_lt, Option, Some, None, is_some}
+use Rattle.std.proofs.Common.{refl, sym, ap, ◌∙◌, append_assoc, arith, if◌then◌else◌}
 use Rattle.osi_carrier.specs.declared.faults.SendError.{SendError}
 use Rattle.osi_carrier.specs.declared.faults.SendError.TheVariants.{TooLong}
-use Rattle.osi_carrier.proofs.Vocabulary.{list_any, append-nil, map-append, all_given, given_one_by_one, one_by_one, Standing, unit_of, with_tsdu, link_of, open_link, lengths_error, sent_on, sent_all, pumps_all, pumped, written_by, written_for, pumps, Rows, value_at, put, peer_in, link_in, linked, State, packets, EndReason}
+use Rattle.osi_carrier.proofs.Vocabulary.{list_any, append-nil, map-append, all_given, given_one_by_one, one_by_one, Standing, unit_of}
+use Rattle.osi_carrier.proofs.Vocabulary.{with_tsdu, link_of, open_link, lengths_error, sent_on, sent_all, pumps_all, pumped, written_by}
+use Rattle.osi_carrier.proofs.Vocabulary.{written_for, pumps, Rows, value_at, put, peer_in, link_in, linked, State, packets, EndReason}
 use Rattle.osi_carrier.proofs.references.what_a_change_leaves_there.{put_here}
 use Rattle.osi_carrier.proofs.references.what_is_open.{open_is}
 use Rattle.osi_carrier.proofs.references.the_row_at_a_place.{put_same}
@@ -10,14 +13,16 @@ use Rattle.osi_carrier.proofs.written.all_that_a_link_gives.{packets_join}
 
 -- ---- the octets of values that have some
 
-any_of_items : {V : Type 0} (items : V → List ℕ) (test : List ℕ → Bool) (vs : List V) → list_any (λ v. test (items v)) vs ≡ list_any test (map items vs)
+any_of_items : {V : Type 0} (items : V → List ℕ) (test : List ℕ → Bool) (vs : List V) →
+    list_any (λ v. test (items v)) vs ≡ list_any test (map items vs)
 any_of_items items test [] = refl
 any_of_items items test (v ∷ vs) = ap (λ b. test (items v) || b) (any_of_items items test vs)
 
 pub error_of_items : {V : Type 0} (items : V → List ℕ) (vs : List V) (b : Bool) → list_any (λ v. nat_lt 1048576 (length (items v))) vs ≡ b →
     lengths_error (map items vs) ≡ (if b then Some TooLong else None)
 error_of_items items vs b e =
-    ap (λ (c : Bool). if◌then◌else◌ {A = Option SendError} c (Some TooLong) None) (sym (any_of_items items (λ tsdu. nat_lt 1048576 (length tsdu)) vs) ∙ e)
+    ap (λ (c : Bool). if◌then◌else◌ {A = Option SendError} c (Some TooLong) None)
+        (sym (any_of_items items (λ tsdu. nat_lt 1048576 (length tsdu)) vs) ∙ e)
 
 pub no_items : {V : Type 0} (items : V → List ℕ) (vs : List V) → length vs ≡ 0 → map items vs ≡ []
 no_items items [] h = refl
@@ -35,11 +40,13 @@ put_twice : {X : Type 0} (r : ℕ) (x y : X) (rows : Rows X) → put r x (put r 
 put_twice r x y [] = refl
 put_twice r x y ((q, z) ∷ rows) = put_twice_by r q x y z rows (q == r) refl (put_twice r x y rows)
 
-opened : (r peer : ℕ) (link : Standing) (s : State) → s.ended ≡ None → value_at r s.live ≡ Some (linked peer link) → open_link r s ≡ Some (peer, link)
+opened : (r peer : ℕ) (link : Standing) (s : State) → s.ended ≡ None → value_at r s.live ≡ Some (linked peer link) →
+    open_link r s ≡ Some (peer, link)
 opened r peer link s alive at =
     ap (λ (e : Option EndReason). if is_some e then None else link_of (value_at r s.live)) alive ∙ ap link_of at
 
-pub open_here : (r peer : ℕ) (s : State) → s.ended ≡ None → peer_in (value_at r s.live) ≡ Some peer → open_link r s ≡ Some (peer, link_in (value_at r s.live))
+pub open_here : (r peer : ℕ) (s : State) → s.ended ≡ None → peer_in (value_at r s.live) ≡ Some peer →
+    open_link r s ≡ Some (peer, link_in (value_at r s.live))
 open_here r peer s alive e = opened r peer (link_in (value_at r s.live)) s alive (open_is (value_at r s.live) peer e)
 
 -- what is written for one, and then for the others

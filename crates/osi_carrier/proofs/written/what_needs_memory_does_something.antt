@@ -1,5 +1,7 @@
 -- What needs memory writes, reports or keeps something.
-use Rattle.std.proofs.Common.{◌≡◌, ℕ, ◌+◌, ◌<◌, ◌≤◌, ◌⊎◌, inl, inr, Bool, true, false, List, [], ◌∷◌, ◌++◌, length, take, drop, Option, Some, None, Result, Ok, Err, IfOk, IsOk, OnErr, ◌==◌, map, refl, sym, ap, subst, ◌∙◌, nat_lt, if◌then◌else◌, length-append, arith}
+use Rattle.std.proofs.Common.{◌≡◌, ℕ, ◌+◌, ◌<◌, ◌≤◌, ◌⊎◌, inl, inr, Bool, true, false, List, [], ◌∷◌, ◌++◌, length, take, drop, Option}
+use Rattle.std.proofs.Common.{Some, None, Result, Ok, Err, IfOk, IsOk, OnErr, ◌==◌, map, refl, sym, ap, subst, ◌∙◌, nat_lt, if◌then◌else◌}
+use Rattle.std.proofs.Common.{length-append, arith}
 use Rattle.osi_class.specs.Flow.{Flow, is_awaited}
 use Rattle.osi_class.specs.Joining.{Joining, joined, with_part}
 use Rattle.osi_class.specs.Limits.{longest_tsdu}
@@ -7,7 +9,12 @@ use Rattle.osi_class.specs.Taking.{TakesUnit}
 use Rattle.osi_class.specs.declared.faults.LinkFault.TheVariants.{OutOfSequence, TsduTooLong, OutOfMemory}
 use Rattle.osi_class.proofs.between.parts_stay_in_order.{choose_ok}
 pub use Rattle.std.proofs.lemmas.Bool.{or_cases}
-use Rattle.osi_carrier.proofs.Vocabulary.{or_left, or_right, lt-ltb, ltb-true, sum_by-cons, packet_of, Value, Connect, disconnect, disconnected, data0, data2, written, Standing, Hands, taken, taken_by, taken_flow, with_joined, needs_memory, part_needs_memory, LinkFault, Class, Two, drained_leaves, begun_by, kept_in, grows, Happening, tsdu, pumped, written_by, accepts, breaks, denies, handed_out, leaves, opens, taking, to_unknown, Rows, value_at, put, peer_in, link_in, Connection, linked, State, packets, drops, tells, link_grows, units_after, whole_after, link_after}
+use Rattle.osi_carrier.proofs.Vocabulary.{or_left, or_right, lt-ltb, ltb-true, sum_by-cons, packet_of, Value, Connect, disconnect}
+use Rattle.osi_carrier.proofs.Vocabulary.{disconnected, data0, data2, written, Standing, Hands, taken, taken_by, taken_flow, with_joined}
+use Rattle.osi_carrier.proofs.Vocabulary.{needs_memory, part_needs_memory, LinkFault, Class, Two, drained_leaves, begun_by, kept_in, grows}
+use Rattle.osi_carrier.proofs.Vocabulary.{Happening, tsdu, pumped, written_by, accepts, breaks, denies, handed_out, leaves, opens, taking}
+use Rattle.osi_carrier.proofs.Vocabulary.{to_unknown, Rows, value_at, put, peer_in, link_in, Connection, linked, State, packets, drops}
+use Rattle.osi_carrier.proofs.Vocabulary.{tells, link_grows, units_after, whole_after, link_after}
 use Rattle.osi_carrier.proofs.references.what_is_open.{open_is}
 
 -- ---- at a link
@@ -23,25 +30,32 @@ part_grows : (peer : ℕ) (s : Standing) (flow : Option Flow) (end : Bool) (octe
     Grown peer s (record { ends = record s.ends { joining = with_part s.ends.joining end octets }; flow = flow })
 unfolding link_grows
 part_grows peer s flow true octets needs =
-    or_right _ _ (or_left _ _ (lt-ltb 0 (length (take 1 (s.ends.joining.whole ++ (s.ends.joining.begun ++ octets) ∷ []))) (whole_some s.ends.joining.whole (s.ends.joining.begun ++ octets))))
+    or_right _ _ (or_left _ _
+        (lt-ltb 0 (length (take 1 (s.ends.joining.whole ++ (s.ends.joining.begun ++ octets) ∷ [])))
+        (whole_some s.ends.joining.whole (s.ends.joining.begun ++ octets))))
 part_grows peer s flow false octets needs =
     let t : Standing = record { ends = record s.ends { joining = with_part s.ends.joining false octets }; flow = flow } in
-    let kept : (pumped (handed_out t)).ends.joining.begun ≡ s.ends.joining.begun ++ octets = ap (λ (j : Joining). j.begun) (drained_leaves (handed_out t)).1 in
+    let kept : (pumped (handed_out t)).ends.joining.begun ≡ s.ends.joining.begun ++ octets =
+        ap (λ (j : Joining). j.begun) (drained_leaves (handed_out t)).1 in
     let some = ltb-true 0 (length octets) needs in
     let size = ap length kept ∙ length-append s.ends.joining.begun octets in
     or_right _ _ (or_right _ _ (lt-ltb (length s.ends.joining.begun) (length (pumped (handed_out t)).ends.joining.begun) (omega arith)))
 
-joined_grows : (peer : ℕ) (s : Standing) (flow : Option Flow) (end : Bool) (octets : List ℕ) (long : Bool) → part_needs_memory end octets ≡ true →
+joined_grows : (peer : ℕ) (s : Standing) (flow : Option Flow) (end : Bool) (octets : List ℕ) (long : Bool) →
+    part_needs_memory end octets ≡ true →
     IfOk (with_joined s.ends flow (if long then Err TsduTooLong else Ok (with_part s.ends.joining end octets))) (Grown peer s)
 joined_grows peer s flow end octets true needs = tt
 joined_grows peer s flow end octets false needs = part_grows peer s flow end octets needs
 
-taken_by_grows : (peer : ℕ) (s : Standing) (flow : Option Flow) (unit : Value) → needs_memory unit ≡ true → IfOk (taken_by s.ends flow unit) (Grown peer s)
-taken_by_grows peer s None (data0 end octets) needs = joined_grows peer s None end octets (nat_lt longest_tsdu (length s.ends.joining.begun + length octets)) needs
+taken_by_grows : (peer : ℕ) (s : Standing) (flow : Option Flow) (unit : Value) → needs_memory unit ≡ true →
+    IfOk (taken_by s.ends flow unit) (Grown peer s)
+taken_by_grows peer s None (data0 end octets) needs =
+    joined_grows peer s None end octets (nat_lt longest_tsdu (length s.ends.joining.begun + length octets)) needs
 taken_by_grows peer s (Some f) (data0 end octets) needs = tt
 taken_by_grows peer s None (data2 d number end octets) needs = tt
 taken_by_grows peer s (Some f) (data2 d number end octets) needs =
-    choose_ok (Grown peer s) (is_awaited f.receiver number) (with_joined s.ends (Some (taken_flow f)) (joined s.ends.joining end octets)) (Err OutOfSequence)
+    choose_ok (Grown peer s) (is_awaited f.receiver number) (with_joined s.ends (Some (taken_flow f)) (joined s.ends.joining end octets))
+        (Err OutOfSequence)
     (λ _. joined_grows peer s (Some (taken_flow f)) end octets (nat_lt longest_tsdu (length s.ends.joining.begun + length octets)) needs)
     (λ _. tt)
 taken_by_grows peer s flow unit needs = cc
@@ -51,18 +65,21 @@ grown_of peer s (Ok t) h ok = h
 grown_of peer s (Err fault) h ok = cc
 
 -- a unit that the link would take if there were memory
-pub taken_grows : (peer : ℕ) (s : Standing) (unit : Value) → needs_memory unit ≡ true → IsOk (taken s unit) → link_grows peer s (taken s unit) ≡ true
+pub taken_grows : (peer : ℕ) (s : Standing) (unit : Value) → needs_memory unit ≡ true → IsOk (taken s unit) →
+    link_grows peer s (taken s unit) ≡ true
 taken_grows peer s unit needs ok = grown_of peer s (taken s unit) (taken_by_grows peer s s.flow unit needs) ok
 
 -- what a call of a link answers if memory ran out
-pub want_taken : {A : Type 0} (r : Result A LinkFault) (f : LinkFault) (needs : Bool) (t : Result Standing LinkFault) (old new : Standing) → r ≡ Err f → f ≡ OutOfMemory →
+pub want_taken : {A : Type 0} (r : Result A LinkFault) (f : LinkFault) (needs : Bool) (t : Result Standing LinkFault) (old new : Standing) →
+    r ≡ Err f → f ≡ OutOfMemory →
     TakesUnit r needs t old new → (needs ≡ true) × IsOk t
 want_taken (Err OutOfMemory) f needs t old new e g h = (h.0, h.1)
 want_taken r f needs t old new e g h = cc
 
 handed_is : (o : Option (List ℕ)) (old new : Standing) → Hands o old new → new ≡ handed_out old
 handed_is None old new h =
-    h.1 ∙ ap (λ (w : List (List ℕ)). record old { ends = record old.ends { joining = record old.ends.joining { whole = w } } }) (h.0 ∙ sym (ap (drop 1) h.0))
+    h.1 ∙ ap (λ (w : List (List ℕ)). record old { ends = record old.ends { joining = record old.ends.joining { whole = w } } })
+        (h.0 ∙ sym (ap (drop 1) h.0))
 handed_is (Some octets) old new h = sym (ap handed_out h)
 
 given_grows : (peer : ℕ) (s t : Standing) → nat_lt 0 (length (written_by peer (handed_out t))) ≡ true → Grown peer s t
@@ -115,8 +132,10 @@ writes_grows old new unit e = written_grows old new (unit ∷ []) (omega arith) 
 pub tells_drops_grows : (event : Happening) (r : ℕ) (s : State) → grows s (tells event (drops r s)) ≡ true
 tells_drops_grows event r s = tells_grows s (tells event (drops r s)) event refl
 
-pub unknown_grows : (destination source reason : ℕ) (user : List ℕ) (s : State) → grows s (to_unknown (disconnect destination source reason user) s) ≡ true
-unknown_grows destination source reason user s = writes_grows s (to_unknown (disconnect destination source reason user) s) (disconnected source destination) refl
+pub unknown_grows : (destination source reason : ℕ) (user : List ℕ) (s : State) →
+    grows s (to_unknown (disconnect destination source reason user) s) ≡ true
+unknown_grows destination source reason user s =
+    writes_grows s (to_unknown (disconnect destination source reason user) s) (disconnected source destination) refl
 
 pub denies_grows : (reason peer : ℕ) (s : State) → grows s (denies reason peer s) ≡ true
 denies_grows reason peer s = writes_grows s (denies reason peer s) (disconnect peer 0 reason []) refl
@@ -131,7 +150,8 @@ pub leaves_grows : (r peer reason : ℕ) (held : Option Class) (s : State) → g
 leaves_grows r peer reason (Some Two) s = tells_grows s (leaves r peer reason (Some Two) s) _ refl
 leaves_grows r peer reason held s = tells_grows s (leaves r peer reason held s) _ refl
 
-pub breaks_grows : (r peer : ℕ) (fault : LinkFault) (held : Option Class) (s : State) → held ≡ Some Two → grows s (breaks r peer fault held s) ≡ true
+pub breaks_grows : (r peer : ℕ) (fault : LinkFault) (held : Option Class) (s : State) → held ≡ Some Two →
+    grows s (breaks r peer fault held s) ≡ true
 breaks_grows r peer fault held s e =
     subst (λ (h : Option Class). grows s (breaks r peer fault h s) ≡ true) (sym e) (tells_grows s (breaks r peer fault (Some Two) s) _ refl)
 
@@ -161,13 +181,15 @@ put_kept_by r q z x y rows false t more h =
     let sum : kept_in ((q, z) ∷ put r y rows) + begun_by x ≡ kept_in ((q, z) ∷ rows) + begun_by y = omega arith in
     rw t sum
 
-put_kept : (r : ℕ) (x y : Connection) (rows : Rows Connection) → value_at r rows ≡ Some x → kept_in (put r y rows) + begun_by x ≡ kept_in rows + begun_by y
+put_kept : (r : ℕ) (x y : Connection) (rows : Rows Connection) → value_at r rows ≡ Some x →
+    kept_in (put r y rows) + begun_by x ≡ kept_in rows + begun_by y
 put_kept r x y [] h = cc
 put_kept r x y ((q, z) ∷ rows) h = put_kept_by r q z x y rows (q == r) refl (put_kept r x y rows) h
 
 abbrev LinkGrows : ℕ → Standing → Result Standing LinkFault → Type 0
 LinkGrows peer old t =
-    (0 < length (units_after peer t)) ⊎ ((0 < length (whole_after t)) ⊎ (length old.ends.joining.begun < length (link_after old t).ends.joining.begun))
+    (0 < length (units_after peer t)) ⊎
+        ((0 < length (whole_after t)) ⊎ (length old.ends.joining.begun < length (link_after old t).ends.joining.begun))
 
 link_cases : (peer : ℕ) (old : Standing) (t : Result Standing LinkFault) → link_grows peer old t ≡ true → LinkGrows peer old t
 unfolding link_grows
@@ -183,7 +205,8 @@ length_told : (r : ℕ) (whole : List (List ℕ)) → length (map (tsdu r) whole
 length_told r [] = refl
 length_told r (octets ∷ whole) = let more = length_told r whole in omega arith
 
-taking_by : (r peer : ℕ) (s : State) (link : Standing) (t : Result Standing LinkFault) → value_at r s.live ≡ Some (linked peer link) → LinkGrows peer link t →
+taking_by : (r peer : ℕ) (s : State) (link : Standing) (t : Result Standing LinkFault) → value_at r s.live ≡ Some (linked peer link) →
+    LinkGrows peer link t →
     grows s (taking r peer t s) ≡ true
 taking_by r peer s link (Ok next) there (inl units) = written_grows s (taking r peer (Ok next) s) (units_after peer (Ok next)) units refl
 taking_by r peer s link (Ok next) there (inr (inl whole)) =
@@ -198,17 +221,20 @@ taking_by r peer s link (Err fault) there (inr more) = absurd (omega arith)
 pub taking_grows : (r peer : ℕ) (s : State) (t : Result Standing LinkFault) → peer_in (value_at r s.live) ≡ Some peer →
     link_grows peer (link_in (value_at r s.live)) t ≡ true → grows s (taking r peer t s) ≡ true
 taking_grows r peer s t stands h =
-    taking_by r peer s (link_in (value_at r s.live)) t (open_is (value_at r s.live) peer stands) (link_cases peer (link_in (value_at r s.live)) t h)
+    taking_by r peer s (link_in (value_at r s.live)) t (open_is (value_at r s.live) peer stands)
+        (link_cases peer (link_in (value_at r s.live)) t h)
 
 -- a TSDU that became complete is reported
-pub took_grows : (r peer : ℕ) (s : State) (t : Result Standing LinkFault) (whole : List ℕ) → IsOk t → whole ∷ [] ≡ whole_after t → grows s (taking r peer t s) ≡ true
+pub took_grows : (r peer : ℕ) (s : State) (t : Result Standing LinkFault) (whole : List ℕ) → IsOk t → whole ∷ [] ≡ whole_after t →
+    grows s (taking r peer t s) ≡ true
 took_grows r peer s (Ok link) whole ok e =
     let one = ap length e in
     let same = length_told r (whole_after (Ok link)) in
     told_grows s (taking r peer (Ok link) s) (map (tsdu r) (whole_after (Ok link))) (omega arith) refl
 took_grows r peer s (Err fault) whole ok e = cc
 
-pub broke_grows : {A E : Type 0} (result : Result A E) (r peer : ℕ) (s mid : State) (t : Result Standing LinkFault) (fault : LinkFault) → t ≡ Err fault → mid ≡ s →
+pub broke_grows : {A E : Type 0} (result : Result A E) (r peer : ℕ) (s mid : State) (t : Result Standing LinkFault) (fault : LinkFault) →
+    t ≡ Err fault → mid ≡ s →
     OnErr result (grows mid (breaks r peer fault mid.class mid) ≡ true) → OnErr result (grows s (taking r peer t s) ≡ true)
 broke_grows (Ok a) r peer s mid t fault e same h = tt
 broke_grows (Err f) r peer s mid t fault e same h =

@@ -1,6 +1,14 @@
 -- The effect of calls of links of class 2 on the flow control between them.
-use Rattle.std.proofs.Common.{◌≡◌, ℕ, ◌<◌, ◌≤◌, Bool, true, List, [], ◌∷◌, ◌++◌, Option, Some, None, Result, Ok, Err, inl, inr, refl, sym, ◌∙◌, ap, subst, nat_lt, is_some, if◌then◌else◌, IfSome, IfOk}
-use Rattle.osi_class.proofs.Vocabulary.{flat_map, ltb-true, flat_map-append, Value, request, confirm, disconnect, disconnected, data0, data2, acknowledge, error, LinkFault, OutOfSequence, LinkPair, swapped, Comes, LeftMoves, Turn, at_left, at_right, Turns, TurnsAlong, opened_pair, Direction, InStep, write_unit, take_unit, write_ack, take_ack, known_after, opened, owed, unit_numbers, ack_numbers, direction, HaveFlows, StepsOrStays, TurnSteps, Agree, Ends, Flow, Sender, Receiver, acknowledged, is_awaited, ack_number, after_acked, after_taken, after_sent, fresh_sender, fresh_receiver, Joining, joined, Standing, Given, part0, part2, ack, given_part, next_by, with_joined, with_sender, taken_by, taken, taken_flow, sent_flow, two_standing, Move, hand_in, give_out, take_in, hand_out, Moves, Part, give}
+use Rattle.std.proofs.Common.{◌≡◌, ℕ, ◌<◌, ◌≤◌, Bool, true, List, [], ◌∷◌, ◌++◌, Option, Some, None, Result, Ok, Err, inl, inr, refl, sym}
+use Rattle.std.proofs.Common.{◌∙◌, ap, subst, nat_lt, is_some, if◌then◌else◌, IfSome, IfOk}
+use Rattle.osi_class.proofs.Vocabulary.{flat_map, ltb-true, flat_map-append, Value, request, confirm, disconnect, disconnected, data0}
+use Rattle.osi_class.proofs.Vocabulary.{data2, acknowledge, error, LinkFault, OutOfSequence, LinkPair, swapped, Comes, LeftMoves, Turn}
+use Rattle.osi_class.proofs.Vocabulary.{at_left, at_right, Turns, TurnsAlong, opened_pair, Direction, InStep, write_unit, take_unit}
+use Rattle.osi_class.proofs.Vocabulary.{write_ack, take_ack, known_after, opened, owed, unit_numbers, ack_numbers, direction, HaveFlows}
+use Rattle.osi_class.proofs.Vocabulary.{StepsOrStays, TurnSteps, Agree, Ends, Flow, Sender, Receiver, acknowledged, is_awaited, ack_number}
+use Rattle.osi_class.proofs.Vocabulary.{after_acked, after_taken, after_sent, fresh_sender, fresh_receiver, Joining, joined, Standing}
+use Rattle.osi_class.proofs.Vocabulary.{Given, part0, part2, ack, given_part, next_by, with_joined, with_sender, taken_by, taken}
+use Rattle.osi_class.proofs.Vocabulary.{taken_flow, sent_flow, two_standing, Move, hand_in, give_out, take_in, hand_out, Moves, Part, give}
 use Rattle.osi_class.proofs.between.units_are_of_one_class.{class_turn}
 use Rattle.osi_class.proofs.between.parts_stay_in_order.{append_nil, choose_some, choose_ok, at_some, at_ok}
 use Rattle.osi_class.proofs.between.owed_acks_keep_the_counts.{step_keeps, step_window, begins}
@@ -12,7 +20,8 @@ FlowMoves (hand_out tsdu) f g = g ≡ f
 FlowMoves (give_out (part0 end octets)) f g = ⊥
 FlowMoves (give_out (part2 number end octets)) f g = (0 < f.sender.credit) × (number ≡ f.sender.next) × (g ≡ sent_flow f)
 FlowMoves (give_out (ack number credit)) f g =
-    (0 < f.receiver.waiting) × (number ≡ ack_number f.receiver) × (credit ≡ f.receiver.window) × (g ≡ record f { receiver = after_acked f.receiver })
+    (0 < f.receiver.waiting) × (number ≡ ack_number f.receiver) × (credit ≡ f.receiver.window) ×
+        (g ≡ record f { receiver = after_acked f.receiver })
 FlowMoves (take_in (data2 destination number end octets)) f g = (is_awaited f.receiver number ≡ true) × (g ≡ taken_flow f)
 FlowMoves (take_in (acknowledge credit destination number)) f g =
     (acknowledged f.sender number credit ≡ Ok g.sender) × (g ≡ record f { sender = g.sender })
@@ -41,11 +50,13 @@ next_reaches e f =
     (λ _. tt))
 
 joined_reaches : (e : Ends) (f : Flow) (destination number : ℕ) (end : Bool) (octets : List ℕ) → is_awaited f.receiver number ≡ true →
-    (r : Result Joining LinkFault) → IfOk (with_joined e (Some (taken_flow f)) r) (Reaches (take_in (data2 destination number end octets)) f)
+    (r : Result Joining LinkFault) →
+        IfOk (with_joined e (Some (taken_flow f)) r) (Reaches (take_in (data2 destination number end octets)) f)
 joined_reaches e f destination number end octets awaited (Err fault) = tt
 joined_reaches e f destination number end octets awaited (Ok joining) = (taken_flow f, refl, (awaited, refl))
 
-sender_reaches : (e : Ends) (f : Flow) (credit destination number : ℕ) (r : Result Sender LinkFault) → acknowledged f.sender number credit ≡ r →
+sender_reaches : (e : Ends) (f : Flow) (credit destination number : ℕ) (r : Result Sender LinkFault) →
+    acknowledged f.sender number credit ≡ r →
     IfOk (with_sender e f r) (Reaches (take_in (acknowledge credit destination number)) f)
 sender_reaches e f credit destination number (Err fault) is = tt
 sender_reaches e f credit destination number (Ok sender) is = (record f { sender = sender }, refl, (is, refl))

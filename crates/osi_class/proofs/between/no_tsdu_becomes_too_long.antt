@@ -1,6 +1,9 @@
 -- No TSDU between two links becomes too long to be taken.
-use Rattle.std.proofs.Common.{◌≡◌, ℕ, ◌+◌, ◌≤◌, Bool, true, false, List, [], ◌∷◌, ◌++◌, length, Ok, sym, ◌∙◌, ap, subst, arith, nat_lt, length-append, append_assoc}
-use Rattle.osi_class.proofs.Vocabulary.{flat_map, AllByRecursion, le-ltb, append_cancel_left, map-append, longest_tsdu, LinkPair, Turn, TurnsAlong, left_in, right_out, parts_under_way, under_way, HasWholeTsdus, IsShortTsdu, with_part, joined, Part, tsdus_after, uncut}
+use Rattle.std.proofs.Common.{◌≡◌, ℕ, ◌+◌, ◌≤◌, Bool, true, false, List, [], ◌∷◌, ◌++◌, length, Ok, sym, ◌∙◌, ap, subst, arith, nat_lt}
+use Rattle.std.proofs.Common.{length-append, append_assoc}
+use Rattle.osi_class.proofs.Vocabulary.{flat_map, AllByRecursion, le-ltb, append_cancel_left, map-append, longest_tsdu, LinkPair, Turn}
+use Rattle.osi_class.proofs.Vocabulary.{TurnsAlong, left_in, right_out, parts_under_way, under_way, HasWholeTsdus, IsShortTsdu, with_part}
+use Rattle.osi_class.proofs.Vocabulary.{joined, Part, tsdus_after, uncut}
 use Rattle.osi_class.proofs.between.parts_stay_in_order.{append_nil}
 use Rattle.osi_class.proofs.between.tsdus_come_in_order.{whole_kept}
 
@@ -16,7 +19,8 @@ all_both (x ∷ xs) ys a b = (a.0, all_both xs ys a.1 b)
 abbrev pub End : List ℕ → List Part → Type 0
 End begun parts = (t : List ℕ) → tsdus_after begun (parts ++ (true, t) ∷ []) ≡ tsdus_after begun parts ++ t ∷ []
 
-begun_short : (parts : List Part) (begun : List ℕ) → End begun parts → AllByRecursion IsShortTsdu (tsdus_after begun parts) → IsShortTsdu begun
+begun_short : (parts : List Part) (begun : List ℕ) → End begun parts → AllByRecursion IsShortTsdu (tsdus_after begun parts) →
+    IsShortTsdu begun
 begun_short [] begun ends all =
     let one : (begun ++ []) ∷ [] ≡ [] ∷ [] = ends [] in
     let none : begun ++ [] ≡ [] = cc in
@@ -55,12 +59,14 @@ pending_end p whole t =
     ap (λ (x : List Part). tsdus_after j.begun x) longer
     ∙ append_cancel_left j.whole (tsdus_after j.begun (ps ++ uncut (unsent ++ t ∷ []))) (tsdus_after j.begun (pending p) ++ t ∷ []) all
 
-pub not_too_long : (p : LinkPair) (end : Bool) (octets : List ℕ) (rest : List Part) → HasWholeTsdus p → AllByRecursion IsShortTsdu (under_way p) →
+pub not_too_long : (p : LinkPair) (end : Bool) (octets : List ℕ) (rest : List Part) → HasWholeTsdus p →
+    AllByRecursion IsShortTsdu (under_way p) →
     parts_under_way p.rightward ≡ (end, octets) ∷ rest →
     joined p.right.ends.joining end octets ≡ Ok (with_part p.right.ends.joining end octets)
 not_too_long p end octets rest whole all first =
     let j = p.right.ends.joining in
-    let here : pending p ≡ (end, octets) ∷ (rest ++ uncut p.left.ends.unsent) = ap (λ (x : List Part). x ++ uncut p.left.ends.unsent) first in
+    let here : pending p ≡ (end, octets) ∷ (rest ++ uncut p.left.ends.unsent) =
+        ap (λ (x : List Part). x ++ uncut p.left.ends.unsent) first in
     let ends = subst (λ (x : List Part). End j.begun x) here (pending_end p whole) in
     let Shorts : List Part → Type 0 = λ x. AllByRecursion IsShortTsdu (tsdus_after j.begun x) in
     let under : AllByRecursion IsShortTsdu (j.whole ++ tsdus_after j.begun (pending p)) =

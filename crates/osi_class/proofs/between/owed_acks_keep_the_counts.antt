@@ -1,6 +1,9 @@
 -- Acks that are owed: after each step the counts of the two ends still agree.
-use Rattle.std.proofs.Common.{◌≡◌, ℕ, suc, ◌+◌, ◌-◌, ◌%◌, ◌<◌, ◌≤◌, true, ◌==◌, List, [], ◌∷◌, ◌++◌, length, Ok, refl, sym, ◌∙◌, ap, subst, arith, nat_lt, eq-eqb}
-use Rattle.osi_class.proofs.Vocabulary.{lt-ltb, Sender, steps_before, after_sent, acknowledged, is_awaited, after_taken, ack_number, after_acked, numbers, restoring, Direction, unknown, owed, InStep, CreditStep, write_unit, take_unit, write_ack, take_ack, CreditSteps, known_after, StepsAlong, opened, restored}
+use Rattle.std.proofs.Common.{◌≡◌, ℕ, suc, ◌+◌, ◌-◌, ◌%◌, ◌<◌, ◌≤◌, true, ◌==◌, List, [], ◌∷◌, ◌++◌, length, Ok, refl, sym, ◌∙◌, ap, subst}
+use Rattle.std.proofs.Common.{arith, nat_lt, eq-eqb}
+use Rattle.osi_class.proofs.Vocabulary.{lt-ltb, Sender, steps_before, after_sent, acknowledged, is_awaited, after_taken, ack_number}
+use Rattle.osi_class.proofs.Vocabulary.{after_acked, numbers, restoring, Direction, unknown, owed, InStep, CreditStep, write_unit}
+use Rattle.osi_class.proofs.Vocabulary.{take_unit, write_ack, take_ack, CreditSteps, known_after, StepsAlong, opened, restored}
 use Rattle.osi_class.proofs.bounds.numbers_and_their_counts.{earlier_number, steps_between, numbers_snoc, restoring_snoc, acknowledged_is}
 
 length_snoc : {A : Type 0} (xs : List A) (x : A) → length (xs ++ x ∷ []) ≡ suc (length xs)
@@ -61,7 +64,8 @@ ack_written d known h waiting =
     let longer = length_snoc d.acks (ack_number r, r.window) in
     let same : length (d.acks ++ (ack_number r, r.window) ∷ []) + (r.waiting - 1) ≡ unknown d = omega arith in
     let number : ack_number r ≡ (known + 1 + length d.acks) % 128 =
-    ap (λ (n : ℕ). steps_before n (r.waiting - 1)) (h.expected ∙ ap (λ (n : ℕ). n % 128) (let m : known + unknown d ≡ known + 1 + length d.acks + (r.waiting - 1) = omega arith in m))
+    ap (λ (n : ℕ). steps_before n (r.waiting - 1))
+        (h.expected ∙ ap (λ (n : ℕ). n % 128) (let m : known + unknown d ≡ known + 1 + length d.acks + (r.waiting - 1) = omega arith in m))
     ∙ earlier_number (known + 1 + length d.acks) (r.waiting - 1) (omega arith) in
     record {
       units = h.units ∙ ap (λ (n : ℕ). numbers (known + n) (length d.units)) (sym same);

@@ -1,6 +1,8 @@
 -- Parts in order: cutting and joining preserve the TSDUs.
-use Rattle.std.proofs.Common.{◌≡◌, ℕ, ◌+◌, Bool, true, false, List, [], ◌∷◌, ◌++◌, length, take, drop, Option, Some, Result, Ok, Err, refl, sym, ◌∙◌, ap, subst, nat_lt, if◌then◌else◌, IfSome, IfOk}
-use Rattle.osi_class.proofs.Vocabulary.{append_assoc, take-append-drop, TsduTooLong, longest_tsdu, Joining, with_part, joined, Part, tsdus, tsdus_after, uncut, give, MakeTheSame}
+use Rattle.std.proofs.Common.{◌≡◌, ℕ, ◌+◌, Bool, true, false, List, [], ◌∷◌, ◌++◌, length, take, drop, Option, Some, Result, Ok, Err, refl}
+use Rattle.std.proofs.Common.{sym, ◌∙◌, ap, subst, nat_lt, if◌then◌else◌, IfSome, IfOk}
+use Rattle.osi_class.proofs.Vocabulary.{append_assoc, take-append-drop, TsduTooLong, longest_tsdu, Joining, with_part, joined, Part, tsdus}
+use Rattle.osi_class.proofs.Vocabulary.{tsdus_after, uncut, give, MakeTheSame}
 
 pub append_nil : {A : Type 0} (xs : List A) → xs ++ [] ≡ xs
 append_nil [] = refl
@@ -44,7 +46,9 @@ Cuts unsent (p, rest) = (later : List (List ℕ)) → MakeTheSame (p ∷ uncut (
 pub give_cuts : (limit : ℕ) (unsent : List (List ℕ)) → IfSome (give limit unsent) (Cuts unsent)
 give_cuts limit [] = tt
 give_cuts limit (tsdu ∷ more) =
-    elim (nat_lt limit (length tsdu)) as (λ b. IfSome (if b then Some ((false, take limit tsdu), drop limit tsdu ∷ more) else Some ((true, tsdu), more)) (Cuts (tsdu ∷ more))) [
+    elim (nat_lt limit (length tsdu)) as
+        (λ b. IfSome (if b then Some ((false, take limit tsdu), drop limit tsdu ∷ more) else Some ((true, tsdu), more))
+        (Cuts (tsdu ∷ more))) [
       | true ↦ λ later begun. ap (λ t. t ∷ tsdus_after [] (uncut (more ++ later)))
           (append_assoc begun (take limit tsdu) (drop limit tsdu) ∙ ap (λ t. begun ++ t) (take-append-drop limit tsdu))
       | false ↦ λ later begun. refl
@@ -64,5 +68,6 @@ JoinsPart j end octets k = (later : List Part) → made j ((end, octets) ∷ lat
 
 pub joined_makes : (j : Joining) (end : Bool) (octets : List ℕ) → IfOk (joined j end octets) (JoinsPart j end octets)
 joined_makes j end octets =
-    choose_ok (JoinsPart j end octets) (nat_lt longest_tsdu (length j.begun + length octets)) (Err TsduTooLong) (Ok (with_part j end octets))
+    choose_ok (JoinsPart j end octets) (nat_lt longest_tsdu (length j.begun + length octets)) (Err TsduTooLong)
+        (Ok (with_part j end octets))
     (λ _. tt) (λ _ later. with_part_makes j end octets later)

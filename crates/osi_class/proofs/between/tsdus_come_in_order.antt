@@ -1,6 +1,11 @@
 -- The law of order between two links.
 use Rattle.std.proofs.Common.{◌≡◌, ℕ, List, [], ◌∷◌, ◌++◌, map, refl, sym, ◌∙◌, ap, append_assoc}
-use Rattle.osi_class.proofs.Vocabulary.{flat_map, flat_map-append, append_cancel_left, Value, request, confirm, disconnect, disconnected, data0, data2, acknowledge, error, Standing, Given, given_in, Move, hand_in, give_out, take_in, hand_out, given_parts, unit_parts, tsdu_in, part_out, part_in, tsdu_out, Part, tsdus_after, uncut, MakeTheSame, LinkPair, swapped, Says, Comes, given_by, Turn, at_left, at_right, Turns, TurnsAlong, opposite, left_in, right_out, parts_under_way, under_way_before, under_way, HasWholeTsdus, IsFresh, opened_pair}
+use Rattle.osi_class.proofs.Vocabulary.{flat_map, flat_map-append, append_cancel_left, Value, request, confirm, disconnect, disconnected}
+use Rattle.osi_class.proofs.Vocabulary.{data0, data2, acknowledge, error, Standing, Given, given_in, Move, hand_in, give_out, take_in}
+use Rattle.osi_class.proofs.Vocabulary.{hand_out, given_parts, unit_parts, tsdu_in, part_out, part_in, tsdu_out, Part, tsdus_after, uncut}
+use Rattle.osi_class.proofs.Vocabulary.{MakeTheSame, LinkPair, swapped, Says, Comes, given_by, Turn, at_left, at_right, Turns, TurnsAlong}
+use Rattle.osi_class.proofs.Vocabulary.{opposite, left_in, right_out, parts_under_way, under_way_before, under_way, HasWholeTsdus, IsFresh}
+use Rattle.osi_class.proofs.Vocabulary.{opened_pair}
 use Rattle.osi_class.proofs.between.parts_stay_in_order.{append_nil, same_behind_all, uncut_tsdus, made}
 use Rattle.osi_class.proofs.bounds.what_a_call_preserves.{move_keeps}
 
@@ -36,21 +41,25 @@ turn_keeps (at_left move) old new m later =
     ap (λ (g : List Given). parts_under_way g) m.given
     ∙ flat_map-append given_parts old.rightward (given_by move)
     ∙ ap (λ (qs : List Part). ps ++ qs) (given_by_parts move) in
-    let same : MakeTheSame (ps ++ (part_out move ++ uncut (new.left.ends.unsent ++ later))) (ps ++ uncut (old.left.ends.unsent ++ (tsdu_in move ++ later))) =
-    same_behind_all ps (part_out move ++ uncut (new.left.ends.unsent ++ later)) (uncut (old.left.ends.unsent ++ (tsdu_in move ++ later))) sends in
+    let same : MakeTheSame (ps ++ (part_out move ++ uncut (new.left.ends.unsent ++ later)))
+        (ps ++ uncut (old.left.ends.unsent ++ (tsdu_in move ++ later))) =
+    same_behind_all ps (part_out move ++ uncut (new.left.ends.unsent ++ later)) (uncut (old.left.ends.unsent ++ (tsdu_in move ++ later)))
+        sends in
     sym (ap (λ (ts : List (List ℕ)). joining.whole ++ ts) (same joining.begun))
     ∙ ap (λ (qs : List Part). made joining qs)
     (sym (append_assoc ps (part_out move) (uncut (new.left.ends.unsent ++ later)))
     ∙ ap (λ (qs : List Part). qs ++ uncut (new.left.ends.unsent ++ later)) (sym gone))
     ∙ ap (λ (s : Standing). made s.ends.joining (parts_under_way new.rightward ++ uncut (new.left.ends.unsent ++ later))) (sym m.right)
 turn_keeps (at_right move) old new m later =
-    let takes = (move_keeps move old.right new.right m.moves).takes.same (parts_under_way new.rightward ++ uncut (old.left.ends.unsent ++ later)) in
+    let takes = (move_keeps move old.right new.right m.moves).takes.same
+        (parts_under_way new.rightward ++ uncut (old.left.ends.unsent ++ later)) in
     let come = come_parts move old.rightward new.rightward m.comes in
     let tail = uncut (old.left.ends.unsent ++ later) in
     ap (λ (qs : List Part). made old.right.ends.joining (qs ++ tail)) come
     ∙ ap (λ (qs : List Part). made old.right.ends.joining qs) (append_assoc (part_in move) (parts_under_way new.rightward) tail)
     ∙ takes
-    ∙ ap (λ (s : Standing). tsdu_out move ++ made new.right.ends.joining (parts_under_way new.rightward ++ uncut (s.ends.unsent ++ later))) (sym m.right)
+    ∙ ap (λ (s : Standing). tsdu_out move ++ made new.right.ends.joining (parts_under_way new.rightward ++ uncut (s.ends.unsent ++ later)))
+        (sym m.right)
 
 pub turns_keep : (old new : LinkPair) (turns : List Turn) (later : List (List ℕ)) → TurnsAlong old turns new →
     under_way_before old (flat_map left_in turns ++ later) ≡ flat_map right_out turns ++ under_way_before new later
@@ -78,7 +87,8 @@ stays_whole old new turns whole run later =
     ∙ ap (λ (ts : List (List ℕ)). ts ++ later) (whole_kept old new turns whole run)
     ∙ append_assoc (flat_map right_out turns) (under_way new) later)
 
-pub other_way : (old new : LinkPair) (turns : List Turn) → TurnsAlong old turns new → TurnsAlong (swapped old) (map opposite turns) (swapped new)
+pub other_way : (old new : LinkPair) (turns : List Turn) → TurnsAlong old turns new →
+    TurnsAlong (swapped old) (map opposite turns) (swapped new)
 other_way old new [] e = ap swapped e
 other_way old new (at_left move ∷ turns) (mid, first, rest) = (swapped mid, first, other_way mid new turns rest)
 other_way old new (at_right move ∷ turns) (mid, first, rest) = (swapped mid, first, other_way mid new turns rest)

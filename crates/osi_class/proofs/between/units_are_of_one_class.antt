@@ -1,6 +1,7 @@
 -- Between links of one class there are only units of that class.
 use Rattle.std.proofs.Common.{◌≡◌, Bool, false, List, [], ◌∷◌, ◌++◌, Option, Some, None, refl, sym, ◌∙◌, ap, subst, is_some}
-use Rattle.osi_class.proofs.Vocabulary.{LinkPair, Comes, given_by, Turn, at_left, at_right, Turns, TurnsAlong, AreOfClass, opened_pair, AgreeZero, Flow, Standing, Given, Move, hand_in, give_out, take_in, hand_out, Moves}
+use Rattle.osi_class.proofs.Vocabulary.{LinkPair, Comes, given_by, Turn, at_left, at_right, Turns, TurnsAlong, AreOfClass, opened_pair}
+use Rattle.osi_class.proofs.Vocabulary.{AgreeZero, Flow, Standing, Given, Move, hand_in, give_out, take_in, hand_out, Moves}
 use Rattle.osi_class.proofs.giving.a_link_gives_finitely_many_units.{giving_leaves}
 use Rattle.osi_class.proofs.bounds.every_link_keeps_its_bounds.{move_same}
 
@@ -16,7 +17,8 @@ come_class : (move : Move) (old new : List Given) (b : Bool) → Comes move old 
 come_class (take_in unit) old new b (given, says, comes) all = (subst (λ (us : List Given). AreOfClass b us) comes all).1
 come_class _ old new b comes all = subst (λ (us : List Given). AreOfClass b us) comes all
 
-pub class_turn : (turn : Turn) (old new : LinkPair) (b : Bool) → is_some old.left.flow ≡ b → AreOfClass b old.rightward → Turns turn old new →
+pub class_turn : (turn : Turn) (old new : LinkPair) (b : Bool) → is_some old.left.flow ≡ b → AreOfClass b old.rightward →
+    Turns turn old new →
     AreOfClass b new.rightward
 class_turn (at_left move) old new b is all m =
     subst (λ (us : List Given). AreOfClass b us) (sym m.given)

@@ -1,7 +1,12 @@
 -- If nothing is in flight and nothing is owed, what was handed in has been handed out; and what a link sends before its
 -- peer's link is opened.
-use Rattle.std.proofs.Common.{◌≡◌, ℕ, ◌<◌, List, [], ◌∷◌, ◌++◌, map, Option, Some, None, ◌⊎◌, inl, inr, refl, sym, ◌∙◌, ap, subst, arith, append_assoc}
-use Rattle.osi_class.proofs.Vocabulary.{flat_map, AllByRecursion, LinkPair, swapped, Turn, at_right, TurnsAlong, opposite, left_in, right_out, given_by, parts_under_way, under_way, HasWholeTsdus, IsFresh, opened_pair, awaiting_pair, OnlySends, IsQuiet, unit_numbers, ack_numbers, direction, Agree, AgreeZero, AgreeInClass, Flow, Standing, Given, next_by, next, Move, hand_in, give_out, take_in, hand_out, MovesAlong, tsdu_in, tsdus_in, Part, tsdus_after, uncut}
+use Rattle.std.proofs.Common.{◌≡◌, ℕ, ◌<◌, List, [], ◌∷◌, ◌++◌, map, Option, Some, None, ◌⊎◌, inl, inr, refl, sym, ◌∙◌, ap, subst, arith}
+use Rattle.std.proofs.Common.{append_assoc}
+use Rattle.osi_class.proofs.Vocabulary.{flat_map, AllByRecursion, LinkPair, swapped, Turn, at_right, TurnsAlong, opposite, left_in}
+use Rattle.osi_class.proofs.Vocabulary.{right_out, given_by, parts_under_way, under_way, HasWholeTsdus, IsFresh, opened_pair, awaiting_pair}
+use Rattle.osi_class.proofs.Vocabulary.{OnlySends, IsQuiet, unit_numbers, ack_numbers, direction, Agree, AgreeZero, AgreeInClass, Flow}
+use Rattle.osi_class.proofs.Vocabulary.{Standing, Given, next_by, next, Move, hand_in, give_out, take_in, hand_out, MovesAlong, tsdu_in}
+use Rattle.osi_class.proofs.Vocabulary.{tsdus_in, Part, tsdus_after, uncut}
 use Rattle.osi_class.proofs.giving.when_nothing_is_given as nothing
 use Rattle.osi_class.proofs.between.parts_stay_in_order.{append_nil}
 use Rattle.osi_class.proofs.between.owed_acks_keep_the_counts.{nothing_under_way}
@@ -12,10 +17,12 @@ pub unsent_in_class_0 : (p : LinkPair) → AgreeZero p → next p.left ≡ None 
 unsent_in_class_0 p a none = (nothing.class_0 p.left.ends).0 (sym (ap (λ (f : Option Flow). next_by p.left.ends f) a.left) ∙ none)
 
 -- a link of class 2 with nothing to give
-none_at : (s : Standing) (f : Flow) → s.flow ≡ Some f → next s ≡ None → (f.receiver.waiting ≡ 0) × ((s.ends.unsent ≡ []) ⊎ (f.sender.credit ≡ 0))
+none_at : (s : Standing) (f : Flow) → s.flow ≡ Some f → next s ≡ None →
+    (f.receiver.waiting ≡ 0) × ((s.ends.unsent ≡ []) ⊎ (f.sender.credit ≡ 0))
 none_at s f is none = (nothing.class_2 s.ends f).0 (sym (ap (λ (o : Option Flow). next_by s.ends o) is) ∙ none)
 
-pub unsent_in_class_2 : (p : LinkPair) (units : ℕ) → 0 < units → Agree p units → p.rightward ≡ [] → p.leftward ≡ [] → next p.left ≡ None → next p.right ≡ None →
+pub unsent_in_class_2 : (p : LinkPair) (units : ℕ) → 0 < units → Agree p units → p.rightward ≡ [] → p.leftward ≡ [] → next p.left ≡ None →
+    next p.right ≡ None →
     p.left.ends.unsent ≡ []
 unsent_in_class_2 p units some a rightward leftward left right =
     let l = a.left_flow in
@@ -23,7 +30,8 @@ unsent_in_class_2 p units some a rightward leftward left right =
     let at_right_end = none_at p.right r a.have.right right in
     let at_left_end = none_at p.left l a.have.left left in
     let all_open : l.sender.credit ≡ r.receiver.window = nothing_under_way (direction l p r) a.known a.in_step
-    (ap (λ (us : List Given). flat_map unit_numbers us) rightward) (ap (λ (us : List Given). flat_map ack_numbers us) leftward) at_right_end.0 in
+    (ap (λ (us : List Given). flat_map unit_numbers us) rightward) (ap (λ (us : List Given). flat_map ack_numbers us) leftward)
+        at_right_end.0 in
     let window = a.window in
     elim at_left_end.1 [
       | inl none ↦ none
@@ -55,7 +63,8 @@ nothing_begun p whole rightward unsent =
     let none : begun ++ [] ≡ [] = cc in
     sym (append_nil begun) ∙ none
 
-pub arrived : (old new : LinkPair) (turns : List Turn) → HasWholeTsdus old → under_way old ≡ [] → TurnsAlong old turns new → under_way new ≡ [] →
+pub arrived : (old new : LinkPair) (turns : List Turn) → HasWholeTsdus old → under_way old ≡ [] → TurnsAlong old turns new →
+    under_way new ≡ [] →
     flat_map left_in turns ≡ flat_map right_out turns
 arrived old new turns whole none run quiet =
     sym (ap (λ (ts : List (List ℕ)). ts ++ flat_map left_in turns) none)
@@ -63,7 +72,8 @@ arrived old new turns whole none run quiet =
     ∙ ap (λ (ts : List (List ℕ)). flat_map right_out turns ++ ts) quiet
     ∙ append_nil (flat_map right_out turns)
 
-pub quiet_arrived : (old new : LinkPair) (turns : List Turn) → HasWholeTsdus old → under_way old ≡ [] → TurnsAlong old turns new → AgreeInClass new → IsQuiet new →
+pub quiet_arrived : (old new : LinkPair) (turns : List Turn) → HasWholeTsdus old → under_way old ≡ [] → TurnsAlong old turns new →
+    AgreeInClass new → IsQuiet new →
     flat_map left_in turns ≡ flat_map right_out turns
 quiet_arrived old new turns whole none run agree quiet =
     arrived old new turns whole none run (nothing_between new quiet.rightward (quiet_unsent new agree quiet) quiet.handed_out)
@@ -72,7 +82,8 @@ pub quiet_begun : (p : LinkPair) → HasWholeTsdus p → AgreeInClass p → IsQu
 quiet_begun p whole agree quiet = nothing_begun p whole quiet.rightward (quiet_unsent p agree quiet)
 
 -- units that are sent before the peer's link is opened
-send_early : (left right new : Standing) (units : List Given) (moves : List Move) → AllByRecursion OnlySends moves → MovesAlong right moves new →
+send_early : (left right new : Standing) (units : List Given) (moves : List Move) → AllByRecursion OnlySends moves →
+    MovesAlong right moves new →
     TurnsAlong (awaiting_pair left right units) (map at_right moves) (awaiting_pair left new (units ++ flat_map given_by moves))
 send_early left right new units [] sends e =
     ap (λ (s : Standing). awaiting_pair left s (units ++ [])) e ∙ ap (λ (us : List Given). awaiting_pair left right us) (append_nil units)
@@ -103,8 +114,10 @@ none_out : (moves : List Move) → flat_map right_out (map opposite (map at_righ
 none_out [] = refl
 none_out (move ∷ moves) = none_out moves
 
-pub early_whole : (left right new : Standing) (moves : List Move) → IsFresh left → IsFresh right → AllByRecursion OnlySends moves → MovesAlong right moves new →
-    HasWholeTsdus (awaiting_pair left new (flat_map given_by moves)) × HasWholeTsdus (swapped (awaiting_pair left new (flat_map given_by moves)))
+pub early_whole : (left right new : Standing) (moves : List Move) → IsFresh left → IsFresh right → AllByRecursion OnlySends moves →
+    MovesAlong right moves new →
+    HasWholeTsdus (awaiting_pair left new (flat_map given_by moves)) ×
+        HasWholeTsdus (swapped (awaiting_pair left new (flat_map given_by moves)))
 early_whole left right new moves a b sends run =
     let old = opened_pair left right in
     let after = awaiting_pair left new (flat_map given_by moves) in
@@ -114,7 +127,8 @@ early_whole left right new moves a b sends run =
       stays_whole (swapped old) (swapped after) (map opposite turns) (begins right left b a).0 (other_way old after turns along),
     )
 
-pub early_under_way : (left right new : Standing) (moves : List Move) → IsFresh left → IsFresh right → AllByRecursion OnlySends moves → MovesAlong right moves new →
+pub early_under_way : (left right new : Standing) (moves : List Move) → IsFresh left → IsFresh right → AllByRecursion OnlySends moves →
+    MovesAlong right moves new →
     under_way (swapped (awaiting_pair left new (flat_map given_by moves))) ≡ tsdus_in moves
 early_under_way left right new moves a b sends run =
     let old = opened_pair left right in

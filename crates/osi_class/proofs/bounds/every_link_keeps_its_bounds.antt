@@ -1,22 +1,31 @@
 -- Every link keeps its bounds, its limit and its class.
-use Rattle.std.proofs.Common.{◌≡◌, ◌&&◌, ◌==◌, ℕ, ◌+◌, ◌-◌, ◌^◌, ◌<◌, ◌≤◌, Bool, true, false, List, length, Option, Some, None, Result, Ok, Err, refl, sym, ap, subst, arith, nat_lt, is_some, if◌then◌else◌, IfSome, IfOk, length-append}
+use Rattle.std.proofs.Common.{◌≡◌, ◌&&◌, ◌==◌, ℕ, ◌+◌, ◌-◌, ◌^◌, ◌<◌, ◌≤◌, Bool, true, false, List, length, Option, Some, None, Result, Ok}
+use Rattle.std.proofs.Common.{Err, refl, sym, ap, subst, arith, nat_lt, is_some, if◌then◌else◌, IfSome, IfOk, length-append}
 use Rattle.osi_tpdu.specs.declared.limits.SizeCode.{SizeCode}
 use Rattle.osi_tpdu.specs.Limits.{size_code}
 use Rattle.osi_tpdu.specs.Value as values
-use Rattle.osi_class.proofs.Vocabulary.{pow-le-pow_right, ltb-true, ltb-false, Value, request, confirm, disconnect, disconnected, data0, data2, acknowledge, error, LinkFault, OutOfSequence, CreditReduced, TsduTooLong, longest_tsdu, Ends, unit_size, fresh_ends, Flow, Sender, steps_before, acknowledged, is_awaited, ack_number, after_acked, Joining, with_part, joined, Standing, Given, ack, given_part, next_by, next, with_joined, with_sender, taken_by, taken, taken_flow, sent_flow, zero_standing, two_standing, fresh_two, Move, hand_in, give_out, take_in, hand_out, Moves, IsSound, IsSoundFlow, TakesInRange, Part, give}
+use Rattle.osi_class.proofs.Vocabulary.{pow-le-pow_right, ltb-true, ltb-false, Value, request, confirm, disconnect, disconnected, data0}
+use Rattle.osi_class.proofs.Vocabulary.{data2, acknowledge, error, LinkFault, OutOfSequence, CreditReduced, TsduTooLong, longest_tsdu, Ends}
+use Rattle.osi_class.proofs.Vocabulary.{unit_size, fresh_ends, Flow, Sender, steps_before, acknowledged, is_awaited, ack_number}
+use Rattle.osi_class.proofs.Vocabulary.{after_acked, Joining, with_part, joined, Standing, Given, ack, given_part, next_by, next}
+use Rattle.osi_class.proofs.Vocabulary.{with_joined, with_sender, taken_by, taken, taken_flow, sent_flow, zero_standing, two_standing}
+use Rattle.osi_class.proofs.Vocabulary.{fresh_two, Move, hand_in, give_out, take_in, hand_out, Moves, IsSound, IsSoundFlow, TakesInRange}
+use Rattle.osi_class.proofs.Vocabulary.{Part, give}
 use Rattle.osi_class.proofs.giving.a_link_gives_finitely_many_units.{giving_leaves}
 use Rattle.osi_class.proofs.between.parts_stay_in_order.{choose_some, choose_ok, at_some, at_ok}
 
 -- what a call does to bounds
 abbrev Safe : Ends → Option Flow → Standing → Type 0
-Safe e flow new = (new.ends.limit ≡ e.limit) × (length new.ends.joining.begun ≤ longest_tsdu) × IfSome new.flow IsSoundFlow × (is_some new.flow ≡ is_some flow)
+Safe e flow new = (new.ends.limit ≡ e.limit) × (length new.ends.joining.begun ≤ longest_tsdu) × IfSome new.flow IsSoundFlow ×
+    (is_some new.flow ≡ is_some flow)
 
 zero_safe : (e : Ends) → length e.joining.begun ≤ longest_tsdu → (o : Option (Part × List (List ℕ))) →
     IfSome (given_part e None None o) (λ p. Safe e None p.1)
 zero_safe e begun None = tt
 zero_safe e begun (Some ((end, octets), rest)) = (refl, begun, tt, refl)
 
-two_safe : (e : Ends) (f g : Flow) (number : ℕ) → length e.joining.begun ≤ longest_tsdu → IsSoundFlow g → (o : Option (Part × List (List ℕ))) →
+two_safe : (e : Ends) (f g : Flow) (number : ℕ) → length e.joining.begun ≤ longest_tsdu → IsSoundFlow g →
+    (o : Option (Part × List (List ℕ))) →
     IfSome (given_part e (Some g) (Some number) o) (λ p. Safe e (Some f) p.1)
 two_safe e f g number begun sound None = tt
 two_safe e f g number begun sound (Some ((end, octets), rest)) = (refl, begun, sound, refl)
@@ -49,7 +58,8 @@ part_safe j true octets short = omega arith
 joined_short : (j : Joining) (end : Bool) (octets : List ℕ) →
     IfOk (joined j end octets) (λ (k : Joining). length k.begun ≤ longest_tsdu)
 joined_short j end octets =
-    choose_ok (λ (k : Joining). length k.begun ≤ longest_tsdu) (nat_lt longest_tsdu (length j.begun + length octets)) (Err TsduTooLong) (Ok (with_part j end octets))
+    choose_ok (λ (k : Joining). length k.begun ≤ longest_tsdu) (nat_lt longest_tsdu (length j.begun + length octets)) (Err TsduTooLong)
+        (Ok (with_part j end octets))
     (λ _. tt)
     (λ b. part_safe j end octets (ltb-false longest_tsdu (length j.begun + length octets) b))
 
@@ -71,7 +81,8 @@ acknowledged_sound : (s : Sender) (number credit : ℕ) → s.next < 128 → cre
 acknowledged_sound s number credit below most =
     let left = steps_before s.next number in
     choose_ok IsSoundSender (nat_lt s.unacknowledged left) (Err OutOfSequence)
-    (if nat_lt credit (s.credit + left) then Err CreditReduced else Ok (record { next = s.next; unacknowledged = left; credit = credit - left }))
+    (if nat_lt credit (s.credit + left) then Err CreditReduced else
+        Ok (record { next = s.next; unacknowledged = left; credit = credit - left }))
     (λ _. tt)
     (λ _. choose_ok IsSoundSender (nat_lt credit (s.credit + left)) (Err CreditReduced)
     (Ok (record { next = s.next; unacknowledged = left; credit = credit - left }))
@@ -79,7 +90,8 @@ acknowledged_sound s number credit below most =
     (λ b. let enough : s.credit + left ≤ credit = ltb-false credit (s.credit + left) b in
     record { next = below; credit = omega arith }))
 
-sender_safe : (e : Ends) (f : Flow) → length e.joining.begun ≤ longest_tsdu → IsSoundFlow f → (r : Result Sender LinkFault) → IfOk r IsSoundSender →
+sender_safe : (e : Ends) (f : Flow) → length e.joining.begun ≤ longest_tsdu → IsSoundFlow f → (r : Result Sender LinkFault) →
+    IfOk r IsSoundSender →
     IfOk (with_sender e f r) (Safe e (Some f))
 sender_safe e f begun h (Err fault) sound = tt
 sender_safe e f begun h (Ok sender) sound = (
@@ -101,16 +113,19 @@ second true b e = e
 second false b e = cc
 
 awaited_open : (f : Flow) (number : ℕ) → is_awaited f.receiver number ≡ true → f.receiver.waiting < f.receiver.window
-awaited_open f number e = ltb-true f.receiver.waiting f.receiver.window (second (number == f.receiver.expected) (nat_lt f.receiver.waiting f.receiver.window) e)
+awaited_open f number e =
+    ltb-true f.receiver.waiting f.receiver.window (second (number == f.receiver.expected) (nat_lt f.receiver.waiting f.receiver.window) e)
 
-taken_safe : (e : Ends) (flow : Option Flow) (unit : Value) → length e.joining.begun ≤ longest_tsdu → IfSome flow IsSoundFlow → values.HasFieldsInRange unit →
+taken_safe : (e : Ends) (flow : Option Flow) (unit : Value) → length e.joining.begun ≤ longest_tsdu → IfSome flow IsSoundFlow →
+    values.HasFieldsInRange unit →
     IfOk (taken_by e flow unit) (Safe e flow)
 taken_safe e None (data0 end octets) begun sound range =
     joined_safe e None None tt refl (joined e.joining end octets) (joined_short e.joining end octets)
 taken_safe e (Some f) (data2 destination number end octets) begun sound range =
     choose_ok (Safe e (Some f)) (is_awaited f.receiver number)
     (with_joined e (Some (taken_flow f)) (joined e.joining end octets)) (Err OutOfSequence)
-    (λ b. joined_safe e (Some f) (Some (taken_flow f)) (taken_sound f sound (awaited_open f number b)) refl (joined e.joining end octets) (joined_short e.joining end octets))
+    (λ b. joined_safe e (Some f) (Some (taken_flow f)) (taken_sound f sound (awaited_open f number b)) refl (joined e.joining end octets)
+        (joined_short e.joining end octets))
     (λ _. tt)
 taken_safe e (Some f) (acknowledge credit destination number) begun sound range =
     sender_safe e f begun sound (acknowledged f.sender number credit) (acknowledged_sound f.sender number credit sound.next range.0)
@@ -122,7 +137,8 @@ taken_safe e (Some f) (disconnected destination source) begun sound range = tt
 taken_safe e (Some f) (error destination cause) begun sound range = tt
 taken_safe e None _ begun sound range = tt
 
-move_safe : (move : Move) (old new : Standing) → length old.ends.joining.begun ≤ longest_tsdu → IfSome old.flow IsSoundFlow → TakesInRange move →
+move_safe : (move : Move) (old new : Standing) → length old.ends.joining.begun ≤ longest_tsdu → IfSome old.flow IsSoundFlow →
+    TakesInRange move →
     Moves move old new → Safe old.ends old.flow new
 move_safe (hand_in tsdu) old new begun sound range e =
     subst (λ (s : Standing). Safe old.ends old.flow s) (sym e) (refl, begun, sound, refl)

@@ -1,7 +1,14 @@
 -- What one call of a link preserves, and a list of calls.
-use Rattle.std.proofs.Common.{◌≡◌, ℕ, Bool, List, [], ◌∷◌, ◌++◌, Option, Some, None, Result, Ok, Err, refl, sym, ◌∙◌, ap, subst, nat_lt, if◌then◌else◌, IfSome, IfOk}
-use Rattle.osi_class.proofs.Vocabulary.{append_assoc, Value, request, confirm, disconnect, disconnected, data0, data2, acknowledge, error, LinkFault, OutOfSequence, Ends, Flow, Sender, acknowledged, is_awaited, ack_number, after_acked, Joining, joined, Standing, Given, ack, given_part, next_by, next, with_joined, with_sender, taken_by, taken, taken_flow, sent_flow, two_standing, Move, hand_in, give_out, take_in, hand_out, Moves, MovesAlong, given_parts, unit_parts, tsdu_in, part_out, part_in, tsdu_out, tsdus_in, parts_out, parts_in, tsdus_out, Part, tsdus_after, uncut, give, MakeTheSame}
-use Rattle.osi_class.proofs.between.parts_stay_in_order.{choose_some, choose_ok, at_some, at_ok, same_behind_all, Cuts, give_cuts, made, joined_makes, JoinsPart}
+use Rattle.std.proofs.Common.{◌≡◌, ℕ, Bool, List, [], ◌∷◌, ◌++◌, Option, Some, None, Result, Ok, Err, refl, sym, ◌∙◌, ap, subst, nat_lt}
+use Rattle.std.proofs.Common.{if◌then◌else◌, IfSome, IfOk}
+use Rattle.osi_class.proofs.Vocabulary.{append_assoc, Value, request, confirm, disconnect, disconnected, data0, data2, acknowledge, error}
+use Rattle.osi_class.proofs.Vocabulary.{LinkFault, OutOfSequence, Ends, Flow, Sender, acknowledged, is_awaited, ack_number, after_acked}
+use Rattle.osi_class.proofs.Vocabulary.{Joining, joined, Standing, Given, ack, given_part, next_by, next, with_joined, with_sender}
+use Rattle.osi_class.proofs.Vocabulary.{taken_by, taken, taken_flow, sent_flow, two_standing, Move, hand_in, give_out, take_in, hand_out}
+use Rattle.osi_class.proofs.Vocabulary.{Moves, MovesAlong, given_parts, unit_parts, tsdu_in, part_out, part_in, tsdu_out, tsdus_in}
+use Rattle.osi_class.proofs.Vocabulary.{parts_out, parts_in, tsdus_out, Part, tsdus_after, uncut, give, MakeTheSame}
+use Rattle.osi_class.proofs.between.parts_stay_in_order.{choose_some, choose_ok, at_some, at_ok, same_behind_all, Cuts, give_cuts, made}
+use Rattle.osi_class.proofs.between.parts_stay_in_order.{joined_makes, JoinsPart}
 
 -- what a call preserves of what is sent, with these parts given and these TSDUs handed in
 pub record Sends (old new : Ends) (ps : List Part) (ts : List (List ℕ)) : Type 0 where
@@ -88,7 +95,9 @@ pub move_keeps : (move : Move) (old new : Standing) → Moves move old new →
 move_keeps (hand_in tsdu) old new e =
     let P : Standing → Type 0 = λ s. Keeps old.ends s.ends [] (tsdu ∷ []) [] [] in
     subst P (sym e) (record {
-      sends = record { same = λ later begun. ap (λ (u : List (List ℕ)). tsdus_after begun (uncut u)) (append_assoc old.ends.unsent (tsdu ∷ []) later) };
+      sends = record
+          { same = λ later begun. ap (λ (u : List (List ℕ)). tsdus_after begun (uncut u)) (append_assoc old.ends.unsent (tsdu ∷ []) later)
+          };
       takes = record { same = λ later. refl };
     })
 move_keeps (give_out unit) old new e = at_some (NextKeeps old.ends) (next old) (unit, new) (next_keeps old.ends old.flow) e
@@ -108,9 +117,12 @@ sends_run old new [] e later begun = ap (λ (s : Standing). tsdus_after begun (u
 sends_run old new (move ∷ moves) (mid, first, rest) later begun =
     let one = (move_keeps move old mid first).sends.same (tsdus_in moves ++ later) begun in
     let more = sends_run mid new moves rest later in
-    let left = ap (λ (ps : List Part). tsdus_after begun ps) (append_assoc (part_out move) (parts_out moves) (uncut (new.ends.unsent ++ later))) in
-    let behind = same_behind_all (part_out move) (parts_out moves ++ uncut (new.ends.unsent ++ later)) (uncut (mid.ends.unsent ++ (tsdus_in moves ++ later))) more begun in
-    let right = ap (λ (ts : List (List ℕ)). tsdus_after begun (uncut (old.ends.unsent ++ ts))) (append_assoc (tsdu_in move) (tsdus_in moves) later) in
+    let left = ap (λ (ps : List Part). tsdus_after begun ps)
+        (append_assoc (part_out move) (parts_out moves) (uncut (new.ends.unsent ++ later))) in
+    let behind = same_behind_all (part_out move) (parts_out moves ++ uncut (new.ends.unsent ++ later))
+        (uncut (mid.ends.unsent ++ (tsdus_in moves ++ later))) more begun in
+    let right = ap (λ (ts : List (List ℕ)). tsdus_after begun (uncut (old.ends.unsent ++ ts)))
+        (append_assoc (tsdu_in move) (tsdus_in moves) later) in
     left ∙ behind ∙ one ∙ sym right
 
 pub takes_run : (old new : Standing) (moves : List Move) (later : List Part) → MovesAlong old moves new →

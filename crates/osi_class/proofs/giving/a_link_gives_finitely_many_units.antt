@@ -1,6 +1,9 @@
 -- All that a link gives: a finite list of units.
-use Rattle.std.proofs.Common.{◌≡◌, ℕ, zero, suc, ◌-◌, ◌<◌, ◌≤◌, List, [], ◌∷◌, map, Option, Some, None, refl, sym, ◌∙◌, ap, arith, nat_lt, is_some, if◌then◌else◌, IfSome}
-use Rattle.osi_class.proofs.Vocabulary.{Ends, Flow, ack_number, after_acked, Drained, drained_by, drained_within, drained, left_to_give, Standing, Given, ack, given_part, next_by, next, sent_flow, two_standing, is_of_two, give_out, MovesAlong, Part, give}
+use Rattle.std.proofs.Common.{◌≡◌, ℕ, zero, suc, ◌-◌, ◌<◌, ◌≤◌, List, [], ◌∷◌, map, Option, Some, None, refl, sym, ◌∙◌, ap, arith, nat_lt}
+use Rattle.std.proofs.Common.{is_some, if◌then◌else◌, IfSome}
+use Rattle.osi_class.proofs.Vocabulary.{Ends, Flow, ack_number, after_acked, Drained, drained_by, drained_within, drained, left_to_give}
+use Rattle.osi_class.proofs.Vocabulary.{Standing, Given, ack, given_part, next_by, next, sent_flow, two_standing, is_of_two, give_out}
+use Rattle.osi_class.proofs.Vocabulary.{MovesAlong, Part, give}
 use Rattle.osi_class.proofs.giving.giving_ends.{giving_lowers}
 use Rattle.osi_class.proofs.between.parts_stay_in_order.{choose_some, at_some}
 
@@ -108,7 +111,8 @@ drained_ends s room = within_ends (left_to_give s) s room (omega arith)
 within_moves : (n : ℕ) (s : Standing) → MovesAlong s (map give_out (drained_within n s).units) (drained_within n s).link
 within_moves zero s = refl
 within_moves (suc n) s =
-    elim (next s) as (λ o. next s ≡ o → MovesAlong s (map give_out (drained_by o s (drained_within n)).units) (drained_by o s (drained_within n)).link) [
+    elim (next s) as (λ o. next s ≡ o →
+        MovesAlong s (map give_out (drained_by o s (drained_within n)).units) (drained_by o s (drained_within n)).link) [
       | None ↦ λ e. refl
       | Some p ↦ λ e. (p.1, e, within_moves n p.1)
     ] refl
@@ -122,7 +126,8 @@ within_leaves : (n : ℕ) (s : Standing) → ((drained_within n s).link.ends.lim
 within_leaves zero s = (refl, refl, refl)
 within_leaves (suc n) s =
     elim (next s) as (λ o. next s ≡ o → ((drained_by o s (drained_within n)).link.ends.limit ≡ s.ends.limit) ×
-    ((drained_by o s (drained_within n)).link.ends.joining ≡ s.ends.joining) × (is_some (drained_by o s (drained_within n)).link.flow ≡ is_some s.flow)) [
+    ((drained_by o s (drained_within n)).link.ends.joining ≡ s.ends.joining) ×
+        (is_some (drained_by o s (drained_within n)).link.flow ≡ is_some s.flow)) [
       | None ↦ λ e. (refl, refl, refl)
       | Some p ↦ λ e. let one = giving_leaves s p.1 p.0 e in
           let more = within_leaves n p.1 in

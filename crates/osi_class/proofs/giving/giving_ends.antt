@@ -1,6 +1,8 @@
 -- Giving terminates: each unit that is given leaves less to give.
-use Rattle.std.proofs.Common.{◌≡◌, ℕ, ◌+◌, ◌<◌, true, false, List, [], ◌∷◌, length, take, drop, Option, Some, None, arith, nat_lt, if◌then◌else◌, IfSome, length-drop}
-use Rattle.osi_class.proofs.Vocabulary.{ltb-true, Ends, Flow, ack_number, after_acked, Standing, Given, ack, given_part, next_by, next, sent_flow, two_standing, left_of_tsdus, left_of_acks, left_to_give, Part, give}
+use Rattle.std.proofs.Common.{◌≡◌, ℕ, ◌+◌, ◌<◌, true, false, List, [], ◌∷◌, length, take, drop, Option, Some, None, arith, nat_lt}
+use Rattle.std.proofs.Common.{if◌then◌else◌, IfSome, length-drop}
+use Rattle.osi_class.proofs.Vocabulary.{ltb-true, Ends, Flow, ack_number, after_acked, Standing, Given, ack, given_part, next_by, next}
+use Rattle.osi_class.proofs.Vocabulary.{sent_flow, two_standing, left_of_tsdus, left_of_acks, left_to_give, Part, give}
 use Rattle.osi_class.proofs.between.parts_stay_in_order.{choose_some, at_some}
 
 abbrev Less : List (List ℕ) → Part × List (List ℕ) → Type 0

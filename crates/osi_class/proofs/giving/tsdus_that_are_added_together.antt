@@ -1,6 +1,9 @@
 -- TSDUs that are added to those to be sent together.
-use Rattle.std.proofs.Common.{◌≡◌, ℕ, zero, suc, ◌<◌, ◌≤◌, Bool, true, false, List, [], ◌∷◌, ◌++◌, length, take, drop, map, Option, Some, None, refl, sym, ◌∙◌, ap, subst, arith, nat_lt, if◌then◌else◌}
-use Rattle.osi_class.proofs.Vocabulary.{append_assoc, Ends, Flow, ack_number, after_acked, Drained, drained, all_given, left_to_give, given_one_by_one, one_by_one, Standing, Given, ack, with_tsdu, with_tsdus, next, next_by, given_part, two_standing, sent_flow, hand_in, MovesAlong, Part, give}
+use Rattle.std.proofs.Common.{◌≡◌, ℕ, zero, suc, ◌<◌, ◌≤◌, Bool, true, false, List, [], ◌∷◌, ◌++◌, length, take, drop, map, Option, Some}
+use Rattle.std.proofs.Common.{None, refl, sym, ◌∙◌, ap, subst, arith, nat_lt, if◌then◌else◌}
+use Rattle.osi_class.proofs.Vocabulary.{append_assoc, Ends, Flow, ack_number, after_acked, Drained, drained, all_given, left_to_give}
+use Rattle.osi_class.proofs.Vocabulary.{given_one_by_one, one_by_one, Standing, Given, ack, with_tsdu, with_tsdus, next, next_by}
+use Rattle.osi_class.proofs.Vocabulary.{given_part, two_standing, sent_flow, hand_in, MovesAlong, Part, give}
 use Rattle.osi_class.proofs.giving.giving_ends.{giving_lowers}
 use Rattle.osi_class.proofs.giving.a_link_gives_finitely_many_units.{giving_leaves, drained_none, drained_some}
 use Rattle.osi_class.proofs.between.parts_stay_in_order.{append_nil}
@@ -17,7 +20,8 @@ behind_gave t (Some (p, more)) = Some (p, more ++ t ∷ [])
 give_behind : (limit : ℕ) (x t : List ℕ) (xs : List (List ℕ)) → give limit ((x ∷ xs) ++ t ∷ []) ≡ behind_gave t (give limit (x ∷ xs))
 give_behind limit x t xs = by (nat_lt limit (length x))
   where
-    by : (b : Bool) → (if◌then◌else◌ {A = Gave} b (Some ((false, take limit x), drop limit x ∷ (xs ++ t ∷ []))) (Some ((true, x), xs ++ t ∷ [])))
+    by : (b : Bool) →
+        (if◌then◌else◌ {A = Gave} b (Some ((false, take limit x), drop limit x ∷ (xs ++ t ∷ []))) (Some ((true, x), xs ++ t ∷ [])))
         ≡ behind_gave t (if◌then◌else◌ {A = Gave} b (Some ((false, take limit x), drop limit x ∷ xs)) (Some ((true, x), xs)))
     by true = refl
     by false = refl
@@ -47,10 +51,17 @@ next_behind : (e : Ends) (flow : Option Flow) (t : List ℕ) (unit : Given) (s :
 next_behind e None t unit s h = given_behind e None None t e.unsent unit s h
 next_behind e (Some f) t unit s h = by (nat_lt 0 f.receiver.waiting) (nat_lt 0 f.sender.credit) h
   where
-    by : (a c : Bool) → (if◌then◌else◌ {A = Next} a (Some (ack (ack_number f.receiver) f.receiver.window, two_standing e (record f { receiver = after_acked f.receiver })))
-        (if◌then◌else◌ {A = Next} c (given_part e (Some (sent_flow f)) (Some f.sender.next) (give e.limit e.unsent)) None)) ≡ Some (unit, s) →
-        (if◌then◌else◌ {A = Next} a (Some (ack (ack_number f.receiver) f.receiver.window, two_standing (record e { unsent = e.unsent ++ t ∷ [] }) (record f { receiver = after_acked f.receiver })))
-        (if◌then◌else◌ {A = Next} c (given_part (record e { unsent = e.unsent ++ t ∷ [] }) (Some (sent_flow f)) (Some f.sender.next) (give e.limit (e.unsent ++ t ∷ []))) None)) ≡ Some (unit, with_tsdu s t)
+    by : (a c : Bool) →
+        (if◌then◌else◌ {A = Next} a
+        (Some (ack (ack_number f.receiver) f.receiver.window, two_standing e (record f { receiver = after_acked f.receiver })))
+        (if◌then◌else◌ {A = Next} c (given_part e (Some (sent_flow f)) (Some f.sender.next) (give e.limit e.unsent)) None)) ≡ Some
+            (unit, s) →
+        (if◌then◌else◌ {A = Next} a
+            (Some (ack (ack_number f.receiver) f.receiver.window,
+            two_standing (record e { unsent = e.unsent ++ t ∷ [] }) (record f { receiver = after_acked f.receiver })))
+        (if◌then◌else◌ {A = Next} c
+            (given_part (record e { unsent = e.unsent ++ t ∷ [] }) (Some (sent_flow f)) (Some f.sender.next)
+            (give e.limit (e.unsent ++ t ∷ []))) None)) ≡ Some (unit, with_tsdu s t)
     by true c k = ap (behind_next t) k
     by false true k = given_behind e (Some (sent_flow f)) (Some f.sender.next) t e.unsent unit s k
     by false false k = absurd (cc)
@@ -58,13 +69,15 @@ next_behind e (Some f) t unit s h = by (nat_lt 0 f.receiver.waiting) (nat_lt 0 f
 -- ---- all that is given of one more
 
 abbrev both_given : Standing → List ℕ → Drained
-both_given s t = record { units = all_given s ++ all_given (with_tsdu (drained s).link t); link = (drained (with_tsdu (drained s).link t)).link }
+both_given s t =
+    record { units = all_given s ++ all_given (with_tsdu (drained s).link t); link = (drained (with_tsdu (drained s).link t)).link }
 
 -- what is given first, and then for one more
 abbrev then_given : List ℕ → Drained → Drained
 then_given t d = record { units = d.units ++ all_given (with_tsdu d.link t); link = (drained (with_tsdu d.link t)).link }
 
-step_given : (s x : Standing) (t : List ℕ) (unit : Given) → 0 < s.ends.limit → next s ≡ Some (unit, x) → drained (with_tsdu x t) ≡ both_given x t →
+step_given : (s x : Standing) (t : List ℕ) (unit : Given) → 0 < s.ends.limit → next s ≡ Some (unit, x) →
+    drained (with_tsdu x t) ≡ both_given x t →
     drained (with_tsdu s t) ≡ both_given s t
 step_given s x t unit room h more =
     drained_some (with_tsdu s t) (with_tsdu x t) unit room (next_behind s.ends s.flow t unit x h)
@@ -110,7 +123,8 @@ many_behind s (t ∷ ts) room =
     ∙ many_behind (with_tsdu s t) ts room
     ∙ ap (then_all ts) (one_behind (left_to_give s) s t room (omega arith))
     ∙ ap (λ (us : List Given). record { units = us; link = one_by_one (drained s).link (t ∷ ts) })
-    (append_assoc (all_given s) (all_given (with_tsdu (drained s).link t)) (given_one_by_one (drained (with_tsdu (drained s).link t)).link ts))
+    (append_assoc (all_given s) (all_given (with_tsdu (drained s).link t))
+        (given_one_by_one (drained (with_tsdu (drained s).link t)).link ts))
 
 pub many_at_once : (s : Standing) (ts : List (List ℕ)) → 0 < s.ends.limit → next s ≡ None →
     drained (with_tsdus s ts) ≡ record { units = given_one_by_one s ts; link = one_by_one s ts }
@@ -119,4 +133,5 @@ many_at_once s ts room quiet = many_behind s ts room ∙ ap (then_all ts) (drain
 -- the calls of send_tsdu that put them there
 pub many_moves : (s : Standing) (ts : List (List ℕ)) → MovesAlong s (map hand_in ts) (with_tsdus s ts)
 many_moves s [] = put_none s
-many_moves s (t ∷ ts) = (with_tsdu s t, refl, subst (MovesAlong (with_tsdu s t) (map hand_in ts)) (put_first s t ts) (many_moves (with_tsdu s t) ts))
+many_moves s (t ∷ ts) =
+    (with_tsdu s t, refl, subst (MovesAlong (with_tsdu s t) (map hand_in ts)) (put_first s t ts) (many_moves (with_tsdu s t) ts))

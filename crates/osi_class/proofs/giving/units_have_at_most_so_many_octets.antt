@@ -1,7 +1,11 @@
 -- An upper bound on the octets of the units that a link gives.
-use Rattle.std.proofs.Common.{◌≡◌, ℕ, zero, suc, ◌+◌, ◌-◌, ◌*◌, ◌<◌, ◌≤◌, true, false, List, [], ◌∷◌, length, take, drop, map, get_or, Option, Some, None, refl, sym, ◌∙◌, ap, subst, arith, nat_lt, if◌then◌else◌, IfSome, length-drop}
+use Rattle.std.proofs.Common.{◌≡◌, ℕ, zero, suc, ◌+◌, ◌-◌, ◌*◌, ◌<◌, ◌≤◌, true, false, List, [], ◌∷◌, length, take, drop, map, get_or}
+use Rattle.std.proofs.Common.{Option, Some, None, refl, sym, ◌∙◌, ap, subst, arith, nat_lt, if◌then◌else◌, IfSome, length-drop}
 use Rattle.std.proofs.lemmas.List.Sums.{sum_by-cons}
-use Rattle.osi_class.proofs.Vocabulary.{min, ltb-true, ltb-false, length-take-le, Ends, Flow, ack_number, after_acked, drained_by, drained_within, drained, all_given, left_to_give, octets_of, octets_in, parts_needed, octets_in_parts, most_by, most_given, Standing, Given, ack, given_part, next_by, next, two_standing, sent_flow, Part, give}
+use Rattle.osi_class.proofs.Vocabulary.{min, ltb-true, ltb-false, length-take-le, Ends, Flow, ack_number, after_acked, drained_by}
+use Rattle.osi_class.proofs.Vocabulary.{drained_within, drained, all_given, left_to_give, octets_of, octets_in, parts_needed}
+use Rattle.osi_class.proofs.Vocabulary.{octets_in_parts, most_by, most_given, Standing, Given, ack, given_part, next_by, next, two_standing}
+use Rattle.osi_class.proofs.Vocabulary.{sent_flow, Part, give}
 use Rattle.osi_class.proofs.giving.a_link_gives_finitely_many_units.{giving_leaves}
 use Rattle.osi_class.proofs.between.parts_stay_in_order.{choose_some, at_some}
 use Rattle.osi_class.proofs.giving.the_units_of_one_tsdu.{more_credit, one_part, parts_cut}
@@ -11,7 +15,8 @@ one_more n headers = omega arith
 
 -- one part less
 less_parts : (headers limit : ℕ) (tsdu : List ℕ) (more : List (List ℕ)) →
-    octets_in_parts headers limit (tsdu ∷ more) ≡ length tsdu + parts_needed limit (length tsdu) * headers + octets_in_parts headers limit more
+    octets_in_parts headers limit (tsdu ∷ more) ≡ length tsdu + parts_needed limit (length tsdu) * headers + octets_in_parts headers limit
+        more
 less_parts headers limit tsdu more = sum_by-cons (λ (t : List ℕ). length t + parts_needed limit (length t) * headers) tsdu more
 
 -- the next part, with its headers, and what is left after it make up what was left
@@ -32,17 +37,20 @@ cut_parts headers limit t more room longer =
     ap (λ (n : ℕ). n * headers) count ∙ (let m : ℕ = parts_needed limit (length (drop limit t)) in one_more m headers) in
     (omega (arith, front, behind, before, after, headed), omega (arith, front))
 
-whole_parts : (headers limit : ℕ) (t : List ℕ) (more : List (List ℕ)) → 0 < limit → length t ≤ limit → Parts headers limit (t ∷ more) ((true, t), more)
+whole_parts : (headers limit : ℕ) (t : List ℕ) (more : List (List ℕ)) → 0 < limit → length t ≤ limit →
+    Parts headers limit (t ∷ more) ((true, t), more)
 whole_parts headers limit t more room short =
     let before = less_parts headers limit t more in
     let count : parts_needed limit (length t) ≡ 1 = one_part limit (length t) room short in
-    let headed : parts_needed limit (length t) * headers ≡ headers = ap (λ (n : ℕ). n * headers) count ∙ (let one : 1 * headers ≡ headers = omega arith in one) in
+    let headed : parts_needed limit (length t) * headers ≡ headers = ap (λ (n : ℕ). n * headers) count ∙
+        (let one : 1 * headers ≡ headers = omega arith in one) in
     (omega (arith, before, headed), short)
 
 give_parts : (headers limit : ℕ) → 0 < limit → (unsent : List (List ℕ)) → IfSome (give limit unsent) (Parts headers limit unsent)
 give_parts headers limit room [] = tt
 give_parts headers limit room (t ∷ more) =
-    choose_some (Parts headers limit (t ∷ more)) (nat_lt limit (length t)) (Some ((false, take limit t), drop limit t ∷ more)) (Some ((true, t), more))
+    choose_some (Parts headers limit (t ∷ more)) (nat_lt limit (length t)) (Some ((false, take limit t), drop limit t ∷ more))
+        (Some ((true, t), more))
     (λ b. cut_parts headers limit t more room (ltb-true limit (length t) b))
     (λ b. whole_parts headers limit t more room (ltb-false limit (length t) b))
 
@@ -60,17 +68,20 @@ part_within : (waits octets headers limit left all credit : ℕ) → octets + he
     octets + headers + (waits + min left ((credit - 1) * (limit + headers))) ≤ waits + min all (credit * (limit + headers))
 part_within waits octets headers limit left all credit is short some = omega (arith, more_credit)
 
-two_within : (headers : ℕ) (e : Ends) (f : Flow) (o : Option (Part × List (List ℕ))) → IfSome o (Parts headers e.limit e.unsent) → 0 < f.sender.credit →
+two_within : (headers : ℕ) (e : Ends) (f : Flow) (o : Option (Part × List (List ℕ))) → IfSome o (Parts headers e.limit e.unsent) →
+    0 < f.sender.credit →
     IfSome (given_part e (Some (sent_flow f)) (Some f.sender.next) o) (Within headers (most_by headers e (Some f)))
 two_within headers e f None parts some = tt
 two_within headers e f (Some ((end, octets), rest)) parts some =
-    part_within (f.receiver.waiting * headers) (length octets) headers e.limit (octets_in_parts headers e.limit rest) (octets_in_parts headers e.limit e.unsent)
+    part_within (f.receiver.waiting * headers) (length octets) headers e.limit (octets_in_parts headers e.limit rest)
+        (octets_in_parts headers e.limit e.unsent)
     f.sender.credit parts.0 parts.1 some
 
 ack_within : (waiting headers more : ℕ) → 0 < waiting → 0 + headers + ((waiting - 1) * headers + more) ≤ waiting * headers + more
 ack_within waiting headers more some = let fewer = more_credit waiting headers some in omega (arith, fewer)
 
-next_within : (headers : ℕ) (e : Ends) (flow : Option Flow) → 0 < e.limit → IfSome (next_by e flow) (Within headers (most_by headers e flow))
+next_within : (headers : ℕ) (e : Ends) (flow : Option Flow) → 0 < e.limit →
+    IfSome (next_by e flow) (Within headers (most_by headers e flow))
 next_within headers e None room = zero_within headers e (give e.limit e.unsent) (give_parts headers e.limit room e.unsent)
 next_within headers e (Some f) room =
     let most = most_by headers e (Some f) in
@@ -105,17 +116,20 @@ within_take headers (suc n) s room =
       | Some p ↦ λ e. let step = giving_within headers s p.1 p.0 room e in
           let same = (giving_leaves s p.1 p.0 e).limit in
           let more = within_take headers n p.1 (omega arith) in
-          unit_more headers (octets_in (drained_within n p.1).units) (length (drained_within n p.1).units) (octets_of p.0) (most_given headers p.1)
+          unit_more headers (octets_in (drained_within n p.1).units) (length (drained_within n p.1).units) (octets_of p.0)
+              (most_given headers p.1)
           (most_given headers s) more step
     ] refl
 
-pub all_take : (headers : ℕ) (s : Standing) → 0 < s.ends.limit → octets_in (all_given s) + length (all_given s) * headers ≤ most_given headers s
+pub all_take : (headers : ℕ) (s : Standing) → 0 < s.ends.limit →
+    octets_in (all_given s) + length (all_given s) * headers ≤ most_given headers s
 unfolding drained
 all_take headers s room = within_take headers (left_to_give s) s room
 
 -- one TSDU and those before it take no more than all
 some_at : {V : Type 0} (items : V → List ℕ) (headers limit i : ℕ) (vs : List V) (d : V) → i < length vs →
-    octets_in_parts headers limit (map items (take i vs)) + (length (items (get_or vs i d)) + parts_needed limit (length (items (get_or vs i d))) * headers)
+    octets_in_parts headers limit
+        (map items (take i vs)) + (length (items (get_or vs i d)) + parts_needed limit (length (items (get_or vs i d))) * headers)
     ≤ octets_in_parts headers limit (map items vs)
 some_at items headers limit i [] d within = absurd (omega arith)
 some_at items headers limit zero (v ∷ vs) d within = let all = less_parts headers limit (items v) (map items vs) in omega (arith, all)
@@ -123,7 +137,8 @@ some_at items headers limit (suc i) (v ∷ vs) d within = omega (arith, less_par
 
 pub some_of_all : {V : Type 0} (items : V → List ℕ) (headers limit i octets : ℕ) (vs : List V) (v : V) → i < length vs → v ≡ get_or vs i v →
     octets ≡ length (items v) →
-    octets_in_parts headers limit (map items (take i vs)) + (octets + parts_needed limit octets * headers) ≤ octets_in_parts headers limit (map items vs)
+    octets_in_parts headers limit (map items (take i vs)) + (octets + parts_needed limit octets * headers) ≤ octets_in_parts headers limit
+        (map items vs)
 some_of_all items headers limit i octets vs v within is size =
     let P : ℕ → Type 0 = λ n. octets_in_parts headers limit (map items (take i vs)) + (n + parts_needed limit n * headers)
     ≤ octets_in_parts headers limit (map items vs) in

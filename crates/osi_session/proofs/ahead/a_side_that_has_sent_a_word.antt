@@ -1,9 +1,13 @@
 -- A side that has already sent a word takes TSDUs just as the side that has not, for the words that may be sent first.
-use Rattle.std.proofs.Common.{◌≡◌, ◌∙◌, refl, sym, ap, subst, ℕ, Bool, true, false, not, ◌||◌, ◌⊎◌, inl, inr, if◌then◌else◌, List, [], ◌∷◌, length, Option, Some, None, option_map, Result, Ok, Err}
+use Rattle.std.proofs.Common.{◌≡◌, ◌∙◌, refl, sym, ap, subst, ℕ, Bool, true, false, not, ◌||◌, ◌⊎◌, inl, inr, if◌then◌else◌, List, [], ◌∷◌}
+use Rattle.std.proofs.Common.{length, Option, Some, None, option_map, Result, Ok, Err}
 use Rattle.osi_message.specs.Words.{Word, Words}
 use Rattle.osi_session.specs.Standing.{Seen, Count, counted, kept_count}
 use Rattle.osi_session.specs.Steady.{Hears}
-use Rattle.osi_session.proofs.Vocabulary.{cases_Bool, SpduFault, Spelling, Phase, Aborting, State, is_over, is_wait_transport, may_hold, Meaning, replies_abort, first_reply, is_faulty, respond_unit, respond_fault, nothing, bad, Taker, Hearing, heard_then, word_verdict, respond_word, respond_words, acting_words, respond_came, said_at}
+use Rattle.osi_session.proofs.Vocabulary.{cases_Bool, SpduFault, Spelling, Phase, Aborting, State, is_over, is_wait_transport, may_hold}
+use Rattle.osi_session.proofs.Vocabulary.{Meaning, replies_abort, first_reply, is_faulty, respond_unit, respond_fault, nothing, bad, Taker}
+use Rattle.osi_session.proofs.Vocabulary.{Hearing, heard_then, word_verdict, respond_word, respond_words, acting_words, respond_came}
+use Rattle.osi_session.proofs.Vocabulary.{said_at}
 use Rattle.osi_session.proofs.tsdu.words_one_after_the_other.{good_then}
 use Rattle.osi_session.proofs.tsdu.the_effect_of_a_word.{word_told}
 use Rattle.osi_session.proofs.tables.what_is_true_of_each_phase.{excluded}
@@ -30,19 +34,23 @@ pub record IsAheadBy (P : State → Type 0) (gone : Phase → Bool) (f : State �
   pub phase : (s : State) → (f s).phase ≡ s.phase
   pub ends : (s : State) (u : Meaning) → gone s.phase ≡ true → gone (respond_unit s u).next.phase ≡ true
   pub aborts : gone Aborting ≡ true
-  pub step : (t : Taker) (v : Word) → P t.state → (respond_word t v).reply ≡ None → Goes P gone f (respond_word t v) (respond_word (shifted f t) v)
+  pub step : (t : Taker) (v : Word) → P t.state → (respond_word t v).reply ≡ None →
+      Goes P gone f (respond_word t v) (respond_word (shifted f t) v)
 
 -- ---- what is gone stays gone
 
-gone_word : (P : State → Type 0) (gone : Phase → Bool) (f : State → State) → IsAheadBy P gone f → (t : Taker) (v : Word) → gone t.state.phase ≡ true
+gone_word : (P : State → Type 0) (gone : Phase → Bool) (f : State → State) → IsAheadBy P gone f → (t : Taker) (v : Word) →
+    gone t.state.phase ≡ true
     → gone (respond_word t v).next.state.phase ≡ true
 gone_word P gone f a t v h = word_keeps (λ s. gone s.phase ≡ true) t v (λ u acts. a.ends t.state u h) (λ o. a.aborts) h
 
-either_gone : (gone : Phase → Bool) (b : Bool) (x y : Hearing) → gone x.next.state.phase ≡ true → gone y.next.state.phase ≡ true → gone (if b then x else y).next.state.phase ≡ true
+either_gone : (gone : Phase → Bool) (b : Bool) (x y : Hearing) → gone x.next.state.phase ≡ true → gone y.next.state.phase ≡ true →
+    gone (if b then x else y).next.state.phase ≡ true
 either_gone gone true x y h k = h
 either_gone gone false x y h k = k
 
-gone_words : (P : State → Type 0) (gone : Phase → Bool) (f : State → State) → IsAheadBy P gone f → (t : Taker) (vs : Words) → gone t.state.phase ≡ true
+gone_words : (P : State → Type 0) (gone : Phase → Bool) (f : State → State) → IsAheadBy P gone f → (t : Taker) (vs : Words) →
+    gone t.state.phase ≡ true
     → gone (respond_words t vs).next.state.phase ≡ true
 unfolding respond_words
 gone_words P gone f a t [] h = h
@@ -50,7 +58,8 @@ gone_words P gone f a t (v ∷ vs) h =
     let one = gone_word P gone f a t v h in
     either_gone gone (is_faulty (word_verdict t v)) _ _ one (gone_words P gone f a (respond_word t v).next vs one)
 
-gone_fault : (gone : Phase → Bool) (s : State) (fault : SpduFault) → gone Aborting ≡ true → gone s.phase ≡ true → gone (respond_fault s fault).next.phase ≡ true
+gone_fault : (gone : Phase → Bool) (s : State) (fault : SpduFault) → gone Aborting ≡ true → gone s.phase ≡ true →
+    gone (respond_fault s fault).next.phase ≡ true
 unfolding respond_fault
 gone_fault gone s fault a h = by (is_over s.phase)
   where
@@ -58,7 +67,8 @@ gone_fault gone s fault a h = by (is_over s.phase)
     by true = h
     by false = a
 
-gone_came : (P : State → Type 0) (gone : Phase → Bool) (f : State → State) → IsAheadBy P gone f → (t : Taker) (came : Result Words SpduFault) → gone t.state.phase ≡ true
+gone_came : (P : State → Type 0) (gone : Phase → Bool) (f : State → State) → IsAheadBy P gone f →
+    (t : Taker) (came : Result Words SpduFault) → gone t.state.phase ≡ true
     → gone (respond_came t came).next.state.phase ≡ true
 gone_came P gone f a t (Ok words) h = gone_words P gone f a t (acting_words words) h
 gone_came P gone f a t (Err fault) h = gone_fault gone t.state fault a.aborts h
@@ -78,7 +88,8 @@ words_quiet : (t : Taker) (v : Word) (vs : Words) → (respond_words t (v ∷ vs
 unfolding respond_words
 words_quiet t v vs r = by (is_faulty (word_verdict t v)) refl r
   where
-    by : (b : Bool) → is_faulty (word_verdict t v) ≡ b → (if b then respond_word t v else heard_then (respond_word t v) (respond_words (respond_word t v).next vs)).reply ≡ None
+    by : (b : Bool) → is_faulty (word_verdict t v) ≡ b →
+        (if b then respond_word t v else heard_then (respond_word t v) (respond_words (respond_word t v).next vs)).reply ≡ None
         → ((respond_word t v).reply ≡ None) × ((respond_words (respond_word t v).next vs).reply ≡ None)
     by true e h = let k = quiet_good t v h in absurd (cc)
     by false e h = quiet_both (respond_word t v).reply _ h
@@ -90,7 +101,8 @@ both_shifted f h i k l a b = record {
   closes = ap (λ (c : Bool). c || l.closes) a.closes ∙ ap (λ (c : Bool). h.closes || c) b.closes;
 }
 
-words_go : (P : State → Type 0) (gone : Phase → Bool) (f : State → State) → IsAheadBy P gone f → (t : Taker) (vs : Words) → P t.state → (respond_words t vs).reply ≡ None
+words_go : (P : State → Type 0) (gone : Phase → Bool) (f : State → State) → IsAheadBy P gone f → (t : Taker) (vs : Words) → P t.state →
+    (respond_words t vs).reply ≡ None
     → Goes P gone f (respond_words t vs) (respond_words (shifted f t) vs)
 unfolding respond_words
 words_go P gone f a t [] p r = inr (p, record { next = refl; quiet = refl; closes = refl })
@@ -108,7 +120,8 @@ words_go P gone f a t (v ∷ vs) p r =
             | inr m ↦ inr (
               subst (λ (x : Hearing). P x.next.state) (sym whole) m.0,
               subst (λ (x : Hearing). Shifted f x (respond_words (shifted f t) (v ∷ vs))) (sym whole)
-                  (subst (λ (x : Hearing). Shifted f (heard_then h (respond_words h.next vs)) x) (sym ahead) (both_shifted f h (respond_words h.next vs) k (respond_words (shifted f h.next) vs) s.1 m.1)),
+                  (subst (λ (x : Hearing). Shifted f (heard_then h (respond_words h.next vs)) x) (sym ahead)
+                      (both_shifted f h (respond_words h.next vs) k (respond_words (shifted f h.next) vs) s.1 m.1)),
             )
           ])
     ]
@@ -123,10 +136,12 @@ fault_loud s fault o h = by (is_over s.phase) o h
     by true e k = cc
     by false e k = cc
 
-came_goes : (P : State → Type 0) (gone : Phase → Bool) (f : State → State) → IsAheadBy P gone f → (t : Taker) (came : Result Words SpduFault) → P t.state
+came_goes : (P : State → Type 0) (gone : Phase → Bool) (f : State → State) → IsAheadBy P gone f →
+    (t : Taker) (came : Result Words SpduFault) → P t.state
     → (respond_came t came).reply ≡ None → Goes P gone f (respond_came t came) (respond_came (shifted f t) came)
 came_goes P gone f a t (Ok words) p r = words_go P gone f a t (acting_words words) p r
-came_goes P gone f a t (Err fault) p r = absurd (fault_loud t.state fault (excluded may_hold is_over refl t.state.phase (a.holds t.state p)) r)
+came_goes P gone f a t (Err fault) p r =
+    absurd (fault_loud t.state fault (excluded may_hold is_over refl t.state.phase (a.holds t.state p)) r)
 
 -- ---- a side
 
@@ -141,17 +156,20 @@ came_of s tsdu j = respond_came (record { state = s.state; joined = j }) (said_a
 kept_held : (p : Phase) (n : Option ℕ) → may_hold p ≡ true → kept_count p n ≡ n
 kept_held p n h = rw h refl
 
-shifted_count : (f : State → State) (h k : Hearing) (c : Count) → Shifted f h k → counted h ≡ c → c.reply ≡ None → counted k ≡ record c { state = f c.state }
+shifted_count : (f : State → State) (h k : Hearing) (c : Count) → Shifted f h k → counted h ≡ c → c.reply ≡ None →
+    counted k ≡ record c { state = f c.state }
 shifted_count f h k c s e r =
     let next : k.next ≡ shifted f h.next = s.next in
     let reply : k.reply ≡ c.reply = s.quiet ∙ sym r in
     let closes : k.closes ≡ c.closes = s.closes ∙ ap (λ (x : Count). x.closes) e in
     let state : k.next.state ≡ f c.state = ap (λ (x : Taker). x.state) next ∙ ap (λ (x : Count). f x.state) e in
-    let joined : option_map length k.next.joined ≡ c.joined = ap (λ (x : Taker). option_map length x.joined) next ∙ ap (λ (x : Count). x.joined) e in
+    let joined : option_map length k.next.joined ≡ c.joined = ap (λ (x : Taker). option_map length x.joined) next ∙
+        ap (λ (x : Count). x.joined) e in
     λ i. record { state = state i; joined = joined i; reply = reply i; closes = closes i }
 
 -- both take one TSDU, or the word is gone
-pub hears_ahead : (P : State → Type 0) (gone : Phase → Bool) (f : State → State) (g : Option ℕ → Option ℕ) → IsAheadBy P gone f → (s t : Seen) (tsdu : List ℕ) → P s.state → Hears s tsdu t
+pub hears_ahead : (P : State → Type 0) (gone : Phase → Bool) (f : State → State) (g : Option ℕ → Option ℕ) → IsAheadBy P gone f →
+    (s t : Seen) (tsdu : List ℕ) → P s.state → Hears s tsdu t
     → (gone t.state.phase ≡ true) ⊎ (P t.state × Hears (leaves f g s) tsdu (leaves f g t))
 hears_ahead P gone f g a s t tsdu p h = elim (cases_Bool (gone h.count.state.phase)) [
   | inl y ↦ inl (subst (λ (x : Seen). gone x.state.phase ≡ true) (sym h.next) y)
@@ -159,9 +177,11 @@ hears_ahead P gone f g a s t tsdu p h = elim (cases_Bool (gone h.count.state.pha
 ]
   where
     went : (j : Option (List ℕ)) → option_map length j ≡ s.joined → Goes P gone f (came_of s tsdu j) (came_of (leaves f g s) tsdu j)
-    went j e = came_goes P gone f a (record { state = s.state; joined = j }) (said_at tsdu) p (ap (λ (c : Count). c.reply) (h.taken j e) ∙ h.quiet)
+    went j e = came_goes P gone f a (record { state = s.state; joined = j }) (said_at tsdu) p
+        (ap (λ (c : Count). c.reply) (h.taken j e) ∙ h.quiet)
 
-    went_on : gone h.count.state.phase ≡ false → (j : Option (List ℕ)) → option_map length j ≡ s.joined → P h.count.state × Shifted f (came_of s tsdu j) (came_of (leaves f g s) tsdu j)
+    went_on : gone h.count.state.phase ≡ false → (j : Option (List ℕ)) → option_map length j ≡ s.joined →
+        P h.count.state × Shifted f (came_of s tsdu j) (came_of (leaves f g s) tsdu j)
     went_on n j e = elim (went j e) [
       | inl y ↦ (let z = subst (λ (c : Count). gone c.state.phase ≡ true) (h.taken j e) y in absurd (cc))
       | inr m ↦ (subst (λ (c : Count). P c.state) (h.taken j e) m.0, m.1)
@@ -179,14 +199,17 @@ hears_ahead P gone f g a s t tsdu p h = elim (cases_Bool (gone h.count.state.pha
           record {
             count = record h.count { state = f h.count.state };
             listening = ap (λ (x : Phase). not (s.closed || is_wait_transport x)) (a.phase s.state) ∙ h.listening;
-            taken = λ j e. shifted_count f (came_of s tsdu j) (came_of (leaves f g s) tsdu j) h.count (went_on n j e).1 (h.taken j e) h.quiet;
+            taken = λ j e. shifted_count f (came_of s tsdu j) (came_of (leaves f g s) tsdu j) h.count (went_on n j e).1 (h.taken j e)
+                h.quiet;
             quiet = h.quiet;
-            next = ap (leaves f g) behind ∙ (λ i. record { state = f h.count.state; joined = h.count.joined; sent = sym ahead i; closed = s.closed || h.count.closes });
+            next = ap (leaves f g) behind ∙
+                (λ i. record { state = f h.count.state; joined = h.count.joined; sent = sym ahead i; closed = s.closed || h.count.closes });
           },
         )
 
 -- what is gone stays gone
-pub hears_gone : (P : State → Type 0) (gone : Phase → Bool) (f : State → State) → IsAheadBy P gone f → (s t : Seen) (tsdu : List ℕ) → gone s.state.phase ≡ true → Hears s tsdu t
+pub hears_gone : (P : State → Type 0) (gone : Phase → Bool) (f : State → State) → IsAheadBy P gone f → (s t : Seen) (tsdu : List ℕ) →
+    gone s.state.phase ≡ true → Hears s tsdu t
     → gone t.state.phase ≡ true
 hears_gone P gone f a s t tsdu g h =
     subst (λ (x : Seen). gone x.state.phase ≡ true) (sym h.next)

@@ -1,12 +1,16 @@
 -- A side that has sent a word at the first point at which it may, beside one that has not sent it: what both take, and
 -- what the other sends.
-use Rattle.std.proofs.Common.{◌≡◌, ◌∙◌, refl, sym, ap, subst, ℕ, ◌+◌, Bool, true, false, not, ◌&&◌, ◌||◌, ◌==◌, ◌⊎◌, inl, inr, is_none, unwrap_or, if◌then◌else◌, List, [], ◌∷◌, length, Option, Some, None, option_map}
+use Rattle.std.proofs.Common.{◌≡◌, ◌∙◌, refl, sym, ap, subst, ℕ, ◌+◌, Bool, true, false, not, ◌&&◌, ◌||◌, ◌==◌, ◌⊎◌, inl, inr, is_none}
+use Rattle.std.proofs.Common.{unwrap_or, if◌then◌else◌, List, [], ◌∷◌, length, Option, Some, None, option_map}
 use Rattle.osi_message.specs.Words.{Word, says, part}
 use Rattle.osi_session.specs.Standing.{Seen, goes, where_is, calling, may_send, stands_in_place, CanSay}
 use Rattle.osi_session.specs.Steady.{is_steady, Hears, HearsAll}
-use Rattle.osi_session.proofs.Vocabulary.{and_parts, Phase, State, Place, is_last, is_ready, may_hold, may_confirm_minor, limit_of, has_right, Call, Minor, MinorConfirm, DT, GT, MIA, MIP, PT, data_token, minor, available, minor_confirmed, point_sent}
+use Rattle.osi_session.proofs.Vocabulary.{and_parts, Phase, State, Place, is_last, is_ready, may_hold, may_confirm_minor, limit_of}
+use Rattle.osi_session.proofs.Vocabulary.{has_right, Call, Minor, MinorConfirm, DT, GT, MIA, MIP, PT, data_token, minor, available}
+use Rattle.osi_session.proofs.Vocabulary.{minor_confirmed, point_sent}
 use Rattle.osi_session.proofs.ahead.a_side_that_has_sent_a_word.{leaves, IsAheadBy, hears_ahead, hears_gone}
-use Rattle.osi_session.proofs.ahead.words_that_may_be_sent_first.{past_ready, past_confirming, IsReady, same_state, part_ahead, renumbered, MayPoint, point_ahead, MayConfirm, conf_ahead}
+use Rattle.osi_session.proofs.ahead.words_that_may_be_sent_first.{past_ready, past_confirming, IsReady, same_state, part_ahead, renumbered}
+use Rattle.osi_session.proofs.ahead.words_that_may_be_sent_first.{MayPoint, point_ahead, MayConfirm, conf_ahead}
 use Rattle.osi_session.proofs.tables.what_is_true_of_each_phase.{implied, excluded}
 use Rattle.osi_session.proofs.ahead.the_state_after_a_word.{if_seen, if_state, within, CallLeaves, call_leaves, mapped, idle_leaves}
 
@@ -22,13 +26,15 @@ sent_by place octets sent = if is_last place then None else Some (unwrap_or sent
 goes_holding : (s : Seen) (next : State) → may_hold next.phase ≡ true → goes s next ≡ record s { state = next }
 goes_holding s next h = rw h refl
 
-call_next : (s y : Seen) (c : Call) (b : Bool) → (if b then option_map (goes s) (calling s.state c) else None) ≡ Some y → (n : State) × CallLeaves s.state c n × (y ≡ goes s n)
+call_next : (s y : Seen) (c : Call) (b : Bool) → (if b then option_map (goes s) (calling s.state c) else None) ≡ Some y →
+    (n : State) × CallLeaves s.state c n × (y ≡ goes s n)
 call_next s y c b h =
     let a = if_seen b _ y h in
     let m = mapped (goes s) (calling s.state c) y a.1 in
     (m.0, call_leaves s.state c m.0 m.1, m.2)
 
-numbered_next : (s y : Seen) (c : Call) (b d : Bool) → (if b then option_map (goes s) (where_is d (calling s.state c)) else None) ≡ Some y → (n : State) × CallLeaves s.state c n × (y ≡ goes s n)
+numbered_next : (s y : Seen) (c : Call) (b d : Bool) → (if b then option_map (goes s) (where_is d (calling s.state c)) else None) ≡ Some y →
+    (n : State) × CallLeaves s.state c n × (y ≡ goes s n)
 numbered_next s y c b d h =
     let a = if_seen b _ y h in
     let m = mapped (goes s) (where_is d (calling s.state c)) y a.1 in
@@ -38,7 +44,8 @@ held_right : (available held : Bool) → available ≡ true → (not available |
 held_right true held e h = h
 held_right false held e h = absurd (cc)
 
-said_point : (s y : Seen) (c : Bool) (k : ℕ) (o : List ℕ) (n : ℕ) → CanSay s (says (MIP c k o)) n y → MayPoint s.state × (y ≡ leaves (renumbered point_sent) same_sent s)
+said_point : (s y : Seen) (c : Bool) (k : ℕ) (o : List ℕ) (n : ℕ) → CanSay s (says (MIP c k o)) n y →
+    MayPoint s.state × (y ≡ leaves (renumbered point_sent) same_sent s)
 unfolding available
 said_point s y c k o n h =
     let m = numbered_next s y (Minor c o) (is_none s.sent || false) (k == s.state.numbers.next) (within s y (says (MIP c k o)) n h).1 in
@@ -49,7 +56,8 @@ said_point s y c k o n h =
       m.2 ∙ next ∙ goes_holding s (renumbered point_sent s.state) (implied is_ready may_hold refl s.state.phase l.phase),
     )
 
-said_conf : (s y : Seen) (k : ℕ) (o : List ℕ) (n : ℕ) → CanSay s (says (MIA k o)) n y → MayConfirm s.state × (y ≡ leaves (renumbered (minor_confirmed k)) same_sent s)
+said_conf : (s y : Seen) (k : ℕ) (o : List ℕ) (n : ℕ) → CanSay s (says (MIA k o)) n y →
+    MayConfirm s.state × (y ≡ leaves (renumbered (minor_confirmed k)) same_sent s)
 said_conf s y k o n h =
     let m = call_next s y (MinorConfirm k o) (is_none s.sent || true) (within s y (says (MIA k o)) n h).1 in
     let l = m.1 in
@@ -62,9 +70,11 @@ if_this : (b : Bool) (x y : Seen) → (if b then Some x else None) ≡ Some y �
 if_this true x y h = (refl, cc)
 if_this false x y h = absurd (cc)
 
-said_part : (s y : Seen) (place : Place) (o : List ℕ) (n : ℕ) → CanSay s (part place o) n y → IsReady s.state × (y ≡ leaves same_state (sent_by place o) s)
+said_part : (s y : Seen) (place : Place) (o : List ℕ) (n : ℕ) → CanSay s (part place o) n y →
+    IsReady s.state × (y ≡ leaves same_state (sent_by place o) s)
 said_part s y place o n h =
-    let a = if_this (not (limit_of s.state == 0) && (stands_in_place s.sent place && may_send s.state (unwrap_or s.sent 0 + length o))) _ y (within s y (part place o) n h).1 in
+    let a = if_this (not (limit_of s.state == 0) && (stands_in_place s.sent place && may_send s.state (unwrap_or s.sent 0 + length o))) _ y
+        (within s y (part place o) n h).1 in
     let b = and_parts (not (limit_of s.state == 0)) _ a.0 in
     let c = and_parts (stands_in_place s.sent place) _ b.1 in
     ((and_parts (is_ready s.state.phase) _ c.1).0, a.1)
@@ -109,7 +119,8 @@ said_alike s y z _ n e a h = absurd (cc)
 abbrev pub BothHear : Word → Seen → Seen → List ℕ → Type 0
 BothHear w y t tsdu = (is_gone w t.state.phase ≡ true) ⊎ ((z : Seen) × (Hears y tsdu z) × (IsAhead w t z))
 
-by_ahead : (P : State → Type 0) (gone : Phase → Bool) (f : State → State) (g : Option ℕ → Option ℕ) → IsAheadBy P gone f → (s t y : Seen) (tsdu : List ℕ) → P s.state → y ≡ leaves f g s → Hears s tsdu t
+by_ahead : (P : State → Type 0) (gone : Phase → Bool) (f : State → State) (g : Option ℕ → Option ℕ) → IsAheadBy P gone f →
+    (s t y : Seen) (tsdu : List ℕ) → P s.state → y ≡ leaves f g s → Hears s tsdu t
     → (gone t.state.phase ≡ true) ⊎ ((z : Seen) × (Hears y tsdu z) × (P t.state × (z ≡ leaves f g t)))
 by_ahead P gone f g a s t y tsdu p e h = elim (hears_ahead P gone f g a s t tsdu p h) [
   | inl x ↦ inl x
@@ -117,15 +128,18 @@ by_ahead P gone f g a s t y tsdu p e h = elim (hears_ahead P gone f g a s t tsdu
 ]
 
 pub both_hear : (s t y : Seen) (w : Word) (tsdu : List ℕ) → IsAhead w s y → Hears s tsdu t → BothHear w y t tsdu
-both_hear s t y (says (MIP c k o)) tsdu a h = by_ahead MayPoint past_ready (renumbered point_sent) same_sent point_ahead s t y tsdu a.0 a.1 h
-both_hear s t y (says (MIA k o)) tsdu a h = by_ahead MayConfirm past_confirming (renumbered (minor_confirmed k)) same_sent (conf_ahead k) s t y tsdu a.0 a.1 h
+both_hear s t y (says (MIP c k o)) tsdu a h = by_ahead MayPoint past_ready (renumbered point_sent) same_sent point_ahead s t y tsdu a.0 a.1
+    h
+both_hear s t y (says (MIA k o)) tsdu a h = by_ahead MayConfirm past_confirming (renumbered (minor_confirmed k)) same_sent (conf_ahead k) s
+    t y tsdu a.0 a.1 h
 both_hear s t y (part place o) tsdu a h = by_ahead IsReady past_ready same_state (sent_by place o) part_ahead s t y tsdu a.0 a.1 h
 both_hear s t y _ tsdu a h = inr (t, subst (λ (v : Seen). Hears v tsdu t) (sym a) h, refl)
 
 -- what is gone stays gone, and is not sent
 pub gone_stays : (s t : Seen) (w : Word) (tsdu : List ℕ) → is_gone w s.state.phase ≡ true → Hears s tsdu t → is_gone w t.state.phase ≡ true
 gone_stays s t (says (MIP c k o)) tsdu g h = hears_gone MayPoint past_ready (renumbered point_sent) point_ahead s t tsdu g h
-gone_stays s t (says (MIA k o)) tsdu g h = hears_gone MayConfirm past_confirming (renumbered (minor_confirmed k)) (conf_ahead k) s t tsdu g h
+gone_stays s t (says (MIA k o)) tsdu g h = hears_gone MayConfirm past_confirming (renumbered (minor_confirmed k)) (conf_ahead k) s t tsdu g
+    h
 gone_stays s t (part place o) tsdu g h = hears_gone IsReady past_ready same_state part_ahead s t tsdu g h
 gone_stays s t _ tsdu g h = absurd (cc)
 
@@ -134,23 +148,30 @@ neither true h k = cc
 neither false h k = cc
 
 pub gone_said : (s z : Seen) (w : Word) (n : ℕ) → is_gone w s.state.phase ≡ true → CanSay s w n z → ⊥
-gone_said s z (says (MIP c k o)) n g h = neither (is_ready s.state.phase) (said_point s z c k o n h).0.ready (excluded past_ready is_ready refl s.state.phase g)
-gone_said s z (says (MIA k o)) n g h = neither (may_confirm_minor s.state.phase) (said_conf s z k o n h).0.phase (excluded past_confirming may_confirm_minor refl s.state.phase g)
-gone_said s z (part place o) n g h = neither (is_ready s.state.phase) (said_part s z place o n h).0 (excluded past_ready is_ready refl s.state.phase g)
+gone_said s z (says (MIP c k o)) n g h =
+    neither (is_ready s.state.phase) (said_point s z c k o n h).0.ready (excluded past_ready is_ready refl s.state.phase g)
+gone_said s z (says (MIA k o)) n g h =
+    neither (may_confirm_minor s.state.phase) (said_conf s z k o n h).0.phase
+    (excluded past_confirming may_confirm_minor refl s.state.phase g)
+gone_said s z (part place o) n g h =
+    neither (is_ready s.state.phase) (said_part s z place o n h).0 (excluded past_ready is_ready refl s.state.phase g)
 gone_said s z _ n g h = absurd (cc)
 
 -- ---- and so over all TSDUs that are taken
 
-gone_all : (s t z : Seen) (tsdus : List (List ℕ)) (w : Word) (n : ℕ) → is_gone w s.state.phase ≡ true → HearsAll s tsdus t → CanSay t w n z → ⊥
+gone_all : (s t z : Seen) (tsdus : List (List ℕ)) (w : Word) (n : ℕ) → is_gone w s.state.phase ≡ true → HearsAll s tsdus t →
+    CanSay t w n z → ⊥
 gone_all s t z [] w n g h k = gone_said s z w n g (subst (λ (x : Seen). CanSay x w n z) h k)
 gone_all s t z (u ∷ us) w n g h k = gone_all h.0 t z us w n (gone_stays s h.0 w u g h.1) h.2 k
 
-ahead_all : (s t y z : Seen) (tsdus : List (List ℕ)) (w : Word) (n : ℕ) → is_steady w ≡ true → IsAhead w s y → HearsAll s tsdus t → CanSay t w n z → HearsAll y tsdus z
+ahead_all : (s t y z : Seen) (tsdus : List (List ℕ)) (w : Word) (n : ℕ) → is_steady w ≡ true → IsAhead w s y → HearsAll s tsdus t →
+    CanSay t w n z → HearsAll y tsdus z
 ahead_all s t y z [] w n e a h k = said_alike s y z w n e a (subst (λ (x : Seen). CanSay x w n z) h k)
 ahead_all s t y z (u ∷ us) w n e a h k = elim (both_hear s h.0 y w u a h.1) [
   | inl g ↦ absurd (gone_all h.0 t z us w n g h.2 k)
   | inr b ↦ (b.0, b.1, ahead_all h.0 t b.0 z us w n e b.2 h.2 k)
 ]
 
-pub may_be_first : (s t y z : Seen) (tsdus : List (List ℕ)) (w : Word) (n : ℕ) → is_steady w ≡ true → CanSay s w n y → HearsAll s tsdus t → CanSay t w n z → HearsAll y tsdus z
+pub may_be_first : (s t y z : Seen) (tsdus : List (List ℕ)) (w : Word) (n : ℕ) → is_steady w ≡ true → CanSay s w n y → HearsAll s tsdus t →
+    CanSay t w n z → HearsAll y tsdus z
 may_be_first s t y z tsdus w n e c h k = ahead_all s t y z tsdus w n e (said_ahead s y w n e c) h k

@@ -1,9 +1,11 @@
 -- The state of a side after it sent a word that it may send: for each word, and for those that leave it unchanged.
-use Rattle.std.proofs.Common.{◌≡◌, ◌∙◌, refl, ap, ℕ, Bool, true, false, not, ◌&&◌, ◌||◌, is_none, if◌then◌else◌, nat_le, length, Option, Some, None, Ok, Err, option_map}
+use Rattle.std.proofs.Common.{◌≡◌, ◌∙◌, refl, ap, ℕ, Bool, true, false, not, ◌&&◌, ◌||◌, is_none, if◌then◌else◌, nat_le, length, Option}
+use Rattle.std.proofs.Common.{Some, None, Ok, Err, option_map}
 use Rattle.osi_message.specs.Words.{Word, says, part}
 use Rattle.osi_session.specs.Standing.{Seen, goes, said, said_within, left_by, calling, CanSay, is_in_size, answers, answers_word}
 use Rattle.osi_session.specs.Steady.{is_steady}
-use Rattle.osi_session.proofs.Vocabulary.{and_parts, is_ready, may_ask, may_hold, State, Call, Data, Please, AllHold, Answer, Step, needs, may_call, met, after, most_of, octets_of, Meaning, AB, AA, DT, GT, PT, RF, is_empty, is_answer}
+use Rattle.osi_session.proofs.Vocabulary.{and_parts, is_ready, may_ask, may_hold, State, Call, Data, Please, AllHold, Answer, Step, needs}
+use Rattle.osi_session.proofs.Vocabulary.{may_call, met, after, most_of, octets_of, Meaning, AB, AA, DT, GT, PT, RF, is_empty, is_answer}
 use Rattle.osi_session.proofs.tables.what_an_accepted_call_has_passed.{first_error_ok}
 use Rattle.osi_session.proofs.tables.what_is_true_of_each_phase.{implied}
 
@@ -18,7 +20,8 @@ if_state true o n h = (refl, h)
 if_state false o n h = absurd (cc)
 
 -- the side has not closed, the size is kept, and the word may be sent within what is unfinished
-pub within : (s next : Seen) (w : Word) (n : ℕ) → CanSay s w n next → ((not s.closed && is_in_size s.state n) ≡ true) × (said_within s w ≡ Some next)
+pub within : (s next : Seen) (w : Word) (n : ℕ) → CanSay s w n next →
+    ((not s.closed && is_in_size s.state n) ≡ true) × (said_within s w ≡ Some next)
 unfolding said
 within s next w n h = if_seen (not s.closed && is_in_size s.state n) (said_within s w) next h
 

@@ -1,8 +1,16 @@
 -- The words that may be sent first, by what they leave: a part of Data, a minor point, and its confirmation.
-use Rattle.std.proofs.Common.{◌≡◌, ◌∙◌, refl, sym, ap, subst, ℕ, ◌+◌, Bool, true, false, not, ◌&&◌, ◌||◌, ◌⊎◌, inl, inr, nat_le, nat_lt, if◌then◌else◌, List, [], ◌∷◌, Option, Some, None, arith}
+use Rattle.std.proofs.Common.{◌≡◌, ◌∙◌, refl, sym, ap, subst, ℕ, ◌+◌, Bool, true, false, not, ◌&&◌, ◌||◌, ◌⊎◌, inl, inr, nat_le, nat_lt}
+use Rattle.std.proofs.Common.{if◌then◌else◌, List, [], ◌∷◌, Option, Some, None, arith}
 use Rattle.osi_message.specs.Words.{Word, says, part}
 use Rattle.osi_session.specs.declared.numbers.Numbers.{Numbers}
-use Rattle.osi_session.proofs.Vocabulary.{cases_Bool, and_parts, ltb-true, lt-ltb, Phase, Ready, MajorDue, ReleaseDue, RestartDue, Aborting, Ended, State, UnitFault, Unexpected, is_over, is_ready, is_wait_cn, is_connecting, is_major_asked, is_restarting, is_releasing, may_hold, may_confirm_minor, Meaning, AB, AC, AA, CN, DN, DT, FN, GT, MAA, MAP, MIA, MIP, NF, PT, RA, RF, RS, First, Middle, Last, as_message, AllMet, Condition, si, first_fault, is_expected, drops, Tokens, Verdict, over, dropped, faulty, fine, by_fault, is_faulty, becomes, stands, without_tokens, restarted_at, respond_unit, Taker, Hearing, kept_in, word_conditions, word_verdict, enacted_word, respond_word, minor_confirmed, point_sent, point_taken, united}
+use Rattle.osi_session.proofs.Vocabulary.{cases_Bool, and_parts, ltb-true, lt-ltb, Phase, Ready, MajorDue, ReleaseDue, RestartDue, Aborting}
+use Rattle.osi_session.proofs.Vocabulary.{Ended, State, UnitFault, Unexpected, is_over, is_ready, is_wait_cn, is_connecting, is_major_asked}
+use Rattle.osi_session.proofs.Vocabulary.{is_restarting, is_releasing, may_hold, may_confirm_minor, Meaning, AB, AC, AA, CN, DN, DT, FN, GT}
+use Rattle.osi_session.proofs.Vocabulary.{MAA, MAP, MIA, MIP, NF, PT, RA, RF, RS, First, Middle, Last, as_message, AllMet, Condition, si}
+use Rattle.osi_session.proofs.Vocabulary.{first_fault, is_expected, drops, Tokens, Verdict, over, dropped, faulty, fine, by_fault}
+use Rattle.osi_session.proofs.Vocabulary.{is_faulty, becomes, stands, without_tokens, restarted_at, respond_unit, Taker, Hearing, kept_in}
+use Rattle.osi_session.proofs.Vocabulary.{word_conditions, word_verdict, enacted_word, respond_word, minor_confirmed, point_sent}
+use Rattle.osi_session.proofs.Vocabulary.{point_taken, united}
 use Rattle.osi_session.proofs.ahead.a_side_that_has_sent_a_word.{shifted, Goes, IsAheadBy, quiet_good}
 use Rattle.osi_session.proofs.tables.what_is_true_of_each_phase.{implied, excluded}
 use Rattle.osi_session.proofs.tables.the_outcomes_of_each_input.{unit_cases}
@@ -66,11 +74,16 @@ ready_becomes s (AB b o) h x = refl
 ready_becomes s AA h x = h
 
 past_ready_ends : (s : State) (u : Meaning) → past_ready s.phase ≡ true → past_ready (respond_unit s u).next.phase ≡ true
-past_ready_ends s u h = unit_cases (λ n. past_ready n.phase ≡ true) s u (record { same = h; ended = λ a. refl; bad = λ a e. refl; good = λ a e x m. ready_becomes s u h x })
+past_ready_ends s u h =
+    unit_cases (λ n. past_ready n.phase ≡ true) s u
+    (record { same = h; ended = λ a. refl; bad = λ a e. refl; good = λ a e x m. ready_becomes s u h x })
 
-confirming_becomes : (s : State) (u : Meaning) → past_confirming s.phase ≡ true → is_expected s.phase u ≡ true → past_confirming (becomes s u).phase ≡ true
-confirming_becomes s (CN v n m w from to z o) h x = absurd (neither (is_wait_cn s.phase) x (excluded past_confirming is_wait_cn refl s.phase h))
-confirming_becomes s (AC v n m w z o) h x = absurd (neither (is_connecting s.phase) x (excluded past_confirming is_connecting refl s.phase h))
+confirming_becomes : (s : State) (u : Meaning) → past_confirming s.phase ≡ true → is_expected s.phase u ≡ true →
+    past_confirming (becomes s u).phase ≡ true
+confirming_becomes s (CN v n m w from to z o) h x =
+    absurd (neither (is_wait_cn s.phase) x (excluded past_confirming is_wait_cn refl s.phase h))
+confirming_becomes s (AC v n m w z o) h x =
+    absurd (neither (is_connecting s.phase) x (excluded past_confirming is_connecting refl s.phase h))
 confirming_becomes s (RF r o) h x = refl
 confirming_becomes s (DT o) h x = h
 confirming_becomes s (GT t) h x = h
@@ -89,7 +102,8 @@ confirming_becomes s AA h x = h
 
 past_confirming_ends : (s : State) (u : Meaning) → past_confirming s.phase ≡ true → past_confirming (respond_unit s u).next.phase ≡ true
 past_confirming_ends s u h =
-    unit_cases (λ n. past_confirming n.phase ≡ true) s u (record { same = h; ended = λ a. refl; bad = λ a e. refl; good = λ a e x m. confirming_becomes s u h x })
+    unit_cases (λ n. past_confirming n.phase ≡ true) s u
+        (record { same = h; ended = λ a. refl; bad = λ a e. refl; good = λ a e x m. confirming_becomes s u h x })
 
 stays_from : (s : State) (u : Meaning) → from_ready s.phase ≡ true → is_expected s.phase u ≡ true → from_ready (becomes s u).phase ≡ true
 stays_from s (CN v n m w from to z o) h x = absurd (neither (is_wait_cn s.phase) x (excluded from_ready is_wait_cn refl s.phase h))
@@ -103,7 +117,9 @@ stays_from s AA h x = h
 stays_from s _ h x = refl
 
 unit_stays : (s : State) (u : Meaning) → from_ready s.phase ≡ true → from_ready (respond_unit s u).next.phase ≡ true
-unit_stays s u h = unit_cases (λ n. from_ready n.phase ≡ true) s u (record { same = h; ended = λ a. refl; bad = λ a e. refl; good = λ a e x m. stays_from s u h x })
+unit_stays s u h =
+    unit_cases (λ n. from_ready n.phase ≡ true) s u
+    (record { same = h; ended = λ a. refl; bad = λ a e. refl; good = λ a e x m. stays_from s u h x })
 
 word_stays : (t : Taker) (v : Word) → from_ready t.state.phase ≡ true → from_ready (respond_word t v).next.state.phase ≡ true
 word_stays t v h = word_keeps (λ s. from_ready s.phase ≡ true) t v (λ u a. unit_stays t.state u h) (λ o. refl) h
@@ -119,10 +135,12 @@ IsReady s = is_ready s.phase ≡ true
 abbrev pub same_state : State → State
 same_state s = s
 
-part_step : (t : Taker) (v : Word) → IsReady t.state → (respond_word t v).reply ≡ None → Goes IsReady past_ready same_state (respond_word t v) (respond_word (shifted same_state t) v)
+part_step : (t : Taker) (v : Word) → IsReady t.state → (respond_word t v).reply ≡ None →
+    Goes IsReady past_ready same_state (respond_word t v) (respond_word (shifted same_state t) v)
 part_step t v p r = elim (cases_Bool (past_ready (respond_word t v).next.state.phase)) [
   | inl y ↦ inl y
-  | inr n ↦ inr (still_ready (respond_word t v).next.state.phase (word_stays t v (implied is_ready from_ready refl t.state.phase p)) n, record { next = refl; quiet = r; closes = refl })
+  | inr n ↦ inr (still_ready (respond_word t v).next.state.phase (word_stays t v (implied is_ready from_ready refl t.state.phase p)) n,
+      record { next = refl; quiet = r; closes = refl })
 ]
 
 pub part_ahead : IsAheadBy IsReady past_ready same_state
@@ -145,7 +163,8 @@ pub record Passes (t : Taker) (v : Word) : Type 0 where
   pub expected : is_expected t.state.phase (as_message v) ≡ true
   pub met : AllMet (word_conditions t v)
 
-passed_by : (o d x : Bool) (n : ℕ) (f : Option UnitFault) → verdict_by o d x n f ≡ fine → (o ≡ false) × (d ≡ false) × (x ≡ true) × (f ≡ None)
+passed_by : (o d x : Bool) (n : ℕ) (f : Option UnitFault) → verdict_by o d x n f ≡ fine →
+    (o ≡ false) × (d ≡ false) × (x ≡ true) × (f ≡ None)
 passed_by true d x n f h = absurd (cc)
 passed_by false true x n f h = absurd (cc)
 passed_by false false false n f h = absurd (cc)
@@ -154,7 +173,8 @@ passed_by false false true n (Some e) h = absurd (cc)
 
 pub passes : (t : Taker) (v : Word) → word_verdict t v ≡ fine → Passes t v
 passes t v h =
-    let a = passed_by (is_over t.state.phase) (drops t.state (as_message v)) (is_expected t.state.phase (as_message v)) (si (as_message v)) (first_fault (si (as_message v)) (word_conditions t v)) h in
+    let a = passed_by (is_over t.state.phase) (drops t.state (as_message v)) (is_expected t.state.phase (as_message v)) (si (as_message v))
+        (first_fault (si (as_message v)) (word_conditions t v)) h in
     record { lives = a.0; acts = a.1; expected = a.2; met = all_met (si (as_message v)) (word_conditions t v) a.3 }
 
 no_fault : (n : ℕ) (cs : List Condition) → AllMet cs → first_fault n cs ≡ None
@@ -174,7 +194,8 @@ dropped_by false false true n (Some e) h = absurd (cc)
 is_dropped : (t : Taker) (v : Word) → is_over t.state.phase ≡ false → drops t.state (as_message v) ≡ true → word_verdict t v ≡ dropped
 is_dropped t v o d = rw (o, d) refl
 
-quiet_verdict : (w : Verdict) (o d x : Bool) (n : ℕ) (f : Option UnitFault) → verdict_by o d x n f ≡ w → o ≡ false → is_faulty w ≡ false → (w ≡ dropped) ⊎ (w ≡ fine)
+quiet_verdict : (w : Verdict) (o d x : Bool) (n : ℕ) (f : Option UnitFault) → verdict_by o d x n f ≡ w → o ≡ false → is_faulty w ≡ false →
+    (w ≡ dropped) ⊎ (w ≡ fine)
 quiet_verdict dropped o d x n f e l q = inl refl
 quiet_verdict fine o d x n f e l q = inr refl
 quiet_verdict (faulty fault) o d x n f e l q = absurd (cc)
@@ -184,25 +205,32 @@ quiet_verdict over false false false n f e l q = absurd (cc)
 quiet_verdict over false false true n None e l q = absurd (cc)
 quiet_verdict over false false true n (Some y) e l q = absurd (cc)
 
-pub quietly : (t : Taker) (v : Word) → is_over t.state.phase ≡ false → (respond_word t v).reply ≡ None → (word_verdict t v ≡ dropped) ⊎ (word_verdict t v ≡ fine)
+pub quietly : (t : Taker) (v : Word) → is_over t.state.phase ≡ false → (respond_word t v).reply ≡ None →
+    (word_verdict t v ≡ dropped) ⊎ (word_verdict t v ≡ fine)
 quietly t v o r =
-    quiet_verdict (word_verdict t v) (is_over t.state.phase) (drops t.state (as_message v)) (is_expected t.state.phase (as_message v)) (si (as_message v))
+    quiet_verdict (word_verdict t v) (is_over t.state.phase) (drops t.state (as_message v)) (is_expected t.state.phase (as_message v))
+        (si (as_message v))
     (first_fault (si (as_message v)) (word_conditions t v)) refl o (quiet_good t v r)
 
 -- ---- both continue, by what each does
 
-goes_as : (P : State → Type 0) (gone : Phase → Bool) (f : State → State) (h k i l : Hearing) → h ≡ i → k ≡ l → Goes P gone f i l → Goes P gone f h k
+goes_as : (P : State → Type 0) (gone : Phase → Bool) (f : State → State) (h k i l : Hearing) → h ≡ i → k ≡ l → Goes P gone f i l →
+    Goes P gone f h k
 goes_as P gone f h k i l d e g = subst (λ (x : Hearing). Goes P gone f x k) (sym d) (subst (λ (x : Hearing). Goes P gone f i x) (sym e) g)
 
-fine_goes : (P : State → Type 0) (gone : Phase → Bool) (f : State → State) (t : Taker) (v : Word) → word_verdict t v ≡ fine → word_verdict (shifted f t) v ≡ fine
-    → Goes P gone f (enacted_word t v fine) (enacted_word (shifted f t) v fine) → Goes P gone f (respond_word t v) (respond_word (shifted f t) v)
+fine_goes : (P : State → Type 0) (gone : Phase → Bool) (f : State → State) (t : Taker) (v : Word) → word_verdict t v ≡ fine →
+    word_verdict (shifted f t) v ≡ fine
+    → Goes P gone f (enacted_word t v fine) (enacted_word (shifted f t) v fine) →
+        Goes P gone f (respond_word t v) (respond_word (shifted f t) v)
 fine_goes P gone f t v h k g = goes_as P gone f _ _ _ _ (word_at t v fine h) (word_at (shifted f t) v fine k) g
 
-fine_gone : (P : State → Type 0) (gone : Phase → Bool) (f : State → State) (t : Taker) (v : Word) → word_verdict t v ≡ fine → gone (enacted_word t v fine).next.state.phase ≡ true
+fine_gone : (P : State → Type 0) (gone : Phase → Bool) (f : State → State) (t : Taker) (v : Word) → word_verdict t v ≡ fine →
+    gone (enacted_word t v fine).next.state.phase ≡ true
     → Goes P gone f (respond_word t v) (respond_word (shifted f t) v)
 fine_gone P gone f t v h g = inl (subst (λ (x : Hearing). gone x.next.state.phase ≡ true) (sym (word_at t v fine h)) g)
 
-loud : (t : Taker) (v : Word) (m : Meaning) → word_verdict t v ≡ fine → (respond_word t v).reply ≡ None → (enacted_word t v fine).reply ≡ Some m → ⊥
+loud : (t : Taker) (v : Word) (m : Meaning) → word_verdict t v ≡ fine → (respond_word t v).reply ≡ None →
+    (enacted_word t v fine).reply ≡ Some m → ⊥
 loud t v m h r e = let x : (respond_word t v).reply ≡ Some m = ap (λ (y : Hearing). y.reply) (word_at t v fine h) ∙ e in cc
 
 -- ---- only the numbers change
@@ -210,11 +238,14 @@ loud t v m h r e = let x : (respond_word t v).reply ≡ Some m = ap (λ (y : Hea
 abbrev pub renumbered : (Numbers → Numbers) → State → State
 renumbered g s = record s { numbers = g s.numbers }
 
-dropped_goes : (P : State → Type 0) (gone : Phase → Bool) (g : Numbers → Numbers) (t : Taker) (v : Word) → P t.state → word_verdict t v ≡ dropped
+dropped_goes : (P : State → Type 0) (gone : Phase → Bool) (g : Numbers → Numbers) (t : Taker) (v : Word) → P t.state →
+    word_verdict t v ≡ dropped
     → Goes P gone (renumbered g) (respond_word t v) (respond_word (shifted (renumbered g) t) v)
 dropped_goes P gone g t v p h =
-    let a = dropped_by (is_over t.state.phase) (drops t.state (as_message v)) (is_expected t.state.phase (as_message v)) (si (as_message v)) (first_fault (si (as_message v)) (word_conditions t v)) h in
-    goes_as P gone (renumbered g) _ _ _ _ (word_at t v dropped h) (word_at (shifted (renumbered g) t) v dropped (is_dropped (shifted (renumbered g) t) v a.0 a.1))
+    let a = dropped_by (is_over t.state.phase) (drops t.state (as_message v)) (is_expected t.state.phase (as_message v)) (si (as_message v))
+        (first_fault (si (as_message v)) (word_conditions t v)) h in
+    goes_as P gone (renumbered g) _ _ _ _ (word_at t v dropped h)
+        (word_at (shifted (renumbered g) t) v dropped (is_dropped (shifted (renumbered g) t) v a.0 a.1))
     (inr (p, record { next = refl; quiet = refl; closes = refl }))
 
 -- ---- a minor point
@@ -228,10 +259,12 @@ stands_ready : (s : State) (n : ℕ) → is_restarting s.phase ≡ false → sta
 unfolding stands
 stands_ready s n h = rw h refl
 
-restart_gone : (gone : Phase → Bool) (s : State) (k : _) (n : ℕ) (w : _) (o : List ℕ) → is_restarting s.phase ≡ false → gone RestartDue ≡ true → gone (becomes s (RS k n w o)).phase ≡ true
+restart_gone : (gone : Phase → Bool) (s : State) (k : _) (n : ℕ) (w : _) (o : List ℕ) → is_restarting s.phase ≡ false →
+    gone RestartDue ≡ true → gone (becomes s (RS k n w o)).phase ≡ true
 restart_gone gone s k n w o r g = by (stands s n) (stands_ready s n r)
   where
-    by : (b : Bool) → b ≡ true → gone (if b then record (without_tokens RestartDue s) { wishes = w; numbers = restarted_at n s.numbers } else s).phase ≡ true
+    by : (b : Bool) → b ≡ true →
+        gone (if b then record (without_tokens RestartDue s) { wishes = w; numbers = restarted_at n s.numbers } else s).phase ≡ true
     by true e = g
     by false e = absurd (cc)
 
@@ -240,7 +273,8 @@ lacks_none true b h k = cc
 lacks_none false true h k = cc
 lacks_none false false h k = cc
 
-acknowledges : (answers asked : Bool) (c k n : ℕ) → asked ≡ false → (not answers && (nat_le c k && (if asked then nat_lt (k + 1) n else nat_lt k n))) ≡ true
+acknowledges : (answers asked : Bool) (c k n : ℕ) → asked ≡ false →
+    (not answers && (nat_le c k && (if asked then nat_lt (k + 1) n else nat_lt k n))) ≡ true
     → (answers ≡ false) × (nat_le c k ≡ true) × (nat_lt k n ≡ true)
 acknowledges true asked c k n a h = absurd (cc)
 acknowledges false true c k n a h = absurd (cc)
@@ -250,17 +284,21 @@ acknowledges false false c k n a h = let p = and_parts (nat_le c k) (nat_lt k n)
 abbrev with_point : State → State
 with_point s = renumbered point_sent s
 
-taken_conf : (s : State) (j : Option (List ℕ)) (n : ℕ) (o : List ℕ) → is_ready s.phase ≡ true → Passes (record { state = s; joined = j }) (says (MIA n o))
+taken_conf : (s : State) (j : Option (List ℕ)) (n : ℕ) (o : List ℕ) → is_ready s.phase ≡ true →
+    Passes (record { state = s; joined = j }) (says (MIA n o))
     → (s.numbers.answers ≡ false) × (Passes (record { state = with_point s; joined = j }) (says (MIA n o)))
 unfolding point_sent
 taken_conf s j n o r p =
-    let a = acknowledges s.numbers.answers (is_major_asked s.phase) s.numbers.confirmed n s.numbers.next (excluded is_ready is_major_asked refl s.phase r) p.met.1.0 in (
+    let a = acknowledges s.numbers.answers (is_major_asked s.phase) s.numbers.confirmed n s.numbers.next
+        (excluded is_ready is_major_asked refl s.phase r) p.met.1.0 in (
       a.0,
       record {
         lives = p.lives;
         acts = p.acts;
         expected = p.expected;
-        met = (p.met.0, (acks s.numbers.answers (is_major_asked s.phase) s.numbers.confirmed n s.numbers.next a.0 (excluded is_ready is_major_asked refl s.phase r) a.1 a.2, p.met.1.1));
+        met = (p.met.0,
+            (acks s.numbers.answers (is_major_asked s.phase) s.numbers.confirmed n s.numbers.next a.0
+            (excluded is_ready is_major_asked refl s.phase r) a.1 a.2, p.met.1.1));
       },
     )
   where
@@ -276,7 +314,8 @@ taken_conf s j n o r p =
 -- both leave the same numbers
 numbers_alike : (v : Numbers) (n : ℕ) → v.answers ≡ false → minor_confirmed n (point_sent v) ≡ point_sent (minor_confirmed n v)
 unfolding minor_confirmed point_sent
-numbers_alike v n e = let c : n + 1 ≡ (if v.answers then v.next else n + 1) = rw e refl in λ i. record { next = v.next + 1; confirmed = c i; lowest = v.lowest; answers = false }
+numbers_alike v n e = let c : n + 1 ≡ (if v.answers then v.next else n + 1) =
+    rw e refl in λ i. record { next = v.next + 1; confirmed = c i; lowest = v.lowest; answers = false }
 
 or_more : (a b : Bool) → a ≡ true → (a || b) ≡ true
 or_more true b e = refl
@@ -288,33 +327,58 @@ still_held held more h = or_more held.minor more.minor h
 
 point_good : (t : Taker) (v : Word) → MayPoint t.state → word_verdict t v ≡ fine → (respond_word t v).reply ≡ None
     → Goes MayPoint past_ready with_point (respond_word t v) (respond_word (shifted with_point t) v)
-point_good t (says (DT o)) p h r = fine_goes MayPoint past_ready with_point t _ h h (inr (p, record { next = refl; quiet = refl; closes = refl }))
+point_good t (says (DT o)) p h r =
+    fine_goes MayPoint past_ready with_point t _ h h (inr (p, record { next = refl; quiet = refl; closes = refl }))
 point_good t (says (GT k)) p h r =
-    fine_goes MayPoint past_ready with_point t _ h h (inr (record { ready = p.ready; minor = still_held t.state.held k p.minor }, record { next = refl; quiet = refl; closes = refl }))
-point_good t (says (PT k o)) p h r = fine_goes MayPoint past_ready with_point t _ h h (inr (p, record { next = refl; quiet = refl; closes = refl }))
+    fine_goes MayPoint past_ready with_point t _ h h
+        (inr (record { ready = p.ready; minor = still_held t.state.held k p.minor }, record { next = refl; quiet = refl; closes = refl }))
+point_good t (says (PT k o)) p h r =
+    fine_goes MayPoint past_ready with_point t _ h h (inr (p, record { next = refl; quiet = refl; closes = refl }))
 point_good t (says (MIP c n o)) p h r =
     absurd (lacks_none t.state.held.data_token t.state.held.minor p.minor (passes t (says (MIP c n o)) h).met.1.0)
 point_good t (says (MIA n o)) p h r =
     let q = taken_conf t.state t.joined n o p.ready (passes t (says (MIA n o)) h) in
     fine_goes MayPoint past_ready with_point t _ h (passing (shifted with_point t) (says (MIA n o)) q.1)
-    (inr (record { ready = p.ready; minor = p.minor }, record { next = (let e = numbers_alike t.state.numbers n q.0 in λ i. record { state = record t.state { numbers = e i }; joined = kept_in t.state.phase t.joined }); quiet = refl; closes = refl }))
+    (inr (record { ready = p.ready; minor = p.minor },
+        record { next = (let e = numbers_alike t.state.numbers n q.0 in
+        λ i. record { state = record t.state { numbers = e i }; joined = kept_in t.state.phase t.joined }); quiet = refl; closes = refl }))
 point_good t (says (MAP n o)) p h r = fine_gone MayPoint past_ready with_point t _ h refl
 point_good t (says (FN o)) p h r = fine_gone MayPoint past_ready with_point t _ h refl
-point_good t (says (RS k n w o)) p h r = fine_gone MayPoint past_ready with_point t _ h (restart_gone past_ready t.state k n w o (excluded is_ready is_restarting refl t.state.phase p.ready) refl)
+point_good t (says (RS k n w o)) p h r =
+    fine_gone MayPoint past_ready with_point t _ h
+    (restart_gone past_ready t.state k n w o (excluded is_ready is_restarting refl t.state.phase p.ready) refl)
 point_good t (says (AB b o)) p h r = absurd (loud t (says (AB b o)) AA h r refl)
-point_good t (says (CN v n m w from to z o)) p h r = absurd (neither (is_wait_cn t.state.phase) (passes t (says (CN v n m w from to z o)) h).expected (excluded is_ready is_wait_cn refl t.state.phase p.ready))
-point_good t (says (AC v n m w z o)) p h r = absurd (neither (is_connecting t.state.phase) (passes t (says (AC v n m w z o)) h).expected (excluded is_ready is_connecting refl t.state.phase p.ready))
-point_good t (says (RF c o)) p h r = absurd (neither (is_connecting t.state.phase) (passes t (says (RF c o)) h).expected (excluded is_ready is_connecting refl t.state.phase p.ready))
-point_good t (says (MAA n o)) p h r = absurd (neither (is_major_asked t.state.phase) (passes t (says (MAA n o)) h).expected (excluded is_ready is_major_asked refl t.state.phase p.ready))
-point_good t (says (RA n w o)) p h r = absurd (neither (is_restarting t.state.phase) (passes t (says (RA n w o)) h).expected (excluded is_ready is_restarting refl t.state.phase p.ready))
-point_good t (says (DN o)) p h r = absurd (neither (is_releasing t.state.phase) (passes t (says (DN o)) h).expected (excluded is_ready is_releasing refl t.state.phase p.ready))
-point_good t (says (NF o)) p h r = absurd (neither (is_releasing t.state.phase) (passes t (says (NF o)) h).expected (excluded is_ready is_releasing refl t.state.phase p.ready))
+point_good t (says (CN v n m w from to z o)) p h r =
+    absurd (neither (is_wait_cn t.state.phase) (passes t (says (CN v n m w from to z o)) h).expected
+    (excluded is_ready is_wait_cn refl t.state.phase p.ready))
+point_good t (says (AC v n m w z o)) p h r =
+    absurd (neither (is_connecting t.state.phase) (passes t (says (AC v n m w z o)) h).expected
+    (excluded is_ready is_connecting refl t.state.phase p.ready))
+point_good t (says (RF c o)) p h r =
+    absurd (neither (is_connecting t.state.phase) (passes t (says (RF c o)) h).expected
+    (excluded is_ready is_connecting refl t.state.phase p.ready))
+point_good t (says (MAA n o)) p h r =
+    absurd (neither (is_major_asked t.state.phase) (passes t (says (MAA n o)) h).expected
+    (excluded is_ready is_major_asked refl t.state.phase p.ready))
+point_good t (says (RA n w o)) p h r =
+    absurd (neither (is_restarting t.state.phase) (passes t (says (RA n w o)) h).expected
+    (excluded is_ready is_restarting refl t.state.phase p.ready))
+point_good t (says (DN o)) p h r =
+    absurd (neither (is_releasing t.state.phase) (passes t (says (DN o)) h).expected
+    (excluded is_ready is_releasing refl t.state.phase p.ready))
+point_good t (says (NF o)) p h r =
+    absurd (neither (is_releasing t.state.phase) (passes t (says (NF o)) h).expected
+    (excluded is_ready is_releasing refl t.state.phase p.ready))
 point_good t (says AA) p h r = let e = (passes t (says AA) h).expected in absurd (cc)
-point_good t (part First o) p h r = fine_goes MayPoint past_ready with_point t _ h h (inr (p, record { next = refl; quiet = refl; closes = refl }))
-point_good t (part Middle o) p h r = fine_goes MayPoint past_ready with_point t _ h h (inr (p, record { next = refl; quiet = refl; closes = refl }))
-point_good t (part Last o) p h r = fine_goes MayPoint past_ready with_point t _ h h (inr (p, record { next = refl; quiet = refl; closes = refl }))
+point_good t (part First o) p h r =
+    fine_goes MayPoint past_ready with_point t _ h h (inr (p, record { next = refl; quiet = refl; closes = refl }))
+point_good t (part Middle o) p h r =
+    fine_goes MayPoint past_ready with_point t _ h h (inr (p, record { next = refl; quiet = refl; closes = refl }))
+point_good t (part Last o) p h r =
+    fine_goes MayPoint past_ready with_point t _ h h (inr (p, record { next = refl; quiet = refl; closes = refl }))
 
-point_step : (t : Taker) (v : Word) → MayPoint t.state → (respond_word t v).reply ≡ None → Goes MayPoint past_ready with_point (respond_word t v) (respond_word (shifted with_point t) v)
+point_step : (t : Taker) (v : Word) → MayPoint t.state → (respond_word t v).reply ≡ None →
+    Goes MayPoint past_ready with_point (respond_word t v) (respond_word (shifted with_point t) v)
 point_step t v p r = elim (quietly t v (excluded is_ready is_over refl t.state.phase p.ready) r) [
   | inl d ↦ dropped_goes MayPoint past_ready point_sent t v p d
   | inr f ↦ point_good t v p f r
@@ -342,9 +406,11 @@ with_conf n s = renumbered (minor_confirmed n) s
 -- both leave the same numbers
 points_alike : (v : Numbers) (n : ℕ) → v.answers ≡ true → point_taken (minor_confirmed n v) ≡ minor_confirmed n (point_taken v)
 unfolding minor_confirmed point_taken
-points_alike v n e = let c : (if v.answers then n + 1 else v.next) ≡ n + 1 = rw e refl in λ i. record { next = v.next + 1; confirmed = c i; lowest = v.lowest; answers = true }
+points_alike v n e = let c : (if v.answers then n + 1 else v.next) ≡ n + 1 =
+    rw e refl in λ i. record { next = v.next + 1; confirmed = c i; lowest = v.lowest; answers = true }
 
-same_point : (n : ℕ) (s : State) (j : Option (List ℕ)) (c : Bool) (m : ℕ) (o : List ℕ) → word_verdict (record { state = s; joined = j }) (says (MIP c m o)) ≡ fine
+same_point : (n : ℕ) (s : State) (j : Option (List ℕ)) (c : Bool) (m : ℕ) (o : List ℕ) →
+    word_verdict (record { state = s; joined = j }) (says (MIP c m o)) ≡ fine
     → word_verdict (record { state = with_conf n s; joined = j }) (says (MIP c m o)) ≡ fine
 unfolding minor_confirmed
 same_point n s j c m o h = h
@@ -359,28 +425,55 @@ no_ack false b h k = cc
 
 conf_good : (m : ℕ) (t : Taker) (v : Word) → MayConfirm t.state → word_verdict t v ≡ fine → (respond_word t v).reply ≡ None
     → Goes MayConfirm past_confirming (with_conf m) (respond_word t v) (respond_word (shifted (with_conf m) t) v)
-conf_good m t (says (DT o)) p h r = fine_goes MayConfirm past_confirming (with_conf m) t _ h h (inr (p, record { next = refl; quiet = refl; closes = refl }))
-conf_good m t (says (GT k)) p h r = fine_goes MayConfirm past_confirming (with_conf m) t _ h h (inr (record { phase = p.phase; answers = p.answers }, record { next = refl; quiet = refl; closes = refl }))
-conf_good m t (says (PT k o)) p h r = fine_goes MayConfirm past_confirming (with_conf m) t _ h h (inr (p, record { next = refl; quiet = refl; closes = refl }))
+conf_good m t (says (DT o)) p h r =
+    fine_goes MayConfirm past_confirming (with_conf m) t _ h h (inr (p, record { next = refl; quiet = refl; closes = refl }))
+conf_good m t (says (GT k)) p h r =
+    fine_goes MayConfirm past_confirming (with_conf m) t _ h h
+    (inr (record { phase = p.phase; answers = p.answers }, record { next = refl; quiet = refl; closes = refl }))
+conf_good m t (says (PT k o)) p h r =
+    fine_goes MayConfirm past_confirming (with_conf m) t _ h h (inr (p, record { next = refl; quiet = refl; closes = refl }))
 conf_good m t (says (MIP c n o)) p h r =
     fine_goes MayConfirm past_confirming (with_conf m) t _ h (same_point m t.state t.joined c n o h)
-    (inr (record { phase = p.phase; answers = answers_on t.state.numbers }, record { next = (let e = points_alike t.state.numbers m p.answers in λ i. record { state = record t.state { numbers = e i }; joined = kept_in t.state.phase t.joined }); quiet = refl; closes = refl }))
+    (inr (record { phase = p.phase; answers = answers_on t.state.numbers },
+        record { next = (let e = points_alike t.state.numbers m p.answers in
+        λ i. record { state = record t.state { numbers = e i }; joined = kept_in t.state.phase t.joined }); quiet = refl; closes = refl }))
 conf_good m t (says (MIA n o)) p h r = absurd (no_ack t.state.numbers.answers _ p.answers (passes t (says (MIA n o)) h).met.1.0)
 conf_good m t (says (MAP n o)) p h r = fine_gone MayConfirm past_confirming (with_conf m) t _ h refl
-conf_good m t (says (FN o)) p h r = fine_goes MayConfirm past_confirming (with_conf m) t _ h h (inr (record { phase = refl; answers = p.answers }, record { next = refl; quiet = refl; closes = refl }))
-conf_good m t (says (RS k n w o)) p h r = fine_gone MayConfirm past_confirming (with_conf m) t _ h (restart_gone past_confirming t.state k n w o (excluded may_confirm_minor is_restarting refl t.state.phase p.phase) refl)
+conf_good m t (says (FN o)) p h r =
+    fine_goes MayConfirm past_confirming (with_conf m) t _ h h
+    (inr (record { phase = refl; answers = p.answers }, record { next = refl; quiet = refl; closes = refl }))
+conf_good m t (says (RS k n w o)) p h r =
+    fine_gone MayConfirm past_confirming (with_conf m) t _ h
+    (restart_gone past_confirming t.state k n w o (excluded may_confirm_minor is_restarting refl t.state.phase p.phase) refl)
 conf_good m t (says (AB b o)) p h r = absurd (loud t (says (AB b o)) AA h r refl)
-conf_good m t (says (CN v n x w from to z o)) p h r = absurd (neither (is_wait_cn t.state.phase) (passes t (says (CN v n x w from to z o)) h).expected (excluded may_confirm_minor is_wait_cn refl t.state.phase p.phase))
-conf_good m t (says (AC v n x w z o)) p h r = absurd (neither (is_connecting t.state.phase) (passes t (says (AC v n x w z o)) h).expected (excluded may_confirm_minor is_connecting refl t.state.phase p.phase))
-conf_good m t (says (RF c o)) p h r = absurd (neither (is_connecting t.state.phase) (passes t (says (RF c o)) h).expected (excluded may_confirm_minor is_connecting refl t.state.phase p.phase))
-conf_good m t (says (MAA n o)) p h r = absurd (neither (is_major_asked t.state.phase) (passes t (says (MAA n o)) h).expected (excluded may_confirm_minor is_major_asked refl t.state.phase p.phase))
-conf_good m t (says (RA n w o)) p h r = absurd (neither (is_restarting t.state.phase) (passes t (says (RA n w o)) h).expected (excluded may_confirm_minor is_restarting refl t.state.phase p.phase))
-conf_good m t (says (DN o)) p h r = absurd (neither (is_releasing t.state.phase) (passes t (says (DN o)) h).expected (excluded may_confirm_minor is_releasing refl t.state.phase p.phase))
-conf_good m t (says (NF o)) p h r = absurd (neither (is_releasing t.state.phase) (passes t (says (NF o)) h).expected (excluded may_confirm_minor is_releasing refl t.state.phase p.phase))
+conf_good m t (says (CN v n x w from to z o)) p h r =
+    absurd (neither (is_wait_cn t.state.phase) (passes t (says (CN v n x w from to z o)) h).expected
+    (excluded may_confirm_minor is_wait_cn refl t.state.phase p.phase))
+conf_good m t (says (AC v n x w z o)) p h r =
+    absurd (neither (is_connecting t.state.phase) (passes t (says (AC v n x w z o)) h).expected
+    (excluded may_confirm_minor is_connecting refl t.state.phase p.phase))
+conf_good m t (says (RF c o)) p h r =
+    absurd (neither (is_connecting t.state.phase) (passes t (says (RF c o)) h).expected
+    (excluded may_confirm_minor is_connecting refl t.state.phase p.phase))
+conf_good m t (says (MAA n o)) p h r =
+    absurd (neither (is_major_asked t.state.phase) (passes t (says (MAA n o)) h).expected
+    (excluded may_confirm_minor is_major_asked refl t.state.phase p.phase))
+conf_good m t (says (RA n w o)) p h r =
+    absurd (neither (is_restarting t.state.phase) (passes t (says (RA n w o)) h).expected
+    (excluded may_confirm_minor is_restarting refl t.state.phase p.phase))
+conf_good m t (says (DN o)) p h r =
+    absurd (neither (is_releasing t.state.phase) (passes t (says (DN o)) h).expected
+    (excluded may_confirm_minor is_releasing refl t.state.phase p.phase))
+conf_good m t (says (NF o)) p h r =
+    absurd (neither (is_releasing t.state.phase) (passes t (says (NF o)) h).expected
+    (excluded may_confirm_minor is_releasing refl t.state.phase p.phase))
 conf_good m t (says AA) p h r = let e = (passes t (says AA) h).expected in absurd (cc)
-conf_good m t (part First o) p h r = fine_goes MayConfirm past_confirming (with_conf m) t _ h h (inr (p, record { next = refl; quiet = refl; closes = refl }))
-conf_good m t (part Middle o) p h r = fine_goes MayConfirm past_confirming (with_conf m) t _ h h (inr (p, record { next = refl; quiet = refl; closes = refl }))
-conf_good m t (part Last o) p h r = fine_goes MayConfirm past_confirming (with_conf m) t _ h h (inr (p, record { next = refl; quiet = refl; closes = refl }))
+conf_good m t (part First o) p h r =
+    fine_goes MayConfirm past_confirming (with_conf m) t _ h h (inr (p, record { next = refl; quiet = refl; closes = refl }))
+conf_good m t (part Middle o) p h r =
+    fine_goes MayConfirm past_confirming (with_conf m) t _ h h (inr (p, record { next = refl; quiet = refl; closes = refl }))
+conf_good m t (part Last o) p h r =
+    fine_goes MayConfirm past_confirming (with_conf m) t _ h h (inr (p, record { next = refl; quiet = refl; closes = refl }))
 
 conf_step : (m : ℕ) (t : Taker) (v : Word) → MayConfirm t.state → (respond_word t v).reply ≡ None
     → Goes MayConfirm past_confirming (with_conf m) (respond_word t v) (respond_word (shifted (with_conf m) t) v)

@@ -1,7 +1,11 @@
 -- The move of each input, from the answers of the tables.
 use Rattle.std.proofs.Common.{inl, inr, ◌≡◌, refl, sym, ◌∙◌, ap, ℕ, List, true, false, Some, None, Result, Ok, Err}
 use Rattle.osi_session.specs.declared.faults.CallError.TheVariants as error
-use Rattle.osi_session.proofs.Vocabulary.{SpduFault, Units, tsdu_at, said_at, said_by_units, said_if_read, State, CallError, Words, tsdus_of, tsdus_sent, Call, Step, Answer, allowed, respond_fault, lost, Hearing, heard, respond_tsdu, respond_came, called, taken, unread, opened, refused, broken, came, came_as, Listener, Move, taker_of, rests, in_state, answered, moved, begun, denied, react, after_input, Planned, IsPlanOf, limit_of, cases_Bool, is_wait_transport, is_over}
+use Rattle.osi_session.proofs.Vocabulary.{SpduFault, Units, tsdu_at, said_at, said_by_units, said_if_read, State, CallError, Words}
+use Rattle.osi_session.proofs.Vocabulary.{tsdus_of, tsdus_sent, Call, Step, Answer, allowed, respond_fault, lost, Hearing, heard}
+use Rattle.osi_session.proofs.Vocabulary.{respond_tsdu, respond_came, called, taken, unread, opened, refused, broken, came, came_as}
+use Rattle.osi_session.proofs.Vocabulary.{Listener, Move, taker_of, rests, in_state, answered, moved, begun, denied, react, after_input}
+use Rattle.osi_session.proofs.Vocabulary.{Planned, IsPlanOf, limit_of, cases_Bool, is_wait_transport, is_over}
 
 pub call_is : (s : Listener) (c : Call) (a : Answer) → allowed s.state c ≡ a → react s (called c) ≡ answered s a
 unfolding react
@@ -13,7 +17,8 @@ call_next s c x e = ap (λ (m : Move). m.next) (call_is s c (Ok x) e)
 pub call_leaves : (s : Listener) (c : Call) (x : Step) → allowed s.state c ≡ Ok x → in_state s x.next ≡ (react s (called c)).next
 call_leaves s c x e = sym (call_next s c x e)
 
-pub call_sends : (s : Listener) (c : Call) (x : Step) → allowed s.state c ≡ Ok x → tsdus_of (limit_of s.state) x.sent ≡ tsdus_sent (limit_of s.state) (react s (called c)).reply
+pub call_sends : (s : Listener) (c : Call) (x : Step) → allowed s.state c ≡ Ok x →
+    tsdus_of (limit_of s.state) x.sent ≡ tsdus_sent (limit_of s.state) (react s (called c)).reply
 call_sends s c x e = sym (ap (λ (m : Move). tsdus_sent (limit_of s.state) m.reply) (call_is s c (Ok x) e))
 
 pub call_reply : (s : Listener) (c : Call) (x : Step) → allowed s.state c ≡ Ok x → (react s (called c)).reply ≡ Some x.sent
@@ -30,7 +35,8 @@ unfolding react
 taken_is s words h e = ap (moved s) e
 
 -- the octets of a TSDU: units, or octets that are none
-pub came_is : (s : Listener) (read : Result Words SpduFault) (h : Hearing) → respond_came (taker_of s) read ≡ h → react s (came_as read) ≡ moved s h
+pub came_is : (s : Listener) (read : Result Words SpduFault) (h : Hearing) → respond_came (taker_of s) read ≡ h →
+    react s (came_as read) ≡ moved s h
 unfolding react
 came_is s (Ok words) h e = ap (moved s) e
 came_is s (Err fault) h e = ap (moved s) e
@@ -46,13 +52,16 @@ came_fault tsdu fault e = ap (λ (r : Result Units SpduFault). came_as (said_if_
 -- ---- plans
 
 -- what is committed of a plan is the move of its call
-accepted : (s : Listener) (c : Call) (plan : Planned) (p : IsPlanOf c plan) → plan.was ≡ s.state → allowed s.state c ≡ Ok (record { next = plan.next; sent = p.0 })
+accepted : (s : Listener) (c : Call) (plan : Planned) (p : IsPlanOf c plan) → plan.was ≡ s.state →
+    allowed s.state c ≡ Ok (record { next = plan.next; sent = p.0 })
 accepted s c plan p e = ap (λ (x : State). allowed x c) (sym e) ∙ p.1
 
-pub committed : (s : Listener) (c : Call) (plan : Planned) → IsPlanOf c plan → plan.was ≡ s.state → in_state s plan.next ≡ after_input s (called c)
+pub committed : (s : Listener) (c : Call) (plan : Planned) → IsPlanOf c plan → plan.was ≡ s.state →
+    in_state s plan.next ≡ after_input s (called c)
 committed s c plan p e = call_leaves s c (record { next = plan.next; sent = p.0 }) (accepted s c plan p e)
 
-pub committed_sends : (s : Listener) (c : Call) (plan : Planned) → IsPlanOf c plan → plan.was ≡ s.state → plan.sent ≡ tsdus_sent (limit_of s.state) (react s (called c)).reply
+pub committed_sends : (s : Listener) (c : Call) (plan : Planned) → IsPlanOf c plan → plan.was ≡ s.state →
+    plan.sent ≡ tsdus_sent (limit_of s.state) (react s (called c)).reply
 committed_sends s c plan p e =
     p.2 ∙ ap (λ (x : State). tsdus_of (limit_of x) p.0) e ∙ call_sends s c (record { next = plan.next; sent = p.0 }) (accepted s c plan p e)
 
@@ -71,7 +80,8 @@ planned_live c plan p = elim (cases_Bool (is_over plan.was.phase)) [
     apart x e = cc
 
 -- what was decided and written is a plan
-pub plan_of : (c : Call) (plan : Planned) (x : Step) → allowed plan.was c ≡ Ok x → plan.next ≡ x.next → plan.sent ≡ tsdus_of (limit_of plan.was) x.sent → IsPlanOf c plan
+pub plan_of : (c : Call) (plan : Planned) (x : Step) → allowed plan.was c ≡ Ok x → plan.next ≡ x.next →
+    plan.sent ≡ tsdus_of (limit_of plan.was) x.sent → IsPlanOf c plan
 plan_of c plan x e n o = (x.sent, e ∙ ap (λ (s : State). Ok (let y : Step = record { next = s; sent = x.sent } in y)) (sym n), o)
 
 -- ---- the move of each input

@@ -1,9 +1,17 @@
 -- What closes the transport connection, and that nothing is sent with it.
-use Rattle.std.proofs.Common.{◌≡◌, refl, sym, ◌∙◌, ap, subst, ℕ, Bool, true, false, not, ◌||◌, List, [], ◌∷◌, ◌++◌, None, Result, Ok, Err, if◌then◌else◌, arith}
+use Rattle.std.proofs.Common.{◌≡◌, refl, sym, ◌∙◌, ap, subst, ℕ, Bool, true, false, not, ◌||◌, List, [], ◌∷◌, ◌++◌, None, Result, Ok, Err}
+use Rattle.std.proofs.Common.{if◌then◌else◌, arith}
 use Rattle.std.proofs.lemmas.List.Folds.{list_any-append}
 use Rattle.osi_spdu.specs.declared.kinds.Kind.TheVariants as kind
 use Rattle.osi_session.specs.Moves as whole
-use Rattle.osi_session.proofs.Vocabulary.{list_any, SpduFault, Kind, Zero, Two, category_of, Known, Meaning, RF, DN, AB, AA, meaning_by, said_at, Word, Words, State, is_wait_transport, is_aborting, is_ended, is_over, Call, Answer, allowed, may_close, may_close_word, closes_alone, Taker, Hearing, word_verdict, respond_word, respond_words, heard_then, is_restart_word, acting_words, respond_tsdu, Input, called, taken, unread, opened, refused, broken, came_as, came, Listener, Move, taker_of, rests, answered, begun, denied, react, listening, in_words, Outcome, becomes, reply_for, closes_for, in_aborting, in_ended, respond_unit, Verdict, over, dropped, faulty, fine, verdict, enacted, is_faulty, respond_fault}
+use Rattle.osi_session.proofs.Vocabulary.{list_any, SpduFault, Kind, Zero, Two, category_of, Known, Meaning, RF, DN, AB, AA, meaning_by}
+use Rattle.osi_session.proofs.Vocabulary.{said_at, Word, Words, State, is_wait_transport, is_aborting, is_ended, is_over, Call, Answer}
+use Rattle.osi_session.proofs.Vocabulary.{allowed, may_close, may_close_word, closes_alone, Taker, Hearing, word_verdict, respond_word}
+use Rattle.osi_session.proofs.Vocabulary.{respond_words, heard_then, is_restart_word, acting_words, respond_tsdu, Input, called, taken}
+use Rattle.osi_session.proofs.Vocabulary.{unread, opened, refused, broken, came_as, came, Listener, Move, taker_of, rests, answered, begun}
+use Rattle.osi_session.proofs.Vocabulary.{denied, react, listening, in_words, Outcome, becomes, reply_for, closes_for, in_aborting}
+use Rattle.osi_session.proofs.Vocabulary.{in_ended, respond_unit, Verdict, over, dropped, faulty, fine, verdict, enacted, is_faulty}
+use Rattle.osi_session.proofs.Vocabulary.{respond_fault}
 use Rattle.osi_session.proofs.tables.units_that_are_alone.{StandsAlone, stands_alone, alone_in_octets}
 use Rattle.osi_session.proofs.runs.what_every_run_preserves.{word_ended}
 use Rattle.osi_session.proofs.tables.the_verdict_on_a_unit.{enacts}
@@ -54,7 +62,9 @@ unit_silent s u = (unit_closes_last s u).silent
 -- ---- words one after the other
 
 word_closes_last : (t : Taker) (w : Word) → ClosesLast (outcome_in (respond_word t w))
-word_closes_last t w = word_does ClosesLast t w (record { acts = λ u a. unit_closes_last t.state u; bad = λ fault o. open_still _ refl; rests = open_still _ refl })
+word_closes_last t w =
+    word_does ClosesLast t w
+    (record { acts = λ u a. unit_closes_last t.state u; bad = λ fault o. open_still _ refl; rests = open_still _ refl })
 
 abbrev Ends : Hearing → Type 0
 Ends h = h.closes ≡ true → is_ended h.next.state.phase ≡ true
@@ -129,7 +139,8 @@ all_open t (w ∷ ws) h =
     let one = word_open t w q.0 in
     either_still (is_faulty (word_verdict t w)) _ _ one (none_closes _ _ one (all_open (respond_word t w).next ws q.1))
 
-either_none : (p : Word → Bool) (b : Bool) (x y : Words) → list_any p x ≡ false → list_any p y ≡ false → list_any p (if b then x else y) ≡ false
+either_none : (p : Word → Bool) (b : Bool) (x y : Words) → list_any p x ≡ false → list_any p y ≡ false →
+    list_any p (if b then x else y) ≡ false
 either_none p true x y h k = h
 either_none p false x y h k = k
 
@@ -150,9 +161,11 @@ pub not_true : (b : Bool) → not b ≡ true → b ≡ false
 not_true true h = absurd (cc)
 not_true false h = refl
 
-pub words_silent : (t : Taker) (words : Words) → closes_alone words ≡ true → (respond_tsdu t words).closes ≡ true → (respond_tsdu t words).reply ≡ None
+pub words_silent : (t : Taker) (words : Words) → closes_alone words ≡ true → (respond_tsdu t words).closes ≡ true →
+    (respond_tsdu t words).reply ≡ None
 words_silent t [] h c = let o = words_open t [] refl in absurd (cc)
-words_silent t (w ∷ []) h c = subst (λ (x : Hearing). x.closes ≡ true → x.reply ≡ None) (sym (word_alone t w)) (word_closes_last t w).silent c
+words_silent t (w ∷ []) h c = subst (λ (x : Hearing). x.closes ≡ true → x.reply ≡ None) (sym (word_alone t w)) (word_closes_last t w).silent
+    c
 words_silent t (w ∷ v ∷ ws) h c =
     let o = words_open t (w ∷ v ∷ ws) (not_true (list_any may_close_word (w ∷ v ∷ ws)) h) in absurd (cc)
 
@@ -205,10 +218,12 @@ unfolding react
 input_ends s input h0 = grind (arith, answered_open, words_end, fault_open, either_quiet)
 
 -- and so over whole messages
-pub whole_ends : (s : whole.Standing) (input : whole.Input) → (whole.react s input).closes ≡ true → is_ended (whole.after_input s input).state.phase ≡ true
+pub whole_ends : (s : whole.Standing) (input : whole.Input) → (whole.react s input).closes ≡ true →
+    is_ended (whole.after_input s input).state.phase ≡ true
 whole_ends s input h =
     let same = moves_as_whole s input in
-    subst (λ (m : Move). is_ended m.next.state.phase ≡ true) same (input_ends (listening s) (in_words input) (ap (λ (m : Move). m.closes) same ∙ h))
+    subst (λ (m : Move). is_ended m.next.state.phase ≡ true) same
+        (input_ends (listening s) (in_words input) (ap (λ (m : Move). m.closes) same ∙ h))
 
 came_silent : (s : Listener) (read : Result Words SpduFault) → ((words : Words) → read ≡ Ok words → closes_alone words ≡ true)
     → (react s (came_as read)).closes ≡ true → (react s (came_as read)).reply ≡ None

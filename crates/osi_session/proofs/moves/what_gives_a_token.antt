@@ -2,7 +2,13 @@
 use Rattle.std.proofs.Common.{◌≡◌, refl, sym, ◌∙◌, subst, Bool, true, false, not, ◌&&◌, ◌||◌, unwrap_or, Ok, if◌then◌else◌, arith}
 use Rattle.osi_session.specs.declared.sides.Sides.{Sides}
 use Rattle.osi_session.specs.Sides.{side_for, is_asker, settle, stated, of_asker, of_answerer}
-use Rattle.osi_session.proofs.Vocabulary.{or_left, or_right, and_parts, Answering, RestartDue, Ended, State, Tokens, FunctionalUnits, Token, data_token, minor, major, release, has, set_of, each, no_token, is_within, without, united, functional_units, both_units, available, restarted_at, without_tokens, Call, Accept, Refuse, Data, Give, Please, Minor, MinorConfirm, Major, MajorConfirm, Restart, RestartConfirm, Release, ReleaseAccept, ReleaseRefuse, Abort, Meaning, CN, AC, RF, DT, GT, PT, MIP, MIA, MAP, MAA, RS, RA, FN, DN, NF, AB, AA, Step, after, allowed, is_acceptable, stands, becomes, bad, respond_unit, UnitFault, to_asker, to_answerer, call_gives, unit_gives, call_holds, unit_holds}
+use Rattle.osi_session.proofs.Vocabulary.{or_left, or_right, and_parts, Answering, RestartDue, Ended, State, Tokens, FunctionalUnits, Token}
+use Rattle.osi_session.proofs.Vocabulary.{data_token, minor, major, release, has, set_of, each, no_token, is_within, without, united}
+use Rattle.osi_session.proofs.Vocabulary.{functional_units, both_units, available, restarted_at, without_tokens, Call, Accept, Refuse, Data}
+use Rattle.osi_session.proofs.Vocabulary.{Give, Please, Minor, MinorConfirm, Major, MajorConfirm, Restart, RestartConfirm, Release}
+use Rattle.osi_session.proofs.Vocabulary.{ReleaseAccept, ReleaseRefuse, Abort, Meaning, CN, AC, RF, DT, GT, PT, MIP, MIA, MAP, MAA, RS, RA}
+use Rattle.osi_session.proofs.Vocabulary.{FN, DN, NF, AB, AA, Step, after, allowed, is_acceptable, stands, becomes, bad, respond_unit}
+use Rattle.osi_session.proofs.Vocabulary.{UnitFault, to_asker, to_answerer, call_gives, unit_gives, call_holds, unit_holds}
 use Rattle.osi_session.proofs.tables.what_an_accepted_call_has_passed.{passed}
 use Rattle.osi_session.proofs.tables.the_outcomes_of_each_input.{unit_cases}
 
@@ -78,11 +84,13 @@ more s tokens t h = sym (united_has s.held tokens t) ∙ h
 to_one : (s : State) (units : FunctionalUnits) (sides : Sides) (t : Token) → HeldBy (to_asker units sides t) s t (of_asker units sides)
 to_one s units sides t h = or_right (has s.held t) (to_asker units sides t) (sym (asker_has units sides t) ∙ h)
 
-to_other : (s : State) (units : FunctionalUnits) (sides : Sides) (t : Token) → HeldBy (to_answerer units sides t) s t (of_answerer units sides)
+to_other : (s : State) (units : FunctionalUnits) (sides : Sides) (t : Token) →
+    HeldBy (to_answerer units sides t) s t (of_answerer units sides)
 to_other s units sides t h = or_right (has s.held t) (to_answerer units sides t) (sym (answerer_has units sides t) ∙ h)
 
 after_held : (s : State) (c : Call) (t : Token) → HeldBy (call_gives s c t) s t (after s c).held
-after_held s (Accept requirements serial sides sizes octets) t = to_other s (functional_units requirements) (settle (functional_units requirements) s.wishes sides) t
+after_held s (Accept requirements serial sides sizes octets) t =
+    to_other s (functional_units requirements) (settle (functional_units requirements) s.wishes sides) t
 after_held s (Refuse refusal) t = none s t
 after_held s (Give tokens) t = less s tokens t
 after_held s (Restart n wishes octets) t = none s t
@@ -91,11 +99,13 @@ after_held s (ReleaseAccept octets) t = none s t
 after_held s (Abort octets) t = none s t
 after_held s _ t = kept s t
 
-pub call_held : (s : State) (c : Call) (x : Step) (t : Token) → allowed s c ≡ Ok x → has x.next.held t ≡ true → (has s.held t || call_gives s c t) ≡ true
+pub call_held : (s : State) (c : Call) (x : Step) (t : Token) → allowed s c ≡ Ok x → has x.next.held t ≡ true →
+    (has s.held t || call_gives s c t) ≡ true
 call_held s c x t e =
     let q = passed s c x e in subst (λ (y : Step). HeldBy (call_gives s c t) s t y.next.held) (sym q.gives) (after_held s c t)
 
-opened_held : (b : Bool) (s : State) (x y : State) (t : Token) → x.held ≡ s.held → y.held ≡ no_token → HeldBy false s t (if b then x else y).held
+opened_held : (b : Bool) (s : State) (x y : State) (t : Token) → x.held ≡ s.held → y.held ≡ no_token →
+    HeldBy false s t (if b then x else y).held
 opened_held true s x y t e f = subst (HeldBy false s t) (sym e) (kept s t)
 opened_held false s x y t e f = subst (HeldBy false s t) (sym f) (none s t)
 
@@ -105,7 +115,8 @@ restart_held false s x t e = kept s t
 
 becomes_held : (s : State) (u : Meaning) (t : Token) → HeldBy (unit_gives s u t) s t (becomes s u).held
 becomes_held s (CN version_2 requirements serial wishes from to sizes octets) t = opened_held (is_acceptable version_2 requirements sizes) s
-    (record s { phase = Answering; units = functional_units requirements; wishes = wishes; proposed = unwrap_or serial 0; sizes = sizes }) (without_tokens Ended s) t refl refl
+    (record s { phase = Answering; units = functional_units requirements; wishes = wishes; proposed = unwrap_or serial 0; sizes = sizes })
+        (without_tokens Ended s) t refl refl
 becomes_held s (AC version_2 requirements serial sides sizes octets) t =
     let units = both_units s.units (functional_units requirements) in
     to_one s units (stated units sides) t
@@ -124,7 +135,8 @@ same cause s t h = or_left (has s.held t) cause h
 bare : (cause : Bool) (s : State) (t : Token) → HeldBy cause s t no_token
 bare cause s t h = absurd (let w = no_token_has t in cc)
 
-pub unit_held : (s : State) (u : Meaning) (t : Token) → has (respond_unit s u).next.held t ≡ true → (has s.held t || unit_gives s u t) ≡ true
+pub unit_held : (s : State) (u : Meaning) (t : Token) → has (respond_unit s u).next.held t ≡ true →
+    (has s.held t || unit_gives s u t) ≡ true
 unit_held s u t = unit_cases (λ next. HeldBy (unit_gives s u t) s t next.held) s u (record {
   same = same (unit_gives s u t) s t;
   ended = λ a. bare (unit_gives s u t) s t;
@@ -136,7 +148,8 @@ unit_held s u t = unit_cases (λ next. HeldBy (unit_gives s u t) s t next.held) 
 
 -- after an accepted call
 after_holds : (s : State) (c : Call) (t : Token) → has (after s c).held t ≡ call_holds s c t
-after_holds s (Accept requirements serial sides sizes octets) t = answerer_has (functional_units requirements) (settle (functional_units requirements) s.wishes sides) t
+after_holds s (Accept requirements serial sides sizes octets) t =
+    answerer_has (functional_units requirements) (settle (functional_units requirements) s.wishes sides) t
 after_holds s (Refuse refusal) t = no_token_has t
 after_holds s (Give tokens) t = without_has s.held tokens t
 after_holds s (Restart n wishes octets) t = no_token_has t
@@ -149,14 +162,16 @@ pub call_holds_it : (s : State) (c : Call) (x : Step) (t : Token) → allowed s 
 call_holds_it s c x t e =
     let q = passed s c x e in subst (λ (y : Step). has y.next.held t ≡ call_holds s c t) (sym q.gives) (after_holds s c t)
 
-either_holds : (b : Bool) (x y : State) (t : Token) (p q : Bool) → has x.held t ≡ p → has y.held t ≡ q → has (if b then x else y).held t ≡ (if b then p else q)
+either_holds : (b : Bool) (x y : State) (t : Token) (p q : Bool) → has x.held t ≡ p → has y.held t ≡ q →
+    has (if b then x else y).held t ≡ (if b then p else q)
 either_holds true x y t p q h k = h
 either_holds false x y t p q h k = k
 
 -- after a good unit
 pub unit_holds_it : (s : State) (u : Meaning) (t : Token) → has (becomes s u).held t ≡ unit_holds s u t
 unit_holds_it s (CN version_2 requirements serial wishes from to sizes octets) t = either_holds (is_acceptable version_2 requirements sizes)
-    (record s { phase = Answering; units = functional_units requirements; wishes = wishes; proposed = unwrap_or serial 0; sizes = sizes }) (without_tokens Ended s) t _ _ refl (no_token_has t)
+    (record s { phase = Answering; units = functional_units requirements; wishes = wishes; proposed = unwrap_or serial 0; sizes = sizes })
+        (without_tokens Ended s) t _ _ refl (no_token_has t)
 unit_holds_it s (AC version_2 requirements serial sides sizes octets) t =
     let units = both_units s.units (functional_units requirements) in asker_has units (stated units sides) t
 unit_holds_it s (RF reason octets) t = no_token_has t

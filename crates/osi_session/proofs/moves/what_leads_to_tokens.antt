@@ -1,9 +1,18 @@
 -- What leads to a phase in which tokens may be held.
 use Rattle.std.proofs.Common.{inl, inr, ◌≡◌, refl, sym, subst, Bool, true, false, ◌||◌, List, [], ◌∷◌, if◌then◌else◌, arith}
-use Rattle.osi_session.proofs.Vocabulary.{list_any, cases_Bool, or_left, or_right, Phase, Ready, MajorAsked, MajorDue, Releasing, ReleaseDue, State, is_ready, is_major_asked, is_major_due, is_releasing, is_release_due, may_hold, Call, Accept, Refuse, Data, Give, Please, Minor, MinorConfirm, Major, MajorConfirm, Restart, RestartConfirm, Release, ReleaseAccept, ReleaseRefuse, Abort, Meaning, CN, AC, RF, DT, GT, PT, MIP, MIA, MAP, MAA, RS, RA, FN, DN, NF, AB, AA, Word, Words, as_message, Step, may_call, after, is_expected, is_acceptable, stands, becomes, respond_unit, is_faulty, Taker, Hearing, word_verdict, respond_word, respond_words, acting_words, Input, called, taken, unread, opened, refused, broken, Listener, taker_of, after_input, after_inputs, some_word, call_opens, unit_opens, opens_connection}
+use Rattle.osi_session.proofs.Vocabulary.{list_any, cases_Bool, or_left, or_right, Phase, Ready, MajorAsked, MajorDue, Releasing}
+use Rattle.osi_session.proofs.Vocabulary.{ReleaseDue, State, is_ready, is_major_asked, is_major_due, is_releasing, is_release_due, may_hold}
+use Rattle.osi_session.proofs.Vocabulary.{Call, Accept, Refuse, Data, Give, Please, Minor, MinorConfirm, Major, MajorConfirm, Restart}
+use Rattle.osi_session.proofs.Vocabulary.{RestartConfirm, Release, ReleaseAccept, ReleaseRefuse, Abort, Meaning, CN, AC, RF, DT, GT, PT}
+use Rattle.osi_session.proofs.Vocabulary.{MIP, MIA, MAP, MAA, RS, RA, FN, DN, NF, AB, AA, Word, Words, as_message, Step, may_call, after}
+use Rattle.osi_session.proofs.Vocabulary.{is_expected, is_acceptable, stands, becomes, respond_unit, is_faulty, Taker, Hearing}
+use Rattle.osi_session.proofs.Vocabulary.{word_verdict, respond_word, respond_words, acting_words, Input, called, taken, unread, opened}
+use Rattle.osi_session.proofs.Vocabulary.{refused, broken, Listener, taker_of, after_input, after_inputs, some_word, call_opens, unit_opens}
+use Rattle.osi_session.proofs.Vocabulary.{opens_connection}
 use Rattle.osi_session.proofs.tables.what_an_accepted_call_has_passed.{passed}
 use Rattle.osi_session.proofs.tables.what_is_true_of_each_phase.{implied}
-use Rattle.osi_session.proofs.tables.the_outcomes_of_each_input.{call_cases, unit_cases, taken_cases, fault_cases, opened_cases, refused_cases, broken_cases}
+use Rattle.osi_session.proofs.tables.the_outcomes_of_each_input.{call_cases, unit_cases, taken_cases, fault_cases, opened_cases}
+use Rattle.osi_session.proofs.tables.the_outcomes_of_each_input.{refused_cases, broken_cases}
 use Rattle.osi_session.proofs.tables.a_word_acts_as_its_message.{acts_alike, word_keeps}
 
 -- if tokens may be held after but not before, this is the cause
@@ -17,7 +26,8 @@ same cause p h k = absurd (cc)
 open_before : (cause : Bool) (p q : Phase) → may_hold p ≡ true → OpenedBy cause p q
 open_before cause p q m h k = absurd (cc)
 
-chosen : (cause b : Bool) (p : Phase) (x y : State) → OpenedBy cause p x.phase → OpenedBy cause p y.phase → OpenedBy cause p (if b then x else y).phase
+chosen : (cause b : Bool) (p : Phase) (x y : State) → OpenedBy cause p x.phase → OpenedBy cause p y.phase →
+    OpenedBy cause p (if b then x else y).phase
 chosen cause true p x y h k = h
 chosen cause false p x y h k = k
 
@@ -36,10 +46,12 @@ after_opens s _ p = same _ s.phase
 
 call_opened : (s : Listener) (c : Call) → OpenedBy (call_opens c) s.state.phase (after_input s (called c)).state.phase
 call_opened s c = call_cases (λ next. OpenedBy (call_opens c) s.state.phase next.phase) s c (same _ s.state.phase)
-    (λ x e. let q = passed s.state c x e in subst (λ (y : Step). OpenedBy (call_opens c) s.state.phase y.next.phase) (sym q.gives) (after_opens s.state c q.phase))
+    (λ x e. let q = passed s.state c x e in subst (λ (y : Step). OpenedBy (call_opens c) s.state.phase y.next.phase) (sym q.gives)
+        (after_opens s.state c q.phase))
 
 becomes_opens : (s : State) (u : Meaning) → is_expected s.phase u ≡ true → OpenedBy (unit_opens u) s.phase (becomes s u).phase
-becomes_opens s (CN version_2 requirements serial wishes from to sizes octets) p = chosen _ (is_acceptable version_2 requirements sizes) s.phase _ _ (λ h k. absurd (cc)) (λ h k. absurd (cc))
+becomes_opens s (CN version_2 requirements serial wishes from to sizes octets) p =
+    chosen _ (is_acceptable version_2 requirements sizes) s.phase _ _ (λ h k. absurd (cc)) (λ h k. absurd (cc))
 becomes_opens s (AC version_2 requirements serial sides sizes octets) p = λ h k. refl
 becomes_opens s (RF reason octets) p = λ h k. absurd (cc)
 becomes_opens s (MAP n octets) p = open_before _ s.phase MajorDue (implied is_ready may_hold refl s.phase p)
@@ -69,10 +81,12 @@ weaker a b p q f h k = or_left a b (f h k)
 
 word_opened : (t : Taker) (w : Word) → OpenedBy (unit_opens (as_message w)) t.state.phase (respond_word t w).next.state.phase
 word_opened t w = word_keeps (λ next. OpenedBy (unit_opens (as_message w)) t.state.phase next.phase) t w
-    (λ u a. subst (λ cause. OpenedBy cause t.state.phase (respond_unit t.state u).next.phase) (acts_alike unit_opens (λ a b. refl) w u a) (unit_opened t.state u))
+    (λ u a. subst (λ cause. OpenedBy cause t.state.phase (respond_unit t.state u).next.phase) (acts_alike unit_opens (λ a b. refl) w u a)
+        (unit_opened t.state u))
     (λ o h k. absurd (cc)) (same _ t.state.phase)
 
-either_opened : (cause b : Bool) (p : Phase) (x y : Hearing) → OpenedBy cause p x.next.state.phase → OpenedBy cause p y.next.state.phase → OpenedBy cause p (if b then x else y).next.state.phase
+either_opened : (cause b : Bool) (p : Phase) (x y : Hearing) → OpenedBy cause p x.next.state.phase → OpenedBy cause p y.next.state.phase →
+    OpenedBy cause p (if b then x else y).next.state.phase
 either_opened cause true p x y h k = h
 either_opened cause false p x y h k = k
 
@@ -89,15 +103,20 @@ all_opened t (w ∷ ws) =
     (respond_words next ws).next.state.phase (word_opened t w) (all_opened next ws) in
     either_opened (word_opens w || list_any word_opens ws) (is_faulty (word_verdict t w)) t.state.phase _ _ one both
 
-pub input_opened : (s : Listener) (input : Input) → may_hold s.state.phase ≡ false → may_hold (after_input s input).state.phase ≡ true → opens_connection input ≡ true
+pub input_opened : (s : Listener) (input : Input) → may_hold s.state.phase ≡ false → may_hold (after_input s input).state.phase ≡ true →
+    opens_connection input ≡ true
 input_opened s (called c) = call_opened s c
-input_opened s (taken words) = taken_cases (λ next. OpenedBy (some_word unit_opens words) s.state.phase next.phase) s words (all_opened (taker_of s) (acting_words words))
-input_opened s (unread fault) = fault_cases (λ next. OpenedBy false s.state.phase next.phase) s fault (same _ s.state.phase) (λ o h k. absurd (cc))
+input_opened s (taken words) = taken_cases (λ next. OpenedBy (some_word unit_opens words) s.state.phase next.phase) s words
+    (all_opened (taker_of s) (acting_words words))
+input_opened s (unread fault) = fault_cases (λ next. OpenedBy false s.state.phase next.phase) s fault (same _ s.state.phase)
+    (λ o h k. absurd (cc))
 input_opened s opened = opened_cases (λ next. OpenedBy false s.state.phase next.phase) s (λ w h k. absurd (cc)) (same _ s.state.phase)
-input_opened s (refused reason) = refused_cases (λ next. OpenedBy false s.state.phase next.phase) s reason (λ w h k. absurd (cc)) (same _ s.state.phase)
+input_opened s (refused reason) = refused_cases (λ next. OpenedBy false s.state.phase next.phase) s reason (λ w h k. absurd (cc))
+    (same _ s.state.phase)
 input_opened s broken = broken_cases (λ next. OpenedBy false s.state.phase next.phase) s (λ h k. absurd (cc))
 
-pub some_opened : (s : Listener) (inputs : List Input) → may_hold s.state.phase ≡ false → may_hold (after_inputs s inputs).state.phase ≡ true → list_any opens_connection inputs ≡ true
+pub some_opened : (s : Listener) (inputs : List Input) → may_hold s.state.phase ≡ false →
+    may_hold (after_inputs s inputs).state.phase ≡ true → list_any opens_connection inputs ≡ true
 some_opened s [] h k = absurd (cc)
 some_opened s (input ∷ inputs) h k = elim (cases_Bool (may_hold (after_input s input).state.phase)) [
   | inl t ↦ or_left (opens_connection input) (list_any opens_connection inputs) (input_opened s input h t)

@@ -1,11 +1,22 @@
 -- What raises V(A), and that only a restart lowers it.
-use Rattle.std.proofs.Common.{◌≡◌, refl, sym, ◌∙◌, subst, ℕ, ◌+◌, ◌≤◌, Bool, true, false, not, ◌&&◌, ◌||◌, nat_le, nat_lt, List, [], ◌∷◌, Ok, Option, Some, None, if◌then◌else◌, arith}
+use Rattle.std.proofs.Common.{◌≡◌, refl, sym, ◌∙◌, subst, ℕ, ◌+◌, ◌≤◌, Bool, true, false, not, ◌&&◌, ◌||◌, nat_le, nat_lt, List, [], ◌∷◌}
+use Rattle.std.proofs.Common.{Ok, Option, Some, None, if◌then◌else◌, arith}
 use Rattle.osi_spdu.specs.declared.fields.ResyncType.{ResyncType}
-use Rattle.osi_session.proofs.Vocabulary.{AllByRecursion, list_any, leb-true, and_parts, UnitFault, TokenSetting, State, Numbers, point_sent, point_taken, minor_confirmed, major_confirmed, is_wait_cn, is_aborting, is_ended, IsSound, AreOrdered, Call, Accept, Refuse, Data, Give, Please, Minor, MinorConfirm, Major, MajorConfirm, Restart, RestartConfirm, Release, ReleaseAccept, ReleaseRefuse, Abort, Meaning, CN, AC, RF, DT, GT, PT, MIP, MIA, MAP, MAA, RS, RA, FN, DN, NF, AB, AA, IsNumberedWord, Word, Words, as_message, MinorConfirmed, BadUnit, Step, needs, after, allowed, AllHold, Outcome, si, conditions, first_fault, is_expected, drops, is_acceptable, stands, becomes, bad, judged, take_expected, respond_unit, is_faulty, AllMet, Taker, Hearing, word_verdict, respond_word, respond_words, acting_words, Input, called, taken, unread, opened, refused, broken, Listener, taker_of, after_input, after_inputs, HasNumbersInWords, call_renews, unit_renews, renews}
+use Rattle.osi_session.proofs.Vocabulary.{AllByRecursion, list_any, leb-true, and_parts, UnitFault, TokenSetting, State, Numbers}
+use Rattle.osi_session.proofs.Vocabulary.{point_sent, point_taken, minor_confirmed, major_confirmed, is_wait_cn, is_aborting, is_ended}
+use Rattle.osi_session.proofs.Vocabulary.{IsSound, AreOrdered, Call, Accept, Refuse, Data, Give, Please, Minor, MinorConfirm, Major}
+use Rattle.osi_session.proofs.Vocabulary.{MajorConfirm, Restart, RestartConfirm, Release, ReleaseAccept, ReleaseRefuse, Abort, Meaning, CN}
+use Rattle.osi_session.proofs.Vocabulary.{AC, RF, DT, GT, PT, MIP, MIA, MAP, MAA, RS, RA, FN, DN, NF, AB, AA, IsNumberedWord, Word, Words}
+use Rattle.osi_session.proofs.Vocabulary.{as_message, MinorConfirmed, BadUnit, Step, needs, after, allowed, AllHold, Outcome, si}
+use Rattle.osi_session.proofs.Vocabulary.{conditions, first_fault, is_expected, drops, is_acceptable, stands, becomes, bad, judged}
+use Rattle.osi_session.proofs.Vocabulary.{take_expected, respond_unit, is_faulty, AllMet, Taker, Hearing, word_verdict, respond_word}
+use Rattle.osi_session.proofs.Vocabulary.{respond_words, acting_words, Input, called, taken, unread, opened, refused, broken, Listener}
+use Rattle.osi_session.proofs.Vocabulary.{taker_of, after_input, after_inputs, HasNumbersInWords, call_renews, unit_renews, renews}
 use Rattle.osi_session.proofs.tables.what_an_accepted_call_has_passed.{passed}
 use Rattle.osi_session.proofs.tsdu.what_the_words_of_a_tsdu_preserve.{word_sound}
 use Rattle.osi_session.proofs.tables.a_word_acts_as_its_message.{acts_alike, word_keeps, all_acting}
-use Rattle.osi_session.proofs.tables.the_outcomes_of_each_input.{call_cases, unit_cases, taken_cases, fault_cases, opened_cases, refused_cases, broken_cases}
+use Rattle.osi_session.proofs.tables.the_outcomes_of_each_input.{call_cases, unit_cases, taken_cases, fault_cases, opened_cases}
+use Rattle.osi_session.proofs.tables.the_outcomes_of_each_input.{refused_cases, broken_cases}
 use Rattle.osi_session.proofs.runs.what_every_run_preserves.{input_sound}
 
 -- ---- a confirmation raises V(A)
@@ -23,11 +34,13 @@ call_confirms s n octets x h =
 abbrev Confirms : ℕ → List ℕ → Outcome → Type 0
 Confirms n octets o = o.shown ≡ MinorConfirmed n octets ∷ [] → o.next.numbers.confirmed ≡ n + 1
 
-either : (n : ℕ) (octets : List ℕ) (b : Bool) (x y : Outcome) → Confirms n octets x → Confirms n octets y → Confirms n octets (if b then x else y)
+either : (n : ℕ) (octets : List ℕ) (b : Bool) (x y : Outcome) → Confirms n octets x → Confirms n octets y →
+    Confirms n octets (if b then x else y)
 either n octets true x y h k = h
 either n octets false x y h k = k
 
-not_shown : (b : Bool) (n : ℕ) (octets : List ℕ) (fault : UnitFault) → (if b then [] else BadUnit fault ∷ []) ≡ MinorConfirmed n octets ∷ [] → ⊥
+not_shown : (b : Bool) (n : ℕ) (octets : List ℕ) (fault : UnitFault) → (if b then [] else BadUnit fault ∷ []) ≡ MinorConfirmed n octets ∷
+    [] → ⊥
 not_shown true n octets fault h = cc
 not_shown false n octets fault h = cc
 
@@ -96,11 +109,16 @@ chosen : (v : Numbers) (b : Bool) (x y : State) → Rises v x.numbers → Rises 
 chosen v true x y h k = h
 chosen v false x y h k = k
 
-acknowledged : (s : State) (n : ℕ) (b : Bool) → (not s.numbers.answers && (nat_le s.numbers.confirmed n && b)) ≡ true → s.numbers.confirmed ≤ n
-acknowledged s n b h = leb-true s.numbers.confirmed n (and_parts (nat_le s.numbers.confirmed n) b (and_parts (not s.numbers.answers) (nat_le s.numbers.confirmed n && b) h).1).0
+acknowledged : (s : State) (n : ℕ) (b : Bool) → (not s.numbers.answers && (nat_le s.numbers.confirmed n && b)) ≡ true →
+    s.numbers.confirmed ≤ n
+acknowledged s n b h =
+    leb-true s.numbers.confirmed n
+    (and_parts (nat_le s.numbers.confirmed n) b (and_parts (not s.numbers.answers) (nat_le s.numbers.confirmed n && b) h).1).0
 
-becomes_rises : (s : State) (u : Meaning) → unit_renews u ≡ false → AllMet (conditions s u) → IsSound s → Rises s.numbers (becomes s u).numbers
-becomes_rises s (CN version_2 requirements serial wishes from to sizes octets) r t h = chosen s.numbers (is_acceptable version_2 requirements sizes) _ _ (same s.numbers) (same s.numbers)
+becomes_rises : (s : State) (u : Meaning) → unit_renews u ≡ false → AllMet (conditions s u) → IsSound s →
+    Rises s.numbers (becomes s u).numbers
+becomes_rises s (CN version_2 requirements serial wishes from to sizes octets) r t h =
+    chosen s.numbers (is_acceptable version_2 requirements sizes) _ _ (same s.numbers) (same s.numbers)
 becomes_rises s (AC version_2 requirements serial sides sizes octets) r t h = absurd (cc)
 becomes_rises s (MIP confirm n octets) r t h = taken_rises s.base s.numbers h.ordered
 becomes_rises s (MIA n octets) r t h = minor_rises n s.numbers (acknowledged s n _ t.1.0)
@@ -121,15 +139,18 @@ or_parts : (a b : Bool) → (a || b) ≡ false → (a ≡ false) × (b ≡ false
 or_parts true b h = absurd (cc)
 or_parts false b h = (refl, h)
 
-word_rises : (t : Taker) (w : Word) → unit_renews (as_message w) ≡ false → IsSound t.state → Rises t.state.numbers (respond_word t w).next.state.numbers
+word_rises : (t : Taker) (w : Word) → unit_renews (as_message w) ≡ false → IsSound t.state →
+    Rises t.state.numbers (respond_word t w).next.state.numbers
 word_rises t w r h = word_keeps (λ next. Rises t.state.numbers next.numbers) t w
     (λ u a. unit_rises t.state u (acts_alike unit_renews (λ a b. refl) w u a ∙ r) h) (λ o. same t.state.numbers) (same t.state.numbers)
 
-either_rises : (v : Numbers) (b : Bool) (x y : Hearing) → Rises v x.next.state.numbers → Rises v y.next.state.numbers → Rises v (if b then x else y).next.state.numbers
+either_rises : (v : Numbers) (b : Bool) (x y : Hearing) → Rises v x.next.state.numbers → Rises v y.next.state.numbers →
+    Rises v (if b then x else y).next.state.numbers
 either_rises v true x y h k = h
 either_rises v false x y h k = k
 
-all_rises : (t : Taker) (ws : Words) → list_any (λ w. unit_renews (as_message w)) ws ≡ false → AllByRecursion IsNumberedWord ws → IsSound t.state
+all_rises : (t : Taker) (ws : Words) → list_any (λ w. unit_renews (as_message w)) ws ≡ false → AllByRecursion IsNumberedWord ws →
+    IsSound t.state
     → Rises t.state.numbers (respond_words t ws).next.state.numbers
 unfolding respond_words
 all_rises t [] r small h = same t.state.numbers
@@ -139,16 +160,24 @@ all_rises t (w ∷ ws) r small h =
     let more = all_rises (respond_word t w).next ws parts.1 small.1 (word_sound t w small.0 h) in
     either_rises t.state.numbers (is_faulty (word_verdict t w)) _ _ one (omega arith)
 
-input_rises : (s : Listener) (input : Input) → renews input ≡ false → HasNumbersInWords input → IsSound s.state → Rises s.state.numbers (after_input s input).state.numbers
+input_rises : (s : Listener) (input : Input) → renews input ≡ false → HasNumbersInWords input → IsSound s.state →
+    Rises s.state.numbers (after_input s input).state.numbers
 input_rises s (called c) r small h = call_cases (λ next. Rises s.state.numbers next.numbers) s c (same s.state.numbers)
-    (λ x e. let q = passed s.state c x e in subst (λ (y : Step). Rises s.state.numbers y.next.numbers) (sym q.gives) (after_rises s.state c r q.needed h))
-input_rises s (taken words) r small h = taken_cases (λ next. Rises s.state.numbers next.numbers) s words (all_rises (taker_of s) (acting_words words) r (all_acting IsNumberedWord words small) h)
-input_rises s (unread fault) r small h = fault_cases (λ next. Rises s.state.numbers next.numbers) s fault (same s.state.numbers) (λ o. same s.state.numbers)
-input_rises s opened r small h = opened_cases (λ next. Rises s.state.numbers next.numbers) s (λ w. same s.state.numbers) (same s.state.numbers)
-input_rises s (refused reason) r small h = refused_cases (λ next. Rises s.state.numbers next.numbers) s reason (λ w. same s.state.numbers) (same s.state.numbers)
+    (λ x e. let q = passed s.state c x e in subst (λ (y : Step). Rises s.state.numbers y.next.numbers) (sym q.gives)
+        (after_rises s.state c r q.needed h))
+input_rises s (taken words) r small h =
+    taken_cases (λ next. Rises s.state.numbers next.numbers) s words
+    (all_rises (taker_of s) (acting_words words) r (all_acting IsNumberedWord words small) h)
+input_rises s (unread fault) r small h = fault_cases (λ next. Rises s.state.numbers next.numbers) s fault (same s.state.numbers)
+    (λ o. same s.state.numbers)
+input_rises s opened r small h = opened_cases (λ next. Rises s.state.numbers next.numbers) s (λ w. same s.state.numbers)
+    (same s.state.numbers)
+input_rises s (refused reason) r small h = refused_cases (λ next. Rises s.state.numbers next.numbers) s reason (λ w. same s.state.numbers)
+    (same s.state.numbers)
 input_rises s broken r small h = broken_cases (λ next. Rises s.state.numbers next.numbers) s (same s.state.numbers)
 
-pub never_falls : (s : Listener) (inputs : List Input) → AllByRecursion HasNumbersInWords inputs → AllByRecursion (λ i. renews i ≡ false) inputs → IsSound s.state
+pub never_falls : (s : Listener) (inputs : List Input) → AllByRecursion HasNumbersInWords inputs →
+    AllByRecursion (λ i. renews i ≡ false) inputs → IsSound s.state
     → s.state.numbers.confirmed ≤ (after_inputs s inputs).state.numbers.confirmed
 never_falls s [] small r h = omega arith
 never_falls s (input ∷ inputs) small r h =

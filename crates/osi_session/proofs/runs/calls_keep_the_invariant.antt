@@ -1,6 +1,13 @@
 -- Each accepted call keeps the invariant of a session.
 use Rattle.std.proofs.Common.{◌≡◌, refl, sym, subst, ℕ, ◌≤◌, ◌<◌, Bool, true, false, Ok, arith, if◌then◌else◌}
-use Rattle.osi_session.proofs.Vocabulary.{leb-true, ltb-true, and_parts, TokenSetting, TsduMaximumSize, are_sizes, Phase, Ready, MajorAsked, Releasing, Restarting, Aborting, Ended, State, Numbers, FunctionalUnits, Tokens, functional_units, has_points, point_sent, minor_confirmed, major_confirmed, restarted_at, in_major, is_restart_due, may_hold, may_give, may_ask, is_ready, is_major_due, may_confirm_minor, is_wait_transport, without_tokens, IsSound, AreOrdered, Call, Accept, Refuse, Data, Give, Please, Minor, MinorConfirm, Major, MajorConfirm, Restart, RestartConfirm, Release, ReleaseAccept, ReleaseRefuse, Abort, HasSerial, Step, opened_with, is_confirmable, is_restartable, last_number, needs, may_call, after, allowed, AllHold}
+use Rattle.osi_session.proofs.Vocabulary.{leb-true, ltb-true, and_parts, TokenSetting, TsduMaximumSize, are_sizes, Phase, Ready, MajorAsked}
+use Rattle.osi_session.proofs.Vocabulary.{Releasing, Restarting, Aborting, Ended, State, Numbers, FunctionalUnits, Tokens, functional_units}
+use Rattle.osi_session.proofs.Vocabulary.{has_points, point_sent, minor_confirmed, major_confirmed, restarted_at, in_major, is_restart_due}
+use Rattle.osi_session.proofs.Vocabulary.{may_hold, may_give, may_ask, is_ready, is_major_due, may_confirm_minor, is_wait_transport}
+use Rattle.osi_session.proofs.Vocabulary.{without_tokens, IsSound, AreOrdered, Call, Accept, Refuse, Data, Give, Please, Minor}
+use Rattle.osi_session.proofs.Vocabulary.{MinorConfirm, Major, MajorConfirm, Restart, RestartConfirm, Release, ReleaseAccept, ReleaseRefuse}
+use Rattle.osi_session.proofs.Vocabulary.{Abort, HasSerial, Step, opened_with, is_confirmable, is_restartable, last_number, needs, may_call}
+use Rattle.osi_session.proofs.Vocabulary.{after, allowed, AllHold}
 use Rattle.osi_session.proofs.tables.what_an_accepted_call_has_passed.{passed}
 use Rattle.osi_session.proofs.tables.what_is_true_of_each_phase.{implied, excluded}
 use Rattle.osi_session.proofs.values.what_sizes_are_agreed.{answered_are}
@@ -21,7 +28,8 @@ pub moved : (v : Numbers) (s : State) → AreOrdered s.base v → (in_major s.ph
 moved v s h0 h1 h2 h3 = grind arith
 
 -- a connection that is opened
-pub opened : (units : FunctionalUnits) (held : Tokens) (base : ℕ) (sizes : TsduMaximumSize) (s : State) → base ≤ 1000000 → are_sizes sizes ≡ true
+pub opened : (units : FunctionalUnits) (held : Tokens) (base : ℕ) (sizes : TsduMaximumSize) (s : State) → base ≤ 1000000 →
+    are_sizes sizes ≡ true
     → IsSound s → IsSound (opened_with units held base sizes s)
 opened units held base sizes s h0 h1 h2 = grind (arith, from_ordered)
 
@@ -102,7 +110,8 @@ after_sound s (MajorConfirm octets) small p t h = holding_phase Ready (record s 
     (excluded is_major_due is_restart_due refl s.phase p) h)
 after_sound s (Restart n wishes octets) small p t h = restart_moved s n _ t.1.0 h
 after_sound s (RestartConfirm sides octets) small p t h =
-    record { ordered = h.ordered; first = h.first; major = λ k. absurd (cc); restart = λ k. absurd (cc); tokens = λ k. absurd (cc); sizes = h.sizes }
+    record { ordered = h.ordered; first = h.first; major = λ k. absurd (cc); restart = λ k. absurd (cc); tokens = λ k. absurd (cc);
+        sizes = h.sizes }
 after_sound s (Release octets) small p t h = holding_phase Releasing s refl refl refl h
 after_sound s (ReleaseRefuse octets) small p t h = holding_phase Ready s refl refl refl h
 after_sound s (Abort octets) small p t h = bare Aborting s refl refl h

@@ -1,6 +1,8 @@
 -- No unit goes back to awaiting the transport connection.
 use Rattle.std.proofs.Common.{◌≡◌, Bool, true, false, not, Option, Some, None, if◌then◌else◌, arith}
-use Rattle.osi_session.proofs.Vocabulary.{UnitFault, State, is_wait_transport, is_aborting, is_ended, Meaning, CN, AC, RF, DT, GT, PT, MIP, MIA, MAP, MAA, RS, RA, FN, DN, NF, AB, AA, Outcome, si, conditions, first_fault, is_expected, is_acceptable, stands, becomes, judged, take_expected, in_aborting, in_ended, drops, respond_unit}
+use Rattle.osi_session.proofs.Vocabulary.{UnitFault, State, is_wait_transport, is_aborting, is_ended, Meaning, CN, AC, RF, DT, GT, PT, MIP}
+use Rattle.osi_session.proofs.Vocabulary.{MIA, MAP, MAA, RS, RA, FN, DN, NF, AB, AA, Outcome, si, conditions, first_fault, is_expected}
+use Rattle.osi_session.proofs.Vocabulary.{is_acceptable, stands, becomes, judged, take_expected, in_aborting, in_ended, drops, respond_unit}
 
 abbrev pub Begins : State → State → Type 0
 Begins s next = is_wait_transport next.phase ≡ true → is_wait_transport s.phase ≡ true
@@ -10,7 +12,8 @@ chosen true s x y h k = h
 chosen false s x y h k = k
 
 becomes_begun : (s : State) (u : Meaning) → Begins s (becomes s u)
-becomes_begun s (CN version_2 requirements serial wishes from to sizes octets) = chosen (is_acceptable version_2 requirements sizes) s _ _ (λ k. absurd (cc)) (λ k. absurd (cc))
+becomes_begun s (CN version_2 requirements serial wishes from to sizes octets) =
+    chosen (is_acceptable version_2 requirements sizes) s _ _ (λ k. absurd (cc)) (λ k. absurd (cc))
 becomes_begun s (DT octets) = λ k. k
 becomes_begun s (GT tokens) = λ k. k
 becomes_begun s (PT tokens octets) = λ k. k

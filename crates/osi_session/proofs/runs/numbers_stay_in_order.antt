@@ -1,6 +1,7 @@
 -- The numbers stay in order, however they change.
 use Rattle.std.proofs.Common.{ℕ, ◌+◌, ◌≤◌, ◌<◌, Bool, true, false, nat_lt, arith, if◌then◌else◌}
-use Rattle.osi_session.proofs.Vocabulary.{Numbers, from_base, point_sent, point_taken, minor_confirmed, major_confirmed, restarted_at, lower, AreOrdered}
+use Rattle.osi_session.proofs.Vocabulary.{Numbers, from_base, point_sent, point_taken, minor_confirmed, major_confirmed, restarted_at}
+use Rattle.osi_session.proofs.Vocabulary.{lower, AreOrdered}
 
 chosen_from : (b : Bool) (base x y : ℕ) → base ≤ x → base ≤ y → base ≤ (if b then x else y)
 chosen_from true base x y h k = h

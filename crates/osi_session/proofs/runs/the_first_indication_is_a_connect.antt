@@ -1,13 +1,24 @@
 -- The first indication of a side that awaits a CN is a Connect, and only a CN leads to it.
-use Rattle.std.proofs.Common.{◌⊎◌, inl, inr, ◌≡◌, refl, sym, ◌∙◌, ap, subst, ℕ, Bool, true, false, not, List, [], ◌∷◌, ◌++◌, Option, Some, None, Result, Ok, Err, if◌then◌else◌, arith}
+use Rattle.std.proofs.Common.{◌⊎◌, inl, inr, ◌≡◌, refl, sym, ◌∙◌, ap, subst, ℕ, Bool, true, false, not, List, [], ◌∷◌, ◌++◌, Option, Some}
+use Rattle.std.proofs.Common.{None, Result, Ok, Err, if◌then◌else◌, arith}
 use Rattle.osi_spdu.specs.declared.kinds.Kind.TheVariants as kind
 use Rattle.osi_session.specs.Shown.{Restart}
-use Rattle.osi_session.proofs.Vocabulary.{list_any, SpduFault, Kind, Zero, Two, category_of, Known, Meaning, CN, AB, RS, AA, meaning_by, names, said_at, Word, Words, UnitFault, Unexpected, Spelling, Phase, WaitCn, Aborting, Ended, State, Answer, allowed, unit_asks, asks_first, asks_for_connection, is_taken, is_wait_transport, is_wait_cn, is_aborting, is_ended, is_over, may_abort, shows_loss, Taker, Hearing, word_verdict, respond_word, respond_words, heard_then, acting_words, respond_tsdu, Input, called, taken, unread, opened, refused, broken, came, came_as, Listener, Move, taker_of, answered, begun, denied, rests, react, after_input, Shown, Lost, BadUnit, Aborted, PeerAbort, is_connect, shows_connect, Outcome, si, conditions, first_fault, is_expected, drops, stands, nothing, good, bad, judged, take_expected, shown_for, in_aborting, in_ended, respond_unit, is_acceptable, Verdict, over, dropped, faulty, fine, verdict, enacted, is_faulty, respond_fault}
+use Rattle.osi_session.proofs.Vocabulary.{list_any, SpduFault, Kind, Zero, Two, category_of, Known, Meaning, CN, AB, RS, AA, meaning_by}
+use Rattle.osi_session.proofs.Vocabulary.{names, said_at, Word, Words, UnitFault, Unexpected, Spelling, Phase, WaitCn, Aborting, Ended}
+use Rattle.osi_session.proofs.Vocabulary.{State, Answer, allowed, unit_asks, asks_first, asks_for_connection, is_taken, is_wait_transport}
+use Rattle.osi_session.proofs.Vocabulary.{is_wait_cn, is_aborting, is_ended, is_over, may_abort, shows_loss, Taker, Hearing, word_verdict}
+use Rattle.osi_session.proofs.Vocabulary.{respond_word, respond_words, heard_then, acting_words, respond_tsdu, Input, called, taken, unread}
+use Rattle.osi_session.proofs.Vocabulary.{opened, refused, broken, came, came_as, Listener, Move, taker_of, answered, begun, denied, rests}
+use Rattle.osi_session.proofs.Vocabulary.{react, after_input, Shown, Lost, BadUnit, Aborted, PeerAbort, is_connect, shows_connect, Outcome}
+use Rattle.osi_session.proofs.Vocabulary.{si, conditions, first_fault, is_expected, drops, stands, nothing, good, bad, judged}
+use Rattle.osi_session.proofs.Vocabulary.{take_expected, shown_for, in_aborting, in_ended, respond_unit, is_acceptable, Verdict, over}
+use Rattle.osi_session.proofs.Vocabulary.{dropped, faulty, fine, verdict, enacted, is_faulty, respond_fault}
 use Rattle.osi_session.proofs.tables.units_that_are_alone.{StandsAlone, passes, stands_alone, alone_in_octets}
 use Rattle.osi_session.proofs.tsdu.the_answer_to_a_tsdu.{accepted_callable, stays_over}
 use Rattle.osi_session.proofs.moves.what_closes_the_connection.{neither, not_true, acting_none}
 use Rattle.osi_session.proofs.tables.what_is_true_of_each_phase.{excluded}
-use Rattle.osi_session.proofs.tables.the_outcomes_of_each_input.{not_false, call_cases, fault_cases, opened_cases, refused_cases, broken_cases}
+use Rattle.osi_session.proofs.tables.the_outcomes_of_each_input.{not_false, call_cases, fault_cases, opened_cases, refused_cases}
+use Rattle.osi_session.proofs.tables.the_outcomes_of_each_input.{broken_cases}
 use Rattle.osi_session.proofs.runs.what_every_run_preserves.{input_over}
 use Rattle.osi_session.proofs.tables.the_verdict_on_a_unit.{enacts}
 use Rattle.osi_session.proofs.tables.a_word_acts_as_its_message.{acts_alike, outcome_in, word_does}
@@ -26,13 +37,15 @@ ends o h0 = grind (arith, excluded)
 
 -- ---- one unit
 
-connects : (b : Bool) (x y : State) (i : Shown) → is_wait_cn x.phase ≡ false → shows_connect (i ∷ []) ≡ true → is_over y.phase ≡ true → (o : Outcome)
+connects : (b : Bool) (x y : State) (i : Shown) → is_wait_cn x.phase ≡ false → shows_connect (i ∷ []) ≡ true → is_over y.phase ≡ true →
+    (o : Outcome)
     → o.next ≡ (if b then x else y) → o.shown ≡ (if b then i ∷ [] else []) → Begins o
 connects b x y i h0 h1 h2 o h3 h4 = grind (arith, ends)
 
 good_in : (s : State) (u : Meaning) → is_expected WaitCn u ≡ true → Begins (good s u)
 good_in s (CN version_2 requirements serial wishes from to sizes octets) h =
-    connects (is_acceptable version_2 requirements sizes) _ _ _ refl refl refl (good s (CN version_2 requirements serial wishes from to sizes octets)) refl refl
+    connects (is_acceptable version_2 requirements sizes) _ _ _ refl refl refl
+        (good s (CN version_2 requirements serial wishes from to sizes octets)) refl refl
 good_in s (AB bits octets) h = ends (good s (AB bits octets)) refl
 good_in s _ h = absurd (cc)
 
@@ -40,7 +53,8 @@ good_at : (s : State) (u : Meaning) (p : Phase) → s.phase ≡ p → is_wait_cn
 good_at s u WaitCn e w h = good_in s u h
 good_at s u _ e w h = absurd (cc)
 
-judged_begins : (s : State) (u : Meaning) (f : Option UnitFault) → is_wait_cn s.phase ≡ true → is_expected s.phase u ≡ true → Begins (judged s u f)
+judged_begins : (s : State) (u : Meaning) (f : Option UnitFault) → is_wait_cn s.phase ≡ true → is_expected s.phase u ≡ true →
+    Begins (judged s u f)
 judged_begins s u None w h = good_at s u s.phase refl w h
 judged_begins s u (Some fault) w h = ends (bad s fault) refl
 
@@ -58,7 +72,9 @@ unit_begins s u w =
     (λ x. judged_begins s u (first_fault (si u) (conditions s u)) w (not_false (is_expected s.phase u) x)))))
 
 word_begins : (t : Taker) (w : Word) → is_wait_cn t.state.phase ≡ true → Begins (outcome_in (respond_word t w))
-word_begins t w h = word_does Begins t w (record { acts = λ u a. unit_begins t.state u h; bad = λ fault o. ends (bad t.state fault) refl; rests = still t.state h })
+word_begins t w h =
+    word_does Begins t w
+    (record { acts = λ u a. unit_begins t.state u h; bad = λ fault o. ends (bad t.state fault) refl; rests = still t.state h })
 
 -- ---- words one after the other
 
@@ -76,12 +92,15 @@ abbrev Shows : Hearing → Type 0
 Shows h = shows_loss h.next.state.phase ≡ true → shows_connect h.shown ≡ true
 
 then_shows : (t : Taker) (w : Word) (ws : Words) → Begins (outcome_in (respond_word t w)) → Which (respond_word t w).next.state.phase
-    → (is_wait_cn (respond_word t w).next.state.phase ≡ true → Shows (respond_words (respond_word t w).next ws)) → Shows (heard_then (respond_word t w) (respond_words (respond_word t w).next ws))
+    → (is_wait_cn (respond_word t w).next.state.phase ≡ true → Shows (respond_words (respond_word t w).next ws)) →
+        Shows (heard_then (respond_word t w) (respond_words (respond_word t w).next ws))
 then_shows t w ws one (inl wait) more k =
     ap (λ (l : List Shown). shows_connect (l ++ (respond_words (respond_word t w).next ws).shown)) (one.waits wait) ∙ more wait k
 then_shows t w ws one (inr (inl gone)) more k =
-    absurd (let v = excluded is_over shows_loss refl (respond_words (respond_word t w).next ws).next.state.phase (stays_over (respond_word t w).next ws gone) in cc)
-then_shows t w ws one (inr (inr loss)) more k = first_connect (respond_word t w).shown (respond_words (respond_word t w).next ws).shown (one.shows loss)
+    absurd (let v = excluded is_over shows_loss refl (respond_words (respond_word t w).next ws).next.state.phase
+        (stays_over (respond_word t w).next ws gone) in cc)
+then_shows t w ws one (inr (inr loss)) more k = first_connect (respond_word t w).shown (respond_words (respond_word t w).next ws).shown
+    (one.shows loss)
 
 either_shows : (b : Bool) (x y : Hearing) → Shows x → Shows y → Shows (if b then x else y)
 either_shows true x y h k = h
@@ -92,7 +111,8 @@ unfolding respond_words
 words_show t [] h k = absurd (let e = excluded is_wait_cn shows_loss refl t.state.phase h in cc)
 words_show t (w ∷ ws) h k =
     let one = word_begins t w h in
-    either_shows (is_faulty (word_verdict t w)) (respond_word t w) (heard_then (respond_word t w) (respond_words (respond_word t w).next ws)) one.shows
+    either_shows (is_faulty (word_verdict t w)) (respond_word t w)
+        (heard_then (respond_word t w) (respond_words (respond_word t w).next ws)) one.shows
     (then_shows t w ws one (which (respond_word t w).next.state.phase) (λ e. words_show (respond_word t w).next ws e)) k
 
 -- ---- inputs
@@ -100,29 +120,36 @@ words_show t (w ∷ ws) h k =
 abbrev Hidden : State → Type 0
 Hidden s = shows_loss s.phase ≡ false
 
-taken_shows : (l : Listener) (words : Words) → is_wait_cn l.state.phase ≡ true → shows_loss (after_input l (taken words)).state.phase ≡ true → shows_connect (react l (taken words)).shown ≡ true
+taken_shows : (l : Listener) (words : Words) → is_wait_cn l.state.phase ≡ true →
+    shows_loss (after_input l (taken words)).state.phase ≡ true → shows_connect (react l (taken words)).shown ≡ true
 unfolding react
 taken_shows l words w k = words_show (taker_of l) (acting_words words) w k
 
 hidden : (l : Listener) → is_wait_cn l.state.phase ≡ true → Hidden l.state
 hidden l w = excluded is_wait_cn shows_loss refl l.state.phase w
 
-waiting_shows : (l : Listener) (input : Input) → is_wait_cn l.state.phase ≡ true → shows_loss (after_input l input).state.phase ≡ true → shows_connect (react l input).shown ≡ true
+waiting_shows : (l : Listener) (input : Input) → is_wait_cn l.state.phase ≡ true → shows_loss (after_input l input).state.phase ≡ true →
+    shows_connect (react l input).shown ≡ true
 waiting_shows l (called c) w k =
-    absurd (let h = call_cases Hidden l c (hidden l w) (λ x e. absurd (let a = accepted_callable l.state c x e in let b = excluded is_wait_cn may_abort refl l.state.phase w in cc)) in cc)
+    absurd (let h = call_cases Hidden l c (hidden l w)
+        (λ x e. absurd (let a = accepted_callable l.state c x e in let b = excluded is_wait_cn may_abort refl l.state.phase w in cc)) in cc)
 waiting_shows l (taken words) w k = taken_shows l words w k
 waiting_shows l (unread fault) w k = absurd (let h = fault_cases Hidden l fault (hidden l w) (λ o. refl) in cc)
 waiting_shows l opened w k =
-    absurd (let h = opened_cases Hidden l (λ t. absurd (let e = excluded is_wait_cn is_wait_transport refl l.state.phase w in cc)) (hidden l w) in cc)
+    absurd (let h = opened_cases Hidden l (λ t. absurd (let e = excluded is_wait_cn is_wait_transport refl l.state.phase w in cc))
+        (hidden l w) in cc)
 waiting_shows l (refused reason) w k = absurd (let h = refused_cases Hidden l reason (λ t. refl) (hidden l w) in cc)
 waiting_shows l broken w k = absurd (let h = broken_cases Hidden l refl in cc)
 
-input_shows : (l : Listener) (input : Input) → Which l.state.phase → shows_loss l.state.phase ≡ false → shows_loss (after_input l input).state.phase ≡ true → shows_connect (react l input).shown ≡ true
+input_shows : (l : Listener) (input : Input) → Which l.state.phase → shows_loss l.state.phase ≡ false →
+    shows_loss (after_input l input).state.phase ≡ true → shows_connect (react l input).shown ≡ true
 input_shows l input (inl wait) h k = waiting_shows l input wait k
-input_shows l input (inr (inl gone)) h k = absurd (let v = excluded is_over shows_loss refl (after_input l input).state.phase (input_over l input gone) in cc)
+input_shows l input (inr (inl gone)) h k =
+    absurd (let v = excluded is_over shows_loss refl (after_input l input).state.phase (input_over l input gone) in cc)
 input_shows l input (inr (inr loss)) h k = absurd (cc)
 
-pub shown_first : (l : Listener) (input : Input) → shows_loss l.state.phase ≡ false → shows_loss (after_input l input).state.phase ≡ true → shows_connect (react l input).shown ≡ true
+pub shown_first : (l : Listener) (input : Input) → shows_loss l.state.phase ≡ false → shows_loss (after_input l input).state.phase ≡ true →
+    shows_connect (react l input).shown ≡ true
 shown_first l input h k = input_shows l input (which l.state.phase) h k
 
 -- ---- by a CN alone
@@ -207,7 +234,8 @@ first_asks : (t : Taker) (w : Word) (b : Bool) → passes unit_asks w ≡ b → 
 first_asks t w true e k = refl
 first_asks t w false e k = absurd (let h = tsdu_hides t (w ∷ []) (rw e refl) in cc)
 
-tsdu_asks : (t : Taker) (words : Words) → stands_alone unit_asks words ≡ true → shows_connect (respond_tsdu t words).shown ≡ true → asks_first words ≡ true
+tsdu_asks : (t : Taker) (words : Words) → stands_alone unit_asks words ≡ true → shows_connect (respond_tsdu t words).shown ≡ true →
+    asks_first words ≡ true
 tsdu_asks t words h0 h1 = grind (arith, tsdu_hides, first_asks, passes, not_true)
 
 either_move : (b : Bool) (x y : Move) → Hides x.shown → Hides y.shown → Hides (if b then x else y).shown
@@ -235,5 +263,6 @@ unfolding react
 came_asks l (Ok words) h k = tsdu_asks (taker_of l) words (h words refl) k
 came_asks l (Err fault) h k = absurd (let n = fault_hides l fault in cc)
 
-pub octets_ask : (l : Listener) (octets : List ℕ) → shows_connect (react l (came octets)).shown ≡ true → asks_for_connection (came octets) ≡ true
+pub octets_ask : (l : Listener) (octets : List ℕ) → shows_connect (react l (came octets)).shown ≡ true →
+    asks_for_connection (came octets) ≡ true
 octets_ask l octets k = came_asks l (said_at octets) (alone_in_octets unit_asks asks_alone octets) k

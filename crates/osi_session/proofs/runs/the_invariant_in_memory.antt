@@ -2,7 +2,11 @@
 use Rattle.std.proofs.Common.{◌≡◌, ◌∙◌, refl, sym, ap, subst, ℕ, if◌then◌else◌, ◌<◌, ◌≤◌, Bool, true, false, Some, Ok, arith}
 use Rattle.osi_session.specs.declared.requests.Request.{Request}
 use Rattle.osi_session.specs.declared.requests.Request.TheVariants as request
-use Rattle.osi_session.proofs.Vocabulary.{unit_bits, are_sizes, State, is_wait_transport, in_major, is_restart_due, IsSound, AreOrdered, HasSerial, called_by, Step, allowed, Opening, Numbers, from_base, no_token, functional_units, has_points, Units, Words, units_numbered, Meaning, Taker, Hearing, respond_tsdu, tsdu_at, said_by_units, in_one, words_of, is_second, spelled, written, asked_for, awaiting, asking, lone, lone_of, unit_in}
+use Rattle.osi_session.proofs.Vocabulary.{unit_bits, are_sizes, State, is_wait_transport, in_major, is_restart_due, IsSound, AreOrdered}
+use Rattle.osi_session.proofs.Vocabulary.{HasSerial, called_by, Step, allowed, Opening, Numbers, from_base, no_token, functional_units}
+use Rattle.osi_session.proofs.Vocabulary.{has_points, Units, Words, units_numbered, Meaning, Taker, Hearing, respond_tsdu, tsdu_at}
+use Rattle.osi_session.proofs.Vocabulary.{said_by_units, in_one, words_of, is_second, spelled, written, asked_for, awaiting, asking, lone}
+use Rattle.osi_session.proofs.Vocabulary.{lone_of, unit_in}
 use Rattle.osi_session.proofs.runs.calls_keep_the_invariant.{call_sound, call_begun}
 use Rattle.osi_session.proofs.values.what_sizes_are_agreed.{user_sizes}
 use Rattle.osi_session.proofs.runs.numbers_stay_in_order.{from_ordered}
@@ -20,7 +24,8 @@ pub request_begun : (s : State) (r : Request) (x : Step) → allowed s (called_b
 request_begun s r x h = call_begun s (called_by r) x h
 
 -- before any point
-pub at_first : (s : State) → s.base ≡ 0 → s.numbers ≡ from_base 0 → s.proposed < 1000000 → in_major s.phase ≡ false → is_restart_due s.phase ≡ false
+pub at_first : (s : State) → s.base ≡ 0 → s.numbers ≡ from_base 0 → s.proposed < 1000000 → in_major s.phase ≡ false →
+    is_restart_due s.phase ≡ false
     → s.held ≡ no_token → are_sizes s.sizes ≡ true → IsSound s
 at_first s h0 h1 h2 h3 h4 h5 h6 = grind (arith, from_ordered)
 
@@ -32,10 +37,13 @@ first_small true n h = omega arith
 first_small false n h = omega arith
 
 pub asking_sound : (o : Opening) → IsSound (asking o)
-asking_sound o = at_first (asking o) refl refl (first_small (has_points (functional_units (unit_bits o.requirements))) o.serial.number o.serial.small) refl refl refl (user_sizes o.sizes)
+asking_sound o =
+    at_first (asking o) refl refl (first_small (has_points (functional_units (unit_bits o.requirements))) o.serial.number o.serial.small)
+    refl refl refl (user_sizes o.sizes)
 
 -- a unit that is sent alone is read as it
-pub read_again : (m : Meaning) → is_second m ≡ false → tsdu_at (written m) ≡ Ok (spelled m) → said_by_units (spelled m) ≡ words_of m → unit_in (in_one m) ≡ Some m
+pub read_again : (m : Meaning) → is_second m ≡ false → tsdu_at (written m) ≡ Ok (spelled m) → said_by_units (spelled m) ≡ words_of m →
+    unit_in (in_one m) ≡ Some m
 unfolding unit_in
 read_again m f r s = ap lone_of r ∙ ap lone s ∙ (rw f refl)
 

@@ -1,6 +1,14 @@
 -- Each unit keeps the invariant of a session.
-use Rattle.std.proofs.Common.{◌≡◌, refl, ℕ, ◌+◌, ◌≤◌, ◌<◌, Bool, true, false, not, ◌&&◌, ◌==◌, nat_lt, List, [], ◌∷◌, Option, Some, None, unwrap_or, arith, if◌then◌else◌}
-use Rattle.osi_session.proofs.Vocabulary.{leb-true, ltb-true, and_parts, TokenSetting, Ready, MajorDue, ReleaseDue, RestartDue, Aborting, Ended, UnitFault, State, are_sizes, functional_units, both_units, has_points, has_data, point_taken, minor_confirmed, major_confirmed, restarted_at, in_major, is_restart_due, may_hold, may_ask, is_ready, is_wait_cn, is_major_asked, is_aborting, is_ended, takes_minor_ack, without_tokens, IsSound, Meaning, CN, AC, RF, DT, GT, PT, MIP, MIA, MAP, MAA, RS, RA, FN, DN, NF, AB, AA, IsSmall, IsNumbered, Outcome, Condition, si, conditions, first_fault, is_expected, is_acceptable, is_acknowledgeable, stands, becomes, judged, take_expected, in_aborting, in_ended, drops, respond_unit, AllMet}
+use Rattle.std.proofs.Common.{◌≡◌, refl, ℕ, ◌+◌, ◌≤◌, ◌<◌, Bool, true, false, not, ◌&&◌, ◌==◌, nat_lt, List, [], ◌∷◌, Option, Some, None}
+use Rattle.std.proofs.Common.{unwrap_or, arith, if◌then◌else◌}
+use Rattle.osi_session.proofs.Vocabulary.{leb-true, ltb-true, and_parts, TokenSetting, Ready, MajorDue, ReleaseDue, RestartDue, Aborting}
+use Rattle.osi_session.proofs.Vocabulary.{Ended, UnitFault, State, are_sizes, functional_units, both_units, has_points, has_data}
+use Rattle.osi_session.proofs.Vocabulary.{point_taken, minor_confirmed, major_confirmed, restarted_at, in_major, is_restart_due, may_hold}
+use Rattle.osi_session.proofs.Vocabulary.{may_ask, is_ready, is_wait_cn, is_major_asked, is_aborting, is_ended, takes_minor_ack}
+use Rattle.osi_session.proofs.Vocabulary.{without_tokens, IsSound, Meaning, CN, AC, RF, DT, GT, PT, MIP, MIA, MAP, MAA, RS, RA, FN, DN, NF}
+use Rattle.osi_session.proofs.Vocabulary.{AB, AA, IsSmall, IsNumbered, Outcome, Condition, si, conditions, first_fault, is_expected}
+use Rattle.osi_session.proofs.Vocabulary.{is_acceptable, is_acknowledgeable, stands, becomes, judged, take_expected, in_aborting, in_ended}
+use Rattle.osi_session.proofs.Vocabulary.{drops, respond_unit, AllMet}
 use Rattle.osi_session.proofs.tables.what_is_true_of_each_phase.{implied, excluded}
 use Rattle.osi_session.proofs.values.what_sizes_are_agreed.{smaller_are}
 use Rattle.osi_session.proofs.runs.numbers_stay_in_order.{taken_ordered, minor_ordered, major_ordered, restart_ordered}
@@ -25,7 +33,8 @@ chosen_if false x y h k = k
 third : (a b c : Bool) → (a && (b && c)) ≡ true → c ≡ true
 third a b c h = (and_parts b c (and_parts a (b && c) h).1).1
 
-pub base_small : (b : Bool) (serial : Option ℕ) (proposed : ℕ) → IsSmall serial → proposed < 1000000 → (if b then unwrap_or serial proposed else 0) ≤ 1000000
+pub base_small : (b : Bool) (serial : Option ℕ) (proposed : ℕ) → IsSmall serial → proposed < 1000000 →
+    (if b then unwrap_or serial proposed else 0) ≤ 1000000
 base_small b serial proposed h0 h1 = grind arith
 
 pub first_small : (serial : Option ℕ) → IsSmall serial → unwrap_or serial 0 < 1000000
@@ -73,7 +82,8 @@ same_small : (n next : ℕ) → (n == next) ≡ true → n ≤ 999999 → next <
 same_small n next e h = grind arith
 
 -- the state after a good unit
-pub becomes_sound : (s : State) (u : Meaning) → IsNumbered u → is_expected s.phase u ≡ true → AllMet (conditions s u) → IsSound s → IsSound (becomes s u)
+pub becomes_sound : (s : State) (u : Meaning) → IsNumbered u → is_expected s.phase u ≡ true → AllMet (conditions s u) → IsSound s →
+    IsSound (becomes s u)
 becomes_sound s (CN version_2 requirements serial wishes from to sizes octets) small p t h =
     chosen_if (is_acceptable version_2 requirements sizes) _ _
     (λ e. record {
@@ -112,13 +122,15 @@ becomes_sound s (MAA n octets) small p t h = holding_phase Ready (record s { num
 becomes_sound s (RS kind n wishes octets) small p t h =
     chosen (stands s n) _ _ (restart_moved s n wishes (leb-true s.base n (and_parts _ _ t.1.0).0) small h) h
 becomes_sound s (RA n sides octets) small p t h =
-    record { ordered = h.ordered; first = h.first; major = λ k. absurd (cc); restart = λ k. absurd (cc); tokens = λ k. absurd (cc); sizes = h.sizes }
+    record { ordered = h.ordered; first = h.first; major = λ k. absurd (cc); restart = λ k. absurd (cc); tokens = λ k. absurd (cc);
+        sizes = h.sizes }
 becomes_sound s (FN octets) small p t h = holding_phase ReleaseDue s refl refl refl h
 becomes_sound s (NF octets) small p t h = holding_phase Ready s refl refl refl h
 becomes_sound s AA small p t h = h
 becomes_sound s _ small p t h = bare Ended s refl refl h
 
-judged_sound : (s : State) (u : Meaning) (f : Option UnitFault) → (f ≡ None → IsSound (becomes s u)) → IsSound s → IsSound (judged s u f).next
+judged_sound : (s : State) (u : Meaning) (f : Option UnitFault) → (f ≡ None → IsSound (becomes s u)) → IsSound s →
+    IsSound (judged s u f).next
 judged_sound s u None k h = k refl
 judged_sound s u (Some f) k h = bare Aborting s refl refl h
 

@@ -1,7 +1,12 @@
 -- What every run of a session preserves.
 use Rattle.std.proofs.Common.{◌≡◌, refl, sym, subst, ℕ, true, false, ◌||◌, List, [], ◌∷◌, map, Err, arith}
 use Rattle.osi_session.specs.declared.faults.CallError.TheVariants as error
-use Rattle.osi_session.proofs.Vocabulary.{unit_bits, AllByRecursion, Phase, Connecting, Aborting, Ended, Numbers, State, from_base, is_wait_transport, is_wait_cn, is_aborting, is_ended, is_over, is_restart_due, in_major, IsSound, AreOrdered, Call, Meaning, allowed, respond_unit, Opening, functional_units, has_points, awaiting, asking, Input, called, taken, unread, opened, refused, broken, Listener, taker_of, react, after_input, after_inputs, HasNumbers, HasNumbersInWords, IsFresh, listening, in_words, Taker, respond_word, respond_tsdu, Said, AreNumbered, AreNumberedWords, Word, Words, says}
+use Rattle.osi_session.proofs.Vocabulary.{unit_bits, AllByRecursion, Phase, Connecting, Aborting, Ended, Numbers, State, from_base}
+use Rattle.osi_session.proofs.Vocabulary.{is_wait_transport, is_wait_cn, is_aborting, is_ended, is_over, is_restart_due, in_major, IsSound}
+use Rattle.osi_session.proofs.Vocabulary.{AreOrdered, Call, Meaning, allowed, respond_unit, Opening, functional_units, has_points, awaiting}
+use Rattle.osi_session.proofs.Vocabulary.{asking, Input, called, taken, unread, opened, refused, broken, Listener, taker_of, react}
+use Rattle.osi_session.proofs.Vocabulary.{after_input, after_inputs, HasNumbers, HasNumbersInWords, IsFresh, listening, in_words, Taker}
+use Rattle.osi_session.proofs.Vocabulary.{respond_word, respond_tsdu, Said, AreNumbered, AreNumberedWords, Word, Words, says}
 use Rattle.osi_session.proofs.runs.the_invariant_in_memory.{first_small}
 use Rattle.osi_session.specs.Moves as whole
 use Rattle.osi_session.proofs.runs.no_unit_goes_back_to_awaiting.{Begins}
@@ -9,7 +14,8 @@ use Rattle.osi_session.proofs.tables.a_word_acts_as_its_message.{word_keeps, any
 use Rattle.osi_session.proofs.tables.messages_act_as_the_table_says.{run_as_whole}
 use Rattle.osi_session.proofs.tsdu.what_the_words_of_a_tsdu_preserve.{words_sound, words_begun}
 use Rattle.osi_session.proofs.tables.what_is_true_of_each_phase.{implied, excluded}
-use Rattle.osi_session.proofs.tables.the_outcomes_of_each_input.{call_cases, unit_cases, taken_cases, fault_cases, opened_cases, refused_cases, broken_cases}
+use Rattle.osi_session.proofs.tables.the_outcomes_of_each_input.{call_cases, unit_cases, taken_cases, fault_cases, opened_cases}
+use Rattle.osi_session.proofs.tables.the_outcomes_of_each_input.{refused_cases, broken_cases}
 use Rattle.osi_session.proofs.runs.calls_keep_the_invariant.{bare, call_sound, call_begun}
 use Rattle.osi_session.proofs.values.what_sizes_are_agreed.{user_sizes}
 use Rattle.osi_session.proofs.runs.numbers_stay_in_order.{from_ordered}
@@ -24,7 +30,8 @@ input_sound s opened has h = opened_cases IsSound s (λ w. bare Connecting s.sta
 input_sound s (refused reason) has h = refused_cases IsSound s reason (λ w. bare Ended s.state refl refl h) h
 input_sound s broken has h = broken_cases IsSound s (bare Ended s.state refl refl h)
 
-pub inputs_sound : (s : Listener) (inputs : List Input) → AllByRecursion HasNumbersInWords inputs → IsSound s.state → IsSound (after_inputs s inputs).state
+pub inputs_sound : (s : Listener) (inputs : List Input) → AllByRecursion HasNumbersInWords inputs → IsSound s.state →
+    IsSound (after_inputs s inputs).state
 inputs_sound s [] has h = h
 inputs_sound s (input ∷ inputs) has h = inputs_sound (after_input s input) inputs has.1 (input_sound s input has.0 h)
 
@@ -45,9 +52,11 @@ all_in_numbers : (inputs : List whole.Input) → AllByRecursion HasNumbers input
 all_in_numbers [] h = tt
 all_in_numbers (input ∷ inputs) h = (in_numbers input h.0, all_in_numbers inputs h.1)
 
-pub whole_sound : (s : whole.Standing) (inputs : List whole.Input) → AllByRecursion HasNumbers inputs → IsSound s.state → IsSound (whole.after_inputs s inputs).state
+pub whole_sound : (s : whole.Standing) (inputs : List whole.Input) → AllByRecursion HasNumbers inputs → IsSound s.state →
+    IsSound (whole.after_inputs s inputs).state
 whole_sound s inputs has h =
-    subst (λ (l : Listener). IsSound l.state) (run_as_whole s inputs) (inputs_sound (listening s) (map in_words inputs) (all_in_numbers inputs has) h)
+    subst (λ (l : Listener). IsSound l.state) (run_as_whole s inputs)
+        (inputs_sound (listening s) (map in_words inputs) (all_in_numbers inputs has) h)
 
 pub awaiting_fresh : IsFresh awaiting
 awaiting_fresh = record { phase = refl; held = refl; base = refl; numbers = refl; first = omega arith; sizes = refl }
@@ -61,7 +70,8 @@ fresh_sound s h =
     let restart = excluded (λ p. is_wait_transport p || is_wait_cn p) is_restart_due refl s.phase h.phase in
     let base = sym h.base in
     record {
-      ordered = subst (λ (v : Numbers). AreOrdered s.base v) (sym h.numbers) (subst (λ (b : ℕ). AreOrdered b (from_base 0)) base (from_ordered 0 (omega arith)));
+      ordered = subst (λ (v : Numbers). AreOrdered s.base v) (sym h.numbers)
+          (subst (λ (b : ℕ). AreOrdered b (from_base 0)) base (from_ordered 0 (omega arith)));
       first = h.first;
       major = λ k. absurd (cc);
       restart = λ k. absurd (cc);
@@ -76,7 +86,8 @@ unit_over s u h = unit_cases (λ next. is_over next.phase ≡ true) s u (record 
   same = h;
   ended = λ a. refl;
   bad = λ a e. refl;
-  good = λ a e. absurd (let w = implied is_over (λ p. is_aborting p || is_ended p) refl s.phase h in (let f : (is_aborting s.phase || is_ended s.phase) ≡ false = rw (a, e) refl in cc));
+  good = λ a e. absurd (let w = implied is_over (λ p. is_aborting p || is_ended p) refl s.phase h in
+      (let f : (is_aborting s.phase || is_ended s.phase) ≡ false = rw (a, e) refl in cc));
 })
 
 pub unit_ended : (s : State) (u : Meaning) → is_ended s.phase ≡ true → is_ended (respond_unit s u).next.phase ≡ true
@@ -138,7 +149,8 @@ stays_ended s (input ∷ inputs) h = stays_ended (after_input s input) inputs (i
 
 -- ---- no session goes back to awaiting the transport connection
 
-pub input_begun : (s : Listener) (input : Input) → is_wait_transport (after_input s input).state.phase ≡ true → is_wait_transport s.state.phase ≡ true
+pub input_begun : (s : Listener) (input : Input) → is_wait_transport (after_input s input).state.phase ≡ true →
+    is_wait_transport s.state.phase ≡ true
 input_begun s (called c) = call_cases (Begins s.state) s c (λ k. k) (λ x e k. absurd (let b = call_begun s.state c x e in cc))
 input_begun s (taken words) = taken_cases (Begins s.state) s words (words_begun (taker_of s) words)
 input_begun s (unread fault) = fault_cases (Begins s.state) s fault (λ k. k) (λ o k. absurd (cc))

@@ -1,9 +1,17 @@
 -- What a side may send: calls that a phase refuses, and that its state keeps the invariant.
-use Rattle.std.proofs.Common.{◌≡◌, ◌∙◌, refl, sym, ap, subst, ℕ, ◌+◌, zero, suc, Bool, true, false, not, ◌&&◌, ◌||◌, ◌==◌, is_none, if◌then◌else◌, nat_le, List, [], ◌∷◌, length, Option, Some, None, Ok, Err, option_map, arith}
+use Rattle.std.proofs.Common.{◌≡◌, ◌∙◌, refl, sym, ap, subst, ℕ, ◌+◌, zero, suc, Bool, true, false, not, ◌&&◌, ◌||◌, ◌==◌, is_none}
+use Rattle.std.proofs.Common.{if◌then◌else◌, nat_le, List, [], ◌∷◌, length, Option, Some, None, Ok, Err, option_map, arith}
 use Rattle.osi_session.specs.Counting.{taker_with, CountsCame}
 use Rattle.osi_session.specs.Calls.{refusal_with}
-use Rattle.osi_session.specs.Standing.{Seen, goes, said_within, Count, left_by, calling, fits_user_data, connecting, accepting_in, where_is, said_message, seen_calling}
-use Rattle.osi_session.proofs.Vocabulary.{says, has_no_effect, begins_anew, and_parts, Phase, Releasing, is_over, is_wait_transport, is_answering, is_ready, may_hold, State, FunctionalUnits, TokenSetting, TsduMaximumSize, are_sizes, functional_units, both_units, has_points, has_data, IsSound, Call, Refuse, Data, Give, Please, Minor, MinorConfirm, Major, MajorConfirm, Restart, RestartConfirm, ReleaseAccept, ReleaseRefuse, Abort, HasSerial, Answer, Step, needs, may_call, met, after, most_of, octets_of, each, has_right, names, Meaning, CN, AC, RF, DT, GT, PT, MIP, MIA, MAP, MAA, RS, RA, FN, DN, NF, AB, AA, IsNumbered, IsSmall, said_at, meant_by, meant_numbered}
+use Rattle.osi_session.specs.Standing.{Seen, goes, said_within, Count, left_by, calling, fits_user_data, connecting, accepting_in, where_is}
+use Rattle.osi_session.specs.Standing.{said_message, seen_calling}
+use Rattle.osi_session.proofs.Vocabulary.{says, has_no_effect, begins_anew, and_parts, Phase, Releasing, is_over, is_wait_transport}
+use Rattle.osi_session.proofs.Vocabulary.{is_answering, is_ready, may_hold, State, FunctionalUnits, TokenSetting, TsduMaximumSize}
+use Rattle.osi_session.proofs.Vocabulary.{are_sizes, functional_units, both_units, has_points, has_data, IsSound, Call, Refuse, Data, Give}
+use Rattle.osi_session.proofs.Vocabulary.{Please, Minor, MinorConfirm, Major, MajorConfirm, Restart, RestartConfirm, ReleaseAccept}
+use Rattle.osi_session.proofs.Vocabulary.{ReleaseRefuse, Abort, HasSerial, Answer, Step, needs, may_call, met, after, most_of, octets_of}
+use Rattle.osi_session.proofs.Vocabulary.{each, has_right, names, Meaning, CN, AC, RF, DT, GT, PT, MIP, MIA, MAP, MAA, RS, RA, FN, DN, NF}
+use Rattle.osi_session.proofs.Vocabulary.{AB, AA, IsNumbered, IsSmall, said_at, meant_by, meant_numbered}
 use Rattle.osi_message.specs.declared.messages.Message.{Message}
 use Rattle.osi_session.specs.Respond.{is_restart}
 use Rattle.osi_session.specs.Sides.{stated, answers_wishes}
@@ -33,7 +41,8 @@ answer_left : (a : Answer) (n : State) → left_by a ≡ Some n → (x : Step) �
 answer_left (Ok x) n h = (x, refl, cc)
 answer_left (Err e) n h = absurd (cc)
 
-met_gives : (s : State) (c : Call) (x : Step) (n : State) → HasSerial c → may_call s.phase c ≡ true → met s c ≡ Ok x → x.next ≡ n → IsSound s → IsSound n
+met_gives : (s : State) (c : Call) (x : Step) (n : State) → HasSerial c → may_call s.phase c ≡ true → met s c ≡ Ok x → x.next ≡ n →
+    IsSound s → IsSound n
 unfolding met
 met_gives s c x n small p e f h =
     let t = first_error_ok (needs s c) _ x e in
@@ -54,7 +63,8 @@ is_left : (b : Bool) (x n : State) → (if b then Some x else None) ≡ Some n �
 is_left true x n h = (refl, cc)
 is_left false x n h = absurd (cc)
 
-connecting_left : (s : State) (requirements : ℕ) (serial : Option ℕ) (wishes : TokenSetting) (sizes : TsduMaximumSize) (octets : List ℕ) (n : State) → IsSmall serial
+connecting_left : (s : State) (requirements : ℕ) (serial : Option ℕ) (wishes : TokenSetting) (sizes : TsduMaximumSize) (octets : List ℕ)
+    (n : State) → IsSmall serial
     → connecting s requirements serial wishes sizes octets ≡ Some n → IsSound s → IsSound n
 connecting_left s requirements serial wishes sizes octets n small e h =
     let a = is_left (is_wait_transport s.phase && (fits_user_data octets && are_sizes sizes)) _ n e in
@@ -68,17 +78,22 @@ connecting_left s requirements serial wishes sizes octets n small e h =
       sizes = (and_parts (fits_user_data octets) (are_sizes sizes) p.1).1;
     })
 
-accepting_left : (units : FunctionalUnits) (s : State) (version_2 : Bool) (serial : Option ℕ) (sides : TokenSetting) (sizes : TsduMaximumSize) (octets : List ℕ) (n : State) → IsSmall serial
+accepting_left : (units : FunctionalUnits) (s : State) (version_2 : Bool) (serial : Option ℕ) (sides : TokenSetting)
+    (sizes : TsduMaximumSize) (octets : List ℕ) (n : State) → IsSmall serial
     → accepting_in units s version_2 serial sides sizes octets ≡ Some n → IsSound s → IsSound n
 accepting_left units s version_2 serial sides sizes octets n small e h =
-    let a = is_left (is_answering s.phase && (fits_user_data octets && ((version_2 && (has_data units && are_sizes sizes)) && answers_wishes units s.wishes sides))) _ n e in
+    let a = is_left
+        (is_answering s.phase &&
+        (fits_user_data octets && ((version_2 && (has_data units && are_sizes sizes)) && answers_wishes units s.wishes sides))) _ n e in
     let p = and_parts (fits_user_data octets) _ (and_parts (is_answering s.phase) _ a.0).1 in
     let q = and_parts (version_2 && (has_data units && are_sizes sizes)) _ p.1 in
     let r = and_parts (has_data units) (are_sizes sizes) (and_parts version_2 _ q.0).1 in
-    subst IsSound a.1 (opened _ _ _ _ s (base_small (has_points units) serial s.proposed small h.first) (smaller_are s.sizes sizes h.sizes r.1) h)
+    subst IsSound a.1
+        (opened _ _ _ _ s (base_small (has_points units) serial s.proposed small h.first) (smaller_are s.sizes sizes h.sizes r.1) h)
 
 pub said_sound : (s : State) (m : Meaning) (n : State) → IsNumbered m → said_message s m ≡ Some n → IsSound s → IsSound n
-said_sound s (CN version_2 requirements serial wishes from to sizes octets) n small e h = connecting_left s requirements serial wishes sizes octets n small e h
+said_sound s (CN version_2 requirements serial wishes from to sizes octets) n small e h =
+    connecting_left s requirements serial wishes sizes octets n small e h
 said_sound s (AC version_2 requirements serial sides sizes octets) n small e h =
     accepting_left (both_units s.units (functional_units requirements)) s version_2 serial sides sizes octets n small e h
 said_sound s (RF reason octets) n small e h = calling_left s (Refuse (refusal_with octets)) n tt e h
@@ -132,7 +147,8 @@ message_sound s m n e h = said_sound s (meant_by m) n (meant_numbered m) e h
 
 -- ---- a message that may be sent
 
-pub said_by_message : (s x : Seen) (v n : State) (m : Meaning) (a b : Bool) → v ≡ s.state → a ≡ has_no_effect m → a ≡ false → b ≡ not (is_none s.sent || not (begins_anew m)) → b ≡ false
+pub said_by_message : (s x : Seen) (v n : State) (m : Meaning) (a b : Bool) → v ≡ s.state → a ≡ has_no_effect m → a ≡ false →
+    b ≡ not (is_none s.sent || not (begins_anew m)) → b ≡ false
     → said_message v m ≡ Some n → x ≡ goes s n → said_within s (says m) ≡ Some x
 said_by_message s x v n m a b w e f g h k l =
     let p : has_no_effect m ≡ false = sym e ∙ f in

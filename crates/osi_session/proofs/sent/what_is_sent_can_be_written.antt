@@ -1,7 +1,16 @@
 -- What an accepted call sends, and the answer to a TSDU, can be written.
-use Rattle.std.proofs.Common.{◌≡◌, refl, sym, subst, ℕ, ◌<◌, Bool, true, false, not, ◌&&◌, nat_le, nat_lt, List, [], ◌∷◌, length, Option, Some, None, Ok, if◌then◌else◌, arith}
+use Rattle.std.proofs.Common.{◌≡◌, refl, sym, subst, ℕ, ◌<◌, Bool, true, false, not, ◌&&◌, nat_le, nat_lt, List, [], ◌∷◌, length, Option}
+use Rattle.std.proofs.Common.{Some, None, Ok, if◌then◌else◌, arith}
 use Rattle.osi_spdu.specs.declared.selectors.Selector.{Selector}
-use Rattle.osi_session.proofs.Vocabulary.{unit_bits, are_sizes, leb-true, ltb-true, and_parts, UnitFault, Opening, State, functional_units, has_points, has_data, is_aborting, is_ended, Call, Accept, Refuse, Data, Give, Please, Minor, MinorConfirm, Major, MajorConfirm, Restart, RestartConfirm, Release, ReleaseAccept, ReleaseRefuse, Abort, HasSerial, Meaning, CN, RF, AB, AA, selector_octets, IsSmall, IsNumbered, Said, asked_for, IsSound, Step, last_number, needs, may_call, sends, allowed, AllHold, Outcome, si, conditions, first_fault, is_expected, drops, reply_for, first_reply, judged, take_expected, in_aborting, in_ended, respond_unit, is_faulty, verdict, respond_all, acting, respond, user_data_of, IsAddress, IsAddressed, IsSendable, is_of_version_2, is_sized, called, Listener, react, CanBeSent, Word, Words, Taker, Hearing, word_verdict, respond_word, respond_words, acting_words, respond_tsdu}
+use Rattle.osi_session.proofs.Vocabulary.{unit_bits, are_sizes, leb-true, ltb-true, and_parts, UnitFault, Opening, State, functional_units}
+use Rattle.osi_session.proofs.Vocabulary.{has_points, has_data, is_aborting, is_ended, Call, Accept, Refuse, Data, Give, Please, Minor}
+use Rattle.osi_session.proofs.Vocabulary.{MinorConfirm, Major, MajorConfirm, Restart, RestartConfirm, Release, ReleaseAccept, ReleaseRefuse}
+use Rattle.osi_session.proofs.Vocabulary.{Abort, HasSerial, Meaning, CN, RF, AB, AA, selector_octets, IsSmall, IsNumbered, Said, asked_for}
+use Rattle.osi_session.proofs.Vocabulary.{IsSound, Step, last_number, needs, may_call, sends, allowed, AllHold, Outcome, si, conditions}
+use Rattle.osi_session.proofs.Vocabulary.{first_fault, is_expected, drops, reply_for, first_reply, judged, take_expected, in_aborting}
+use Rattle.osi_session.proofs.Vocabulary.{in_ended, respond_unit, is_faulty, verdict, respond_all, acting, respond, user_data_of, IsAddress}
+use Rattle.osi_session.proofs.Vocabulary.{IsAddressed, IsSendable, is_of_version_2, is_sized, called, Listener, react, CanBeSent, Word}
+use Rattle.osi_session.proofs.Vocabulary.{Words, Taker, Hearing, word_verdict, respond_word, respond_words, acting_words, respond_tsdu}
 use Rattle.osi_session.proofs.moves.the_move_of_each_input.{call_reply}
 use Rattle.osi_session.proofs.tables.a_word_acts_as_its_message.{outcome_in, word_does}
 use Rattle.osi_session.proofs.tables.what_the_table_of_calls_answers.{sent_short}
@@ -21,7 +30,8 @@ serial_small true serial h = omega arith
 serial_small false serial h = tt
 
 sends_numbered : (s : State) (c : Call) → HasSerial c → may_call s.phase c ≡ true → AllHold (needs s c) → IsSound s → IsNumbered (sends s c)
-sends_numbered s (Accept requirements serial sides sizes octets) small p t h = serial_small (has_points (functional_units requirements)) serial small.0
+sends_numbered s (Accept requirements serial sides sizes octets) small p t h =
+    serial_small (has_points (functional_units requirements)) serial small.0
 sends_numbered s (Minor confirm octets) small p t h = leb-true s.numbers.next last_number t.1.1.0
 sends_numbered s (MinorConfirm n octets) small p t h =
     let a = and_parts s.numbers.answers (nat_le s.numbers.confirmed n && nat_lt n s.numbers.next) t.1.0 in
@@ -49,7 +59,8 @@ sent_sendable s c x sound small h =
       short = sent_short s c x h;
     }
 
-pub call_sendable : (s : Listener) (c : Call) (x : Step) → IsSound s.state → HasSerial c → allowed s.state c ≡ Ok x → CanBeSent (react s (called c)).reply
+pub call_sendable : (s : Listener) (c : Call) (x : Step) → IsSound s.state → HasSerial c → allowed s.state c ≡ Ok x →
+    CanBeSent (react s (called c)).reply
 call_sendable s c x sound small h = subst CanBeSent (sym (call_reply s c x h)) (sent_sendable s.state c x sound small h)
 
 -- ---- what a caller asks for
@@ -147,7 +158,8 @@ unfolding respond_words
 all_answered t [] = tt
 all_answered t (w ∷ ws) =
     either_answered (is_faulty (word_verdict t w)) _ _ (word_replies t w)
-    (first_sendable (respond_word t w).reply (respond_words (respond_word t w).next ws).reply (word_replies t w) (all_answered (respond_word t w).next ws))
+    (first_sendable (respond_word t w).reply (respond_words (respond_word t w).next ws).reply (word_replies t w)
+        (all_answered (respond_word t w).next ws))
 
 -- what the words of a TSDU are answered by can be sent
 pub words_answer : (t : Taker) (words : Words) (m : Meaning) → (respond_tsdu t words).reply ≡ Some m → IsSendable m

@@ -1,7 +1,16 @@
 -- If nothing is joined, messages have the effect that the table of units gives. Also the effect of a TSDU of one word.
-use Rattle.std.proofs.Common.{◌≡◌, refl, sym, ◌∙◌, ap, ℕ, Bool, true, false, not, ◌||◌, if◌then◌else◌, List, [], ◌∷◌, ◌++◌, map, Option, Some, None, Ok, Err, inl, inr, arith}
+use Rattle.std.proofs.Common.{◌≡◌, refl, sym, ◌∙◌, ap, ℕ, Bool, true, false, not, ◌||◌, if◌then◌else◌, List, [], ◌∷◌, ◌++◌, map, Option}
+use Rattle.std.proofs.Common.{Some, None, Ok, Err, inl, inr, arith}
 use Rattle.osi_session.specs.Moves as whole
-use Rattle.osi_session.proofs.Vocabulary.{list_any, cases_Bool, append-nil, State, Phase, UnitFault, Unexpected, BadEnclosure, Answer, allowed, is_over, is_aborting, is_wait_transport, Outcome, nothing, Condition, si, conditions, first_fault, is_expected, drops, bad, is_resynchronize, first_reply, Verdict, over, dropped, faulty, fine, by_fault, verdict, is_faulty, enacted, respond_unit, respond_all, acting, respond, and_then, Meaning, GT, no_token, Said, alone, behind, words_of, is_second, Word, Words, says, as_message, Taker, drops_parts, kept_in, word_verdict, joined_by, good_word, Hearing, heard, enacted_word, respond_word, respond_words, heard_then, idle, is_restart_word, acting_words, respond_tsdu, Listener, Move, react, after_input, after_inputs, taken, answered, begun, denied, rests, listening, standing_of, in_words, is_apart, joins}
+use Rattle.osi_session.proofs.Vocabulary.{list_any, cases_Bool, append-nil, State, Phase, UnitFault, Unexpected, BadEnclosure, Answer}
+use Rattle.osi_session.proofs.Vocabulary.{allowed, is_over, is_aborting, is_wait_transport, Outcome, nothing, Condition, si, conditions}
+use Rattle.osi_session.proofs.Vocabulary.{first_fault, is_expected, drops, bad, is_resynchronize, first_reply, Verdict, over, dropped}
+use Rattle.osi_session.proofs.Vocabulary.{faulty, fine, by_fault, verdict, is_faulty, enacted, respond_unit, respond_all, acting, respond}
+use Rattle.osi_session.proofs.Vocabulary.{and_then, Meaning, GT, no_token, Said, alone, behind, words_of, is_second, Word, Words, says}
+use Rattle.osi_session.proofs.Vocabulary.{as_message, Taker, drops_parts, kept_in, word_verdict, joined_by, good_word, Hearing, heard}
+use Rattle.osi_session.proofs.Vocabulary.{enacted_word, respond_word, respond_words, heard_then, idle, is_restart_word, acting_words}
+use Rattle.osi_session.proofs.Vocabulary.{respond_tsdu, Listener, Move, react, after_input, after_inputs, taken, answered, begun, denied}
+use Rattle.osi_session.proofs.Vocabulary.{rests, listening, standing_of, in_words, is_apart, joins}
 use Rattle.osi_session.proofs.tables.the_verdict_on_a_unit.{enacts, empty_item}
 
 -- ---- what is kept
@@ -20,7 +29,8 @@ pub kept_gone : (p : Phase) (joined : Option (List ℕ)) → drops_parts p ≡ t
 kept_gone p joined h = rw h refl
 
 either_twice : (b : Bool) (joined : Option (List ℕ)) →
-    (if◌then◌else◌ {A = Option (List ℕ)} b None (if◌then◌else◌ {A = Option (List ℕ)} b None joined)) ≡ (if◌then◌else◌ {A = Option (List ℕ)} b None joined)
+    (if◌then◌else◌ {A = Option (List ℕ)} b None (if◌then◌else◌ {A = Option (List ℕ)} b None joined)) ≡
+        (if◌then◌else◌ {A = Option (List ℕ)} b None joined)
 either_twice true joined = refl
 either_twice false joined = refl
 
@@ -35,10 +45,12 @@ passes_true n (c ∷ cs) f = ap (λ r. if c.0 then r else Some (c.1 n)) (passes_
 
 pub plain_verdict : (s : State) (u : Meaning) → word_verdict (record { state = s; joined = None }) (says u) ≡ verdict s u
 plain_verdict s u =
-    ap (λ f. if is_over s.phase then over else if drops s u then dropped else if not (is_expected s.phase u) then faulty (Unexpected (si u)) else by_fault f)
+    ap (λ f. if is_over s.phase then over else if drops s u then dropped else if not (is_expected s.phase u) then
+        faulty (Unexpected (si u)) else by_fault f)
     (passes_true (si u) (conditions s u) BadEnclosure)
 
-plain_enacted : (s : State) (u : Meaning) (v : Verdict) → enacted_word (record { state = s; joined = None }) (says u) v ≡ heard None (enacted s u v)
+plain_enacted : (s : State) (u : Meaning) (v : Verdict) →
+    enacted_word (record { state = s; joined = None }) (says u) v ≡ heard None (enacted s u v)
 plain_enacted s u v = grind arith
 
 pub plain_word : (s : State) (u : Meaning) → respond_word (record { state = s; joined = None }) (says u) ≡ heard None (respond_unit s u)
@@ -51,26 +63,35 @@ word_at t w v e = ap (enacted_word t w) e
 
 -- ---- words one after the other
 
-pub heard_none : (o : Outcome) → heard None o ≡ record { next = record { state = o.next; joined = None }; shown = o.shown; reply = o.reply; closes = o.closes }
-heard_none o = let k = kept_none o.next.phase in λ i. record { next = record { state = o.next; joined = k i }; shown = o.shown; reply = o.reply; closes = o.closes }
+pub heard_none : (o : Outcome) →
+    heard None o ≡ record { next = record { state = o.next; joined = None }; shown = o.shown; reply = o.reply; closes = o.closes }
+heard_none o = let k =
+    kept_none o.next.phase in
+    λ i. record { next = record { state = o.next; joined = k i }; shown = o.shown; reply = o.reply; closes = o.closes }
 
-plain_next : (s : State) (u : Meaning) → (respond_word (record { state = s; joined = None }) (says u)).next ≡ record { state = (respond_unit s u).next; joined = None }
+plain_next : (s : State) (u : Meaning) →
+    (respond_word (record { state = s; joined = None }) (says u)).next ≡ record { state = (respond_unit s u).next; joined = None }
 plain_next s u = ap (λ (h : Hearing). h.next) (plain_word s u ∙ heard_none (respond_unit s u))
 
-pub plain_words : (s : State) (us : List Meaning) → respond_words (record { state = s; joined = None }) (map says us) ≡ heard None (respond_all s us)
+pub plain_words : (s : State) (us : List Meaning) →
+    respond_words (record { state = s; joined = None }) (map says us) ≡ heard None (respond_all s us)
 unfolding respond_words respond_all
 plain_words s [] = sym (heard_none (nothing s))
 plain_words s (u ∷ us) =
     ap (λ (v : Verdict). if is_faulty v then respond_word (record { state = s; joined = None }) (says u)
-    else heard_then (respond_word (record { state = s; joined = None }) (says u)) (respond_words (respond_word (record { state = s; joined = None }) (says u)).next (map says us))) (plain_verdict s u)
+    else heard_then (respond_word (record { state = s; joined = None }) (says u))
+        (respond_words (respond_word (record { state = s; joined = None }) (says u)).next (map says us))) (plain_verdict s u)
     ∙ ap (λ (t : Taker). if is_faulty (verdict s u) then respond_word (record { state = s; joined = None }) (says u)
     else heard_then (respond_word (record { state = s; joined = None }) (says u)) (respond_words t (map says us))) (plain_next s u)
     ∙ ap (λ (h : Hearing). if is_faulty (verdict s u) then respond_word (record { state = s; joined = None }) (says u)
     else heard_then (respond_word (record { state = s; joined = None }) (says u)) h) (plain_words (respond_unit s u).next us)
-    ∙ ap (λ (h : Hearing). if is_faulty (verdict s u) then h else heard_then h (heard None (respond_all (respond_unit s u).next us))) (plain_word s u)
+    ∙ ap (λ (h : Hearing). if is_faulty (verdict s u) then h else heard_then h (heard None (respond_all (respond_unit s u).next us)))
+        (plain_word s u)
     ∙ by (is_faulty (verdict s u))
   where
-    by : (b : Bool) → (if b then heard None (respond_unit s u) else heard_then (heard None (respond_unit s u)) (heard None (respond_all (respond_unit s u).next us)))
+    by : (b : Bool) →
+        (if b then heard None (respond_unit s u) else
+        heard_then (heard None (respond_unit s u)) (heard None (respond_all (respond_unit s u).next us)))
         ≡ heard None (if b then respond_unit s u else and_then (respond_unit s u) (respond_all (respond_unit s u).next us))
     by true = refl
     by false = refl
@@ -97,19 +118,25 @@ plain_acting (u ∷ us) =
     ∙ ap (λ ws. if list_any is_resynchronize us then map says us else ws) (says_at_end us u)
     ∙ says_either (list_any is_resynchronize us) us (us ++ u ∷ [])
 
-pub plain_tsdu : (s : State) (said : Said) → respond_tsdu (record { state = s; joined = None }) (map says said) ≡ heard None (respond s said)
+pub plain_tsdu : (s : State) (said : Said) →
+    respond_tsdu (record { state = s; joined = None }) (map says said) ≡ heard None (respond s said)
 plain_tsdu s said = ap (respond_words (record { state = s; joined = None })) (plain_acting said) ∙ plain_words s (acting said)
 
 -- ---- moves
 
-answer_joins : (l : Listener) (a : Answer) → kept_in l.state.phase l.joined ≡ l.joined → answered l a ≡ joins l.joined (whole.answered (standing_of l) a)
+answer_joins : (l : Listener) (a : Answer) → kept_in l.state.phase l.joined ≡ l.joined →
+    answered l a ≡ joins l.joined (whole.answered (standing_of l) a)
 answer_joins l (Ok x) k = refl
-answer_joins l (Err e) k = λ i. record { next = record { state = l.state; waiting = l.waiting; joined = sym k i }; shown = []; reply = None; closes = false; error = Some e }
+answer_joins l (Err e) k =
+    λ i. record { next = record { state = l.state; waiting = l.waiting; joined = sym k i }; shown = []; reply = None; closes = false;
+    error = Some e }
 
 either_joins : (l : Listener) (b : Bool) (m : Move) (n : whole.Move) → kept_in l.state.phase l.joined ≡ l.joined → m ≡ joins l.joined n →
     (if b then m else rests l) ≡ joins l.joined (if b then n else whole.rests (standing_of l))
 either_joins l true m n k h = h
-either_joins l false m n k h = λ i. record { next = record { state = l.state; waiting = l.waiting; joined = sym k i }; shown = []; reply = None; closes = false; error = None }
+either_joins l false m n k h =
+    λ i. record { next = record { state = l.state; waiting = l.waiting; joined = sym k i }; shown = []; reply = None; closes = false;
+    error = None }
 
 -- all but the words of a TSDU do to a session what they do over whole messages, and keep what the phase keeps
 pub others : (l : Listener) (input : whole.Input) → kept_in l.state.phase l.joined ≡ l.joined → is_apart input ≡ true →
@@ -117,10 +144,12 @@ pub others : (l : Listener) (input : whole.Input) → kept_in l.state.phase l.jo
 unfolding react whole.react
 others l input h0 h1 = grind (arith, answer_joins, either_joins)
 
-messages_move : (s : whole.Standing) (said : Said) → react (listening s) (taken (map says said)) ≡ joins None (whole.react s (whole.taken said))
+messages_move : (s : whole.Standing) (said : Said) →
+    react (listening s) (taken (map says said)) ≡ joins None (whole.react s (whole.taken said))
 unfolding react whole.react
 messages_move s said =
-    ap (λ (h : Hearing). let m : Move = record { next = record { state = h.next.state; waiting = s.waiting; joined = h.next.joined }; shown = h.shown; reply = h.reply; closes = h.closes; error = None } in m)
+    ap (λ (h : Hearing). let m : Move = record { next = record { state = h.next.state; waiting = s.waiting; joined = h.next.joined };
+        shown = h.shown; reply = h.reply; closes = h.closes; error = None } in m)
     (plain_tsdu s.state said)
 
 -- and if nothing is joined, so do messages
@@ -135,10 +164,12 @@ moves_as_whole s whole.broken = others (listening s) whole.broken (kept_none s.s
 joins_none : (m : whole.Move) → (joins None m).next ≡ listening m.next
 joins_none m = let k = kept_none m.next.state.phase in λ i. record { state = m.next.state; waiting = m.next.waiting; joined = k i }
 
-pub next_as_whole : (s : whole.Standing) (input : whole.Input) → after_input (listening s) (in_words input) ≡ listening (whole.after_input s input)
+pub next_as_whole : (s : whole.Standing) (input : whole.Input) →
+    after_input (listening s) (in_words input) ≡ listening (whole.after_input s input)
 next_as_whole s input = ap (λ (m : Move). m.next) (moves_as_whole s input) ∙ joins_none (whole.react s input)
 
-pub run_as_whole : (s : whole.Standing) (inputs : List whole.Input) → after_inputs (listening s) (map in_words inputs) ≡ listening (whole.after_inputs s inputs)
+pub run_as_whole : (s : whole.Standing) (inputs : List whole.Input) →
+    after_inputs (listening s) (map in_words inputs) ≡ listening (whole.after_inputs s inputs)
 run_as_whole s [] = refl
 run_as_whole s (input ∷ inputs) =
     ap (λ (l : Listener). after_inputs l (map in_words inputs)) (next_as_whole s input) ∙ run_as_whole (whole.after_input s input) inputs
@@ -146,12 +177,14 @@ run_as_whole s (input ∷ inputs) =
 -- ---- a TSDU of one word
 
 enacted_kept : (t : Taker) (w : Word) (v : Verdict) →
-    record { state = (enacted_word t w v).next.state; joined = kept_in (enacted_word t w v).next.state.phase (enacted_word t w v).next.joined } ≡ (enacted_word t w v).next
+    record { state = (enacted_word t w v).next.state;
+        joined = kept_in (enacted_word t w v).next.state.phase (enacted_word t w v).next.joined } ≡ (enacted_word t w v).next
 enacted_kept t w v = grind (arith, kept_twice)
 
 -- what a word leaves is kept
 pub word_kept : (t : Taker) (w : Word) →
-    record { state = (respond_word t w).next.state; joined = kept_in (respond_word t w).next.state.phase (respond_word t w).next.joined } ≡ (respond_word t w).next
+    record { state = (respond_word t w).next.state; joined = kept_in (respond_word t w).next.state.phase (respond_word t w).next.joined } ≡
+        (respond_word t w).next
 unfolding respond_word
 word_kept t w = enacted_kept t w (word_verdict t w)
 
@@ -187,8 +220,11 @@ unfolding respond_words
 two_words t w = by (is_faulty (word_verdict t w))
     (one_word (respond_word t w).next (says (GT no_token)) ∙ empty_word (respond_word t w).next)
   where
-    by : (b : Bool) → respond_words (respond_word t w).next (says (GT no_token) ∷ []) ≡ heard (respond_word t w).next.joined (nothing (respond_word t w).next.state) →
-        (if b then respond_word t w else heard_then (respond_word t w) (respond_words (respond_word t w).next (says (GT no_token) ∷ []))) ≡ respond_word t w
+    by : (b : Bool) →
+        respond_words (respond_word t w).next (says (GT no_token) ∷ []) ≡ heard (respond_word t w).next.joined
+        (nothing (respond_word t w).next.state) →
+        (if b then respond_word t w else heard_then (respond_word t w) (respond_words (respond_word t w).next (says (GT no_token) ∷ []))) ≡
+            respond_word t w
     by true h = refl
     by false h = ap (heard_then (respond_word t w)) h ∙ then_quiet (respond_word t w) _ (word_kept t w)
 
@@ -196,14 +232,16 @@ pub word_alone : (t : Taker) (w : Word) → respond_tsdu t (w ∷ []) ≡ respon
 unfolding acting_words
 word_alone t w = one_word t w
 
-either_words : (b : Bool) (t : Taker) (x y : Words) (h : Hearing) → respond_words t x ≡ h → respond_words t y ≡ h → respond_words t (if b then x else y) ≡ h
+either_words : (b : Bool) (t : Taker) (x y : Words) (h : Hearing) → respond_words t x ≡ h → respond_words t y ≡ h →
+    respond_words t (if b then x else y) ≡ h
 either_words true t x y h e k = e
 either_words false t x y h e k = k
 
 -- after a token item that names no token a word does what it does alone
 pub word_behind : (t : Taker) (w : Word) → respond_tsdu t (says (GT no_token) ∷ w ∷ []) ≡ respond_word t w
 unfolding acting_words
-word_behind t w = either_words (is_restart_word w || false) t (w ∷ []) (w ∷ says (GT no_token) ∷ []) (respond_word t w) (one_word t w) (two_words t w)
+word_behind t w = either_words (is_restart_word w || false) t (w ∷ []) (w ∷ says (GT no_token) ∷ []) (respond_word t w) (one_word t w)
+    (two_words t w)
 
 -- a message as a word has the effect of the message
 pub words_of_message : (t : Taker) (m : Meaning) → respond_tsdu t (words_of m) ≡ respond_word t (says m)

@@ -1,6 +1,10 @@
 -- The outcomes of each input.
 use Rattle.std.proofs.Common.{◌≡◌, refl, ℕ, Bool, true, false, not, Option, Some, None, Ok, Err, if◌then◌else◌, arith}
-use Rattle.osi_session.proofs.Vocabulary.{SpduFault, Connecting, Aborting, Ended, UnitFault, State, is_wait_transport, is_aborting, is_ended, is_over, without_tokens, Call, Meaning, AB, AA, Words, Step, Answer, allowed, Outcome, si, conditions, first_fault, is_expected, drops, becomes, judged, take_expected, in_aborting, in_ended, respond_unit, AllMet, respond_fault, respond_tsdu, called, taken, unread, opened, refused, broken, Listener, Move, taker_of, answered, react, after_input}
+use Rattle.osi_session.proofs.Vocabulary.{SpduFault, Connecting, Aborting, Ended, UnitFault, State, is_wait_transport, is_aborting}
+use Rattle.osi_session.proofs.Vocabulary.{is_ended, is_over, without_tokens, Call, Meaning, AB, AA, Words, Step, Answer, allowed, Outcome}
+use Rattle.osi_session.proofs.Vocabulary.{si, conditions, first_fault, is_expected, drops, becomes, judged, take_expected, in_aborting}
+use Rattle.osi_session.proofs.Vocabulary.{in_ended, respond_unit, AllMet, respond_fault, respond_tsdu, called, taken, unread, opened}
+use Rattle.osi_session.proofs.Vocabulary.{refused, broken, Listener, Move, taker_of, answered, react, after_input}
 use Rattle.osi_session.proofs.runs.units_keep_the_invariant.{all_met}
 
 -- a call is accepted, or changes nothing
@@ -20,17 +24,20 @@ pub record Leaves (P : State → Type 0) (s : State) (u : Meaning) : Type 0 wher
   pub same : P s
   pub ended : is_aborting s.phase ≡ true → P (without_tokens Ended s)
   pub bad : is_aborting s.phase ≡ false → is_ended s.phase ≡ false → P (without_tokens Aborting s)
-  pub good : is_aborting s.phase ≡ false → is_ended s.phase ≡ false → is_expected s.phase u ≡ true → AllMet (conditions s u) → P (becomes s u)
+  pub good : is_aborting s.phase ≡ false → is_ended s.phase ≡ false → is_expected s.phase u ≡ true → AllMet (conditions s u) →
+      P (becomes s u)
 
 either : (P : State → Type 0) (b : Bool) (x y : Outcome) → (b ≡ true → P x.next) → (b ≡ false → P y.next) → P (if b then x else y).next
 either P true x y h k = h refl
 either P false x y h k = k refl
 
-judged_cases : (P : State → Type 0) (s : State) (u : Meaning) (f : Option UnitFault) → P (without_tokens Aborting s) → (f ≡ None → P (becomes s u)) → P (judged s u f).next
+judged_cases : (P : State → Type 0) (s : State) (u : Meaning) (f : Option UnitFault) → P (without_tokens Aborting s) →
+    (f ≡ None → P (becomes s u)) → P (judged s u f).next
 judged_cases P s u None h k = k refl
 judged_cases P s u (Some f) h k = h
 
-expected_cases : (P : State → Type 0) (s : State) (u : Meaning) → P (without_tokens Aborting s) → (AllMet (conditions s u) → P (becomes s u)) → P (take_expected s u).next
+expected_cases : (P : State → Type 0) (s : State) (u : Meaning) → P (without_tokens Aborting s) →
+    (AllMet (conditions s u) → P (becomes s u)) → P (take_expected s u).next
 unfolding take_expected
 expected_cases P s u h k = judged_cases P s u (first_fault (si u) (conditions s u)) h (λ e. k (all_met (si u) (conditions s u) e))
 
@@ -60,7 +67,8 @@ pub fault_cases : (P : State → Type 0) (s : Listener) (fault : SpduFault) → 
 unfolding react respond_fault
 fault_cases P s fault h k = either P (is_over s.state.phase) _ _ (λ o. h) k
 
-pub taken_cases : (P : State → Type 0) (s : Listener) (words : Words) → P (respond_tsdu (taker_of s) words).next.state → P (after_input s (taken words)).state
+pub taken_cases : (P : State → Type 0) (s : Listener) (words : Words) → P (respond_tsdu (taker_of s) words).next.state →
+    P (after_input s (taken words)).state
 unfolding react
 taken_cases P s words h = h
 
@@ -74,7 +82,8 @@ pub opened_cases : (P : State → Type 0) (s : Listener) → (is_wait_transport 
 unfolding react
 opened_cases P s h k = awaited P (is_wait_transport s.state.phase) _ _ h k
 
-pub refused_cases : (P : State → Type 0) (s : Listener) (reason : ℕ) → (is_wait_transport s.state.phase ≡ true → P (without_tokens Ended s.state))
+pub refused_cases : (P : State → Type 0) (s : Listener) (reason : ℕ) →
+    (is_wait_transport s.state.phase ≡ true → P (without_tokens Ended s.state))
     → P s.state → P (after_input s (refused reason)).state
 unfolding react
 refused_cases P s reason h k = awaited P (is_wait_transport s.state.phase) _ _ h k

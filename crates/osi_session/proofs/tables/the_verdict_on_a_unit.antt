@@ -1,6 +1,13 @@
 -- The verdict on a unit, and on a token item that names no token.
-use Rattle.std.proofs.Common.{inl, inr, ◌≡◌, refl, sym, ◌∙◌, ap, subst, Bool, true, false, not, ◌&&◌, ◌||◌, List, [], ◌∷◌, ◌++◌, Option, Some, None, if◌then◌else◌, arith}
-use Rattle.osi_session.proofs.Vocabulary.{cases_Bool, append-nil, Aborting, UnitFault, Unexpected, State, no_token, is_empty, is_aborting, is_ended, is_over, without_tokens, Meaning, CN, GT, PT, AB, AA, list_any, alone, behind, functional_units, has_data, are_sizes, is_second, said_of, Outcome, Condition, si, conditions, first_fault, is_expected, drops, nothing, bad, judged, take_expected, in_aborting, in_ended, has_no_effect, is_token_item, is_resynchronize, reply_for, first_reply, replies_abort, respond_unit, and_then, Verdict, over, dropped, faulty, fine, by_fault, verdict, enacted, is_faulty, AllMet, IsGood, respond_all, acting, respond}
+use Rattle.std.proofs.Common.{inl, inr, ◌≡◌, refl, sym, ◌∙◌, ap, subst, Bool, true, false, not, ◌&&◌, ◌||◌, List, [], ◌∷◌, ◌++◌, Option}
+use Rattle.std.proofs.Common.{Some, None, if◌then◌else◌, arith}
+use Rattle.osi_session.proofs.Vocabulary.{cases_Bool, append-nil, Aborting, UnitFault, Unexpected, State, no_token, is_empty, is_aborting}
+use Rattle.osi_session.proofs.Vocabulary.{is_ended, is_over, without_tokens, Meaning, CN, GT, PT, AB, AA, list_any, alone, behind}
+use Rattle.osi_session.proofs.Vocabulary.{functional_units, has_data, are_sizes, is_second, said_of, Outcome, Condition, si, conditions}
+use Rattle.osi_session.proofs.Vocabulary.{first_fault, is_expected, drops, nothing, bad, judged, take_expected, in_aborting, in_ended}
+use Rattle.osi_session.proofs.Vocabulary.{has_no_effect, is_token_item, is_resynchronize, reply_for, first_reply, replies_abort}
+use Rattle.osi_session.proofs.Vocabulary.{respond_unit, and_then, Verdict, over, dropped, faulty, fine, by_fault, verdict, enacted}
+use Rattle.osi_session.proofs.Vocabulary.{is_faulty, AllMet, IsGood, respond_all, acting, respond}
 use Rattle.osi_session.proofs.tables.what_is_true_of_each_phase.{implied, every_is}
 
 live : (s : State) (u : Meaning) (d x : Bool) (f : Option UnitFault) →
@@ -61,19 +68,23 @@ same_rest true o p q h = refl
 same_rest false o p q h = ap (and_then o) h
 
 -- after other units a token item that names no token changes nothing
-pub behind_all : (s : State) (us : List Meaning) (item : Meaning) → has_no_effect item ≡ true → respond_all s (us ++ item ∷ []) ≡ respond_all s us
+pub behind_all : (s : State) (us : List Meaning) (item : Meaning) → has_no_effect item ≡ true →
+    respond_all s (us ++ item ∷ []) ≡ respond_all s us
 unfolding respond_all
 behind_all s [] item h = one s item ∙ no_effect s item h
 behind_all s (u ∷ us) item h = same_rest (is_faulty (verdict s u)) (respond_unit s u) _ _ (behind_all (respond_unit s u).next us item h)
 
-either : (b : Bool) (s : State) (x y : List Meaning) (o : Outcome) → respond_all s x ≡ o → respond_all s y ≡ o → respond_all s (if b then x else y) ≡ o
+either : (b : Bool) (s : State) (x y : List Meaning) (o : Outcome) → respond_all s x ≡ o → respond_all s y ≡ o →
+    respond_all s (if b then x else y) ≡ o
 either true s x y o h k = h
 either false s x y o h k = k
 
 -- in front of units it changes nothing
-pub in_front_of_all : (s : State) (item : Meaning) (units : List Meaning) → has_no_effect item ≡ true → respond s (item ∷ units) ≡ respond_all s units
+pub in_front_of_all : (s : State) (item : Meaning) (units : List Meaning) → has_no_effect item ≡ true →
+    respond s (item ∷ units) ≡ respond_all s units
 unfolding acting
-in_front_of_all s item units h = either (list_any is_resynchronize units) s units (units ++ item ∷ []) (respond_all s units) refl (behind_all s units item h)
+in_front_of_all s item units h = either (list_any is_resynchronize units) s units (units ++ item ∷ []) (respond_all s units) refl
+    (behind_all s units item h)
 
 pub in_front : (s : State) (item u : Meaning) → has_no_effect item ≡ true → respond s (behind item u) ≡ respond_unit s u
 in_front s item u h = in_front_of_all s item (u ∷ []) h ∙ one s u
@@ -95,7 +106,8 @@ of_said s u = grind (arith, in_front, empty_item, said_alone)
 faulty_is : (v : Verdict) → is_faulty v ≡ true → (f : UnitFault) × (v ≡ faulty f)
 faulty_is v h0 = grind arith
 
-after_abort : (s : State) (item : Meaning) → is_token_item item ≡ true → respond_unit (without_tokens Aborting s) item ≡ nothing (without_tokens Aborting s)
+after_abort : (s : State) (item : Meaning) → is_token_item item ≡ true →
+    respond_unit (without_tokens Aborting s) item ≡ nothing (without_tokens Aborting s)
 unfolding respond_unit
 after_abort s item h0 = grind arith
 
@@ -119,13 +131,15 @@ choice false s x y o p h k = k
 
 -- a token item acts after the unit after it, and in front of an RS it does not act
 pub item_and_unit : (s : State) (item u : Meaning) → is_token_item item ≡ true →
-    respond s (behind item u) ≡ (if is_resynchronize u then respond_unit s u else and_then (respond_unit s u) (respond_unit (respond_unit s u).next item))
+    respond s (behind item u) ≡ (if is_resynchronize u then respond_unit s u else
+        and_then (respond_unit s u) (respond_unit (respond_unit s u).next item))
 unfolding acting
 item_and_unit s item u t = choice (is_resynchronize u) s (u ∷ []) (u ∷ item ∷ []) _ _ (one s u) (two s u item t)
 
 -- ---- a bad unit is one that is answered by AB
 
-no_abort_if : (b : Bool) (x y : Option Meaning) → replies_abort x ≡ false → replies_abort y ≡ false → replies_abort (if b then x else y) ≡ false
+no_abort_if : (b : Bool) (x y : Option Meaning) → replies_abort x ≡ false → replies_abort y ≡ false →
+    replies_abort (if b then x else y) ≡ false
 no_abort_if true x y h k = h
 no_abort_if false x y h k = k
 
@@ -142,7 +156,8 @@ ended_reply : (s : State) (u : Meaning) → replies_abort (in_ended s u).reply �
 ended_reply s (AB bits octets) = refl
 ended_reply s _ = refl
 
-over_reply : (b : Bool) (x y : Outcome) → replies_abort x.reply ≡ false → replies_abort y.reply ≡ false → replies_abort (if b then x else y).reply ≡ false
+over_reply : (b : Bool) (x y : Outcome) → replies_abort x.reply ≡ false → replies_abort y.reply ≡ false →
+    replies_abort (if b then x else y).reply ≡ false
 over_reply true x y h k = h
 over_reply false x y h k = k
 
@@ -153,5 +168,6 @@ pub bad_is_aborted : (s : State) (u : Meaning) → replies_abort (respond_unit s
 bad_is_aborted s u = ap (λ (o : Outcome). replies_abort o.reply) (enacts s u) ∙ enacted_reply s u (verdict s u)
 
 -- what is reported of an outcome of a unit
-pub told_bad : (s : State) (u : Meaning) (o : Outcome) (b : Bool) → respond_unit s u ≡ o → b ≡ replies_abort o.reply → b ≡ is_faulty (verdict s u)
+pub told_bad : (s : State) (u : Meaning) (o : Outcome) (b : Bool) → respond_unit s u ≡ o → b ≡ replies_abort o.reply →
+    b ≡ is_faulty (verdict s u)
 told_bad s u o b e h = h ∙ ap (λ (p : Outcome). replies_abort p.reply) (sym e) ∙ bad_is_aborted s u

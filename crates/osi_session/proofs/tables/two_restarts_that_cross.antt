@@ -1,8 +1,11 @@
 -- Two restarts that cross: which of them takes effect.
-use Rattle.std.proofs.Common.{inl, inr, ◌⊎◌, ◌≡◌, refl, sym, ◌∙◌, ap, ℕ, ◌≤◌, ◌<◌, Bool, true, false, not, ◌&&◌, List, None, if◌then◌else◌, arith}
+use Rattle.std.proofs.Common.{inl, inr, ◌⊎◌, ◌≡◌, refl, sym, ◌∙◌, ap, ℕ, ◌≤◌, ◌<◌, Bool, true, false, not, ◌&&◌, List, None, if◌then◌else◌}
+use Rattle.std.proofs.Common.{arith}
 use Rattle.osi_spdu.specs.declared.fields.ResyncType.TheVariants.{Restart}
 use Rattle.osi_session.specs.Restarts.{HasAsked, AreCrossed, after_restart}
-use Rattle.osi_session.proofs.Vocabulary.{lt-ltb, le-ltb, le-leb, eq-eqb, ne_eqb, cases_order, TokenSetting, State, is_aborting, is_ended, is_restarting, is_restart_due, takes_restart, restarted_at, lower, no_token, GT, RS, Outcome, si, conditions, first_fault, judged, stands, becomes, good, take_expected, respond_unit}
+use Rattle.osi_session.proofs.Vocabulary.{lt-ltb, le-ltb, le-leb, eq-eqb, ne_eqb, cases_order, TokenSetting, State, is_aborting, is_ended}
+use Rattle.osi_session.proofs.Vocabulary.{is_restarting, is_restart_due, takes_restart, restarted_at, lower, no_token, GT, RS, Outcome, si}
+use Rattle.osi_session.proofs.Vocabulary.{conditions, first_fault, judged, stands, becomes, good, take_expected, respond_unit}
 use Rattle.osi_session.proofs.tables.what_is_true_of_each_phase.{implied, excluded}
 use Rattle.osi_session.proofs.tables.the_verdict_on_a_unit.{in_front, empty_item}
 
@@ -29,11 +32,14 @@ equal_stands s n r e =
 
 -- ---- one of two restarts takes effect
 
-pub of_equal : (c o : State) → AreCrossed c o → c.numbers.next ≡ o.numbers.next → (stands o c.numbers.next ≡ true) × (stands c o.numbers.next ≡ false)
+pub of_equal : (c o : State) → AreCrossed c o → c.numbers.next ≡ o.numbers.next →
+    (stands o c.numbers.next ≡ true) × (stands c o.numbers.next ≡ false)
 of_equal c o x e =
-    (equal_stands o c.numbers.next x.other_asked.phase e ∙ ap not x.is_other, equal_stands c o.numbers.next x.asked.phase (sym e) ∙ ap not x.is_caller)
+    (equal_stands o c.numbers.next x.other_asked.phase e ∙ ap not x.is_other, equal_stands c o.numbers.next x.asked.phase (sym e) ∙
+        ap not x.is_caller)
 
-pub of_lower : (a b : State) → HasAsked a → HasAsked b → a.numbers.next < b.numbers.next → (stands b a.numbers.next ≡ true) × (stands a b.numbers.next ≡ false)
+pub of_lower : (a b : State) → HasAsked a → HasAsked b → a.numbers.next < b.numbers.next →
+    (stands b a.numbers.next ≡ true) × (stands a b.numbers.next ≡ false)
 of_lower a b x y lt = (lower_stands b a.numbers.next y.phase lt, higher_yields a b.numbers.next x.phase lt)
 
 -- ---- what both sides become
@@ -62,7 +68,8 @@ good_restart s n wishes octets x from =
     other (is_aborting s.phase) _ _ a ∙ other (is_ended s.phase) _ _ e ∙ other (is_restarting s.phase && false) _ _ d
     ∙ other (not (takes_restart s.phase)) _ _ (ap not t) ∙ ap (judged s (RS Restart n wishes octets)) (expected s n wishes octets x from)
 
-taken : (s : State) (n : ℕ) (wishes : TokenSetting) (octets : List ℕ) → HasAsked s → s.base ≤ n → after_restart s n wishes octets ≡ becomes s (RS Restart n wishes octets)
+taken : (s : State) (n : ℕ) (wishes : TokenSetting) (octets : List ℕ) → HasAsked s → s.base ≤ n →
+    after_restart s n wishes octets ≡ becomes s (RS Restart n wishes octets)
 taken s n wishes octets x from =
     ap (λ (o : Outcome). o.next) (in_front s (GT no_token) (RS Restart n wishes octets) empty_item ∙ good_restart s n wishes octets x from)
 
@@ -111,6 +118,8 @@ agreed c o wishes asked octets others x = elim (cases_order c.numbers.next o.num
 
 -- the one has a restart to answer, and the other awaits the answer
 pub one_answers : (c o : State) (wishes asked : TokenSetting) (octets others : List ℕ) → AreCrossed c o →
-    ((is_restart_due (after_restart c o.numbers.next asked others).phase ≡ true) × (is_restarting (after_restart o c.numbers.next wishes octets).phase ≡ true))
-    ⊎ ((is_restarting (after_restart c o.numbers.next asked others).phase ≡ true) × (is_restart_due (after_restart o c.numbers.next wishes octets).phase ≡ true))
+    ((is_restart_due (after_restart c o.numbers.next asked others).phase ≡ true) ×
+        (is_restarting (after_restart o c.numbers.next wishes octets).phase ≡ true))
+    ⊎ ((is_restarting (after_restart c o.numbers.next asked others).phase ≡ true) ×
+        (is_restart_due (after_restart o c.numbers.next wishes octets).phase ≡ true))
 one_answers c o wishes asked octets others h0 = grind (arith, cases_order, of_equal, yields_next, stands_next, of_lower)

@@ -1,10 +1,13 @@
 -- Units that are alone in a TSDU: those of category 1 (X.225 section 6.3.7).
-use Rattle.std.proofs.Common.{◌≡◌, refl, subst, ℕ, Bool, true, false, not, ◌||◌, List, [], ◌∷◌, ap, Option, Some, None, Result, Ok, Err, arith}
+use Rattle.std.proofs.Common.{◌≡◌, refl, subst, ℕ, Bool, true, false, not, ◌||◌, List, [], ◌∷◌, ap, Option, Some, None, Result, Ok, Err}
+use Rattle.std.proofs.Common.{arith}
 use Rattle.osi_spdu.specs.declared.kinds.Category.{Category}
 use Rattle.osi_spdu.specs.Spelling.{AreBehind}
 use Rattle.osi_spdu.proofs.basics.the_steps_of_reading.{bind_ok, ok_is}
 use Rattle.osi_spdu.proofs.tsdu.units_and_tsdus_are_read.{behind_stands}
-use Rattle.osi_session.proofs.Vocabulary.{list_any, SpduFault, Kind, Zero, One, Two, category_of, Known, Contents, Units, Placed, unit_at, contents_of, behind_at, ended, continued, tsdu_at, Meaning, DT, Place, meaning_by, meaning, place_of, word_at, word, said_by_units, said_if_read, said_at, Word, Words, as_message}
+use Rattle.osi_session.proofs.Vocabulary.{list_any, SpduFault, Kind, Zero, One, Two, category_of, Known, Contents, Units, Placed, unit_at}
+use Rattle.osi_session.proofs.Vocabulary.{contents_of, behind_at, ended, continued, tsdu_at, Meaning, DT, Place, meaning_by, meaning}
+use Rattle.osi_session.proofs.Vocabulary.{place_of, word_at, word, said_by_units, said_if_read, said_at, Word, Words, as_message}
 
 -- a test that passes no token item and no unit of category 2
 pub record StandsAlone (p : Meaning → Bool) : Type 0 where
@@ -26,7 +29,8 @@ IsAlone p units = stands_alone p (said_by_units units) ≡ true
 none_passes : (a b : Bool) → a ≡ false → b ≡ false → (a || b) ≡ false
 none_passes a b h k = rw (h, k) refl
 
-word_passes : (p : Meaning → Bool) → StandsAlone p → (place : Option Place) (unit : Contents) → p (meaning unit) ≡ false → passes p (word_at place unit) ≡ false
+word_passes : (p : Meaning → Bool) → StandsAlone p → (place : Option Place) (unit : Contents) → p (meaning unit) ≡ false →
+    passes p (word_at place unit) ≡ false
 word_passes p a None unit h = h
 word_passes p a (Some place) unit h = a.plain unit.information
 
@@ -45,7 +49,8 @@ all_behind p a (unit ∷ units) h = none_passes _ _ (behind_word p a unit h.0) (
 none_alone : (p : Meaning → Bool) (words : Words) → list_any (passes p) words ≡ false → stands_alone p words ≡ true
 none_alone p words h0 = grind arith
 
-ended_alone : (p : Meaning → Bool) (at : ℕ) (octets : List ℕ) (unit : Contents) (units : Units) → ended at octets unit ≡ Ok units → IsAlone p units
+ended_alone : (p : Meaning → Bool) (at : ℕ) (octets : List ℕ) (unit : Contents) (units : Units) → ended at octets unit ≡ Ok units →
+    IsAlone p units
 ended_alone p at [] unit units e = subst (IsAlone p) (ok_is (unit ∷ []) units e) refl
 ended_alone p at (b ∷ octets) unit units e = absurd (cc)
 
@@ -67,10 +72,12 @@ units_alone p a octets units e =
 
 read_alone : (p : Meaning → Bool) (read : Result Units SpduFault) (words : Words) → ((units : Units) → read ≡ Ok units → IsAlone p units)
     → said_if_read read ≡ Ok words → stands_alone p words ≡ true
-read_alone p (Ok units) words h e = let same : said_by_units units ≡ words = cc in subst (λ (x : Words). stands_alone p x ≡ true) same (h units refl)
+read_alone p (Ok units) words h e = let same : said_by_units units ≡ words =
+    cc in subst (λ (x : Words). stands_alone p x ≡ true) same (h units refl)
 read_alone p (Err fault) words h e = absurd (cc)
 
 -- the same for octets
-pub alone_in_octets : (p : Meaning → Bool) → StandsAlone p → (octets : List ℕ) (words : Words) → said_at octets ≡ Ok words → stands_alone p words ≡ true
+pub alone_in_octets : (p : Meaning → Bool) → StandsAlone p → (octets : List ℕ) (words : Words) → said_at octets ≡ Ok words →
+    stands_alone p words ≡ true
 unfolding said_at
 alone_in_octets p a octets words e = read_alone p (tsdu_at octets) words (units_alone p a octets) e

@@ -1,6 +1,7 @@
 -- What is true of each phase.
 use Rattle.std.proofs.Common.{◌≡◌, refl, Bool, true, false, not, ◌||◌, arith}
-use Rattle.osi_session.proofs.Vocabulary.{and_parts, Phase, WaitTransport, WaitCn, Connecting, Answering, Ready, MajorAsked, MajorDue, Releasing, ReleaseDue, Restarting, RestartDue, Aborting, Ended, every_phase}
+use Rattle.osi_session.proofs.Vocabulary.{and_parts, Phase, WaitTransport, WaitCn, Connecting, Answering, Ready, MajorAsked, MajorDue}
+use Rattle.osi_session.proofs.Vocabulary.{Releasing, ReleaseDue, Restarting, RestartDue, Aborting, Ended, every_phase}
 
 -- a test that each phase passes is passed by this one
 pub every_is : (f : Phase → Bool) → every_phase f ≡ true → (p : Phase) → f p ≡ true

@@ -1,7 +1,12 @@
 -- The table of calls never returns `OutOfMemory`, and a call sends no more user data than fits.
-use Rattle.std.proofs.Common.{◌≡◌, refl, sym, ap, subst, ◌<◌, Bool, true, false, not, ◌&&◌, nat_le, List, [], ◌∷◌, length, Ok, Err, arith, if◌then◌else◌}
+use Rattle.std.proofs.Common.{◌≡◌, refl, sym, ap, subst, ◌<◌, Bool, true, false, not, ◌&&◌, nat_le, List, [], ◌∷◌, length, Ok, Err, arith}
+use Rattle.std.proofs.Common.{if◌then◌else◌}
 use Rattle.osi_session.specs.declared.faults.CallError.TheVariants as error
-use Rattle.osi_session.proofs.Vocabulary.{refusal_octets, leb-true, CallError, State, is_over, Call, Accept, Refuse, Data, Give, Please, Minor, MinorConfirm, Major, MajorConfirm, Restart, RestartConfirm, Release, ReleaseAccept, ReleaseRefuse, Abort, Test, Step, Answer, first_error, needs, may_call, octets_of, most_of, after, sends, met, sized, allowed, fits_limit, is_memory, Refused, RefusedBy, Meaning, user_data_of, called, Listener, react}
+use Rattle.osi_session.proofs.Vocabulary.{refusal_octets, leb-true, CallError, State, is_over, Call, Accept, Refuse, Data, Give, Please}
+use Rattle.osi_session.proofs.Vocabulary.{Minor, MinorConfirm, Major, MajorConfirm, Restart, RestartConfirm, Release, ReleaseAccept}
+use Rattle.osi_session.proofs.Vocabulary.{ReleaseRefuse, Abort, Test, Step, Answer, first_error, needs, may_call, octets_of, most_of, after}
+use Rattle.osi_session.proofs.Vocabulary.{sends, met, sized, allowed, fits_limit, is_memory, Refused, RefusedBy, Meaning, user_data_of}
+use Rattle.osi_session.proofs.Vocabulary.{called, Listener, react}
 use Rattle.osi_session.proofs.moves.the_move_of_each_input.{call_errs, call_passes}
 use Rattle.osi_session.proofs.tables.what_an_accepted_call_has_passed.{first_error_ok, passed}
 
@@ -88,7 +93,8 @@ met_is s c x h = let w : _ ≡ _ = (first_error_ok (needs s c) _ x h).1 in cc
 met_sends : (s : State) (c : Call) (x : Step) → met s c ≡ Ok x → x.sent ≡ sends s c
 met_sends s c x h = ap (λ (y : Step). y.sent) (met_is s c x h)
 
-pub met_short : (s : State) (c : Call) (x : Step) → met s c ≡ Ok x → nat_le (length (octets_of c)) (most_of c) ≡ true → length (user_data_of x.sent) < 65000
+pub met_short : (s : State) (c : Call) (x : Step) → met s c ≡ Ok x → nat_le (length (octets_of c)) (most_of c) ≡ true →
+    length (user_data_of x.sent) < 65000
 met_short s c x h k = subst (λ (m : Meaning). length (user_data_of m) < 65000) (sym (met_sends s c x h)) (sends_short s c k)
 
 fits_sent : (s : State) (c : Call) (x : Step) (b : Bool) → met s c ≡ Ok x → fits_limit s c x.sent ≡ b → fits_limit s c (sends s c) ≡ b

@@ -1,36 +1,49 @@
 -- What is refused for which reason: a CN that cannot be accepted is answered by RF with the reason that comes
 -- first, and a part that is out of its place is a bad enclosure, however long it is.
-use Rattle.std.proofs.Common.{◌≡◌, ◌∙◌, refl, ℕ, true, false, List, [], ◌∷◌, ◌++◌, length, nat_le, not, ◌||◌, if◌then◌else◌, Option, Some, None}
+use Rattle.std.proofs.Common.{◌≡◌, ◌∙◌, refl, ℕ, true, false, List, [], ◌∷◌, ◌++◌, length, nat_le, not, ◌||◌, if◌then◌else◌, Option, Some}
+use Rattle.std.proofs.Common.{None}
 use Rattle.osi_spdu.specs.declared.fields.TsduMaximumSize.{TsduMaximumSize}
 use Rattle.osi_spdu.specs.declared.settings.TokenSetting.{TokenSetting}
 use Rattle.osi_session.specs.declared.phases.Phase.TheVariants.{WaitCn, Ready, Releasing}
 use Rattle.osi_session.specs.Phases.{is_restarting}
-use Rattle.osi_session.proofs.Vocabulary.{Phase, UnitFault, Unexpected, TokenHeld, BadEnclosure, DataTooLong, State, Taker, Place, Meaning, CN, RF, DT, part, is_wait_cn, takes_data, is_over, has_data, functional_units, respond_unit, take_expected, si, most_data, joined_octets, is_in_place, word_verdict, over, dropped, faulty, fine}
+use Rattle.osi_session.proofs.Vocabulary.{Phase, UnitFault, Unexpected, TokenHeld, BadEnclosure, DataTooLong, State, Taker, Place, Meaning}
+use Rattle.osi_session.proofs.Vocabulary.{CN, RF, DT, part, is_wait_cn, takes_data, is_over, has_data, functional_units, respond_unit}
+use Rattle.osi_session.proofs.Vocabulary.{take_expected, si, most_data, joined_octets, is_in_place, word_verdict, over, dropped, faulty}
+use Rattle.osi_session.proofs.Vocabulary.{fine}
 use Rattle.osi_session.proofs.tsdu.the_verdict_while_joining.{part_verdict}
 
-version_at : (s : State) (requirements : ℕ) (serial : Option ℕ) (wishes : TokenSetting) (from to : Option (List ℕ)) (sizes : TsduMaximumSize) (octets : List ℕ) (p : Phase) → s.phase ≡ p
+version_at : (s : State) (requirements : ℕ) (serial : Option ℕ) (wishes : TokenSetting) (from to : Option (List ℕ))
+    (sizes : TsduMaximumSize) (octets : List ℕ) (p : Phase) → s.phase ≡ p
     → is_wait_cn p ≡ true → (respond_unit s (CN false requirements serial wishes from to sizes octets)).reply ≡ Some (RF 132 [])
 unfolding respond_unit take_expected
 version_at s requirements serial wishes from to sizes octets WaitCn e h = rw e refl
 version_at s requirements serial wishes from to sizes octets _ e h = absurd (cc)
 
 -- a CN that doesn't name version 2
-pub refused_version : (s : State) (requirements : ℕ) (serial : Option ℕ) (wishes : TokenSetting) (from to : Option (List ℕ)) (sizes : TsduMaximumSize) (octets : List ℕ)
+pub refused_version : (s : State) (requirements : ℕ) (serial : Option ℕ) (wishes : TokenSetting) (from to : Option (List ℕ))
+    (sizes : TsduMaximumSize) (octets : List ℕ)
     → is_wait_cn s.phase ≡ true → (respond_unit s (CN false requirements serial wishes from to sizes octets)).reply ≡ Some (RF 132 [])
-refused_version s requirements serial wishes from to sizes octets h = version_at s requirements serial wishes from to sizes octets s.phase refl h
+refused_version s requirements serial wishes from to sizes octets h =
+    version_at s requirements serial wishes from to sizes octets s.phase refl h
 
-units_at : (s : State) (requirements : ℕ) (serial : Option ℕ) (wishes : TokenSetting) (from to : Option (List ℕ)) (sizes : TsduMaximumSize) (octets : List ℕ) (p : Phase) → s.phase ≡ p
-    → is_wait_cn p ≡ true → has_data (functional_units requirements) ≡ false → (respond_unit s (CN true requirements serial wishes from to sizes octets)).reply ≡ Some (RF 134 [])
+units_at : (s : State) (requirements : ℕ) (serial : Option ℕ) (wishes : TokenSetting) (from to : Option (List ℕ)) (sizes : TsduMaximumSize)
+    (octets : List ℕ) (p : Phase) → s.phase ≡ p
+    → is_wait_cn p ≡ true → has_data (functional_units requirements) ≡ false →
+        (respond_unit s (CN true requirements serial wishes from to sizes octets)).reply ≡ Some (RF 134 [])
 unfolding respond_unit take_expected
 units_at s requirements serial wishes from to sizes octets WaitCn e h d = rw (e, d) refl
 units_at s requirements serial wishes from to sizes octets _ e h d = absurd (cc)
 
 -- a CN that does, and names neither half-duplex nor duplex
-pub refused_units : (s : State) (requirements : ℕ) (serial : Option ℕ) (wishes : TokenSetting) (from to : Option (List ℕ)) (sizes : TsduMaximumSize) (octets : List ℕ)
-    → is_wait_cn s.phase ≡ true → has_data (functional_units requirements) ≡ false → (respond_unit s (CN true requirements serial wishes from to sizes octets)).reply ≡ Some (RF 134 [])
-refused_units s requirements serial wishes from to sizes octets h d = units_at s requirements serial wishes from to sizes octets s.phase refl h d
+pub refused_units : (s : State) (requirements : ℕ) (serial : Option ℕ) (wishes : TokenSetting) (from to : Option (List ℕ))
+    (sizes : TsduMaximumSize) (octets : List ℕ)
+    → is_wait_cn s.phase ≡ true → has_data (functional_units requirements) ≡ false →
+        (respond_unit s (CN true requirements serial wishes from to sizes octets)).reply ≡ Some (RF 134 [])
+refused_units s requirements serial wishes from to sizes octets h d =
+    units_at s requirements serial wishes from to sizes octets s.phase refl h d
 
-place_at : (t : Taker) (place : Place) (octets : List ℕ) (p : Phase) → t.state.phase ≡ p → takes_data p ≡ true → t.state.held.data_token ≡ false
+place_at : (t : Taker) (place : Place) (octets : List ℕ) (p : Phase) → t.state.phase ≡ p → takes_data p ≡ true →
+    t.state.held.data_token ≡ false
     → is_in_place t.joined place ≡ false → word_verdict t (part place octets) ≡ faulty (BadEnclosure (si (DT octets)))
 place_at t place octets Ready e h d k = part_verdict t place octets ∙ rw (e, d, k) refl
 place_at t place octets Releasing e h d k = part_verdict t place octets ∙ rw (e, d, k) refl

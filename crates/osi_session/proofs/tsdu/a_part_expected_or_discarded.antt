@@ -1,6 +1,9 @@
 -- A part if data is expected, and if it is discarded.
-use Rattle.std.proofs.Common.{◌≡◌, refl, sym, ◌∙◌, ap, ℕ, Bool, true, false, not, ◌||◌, ◌⊎◌, if◌then◌else◌, nat_le, List, ◌++◌, length, Option, Some, None, inl, inr, arith}
-use Rattle.osi_session.proofs.Vocabulary.{State, Unexpected, TokenHeld, is_restarting, is_over, is_aborting, takes_data, most_data, nothing, si, over, dropped, faulty, fine, by_fault, verdict, is_faulty, Place, DT, says, part, joined_octets, is_in_place, word_verdict, heard, respond_word, discards, IsNoFault}
+use Rattle.std.proofs.Common.{◌≡◌, refl, sym, ◌∙◌, ap, ℕ, Bool, true, false, not, ◌||◌, ◌⊎◌, if◌then◌else◌, nat_le, List, ◌++◌, length}
+use Rattle.std.proofs.Common.{Option, Some, None, inl, inr, arith}
+use Rattle.osi_session.proofs.Vocabulary.{State, Unexpected, TokenHeld, is_restarting, is_over, is_aborting, takes_data, most_data, nothing}
+use Rattle.osi_session.proofs.Vocabulary.{si, over, dropped, faulty, fine, by_fault, verdict, is_faulty, Place, DT, says, part}
+use Rattle.osi_session.proofs.Vocabulary.{joined_octets, is_in_place, word_verdict, heard, respond_word, discards, IsNoFault}
 use Rattle.osi_session.proofs.tables.what_is_true_of_each_phase.{excluded}
 use Rattle.osi_session.proofs.tables.messages_act_as_the_table_says.{word_at}
 
@@ -13,7 +16,8 @@ pub record Expects (s : State) : Type 0 where
 
 -- a part in its place, with few enough octets, is good
 pub part_fine : (s : State) (joined : Option (List ℕ)) (place : Place) (o : List ℕ) → Expects s → is_in_place joined place ≡ true
-    → nat_le (length (joined_octets joined ++ o)) most_data ≡ true → word_verdict (record { state = s; joined = joined }) (part place o) ≡ fine
+    → nat_le (length (joined_octets joined ++ o)) most_data ≡ true →
+        word_verdict (record { state = s; joined = joined }) (part place o) ≡ fine
 part_fine s joined place o e placed short =
     let v = excluded takes_data is_over refl s.phase e.phase in let r = excluded takes_data is_restarting refl s.phase e.phase in
     let x = e.phase in let t = e.token in rw (v, r, x, t, placed, short) refl
@@ -23,11 +27,14 @@ data_fine s o e =
     let v = excluded takes_data is_over refl s.phase e.phase in let r = excluded takes_data is_restarting refl s.phase e.phase in
     let x = e.phase in let t = e.token in rw (v, r, x, t) refl
 
-when_expected : (o : List ℕ) (x h : Bool) → is_faulty (if not x then faulty (Unexpected (si (DT o))) else by_fault (if not h then None else Some (TokenHeld (si (DT o))))) ≡ false → (x ≡ true) × (h ≡ false)
+when_expected : (o : List ℕ) (x h : Bool) →
+    is_faulty (if not x then faulty (Unexpected (si (DT o))) else by_fault (if not h then None else Some (TokenHeld (si (DT o))))) ≡ false →
+    (x ≡ true) × (h ≡ false)
 when_expected o x h h0 = grind arith
 
 at_phase : (s : State) (o : List ℕ) → is_over s.phase ≡ false → is_restarting s.phase ≡ false →
-    verdict s (DT o) ≡ (if not (takes_data s.phase) then faulty (Unexpected (si (DT o))) else by_fault (if not s.held.data_token then None else Some (TokenHeld (si (DT o)))))
+    verdict s (DT o) ≡ (if not (takes_data s.phase) then faulty (Unexpected (si (DT o))) else
+        by_fault (if not s.held.data_token then None else Some (TokenHeld (si (DT o)))))
 at_phase s o v r = rw (v, r) refl
 
 -- if the whole data is no fault, and is not discarded, it is expected
@@ -42,23 +49,33 @@ either_nothing : (b : Bool) (s : State) → (if b then nothing s else nothing s)
 either_nothing true s = refl
 either_nothing false s = refl
 
-part_over : (s : State) (place : Place) (o : List ℕ) → is_over s.phase ≡ true → respond_word (record { state = s; joined = None }) (part place o) ≡ heard None (nothing s)
-part_over s place o h = word_at (record { state = s; joined = None }) (part place o) over (rw h refl) ∙ ap (heard None) (either_nothing (is_aborting s.phase) s)
+part_over : (s : State) (place : Place) (o : List ℕ) → is_over s.phase ≡ true →
+    respond_word (record { state = s; joined = None }) (part place o) ≡ heard None (nothing s)
+part_over s place o h = word_at (record { state = s; joined = None }) (part place o) over (rw h refl) ∙
+    ap (heard None) (either_nothing (is_aborting s.phase) s)
 
-data_over : (s : State) (o : List ℕ) → is_over s.phase ≡ true → respond_word (record { state = s; joined = None }) (says (DT o)) ≡ heard None (nothing s)
-data_over s o h = word_at (record { state = s; joined = None }) (says (DT o)) over (rw h refl) ∙ ap (heard None) (either_nothing (is_aborting s.phase) s)
+data_over : (s : State) (o : List ℕ) → is_over s.phase ≡ true →
+    respond_word (record { state = s; joined = None }) (says (DT o)) ≡ heard None (nothing s)
+data_over s o h = word_at (record { state = s; joined = None }) (says (DT o)) over (rw h refl) ∙
+    ap (heard None) (either_nothing (is_aborting s.phase) s)
 
-part_dropped : (s : State) (place : Place) (o : List ℕ) → is_restarting s.phase ≡ true → respond_word (record { state = s; joined = None }) (part place o) ≡ heard None (nothing s)
-part_dropped s place o h = let v = excluded is_restarting is_over refl s.phase h in word_at (record { state = s; joined = None }) (part place o) dropped (rw (v, h) refl)
+part_dropped : (s : State) (place : Place) (o : List ℕ) → is_restarting s.phase ≡ true →
+    respond_word (record { state = s; joined = None }) (part place o) ≡ heard None (nothing s)
+part_dropped s place o h = let v = excluded is_restarting is_over refl s.phase h in
+    word_at (record { state = s; joined = None }) (part place o) dropped (rw (v, h) refl)
 
-data_dropped : (s : State) (o : List ℕ) → is_restarting s.phase ≡ true → respond_word (record { state = s; joined = None }) (says (DT o)) ≡ heard None (nothing s)
-data_dropped s o h = let v = excluded is_restarting is_over refl s.phase h in word_at (record { state = s; joined = None }) (says (DT o)) dropped (rw (v, h) refl)
+data_dropped : (s : State) (o : List ℕ) → is_restarting s.phase ≡ true →
+    respond_word (record { state = s; joined = None }) (says (DT o)) ≡ heard None (nothing s)
+data_dropped s o h = let v = excluded is_restarting is_over refl s.phase h in word_at (record { state = s; joined = None }) (says (DT o))
+    dropped (rw (v, h) refl)
 
 which : (s : State) → discards s.phase ≡ true → (is_restarting s.phase ≡ true) ⊎ (is_over s.phase ≡ true)
 which s h0 = grind arith
 
-pub part_discarded : (s : State) (place : Place) (o : List ℕ) → discards s.phase ≡ true → respond_word (record { state = s; joined = None }) (part place o) ≡ heard None (nothing s)
+pub part_discarded : (s : State) (place : Place) (o : List ℕ) → discards s.phase ≡ true →
+    respond_word (record { state = s; joined = None }) (part place o) ≡ heard None (nothing s)
 part_discarded s place o h0 = grind (arith, which, part_dropped, part_over)
 
-pub data_discarded : (s : State) (o : List ℕ) → discards s.phase ≡ true → respond_word (record { state = s; joined = None }) (says (DT o)) ≡ heard None (nothing s)
+pub data_discarded : (s : State) (o : List ℕ) → discards s.phase ≡ true →
+    respond_word (record { state = s; joined = None }) (says (DT o)) ≡ heard None (nothing s)
 data_discarded s o h0 = grind (arith, which, data_dropped, data_over)

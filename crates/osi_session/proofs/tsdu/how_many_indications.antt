@@ -1,6 +1,11 @@
 -- How many indications a TSDU has.
-use Rattle.std.proofs.Common.{◌≡◌, refl, ap, sym, subst, ℕ, suc, ◌+◌, ◌≤◌, Bool, true, false, List, [], ◌∷◌, ◌++◌, length, map, None, if◌then◌else◌, arith}
-use Rattle.osi_session.proofs.Vocabulary.{list_any, length-append, State, is_aborting, is_wait_cn, Meaning, CN, AC, RF, DT, GT, PT, MIP, MIA, MAP, MAA, RS, RA, FN, DN, NF, AB, AA, Said, Word, Words, says, Taker, Hearing, word_verdict, respond_word, respond_words, is_restart_word, acting_words, respond_tsdu, Shown, Outcome, is_acceptable, stands, shown_for, in_aborting, in_ended, respond_unit, Verdict, over, dropped, faulty, fine, verdict, enacted, is_faulty, respond}
+use Rattle.std.proofs.Common.{◌≡◌, refl, ap, sym, subst, ℕ, suc, ◌+◌, ◌≤◌, Bool, true, false, List, [], ◌∷◌, ◌++◌, length, map, None}
+use Rattle.std.proofs.Common.{if◌then◌else◌, arith}
+use Rattle.osi_session.proofs.Vocabulary.{list_any, length-append, State, is_aborting, is_wait_cn, Meaning, CN, AC, RF, DT, GT, PT, MIP}
+use Rattle.osi_session.proofs.Vocabulary.{MIA, MAP, MAA, RS, RA, FN, DN, NF, AB, AA, Said, Word, Words, says, Taker, Hearing, word_verdict}
+use Rattle.osi_session.proofs.Vocabulary.{respond_word, respond_words, is_restart_word, acting_words, respond_tsdu, Shown, Outcome}
+use Rattle.osi_session.proofs.Vocabulary.{is_acceptable, stands, shown_for, in_aborting, in_ended, respond_unit, Verdict, over, dropped}
+use Rattle.osi_session.proofs.Vocabulary.{faulty, fine, verdict, enacted, is_faulty, respond}
 use Rattle.osi_session.proofs.tables.the_verdict_on_a_unit.{enacts}
 use Rattle.osi_session.proofs.tables.a_word_acts_as_its_message.{word_does}
 use Rattle.osi_session.proofs.tables.messages_act_as_the_table_says.{plain_tsdu}
@@ -17,7 +22,8 @@ either_shows true n x y h k = h
 either_shows false n x y h k = k
 
 good_shows : (s : State) (u : Meaning) → AtMost 1 (shown_for s u)
-good_shows s (CN version_2 requirements serial wishes from to sizes octets) = either (is_acceptable version_2 requirements sizes) 1 _ _ (omega arith) (omega arith)
+good_shows s (CN version_2 requirements serial wishes from to sizes octets) =
+    either (is_acceptable version_2 requirements sizes) 1 _ _ (omega arith) (omega arith)
 good_shows s (RS kind n wishes octets) = either (stands s n) 1 _ _ (omega arith) (omega arith)
 good_shows s (AB bits octets) = either (is_wait_cn s.phase) 1 _ _ (omega arith) (omega arith)
 good_shows s _ = omega arith
@@ -40,7 +46,9 @@ both_show : (a b : List Shown) (n : ℕ) → length a ≤ 1 → length b ≤ n �
 both_show a b n h k = omega (arith, length-append a b)
 
 word_shows : (t : Taker) (w : Word) → length (respond_word t w).shown ≤ 1
-word_shows t w = word_does (λ o. AtMost 1 o.shown) t w (record { acts = λ u a. unit_shows t.state u; bad = λ fault o. enacted_shows t.state AA (faulty fault); rests = omega arith })
+word_shows t w =
+    word_does (λ o. AtMost 1 o.shown) t w
+    (record { acts = λ u a. unit_shows t.state u; bad = λ fault o. enacted_shows t.state AA (faulty fault); rests = omega arith })
 
 either_heard : (b : Bool) (n : ℕ) (x y : Hearing) → AtMost n x.shown → AtMost n y.shown → AtMost n (if b then x else y).shown
 either_heard true n x y h k = h
@@ -51,7 +59,8 @@ unfolding respond_words
 all_show t [] = omega arith
 all_show t (w ∷ ws) =
     let one = word_shows t w in
-    let both = both_show (respond_word t w).shown (respond_words (respond_word t w).next ws).shown (length ws) one (all_show (respond_word t w).next ws) in
+    let both = both_show (respond_word t w).shown (respond_words (respond_word t w).next ws).shown (length ws) one
+        (all_show (respond_word t w).next ws) in
     either_heard (is_faulty (word_verdict t w)) (length (w ∷ ws)) _ _ (omega arith) (omega arith)
 
 either_long : (b : Bool) (n : ℕ) (x y : Words) → length x ≤ n → length y ≤ n → length (if b then x else y) ≤ n
@@ -62,7 +71,8 @@ acting_len : (words : Words) → length (acting_words words) ≤ length words
 unfolding acting_words
 acting_len [] = omega arith
 acting_len (first ∷ words) =
-    either_long (list_any is_restart_word words) (length (first ∷ words)) _ _ (omega arith) (omega (arith, length-append words (first ∷ [])))
+    either_long (list_any is_restart_word words) (length (first ∷ words)) _ _ (omega arith)
+        (omega (arith, length-append words (first ∷ [])))
 
 -- and a TSDU at most one for each word
 pub words_show : (t : Taker) (words : Words) → length (respond_tsdu t words).shown ≤ length words

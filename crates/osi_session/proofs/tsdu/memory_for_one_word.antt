@@ -1,6 +1,13 @@
 -- If memory is needed for one word, it is needed for all: a word that indicates and sends nothing joins no less.
-use Rattle.std.proofs.Common.{◌≡◌, ◌∙◌, refl, sym, ap, subst, ℕ, ◌≤◌, ◌<◌, Bool, true, false, not, ◌&&◌, ◌||◌, if◌then◌else◌, nat_lt, List, [], ◌∷◌, ◌++◌, length, Option, Some, None, inl, inr, arith}
-use Rattle.osi_session.proofs.Vocabulary.{is_none, cases_Bool, and_parts, ltb-true, lt-ltb, length-append, are_sizes, UnitFault, Unexpected, State, is_over, may_hold, nothing, becomes, good, bad, stands, is_nil, is_silent, first_reply, Verdict, over, dropped, faulty, fine, by_fault, first_fault, is_faulty, drops, is_expected, si, Shown, functional_units, has_data, Meaning, CN, AC, RF, DT, GT, PT, MIP, MIA, MAP, MAA, RS, RA, FN, DN, NF, AB, AA, First, Middle, Last, Word, Words, says, part, as_message, Taker, Hearing, joined_octets, kept_in, word_conditions, word_verdict, heard, heard_then, respond_word, respond_words, takes_room}
+use Rattle.std.proofs.Common.{◌≡◌, ◌∙◌, refl, sym, ap, subst, ℕ, ◌≤◌, ◌<◌, Bool, true, false, not, ◌&&◌, ◌||◌, if◌then◌else◌, nat_lt, List}
+use Rattle.std.proofs.Common.{[], ◌∷◌, ◌++◌, length, Option, Some, None, inl, inr, arith}
+use Rattle.osi_session.proofs.Vocabulary.{is_none, cases_Bool, and_parts, ltb-true, lt-ltb, length-append, are_sizes, UnitFault, Unexpected}
+use Rattle.osi_session.proofs.Vocabulary.{State, is_over, may_hold, nothing, becomes, good, bad, stands, is_nil, is_silent, first_reply}
+use Rattle.osi_session.proofs.Vocabulary.{Verdict, over, dropped, faulty, fine, by_fault, first_fault, is_faulty, drops, is_expected, si}
+use Rattle.osi_session.proofs.Vocabulary.{Shown, functional_units, has_data, Meaning, CN, AC, RF, DT, GT, PT, MIP, MIA, MAP, MAA, RS, RA}
+use Rattle.osi_session.proofs.Vocabulary.{FN, DN, NF, AB, AA, First, Middle, Last, Word, Words, says, part, as_message, Taker, Hearing}
+use Rattle.osi_session.proofs.Vocabulary.{joined_octets, kept_in, word_conditions, word_verdict, heard, heard_then, respond_word}
+use Rattle.osi_session.proofs.Vocabulary.{respond_words, takes_room}
 use Rattle.osi_session.proofs.tsdu.the_effect_of_a_word.{fine_holds, first_is, middle_is, last_is, kept_held}
 use Rattle.osi_session.proofs.tsdu.what_is_joined.{InPhase}
 use Rattle.osi_session.proofs.tsdu.the_verdict_while_joining.{bad_loud}
@@ -43,18 +50,22 @@ quiet_both a b h =
     let r = none_after a.reply b.reply p.1 in
     (both_true (is_nil a.shown) (is_none a.reply) s.0 r.0, both_true (is_nil b.shown) (is_none b.reply) s.1 r.1)
 
-pub takes_then : (j : Option (List ℕ)) (a b : Hearing) → takes_room j a ≡ true → (quiet b ≡ true → size a.next.joined ≤ size b.next.joined) → takes_room j (heard_then a b) ≡ true
+pub takes_then : (j : Option (List ℕ)) (a b : Hearing) → takes_room j a ≡ true →
+    (quiet b ≡ true → size a.next.joined ≤ size b.next.joined) → takes_room j (heard_then a b) ≡ true
 takes_then j a b h g = by_takes (quiet (heard_then a b)) (size j) (size b.next.joined)
     (λ q. let p = quiet_both a b q in let x = takes_by (quiet a) (size j) (size a.next.joined) h p.0 in let y = g p.1 in omega arith)
 
-pub takes_behind : (j : Option (List ℕ)) (a b : Hearing) → (quiet a ≡ true → size j ≤ size a.next.joined) → takes_room a.next.joined b ≡ true → takes_room j (heard_then a b) ≡ true
+pub takes_behind : (j : Option (List ℕ)) (a b : Hearing) → (quiet a ≡ true → size j ≤ size a.next.joined) →
+    takes_room a.next.joined b ≡ true → takes_room j (heard_then a b) ≡ true
 takes_behind j a b g h = by_takes (quiet (heard_then a b)) (size j) (size b.next.joined)
-    (λ q. let p = quiet_both a b q in let x = takes_by (quiet b) (size a.next.joined) (size b.next.joined) h p.1 in let y = g p.0 in omega arith)
+    (λ q. let p = quiet_both a b q in let x = takes_by (quiet b) (size a.next.joined) (size b.next.joined) h p.1 in let y = g p.0 in
+        omega arith)
 
 -- ---- a good unit that shows and sends nothing changes nothing
 
 connect_quiet : (v d : Bool) (s a b : State) (i : Shown) (r t : Meaning) →
-    (is_nil (if v && d then i ∷ [] else []) && is_none (if not v then Some r else (if not d then Some t else None))) ≡ true → (if v && d then a else b) ≡ s
+    (is_nil (if v && d then i ∷ [] else []) && is_none (if not v then Some r else (if not d then Some t else None))) ≡ true →
+        (if v && d then a else b) ≡ s
 connect_quiet v d s a b i r t h0 = grind arith
 
 restart_quiet : (b : Bool) (s a : State) (i : Shown) → (is_nil (if b then i ∷ [] else []) && true) ≡ true → (if b then a else s) ≡ s
@@ -87,9 +98,11 @@ gone false h = refl
 gone true h = absurd (cc)
 
 gone_size : (t : Taker) → InPhase t → is_over t.state.phase ≡ true → size t.joined ≡ 0
-gone_size t k o = ap size (sym k ∙ kept_gone t.state.phase t.joined (gone (may_hold t.state.phase) (excluded is_over may_hold refl t.state.phase o)))
+gone_size t k o =
+    ap size (sym k ∙ kept_gone t.state.phase t.joined (gone (may_hold t.state.phase) (excluded is_over may_hold refl t.state.phase o)))
 
-early_grows : (t : Taker) (w : Word) (octets : List ℕ) → may_hold t.state.phase ≡ true → respond_word t w ≡ heard (Some (joined_octets t.joined ++ octets)) (nothing t.state)
+early_grows : (t : Taker) (w : Word) (octets : List ℕ) → may_hold t.state.phase ≡ true →
+    respond_word t w ≡ heard (Some (joined_octets t.joined ++ octets)) (nothing t.state)
     → size t.joined ≤ size (respond_word t w).next.joined
 early_grows t w octets m e =
     let p : size (respond_word t w).next.joined ≡ length (joined_octets t.joined ++ octets)
@@ -100,20 +113,25 @@ abbrev Grows : Option (List ℕ) → Hearing → Type 0
 Grows j h = quiet h ≡ true → size j ≤ size h.next.joined
 
 fine_grows : (t : Taker) (w : Word) → InPhase t → word_verdict t w ≡ fine → Grows t.joined (respond_word t w)
-fine_grows t (says u) k e = subst (Grows t.joined) (sym (word_at t (says u) fine e)) (λ q. kept_size t.state (becomes t.state u) t.joined k (quiet_good t.state u q))
+fine_grows t (says u) k e =
+    subst (Grows t.joined) (sym (word_at t (says u) fine e))
+    (λ q. kept_size t.state (becomes t.state u) t.joined k (quiet_good t.state u q))
 fine_grows t (part First octets) k e = λ q. early_grows t (part First octets) octets (fine_holds t First octets e) (first_is t octets e)
 fine_grows t (part Middle octets) k e = λ q. early_grows t (part Middle octets) octets (fine_holds t Middle octets e) (middle_is t octets e)
 fine_grows t (part Last octets) k e = subst (Grows t.joined) (sym (last_is t octets e)) (λ q. absurd (cc))
 
-over_by : (b d x : Bool) (n : UnitFault) (f : Option UnitFault) → (if b then over else if d then dropped else if not x then faulty n else by_fault f) ≡ over → b ≡ true
+over_by : (b d x : Bool) (n : UnitFault) (f : Option UnitFault) →
+    (if b then over else if d then dropped else if not x then faulty n else by_fault f) ≡ over → b ≡ true
 over_by b d x n f h0 = grind arith
 
 loud_or : (s : State) (fault : UnitFault) → is_silent (bad s fault) ≡ true → ⊥
 loud_or s fault h = let k = bad_loud s fault in cc
 
-live_grows : (t : Taker) (w : Word) (v : Verdict) → InPhase t → is_over t.state.phase ≡ false → word_verdict t w ≡ v → Grows t.joined (respond_word t w)
+live_grows : (t : Taker) (w : Word) (v : Verdict) → InPhase t → is_over t.state.phase ≡ false → word_verdict t w ≡ v →
+    Grows t.joined (respond_word t w)
 live_grows t w over k o e =
-    let b = over_by (is_over t.state.phase) (drops t.state (as_message w)) (is_expected t.state.phase (as_message w)) (Unexpected (si (as_message w)))
+    let b = over_by (is_over t.state.phase) (drops t.state (as_message w)) (is_expected t.state.phase (as_message w))
+        (Unexpected (si (as_message w)))
     (first_fault (si (as_message w)) (word_conditions t w)) e in λ q. absurd (cc)
 live_grows t w dropped k o e = subst (Grows t.joined) (sym (word_at t w dropped e)) (λ q. kept_size t.state t.state t.joined k refl)
 live_grows t w (faulty fault) k o e = subst (Grows t.joined) (sym (word_at t w (faulty fault) e)) (λ q. absurd (loud_or t.state fault q))
@@ -136,17 +154,26 @@ either_grows false j a b g h = h
 words_grow : (t : Taker) (ws : Words) → InPhase t → Grows t.joined (respond_words t ws)
 unfolding respond_words
 words_grow t [] k = λ q. omega arith
-words_grow t (w ∷ ws) k = either_grows (is_faulty (word_verdict t w)) t.joined (respond_word t w) (heard_then (respond_word t w) (respond_words (respond_word t w).next ws))
-    (word_grows t w k) (both_grow t.joined (respond_word t w) (respond_words (respond_word t w).next ws) (word_grows t w k) (words_grow (respond_word t w).next ws (word_in_phase t w)))
+words_grow t (w ∷ ws) k =
+    either_grows (is_faulty (word_verdict t w)) t.joined (respond_word t w)
+    (heard_then (respond_word t w) (respond_words (respond_word t w).next ws))
+    (word_grows t w k)
+        (both_grow t.joined (respond_word t w) (respond_words (respond_word t w).next ws) (word_grows t w k)
+        (words_grow (respond_word t w).next ws (word_in_phase t w)))
 
-either_takes : (c : Bool) (j : Option (List ℕ)) (a b : Hearing) → takes_room j a ≡ true → takes_room j b ≡ true → takes_room j (if c then a else b) ≡ true
+either_takes : (c : Bool) (j : Option (List ℕ)) (a b : Hearing) → takes_room j a ≡ true → takes_room j b ≡ true →
+    takes_room j (if c then a else b) ≡ true
 either_takes true j a b g h = g
 either_takes false j a b g h = h
 
-pub word_takes : (t : Taker) (w : Word) (ws : Words) → takes_room t.joined (respond_word t w) ≡ true → takes_room t.joined (respond_words t (w ∷ ws)) ≡ true
+pub word_takes : (t : Taker) (w : Word) (ws : Words) → takes_room t.joined (respond_word t w) ≡ true →
+    takes_room t.joined (respond_words t (w ∷ ws)) ≡ true
 unfolding respond_words
-word_takes t w ws h = either_takes (is_faulty (word_verdict t w)) t.joined (respond_word t w) (heard_then (respond_word t w) (respond_words (respond_word t w).next ws))
-    h (takes_then t.joined (respond_word t w) (respond_words (respond_word t w).next ws) h (words_grow (respond_word t w).next ws (word_in_phase t w)))
+word_takes t w ws h =
+    either_takes (is_faulty (word_verdict t w)) t.joined (respond_word t w)
+    (heard_then (respond_word t w) (respond_words (respond_word t w).next ws))
+    h (takes_then t.joined (respond_word t w) (respond_words (respond_word t w).next ws) h
+        (words_grow (respond_word t w).next ws (word_in_phase t w)))
 
 -- ---- so far
 
@@ -155,8 +182,10 @@ pub record SoFar (j : Option (List ℕ)) (h : Hearing) : Type 0 where
   pub grows : quiet h ≡ true → size j ≤ size h.next.joined
   pub phase : InPhase h.next
 
-pub none_so_far : (t : Taker) (h : Hearing) → h ≡ record { next = t; shown = []; reply = None; closes = false } → InPhase t → SoFar t.joined h
+pub none_so_far : (t : Taker) (h : Hearing) → h ≡ record { next = t; shown = []; reply = None; closes = false } → InPhase t →
+    SoFar t.joined h
 none_so_far t h e k = subst (SoFar t.joined) (sym e) (record { grows = λ q. omega arith; phase = k })
 
 pub word_so_far : (j : Option (List ℕ)) (h : Hearing) (w : Word) → SoFar j h → SoFar j (heard_then h (respond_word h.next w))
-word_so_far j h w s = record { grows = both_grow j h (respond_word h.next w) s.grows (word_grows h.next w s.phase); phase = word_in_phase h.next w }
+word_so_far j h w s =
+    record { grows = both_grow j h (respond_word h.next w) s.grows (word_grows h.next w s.phase); phase = word_in_phase h.next w }

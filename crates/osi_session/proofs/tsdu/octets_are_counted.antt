@@ -1,21 +1,30 @@
 -- The effect of a word with the octets of an unfinished SSDU counted: it is the same whatever these octets are.
-use Rattle.std.proofs.Common.{◌≡◌, ◌∙◌, refl, sym, ap, subst, ℕ, ◌+◌, ◌<◌, ◌≤◌, Bool, true, false, not, ◌||◌, if◌then◌else◌, nat_le, List, [], ◌∷◌, ◌++◌, length, Option, Some, None, Err, is_none, option_map, unwrap_or, arith}
+use Rattle.std.proofs.Common.{◌≡◌, ◌∙◌, refl, sym, ap, subst, ℕ, ◌+◌, ◌<◌, ◌≤◌, Bool, true, false, not, ◌||◌, if◌then◌else◌, nat_le, List}
+use Rattle.std.proofs.Common.{[], ◌∷◌, ◌++◌, length, Option, Some, None, Err, is_none, option_map, unwrap_or, arith}
 use Rattle.osi_session.specs.declared.joining.PartVerdict.TheVariants as is
 use Rattle.osi_session.specs.Counting.{no_octets, count_by, count_by_idle, taker_with, Counts, CountsAll, CountsCame}
 use Rattle.osi_session.specs.Standing.{Count, counted}
-use Rattle.osi_session.proofs.Vocabulary.{SpduFault, respond_fault, Words, first_reply, replies_abort, heard_then, idle, is_restart_word, respond_tsdu, length-append, le-leb, leb-true, State, UnitFault, Unexpected, TokenHeld, BadEnclosure, DataTooLong, most_data, is_over, is_restarting, takes_data, nothing, bad, Outcome, Verdict, over, dropped, faulty, fine, by_fault, is_faulty, enacted, first_fault, conditions, is_expected, drops, si, Hearing, joined_octets, drops_parts, begins_anew, is_in_place, is_last, word_verdict, heard, respond_word, told_of, Meaning, DT, Place, First, Middle, Last, Word, says, part}
+use Rattle.osi_session.proofs.Vocabulary.{SpduFault, respond_fault, Words, first_reply, replies_abort, heard_then, idle, is_restart_word}
+use Rattle.osi_session.proofs.Vocabulary.{respond_tsdu, length-append, le-leb, leb-true, State, UnitFault, Unexpected, TokenHeld}
+use Rattle.osi_session.proofs.Vocabulary.{BadEnclosure, DataTooLong, most_data, is_over, is_restarting, takes_data, nothing, bad, Outcome}
+use Rattle.osi_session.proofs.Vocabulary.{Verdict, over, dropped, faulty, fine, by_fault, is_faulty, enacted, first_fault, conditions}
+use Rattle.osi_session.proofs.Vocabulary.{is_expected, drops, si, Hearing, joined_octets, drops_parts, begins_anew, is_in_place, is_last}
+use Rattle.osi_session.proofs.Vocabulary.{word_verdict, heard, respond_word, told_of, Meaning, DT, Place, First, Middle, Last, Word, says}
+use Rattle.osi_session.proofs.Vocabulary.{part}
 use Rattle.osi_session.proofs.tsdu.the_verdict_while_joining.{part_verdict}
 use Rattle.osi_session.proofs.tsdu.words_one_after_the_other.{Leads, tsdu_begins, goes_on, stops, ends_restarted, ends_with_item}
 use Rattle.osi_session.proofs.tsdu.the_effect_of_a_word.{word_told, message_is, part_dropped, part_bad, first_is, middle_is, last_is}
 
 -- ---- a hearing, counted
 
-kept_map : (b : Bool) (j : Option (List ℕ)) → option_map length (if◌then◌else◌ {A = Option (List ℕ)} b None j) ≡ (if◌then◌else◌ {A = Option ℕ} b None (option_map length j))
+kept_map : (b : Bool) (j : Option (List ℕ)) →
+    option_map length (if◌then◌else◌ {A = Option (List ℕ)} b None j) ≡ (if◌then◌else◌ {A = Option ℕ} b None (option_map length j))
 kept_map true j = refl
 kept_map false j = refl
 
 pub heard_counted : (j : Option (List ℕ)) (o : Outcome) → counted (heard j o) ≡ count_by (option_map length j) o
-heard_counted j o = let k = kept_map (drops_parts o.next.phase) j in λ i. record { state = o.next; joined = k i; reply = o.reply; closes = o.closes }
+heard_counted j o = let k = kept_map (drops_parts o.next.phase) j in
+    λ i. record { state = o.next; joined = k i; reply = o.reply; closes = o.closes }
 
 -- this many octets are joined
 heard_so_many : (j : Option (List ℕ)) (n : Option ℕ) (o : Outcome) → option_map length j ≡ n → counted (heard j o) ≡ count_by n o
@@ -29,9 +38,11 @@ none_same (Some x) None e = absurd (cc)
 
 -- ---- a message
 
-verdict_same : (s : State) (j k : Option (List ℕ)) (u : Meaning) → is_none j ≡ is_none k → word_verdict (taker_with s j) (says u) ≡ word_verdict (taker_with s k) (says u)
+verdict_same : (s : State) (j k : Option (List ℕ)) (u : Meaning) → is_none j ≡ is_none k →
+    word_verdict (taker_with s j) (says u) ≡ word_verdict (taker_with s k) (says u)
 verdict_same s j k u e =
-    ap (λ (b : Bool). if is_over s.phase then over else if drops s u then dropped else if not (is_expected s.phase u) then faulty (Unexpected (si u))
+    ap (λ (b : Bool). if is_over s.phase then over else if drops s u then dropped else if not (is_expected s.phase u) then
+        faulty (Unexpected (si u))
     else by_fault (first_fault (si u) (conditions s u ++ (b || not (begins_anew u), BadEnclosure) ∷ []))) e
 
 pub message_counts : (s : State) (n : Option ℕ) (k : Option (List ℕ)) (u : Meaning) (o : Outcome) (c : Count) → k ≡ no_octets n
@@ -44,19 +55,22 @@ message_counts s n k u o c e h d = λ j f.
 -- ---- a part
 
 abbrev part_by : ℕ → (v r e h p s : Bool) → Verdict
-part_by n v r e h p s = if v || r then (if v then over else dropped) else if not e then faulty (Unexpected n) else if h then faulty (TokenHeld n)
+part_by n v r e h p s = if v || r then (if v then over else dropped) else if not e then faulty (Unexpected n) else if h then
+    faulty (TokenHeld n)
     else if not p then faulty (BadEnclosure n) else if not s then faulty (DataTooLong n) else fine
 
 dropped_by : (n : ℕ) (v r e h p a b : Bool) → is.Dropped ≡ told_of (part_by n v r e h p b) → is.Dropped ≡ told_of (part_by n v r e h p a)
 dropped_by n v r e h p a b h0 = grind arith
 
-bad_by : (n : ℕ) (v r e h p a b : Bool) (f : UnitFault) → (b ≡ false → a ≡ false) → is.Bad f ≡ told_of (part_by n v r e h p b) → is.Bad f ≡ told_of (part_by n v r e h p a)
+bad_by : (n : ℕ) (v r e h p a b : Bool) (f : UnitFault) → (b ≡ false → a ≡ false) → is.Bad f ≡ told_of (part_by n v r e h p b) →
+    is.Bad f ≡ told_of (part_by n v r e h p a)
 bad_by n v r e h p a b f h0 h1 = grind arith
 
 fine_by : (n : ℕ) (v r e h p a b : Bool) → a ≡ true → is.Good ≡ told_of (part_by n v r e h p b) → part_by n v r e h p a ≡ fine
 fine_by n v r e h p a b h0 h1 = grind arith
 
-long_by : (n : ℕ) (v r e h p a b : Bool) → a ≡ false → is.Good ≡ told_of (part_by n v r e h p b) → is.Bad (DataTooLong n) ≡ told_of (part_by n v r e h p a)
+long_by : (n : ℕ) (v r e h p a b : Bool) → a ≡ false → is.Good ≡ told_of (part_by n v r e h p b) →
+    is.Bad (DataTooLong n) ≡ told_of (part_by n v r e h p a)
 long_by n v r e h p a b h0 h1 = grind arith
 
 place_same : (j k : Option (List ℕ)) (place : Place) → is_none j ≡ is_none k → is_in_place j place ≡ is_in_place k place
@@ -79,14 +93,18 @@ abbrev told_at : State → Option (List ℕ) → Place → List ℕ → Verdict
 told_at s j place o = word_verdict (taker_with s j) (part place o)
 
 abbrev by_place : State → Option (List ℕ) → Place → List ℕ → Bool → Verdict
-by_place s k place o b = part_by (si (DT o)) (is_over s.phase) (is_restarting s.phase) (takes_data s.phase) s.held.data_token (is_in_place k place) b
+by_place s k place o b = part_by (si (DT o)) (is_over s.phase) (is_restarting s.phase) (takes_data s.phase) s.held.data_token
+    (is_in_place k place) b
 
-verdict_at : (s : State) (j k : Option (List ℕ)) (place : Place) (o : List ℕ) → is_none j ≡ is_none k → told_at s j place o ≡ by_place s k place o (fits j o)
+verdict_at : (s : State) (j k : Option (List ℕ)) (place : Place) (o : List ℕ) → is_none j ≡ is_none k →
+    told_at s j place o ≡ by_place s k place o (fits j o)
 verdict_at s j k place o e =
     part_verdict (taker_with s j) place o
-    ∙ ap (λ (p : Bool). part_by (si (DT o)) (is_over s.phase) (is_restarting s.phase) (takes_data s.phase) s.held.data_token p (fits j o)) (place_same j k place e)
+    ∙ ap (λ (p : Bool). part_by (si (DT o)) (is_over s.phase) (is_restarting s.phase) (takes_data s.phase) s.held.data_token p (fits j o))
+        (place_same j k place e)
 
-len_of : (j : Option (List ℕ)) (n : Option ℕ) (o : List ℕ) → option_map length j ≡ n → length (joined_octets j ++ o) ≡ unwrap_or n 0 + length o
+len_of : (j : Option (List ℕ)) (n : Option ℕ) (o : List ℕ) → option_map length j ≡ n →
+    length (joined_octets j ++ o) ≡ unwrap_or n 0 + length o
 len_of None None o e = grind arith
 len_of (Some x) (Some n) o e = let f : length x ≡ n = cc in length-append x o ∙ ap (λ (m : ℕ). m + length o) f
 len_of None (Some n) o e = absurd (cc)
@@ -108,18 +126,23 @@ pub dropped_counts : (s : State) (n : Option ℕ) (k : Option (List ℕ)) (place
     → is.Dropped ≡ told_of (word_verdict (taker_with s k) (part place o)) → c ≡ count_by n (nothing s) → Counts s n (part place o) c
 dropped_counts s n k place o c e h d = λ j f.
     let same = none_same j n f ∙ ap is_none (sym e) in
-    let told = dropped_by (si (DT o)) (is_over s.phase) (is_restarting s.phase) (takes_data s.phase) s.held.data_token (is_in_place k place) (fits j o) (fits k o)
+    let told = dropped_by (si (DT o)) (is_over s.phase) (is_restarting s.phase) (takes_data s.phase) s.held.data_token (is_in_place k place)
+        (fits j o) (fits k o)
     (h ∙ ap told_of (verdict_at s k k place o refl)) in
-    ap counted (part_dropped (taker_with s j) place o (told ∙ ap told_of (sym (verdict_at s j k place o same)))) ∙ heard_so_many j n (nothing s) f ∙ sym d
+    ap counted (part_dropped (taker_with s j) place o (told ∙ ap told_of (sym (verdict_at s j k place o same)))) ∙
+        heard_so_many j n (nothing s) f ∙ sym d
 
-pub bad_counts : (s : State) (n : Option ℕ) (k : Option (List ℕ)) (place : Place) (o : List ℕ) (fault : UnitFault) (c : Count) → k ≡ no_octets n
+pub bad_counts : (s : State) (n : Option ℕ) (k : Option (List ℕ)) (place : Place) (o : List ℕ) (fault : UnitFault) (c : Count) →
+    k ≡ no_octets n
     → is.Bad fault ≡ told_of (word_verdict (taker_with s k) (part place o)) → c ≡ count_by n (bad s fault) → Counts s n (part place o) c
 bad_counts s n k place o fault c e h d = λ j f.
     let same = none_same j n f ∙ ap is_none (sym e) in
     let less : fits k o ≡ false → fits j o ≡ false = λ x. shorter j n o f (ap (λ (y : Option (List ℕ)). fits y o) (sym e) ∙ x) in
-    let told = bad_by (si (DT o)) (is_over s.phase) (is_restarting s.phase) (takes_data s.phase) s.held.data_token (is_in_place k place) (fits j o) (fits k o) fault less
+    let told = bad_by (si (DT o)) (is_over s.phase) (is_restarting s.phase) (takes_data s.phase) s.held.data_token (is_in_place k place)
+        (fits j o) (fits k o) fault less
     (h ∙ ap told_of (verdict_at s k k place o refl)) in
-    ap counted (part_bad (taker_with s j) place o fault (told ∙ ap told_of (sym (verdict_at s j k place o same)))) ∙ heard_so_many j n (bad s fault) f ∙ sym d
+    ap counted (part_bad (taker_with s j) place o fault (told ∙ ap told_of (sym (verdict_at s j k place o same)))) ∙
+        heard_so_many j n (bad s fault) f ∙ sym d
 
 -- too much is joined
 pub long_counts : (s : State) (n : Option ℕ) (k : Option (List ℕ)) (place : Place) (o : List ℕ) (c : Count) → k ≡ no_octets n
@@ -128,7 +151,8 @@ pub long_counts : (s : State) (n : Option ℕ) (k : Option (List ℕ)) (place : 
 long_counts s n k place o c e h l d = λ j f.
     let same = none_same j n f ∙ ap is_none (sym e) in
     let long : fits j o ≡ false = rw (len_of j n o f) (above (unwrap_or n 0 + length o) l) in
-    let told = long_by (si (DT o)) (is_over s.phase) (is_restarting s.phase) (takes_data s.phase) s.held.data_token (is_in_place k place) (fits j o) (fits k o) long
+    let told = long_by (si (DT o)) (is_over s.phase) (is_restarting s.phase) (takes_data s.phase) s.held.data_token (is_in_place k place)
+        (fits j o) (fits k o) long
     (h ∙ ap told_of (verdict_at s k k place o refl)) in
     ap counted (part_bad (taker_with s j) place o (DataTooLong (si (DT o))) (told ∙ ap told_of (sym (verdict_at s j k place o same))))
     ∙ heard_so_many j n (bad s (DataTooLong (si (DT o)))) f ∙ sym d
@@ -137,19 +161,25 @@ long_counts s n k place o c e h l d = λ j f.
     above m h = grind (arith, leb-true)
 
 -- what a good part leaves
-left_of : (s : State) (j : Option (List ℕ)) (n : Option ℕ) (place : Place) (o : List ℕ) (total : ℕ) → option_map length j ≡ n → word_verdict (taker_with s j) (part place o) ≡ fine
-    → total ≡ unwrap_or n 0 + length o → counted (respond_word (taker_with s j) (part place o)) ≡ count_by (if is_last place then None else Some total) (nothing s)
-left_of s j n First o total f v t = ap counted (first_is (taker_with s j) o v) ∙ heard_so_many (Some (joined_octets j ++ o)) (Some total) (nothing s) (ap Some (len_of j n o f ∙ sym t))
-left_of s j n Middle o total f v t = ap counted (middle_is (taker_with s j) o v) ∙ heard_so_many (Some (joined_octets j ++ o)) (Some total) (nothing s) (ap Some (len_of j n o f ∙ sym t))
+left_of : (s : State) (j : Option (List ℕ)) (n : Option ℕ) (place : Place) (o : List ℕ) (total : ℕ) → option_map length j ≡ n →
+    word_verdict (taker_with s j) (part place o) ≡ fine
+    → total ≡ unwrap_or n 0 + length o →
+        counted (respond_word (taker_with s j) (part place o)) ≡ count_by (if is_last place then None else Some total) (nothing s)
+left_of s j n First o total f v t = ap counted (first_is (taker_with s j) o v) ∙ heard_so_many (Some (joined_octets j ++ o)) (Some total)
+    (nothing s) (ap Some (len_of j n o f ∙ sym t))
+left_of s j n Middle o total f v t = ap counted (middle_is (taker_with s j) o v) ∙ heard_so_many (Some (joined_octets j ++ o)) (Some total)
+    (nothing s) (ap Some (len_of j n o f ∙ sym t))
 left_of s j n Last o total f v t = ap counted (last_is (taker_with s j) o v) ∙ heard_counted None (nothing s)
 
 pub good_counts : (s : State) (n : Option ℕ) (k : Option (List ℕ)) (place : Place) (o : List ℕ) (total : ℕ) (c : Count) → k ≡ no_octets n
-    → is.Good ≡ told_of (word_verdict (taker_with s k) (part place o)) → unwrap_or n 0 + length o ≤ most_data → total ≡ unwrap_or n 0 + length o
+    → is.Good ≡ told_of (word_verdict (taker_with s k) (part place o)) → unwrap_or n 0 + length o ≤ most_data →
+        total ≡ unwrap_or n 0 + length o
     → c ≡ count_by (if is_last place then None else Some total) (nothing s) → Counts s n (part place o) c
 good_counts s n k place o total c e h l t d = λ j f.
     let same = none_same j n f ∙ ap is_none (sym e) in
     let short : fits j o ≡ true = rw (len_of j n o f) (le-leb (unwrap_or n 0 + length o) most_data l) in
-    let told = fine_by (si (DT o)) (is_over s.phase) (is_restarting s.phase) (takes_data s.phase) s.held.data_token (is_in_place k place) (fits j o) (fits k o) short
+    let told = fine_by (si (DT o)) (is_over s.phase) (is_restarting s.phase) (takes_data s.phase) s.held.data_token (is_in_place k place)
+        (fits j o) (fits k o) short
     (h ∙ ap told_of (verdict_at s k k place o refl)) in
     left_of s j n place o total f (verdict_at s j k place o same ∙ told) t ∙ sym d
 
@@ -163,23 +193,29 @@ here : (s c : Count) (w : Word) (h : Hearing) → Counts s.state s.joined w c �
 here s c w h k e =
     let now = subst (λ (x : Count). Counts x.state x.joined w c) (sym e) k in now h.next.joined refl
 
-pub then_bad : (s c : Count) (w : Word) (b : Bool) → Counts s.state s.joined w c → b ≡ replies_abort c.reply → (h : Hearing) → counted h ≡ s → b ≡ is_faulty (word_verdict h.next w)
-then_bad s c w b k n h e = word_told h.next w (respond_word h.next w) b refl (n ∙ ap (λ (x : Count). replies_abort x.reply) (sym (here s c w h k e)))
+pub then_bad : (s c : Count) (w : Word) (b : Bool) → Counts s.state s.joined w c → b ≡ replies_abort c.reply → (h : Hearing) →
+    counted h ≡ s → b ≡ is_faulty (word_verdict h.next w)
+then_bad s c w b k n h e =
+    word_told h.next w (respond_word h.next w) b refl (n ∙ ap (λ (x : Count). replies_abort x.reply) (sym (here s c w h k e)))
 
-pub then_left : (s c n : Count) (w : Word) → Counts s.state s.joined w c → n ≡ count_then s c → (h : Hearing) → counted h ≡ s → counted (heard_then h (respond_word h.next w)) ≡ n
+pub then_left : (s c n : Count) (w : Word) → Counts s.state s.joined w c → n ≡ count_then s c → (h : Hearing) → counted h ≡ s →
+    counted (heard_then h (respond_word h.next w)) ≡ n
 then_left s c n w k m h e =
     ap (λ (x : Count). count_then (counted h) x) (here s c w h k e) ∙ ap (λ (x : Count). count_then x c) e ∙ sym m
 
 -- what the loop over the words of a TSDU keeps: a hearing of what was done so far, whatever octets are joined
-pub record Walks (s : State) (n : Option ℕ) (words : Words) (c : Count) (restarts : Bool) (item : Word) (us : Words) (joined : Option (List ℕ)) : Type 0 where
+pub record Walks (s : State) (n : Option ℕ) (words : Words) (c : Count) (restarts : Bool) (item : Word) (us : Words)
+    (joined : Option (List ℕ)) : Type 0 where
   pub heard : Hearing
   pub leads : Leads (respond_tsdu (taker_with s joined) words) heard restarts item us
   pub counts : counted heard ≡ c
 
 abbrev pub WalksAll : State → Option ℕ → Words → Count → Bool → Word → Words → Type 0
-WalksAll s n words c restarts item us = (joined : Option (List ℕ)) → option_map length joined ≡ n → Walks s n words c restarts item us joined
+WalksAll s n words c restarts item us = (joined : Option (List ℕ)) → option_map length joined ≡ n →
+    Walks s n words c restarts item us joined
 
-pub walks_begin : (s : State) (n : Option ℕ) (c : Count) (item first : Word) (us units : Words) → c ≡ count_by_idle s n → item ≡ first → us ≡ units
+pub walks_begin : (s : State) (n : Option ℕ) (c : Count) (item first : Word) (us units : Words) → c ≡ count_by_idle s n → item ≡ first →
+    us ≡ units
     → WalksAll s n (first ∷ units) c false item us
 walks_begin s n c item first us units e i b = λ j f. record {
   heard = idle (taker_with s j);
@@ -190,10 +226,12 @@ walks_begin s n c item first us units e i b = λ j f. record {
 }
 
 -- one word is taken off
-pub walks_turn : (s : State) (n : Option ℕ) (words : Words) (c : Count) (restarts : Bool) (item u v : Word) (us units : Words) → WalksAll s n words c restarts item us
+pub walks_turn : (s : State) (n : Option ℕ) (words : Words) (c : Count) (restarts : Bool) (item u v : Word) (us units : Words) →
+    WalksAll s n words c restarts item us
     → us ≡ v ∷ units → u ≡ v → WalksAll s n words c restarts item (u ∷ units)
 walks_turn s n words c restarts item u v us units w e i =
-    subst (λ (x : Word). WalksAll s n words c restarts item (x ∷ units)) (sym i) (subst (λ (xs : Words). WalksAll s n words c restarts item xs) e w)
+    subst (λ (x : Word). WalksAll s n words c restarts item (x ∷ units)) (sym i)
+        (subst (λ (xs : Words). WalksAll s n words c restarts item xs) e w)
 
 abbrev pub Tells : Count → Word → Bool → Type 0
 Tells c w b = (h : Hearing) → counted h ≡ c → b ≡ is_faulty (word_verdict h.next w)
@@ -201,40 +239,49 @@ Tells c w b = (h : Hearing) → counted h ≡ c → b ≡ is_faulty (word_verdic
 abbrev pub LeavesBehind : Count → Word → Count → Type 0
 LeavesBehind c w next = (h : Hearing) → counted h ≡ c → counted (heard_then h (respond_word h.next w)) ≡ next
 
-pub walks_on : (s : State) (n : Option ℕ) (words : Words) (c next : Count) (restarts now b : Bool) (item u : Word) (us : Words) → WalksAll s n words c restarts item (u ∷ us)
+pub walks_on : (s : State) (n : Option ℕ) (words : Words) (c next : Count) (restarts now b : Bool) (item u : Word) (us : Words) →
+    WalksAll s n words c restarts item (u ∷ us)
     → Tells c u b → b ≡ false → LeavesBehind c u next → now ≡ (restarts || is_restart_word u) → WalksAll s n words next now item us
 walks_on s n words c next restarts now b item u us w t g l r = λ j f.
     let x = w j f in
     record {
       heard = heard_then x.heard (respond_word x.heard.next u);
-      leads = subst (λ (y : Bool). Leads (respond_tsdu (taker_with s j) words) (heard_then x.heard (respond_word x.heard.next u)) y item us) (sym r)
+      leads = subst (λ (y : Bool). Leads (respond_tsdu (taker_with s j) words) (heard_then x.heard (respond_word x.heard.next u)) y item us)
+          (sym r)
           (goes_on (respond_tsdu (taker_with s j) words) x.heard restarts item u us x.leads (sym (t x.heard x.counts) ∙ g));
       counts = l x.heard x.counts;
     }
 
 -- a bad word is the last
-pub walks_stop : (s : State) (n : Option ℕ) (words : Words) (c next : Count) (restarts b : Bool) (item u : Word) (us : Words) → WalksAll s n words c restarts item (u ∷ us)
+pub walks_stop : (s : State) (n : Option ℕ) (words : Words) (c next : Count) (restarts b : Bool) (item u : Word) (us : Words) →
+    WalksAll s n words c restarts item (u ∷ us)
     → Tells c u b → b ≡ true → LeavesBehind c u next → CountsAll s n words next
 walks_stop s n words c next restarts b item u us w t g l = λ j f.
     let x = w j f in
-    ap counted (sym (stops (respond_tsdu (taker_with s j) words) x.heard restarts item u us x.leads (sym (t x.heard x.counts) ∙ g))) ∙ l x.heard x.counts
+    ap counted (sym (stops (respond_tsdu (taker_with s j) words) x.heard restarts item u us x.leads (sym (t x.heard x.counts) ∙ g))) ∙
+        l x.heard x.counts
 
 -- no word is left
-pub walks_restarted : (s : State) (n : Option ℕ) (words : Words) (c : Count) (restarts : Bool) (item : Word) (us : Words) → WalksAll s n words c restarts item us
+pub walks_restarted : (s : State) (n : Option ℕ) (words : Words) (c : Count) (restarts : Bool) (item : Word) (us : Words) →
+    WalksAll s n words c restarts item us
     → us ≡ [] → restarts ≡ true → CountsAll s n words c
 walks_restarted s n words c restarts item us w e r = λ j f.
     let x = w j f in
-    let leads = subst (λ (y : Bool). Leads (respond_tsdu (taker_with s j) words) x.heard y item []) r (subst (λ (xs : Words). Leads (respond_tsdu (taker_with s j) words) x.heard restarts item xs) e x.leads) in
+    let leads = subst (λ (y : Bool). Leads (respond_tsdu (taker_with s j) words) x.heard y item []) r
+        (subst (λ (xs : Words). Leads (respond_tsdu (taker_with s j) words) x.heard restarts item xs) e x.leads) in
     ap counted (sym (ends_restarted (respond_tsdu (taker_with s j) words) x.heard item leads)) ∙ x.counts
 
-pub walks_item : (s : State) (n : Option ℕ) (words : Words) (c next : Count) (restarts : Bool) (item : Word) (us : Words) → WalksAll s n words c restarts item us
+pub walks_item : (s : State) (n : Option ℕ) (words : Words) (c next : Count) (restarts : Bool) (item : Word) (us : Words) →
+    WalksAll s n words c restarts item us
     → us ≡ [] → restarts ≡ false → LeavesBehind c item next → CountsAll s n words next
 walks_item s n words c next restarts item us w e r l = λ j f.
     let x = w j f in
-    let leads = subst (λ (y : Bool). Leads (respond_tsdu (taker_with s j) words) x.heard y item []) r (subst (λ (xs : Words). Leads (respond_tsdu (taker_with s j) words) x.heard restarts item xs) e x.leads) in
+    let leads = subst (λ (y : Bool). Leads (respond_tsdu (taker_with s j) words) x.heard y item []) r
+        (subst (λ (xs : Words). Leads (respond_tsdu (taker_with s j) words) x.heard restarts item xs) e x.leads) in
     ap counted (sym (ends_with_item (respond_tsdu (taker_with s j) words) x.heard item leads)) ∙ l x.heard x.counts
 
 -- ---- a TSDU
 
-pub fault_counts : (s : State) (n : Option ℕ) (fault : SpduFault) (c : Count) → c ≡ count_by n (respond_fault s fault) → CountsCame s n (Err fault) c
+pub fault_counts : (s : State) (n : Option ℕ) (fault : SpduFault) (c : Count) → c ≡ count_by n (respond_fault s fault) →
+    CountsCame s n (Err fault) c
 fault_counts s n fault c e = λ j f. heard_so_many j n (respond_fault s fault) f ∙ sym e

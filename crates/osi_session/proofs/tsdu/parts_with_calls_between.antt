@@ -1,10 +1,21 @@
 -- The parts of one Data, with calls of their taker between, and the whole Data after the calls alone.
-use Rattle.std.proofs.Common.{◌≡◌, refl, sym, ◌∙◌, ap, subst, ℕ, ◌≤◌, Bool, true, false, not, ◌&&◌, ◌||◌, ◌⊎◌, List, [], ◌∷◌, ◌++◌, length, map, Option, Some, None, Result, Ok, Err, inl, inr, arith}
-use Rattle.osi_session.proofs.Vocabulary.{cases_Bool, and_parts, length-append, SpduFault, State, Phase, is_answering, is_major_due, is_restarting, is_restart_due, is_release_due, is_over, takes_data, most_data, Step, Answer, allowed, needs, may_call, after, has_right, AllHold, Call, Accept, Refuse, Data, Give, Please, Minor, MinorConfirm, Major, MajorConfirm, Restart, RestartConfirm, Release, ReleaseAccept, ReleaseRefuse, Abort, available, FunctionalUnits, Tokens, Place, First, Middle, Last, Meaning, DT, GT, said_at, IsSendable, words_of, no_token, without, has, Words, says, part, part_octets, written, user_data_of, drops_parts, kept_in, respond_word, discards, IsNoFault, Input, called, taken, came, came_as, Listener, Move, rests, moved, answered, react, after_input, after_inputs, Act, comes, calls, part_comes, act_in_words, act_in_octets, calls_in, AreParts, AreAlike, AreSilent, IsOfProfile, has_profile, HasProfile}
+use Rattle.std.proofs.Common.{◌≡◌, refl, sym, ◌∙◌, ap, subst, ℕ, ◌≤◌, Bool, true, false, not, ◌&&◌, ◌||◌, ◌⊎◌, List, [], ◌∷◌, ◌++◌, length}
+use Rattle.std.proofs.Common.{map, Option, Some, None, Result, Ok, Err, inl, inr, arith}
+use Rattle.osi_session.proofs.Vocabulary.{cases_Bool, and_parts, length-append, SpduFault, State, Phase, is_answering, is_major_due}
+use Rattle.osi_session.proofs.Vocabulary.{is_restarting, is_restart_due, is_release_due, is_over, takes_data, most_data, Step, Answer}
+use Rattle.osi_session.proofs.Vocabulary.{allowed, needs, may_call, after, has_right, AllHold, Call, Accept, Refuse, Data, Give, Please}
+use Rattle.osi_session.proofs.Vocabulary.{Minor, MinorConfirm, Major, MajorConfirm, Restart, RestartConfirm, Release, ReleaseAccept}
+use Rattle.osi_session.proofs.Vocabulary.{ReleaseRefuse, Abort, available, FunctionalUnits, Tokens, Place, First, Middle, Last, Meaning, DT}
+use Rattle.osi_session.proofs.Vocabulary.{GT, said_at, IsSendable, words_of, no_token, without, has, Words, says, part, part_octets}
+use Rattle.osi_session.proofs.Vocabulary.{written, user_data_of, drops_parts, kept_in, respond_word, discards, IsNoFault, Input, called}
+use Rattle.osi_session.proofs.Vocabulary.{taken, came, came_as, Listener, Move, rests, moved, answered, react, after_input, after_inputs}
+use Rattle.osi_session.proofs.Vocabulary.{Act, comes, calls, part_comes, act_in_words, act_in_octets, calls_in, AreParts, AreAlike}
+use Rattle.osi_session.proofs.Vocabulary.{AreSilent, IsOfProfile, has_profile, HasProfile}
 use Rattle.osi_session.proofs.tables.what_is_true_of_each_phase.{implied, excluded}
 use Rattle.osi_session.proofs.tables.what_an_accepted_call_has_passed.{passed}
 use Rattle.osi_message.specs.Tokens as token
-use Rattle.osi_session.proofs.tsdu.what_a_receiver_keeps.{Joins, goes_on_discarding, expected_keeps, discarded_is, first_is, middle_is, last_joined, last_discarded}
+use Rattle.osi_session.proofs.tsdu.what_a_receiver_keeps.{Joins, goes_on_discarding, expected_keeps, discarded_is, first_is, middle_is}
+use Rattle.osi_session.proofs.tsdu.what_a_receiver_keeps.{last_joined, last_discarded}
 use Rattle.osi_session.proofs.moves.the_move_of_each_input.{call_is, taken_is}
 use Rattle.osi_session.proofs.tsdu.a_part_expected_or_discarded.{Expects, expects}
 use Rattle.osi_session.proofs.tables.messages_act_as_the_table_says.{kept_none, kept_gone, word_behind, words_of_message}
@@ -35,7 +46,8 @@ unfolding without
 given_away held tokens h = rw h refl
 
 after_leaves : (s : State) (c : Call) → may_call s.phase c ≡ true → AllHold (needs s c) → Awaits s → Leaves (after s c)
-after_leaves s (Accept requirements serial sides sizes octets) m n a = absurd (let z = excluded takes_data is_answering refl s.phase a.expects.phase in cc)
+after_leaves s (Accept requirements serial sides sizes octets) m n a =
+    absurd (let z = excluded takes_data is_answering refl s.phase a.expects.phase in cc)
 after_leaves s (Data octets) m n a = inl a
 after_leaves s (Give tokens) m n a = still s _ refl a.expects.phase (given_away s.held tokens a.expects.token) a.profile
 after_leaves s (Please tokens octets) m n a = inl a
@@ -72,7 +84,8 @@ record CallStep (s : State) (waiting : Option Meaning) (joined begun : Option (L
   alike : AreAlike (react (at s waiting joined) (called c)) (react (at s waiting None) (called c))
   stands : Stands state now begun
 
-call_alike : (s : State) (waiting : Option Meaning) (joined : Option (List ℕ)) (answer : Answer) → AreAlike (answered (at s waiting joined) answer) (answered (at s waiting None) answer)
+call_alike : (s : State) (waiting : Option Meaning) (joined : Option (List ℕ)) (answer : Answer) →
+    AreAlike (answered (at s waiting joined) answer) (answered (at s waiting None) answer)
 call_alike s waiting joined (Ok x) = record { shown = refl; reply = refl; closes = refl; error = refl }
 call_alike s waiting joined (Err e) = record { shown = refl; reply = refl; closes = refl; error = refl }
 
@@ -80,7 +93,8 @@ alike_is : (s : State) (waiting : Option Meaning) (joined : Option (List ℕ)) (
     AreAlike (react (at s waiting joined) (called c)) (react (at s waiting None) (called c))
 alike_is s waiting joined c answer e =
     subst (λ (m : Move). AreAlike m (react (at s waiting None) (called c))) (sym (call_is (at s waiting joined) c answer e))
-    (subst (AreAlike (answered (at s waiting joined) answer)) (sym (call_is (at s waiting None) c answer e)) (call_alike s waiting joined answer))
+    (subst (AreAlike (answered (at s waiting joined) answer)) (sym (call_is (at s waiting None) c answer e))
+        (call_alike s waiting joined answer))
 
 leaves_stands : (s : State) (joined begun : Option (List ℕ)) → joined ≡ begun → Leaves s → Stands s (kept_in s.phase joined) begun
 leaves_stands s joined begun e h = elim h [
@@ -91,13 +105,15 @@ leaves_stands s joined begun e h = elim h [
     gone : (p : Phase) (joined : Option (List ℕ)) → discards p ≡ true → kept_in p joined ≡ None
     gone p joined d = kept_gone p joined (implied discards drops_parts refl p d)
 
-stands_then : (s : State) (joined begun : Option (List ℕ)) (c : Call) (x : Step) → allowed s c ≡ Ok x → Stands s joined begun → Stands x.next (kept_in x.next.phase joined) begun
+stands_then : (s : State) (joined begun : Option (List ℕ)) (c : Call) (x : Step) → allowed s c ≡ Ok x → Stands s joined begun →
+    Stands x.next (kept_in x.next.phase joined) begun
 stands_then s joined begun c x h st = elim st [
   | inl a ↦ leaves_stands x.next joined begun a.1 (leaves s c x h a.0)
   | inr d ↦ inr (goes_on_discarding s c x h d.0, ap (kept_in x.next.phase) d.1 ∙ kept_none x.next.phase)
 ]
 
-call_step : (s : State) (waiting : Option Meaning) (joined begun : Option (List ℕ)) (c : Call) (answer : Answer) → allowed s c ≡ answer → Stands s joined begun → CallStep s waiting joined begun c
+call_step : (s : State) (waiting : Option Meaning) (joined begun : Option (List ℕ)) (c : Call) (answer : Answer) → allowed s c ≡ answer →
+    Stands s joined begun → CallStep s waiting joined begun c
 call_step s waiting joined begun c (Ok x) e st = record {
   state = x.next;
   now = kept_in x.next.phase joined;
@@ -118,36 +134,45 @@ call_step s waiting joined begun c (Err f) e st = record {
 -- ---- a part of it
 
 part_moves : (s : State) (waiting : Option Meaning) (joined : Option (List ℕ)) (place : Place) (o : List ℕ) →
-    react (at s waiting joined) (part_comes place o) ≡ moved (at s waiting joined) (respond_word (record { state = s; joined = joined }) (part place o))
+    react (at s waiting joined) (part_comes place o) ≡ moved (at s waiting joined)
+        (respond_word (record { state = s; joined = joined }) (part place o))
 part_moves s waiting joined place o =
-    taken_is (at s waiting joined) (says (GT no_token) ∷ part place o ∷ []) (respond_word (record { state = s; joined = joined }) (part place o))
+    taken_is (at s waiting joined) (says (GT no_token) ∷ part place o ∷ [])
+        (respond_word (record { state = s; joined = joined }) (part place o))
     (word_behind (record { state = s; joined = joined }) (part place o))
 
-part_rests : (s : State) (waiting : Option Meaning) (joined now : Option (List ℕ)) (place : Place) (o : List ℕ) → Joins s joined (part place o) now →
+part_rests : (s : State) (waiting : Option Meaning) (joined now : Option (List ℕ)) (place : Place) (o : List ℕ) →
+    Joins s joined (part place o) now →
     react (at s waiting joined) (part_comes place o) ≡ rests (at s waiting now)
 part_rests s waiting joined now place o e = part_moves s waiting joined place o ∙ ap (moved (at s waiting joined)) e
 
-record PartStep (s : State) (waiting : Option Meaning) (joined : Option (List ℕ)) (place : Place) (o : List ℕ) (begun : Option (List ℕ)) : Type 0 where
+record PartStep (s : State) (waiting : Option Meaning) (joined : Option (List ℕ)) (place : Place) (o : List ℕ)
+    (begun : Option (List ℕ)) : Type 0 where
   now : Option (List ℕ)
   is : react (at s waiting joined) (part_comes place o) ≡ rests (at s waiting now)
   stands : Stands s now begun
 
-discarded_step : (s : State) (waiting : Option Meaning) (joined : Option (List ℕ)) (place : Place) (o : List ℕ) (begun : Option (List ℕ)) → discards s.phase ≡ true → joined ≡ None →
+discarded_step : (s : State) (waiting : Option Meaning) (joined : Option (List ℕ)) (place : Place) (o : List ℕ) (begun : Option (List ℕ)) →
+    discards s.phase ≡ true → joined ≡ None →
     PartStep s waiting joined place o begun
 discarded_step s waiting joined place o begun d e =
-    subst (λ (k : Option (List ℕ)). PartStep s waiting k place o begun) (sym e) (record { now = None; is = part_rests s waiting None None place o (discarded_is s place o d); stands = inr (d, refl) })
+    subst (λ (k : Option (List ℕ)). PartStep s waiting k place o begun) (sym e)
+        (record { now = None; is = part_rests s waiting None None place o (discarded_is s place o d); stands = inr (d, refl) })
 
-first_step : (s : State) (waiting : Option Meaning) (joined : Option (List ℕ)) (o : List ℕ) → length o ≤ most_data → Stands s joined None → PartStep s waiting joined First o (Some o)
+first_step : (s : State) (waiting : Option Meaning) (joined : Option (List ℕ)) (o : List ℕ) → length o ≤ most_data → Stands s joined None →
+    PartStep s waiting joined First o (Some o)
 first_step s waiting joined o short st = elim st [
   | inl a ↦ subst (λ (k : Option (List ℕ)). PartStep s waiting k First o (Some o)) (sym a.1)
       (record { now = Some o; is = part_rests s waiting None (Some o) First o (first_is s o short a.0.expects); stands = inl (a.0, refl) })
   | inr d ↦ discarded_step s waiting joined First o (Some o) d.0 d.1
 ]
 
-middle_step : (s : State) (waiting : Option Meaning) (joined : Option (List ℕ)) (b o : List ℕ) → length (b ++ o) ≤ most_data → Stands s joined (Some b) → PartStep s waiting joined Middle o (Some (b ++ o))
+middle_step : (s : State) (waiting : Option Meaning) (joined : Option (List ℕ)) (b o : List ℕ) → length (b ++ o) ≤ most_data →
+    Stands s joined (Some b) → PartStep s waiting joined Middle o (Some (b ++ o))
 middle_step s waiting joined b o short st = elim st [
   | inl a ↦ subst (λ (k : Option (List ℕ)). PartStep s waiting k Middle o (Some (b ++ o))) (sym a.1)
-      (record { now = Some (b ++ o); is = part_rests s waiting (Some b) (Some (b ++ o)) Middle o (middle_is s b o short a.0.expects); stands = inl (a.0, refl) })
+      (record { now = Some (b ++ o); is = part_rests s waiting (Some b) (Some (b ++ o)) Middle o (middle_is s b o short a.0.expects);
+          stands = inl (a.0, refl) })
   | inr d ↦ discarded_step s waiting joined Middle o (Some (b ++ o)) d.0 d.1
 ]
 
@@ -158,13 +183,17 @@ whole_comes octets = taken (words_of (DT octets))
 
 whole_moves : (s : State) (waiting : Option Meaning) (o : List ℕ) →
     react (at s waiting None) (whole_comes o) ≡ moved (at s waiting None) (respond_word (record { state = s; joined = None }) (says (DT o)))
-whole_moves s waiting o = taken_is (at s waiting None) (words_of (DT o)) (respond_word (record { state = s; joined = None }) (says (DT o))) (words_of_message (record { state = s; joined = None }) (DT o))
+whole_moves s waiting o = taken_is (at s waiting None) (words_of (DT o)) (respond_word (record { state = s; joined = None }) (says (DT o)))
+    (words_of_message (record { state = s; joined = None }) (DT o))
 
-last_word : (s : State) (joined : Option (List ℕ)) (front last : List ℕ) → Stands s joined (Some front) → length (front ++ last) ≤ most_data →
-    respond_word (record { state = s; joined = joined }) (part Last last) ≡ respond_word (record { state = s; joined = None }) (says (DT (front ++ last)))
+last_word : (s : State) (joined : Option (List ℕ)) (front last : List ℕ) → Stands s joined (Some front) →
+    length (front ++ last) ≤ most_data →
+    respond_word (record { state = s; joined = joined }) (part Last last) ≡ respond_word (record { state = s; joined = None })
+        (says (DT (front ++ last)))
 last_word s joined front last h0 h1 = grind (arith, last_joined, expects, last_discarded)
 
-last_moves : (s : State) (waiting : Option Meaning) (joined : Option (List ℕ)) (front last : List ℕ) → Stands s joined (Some front) → length (front ++ last) ≤ most_data →
+last_moves : (s : State) (waiting : Option Meaning) (joined : Option (List ℕ)) (front last : List ℕ) → Stands s joined (Some front) →
+    length (front ++ last) ≤ most_data →
     react (at s waiting joined) (part_comes Last last) ≡ react (at s waiting None) (whole_comes (front ++ last))
 last_moves s waiting joined front last st short =
     part_moves s waiting joined Last last
@@ -184,7 +213,8 @@ grows (comes Middle o ∷ acts) b front h =
     let g = grows acts (b ++ o) front h in let l = length-append b o in omega arith
 grows _ b front h = absurd h
 
-runs : (s : State) (waiting : Option Meaning) (joined begun : Option (List ℕ)) (acts : List Act) (front last : List ℕ) → Stands s joined begun → AreParts begun acts front → length (front ++ last) ≤ most_data →
+runs : (s : State) (waiting : Option Meaning) (joined begun : Option (List ℕ)) (acts : List Act) (front last : List ℕ) →
+    Stands s joined begun → AreParts begun acts front → length (front ++ last) ≤ most_data →
     react (after_inputs (at s waiting joined) (map act_in_words acts)) (part_comes Last last)
     ≡ react (after_inputs (at s waiting None) (calls_in acts)) (whole_comes (front ++ last))
 runs s waiting joined begun [] front last st h short = last_moves s waiting joined front last (subst (Stands s joined) h st) short
@@ -216,11 +246,14 @@ starts : (s : State) (o : List ℕ) → IsNoFault s o → HasProfile s → Stand
 starts s o h0 h1 = grind (arith, cases_Bool, implied, expects)
 
 abbrev Same : List Act → List ℕ → List ℕ → Listener → Type 0
-Same acts front last l = react (after_inputs l (map act_in_words acts)) (part_comes Last last) ≡ react (after_inputs l (calls_in acts)) (whole_comes (front ++ last))
+Same acts front last l = react (after_inputs l (map act_in_words acts)) (part_comes Last last) ≡ react (after_inputs l (calls_in acts))
+    (whole_comes (front ++ last))
 
-pub parts_do_as_whole : (l : Listener) (acts : List Act) (front last : List ℕ) → l.joined ≡ None → HasProfile l.state → IsNoFault l.state (front ++ last) →
+pub parts_do_as_whole : (l : Listener) (acts : List Act) (front last : List ℕ) → l.joined ≡ None → HasProfile l.state →
+    IsNoFault l.state (front ++ last) →
     length (front ++ last) ≤ most_data → AreParts None acts front →
-    react (after_inputs l (map act_in_words acts)) (part_comes Last last) ≡ react (after_inputs l (calls_in acts)) (taken (words_of (DT (front ++ last))))
+    react (after_inputs l (map act_in_words acts)) (part_comes Last last) ≡ react (after_inputs l (calls_in acts))
+        (taken (words_of (DT (front ++ last))))
 parts_do_as_whole l acts front last e f fit short h =
     subst (λ (k : Option (List ℕ)). Same acts front last (at l.state l.waiting k)) (sym e)
     (runs l.state l.waiting None None acts front last (starts l.state (front ++ last) fit f) h short)
@@ -235,12 +268,16 @@ came_in_words read place octets = ap (λ (r : Result Words SpduFault). came_as r
 
 acts_in_words : ReadAsParts → (acts : List Act) → map act_in_octets acts ≡ map act_in_words acts
 acts_in_words read [] = refl
-acts_in_words read (comes place octets ∷ acts) = ap (λ (i : Input). i ∷ map act_in_octets acts) (came_in_words read place octets) ∙ ap (λ (is : List Input). part_comes place octets ∷ is) (acts_in_words read acts)
+acts_in_words read (comes place octets ∷ acts) = ap (λ (i : Input). i ∷ map act_in_octets acts) (came_in_words read place octets) ∙
+    ap (λ (is : List Input). part_comes place octets ∷ is) (acts_in_words read acts)
 acts_in_words read (calls c ∷ acts) = ap (λ (is : List Input). called c ∷ is) (acts_in_words read acts)
 
-pub octets_do_as_whole : ReadAsParts → (l : Listener) (acts : List Act) (front last : List ℕ) → said_at (written (DT (front ++ last))) ≡ Ok (words_of (DT (front ++ last))) →
-    l.joined ≡ None → HasProfile l.state → IsNoFault l.state (front ++ last) → length (front ++ last) ≤ most_data → AreParts None acts front →
-    react (after_inputs l (map act_in_octets acts)) (came (part_octets Last last)) ≡ react (after_inputs l (calls_in acts)) (came (written (DT (front ++ last))))
+pub octets_do_as_whole : ReadAsParts → (l : Listener) (acts : List Act) (front last : List ℕ) →
+    said_at (written (DT (front ++ last))) ≡ Ok (words_of (DT (front ++ last))) →
+    l.joined ≡ None → HasProfile l.state → IsNoFault l.state (front ++ last) → length (front ++ last) ≤ most_data →
+        AreParts None acts front →
+    react (after_inputs l (map act_in_octets acts)) (came (part_octets Last last)) ≡ react (after_inputs l (calls_in acts))
+        (came (written (DT (front ++ last))))
 octets_do_as_whole read l acts front last whole e f fit short h =
     ap (λ (is : List Input). react (after_inputs l is) (came (part_octets Last last))) (acts_in_words read acts)
     ∙ ap (react (after_inputs l (map act_in_words acts))) (came_in_words read Last last)
@@ -249,7 +286,8 @@ octets_do_as_whole read l acts front last whole e f fit short h =
 
 -- ---- until the last part
 
-quiet_part : ReadAsParts → (l m : Listener) (now : Listener) (place : Place) (o : List ℕ) (acts : List Act) → react l (part_comes place o) ≡ rests now → AreSilent now m acts →
+quiet_part : ReadAsParts → (l m : Listener) (now : Listener) (place : Place) (o : List ℕ) (acts : List Act) →
+    react l (part_comes place o) ≡ rests now → AreSilent now m acts →
     AreSilent l m (comes place o ∷ acts)
 quiet_part read l m now place o acts e h =
     let same = ap (react l) (came_in_words read place o) ∙ e in (
@@ -261,29 +299,34 @@ quiet_part read l m now place o acts e h =
       subst (λ (move : Move). AreSilent move.next m acts) (sym same) h,
     )
 
-silent_run : ReadAsParts → (s : State) (waiting : Option Meaning) (joined begun : Option (List ℕ)) (acts : List Act) (front : List ℕ) → Stands s joined begun → AreParts begun acts front →
+silent_run : ReadAsParts → (s : State) (waiting : Option Meaning) (joined begun : Option (List ℕ)) (acts : List Act) (front : List ℕ) →
+    Stands s joined begun → AreParts begun acts front →
     length front ≤ most_data → AreSilent (at s waiting joined) (at s waiting None) acts
 silent_run read s waiting joined begun [] front st h short = tt
 silent_run read s waiting joined begun (calls c ∷ acts) front st h short =
     let k = call_step s waiting joined begun c (allowed s c) refl st in (
       (refl, k.alike),
       subst (λ (l : Listener). AreSilent l (after_input (at s waiting None) (called c)) acts) (sym k.is)
-          (subst (λ (m : Listener). AreSilent (at k.state waiting k.now) m acts) (sym k.whole) (silent_run read k.state waiting k.now begun acts front k.stands h short)),
+          (subst (λ (m : Listener). AreSilent (at k.state waiting k.now) m acts) (sym k.whole)
+              (silent_run read k.state waiting k.now begun acts front k.stands h short)),
     )
 silent_run read s waiting joined None (comes First o ∷ acts) front st h short =
     let g = grows acts o front h in
     let k = first_step s waiting joined o (omega arith) st in
-    quiet_part read (at s waiting joined) (at s waiting None) (at s waiting k.now) First o acts k.is (silent_run read s waiting k.now (Some o) acts front k.stands h short)
+    quiet_part read (at s waiting joined) (at s waiting None) (at s waiting k.now) First o acts k.is
+        (silent_run read s waiting k.now (Some o) acts front k.stands h short)
 silent_run read s waiting joined (Some b) (comes Middle o ∷ acts) front st h short =
     let g = grows acts (b ++ o) front h in
     let k = middle_step s waiting joined b o (omega arith) st in
-    quiet_part read (at s waiting joined) (at s waiting None) (at s waiting k.now) Middle o acts k.is (silent_run read s waiting k.now (Some (b ++ o)) acts front k.stands h short)
+    quiet_part read (at s waiting joined) (at s waiting None) (at s waiting k.now) Middle o acts k.is
+        (silent_run read s waiting k.now (Some (b ++ o)) acts front k.stands h short)
 silent_run read s waiting joined None (comes Middle o ∷ acts) front st h short = absurd h
 silent_run read s waiting joined None (comes Last o ∷ acts) front st h short = absurd h
 silent_run read s waiting joined (Some b) (comes First o ∷ acts) front st h short = absurd h
 silent_run read s waiting joined (Some b) (comes Last o ∷ acts) front st h short = absurd h
 
-pub silent_before : ReadAsParts → (l : Listener) (acts : List Act) (front last : List ℕ) → l.joined ≡ None → HasProfile l.state → IsNoFault l.state (front ++ last) →
+pub silent_before : ReadAsParts → (l : Listener) (acts : List Act) (front last : List ℕ) → l.joined ≡ None → HasProfile l.state →
+    IsNoFault l.state (front ++ last) →
     length (front ++ last) ≤ most_data → AreParts None acts front → AreSilent l l acts
 silent_before read l acts front last e f fit short h =
     let m = length-append front last in

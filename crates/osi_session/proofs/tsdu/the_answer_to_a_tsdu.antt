@@ -1,11 +1,25 @@
 -- The answer to a TSDU, the phases in which a session closes the transport connection, and those in which a call is
 -- accepted.
-use Rattle.std.proofs.Common.{◌⊎◌, inl, inr, ◌≡◌, refl, sym, ◌∙◌, ap, subst, ℕ, Bool, true, false, not, ◌&&◌, ◌||◌, List, [], ◌∷◌, Option, Some, None, unwrap_or, Result, Ok, Err, if◌then◌else◌, arith}
-use Rattle.osi_session.proofs.Vocabulary.{list_any, SpduFault, TokenSetting, TsduMaximumSize, are_sizes, Meaning, CN, RF, DN, AB, AA, said_at, Word, Words, as_message, UnitFault, Spelling, Unexpected, Phase, WaitTransport, Answering, Ended, State, is_wait_transport, is_wait_cn, is_connecting, is_answering, is_ready, is_major_due, is_releasing, is_release_due, is_restart_due, is_aborting, is_ended, is_over, may_give, may_ask, may_confirm_minor, may_restart, may_abort, Call, Accept, Refuse, Data, Give, Please, Minor, MinorConfirm, Major, MajorConfirm, Restart, RestartConfirm, Release, ReleaseAccept, ReleaseRefuse, Abort, Step, may_call, allowed, may_close, may_close_word, closes_alone, is_answer, awaits_close, Taker, Hearing, word_verdict, respond_word, respond_words, heard_then, acting_words, respond_tsdu, respond_came, Input, called, taken, unread, opened, refused, broken, is_opened, came_as, came, Listener, taker_of, react, after_input, without_tokens, functional_units, has_data, Outcome, si, conditions, first_fault, is_expected, drops, nothing, good, bad, becomes, judged, take_expected, in_aborting, in_ended, respond_unit, first_reply, and_then, over, verdict, enacted, is_faulty, respond_fault}
+use Rattle.std.proofs.Common.{◌⊎◌, inl, inr, ◌≡◌, refl, sym, ◌∙◌, ap, subst, ℕ, Bool, true, false, not, ◌&&◌, ◌||◌, List, [], ◌∷◌, Option}
+use Rattle.std.proofs.Common.{Some, None, unwrap_or, Result, Ok, Err, if◌then◌else◌, arith}
+use Rattle.osi_session.proofs.Vocabulary.{list_any, SpduFault, TokenSetting, TsduMaximumSize, are_sizes, Meaning, CN, RF, DN, AB, AA}
+use Rattle.osi_session.proofs.Vocabulary.{said_at, Word, Words, as_message, UnitFault, Spelling, Unexpected, Phase, WaitTransport}
+use Rattle.osi_session.proofs.Vocabulary.{Answering, Ended, State, is_wait_transport, is_wait_cn, is_connecting, is_answering, is_ready}
+use Rattle.osi_session.proofs.Vocabulary.{is_major_due, is_releasing, is_release_due, is_restart_due, is_aborting, is_ended, is_over}
+use Rattle.osi_session.proofs.Vocabulary.{may_give, may_ask, may_confirm_minor, may_restart, may_abort, Call, Accept, Refuse, Data, Give}
+use Rattle.osi_session.proofs.Vocabulary.{Please, Minor, MinorConfirm, Major, MajorConfirm, Restart, RestartConfirm, Release, ReleaseAccept}
+use Rattle.osi_session.proofs.Vocabulary.{ReleaseRefuse, Abort, Step, may_call, allowed, may_close, may_close_word, closes_alone, is_answer}
+use Rattle.osi_session.proofs.Vocabulary.{awaits_close, Taker, Hearing, word_verdict, respond_word, respond_words, heard_then, acting_words}
+use Rattle.osi_session.proofs.Vocabulary.{respond_tsdu, respond_came, Input, called, taken, unread, opened, refused, broken, is_opened}
+use Rattle.osi_session.proofs.Vocabulary.{came_as, came, Listener, taker_of, react, after_input, without_tokens, functional_units, has_data}
+use Rattle.osi_session.proofs.Vocabulary.{Outcome, si, conditions, first_fault, is_expected, drops, nothing, good, bad, becomes, judged}
+use Rattle.osi_session.proofs.Vocabulary.{take_expected, in_aborting, in_ended, respond_unit, first_reply, and_then, over, verdict, enacted}
+use Rattle.osi_session.proofs.Vocabulary.{is_faulty, respond_fault}
 use Rattle.osi_session.proofs.moves.what_closes_the_connection.{neither, acting_none, not_true, words_open, octets_alone, fault_open}
 use Rattle.osi_session.proofs.tables.what_an_accepted_call_has_passed.{passed}
 use Rattle.osi_session.proofs.tables.what_is_true_of_each_phase.{implied, excluded}
-use Rattle.osi_session.proofs.tables.the_outcomes_of_each_input.{not_false, call_cases, unit_cases, taken_cases, fault_cases, refused_cases, broken_cases}
+use Rattle.osi_session.proofs.tables.the_outcomes_of_each_input.{not_false, call_cases, unit_cases, taken_cases, fault_cases, refused_cases}
+use Rattle.osi_session.proofs.tables.the_outcomes_of_each_input.{broken_cases}
 use Rattle.osi_session.proofs.runs.what_every_run_preserves.{word_over}
 use Rattle.osi_session.proofs.tables.the_verdict_on_a_unit.{enacts, not_over}
 use Rattle.osi_session.proofs.tables.a_word_acts_as_its_message.{outcome_in, word_does, word_keeps, all_keep, any_word, any_tsdu_keeps}
@@ -76,11 +90,13 @@ answers s u =
     either (drops s u) _ _ (λ d. silent _ refl) (λ d.
     either (not (is_expected s.phase u)) _ _ (λ x. bad_answers s (Unexpected (si u))) (λ x. expected_answers s u))))
 
-pub unit_answers : (s : State) (u m : Meaning) → (respond_unit s u).reply ≡ Some m → (is_answer m ≡ true) × (is_over (respond_unit s u).next.phase ≡ true)
+pub unit_answers : (s : State) (u m : Meaning) → (respond_unit s u).reply ≡ Some m →
+    (is_answer m ≡ true) × (is_over (respond_unit s u).next.phase ≡ true)
 unit_answers s u = (answers s u).last
 
 word_answers : (t : Taker) (w : Word) → Answers (outcome_in (respond_word t w))
-word_answers t w = word_does Answers t w (record { acts = λ u a. answers t.state u; bad = λ fault o. bad_answers t.state fault; rests = silent _ refl })
+word_answers t w =
+    word_does Answers t w (record { acts = λ u a. answers t.state u; bad = λ fault o. bad_answers t.state fault; rests = silent _ refl })
 
 pub stays_over : (t : Taker) (ws : Words) → is_over t.state.phase ≡ true → is_over (respond_words t ws).next.state.phase ≡ true
 stays_over t ws h = all_keep (λ r. is_over r.phase ≡ true) (λ w. Unit {0}) t ws (λ r w q. word_over r w) (any_word ws) h
@@ -108,8 +124,10 @@ unfolding respond_words
 all_answer t [] = silent _ refl
 all_answer t (w ∷ ws) =
     let next = (respond_word t w).next in
-    either_heard (is_faulty (word_verdict t w)) (respond_word t w) (heard_then (respond_word t w) (respond_words next ws)) (word_answers t w)
-    (then_answers (outcome_in (respond_word t w)) (outcome_in (respond_words next ws)) (word_answers t w) (stays_over next ws) (all_answer next ws))
+    either_heard (is_faulty (word_verdict t w)) (respond_word t w) (heard_then (respond_word t w) (respond_words next ws))
+        (word_answers t w)
+    (then_answers (outcome_in (respond_word t w)) (outcome_in (respond_words next ws)) (word_answers t w) (stays_over next ws)
+        (all_answer next ws))
 
 fault_answers : (s : State) (fault : SpduFault) → Answers (respond_fault s fault)
 unfolding respond_fault
@@ -147,14 +165,16 @@ over_word t w o =
     ap outcome_in (word_at t w over (rw o refl))
     ∙ sym (enacts t.state (as_message w) ∙ ap (enacted t.state (as_message w)) (over_verdict t.state (as_message w) o))
 
-word_still : (t : Taker) (w : Word) → is_over t.state.phase ≡ true → may_close_word w ≡ false → outcome_in (respond_word t w) ≡ nothing t.state
+word_still : (t : Taker) (w : Word) → is_over t.state.phase ≡ true → may_close_word w ≡ false →
+    outcome_in (respond_word t w) ≡ nothing t.state
 word_still t w o h = ap outcome_in (word_at t w over (rw o refl)) ∙ over_still t.state (as_message w) h
 
 over_no_fault : (t : Taker) (w : Word) → is_over t.state.phase ≡ true → is_faulty (word_verdict t w) ≡ false
 over_no_fault t w o = rw o refl
 
 -- the words that come after others do nothing
-all_still : (t : Taker) (ws : Words) → is_over t.state.phase ≡ true → list_any may_close_word ws ≡ false → outcome_in (respond_words t ws) ≡ nothing t.state
+all_still : (t : Taker) (ws : Words) → is_over t.state.phase ≡ true → list_any may_close_word ws ≡ false →
+    outcome_in (respond_words t ws) ≡ nothing t.state
 unfolding respond_words
 all_still t [] o h = refl
 all_still t (w ∷ ws) o h =
@@ -163,10 +183,12 @@ all_still t (w ∷ ws) o h =
     let same = ap (λ (x : Outcome). x.next) e in
     let next = (respond_word t w).next in
     ap (λ b. outcome_in (if b then respond_word t w else heard_then (respond_word t w) (respond_words next ws))) (over_no_fault t w o)
-    ∙ ap (and_then (outcome_in (respond_word t w))) (all_still next ws (subst (λ (x : State). is_over x.phase ≡ true) (sym same) o) q.1 ∙ ap nothing same)
+    ∙ ap (and_then (outcome_in (respond_word t w))) (all_still next ws (subst (λ (x : State). is_over x.phase ≡ true) (sym same) o) q.1 ∙
+        ap nothing same)
     ∙ ap (λ (x : Outcome). and_then x (nothing t.state)) e
 
-words_still : (t : Taker) (words : Words) → is_over t.state.phase ≡ true → list_any may_close_word words ≡ false → outcome_in (respond_tsdu t words) ≡ nothing t.state
+words_still : (t : Taker) (words : Words) → is_over t.state.phase ≡ true → list_any may_close_word words ≡ false →
+    outcome_in (respond_tsdu t words) ≡ nothing t.state
 words_still t words o h = all_still t (acting_words words) o (acting_none may_close_word words h)
 
 -- what arrives at a session that is over: a single word, or nothing
@@ -208,7 +230,8 @@ read_over : (P : Outcome → Type 0) (s : Listener) (read : Result Words SpduFau
 read_over P s (Ok words) o h n k = over_said P (taker_of s) words o (h words refl) n k
 read_over P s (Err fault) o h n k = subst P (sym (over_fault s.state fault o)) n
 
-reply_read : (s : Listener) (read : Result Words SpduFault) → (react s (came_as read)).reply ≡ (outcome_in (respond_came (taker_of s) read)).reply
+reply_read : (s : Listener) (read : Result Words SpduFault) →
+    (react s (came_as read)).reply ≡ (outcome_in (respond_came (taker_of s) read)).reply
 unfolding react
 reply_read s (Ok words) = refl
 reply_read s (Err fault) = refl
@@ -223,9 +246,11 @@ aborting_silent s octets a =
     ∙ read_over Silent s (said_at octets) (aborting_over s.state.phase a) (octets_alone octets) refl (λ u. unit_unanswered s.state u a)
 
 -- an ended one answers an abort
-pub ended_accepting : (s : Listener) (octets : List ℕ) (m : Meaning) → is_ended s.state.phase ≡ true → (react s (came octets)).reply ≡ Some m → m ≡ AA
+pub ended_accepting : (s : Listener) (octets : List ℕ) (m : Meaning) → is_ended s.state.phase ≡ true →
+    (react s (came octets)).reply ≡ Some m → m ≡ AA
 ended_accepting s octets m e h =
-    read_over AcceptsAbort s (said_at octets) (implied is_ended is_over refl s.state.phase e) (octets_alone octets) (λ u k. absurd (cc)) (λ u. unit_accepts s.state u e)
+    read_over AcceptsAbort s (said_at octets) (implied is_ended is_over refl s.state.phase e) (octets_alone octets) (λ u k. absurd (cc))
+        (λ u. unit_accepts s.state u e)
     m (sym (reply_read s (said_at octets)) ∙ h)
 
 -- ---- in which phases the transport connection is closed
@@ -236,7 +261,8 @@ record Awaited (s : State) (o : Outcome) : Type 0 where
 left_open : (s : State) (o : Outcome) → o.closes ≡ false → Awaited s o
 left_open s o h = record { awaits = λ c. absurd (cc) }
 
-either_awaited : (s : State) (b : Bool) (x y : Outcome) → (b ≡ true → Awaited s x) → (b ≡ false → Awaited s y) → Awaited s (if b then x else y)
+either_awaited : (s : State) (b : Bool) (x y : Outcome) → (b ≡ true → Awaited s x) → (b ≡ false → Awaited s y) →
+    Awaited s (if b then x else y)
 either_awaited s true x y h k = h refl
 either_awaited s false x y h k = k refl
 
@@ -264,10 +290,13 @@ unit_awaited s u =
     either_awaited s (is_aborting s.phase) _ _ (λ a. aborting_awaited s u a) (λ a.
     either_awaited s (is_ended s.phase) _ _ (λ e. ended_awaited s u) (λ e.
     either_awaited s (drops s u) _ _ (λ d. left_open s _ refl) (λ d.
-    either_awaited s (not (is_expected s.phase u)) _ _ (λ x. left_open s _ refl) (λ x. expected_awaited s u (not_false (is_expected s.phase u) x)))))
+    either_awaited s (not (is_expected s.phase u)) _ _ (λ x. left_open s _ refl)
+        (λ x. expected_awaited s u (not_false (is_expected s.phase u) x)))))
 
 word_awaited : (t : Taker) (w : Word) → Awaited t.state (outcome_in (respond_word t w))
-word_awaited t w = word_does (Awaited t.state) t w (record { acts = λ u a. unit_awaited t.state u; bad = λ fault o. left_open t.state _ refl; rests = left_open t.state _ refl })
+word_awaited t w =
+    word_does (Awaited t.state) t w
+    (record { acts = λ u a. unit_awaited t.state u; bad = λ fault o. left_open t.state _ refl; rests = left_open t.state _ refl })
 
 words_awaited : (t : Taker) (words : Words) → closes_alone words ≡ true → Awaited t.state (outcome_in (respond_tsdu t words))
 words_awaited t words h0 = grind (arith, left_open, words_open, outcome_in, word_alone, word_awaited, not_true)
@@ -302,7 +331,8 @@ pub accepted_callable : (s : State) (c : Call) (x : Step) → allowed s c ≡ Ok
 accepted_callable s c x h = callable c s.phase (passed s c x h).phase
 
 pub callable_open : (p : Phase) → may_abort p ≡ true → (is_wait_transport p ≡ false) × (is_wait_cn p ≡ false) × (is_over p ≡ false)
-callable_open p h = (excluded may_abort is_wait_transport refl p h, excluded may_abort is_wait_cn refl p h, excluded may_abort is_over refl p h)
+callable_open p h =
+    (excluded may_abort is_wait_transport refl p h, excluded may_abort is_wait_cn refl p h, excluded may_abort is_over refl p h)
 
 -- ---- while the transport connection is awaited
 
@@ -340,7 +370,9 @@ first_true a b h = rw h refl
 -- what happens before it is open leaves the session waiting for it, or is the end
 pub input_waits : (s : Listener) (input : Input) → is_opened input ≡ false → is_wait_transport s.state.phase ≡ true
     → (is_wait_transport (after_input s input).state.phase || is_over (after_input s input).state.phase) ≡ true
-input_waits s (called c) n w = call_cases Waits s c (first_true _ _ w) (λ x e. absurd (let b = callable_open s.state.phase (accepted_callable s.state c x e) in let q = b.0 in cc))
+input_waits s (called c) n w =
+    call_cases Waits s c (first_true _ _ w)
+    (λ x e. absurd (let b = callable_open s.state.phase (accepted_callable s.state c x e) in let q = b.0 in cc))
 input_waits s (taken words) n w = taken_cases Waits s words (any_tsdu_keeps Waits (taker_of s) words word_waits (first_true _ _ w))
 input_waits s (unread fault) n w = fault_cases Waits s fault (first_true _ _ w) (λ o. refl)
 input_waits s opened n w = absurd (cc)

@@ -1,8 +1,14 @@
 -- The effect of a word, from its result in memory.
-use Rattle.std.proofs.Common.{◌≡◌, ◌∙◌, refl, sym, ap, subst, ℕ, ◌<◌, Bool, true, false, not, ◌&&◌, ◌||◌, if◌then◌else◌, nat_le, nat_lt, List, [], ◌∷◌, ◌++◌, length, Option, Some, None, is_none, arith}
+use Rattle.std.proofs.Common.{◌≡◌, ◌∙◌, refl, sym, ap, subst, ℕ, ◌<◌, Bool, true, false, not, ◌&&◌, ◌||◌, if◌then◌else◌, nat_le, nat_lt}
+use Rattle.std.proofs.Common.{List, [], ◌∷◌, ◌++◌, length, Option, Some, None, is_none, arith}
 use Rattle.osi_session.specs.declared.joining.PartVerdict.TheVariants as is
 use Rattle.osi_session.specs.Shown.{Data}
-use Rattle.osi_session.proofs.Vocabulary.{lt-ltb, length-append, append-nil, State, UnitFault, Heard, Unexpected, TokenHeld, BadEnclosure, DataTooLong, most_data, is_over, is_aborting, is_restarting, takes_data, may_hold, Phase, nothing, shows, bad, Verdict, over, dropped, faulty, fine, is_faulty, enacted, is_silent, is_nil, si, replies_abort, Taker, Hearing, joined_octets, kept_in, is_in_place, word_verdict, joined_by, good_word, heard, enacted_word, respond_word, told_of, hearing_of, takes_room, outcome_of, Meaning, DT, Place, First, Middle, Last, Word, says, part, as_message}
+use Rattle.osi_session.proofs.Vocabulary.{lt-ltb, length-append, append-nil, State, UnitFault, Heard, Unexpected, TokenHeld, BadEnclosure}
+use Rattle.osi_session.proofs.Vocabulary.{DataTooLong, most_data, is_over, is_aborting, is_restarting, takes_data, may_hold, Phase, nothing}
+use Rattle.osi_session.proofs.Vocabulary.{shows, bad, Verdict, over, dropped, faulty, fine, is_faulty, enacted, is_silent, is_nil, si}
+use Rattle.osi_session.proofs.Vocabulary.{replies_abort, Taker, Hearing, joined_octets, kept_in, is_in_place, word_verdict, joined_by}
+use Rattle.osi_session.proofs.Vocabulary.{good_word, heard, enacted_word, respond_word, told_of, hearing_of, takes_room, outcome_of}
+use Rattle.osi_session.proofs.Vocabulary.{Meaning, DT, Place, First, Middle, Last, Word, says, part, as_message}
 use Rattle.osi_session.proofs.tsdu.the_verdict_while_joining.{part_verdict}
 use Rattle.osi_session.proofs.tables.what_is_true_of_each_phase.{implied}
 use Rattle.osi_session.proofs.tables.the_verdict_on_a_unit.{enacted_reply, good_reply}
@@ -24,8 +30,11 @@ message_is t u = word_at t (says u) (word_verdict t (says u)) refl ∙ enacted_s
 pub loud_takes : (joined : Option (List ℕ)) (h : Hearing) → (is_nil h.shown && is_none h.reply) ≡ false → takes_room joined h ≡ true
 loud_takes joined h e = rw e refl
 
-pub message_takes : (t : Taker) (u : Meaning) → is_silent (enacted t.state u (word_verdict t (says u))) ≡ false → takes_room t.joined (respond_word t (says u)) ≡ true
-message_takes t u h = subst (λ (x : Hearing). takes_room t.joined x ≡ true) (sym (message_is t u)) (loud_takes t.joined (heard t.joined (enacted t.state u (word_verdict t (says u)))) h)
+pub message_takes : (t : Taker) (u : Meaning) → is_silent (enacted t.state u (word_verdict t (says u))) ≡ false →
+    takes_room t.joined (respond_word t (says u)) ≡ true
+message_takes t u h =
+    subst (λ (x : Hearing). takes_room t.joined x ≡ true) (sym (message_is t u))
+    (loud_takes t.joined (heard t.joined (enacted t.state u (word_verdict t (says u)))) h)
 
 -- ---- a part
 
@@ -40,7 +49,8 @@ unfolding respond_word
 part_dropped t place octets h0 = grind (arith, enacted_over)
 
 -- a bad part
-pub part_bad : (t : Taker) (place : Place) (octets : List ℕ) (fault : UnitFault) → is.Bad fault ≡ told_of (word_verdict t (part place octets)) →
+pub part_bad : (t : Taker) (place : Place) (octets : List ℕ) (fault : UnitFault) →
+    is.Bad fault ≡ told_of (word_verdict t (part place octets)) →
     respond_word t (part place octets) ≡ heard t.joined (bad t.state fault)
 unfolding respond_word
 part_bad t place octets fault e = by (word_verdict t (part place octets)) e
@@ -51,7 +61,8 @@ part_bad t place octets fault e = by (word_verdict t (part place octets)) e
     by (faulty other) e = let same : fault ≡ other = cc in ap (λ f. heard t.joined (bad t.state f)) (sym same)
     by fine e = absurd (cc)
 
-pub part_fine : (t : Taker) (place : Place) (octets : List ℕ) → is.Good ≡ told_of (word_verdict t (part place octets)) → word_verdict t (part place octets) ≡ fine
+pub part_fine : (t : Taker) (place : Place) (octets : List ℕ) → is.Good ≡ told_of (word_verdict t (part place octets)) →
+    word_verdict t (part place octets) ≡ fine
 part_fine t place octets h0 = grind arith
 
 -- a good part
@@ -65,8 +76,10 @@ fine_by : (n : ℕ) (v r e h p s : Bool) →
     else if not p then faulty (BadEnclosure n) else if not s then faulty (DataTooLong n) else fine) ≡ fine → (e ≡ true) × (p ≡ true)
 fine_by n v r e h p s h0 = grind arith
 
-passed : (t : Taker) (place : Place) (octets : List ℕ) → word_verdict t (part place octets) ≡ fine → (takes_data t.state.phase ≡ true) × (is_in_place t.joined place ≡ true)
-passed t place octets e = fine_by (si (DT octets)) (is_over t.state.phase) (is_restarting t.state.phase) (takes_data t.state.phase) t.state.held.data_token
+passed : (t : Taker) (place : Place) (octets : List ℕ) → word_verdict t (part place octets) ≡ fine →
+    (takes_data t.state.phase ≡ true) × (is_in_place t.joined place ≡ true)
+passed t place octets e = fine_by (si (DT octets)) (is_over t.state.phase) (is_restarting t.state.phase) (takes_data t.state.phase)
+    t.state.held.data_token
     (is_in_place t.joined place) (nat_le (length (joined_octets t.joined ++ octets)) most_data) (sym (part_verdict t place octets) ∙ e)
 
 pub fine_holds : (t : Taker) (place : Place) (octets : List ℕ) → word_verdict t (part place octets) ≡ fine → may_hold t.state.phase ≡ true
@@ -78,7 +91,9 @@ first_joins (Some x) octets h = absurd (cc)
 
 pub first_is : (t : Taker) (octets : List ℕ) → word_verdict t (part First octets) ≡ fine →
     respond_word t (part First octets) ≡ heard (Some (joined_octets t.joined ++ octets)) (nothing t.state)
-first_is t octets e = part_is t First octets e ∙ ap (λ (o : List ℕ). heard (Some o) (nothing t.state)) (first_joins t.joined octets (passed t First octets e).1)
+first_is t octets e =
+    part_is t First octets e ∙ ap (λ (o : List ℕ). heard (Some o) (nothing t.state))
+    (first_joins t.joined octets (passed t First octets e).1)
 
 pub middle_is : (t : Taker) (octets : List ℕ) → word_verdict t (part Middle octets) ≡ fine →
     respond_word t (part Middle octets) ≡ heard (Some (joined_octets t.joined ++ octets)) (nothing t.state)
@@ -104,7 +119,8 @@ longer x u h = let n = length-append x u in lt-ltb (length x) (length (x ++ u)) 
 pub early_takes : (s : State) (joined : Option (List ℕ)) (octets : List ℕ) → may_hold s.phase ≡ true → 0 < length octets →
     takes_room joined (heard (Some (joined_octets joined ++ octets)) (nothing s)) ≡ true
 early_takes s joined octets m h =
-    ap (λ (k : Option (List ℕ)). nat_lt (length (joined_octets joined)) (length (joined_octets k))) (kept_held s.phase (Some (joined_octets joined ++ octets)) m)
+    ap (λ (k : Option (List ℕ)). nat_lt (length (joined_octets joined)) (length (joined_octets k)))
+        (kept_held s.phase (Some (joined_octets joined ++ octets)) m)
     ∙ longer (joined_octets joined) octets h
 
 -- ---- a bad word is one that is answered by AB
@@ -112,11 +128,15 @@ early_takes s joined octets m h =
 enacted_bad : (t : Taker) (w : Word) (v : Verdict) → replies_abort (enacted_word t w v).reply ≡ is_faulty v
 enacted_bad t w v = grind (arith, enacted_reply, good_reply)
 
-pub word_told : (t : Taker) (w : Word) (h : Hearing) (b : Bool) → respond_word t w ≡ h → b ≡ replies_abort h.reply → b ≡ is_faulty (word_verdict t w)
-word_told t w h b e k = k ∙ ap (λ (x : Hearing). replies_abort x.reply) (sym e ∙ word_at t w (word_verdict t w) refl) ∙ enacted_bad t w (word_verdict t w)
+pub word_told : (t : Taker) (w : Word) (h : Hearing) (b : Bool) → respond_word t w ≡ h → b ≡ replies_abort h.reply →
+    b ≡ is_faulty (word_verdict t w)
+word_told t w h b e k = k ∙ ap (λ (x : Hearing). replies_abort x.reply) (sym e ∙ word_at t w (word_verdict t w) refl) ∙
+    enacted_bad t w (word_verdict t w)
 
-pub told_as : (s : State) (j k : Option (List ℕ)) (w : Word) (h : Heard) (b : Bool) → j ≡ k → (let t : Taker = record { state = s; joined = j } in respond_word t w ≡ hearing_of j h.joined (outcome_of h.reaction))
-    → b ≡ replies_abort (outcome_of h.reaction).reply → (let t : Taker = record { state = s; joined = k } in b ≡ is_faulty (word_verdict t w))
+pub told_as : (s : State) (j k : Option (List ℕ)) (w : Word) (h : Heard) (b : Bool) → j ≡ k →
+    (let t : Taker = record { state = s; joined = j } in respond_word t w ≡ hearing_of j h.joined (outcome_of h.reaction))
+    → b ≡ replies_abort (outcome_of h.reaction).reply →
+        (let t : Taker = record { state = s; joined = k } in b ≡ is_faulty (word_verdict t w))
 told_as s j k w h b e f g =
     subst (λ (x : Option (List ℕ)). let t : Taker = record { state = s; joined = x } in b ≡ is_faulty (word_verdict t w)) e
     (let t : Taker = record { state = s; joined = j } in word_told t w (hearing_of j h.joined (outcome_of h.reaction)) b f g)

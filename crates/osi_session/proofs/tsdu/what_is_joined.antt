@@ -1,6 +1,12 @@
 -- What is joined at all times: it is kept by the phase, and at most as much as one Data.
-use Rattle.std.proofs.Common.{◌≡◌, refl, ap, subst, ℕ, ◌≤◌, Bool, true, false, not, if◌then◌else◌, nat_le, List, [], ◌∷◌, ◌++◌, length, Option, Some, None, Result, Ok, Err, arith}
-use Rattle.osi_session.proofs.Vocabulary.{is_some, leb-true, length-append, SpduFault, BadEnclosure, DataTooLong, Phase, State, most_data, Answer, may_hold, Condition, si, conditions, first_fault, Verdict, fine, is_faulty, respond_fault, Place, DT, said_at, Word, Words, part, as_message, Taker, joined_octets, drops_parts, kept_in, is_in_place, enclosure_conditions, word_conditions, word_verdict, joined_by, Hearing, enacted_word, respond_word, respond_words, acting_words, respond_tsdu, respond_came, IsKeptIn, IsKept, Input, Listener, Move, in_state, answered, react, after_input, after_inputs}
+use Rattle.std.proofs.Common.{◌≡◌, refl, ap, subst, ℕ, ◌≤◌, Bool, true, false, not, if◌then◌else◌, nat_le, List, [], ◌∷◌, ◌++◌, length}
+use Rattle.std.proofs.Common.{Option, Some, None, Result, Ok, Err, arith}
+use Rattle.osi_session.proofs.Vocabulary.{is_some, leb-true, length-append, SpduFault, BadEnclosure, DataTooLong, Phase, State, most_data}
+use Rattle.osi_session.proofs.Vocabulary.{Answer, may_hold, Condition, si, conditions, first_fault, Verdict, fine, is_faulty, respond_fault}
+use Rattle.osi_session.proofs.Vocabulary.{Place, DT, said_at, Word, Words, part, as_message, Taker, joined_octets, drops_parts, kept_in}
+use Rattle.osi_session.proofs.Vocabulary.{is_in_place, enclosure_conditions, word_conditions, word_verdict, joined_by, Hearing}
+use Rattle.osi_session.proofs.Vocabulary.{enacted_word, respond_word, respond_words, acting_words, respond_tsdu, respond_came, IsKeptIn}
+use Rattle.osi_session.proofs.Vocabulary.{IsKept, Input, Listener, Move, in_state, answered, react, after_input, after_inputs}
 use Rattle.osi_session.proofs.tables.messages_act_as_the_table_says.{kept_twice, word_kept}
 
 -- ---- what each word leaves, words leave
@@ -9,7 +15,8 @@ either_left : (P : Taker → Type 0) (b : Bool) (x y : Hearing) → P x.next →
 either_left P true x y h k = h
 either_left P false x y h k = k
 
-all_leave : (P : Taker → Type 0) (t : Taker) (ws : Words) → ((r : Taker) (w : Word) → P r → P (respond_word r w).next) → P t → P (respond_words t ws).next
+all_leave : (P : Taker → Type 0) (t : Taker) (ws : Words) → ((r : Taker) (w : Word) → P r → P (respond_word r w).next) → P t →
+    P (respond_words t ws).next
 unfolding respond_words
 all_leave P t [] k h = h
 all_leave P t (w ∷ ws) k h = either_left P (is_faulty (word_verdict t w)) _ _ (k t w h) (all_leave P (respond_word t w).next ws k (k t w h))
@@ -55,16 +62,19 @@ back_passes : (n : ℕ) (cs ds : List Condition) → first_fault n (cs ++ ds) �
 back_passes n [] ds h = h
 back_passes n (c ∷ cs) ds h = by c.0 h (back_passes n cs ds)
   where
-    by : (b : Bool) → (if b then first_fault n (cs ++ ds) else Some (c.1 n)) ≡ None → (first_fault n (cs ++ ds) ≡ None → first_fault n ds ≡ None) → first_fault n ds ≡ None
+    by : (b : Bool) → (if b then first_fault n (cs ++ ds) else Some (c.1 n)) ≡ None →
+        (first_fault n (cs ++ ds) ≡ None → first_fault n ds ≡ None) → first_fault n ds ≡ None
     by true h k = k h
     by false h k = absurd (cc)
 
 -- so a good part is short enough
-part_short : (t : Taker) (place : Place) (octets : List ℕ) → word_verdict t (part place octets) ≡ fine → length (joined_octets t.joined ++ octets) ≤ most_data
+part_short : (t : Taker) (place : Place) (octets : List ℕ) → word_verdict t (part place octets) ≡ fine →
+    length (joined_octets t.joined ++ octets) ≤ most_data
 part_short t place octets e =
     leb-true (length (joined_octets t.joined ++ octets)) most_data
     (second (is_in_place t.joined place) (nat_le (length (joined_octets t.joined ++ octets)) most_data)
-    (back_passes (si (DT octets)) (conditions t.state (DT octets)) (enclosure_conditions t.joined (part place octets)) (all_pass t (part place octets) e)))
+    (back_passes (si (DT octets)) (conditions t.state (DT octets)) (enclosure_conditions t.joined (part place octets))
+        (all_pass t (part place octets) e)))
   where
     second : (a b : Bool) → first_fault (si (DT octets)) ((a, BadEnclosure) ∷ (b, DataTooLong) ∷ []) ≡ None → b ≡ true
     second true true h = refl
@@ -116,7 +126,8 @@ inputs_kept l [] h = h
 inputs_kept l (input ∷ inputs) h = inputs_kept (after_input l input) inputs (input_kept l input h)
 
 -- something is joined only if tokens may be held
-held_by : (b : Bool) (joined : Option (List ℕ)) → (if◌then◌else◌ {A = Option (List ℕ)} (not b) None joined) ≡ joined → is_some joined ≡ true → b ≡ true
+held_by : (b : Bool) (joined : Option (List ℕ)) → (if◌then◌else◌ {A = Option (List ℕ)} (not b) None joined) ≡ joined →
+    is_some joined ≡ true → b ≡ true
 held_by b joined h0 h1 = grind arith
 
 pub joined_holds : (l : Listener) → IsKept l → is_some l.joined ≡ true → may_hold l.state.phase ≡ true

@@ -1,9 +1,12 @@
 -- The words of a TSDU take effect one after the other: what a loop over its units has done so far, and what is still to act.
 -- For `take_all` of grouping and `count_all` of counting.
-use Rattle.std.proofs.Common.{◌≡◌, refl, sym, ◌∙◌, ap, subst, ℕ, Bool, true, false, ◌||◌, List, [], ◌∷◌, ◌++◌, Option, Some, None, Result, Ok, Err, if◌then◌else◌, arith}
+use Rattle.std.proofs.Common.{◌≡◌, refl, sym, ◌∙◌, ap, subst, ℕ, Bool, true, false, ◌||◌, List, [], ◌∷◌, ◌++◌, Option, Some, None, Result}
+use Rattle.std.proofs.Common.{Ok, Err, if◌then◌else◌, arith}
 use Rattle.osi_spdu.specs.declared.behind.Behind.{Behind}
 use Rattle.osi_spdu.specs.declared.units.Spdu.{Spdu}
-use Rattle.osi_session.proofs.Vocabulary.{OnErr, list_any, append_assoc, append-nil, GivesBehind, units_behind, Reactions, hearing_of_all, takes_room, Meaning, Word, Words, first_reply, is_faulty, Taker, Hearing, heard_then, idle, is_restart_word, word_verdict, respond_word, respond_words, acting_words, respond_tsdu}
+use Rattle.osi_session.proofs.Vocabulary.{OnErr, list_any, append_assoc, append-nil, GivesBehind, units_behind, Reactions, hearing_of_all}
+use Rattle.osi_session.proofs.Vocabulary.{takes_room, Meaning, Word, Words, first_reply, is_faulty, Taker, Hearing, heard_then, idle}
+use Rattle.osi_session.proofs.Vocabulary.{is_restart_word, word_verdict, respond_word, respond_words, acting_words, respond_tsdu}
 use Rattle.osi_session.proofs.tsdu.what_is_joined.{InPhase}
 use Rattle.osi_session.proofs.tsdu.memory_for_one_word.{SoFar, none_so_far, word_so_far, word_takes, takes_behind}
 use Rattle.osi_session.proofs.tables.messages_act_as_the_table_says.{one_word}
@@ -69,7 +72,8 @@ stops want o restarts item u us h bad =
     sym f ∙ sym e ∙ h
 
 -- if memory is needed for a word, it is needed for the whole
-pub takes : (j : Option (List ℕ)) (want o : Hearing) (restarts : Bool) (item u : Word) (us : Words) → SoFar j o → Leads want o restarts item (u ∷ us)
+pub takes : (j : Option (List ℕ)) (want o : Hearing) (restarts : Bool) (item u : Word) (us : Words) → SoFar j o →
+    Leads want o restarts item (u ∷ us)
     → takes_room o.next.joined (respond_word o.next u) ≡ true → takes_room j want ≡ true
 takes j want o restarts item u us s h room =
     let rest = acting_behind (restarts || is_restart_word u) item us in
@@ -98,7 +102,8 @@ ends_restarted want o item h = sym (then_idle o) ∙ h
 pub ends_with_item : (want o : Hearing) (item : Word) → Leads want o false item [] → heard_then o (respond_word o.next item) ≡ want
 ends_with_item want o item h = sym (ap (heard_then o) (one_word o.next item)) ∙ h
 
-pub item_takes : (j : Option (List ℕ)) (want o : Hearing) (item : Word) → SoFar j o → Leads want o false item [] → takes_room o.next.joined (respond_word o.next item) ≡ true → takes_room j want ≡ true
+pub item_takes : (j : Option (List ℕ)) (want o : Hearing) (item : Word) → SoFar j o → Leads want o false item [] →
+    takes_room o.next.joined (respond_word o.next item) ≡ true → takes_room j want ≡ true
 item_takes j want o item s h room =
     subst (λ (p : Hearing). takes_room j p ≡ true) (ends_with_item want o item h) (takes_behind j o (respond_word o.next item) s.grows room)
 
@@ -114,7 +119,8 @@ pub record Walks (want : Hearing) (j : Option (List ℕ)) (r : Reactions) (resta
   pub so_far : SoFar j (hearing_of_all j r)
   pub ordered : r.first ≡ None → r.more.items ≡ []
 
-pub walks_begin : (t : Taker) (r : Reactions) (item first : Word) (us units : Words) → hearing_of_all t.joined r ≡ idle t → InPhase t → r.more.items ≡ []
+pub walks_begin : (t : Taker) (r : Reactions) (item first : Word) (us units : Words) → hearing_of_all t.joined r ≡ idle t → InPhase t →
+    r.more.items ≡ []
     → item ≡ first → us ≡ units → Walks (respond_tsdu t (first ∷ units)) t.joined r false item us
 walks_begin t r item first us units e k m i b = record {
   leads = subst (λ (x : Word). Leads (respond_tsdu t (first ∷ units)) (hearing_of_all t.joined r) false x us) (sym i)
@@ -125,13 +131,16 @@ walks_begin t r item first us units e k m i b = record {
 }
 
 -- one word is taken off
-pub walks_turn : (want : Hearing) (j : Option (List ℕ)) (r : Reactions) (restarts : Bool) (item u v : Word) (us units : Words) → Walks want j r restarts item us
+pub walks_turn : (want : Hearing) (j : Option (List ℕ)) (r : Reactions) (restarts : Bool) (item u v : Word) (us units : Words) →
+    Walks want j r restarts item us
     → us ≡ v ∷ units → u ≡ v → Walks want j r restarts item (u ∷ units)
 walks_turn want j r restarts item u v us units w e i =
     subst (λ (x : Word). Walks want j r restarts item (x ∷ units)) (sym i) (subst (λ (xs : Words). Walks want j r restarts item xs) e w)
 
-pub walks_on : (want : Hearing) (j : Option (List ℕ)) (r next : Reactions) (restarts now : Bool) (item u : Word) (us : Words) → Walks want j r restarts item (u ∷ us)
-    → is_faulty (word_verdict (hearing_of_all j r).next u) ≡ false → hearing_of_all j next ≡ heard_then (hearing_of_all j r) (respond_word (hearing_of_all j r).next u)
+pub walks_on : (want : Hearing) (j : Option (List ℕ)) (r next : Reactions) (restarts now : Bool) (item u : Word) (us : Words) →
+    Walks want j r restarts item (u ∷ us)
+    → is_faulty (word_verdict (hearing_of_all j r).next u) ≡ false →
+        hearing_of_all j next ≡ heard_then (hearing_of_all j r) (respond_word (hearing_of_all j r).next u)
     → (next.first ≡ None → next.more.items ≡ []) → now ≡ (restarts || is_restart_word u) → Walks want j next now item us
 walks_on want j r next restarts now item u us w good e ordered n = record {
   leads = subst (λ (b : Bool). Leads want (hearing_of_all j next) b item us) (sym n)
@@ -142,10 +151,12 @@ walks_on want j r next restarts now item u us w good e ordered n = record {
 }
 
 -- if no word is left
-pub walks_end : (want : Hearing) (j : Option (List ℕ)) (r : Reactions) (restarts b : Bool) (item : Word) (us : Words) → Walks want j r restarts item us
+pub walks_end : (want : Hearing) (j : Option (List ℕ)) (r : Reactions) (restarts b : Bool) (item : Word) (us : Words) →
+    Walks want j r restarts item us
     → us ≡ [] → restarts ≡ b → Leads want (hearing_of_all j r) b item []
 walks_end want j r restarts b item us w e h =
-    subst (λ (x : Bool). Leads want (hearing_of_all j r) x item []) h (subst (λ (xs : Words). Leads want (hearing_of_all j r) restarts item xs) e w.leads)
+    subst (λ (x : Bool). Leads want (hearing_of_all j r) x item []) h
+        (subst (λ (xs : Words). Leads want (hearing_of_all j r) restarts item xs) e w.leads)
 
 pub on_err : {A E P : Type 0} (r : Result A E) → P → OnErr r P
 on_err (Ok x) p = tt

@@ -1,10 +1,21 @@
 -- The functional units of a session are those of a profile.
-use Rattle.std.proofs.Common.{◌≡◌, refl, sym, ◌∙◌, ap, subst, ℕ, ◌==◌, Bool, true, false, not, ◌&&◌, ◌||◌, List, [], ◌∷◌, Ok, if◌then◌else◌, arith}
+use Rattle.std.proofs.Common.{◌≡◌, refl, sym, ◌∙◌, ap, subst, ℕ, ◌==◌, Bool, true, false, not, ◌&&◌, ◌||◌, List, [], ◌∷◌, Ok, if◌then◌else◌}
+use Rattle.std.proofs.Common.{arith}
 use Rattle.std.proofs.lemmas.Nat.{and_assoc, and_le_r}
-use Rattle.osi_session.proofs.Vocabulary.{unit_bits, eqb-true, and_parts, bit_and, names, Meaning, CN, AC, RF, DT, GT, PT, MIP, MIA, MAP, MAA, RS, RA, FN, DN, NF, AB, AA, Word, are_sizes, Opening, FunctionalUnits, State, Step, may_call, needs, after, allowed, AllHold, Call, Accept, Refuse, Data, Give, Please, Minor, MinorConfirm, Major, MajorConfirm, Restart, RestartConfirm, Release, ReleaseAccept, ReleaseRefuse, Abort, Taker, respond_word, Input, called, taken, unread, opened, refused, broken, Listener, taker_of, after_input, after_inputs, IsOfProfile, has_profile, HasProfile, is_wait_transport, is_connecting, is_ready, is_major_asked, is_major_due, is_releasing, is_release_due, is_restarting, is_restart_due, takes_restart, may_restart, is_expected, conditions, is_acceptable, stands, becomes, respond_unit, AllMet, awaiting, asking, functional_units, both_units, units_within, has_data, is_profile}
+use Rattle.osi_session.proofs.Vocabulary.{unit_bits, eqb-true, and_parts, bit_and, names, Meaning, CN, AC, RF, DT, GT, PT, MIP, MIA, MAP}
+use Rattle.osi_session.proofs.Vocabulary.{MAA, RS, RA, FN, DN, NF, AB, AA, Word, are_sizes, Opening, FunctionalUnits, State, Step, may_call}
+use Rattle.osi_session.proofs.Vocabulary.{needs, after, allowed, AllHold, Call, Accept, Refuse, Data, Give, Please, Minor, MinorConfirm}
+use Rattle.osi_session.proofs.Vocabulary.{Major, MajorConfirm, Restart, RestartConfirm, Release, ReleaseAccept, ReleaseRefuse, Abort, Taker}
+use Rattle.osi_session.proofs.Vocabulary.{respond_word, Input, called, taken, unread, opened, refused, broken, Listener, taker_of}
+use Rattle.osi_session.proofs.Vocabulary.{after_input, after_inputs, IsOfProfile, has_profile, HasProfile, is_wait_transport, is_connecting}
+use Rattle.osi_session.proofs.Vocabulary.{is_ready, is_major_asked, is_major_due, is_releasing, is_release_due, is_restarting}
+use Rattle.osi_session.proofs.Vocabulary.{is_restart_due, takes_restart, may_restart, is_expected, conditions, is_acceptable, stands}
+use Rattle.osi_session.proofs.Vocabulary.{becomes, respond_unit, AllMet, awaiting, asking, functional_units, both_units, units_within}
+use Rattle.osi_session.proofs.Vocabulary.{has_data, is_profile}
 use Rattle.osi_session.proofs.tables.what_an_accepted_call_has_passed.{passed}
 use Rattle.osi_session.proofs.tables.what_is_true_of_each_phase.{implied}
-use Rattle.osi_session.proofs.tables.the_outcomes_of_each_input.{call_cases, unit_cases, taken_cases, fault_cases, opened_cases, refused_cases, broken_cases}
+use Rattle.osi_session.proofs.tables.the_outcomes_of_each_input.{call_cases, unit_cases, taken_cases, fault_cases, opened_cases}
+use Rattle.osi_session.proofs.tables.the_outcomes_of_each_input.{refused_cases, broken_cases}
 use Rattle.osi_session.proofs.tables.a_word_acts_as_its_message.{word_keeps, any_tsdu_keeps}
 
 -- ---- the profile of requirements
@@ -73,7 +84,8 @@ call_profile s c x e h =
     let p = passed s c x e in
     subst (λ (y : Step). HasProfile y.next) (sym p.gives) (after_profile s c p.phase p.needed h)
 
-becomes_profile : (s : State) (u : Meaning) → is_expected s.phase u ≡ true → AllMet (conditions s u) → HasProfile s → HasProfile (becomes s u)
+becomes_profile : (s : State) (u : Meaning) → is_expected s.phase u ≡ true → AllMet (conditions s u) → HasProfile s →
+    HasProfile (becomes s u)
 becomes_profile s (CN version_2 requirements serial wishes from to sizes octets) x m h =
     chosen (is_acceptable version_2 requirements sizes) _ _ (λ k. absurd (cc)) (λ k. absurd (cc))
 becomes_profile s (AC version_2 requirements serial sides sizes octets) x m h = λ k.

@@ -1,8 +1,11 @@
 -- What a CN and an AC agree, and what it limits.
-use Rattle.std.proofs.Common.{◌≡◌, refl, sym, subst, ℕ, ◌==◌, ◌<◌, ◌≤◌, Bool, true, false, ◌||◌, nat_lt, nat_le, length, Ok, arith, if◌then◌else◌}
+use Rattle.std.proofs.Common.{◌≡◌, refl, sym, subst, ℕ, ◌==◌, ◌<◌, ◌≤◌, Bool, true, false, ◌||◌, nat_lt, nat_le, length, Ok, arith}
+use Rattle.std.proofs.Common.{if◌then◌else◌}
 use Rattle.osi_spdu.specs.declared.sizes.TsduSizes.{TsduSizes}
 use Rattle.osi_session.specs.Sizes.{answered}
-use Rattle.osi_session.proofs.Vocabulary.{and_parts, and_from, TsduMaximumSize, named_by, are_sizes, is_size, Meaning, written, State, Step, sends, allowed, Call, Accept, Refuse, Data, smaller, smaller_sizes, answered_sizes, limit_of, is_bounded, fits_limit}
+use Rattle.osi_session.proofs.Vocabulary.{and_parts, and_from, TsduMaximumSize, named_by, are_sizes, is_size, Meaning, written, State, Step}
+use Rattle.osi_session.proofs.Vocabulary.{sends, allowed, Call, Accept, Refuse, Data, smaller, smaller_sizes, answered_sizes, limit_of}
+use Rattle.osi_session.proofs.Vocabulary.{is_bounded, fits_limit}
 use Rattle.osi_session.proofs.tables.what_an_accepted_call_has_passed.{passed}
 
 either : (b : Bool) (m n : ℕ) → is_size m ≡ true → is_size n ≡ true → is_size (if b then m else n) ≡ true
@@ -62,10 +65,12 @@ sizes_agreed a b = λ i. record { from_asker = agreed a.from_asker b.from_asker 
 under : (limit len : ℕ) → 0 < limit → ((limit == 0) || nat_le len limit) ≡ true → len ≤ limit
 under limit len h k = grind arith
 
-fits_under : (s : State) (c : Call) (m : Meaning) → is_bounded c ≡ true → fits_limit s c m ≡ true → 0 < limit_of s → length (written m) ≤ limit_of s
+fits_under : (s : State) (c : Call) (m : Meaning) → is_bounded c ≡ true → fits_limit s c m ≡ true → 0 < limit_of s →
+    length (written m) ≤ limit_of s
 fits_under s c m h0 h1 h2 = grind (arith, under)
 
-pub sent_under : (s : State) (c : Call) (x : Step) → allowed s c ≡ Ok x → is_bounded c ≡ true → 0 < limit_of s → length (written x.sent) ≤ limit_of s
+pub sent_under : (s : State) (c : Call) (x : Step) → allowed s c ≡ Ok x → is_bounded c ≡ true → 0 < limit_of s →
+    length (written x.sent) ≤ limit_of s
 sent_under s c x e b h =
     let q = passed s c x e in
     subst (λ (y : Step). length (written y.sent) ≤ limit_of s) (sym q.gives) (fits_under s c (sends s c) b q.limit h)

@@ -1,9 +1,13 @@
 -- Digits of numbers, written and read.
-use Rattle.std.proofs.Common.{◌⊎◌, inl, inr, ◌≡◌, ℕ, zero, suc, ◌+◌, ◌-◌, ◌*◌, ◌/◌, ◌%◌, ◌^◌, ◌<◌, ◌≤◌, Bool, true, false, ◌&&◌, ltb, leb, eqb, List, [], ◌∷◌, length, get_or, drop, Option, Some, None, refl, sym, ap, ◌∙◌, arith}
-use Rattle.osi_spdu.proofs.Vocabulary.{list_all, cases_Bool, and_parts, and_from, and_left, and_right, eqb-true, eq-eqb, ne_eqb, le-leb, lt-ltb, lt-leb, le-ltb, drop_more, drop_all, length-drop, common_steps, significant, six_digits, digits_of, decimal_from, decimal, is_digit, is_numeral, numeral}
+use Rattle.std.proofs.Common.{◌⊎◌, inl, inr, ◌≡◌, ℕ, zero, suc, ◌+◌, ◌-◌, ◌*◌, ◌/◌, ◌%◌, ◌^◌, ◌<◌, ◌≤◌, Bool, true, false, ◌&&◌, ltb, leb}
+use Rattle.std.proofs.Common.{eqb, List, [], ◌∷◌, length, get_or, drop, Option, Some, None, refl, sym, ap, ◌∙◌, arith}
+use Rattle.osi_spdu.proofs.Vocabulary.{list_all, cases_Bool, and_parts, and_from, and_left, and_right, eqb-true, eq-eqb, ne_eqb, le-leb}
+use Rattle.osi_spdu.proofs.Vocabulary.{lt-ltb, lt-leb, le-ltb, drop_more, drop_all, length-drop, common_steps, significant, six_digits}
+use Rattle.osi_spdu.proofs.Vocabulary.{digits_of, decimal_from, decimal, is_digit, is_numeral, numeral}
 
 -- a leading zero is dropped
-pub significant_step : (xs : List ℕ) (i : ℕ) → i + 1 < length xs → get_or xs i 0 ≡ 48 → significant (drop (i + 1) xs) ≡ significant (drop i xs)
+pub significant_step : (xs : List ℕ) (i : ℕ) → i + 1 < length xs → get_or xs i 0 ≡ 48 →
+    significant (drop (i + 1) xs) ≡ significant (drop i xs)
 unfolding significant
 significant_step xs i lt e =
     let a : i < length xs = omega arith in
@@ -14,7 +18,8 @@ significant_step xs i lt e =
     ap significant two ∙ sym (ap significant whole ∙ rw yes refl)
 
 -- any other digit stays, and so does the last
-pub significant_end : (xs : List ℕ) (i : ℕ) → i < length xs → (i + 1 < length xs → get_or xs i 0 ≡ 48 → ⊥) → significant (drop i xs) ≡ drop i xs
+pub significant_end : (xs : List ℕ) (i : ℕ) → i < length xs → (i + 1 < length xs → get_or xs i 0 ≡ 48 → ⊥) →
+    significant (drop i xs) ≡ drop i xs
 unfolding significant
 significant_end xs i lt h = ends (drop i xs) refl
   where
@@ -46,7 +51,8 @@ pub record IsReading (digits : List ℕ) (i number : ℕ) : Type 0 where
 digit_from : (d : ℕ) → 48 ≤ d → d ≤ 57 → is_digit d ≡ true
 digit_from d low high = and_from (leb 48 d) (ltb d 58) (le-leb 48 d low) (lt-ltb d 58 (omega arith))
 
-pub reading_step : (digits : List ℕ) (i number d : ℕ) → i < length digits → d ≡ get_or digits i 0 → 48 ≤ d → d ≤ 57 → IsReading digits i number → IsReading digits (i + 1) (number * 10 + (d - 48))
+pub reading_step : (digits : List ℕ) (i number d : ℕ) → i < length digits → d ≡ get_or digits i 0 → 48 ≤ d → d ≤ 57 →
+    IsReading digits i number → IsReading digits (i + 1) (number * 10 + (d - 48))
 unfolding decimal_from
 reading_step digits i number d lt is low high r =
     let here : drop i digits ≡ d ∷ drop (i + 1) digits = drop_more digits i 0 lt ∙ ap (λ (x : ℕ). x ∷ drop (i + 1) digits) (sym is) in
@@ -59,7 +65,8 @@ reading_step digits i number d lt is low high r =
       small = (let s = r.small in omega arith);
     }
 
-pub reading_end : (digits : List ℕ) (number : ℕ) → 0 < length digits → length digits ≤ 6 → IsReading digits (length digits) number → numeral digits ≡ Some number
+pub reading_end : (digits : List ℕ) (number : ℕ) → 0 < length digits → length digits ≤ 6 → IsReading digits (length digits) number →
+    numeral digits ≡ Some number
 unfolding decimal_from
 reading_end digits number h0 h1 h2 = grind (arith, drop_all, and_from, lt-ltb, le-leb)
 
@@ -69,7 +76,9 @@ significant_same : (n : ℕ) (xs : List ℕ) → decimal (significant xs) ≡ de
 unfolding significant decimal_from
 significant_same n (d ∷ e ∷ xs) =
     elim (cases_Bool (eqb d 48)) [
-      | inl t ↦ rw t (significant_same n (e ∷ xs) ∙ ap (λ (m : ℕ). decimal_from m (e ∷ xs)) (let q = eqb-true d 48 t in (let z : 0 ≡ 10 * 0 + (d - 48) = omega arith in z)))
+      | inl t ↦ rw t
+          (significant_same n (e ∷ xs) ∙
+          ap (λ (m : ℕ). decimal_from m (e ∷ xs)) (let q = eqb-true d 48 t in (let z : 0 ≡ 10 * 0 + (d - 48) = omega arith in z)))
       | inr f ↦ rw f refl
     ]
 significant_same n _ = refl
@@ -99,7 +108,8 @@ digit_low : (k : ℕ) → is_digit (k % 10 + 48) ≡ true
 digit_low k = digit_from (k % 10 + 48) (omega arith) (omega arith)
 
 six_all : (n : ℕ) → list_all is_digit (six_digits n) ≡ true
-six_all n = rw (digit_low (n / 100000), digit_low (n / 10000), digit_low (n / 1000), digit_low (n / 100), digit_low (n / 10), digit_low n) refl
+six_all n = rw (digit_low (n / 100000), digit_low (n / 10000), digit_low (n / 1000), digit_low (n / 100), digit_low (n / 10), digit_low n)
+    refl
 
 six_value : (n : ℕ) → n ≤ 999999 → decimal (six_digits n) ≡ n
 unfolding decimal_from

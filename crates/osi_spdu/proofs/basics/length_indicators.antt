@@ -1,6 +1,9 @@
 -- Length indicators, read and written.
-use Rattle.std.proofs.Common.{◌⊎◌, inl, inr, ◌≡◌, ℕ, suc, ◌+◌, ◌*◌, ◌/◌, ◌%◌, ◌<◌, ◌≤◌, Bool, true, false, cond, ltb, eqb, List, [], ◌∷◌, ◌++◌, length, take, drop, Ok, refl, sym, ap, subst, arith}
-use Rattle.osi_spdu.proofs.Vocabulary.{cases_lt, ltb-false, le-ltb, eqb-true, eqb-false, ne_eqb, take_at, drop_at, take-append-drop, length-append, length-take, length-drop, length-take-le, get_or-drop, get_or-take, get_or_past, IsOctets, LengthPastEnd, Measured, counted_at, long_at, measured_at, length_octets, HasLength}
+use Rattle.std.proofs.Common.{◌⊎◌, inl, inr, ◌≡◌, ℕ, suc, ◌+◌, ◌*◌, ◌/◌, ◌%◌, ◌<◌, ◌≤◌, Bool, true, false, cond, ltb, eqb, List, [], ◌∷◌}
+use Rattle.std.proofs.Common.{◌++◌, length, take, drop, Ok, refl, sym, ap, subst, arith}
+use Rattle.osi_spdu.proofs.Vocabulary.{cases_lt, ltb-false, le-ltb, eqb-true, eqb-false, ne_eqb, take_at, drop_at, take-append-drop}
+use Rattle.osi_spdu.proofs.Vocabulary.{length-append, length-take, length-drop, length-take-le, get_or-drop, get_or-take, get_or_past}
+use Rattle.osi_spdu.proofs.Vocabulary.{IsOctets, LengthPastEnd, Measured, counted_at, long_at, measured_at, length_octets, HasLength}
 use Rattle.osi_spdu.proofs.basics.the_steps_of_reading.{guard_ok, ok_is}
 
 pub octets-drop : (n : ℕ) (octets : List ℕ) → IsOctets octets → IsOctets (drop n octets)
@@ -21,7 +24,8 @@ pub record IsMeasured (m : Measured) (octets : List ℕ) : Type 0 where
   pub rest_octets : IsOctets m.rest
   pub shorter : length m.rest < length octets
 
-counted_ok : (at used n : ℕ) (octets : List ℕ) (m : Measured) → counted_at at used n octets ≡ Ok m → (n ≤ length octets) × (m ≡ (let r : Measured = record { used = used; value = take n octets; rest = drop n octets } in r))
+counted_ok : (at used n : ℕ) (octets : List ℕ) (m : Measured) → counted_at at used n octets ≡ Ok m →
+    (n ≤ length octets) × (m ≡ (let r : Measured = record { used = used; value = take n octets; rest = drop n octets } in r))
 counted_ok at used n octets m e =
     let made : Measured = record { used = used; value = take n octets; rest = drop n octets } in
     let g = guard_ok (ltb (length octets) n) (LengthPastEnd at) m (Ok made) e in
@@ -49,8 +53,10 @@ long_ok at (high ∷ low ∷ octets) m fits e =
     })
 long_ok at _ m fits e = absurd cc
 
-short_ok : (at n : ℕ) (octets : List ℕ) (m : Measured) → n < 255 → IsOctets octets → counted_at at 1 n octets ≡ Ok m → IsMeasured m (n ∷ octets)
-short_ok at n octets m h0 h1 h2 = grind (arith, counted_ok, length-take-le, IsMeasured, take-append-drop, octets-take, octets-drop, length-drop)
+short_ok : (at n : ℕ) (octets : List ℕ) (m : Measured) → n < 255 → IsOctets octets → counted_at at 1 n octets ≡ Ok m →
+    IsMeasured m (n ∷ octets)
+short_ok at n octets m h0 h1 h2 =
+    grind (arith, counted_ok, length-take-le, IsMeasured, take-append-drop, octets-take, octets-drop, length-drop)
 
 pub chosen : {A : Type 0} (b : Bool) (x y z : A) → cond b x y ≡ z → ((b ≡ true) × (x ≡ z)) ⊎ ((b ≡ false) × (y ≡ z))
 chosen true x y z e = inl (refl, e)
@@ -73,10 +79,12 @@ abbrev pub indicator_len : Bool → ℕ
 indicator_len false = 1
 indicator_len true = 3
 
-counted_again : (at used : ℕ) (value rest : List ℕ) → counted_at at used (length value) (value ++ rest) ≡ Ok (record { used = used; value = value; rest = rest })
+counted_again : (at used : ℕ) (value rest : List ℕ) →
+    counted_at at used (length value) (value ++ rest) ≡ Ok (record { used = used; value = value; rest = rest })
 counted_again at used value rest = grind (arith, le-ltb, length-append, take_at, drop_at)
 
 pub measured_again : (at : ℕ) (long : Bool) (value rest : List ℕ) → HasLength long (length value)
-    → measured_at at (length_octets long (length value) ++ value ++ rest) ≡ Ok (record { used = indicator_len long; value = value; rest = rest })
+    → measured_at at (length_octets long (length value) ++ value ++ rest) ≡ Ok
+        (record { used = indicator_len long; value = value; rest = rest })
 unfolding measured_at long_at
 measured_again at long value rest h0 = grind (arith, ne_eqb, counted_again)

@@ -24,10 +24,12 @@ pub sole_same : (o p : Option (List ℕ)) → Sole (o ∷ []) p → p ≡ o
 sole_same None p h = h
 sole_same (Some v) p h = h.0
 
-pub sole_step : (m k k' : Option (List ℕ)) (xs : List (Option (List ℕ))) (o : Option (List ℕ)) → Joins m k k' → Sole (k ∷ m ∷ xs) o → Sole (k' ∷ xs) o
+pub sole_step : (m k k' : Option (List ℕ)) (xs : List (Option (List ℕ))) (o : Option (List ℕ)) → Joins m k k' → Sole (k ∷ m ∷ xs) o →
+    Sole (k' ∷ xs) o
 sole_step m k k' xs o h0 h1 = grind arith
 
-pub sole_back : (m k k' : Option (List ℕ)) (xs : List (Option (List ℕ))) (o : Option (List ℕ)) → Joins m k k' → Sole (k' ∷ xs) o → Sole (k ∷ m ∷ xs) o
+pub sole_back : (m k k' : Option (List ℕ)) (xs : List (Option (List ℕ))) (o : Option (List ℕ)) → Joins m k k' → Sole (k' ∷ xs) o →
+    Sole (k ∷ m ∷ xs) o
 sole_back m k k' xs o h0 h1 = grind arith
 
 pub sole_joins : (m k : Option (List ℕ)) (xs : List (Option (List ℕ))) (o : Option (List ℕ)) → Sole (k ∷ m ∷ xs) o → Joins m k (merged k m)
@@ -42,14 +44,16 @@ joins_none : (m o : Option (List ℕ)) → o ≡ m → Joins m None o
 joins_none None o e = e
 joins_none (Some v) o e = (refl, e)
 
-pub sole_split : (k : Option (List ℕ)) (xs : List (Option (List ℕ))) (o : Option (List ℕ)) → Sole (k ∷ xs) o → Sole xs (first xs) × Joins (first xs) k o
+pub sole_split : (k : Option (List ℕ)) (xs : List (Option (List ℕ))) (o : Option (List ℕ)) → Sole (k ∷ xs) o →
+    Sole xs (first xs) × Joins (first xs) k o
 sole_split k xs o h0 = grind (arith, sole_first, joins_none, first, Joins)
 
 pub sole_join : (m k : Option (List ℕ)) (xs : List (Option (List ℕ))) (o : Option (List ℕ)) → Sole xs m → Joins m k o → Sole (k ∷ xs) o
 sole_join m k xs o h0 h1 = grind arith
 
 -- one after the other is both at once
-pub joins_both : (p m k kg k' : Option (List ℕ)) → Joins p k kg → Joins m kg k' → Sole (p ∷ m ∷ []) (first (p ∷ m ∷ [])) × Joins (first (p ∷ m ∷ [])) k k'
+pub joins_both : (p m k kg k' : Option (List ℕ)) → Joins p k kg → Joins m kg k' →
+    Sole (p ∷ m ∷ []) (first (p ∷ m ∷ [])) × Joins (first (p ∷ m ∷ [])) k k'
 joins_both p m k kg k' h j = sole_split k (p ∷ m ∷ []) k' (sole_back p k kg (m ∷ []) k' h (sole_join m kg (m ∷ []) k' (sole_one m) j))
 
 first_one : (m : Option (List ℕ)) → first (m ∷ []) ≡ m
@@ -74,5 +78,6 @@ pub joins_free : (b : Bool) (v : List ℕ) (k k' : Option (List ℕ)) → b ≡ 
 joins_free true v k k' e j = j.0
 joins_free false v k k' e j = absurd cc
 
-pub joins_merged : (b : Bool) (v : List ℕ) (k : Option (List ℕ)) → Joins (cond b (Some v) None) k (merged k (cond b (Some v) None)) → merged k (cond b (Some v) None) ≡ cond b (Some v) k
+pub joins_merged : (b : Bool) (v : List ℕ) (k : Option (List ℕ)) → Joins (cond b (Some v) None) k (merged k (cond b (Some v) None)) →
+    merged k (cond b (Some v) None) ≡ cond b (Some v) k
 joins_merged b v k j = joins_put b v k (merged k (cond b (Some v) None)) j

@@ -1,13 +1,19 @@
 -- The steps of a reading function.
 use Rattle.std.proofs.Common.{◌≡◌, ℕ, Bool, true, false, cond, List, Option, Some, None, Result, Ok, Err, refl, sym, ap, ◌∙◌, eqb}
-use Rattle.osi_spdu.proofs.Vocabulary.{is_some, find, eqb-true, eq-eqb, SpduFault, Code, ConnectionIdentifier, ConnectAcceptItem, CalledReference, CallingReference, CommonReference, AdditionalReference, SyncType, TokenItem, TransportDisconnect, ProtocolOptions, UserRequirements, TsduMaximumSize, Version, InitialNumber, Enclosure, TokenSetting, ResyncType, Number, Reflect, Reason, CallingSelector, CalledSelector, UserData, ExtendedUserData, number_of, is_same, every_code, ◌>>=◌}
+use Rattle.osi_spdu.proofs.Vocabulary.{is_some, find, eqb-true, eq-eqb, SpduFault, Code, ConnectionIdentifier, ConnectAcceptItem}
+use Rattle.osi_spdu.proofs.Vocabulary.{CalledReference, CallingReference, CommonReference, AdditionalReference, SyncType, TokenItem}
+use Rattle.osi_spdu.proofs.Vocabulary.{TransportDisconnect, ProtocolOptions, UserRequirements, TsduMaximumSize, Version, InitialNumber}
+use Rattle.osi_spdu.proofs.Vocabulary.{Enclosure, TokenSetting, ResyncType, Number, Reflect, Reason, CallingSelector, CalledSelector}
+use Rattle.osi_spdu.proofs.Vocabulary.{UserData, ExtendedUserData, number_of, is_same, every_code, ◌>>=◌}
 
 -- the value of a step that did not fail
-pub bind_ok : {A B : Type 0} (r : Result A SpduFault) (f : A → Result B SpduFault) (y : B) → (r >>= f) ≡ Ok y → (x : A) × (r ≡ Ok x) × (f x ≡ Ok y)
+pub bind_ok : {A B : Type 0} (r : Result A SpduFault) (f : A → Result B SpduFault) (y : B) → (r >>= f) ≡ Ok y →
+    (x : A) × (r ≡ Ok x) × (f x ≡ Ok y)
 bind_ok (Ok x) f y e = (x, refl, e)
 bind_ok (Err d) f y e = absurd cc
 
-pub bind_of : {A B : Type 0} (r : Result A SpduFault) (f : A → Result B SpduFault) (x : A) (z : Result B SpduFault) → r ≡ Ok x → f x ≡ z → (r >>= f) ≡ z
+pub bind_of : {A B : Type 0} (r : Result A SpduFault) (f : A → Result B SpduFault) (x : A) (z : Result B SpduFault) → r ≡ Ok x → f x ≡ z →
+    (r >>= f) ≡ z
 bind_of r f x z e g = ap (λ q. q >>= f) e ∙ g
 
 abbrev done : {A : Type 0} → A → Result A SpduFault

@@ -1,6 +1,14 @@
 -- The first fault of parameters, units and TSDUs is the one that reading returns.
-use Rattle.std.proofs.Common.{◌⊎◌, inl, inr, ◌≡◌, ℕ, zero, suc, ◌+◌, ◌*◌, ◌/◌, ◌%◌, ◌<◌, ◌≤◌, Bool, true, false, cond, ltb, eqb, List, [], ◌∷◌, ◌++◌, length, map, take, drop, Option, Some, None, Result, Ok, Err, refl, sym, ap, subst, ◌∙◌, append_assoc, add-zero, arith}
-use Rattle.osi_spdu.proofs.Vocabulary.{is_some, flat_map, AllByRecursion, length-append, drop_at, IsOctets, SpduFault, LengthPastEnd, DuplicateParameter, BadValue, MissingParameter, Code, Kind, number_of, is_group, slot_of, codes_of, members_of, canonical_in, Known, nothing, put, ◌>>=◌, Measured, counted_at, long_at, measured_at, Taking, params_at, params_of, code_among, judged, stored, member_taken, in_group, parameter_taken, in_unit, all_there, length_octets, Part, part_octets, Sole, IsPart, MeansInGroup, MeansInUnit, indicator_len, HasNoValue, IsValueFault, Failing, IsItemFault, IsLevelFault, FailsInGroup, FailsInUnit, IsFirstMissing}
+use Rattle.std.proofs.Common.{◌⊎◌, inl, inr, ◌≡◌, ℕ, zero, suc, ◌+◌, ◌*◌, ◌/◌, ◌%◌, ◌<◌, ◌≤◌, Bool, true, false, cond, ltb, eqb, List, []}
+use Rattle.std.proofs.Common.{◌∷◌, ◌++◌, length, map, take, drop, Option, Some, None, Result, Ok, Err, refl, sym, ap, subst, ◌∙◌}
+use Rattle.std.proofs.Common.{append_assoc, add-zero, arith}
+use Rattle.osi_spdu.proofs.Vocabulary.{is_some, flat_map, AllByRecursion, length-append, drop_at, IsOctets, SpduFault, LengthPastEnd}
+use Rattle.osi_spdu.proofs.Vocabulary.{DuplicateParameter, BadValue, MissingParameter, Code, Kind, number_of, is_group, slot_of, codes_of}
+use Rattle.osi_spdu.proofs.Vocabulary.{members_of, canonical_in, Known, nothing, put, ◌>>=◌, Measured, counted_at, long_at, measured_at}
+use Rattle.osi_spdu.proofs.Vocabulary.{Taking, params_at, params_of, code_among, judged, stored, member_taken, in_group, parameter_taken}
+use Rattle.osi_spdu.proofs.Vocabulary.{in_unit, all_there, length_octets, Part, part_octets, Sole, IsPart, MeansInGroup, MeansInUnit}
+use Rattle.osi_spdu.proofs.Vocabulary.{indicator_len, HasNoValue, IsValueFault, Failing, IsItemFault, IsLevelFault, FailsInGroup}
+use Rattle.osi_spdu.proofs.Vocabulary.{FailsInUnit, IsFirstMissing}
 use Rattle.osi_spdu.proofs.basics.options_that_are_added.{merged, sole_one, sole_same, sole_back, sole_step, sole_joins}
 use Rattle.osi_spdu.proofs.basics.the_steps_of_reading.{bind_of, ok_is, guard_ok, is_none_of, none_is}
 use Rattle.osi_spdu.proofs.basics.length_indicators.{IsMeasured, octets-tail, octets-drop, measured_ok, measured_again, chosen}
@@ -12,7 +20,8 @@ use Rattle.osi_spdu.proofs.parameters.one_level_is_read.{JoinsAll, Follows, grou
 abbrev pub failed : {A : Type 0} → SpduFault → Result A SpduFault
 failed f = Err f
 
-pub fault_is : (A : Type 0) (f g : SpduFault) → (let r : Result A SpduFault = Err f in r) ≡ (let r : Result A SpduFault = Err g in r) → f ≡ g
+pub fault_is : (A : Type 0) (f g : SpduFault) → (let r : Result A SpduFault = Err f in r) ≡ (let r : Result A SpduFault = Err g in r) →
+    f ≡ g
 fault_is A f g e = cc
 
 pub never : (A : Type 0) (x : A) (f : SpduFault) → (let r : Result A SpduFault = Ok x in r) ≡ (let r : Result A SpduFault = Err f in r) → ⊥
@@ -46,8 +55,10 @@ measured_bad at (n ∷ octets) f e =
 pub no_value : (at : ℕ) (octets : List ℕ) (f : SpduFault) → measured_at at octets ≡ Err f → HasNoValue octets
 no_value at octets f h0 = grind (arith, indicator_len, measured_again, never)
 
-pub value_of_no : (at : ℕ) (octets : List ℕ) (r : Result Measured SpduFault) → measured_at at octets ≡ r → IsOctets octets → HasNoValue octets → r ≡ Err (LengthPastEnd at)
-value_of_no at octets (Ok m) e fits lacks = (let is = measured_ok at octets m fits e in absurd (lacks is.long m.value m.rest (is.counted, is.parts)))
+pub value_of_no : (at : ℕ) (octets : List ℕ) (r : Result Measured SpduFault) → measured_at at octets ≡ r → IsOctets octets →
+    HasNoValue octets → r ≡ Err (LengthPastEnd at)
+value_of_no at octets (Ok m) e fits lacks =
+    (let is = measured_ok at octets m fits e in absurd (lacks is.long m.value m.rest (is.counted, is.parts)))
 value_of_no at octets (Err f) e fits lacks = ap (λ (g : SpduFault). failed {A = Measured} g) (measured_bad at octets f e)
 
 -- how a value was counted
@@ -69,15 +80,18 @@ counted_is at octets m fits e =
 
 -- ---- one value
 
-judged_bad : (at : ℕ) (c : Code) (known : Known) (o : Option (List ℕ)) (f : SpduFault) → judged at c known o ≡ Err f → (o ≡ None) × (f ≡ BadValue (number_of c) at)
+judged_bad : (at : ℕ) (c : Code) (known : Known) (o : Option (List ℕ)) (f : SpduFault) → judged at c known o ≡ Err f →
+    (o ≡ None) × (f ≡ BadValue (number_of c) at)
 judged_bad at c known None f e = (refl, sym (fault_is Known (BadValue (number_of c) at) f e))
 judged_bad at c known (Some form) f e = absurd (never Known (put (slot_of c) form known) f e)
 
-stored_bad : (kind : Kind) (at : ℕ) (c : Code) (value : List ℕ) (known : Known) (f : SpduFault) → stored kind at c value known ≡ Err f → IsValueFault kind at c value known f
+stored_bad : (kind : Kind) (at : ℕ) (c : Code) (value : List ℕ) (known : Known) (f : SpduFault) → stored kind at c value known ≡ Err f →
+    IsValueFault kind at c value known f
 unfolding stored
 stored_bad kind at c value known f h0 = grind (arith, chosen, fault_is, judged_bad, is_none_of)
 
-stored_fails : (kind : Kind) (at : ℕ) (c : Code) (value : List ℕ) (known : Known) (f : SpduFault) → IsValueFault kind at c value known f → stored kind at c value known ≡ Err f
+stored_fails : (kind : Kind) (at : ℕ) (c : Code) (value : List ℕ) (known : Known) (f : SpduFault) → IsValueFault kind at c value known f →
+    stored kind at c value known ≡ Err f
 unfolding stored
 stored_fails kind at c value known f h0 = grind arith
 
@@ -85,14 +99,17 @@ stored_fails kind at c value known f h0 = grind arith
 
 -- the faults of reading one parameter at a level are those of the table of faults
 record Fails (taking : Taking) (failing : Failing) : Type 0 where
-  fails : (at body code : ℕ) (value : List ℕ) (known : Known) (f : SpduFault) → IsOctets value → taking at body code value known ≡ Err f → failing at body code value known f
-  back : (at body code : ℕ) (value : List ℕ) (known : Known) (f : SpduFault) → IsOctets value → failing at body code value known f → taking at body code value known ≡ Err f
+  fails : (at body code : ℕ) (value : List ℕ) (known : Known) (f : SpduFault) → IsOctets value → taking at body code value known ≡ Err f →
+      failing at body code value known f
+  back : (at body code : ℕ) (value : List ℕ) (known : Known) (f : SpduFault) → IsOctets value → failing at body code value known f →
+      taking at body code value known ≡ Err f
 
 abbrev Level : (ℕ → List ℕ → Known → Type 0) → Failing → ℕ → Known → List ℕ → SpduFault → Type 0
 Level means failing at before octets f = IsLevelFault means failing at before octets f
 
 -- a fault at the first item
-fault_here : (means : ℕ → List ℕ → Known → Type 0) (failing : Failing) (at : ℕ) (before : Known) (octets : List ℕ) (f : SpduFault) → IsItemFault failing at octets before f → Level means failing at before octets f
+fault_here : (means : ℕ → List ℕ → Known → Type 0) (failing : Failing) (at : ℕ) (before : Known) (octets : List ℕ) (f : SpduFault) →
+    IsItemFault failing at octets before f → Level means failing at before octets f
 fault_here means failing at before octets f bad = record {
   front = [];
   rest = octets;
@@ -103,11 +120,13 @@ fault_here means failing at before octets f bad = record {
 }
 
 -- a fault after a parameter
-fault_later : (means : ℕ → List ℕ → Known → Type 0) (failing : Failing) (at : ℕ) (before mid : Known) (p : Part) (octets rest : List ℕ) (f : SpduFault) → octets ≡ part_octets p ++ rest → IsPart means p → JoinsAll p.gives before mid
+fault_later : (means : ℕ → List ℕ → Known → Type 0) (failing : Failing) (at : ℕ) (before mid : Known) (p : Part) (octets rest : List ℕ)
+    (f : SpduFault) → octets ≡ part_octets p ++ rest → IsPart means p → JoinsAll p.gives before mid
     → Level means failing (at + length (part_octets p)) mid rest f → Level means failing at before octets f
 fault_later means failing at before mid p octets rest f whole is joins level =
     let front = part_octets p ++ level.front in
-    let offset : at + length (part_octets p) + length level.front ≡ at + length front = omega (arith, length-append (part_octets p) level.front) in
+    let offset : at + length (part_octets p) + length level.front ≡ at + length front =
+        omega (arith, length-append (part_octets p) level.front) in
     record {
       front = front;
       rest = level.rest;
@@ -117,26 +136,35 @@ fault_later means failing at before mid p octets rest f whole is joins level =
         parts = p ∷ level.fills.parts;
         whole = ap (λ (t : List ℕ). part_octets p ++ t) level.fills.whole;
         each = (is, level.fills.each);
-        once = λ c. sole_back (p.gives c) (before c) (mid c) (map (λ q. q.gives c) level.fills.parts) (level.known c) (joins c) (level.fills.once c);
+        once = λ c. sole_back (p.gives c) (before c) (mid c) (map (λ q. q.gives c) level.fills.parts) (level.known c) (joins c)
+            (level.fills.once c);
       };
       bad = subst (λ (k : ℕ). IsItemFault failing k level.rest level.known f) offset level.bad;
     }
 
-len_of_part : (code : ℕ) (long : Bool) (value : List ℕ) (gives : Known) → length (part_octets (let p : Part = record { code = code; long = long; value = value; gives = gives } in p)) ≡ 1 + indicator_len long + length value
+len_of_part : (code : ℕ) (long : Bool) (value : List ℕ) (gives : Known) →
+    length (part_octets (let p : Part = record { code = code; long = long; value = value; gives = gives } in p)) ≡ 1 + indicator_len
+    long + length value
 len_of_part code true value gives = omega (arith, length-append (255 ∷ length value / 256 ∷ length value % 256 ∷ []) value)
 len_of_part code false value gives = omega arith
 
 abbrev Later : Taking → (ℕ → List ℕ → Known → Type 0) → Failing → ℕ → SpduFault → Type 0
-Later taking means failing n f = (at : ℕ) (known : Known) (octets : List ℕ) → length octets ≤ n → IsOctets octets → params_at taking n at known octets ≡ Err f → Level means failing at known octets f
+Later taking means failing n f = (at : ℕ) (known : Known) (octets : List ℕ) → length octets ≤ n → IsOctets octets →
+    params_at taking n at known octets ≡ Err f → Level means failing at known octets f
 
-taken_bad : (taking : Taking) (means : ℕ → List ℕ → Known → Type 0) (failing : Failing) → Follows taking means → Fails taking failing → (n at : ℕ) (before : Known) (code : ℕ) (octets : List ℕ) (f : SpduFault)
-    → length octets ≤ n → IsOctets (code ∷ octets) → (m : Measured) → measured_at at octets ≡ Ok m → (r : Result Known SpduFault) → taking at (at + (1 + m.used)) code m.value before ≡ r
-    → (r >>= λ k. params_at taking n (at + (1 + m.used + length m.value)) k m.rest) ≡ Err f → Later taking means failing n f → Level means failing at before (code ∷ octets) f
+taken_bad : (taking : Taking) (means : ℕ → List ℕ → Known → Type 0) (failing : Failing) → Follows taking means → Fails taking failing →
+    (n at : ℕ) (before : Known) (code : ℕ) (octets : List ℕ) (f : SpduFault)
+    → length octets ≤ n → IsOctets (code ∷ octets) → (m : Measured) → measured_at at octets ≡ Ok m → (r : Result Known SpduFault) →
+        taking at (at + (1 + m.used)) code m.value before ≡ r
+    → (r >>= λ k. params_at taking n (at + (1 + m.used + length m.value)) k m.rest) ≡ Err f → Later taking means failing n f →
+        Level means failing at before (code ∷ octets) f
 taken_bad taking means failing follows fails n at before code octets f le fits m q (Err g) t e later =
     let is = counted_is at octets m (octets-tail code octets fits) q in
     let same : g ≡ f = fault_is Known g f e in
-    let bad = fails.fails at (at + (1 + m.used)) code m.value before f is.is.value_octets (t ∙ ap (λ (x : SpduFault). failed {A = Known} x) same) in
-    let bad' : failing at (at + (1 + indicator_len is.is.long)) code m.value before f = subst (λ (u : ℕ). failing at (at + (1 + u)) code m.value before f) is.used bad in
+    let bad = fails.fails at (at + (1 + m.used)) code m.value before f is.is.value_octets
+        (t ∙ ap (λ (x : SpduFault). failed {A = Known} x) same) in
+    let bad' : failing at (at + (1 + indicator_len is.is.long)) code m.value before f =
+        subst (λ (u : ℕ). failing at (at + (1 + u)) code m.value before f) is.used bad in
     fault_here means failing at before (code ∷ octets) f (inr (is.is.long, m.value, m.rest, (is.is.counted, is.is.parts), bad'))
 taken_bad taking means failing follows fails n at before code octets f le fits m q (Ok mid) t e later =
     let is = counted_is at octets m (octets-tail code octets fits) q in
@@ -148,19 +176,25 @@ taken_bad taking means failing follows fails n at before code octets f le fits m
     let offset : at + (1 + m.used + length m.value) ≡ at + length (part_octets p) = omega arith in
     let shorter : length m.rest ≤ n = omega (arith, is.is.shorter) in
     let level = later (at + (1 + m.used + length m.value)) mid m.rest shorter is.is.rest_octets e in
-    fault_later means failing at before mid p (code ∷ octets) m.rest f (ap (λ (t : List ℕ). code ∷ t) is.is.parts) (byte, is.is.counted, one.1) one.2
+    fault_later means failing at before mid p (code ∷ octets) m.rest f (ap (λ (t : List ℕ). code ∷ t) is.is.parts)
+        (byte, is.is.counted, one.1) one.2
     (subst (λ (k : ℕ). Level means failing k mid m.rest f) offset level)
 
-item_bad : (taking : Taking) (means : ℕ → List ℕ → Known → Type 0) (failing : Failing) → Follows taking means → Fails taking failing → (n at : ℕ) (before : Known) (code : ℕ) (octets : List ℕ) (f : SpduFault)
+item_bad : (taking : Taking) (means : ℕ → List ℕ → Known → Type 0) (failing : Failing) → Follows taking means → Fails taking failing →
+    (n at : ℕ) (before : Known) (code : ℕ) (octets : List ℕ) (f : SpduFault)
     → length octets ≤ n → IsOctets (code ∷ octets) → (r : Result Measured SpduFault) → measured_at at octets ≡ r
-    → (r >>= λ m. taking at (at + (1 + m.used)) code m.value before >>= λ k. params_at taking n (at + (1 + m.used + length m.value)) k m.rest) ≡ Err f
+    → (r >>= λ m. taking at (at + (1 + m.used)) code m.value before >>= λ k. params_at taking n (at + (1 + m.used + length m.value)) k
+        m.rest) ≡ Err f
     → Later taking means failing n f → Level means failing at before (code ∷ octets) f
 item_bad taking means failing follows fails n at before code octets f le fits (Err g) q e later =
-    fault_here means failing at before (code ∷ octets) f (inl (no_value at octets g q, sym (fault_is Known g f e) ∙ measured_bad at octets g q))
+    fault_here means failing at before (code ∷ octets) f
+        (inl (no_value at octets g q, sym (fault_is Known g f e) ∙ measured_bad at octets g q))
 item_bad taking means failing follows fails n at before code octets f le fits (Ok m) q e later =
-    taken_bad taking means failing follows fails n at before code octets f le fits m q (taking at (at + (1 + m.used)) code m.value before) refl e later
+    taken_bad taking means failing follows fails n at before code octets f le fits m q (taking at (at + (1 + m.used)) code m.value before)
+        refl e later
 
-level_found : (taking : Taking) (means : ℕ → List ℕ → Known → Type 0) (failing : Failing) → Follows taking means → Fails taking failing → (n at : ℕ) (before : Known) (octets : List ℕ) (f : SpduFault)
+level_found : (taking : Taking) (means : ℕ → List ℕ → Known → Type 0) (failing : Failing) → Follows taking means → Fails taking failing →
+    (n at : ℕ) (before : Known) (octets : List ℕ) (f : SpduFault)
     → length octets ≤ n → IsOctets octets → params_at taking n at before octets ≡ Err f → Level means failing at before octets f
 unfolding params_at
 level_found taking means failing follows fails n at before [] f le fits e = absurd (never Known before f e)
@@ -175,19 +209,26 @@ bind_bad r next f e = ap (λ q. q >>= next) e
 abbrev octets_of_parts : List Part → List ℕ
 octets_of_parts parts = flat_map part_octets parts
 
-level_bad : (taking : Taking) (means : ℕ → List ℕ → Known → Type 0) (failing : Failing) → Follows taking means → Fails taking failing → (n at : ℕ) (before after : Known) (parts : List Part) (rest : List ℕ) (f : SpduFault)
-    → length (octets_of_parts parts ++ rest) ≤ n → IsOctets rest → AllByRecursion (IsPart means) parts → ((c : Code) → Sole (before c ∷ map (λ p. p.gives c) parts) (after c))
-    → IsItemFault failing (at + length (octets_of_parts parts)) rest after f → params_at taking n at before (octets_of_parts parts ++ rest) ≡ Err f
+level_bad : (taking : Taking) (means : ℕ → List ℕ → Known → Type 0) (failing : Failing) → Follows taking means → Fails taking failing →
+    (n at : ℕ) (before after : Known) (parts : List Part) (rest : List ℕ) (f : SpduFault)
+    → length (octets_of_parts parts ++ rest) ≤ n → IsOctets rest → AllByRecursion (IsPart means) parts →
+        ((c : Code) → Sole (before c ∷ map (λ p. p.gives c) parts) (after c))
+    → IsItemFault failing (at + length (octets_of_parts parts)) rest after f →
+        params_at taking n at before (octets_of_parts parts ++ rest) ≡ Err f
 unfolding params_at
 level_bad taking means failing follows fails n at before after [] [] f le fits each once bad = absurd bad
 level_bad taking means failing follows fails zero at before after [] (code ∷ octets) f le fits each once bad = absurd (omega arith)
 level_bad taking means failing follows fails (suc n) at before after [] (code ∷ octets) f le fits each once bad =
     let same : after ≡ before = λ i c. (sole_same (before c) (after c) (once c)) i in
-    let next = λ (m : Measured). (taking at (at + (1 + m.used)) code m.value before >>= λ k. params_at taking n (at + (1 + m.used + length m.value)) k m.rest) in
+    let next = λ (m : Measured).
+        (taking at (at + (1 + m.used)) code m.value before >>= λ k. params_at taking n (at + (1 + m.used + length m.value)) k m.rest) in
     let here : IsItemFault failing at (code ∷ octets) before f =
-    subst (λ (k : ℕ). IsItemFault failing k (code ∷ octets) before f) (add-zero at) (subst (λ (k : Known). IsItemFault failing (at + 0) (code ∷ octets) k f) same bad) in
+    subst (λ (k : ℕ). IsItemFault failing k (code ∷ octets) before f) (add-zero at)
+        (subst (λ (k : Known). IsItemFault failing (at + 0) (code ∷ octets) k f) same bad) in
     elim here [
-      | inl q ↦ bind_bad (measured_at at octets) next f (value_of_no at octets (measured_at at octets) refl (octets-tail code octets fits) q.0 ∙ ap (λ (g : SpduFault). failed {A = Measured} g) (sym q.1))
+      | inl q ↦ bind_bad (measured_at at octets) next f
+          (value_of_no at octets (measured_at at octets) refl (octets-tail code octets fits) q.0 ∙
+          ap (λ (g : SpduFault). failed {A = Measured} g) (sym q.1))
       | inr q ↦
           let long = q.0 in
           let value = q.1 in
@@ -195,9 +236,11 @@ level_bad taking means failing follows fails (suc n) at before after [] (code �
           let made : Measured = record { used = lengths.indicator_len long; value = value; rest = rest } in
           let read : measured_at at octets ≡ Ok made = ap (measured_at at) q.3.1 ∙ measured_again at long value rest q.3.0 in
           let is = measured_ok at octets made (octets-tail code octets fits) read in
-          let at_value : failing at (at + (1 + lengths.indicator_len long)) code value before f = subst (λ (u : ℕ). failing at (at + (1 + u)) code value before f) (sym (same_len long)) q.4 in
+          let at_value : failing at (at + (1 + lengths.indicator_len long)) code value before f =
+              subst (λ (u : ℕ). failing at (at + (1 + u)) code value before f) (sym (same_len long)) q.4 in
           bind_of (measured_at at octets) next made (Err f) read
-          (bind_bad (taking at (at + (1 + lengths.indicator_len long)) code value before) (λ k. params_at taking n (at + (1 + lengths.indicator_len long + length value)) k rest) f
+          (bind_bad (taking at (at + (1 + lengths.indicator_len long)) code value before)
+              (λ k. params_at taking n (at + (1 + lengths.indicator_len long + length value)) k rest) f
           (fails.back at (at + (1 + lengths.indicator_len long)) code value before f is.value_octets at_value))
     ]
 level_bad taking means failing follows fails zero at before after (p ∷ parts) rest f le fits each once bad = absurd (omega arith)
@@ -216,28 +259,35 @@ level_bad taking means failing follows fails (suc n) at before after (p ∷ part
     let assoc : octets_of_parts (p ∷ parts) ++ rest ≡ part_octets p ++ others = append_assoc (part_octets p) (octets_of_parts parts) rest in
     let count = ap length assoc in
     let later = level_bad taking means failing follows fails n behind mid after parts rest f (omega arith) fits each.1
-    (λ c. sole_step (p.gives c) (before c) (mid c) (map (λ q. q.gives c) parts) (after c) (joins c) (once c)) (subst (λ (k : ℕ). IsItemFault failing k rest after f) offset bad) in
+    (λ c. sole_step (p.gives c) (before c) (mid c) (map (λ q. q.gives c) parts) (after c) (joins c) (once c))
+        (subst (λ (k : ℕ). IsItemFault failing k rest after f) offset bad) in
     let tail = length_octets p.long (length p.value) ++ p.value ++ others in
     let made : Measured = record { used = used; value = p.value; rest = others } in
     ap (params_at taking (suc n) at before) assoc
-    ∙ bind_of (measured_at at tail) (λ m. taking at (at + (1 + m.used)) p.code m.value before >>= λ k. params_at taking n (at + (1 + m.used + length m.value)) k m.rest) made (Err f)
+    ∙ bind_of (measured_at at tail)
+        (λ m. taking at (at + (1 + m.used)) p.code m.value before >>= λ k. params_at taking n (at + (1 + m.used + length m.value)) k m.rest)
+        made (Err f)
     (measured_again at p.long p.value others each.0.1)
     (bind_of (taking at (at + (1 + used)) p.code p.value before) (λ k. params_at taking n behind k others) mid (Err f) one later)
 
-level_only : (taking : Taking) (means : ℕ → List ℕ → Known → Type 0) (failing : Failing) → Follows taking means → Fails taking failing → (at : ℕ) (before : Known) (octets : List ℕ) (f : SpduFault)
+level_only : (taking : Taking) (means : ℕ → List ℕ → Known → Type 0) (failing : Failing) → Follows taking means → Fails taking failing →
+    (at : ℕ) (before : Known) (octets : List ℕ) (f : SpduFault)
     → IsOctets octets → Level means failing at before octets f → params_of taking at before octets ≡ Err f
 level_only taking means failing follows fails at before octets f fits level =
     let parts = level.fills.parts in
     let rest = level.rest in
     let whole : octets ≡ octets_of_parts parts ++ rest = level.whole ∙ ap (λ (t : List ℕ). t ++ rest) level.fills.whole in
-    let behind : IsOctets rest = subst IsOctets (drop_at (octets_of_parts parts) rest (length (octets_of_parts parts)) refl) (octets-drop (length (octets_of_parts parts)) (octets_of_parts parts ++ rest) (subst IsOctets whole fits)) in
+    let behind : IsOctets rest = subst IsOctets (drop_at (octets_of_parts parts) rest (length (octets_of_parts parts)) refl)
+        (octets-drop (length (octets_of_parts parts)) (octets_of_parts parts ++ rest) (subst IsOctets whole fits)) in
     let bad = subst (λ (t : List ℕ). IsItemFault failing (at + length t) rest level.known f) level.fills.whole level.bad in
     subst (λ (o : List ℕ). params_at taking (length o) at before o ≡ Err f) (sym whole)
-    (level_bad taking means failing follows fails (length (octets_of_parts parts ++ rest)) at before level.known parts rest f (omega arith) behind level.fills.each level.fills.once bad)
+    (level_bad taking means failing follows fails (length (octets_of_parts parts ++ rest)) at before level.known parts rest f (omega arith)
+        behind level.fills.each level.fills.once bad)
 
 -- ---- within a group
 
-member_bad : (kind : Kind) (at : ℕ) (value : List ℕ) (known : Known) (o : Option Code) (f : SpduFault) → member_taken kind at value known o ≡ Err f → (c : Code) × (o ≡ Some c) × IsValueFault kind at c value known f
+member_bad : (kind : Kind) (at : ℕ) (value : List ℕ) (known : Known) (o : Option Code) (f : SpduFault) →
+    member_taken kind at value known o ≡ Err f → (c : Code) × (o ≡ Some c) × IsValueFault kind at c value known f
 member_bad kind at value known None f e = absurd (never Known known f e)
 member_bad kind at value known (Some c) f e = (c, refl, stored_bad kind at c value known f e)
 
@@ -250,68 +300,91 @@ group_fails kind members = record {
 
 -- ---- within a unit
 
-stored_group : (kind : Kind) (at : ℕ) (c : Code) (value : List ℕ) (known : Known) → is_group c ≡ true → known (slot_of c) ≡ None → stored kind at c value known ≡ Ok (put (slot_of c) [] known)
+stored_group : (kind : Kind) (at : ℕ) (c : Code) (value : List ℕ) (known : Known) → is_group c ≡ true → known (slot_of c) ≡ None →
+    stored kind at c value known ≡ Ok (put (slot_of c) [] known)
 unfolding stored
 stored_group kind at c value known group free = rw (none_is (known (slot_of c)) free, group_form kind c value group) refl
 
-stored_free : (kind : Kind) (at : ℕ) (c : Code) (value : List ℕ) (known more : Known) → stored kind at c value known ≡ Ok more → known (slot_of c) ≡ None
+stored_free : (kind : Kind) (at : ℕ) (c : Code) (value : List ℕ) (known more : Known) → stored kind at c value known ≡ Ok more →
+    known (slot_of c) ≡ None
 unfolding stored
 stored_free kind at c value known more e =
-    is_none_of (known (slot_of c)) (guard_ok (is_some (known (slot_of c))) (DuplicateParameter (number_of c) at) more (judged at c known (canonical_in kind c value)) e).0
+    is_none_of (known (slot_of c))
+        (guard_ok (is_some (known (slot_of c))) (DuplicateParameter (number_of c) at) more (judged at c known (canonical_in kind c value))
+        e).0
 
 abbrev InUnit : Kind → ℕ → ℕ → Code → List ℕ → Known → SpduFault → Type 0
 InUnit kind at body c value known f =
     IsValueFault kind at c value known f
-    ⊎ ((is_group c ≡ true) × (known (slot_of c) ≡ None) × IsLevelFault (MeansInGroup kind (members_of kind c)) (FailsInGroup kind (members_of kind c)) body (put (slot_of c) [] known) value f)
+    ⊎ ((is_group c ≡ true) × (known (slot_of c) ≡ None) × IsLevelFault (MeansInGroup kind (members_of kind c))
+        (FailsInGroup kind (members_of kind c)) body (put (slot_of c) [] known) value f)
 
-opened_bad : (kind : Kind) (at body : ℕ) (c : Code) (value : List ℕ) (known : Known) (f : SpduFault) → IsOctets value → (r : Result Known SpduFault) → stored kind at c value known ≡ r
-    → (r >>= λ mid. cond (is_group c) (params_of (in_group kind (members_of kind c)) body mid value) (Ok mid)) ≡ Err f → InUnit kind at body c value known f
+opened_bad : (kind : Kind) (at body : ℕ) (c : Code) (value : List ℕ) (known : Known) (f : SpduFault) → IsOctets value →
+    (r : Result Known SpduFault) → stored kind at c value known ≡ r
+    → (r >>= λ mid. cond (is_group c) (params_of (in_group kind (members_of kind c)) body mid value) (Ok mid)) ≡ Err f →
+        InUnit kind at body c value known f
 opened_bad kind at body c value known f fits (Err g) s e = inl (stored_bad kind at c value known f (s ∙ e))
 opened_bad kind at body c value known f fits (Ok mid) s e =
     let members = members_of kind c in
     elim (chosen (is_group c) (params_of (in_group kind members) body mid value) (Ok mid) (Err f) e) [
       | inl q ↦
           let free = stored_free kind at c value known mid s in
-          let same : mid ≡ put (slot_of c) [] known = ok_is mid (put (slot_of c) [] known) (sym s ∙ stored_group kind at c value known q.0 free) in
-          let level = level_found (in_group kind members) (MeansInGroup kind members) (FailsInGroup kind members) (group_follows kind members) (group_fails kind members) (length value) body mid value f (omega arith) fits q.1 in
-          inr (q.0, free, subst (λ (k : Known). IsLevelFault (MeansInGroup kind members) (FailsInGroup kind members) body k value f) same level)
+          let same : mid ≡ put (slot_of c) [] known =
+              ok_is mid (put (slot_of c) [] known) (sym s ∙ stored_group kind at c value known q.0 free) in
+          let level = level_found (in_group kind members) (MeansInGroup kind members) (FailsInGroup kind members)
+              (group_follows kind members) (group_fails kind members) (length value) body mid value f (omega arith) fits q.1 in
+          inr (q.0, free, subst (λ (k : Known). IsLevelFault (MeansInGroup kind members) (FailsInGroup kind members) body k value f) same
+              level)
       | inr q ↦ absurd (never Known mid f q.1)
     ]
 
-opened_fails : (kind : Kind) (at body : ℕ) (c : Code) (value : List ℕ) (known : Known) (f : SpduFault) → IsOctets value → InUnit kind at body c value known f
-    → (stored kind at c value known >>= λ mid. cond (is_group c) (params_of (in_group kind (members_of kind c)) body mid value) (Ok mid)) ≡ Err f
+opened_fails : (kind : Kind) (at body : ℕ) (c : Code) (value : List ℕ) (known : Known) (f : SpduFault) → IsOctets value →
+    InUnit kind at body c value known f
+    → (stored kind at c value known >>= λ mid. cond (is_group c) (params_of (in_group kind (members_of kind c)) body mid value) (Ok mid)) ≡
+        Err f
 opened_fails kind at body c value known f fits h =
     let members = members_of kind c in
     let next = λ (mid : Known). cond (is_group c) (params_of (in_group kind members) body mid value) (Ok mid) in
     elim h [
       | inl q ↦ bind_bad (stored kind at c value known) next f (stored_fails kind at c value known f q)
       | inr q ↦
-          let read = level_only (in_group kind members) (MeansInGroup kind members) (FailsInGroup kind members) (group_follows kind members) (group_fails kind members) body (put (slot_of c) [] known) value f fits q.2 in
+          let read = level_only (in_group kind members) (MeansInGroup kind members) (FailsInGroup kind members) (group_follows kind members)
+              (group_fails kind members) body (put (slot_of c) [] known) value f fits q.2 in
           bind_of (stored kind at c value known) next (put (slot_of c) [] known) (Err f) (stored_group kind at c value known q.0 q.1)
-          (ap (λ (b : Bool). cond b (params_of (in_group kind members) body (put (slot_of c) [] known) value) (Ok (put (slot_of c) [] known))) q.0 ∙ read)
+          (ap (λ (b : Bool). cond b (params_of (in_group kind members) body (put (slot_of c) [] known) value)
+              (Ok (put (slot_of c) [] known))) q.0 ∙ read)
     ]
 
-parameter_bad : (kind : Kind) (at body : ℕ) (value : List ℕ) (known : Known) (o : Option Code) (f : SpduFault) → IsOctets value → parameter_taken kind at body value known o ≡ Err f
+parameter_bad : (kind : Kind) (at body : ℕ) (value : List ℕ) (known : Known) (o : Option Code) (f : SpduFault) → IsOctets value →
+    parameter_taken kind at body value known o ≡ Err f
     → (c : Code) × (o ≡ Some c) × InUnit kind at body c value known f
 parameter_bad kind at body value known None f fits e = absurd (never Known known f e)
-parameter_bad kind at body value known (Some c) f fits e = (c, refl, opened_bad kind at body c value known f fits (stored kind at c value known) refl e)
+parameter_bad kind at body value known (Some c) f fits e =
+    (c, refl, opened_bad kind at body c value known f fits (stored kind at c value known) refl e)
 
 unit_fails : (kind : Kind) → Fails (in_unit kind) (FailsInUnit kind)
 unfolding in_unit FailsInUnit
 unit_fails kind = record {
   fails = λ at body code value known f fits e. parameter_bad kind at body value known (code_among (codes_of kind) code) f fits e;
-  back = λ at body code value known f fits h. ap (parameter_taken kind at body value known) h.1 ∙ opened_fails kind at body h.0 value known f fits h.2;
+  back = λ at body code value known f fits h. ap (parameter_taken kind at body value known) h.1 ∙
+      opened_fails kind at body h.0 value known f fits h.2;
 }
 
-pub unit_level_found : (kind : Kind) (at : ℕ) (octets : List ℕ) (f : SpduFault) → IsOctets octets → params_of (in_unit kind) at nothing octets ≡ Err f → IsLevelFault (MeansInUnit kind) (FailsInUnit kind) at nothing octets f
-unit_level_found kind at octets f fits e = level_found (in_unit kind) (MeansInUnit kind) (FailsInUnit kind) (unit_follows kind) (unit_fails kind) (length octets) at nothing octets f (omega arith) fits e
+pub unit_level_found : (kind : Kind) (at : ℕ) (octets : List ℕ) (f : SpduFault) → IsOctets octets →
+    params_of (in_unit kind) at nothing octets ≡ Err f → IsLevelFault (MeansInUnit kind) (FailsInUnit kind) at nothing octets f
+unit_level_found kind at octets f fits e =
+    level_found (in_unit kind) (MeansInUnit kind) (FailsInUnit kind) (unit_follows kind) (unit_fails kind) (length octets) at nothing octets
+    f (omega arith) fits e
 
-pub unit_level_only : (kind : Kind) (at : ℕ) (octets : List ℕ) (f : SpduFault) → IsOctets octets → IsLevelFault (MeansInUnit kind) (FailsInUnit kind) at nothing octets f → params_of (in_unit kind) at nothing octets ≡ Err f
-unit_level_only kind at octets f fits level = level_only (in_unit kind) (MeansInUnit kind) (FailsInUnit kind) (unit_follows kind) (unit_fails kind) at nothing octets f fits level
+pub unit_level_only : (kind : Kind) (at : ℕ) (octets : List ℕ) (f : SpduFault) → IsOctets octets →
+    IsLevelFault (MeansInUnit kind) (FailsInUnit kind) at nothing octets f → params_of (in_unit kind) at nothing octets ≡ Err f
+unit_level_only kind at octets f fits level =
+    level_only (in_unit kind) (MeansInUnit kind) (FailsInUnit kind) (unit_follows kind) (unit_fails kind) at nothing octets f fits level
 
 -- ---- mandatory parameters
 
-pub missing_found : (at : ℕ) (codes : List Code) (known : Known) (f : SpduFault) → all_there at codes known ≡ Err f → IsFirstMissing at codes known f
+pub missing_found : (at : ℕ) (codes : List Code) (known : Known) (f : SpduFault) → all_there at codes known ≡ Err f →
+    IsFirstMissing at codes known f
 unfolding all_there
 missing_found at [] known f e = absurd (never Known known f e)
 missing_found at (c ∷ codes) known f e =
@@ -320,7 +393,8 @@ missing_found at (c ∷ codes) known f e =
       | inr q ↦ inl (is_none_of (known c) q.0, sym (fault_is Known (MissingParameter (number_of c) at) f q.1))
     ]
 
-pub missing_only : (at : ℕ) (codes : List Code) (known : Known) (f : SpduFault) → IsFirstMissing at codes known f → all_there at codes known ≡ Err f
+pub missing_only : (at : ℕ) (codes : List Code) (known : Known) (f : SpduFault) → IsFirstMissing at codes known f →
+    all_there at codes known ≡ Err f
 unfolding all_there
 missing_only at [] known f h = absurd h
 missing_only at (c ∷ codes) known f h =

@@ -1,11 +1,18 @@
 -- The first fault of a unit is the one that reading returns.
-use Rattle.std.proofs.Common.{inl, inr, ◌≡◌, ℕ, ◌+◌, Bool, true, false, cond, List, [], ◌∷◌, ◌++◌, length, Option, Some, None, Result, Ok, Err, refl, sym, ap, subst, ◌∙◌, arith}
-use Rattle.osi_spdu.proofs.Vocabulary.{flat_map, cases_Bool, length-append, IsOctets, SpduFault, UnknownSi, LengthPastEnd, BadConcatenation, Kind, category_of, required_of, kind_named, may_stand, Known, nothing, settled, ◌>>=◌, Measured, measured_at, params_of, in_unit, all_there, Placed, placed_kind, unit_at, length_octets, part_octets, Spells, MeansInUnit, indicator_len, FailsInUnit, IsLevelFault, IsBodyFault, IsNamedFault, IsUnitFault}
+use Rattle.std.proofs.Common.{inl, inr, ◌≡◌, ℕ, ◌+◌, Bool, true, false, cond, List, [], ◌∷◌, ◌++◌, length, Option, Some, None, Result, Ok}
+use Rattle.std.proofs.Common.{Err, refl, sym, ap, subst, ◌∙◌, arith}
+use Rattle.osi_spdu.proofs.Vocabulary.{flat_map, cases_Bool, length-append, IsOctets, SpduFault, UnknownSi, LengthPastEnd, BadConcatenation}
+use Rattle.osi_spdu.proofs.Vocabulary.{Kind, category_of, required_of, kind_named, may_stand, Known, nothing, settled, ◌>>=◌, Measured}
+use Rattle.osi_spdu.proofs.Vocabulary.{measured_at, params_of, in_unit, all_there, Placed, placed_kind, unit_at, length_octets, part_octets}
+use Rattle.osi_spdu.proofs.Vocabulary.{Spells, MeansInUnit, indicator_len, FailsInUnit, IsLevelFault, IsBodyFault, IsNamedFault}
+use Rattle.osi_spdu.proofs.Vocabulary.{IsUnitFault}
 use Rattle.osi_spdu.proofs.basics.the_steps_of_reading.{bind_ok, bind_of, ok_is}
 use Rattle.osi_spdu.proofs.basics.length_indicators.{octets-tail, measured_ok, measured_again}
 use Rattle.osi_spdu.proofs.basics.length_indicators as lengths
 use Rattle.osi_spdu.proofs.parameters.one_level_is_read.{params_found, params_only, unit_follows}
-use Rattle.osi_spdu.proofs.faults.the_first_fault_is_returned.{failed, fault_is, never, no_value, measured_bad, value_of_no, counted_is, same_len, bind_bad, unit_level_found, unit_level_only, missing_found, missing_only}
+use Rattle.osi_spdu.proofs.faults.the_first_fault_is_returned.{failed, fault_is, never, no_value, measured_bad, value_of_no, counted_is}
+use Rattle.osi_spdu.proofs.faults.the_first_fault_is_returned.{same_len, bind_bad, unit_level_found, unit_level_only, missing_found}
+use Rattle.osi_spdu.proofs.faults.the_first_fault_is_returned.{missing_only}
 
 -- a unit of this kind whose parameters are these
 abbrev placed : Kind → ℕ → Measured → Known → Placed
@@ -22,43 +29,54 @@ body_in kind at octets = measured_at at octets >>= λ m. value_in kind at m
 
 -- ---- the fault returned is the first
 
-required_found : (kind : Kind) (at : ℕ) (m : Measured) (raw : Known) (f : SpduFault) (r : Result Known SpduFault) → all_there at (required_of kind) raw ≡ r → (r >>= λ whole. Ok (placed kind at m whole)) ≡ Err f
+required_found : (kind : Kind) (at : ℕ) (m : Measured) (raw : Known) (f : SpduFault) (r : Result Known SpduFault) →
+    all_there at (required_of kind) raw ≡ r → (r >>= λ whole. Ok (placed kind at m whole)) ≡ Err f
     → all_there at (required_of kind) raw ≡ Err f
 required_found kind at m raw f (Err g) q e = q ∙ ap (λ (x : SpduFault). failed {A = Known} x) (fault_is Placed g f e)
 required_found kind at m raw f (Ok whole) q e = absurd (never Placed (placed kind at m whole) f e)
 
-value_found : (kind : Kind) (at : ℕ) (octets : List ℕ) (m : Measured) (f : SpduFault) → IsOctets octets → measured_at at octets ≡ Ok m → (r : Result Known SpduFault) → params_of (in_unit kind) (at + (1 + m.used)) nothing m.value ≡ r
+value_found : (kind : Kind) (at : ℕ) (octets : List ℕ) (m : Measured) (f : SpduFault) → IsOctets octets → measured_at at octets ≡ Ok m →
+    (r : Result Known SpduFault) → params_of (in_unit kind) (at + (1 + m.used)) nothing m.value ≡ r
     → (r >>= λ raw. required_in kind at m raw) ≡ Err f → IsBodyFault kind at octets f
 value_found kind at octets m f fits q (Err g) t e =
     let is = counted_is at octets m fits q in
     let same : g ≡ f = fault_is Placed g f e in
-    let level = unit_level_found kind (at + (1 + m.used)) m.value f is.is.value_octets (t ∙ ap (λ (x : SpduFault). failed {A = Known} x) same) in
-    inr (is.is.long, m.value, m.rest, (is.is.counted, is.is.parts), inl (subst (λ (u : ℕ). IsLevelFault (MeansInUnit kind) (FailsInUnit kind) (at + (1 + u)) nothing m.value f) is.used level))
+    let level = unit_level_found kind (at + (1 + m.used)) m.value f is.is.value_octets
+        (t ∙ ap (λ (x : SpduFault). failed {A = Known} x) same) in
+    inr (is.is.long, m.value, m.rest, (is.is.counted, is.is.parts),
+        inl (subst (λ (u : ℕ). IsLevelFault (MeansInUnit kind) (FailsInUnit kind) (at + (1 + u)) nothing m.value f) is.used level))
 value_found kind at octets m f fits q (Ok raw) t e =
     let is = counted_is at octets m fits q in
-    let r = params_found (in_unit kind) (MeansInUnit kind) (unit_follows kind) (length m.value) (at + (1 + m.used)) nothing raw m.value (omega arith) is.is.value_octets t in
+    let r = params_found (in_unit kind) (MeansInUnit kind) (unit_follows kind) (length m.value) (at + (1 + m.used)) nothing raw m.value
+        (omega arith) is.is.value_octets t in
     let spelled : Spells (MeansInUnit kind) raw m.value = record { parts = r.parts; whole = r.whole; each = r.each; once = r.once } in
     let missing = missing_found at (required_of kind) raw f (required_found kind at m raw f (all_there at (required_of kind) raw) refl e) in
     inr (is.is.long, m.value, m.rest, (is.is.counted, is.is.parts), inr (raw, spelled, missing))
 
-body_found : (kind : Kind) (at : ℕ) (octets : List ℕ) (f : SpduFault) → IsOctets octets → (r : Result Measured SpduFault) → measured_at at octets ≡ r → (r >>= λ m. value_in kind at m) ≡ Err f → IsBodyFault kind at octets f
+body_found : (kind : Kind) (at : ℕ) (octets : List ℕ) (f : SpduFault) → IsOctets octets → (r : Result Measured SpduFault) →
+    measured_at at octets ≡ r → (r >>= λ m. value_in kind at m) ≡ Err f → IsBodyFault kind at octets f
 body_found kind at octets f fits (Err g) q e = inl (no_value at octets g q, sym (fault_is Placed g f e) ∙ measured_bad at octets g q)
-body_found kind at octets f fits (Ok m) q e = value_found kind at octets m f fits q (params_of (in_unit kind) (at + (1 + m.used)) nothing m.value) refl e
+body_found kind at octets f fits (Ok m) q e =
+    value_found kind at octets m f fits q (params_of (in_unit kind) (at + (1 + m.used)) nothing m.value) refl e
 
-named_found : (second : Bool) (at : ℕ) (o : Option Kind) (octets : List ℕ) (f : SpduFault) → IsOctets octets → (placed_kind second at o >>= λ kind. body_in kind at octets) ≡ Err f → IsNamedFault second at o octets f
+named_found : (second : Bool) (at : ℕ) (o : Option Kind) (octets : List ℕ) (f : SpduFault) → IsOctets octets →
+    (placed_kind second at o >>= λ kind. body_in kind at octets) ≡ Err f → IsNamedFault second at o octets f
 named_found second at o octets f h0 h1 = grind (arith, fault_is, cases_Bool, body_found)
 
-pub unit_fault_found : (second : Bool) (at : ℕ) (octets : List ℕ) (f : SpduFault) → IsOctets octets → unit_at second at octets ≡ Err f → IsUnitFault second at octets f
+pub unit_fault_found : (second : Bool) (at : ℕ) (octets : List ℕ) (f : SpduFault) → IsOctets octets → unit_at second at octets ≡ Err f →
+    IsUnitFault second at octets f
 unfolding unit_at
 unit_fault_found second at [] f fits e = sym (fault_is Placed (LengthPastEnd at) f e)
 unit_fault_found second at (si ∷ octets) f fits e = named_found second at (kind_named second si) octets f (octets-tail si octets fits) e
 
 -- ---- and the first fault is returned
 
-body_only : (kind : Kind) (at : ℕ) (octets : List ℕ) (f : SpduFault) → IsOctets octets → IsBodyFault kind at octets f → body_in kind at octets ≡ Err f
+body_only : (kind : Kind) (at : ℕ) (octets : List ℕ) (f : SpduFault) → IsOctets octets → IsBodyFault kind at octets f →
+    body_in kind at octets ≡ Err f
 body_only kind at octets f fits h =
     elim h [
-      | inl q ↦ bind_bad (measured_at at octets) (λ m. value_in kind at m) f (value_of_no at octets (measured_at at octets) refl fits q.0 ∙ ap (λ (g : SpduFault). failed {A = Measured} g) (sym q.1))
+      | inl q ↦ bind_bad (measured_at at octets) (λ m. value_in kind at m) f (value_of_no at octets (measured_at at octets) refl fits q.0 ∙
+          ap (λ (g : SpduFault). failed {A = Measured} g) (sym q.1))
       | inr q ↦
           let long = q.0 in
           let value = q.1 in
@@ -69,19 +87,24 @@ body_only kind at octets f fits h =
           let is = measured_ok at octets made fits read in
           bind_of (measured_at at octets) (λ m. value_in kind at m) made (Err f) read (elim q.4 [
             | inl level ↦
-                let here = subst (λ (u : ℕ). IsLevelFault (MeansInUnit kind) (FailsInUnit kind) (at + (1 + u)) nothing value f) (sym (same_len long)) level in
-                bind_bad (params_of (in_unit kind) (at + (1 + used)) nothing value) (λ raw. required_in kind at made raw) f (unit_level_only kind (at + (1 + used)) value f is.value_octets here)
+                let here = subst (λ (u : ℕ). IsLevelFault (MeansInUnit kind) (FailsInUnit kind) (at + (1 + u)) nothing value f)
+                    (sym (same_len long)) level in
+                bind_bad (params_of (in_unit kind) (at + (1 + used)) nothing value) (λ raw. required_in kind at made raw) f
+                    (unit_level_only kind (at + (1 + used)) value f is.value_octets here)
             | inr w ↦
                 let s = w.1 in
                 let params : params_of (in_unit kind) (at + (1 + used)) nothing value ≡ Ok w.0 =
                 subst (λ (b : List ℕ). params_of (in_unit kind) (at + (1 + used)) nothing b ≡ Ok w.0) (sym s.whole)
-                (params_only (in_unit kind) (MeansInUnit kind) (unit_follows kind) (length (flat_map part_octets s.parts)) (at + (1 + used)) nothing w.0 s.parts (omega arith) s.each s.once) in
+                (params_only (in_unit kind) (MeansInUnit kind) (unit_follows kind) (length (flat_map part_octets s.parts)) (at + (1 + used))
+                    nothing w.0 s.parts (omega arith) s.each s.once) in
                 bind_of (params_of (in_unit kind) (at + (1 + used)) nothing value) (λ raw. required_in kind at made raw) w.0 (Err f) params
-                (bind_bad (all_there at (required_of kind) w.0) (λ whole. Ok (placed kind at made whole)) f (missing_only at (required_of kind) w.0 f w.2))
+                (bind_bad (all_there at (required_of kind) w.0) (λ whole. Ok (placed kind at made whole)) f
+                    (missing_only at (required_of kind) w.0 f w.2))
           ])
     ]
 
-named_only : (second : Bool) (at : ℕ) (o : Option Kind) (octets : List ℕ) (f : SpduFault) → IsOctets octets → IsNamedFault second at o octets f → (placed_kind second at o >>= λ kind. body_in kind at octets) ≡ Err f
+named_only : (second : Bool) (at : ℕ) (o : Option Kind) (octets : List ℕ) (f : SpduFault) → IsOctets octets →
+    IsNamedFault second at o octets f → (placed_kind second at o >>= λ kind. body_in kind at octets) ≡ Err f
 named_only second at None octets f fits h = ap (λ (g : SpduFault). failed {A = Placed} g) (sym h)
 named_only second at (Some kind) octets f fits h =
     let chosen_by = λ (b : Bool). (cond b (Ok kind) (Err (BadConcatenation at)) >>= λ k. body_in k at octets) in
@@ -90,18 +113,21 @@ named_only second at (Some kind) octets f fits h =
       | inr q ↦ ap chosen_by q.0 ∙ body_only kind at octets f fits q.1
     ]
 
-pub unit_fault_only : (second : Bool) (at : ℕ) (octets : List ℕ) (f : SpduFault) → IsOctets octets → IsUnitFault second at octets f → unit_at second at octets ≡ Err f
+pub unit_fault_only : (second : Bool) (at : ℕ) (octets : List ℕ) (f : SpduFault) → IsOctets octets → IsUnitFault second at octets f →
+    unit_at second at octets ≡ Err f
 unfolding unit_at
 unit_fault_only second at [] f fits h = ap (λ (g : SpduFault). failed {A = Placed} g) (sym h)
 unit_fault_only second at (si ∷ octets) f fits h = named_only second at (kind_named second si) octets f (octets-tail si octets fits) h
 
 -- ---- the end of a unit
 
-indicator_octets : (long : Bool) (value rest : List ℕ) → length (length_octets long (length value) ++ value ++ rest) ≡ indicator_len long + (length value + length rest)
+indicator_octets : (long : Bool) (value rest : List ℕ) →
+    length (length_octets long (length value) ++ value ++ rest) ≡ indicator_len long + (length value + length rest)
 indicator_octets true value rest = omega (arith, length-append value rest)
 indicator_octets false value rest = omega (arith, length-append value rest)
 
-pub unit_end : (second : Bool) (at : ℕ) (octets : List ℕ) (p : Placed) → IsOctets octets → unit_at second at octets ≡ Ok p → p.end + length p.rest ≡ at + length octets
+pub unit_end : (second : Bool) (at : ℕ) (octets : List ℕ) (p : Placed) → IsOctets octets → unit_at second at octets ≡ Ok p →
+    p.end + length p.rest ≡ at + length octets
 unfolding unit_at
 unit_end second at [] p fits e = absurd cc
 unit_end second at (si ∷ octets) p fits e =

@@ -1,6 +1,13 @@
 -- The written form of a value is no longer than the octets that were read.
-use Rattle.std.proofs.Common.{inl, inr, ◌≡◌, ℕ, zero, suc, ◌+◌, ◌*◌, ◌/◌, ◌%◌, ◌^◌, ◌<◌, ◌≤◌, Bool, true, false, cond, ◌&&◌, List, [], ◌∷◌, length, Option, Some, None, option_map, refl, ap, subst, ◌-◌, add-zero, zero-add, eqb, ltb, leb, arith}
-use Rattle.osi_spdu.proofs.Vocabulary.{common_steps, list_all, cases_Bool, and_parts, ltb-true, leb-true, Code, Kind, ConnectionIdentifier, ConnectAcceptItem, CalledReference, CallingReference, CommonReference, AdditionalReference, SyncType, TokenItem, TransportDisconnect, ProtocolOptions, UserRequirements, TsduMaximumSize, Version, InitialNumber, Enclosure, TokenSetting, ResyncType, Number, Reflect, Reason, CallingSelector, CalledSelector, UserData, ExtendedUserData, significant, six_digits, digits_of, decimal_from, decimal, is_digit, is_numeral, numeral, octet_if, kept_if, canonical, may_enclose, canonical_in, token_bits, any_octet, as_it_is, is_setting}
+use Rattle.std.proofs.Common.{inl, inr, ◌≡◌, ℕ, zero, suc, ◌+◌, ◌*◌, ◌/◌, ◌%◌, ◌^◌, ◌<◌, ◌≤◌, Bool, true, false, cond, ◌&&◌, List, [], ◌∷◌}
+use Rattle.std.proofs.Common.{length, Option, Some, None, option_map, refl, ap, subst, ◌-◌, add-zero, zero-add, eqb, ltb, leb, arith}
+use Rattle.osi_spdu.proofs.Vocabulary.{common_steps, list_all, cases_Bool, and_parts, ltb-true, leb-true, Code, Kind, ConnectionIdentifier}
+use Rattle.osi_spdu.proofs.Vocabulary.{ConnectAcceptItem, CalledReference, CallingReference, CommonReference, AdditionalReference, SyncType}
+use Rattle.osi_spdu.proofs.Vocabulary.{TokenItem, TransportDisconnect, ProtocolOptions, UserRequirements, TsduMaximumSize, Version}
+use Rattle.osi_spdu.proofs.Vocabulary.{InitialNumber, Enclosure, TokenSetting, ResyncType, Number, Reflect, Reason, CallingSelector}
+use Rattle.osi_spdu.proofs.Vocabulary.{CalledSelector, UserData, ExtendedUserData, significant, six_digits, digits_of, decimal_from}
+use Rattle.osi_spdu.proofs.Vocabulary.{decimal, is_digit, is_numeral, numeral, octet_if, kept_if, canonical, may_enclose, canonical_in}
+use Rattle.osi_spdu.proofs.Vocabulary.{token_bits, any_octet, as_it_is, is_setting}
 
 -- ---- a value is written in no more octets than it was read in
 
@@ -36,25 +43,34 @@ few_digits : (n k : ℕ) → 1 ≤ k → k ≤ 6 → n < 10 ^ k → length (digi
 unfolding digits_of
 few_digits n zero low high h = absurd (omega arith)
 few_digits n (suc zero) low high h =
-    drop_zero (n / 100000 % 10 + 48) (n / 10000 % 10 + 48) ((n / 1000 % 10 + 48) ∷ (n / 100 % 10 + 48) ∷ (n / 10 % 10 + 48) ∷ (n % 10 + 48) ∷ []) 1 (omega arith)
+    drop_zero (n / 100000 % 10 + 48) (n / 10000 % 10 + 48) ((n / 1000 % 10 + 48) ∷ (n / 100 % 10 + 48) ∷ (n / 10 % 10 + 48) ∷
+        (n % 10 + 48) ∷ []) 1 (omega arith)
     (drop_zero (n / 10000 % 10 + 48) (n / 1000 % 10 + 48) ((n / 100 % 10 + 48) ∷ (n / 10 % 10 + 48) ∷ (n % 10 + 48) ∷ []) 1 (omega arith)
     (drop_zero (n / 1000 % 10 + 48) (n / 100 % 10 + 48) ((n / 10 % 10 + 48) ∷ (n % 10 + 48) ∷ []) 1 (omega arith)
     (drop_zero (n / 100 % 10 + 48) (n / 10 % 10 + 48) ((n % 10 + 48) ∷ []) 1 (omega arith)
     (drop_zero (n / 10 % 10 + 48) (n % 10 + 48) [] 1 (omega arith) (significant_len ((n % 10 + 48) ∷ []))))))
 few_digits n (suc (suc zero)) low high h =
-    drop_zero (n / 100000 % 10 + 48) (n / 10000 % 10 + 48) ((n / 1000 % 10 + 48) ∷ (n / 100 % 10 + 48) ∷ (n / 10 % 10 + 48) ∷ (n % 10 + 48) ∷ []) 2 (omega arith)
+    drop_zero (n / 100000 % 10 + 48) (n / 10000 % 10 + 48) ((n / 1000 % 10 + 48) ∷ (n / 100 % 10 + 48) ∷ (n / 10 % 10 + 48) ∷
+        (n % 10 + 48) ∷ []) 2 (omega arith)
     (drop_zero (n / 10000 % 10 + 48) (n / 1000 % 10 + 48) ((n / 100 % 10 + 48) ∷ (n / 10 % 10 + 48) ∷ (n % 10 + 48) ∷ []) 2 (omega arith)
     (drop_zero (n / 1000 % 10 + 48) (n / 100 % 10 + 48) ((n / 10 % 10 + 48) ∷ (n % 10 + 48) ∷ []) 2 (omega arith)
-    (drop_zero (n / 100 % 10 + 48) (n / 10 % 10 + 48) ((n % 10 + 48) ∷ []) 2 (omega arith) (significant_len ((n / 10 % 10 + 48) ∷ (n % 10 + 48) ∷ [])))))
+    (drop_zero (n / 100 % 10 + 48) (n / 10 % 10 + 48) ((n % 10 + 48) ∷ []) 2 (omega arith)
+        (significant_len ((n / 10 % 10 + 48) ∷ (n % 10 + 48) ∷ [])))))
 few_digits n (suc (suc (suc zero))) low high h =
-    drop_zero (n / 100000 % 10 + 48) (n / 10000 % 10 + 48) ((n / 1000 % 10 + 48) ∷ (n / 100 % 10 + 48) ∷ (n / 10 % 10 + 48) ∷ (n % 10 + 48) ∷ []) 3 (omega arith)
+    drop_zero (n / 100000 % 10 + 48) (n / 10000 % 10 + 48) ((n / 1000 % 10 + 48) ∷ (n / 100 % 10 + 48) ∷ (n / 10 % 10 + 48) ∷
+        (n % 10 + 48) ∷ []) 3 (omega arith)
     (drop_zero (n / 10000 % 10 + 48) (n / 1000 % 10 + 48) ((n / 100 % 10 + 48) ∷ (n / 10 % 10 + 48) ∷ (n % 10 + 48) ∷ []) 3 (omega arith)
-    (drop_zero (n / 1000 % 10 + 48) (n / 100 % 10 + 48) ((n / 10 % 10 + 48) ∷ (n % 10 + 48) ∷ []) 3 (omega arith) (significant_len ((n / 100 % 10 + 48) ∷ (n / 10 % 10 + 48) ∷ (n % 10 + 48) ∷ []))))
+    (drop_zero (n / 1000 % 10 + 48) (n / 100 % 10 + 48) ((n / 10 % 10 + 48) ∷ (n % 10 + 48) ∷ []) 3 (omega arith)
+        (significant_len ((n / 100 % 10 + 48) ∷ (n / 10 % 10 + 48) ∷ (n % 10 + 48) ∷ []))))
 few_digits n (suc (suc (suc (suc zero)))) low high h =
-    drop_zero (n / 100000 % 10 + 48) (n / 10000 % 10 + 48) ((n / 1000 % 10 + 48) ∷ (n / 100 % 10 + 48) ∷ (n / 10 % 10 + 48) ∷ (n % 10 + 48) ∷ []) 4 (omega arith)
-    (drop_zero (n / 10000 % 10 + 48) (n / 1000 % 10 + 48) ((n / 100 % 10 + 48) ∷ (n / 10 % 10 + 48) ∷ (n % 10 + 48) ∷ []) 4 (omega arith) (significant_len ((n / 1000 % 10 + 48) ∷ (n / 100 % 10 + 48) ∷ (n / 10 % 10 + 48) ∷ (n % 10 + 48) ∷ [])))
+    drop_zero (n / 100000 % 10 + 48) (n / 10000 % 10 + 48) ((n / 1000 % 10 + 48) ∷ (n / 100 % 10 + 48) ∷ (n / 10 % 10 + 48) ∷
+        (n % 10 + 48) ∷ []) 4 (omega arith)
+    (drop_zero (n / 10000 % 10 + 48) (n / 1000 % 10 + 48) ((n / 100 % 10 + 48) ∷ (n / 10 % 10 + 48) ∷ (n % 10 + 48) ∷ []) 4 (omega arith)
+        (significant_len ((n / 1000 % 10 + 48) ∷ (n / 100 % 10 + 48) ∷ (n / 10 % 10 + 48) ∷ (n % 10 + 48) ∷ [])))
 few_digits n (suc (suc (suc (suc (suc zero))))) low high h =
-    drop_zero (n / 100000 % 10 + 48) (n / 10000 % 10 + 48) ((n / 1000 % 10 + 48) ∷ (n / 100 % 10 + 48) ∷ (n / 10 % 10 + 48) ∷ (n % 10 + 48) ∷ []) 5 (omega arith) (significant_len ((n / 10000 % 10 + 48) ∷ (n / 1000 % 10 + 48) ∷ (n / 100 % 10 + 48) ∷ (n / 10 % 10 + 48) ∷ (n % 10 + 48) ∷ []))
+    drop_zero (n / 100000 % 10 + 48) (n / 10000 % 10 + 48) ((n / 1000 % 10 + 48) ∷ (n / 100 % 10 + 48) ∷ (n / 10 % 10 + 48) ∷
+        (n % 10 + 48) ∷ []) 5 (omega arith)
+        (significant_len ((n / 10000 % 10 + 48) ∷ (n / 1000 % 10 + 48) ∷ (n / 100 % 10 + 48) ∷ (n / 10 % 10 + 48) ∷ (n % 10 + 48) ∷ []))
 few_digits n (suc (suc (suc (suc (suc (suc k)))))) low high h = (let l = significant_len (six_digits n) in omega arith)
 
 -- n digits give a number below ten to the power n
@@ -79,7 +95,8 @@ numeral_shorter value v e = by (is_numeral value) refl e
         let b = and_parts (ltb 0 (length value)) (leb (length value) 6) a.0 in
         let some = ltb-true 0 (length value) b.0 in
         let few = leb-true (length value) 6 b.1 in
-        let small : decimal value < 10 ^ length value = subst (λ (m : ℕ). decimal value < 10 ^ m) (zero-add (length value)) (decimal_small value 0 0 a.1 (omega arith)) in
+        let small : decimal value < 10 ^ length value =
+            subst (λ (m : ℕ). decimal value < 10 ^ m) (zero-add (length value)) (decimal_small value 0 0 a.1 (omega arith)) in
         let same : digits_of (decimal value) ≡ v = cc in
         subst (λ (x : List ℕ). length x ≤ length value) same (few_digits (decimal value) (length value) (omega arith) few small)
     by false t h = absurd cc

@@ -1,6 +1,15 @@
 -- Units whose values have few octets fit.
-use Rattle.std.proofs.Common.{inl, inr, ◌≡◌, ℕ, ◌+◌, ◌%◌, ◌≤◌, ◌∷◌, Bool, true, false, List, [], length, Option, Some, None, refl, sym, ap, subst, option_map, eqb, leb, ltb, arith}
-use Rattle.osi_spdu.proofs.Vocabulary.{cases_Bool, eqb-true, leb-true, Code, ConnectionIdentifier, ConnectAcceptItem, SyncType, TokenItem, TransportDisconnect, ProtocolOptions, UserRequirements, TsduMaximumSize, Version, InitialNumber, Enclosure, TokenSetting, ResyncType, Number, CallingSelector, CalledSelector, ExtendedUserData, Kind, GiveTokens, PleaseTokens, DataTransfer, NotFinished, Finish, Disconnect, Refuse, Connect, Accept, Abort, AbortAccept, ResynchronizeAck, MajorSyncPoint, MajorSyncAck, MinorSyncPoint, MinorSyncAck, Resynchronize, is_group, every_code, codes_of, members_of, six_digits, digits_of, numeral, octet_if, kept_if, any_octet, as_it_is, token_bits, is_setting, canonical, Known, some_octets, Contents, group_octets, value_octets, IsCanonical, UnitFits, value_len, free_len, Params, number_of, reason_octets, place_of, cells_of, slots_of, known_of, count_of, lent_len}
+use Rattle.std.proofs.Common.{inl, inr, ◌≡◌, ℕ, ◌+◌, ◌%◌, ◌≤◌, ◌∷◌, Bool, true, false, List, [], length, Option, Some, None, refl, sym, ap}
+use Rattle.std.proofs.Common.{subst, option_map, eqb, leb, ltb, arith}
+use Rattle.osi_spdu.proofs.Vocabulary.{cases_Bool, eqb-true, leb-true, Code, ConnectionIdentifier, ConnectAcceptItem, SyncType, TokenItem}
+use Rattle.osi_spdu.proofs.Vocabulary.{TransportDisconnect, ProtocolOptions, UserRequirements, TsduMaximumSize, Version, InitialNumber}
+use Rattle.osi_spdu.proofs.Vocabulary.{Enclosure, TokenSetting, ResyncType, Number, CallingSelector, CalledSelector, ExtendedUserData, Kind}
+use Rattle.osi_spdu.proofs.Vocabulary.{GiveTokens, PleaseTokens, DataTransfer, NotFinished, Finish, Disconnect, Refuse, Connect, Accept}
+use Rattle.osi_spdu.proofs.Vocabulary.{Abort, AbortAccept, ResynchronizeAck, MajorSyncPoint, MajorSyncAck, MinorSyncPoint, MinorSyncAck}
+use Rattle.osi_spdu.proofs.Vocabulary.{Resynchronize, is_group, every_code, codes_of, members_of, six_digits, digits_of, numeral, octet_if}
+use Rattle.osi_spdu.proofs.Vocabulary.{kept_if, any_octet, as_it_is, token_bits, is_setting, canonical, Known, some_octets, Contents}
+use Rattle.osi_spdu.proofs.Vocabulary.{group_octets, value_octets, IsCanonical, UnitFits, value_len, free_len, Params, number_of}
+use Rattle.osi_spdu.proofs.Vocabulary.{reason_octets, place_of, cells_of, slots_of, known_of, count_of, lent_len}
 use Rattle.osi_spdu.proofs.form.values_in_memory_are_in_their_form.{params_canonical}
 use Rattle.osi_spdu.proofs.form.what_was_read_fits.{total, cost, member_cost, unit_cost, part_cost, total_less, group_len, body_len}
 use Rattle.osi_spdu.proofs.form.a_value_becomes_no_longer.{significant_len}
@@ -104,14 +113,16 @@ cost_weight n = grind (arith, cases_Bool)
 member_weight : (known : Known) (c : Code) → member_cost (known c) ≤ weight known c
 member_weight known c = grind (arith, member_cost, cost_weight)
 
-value_weight : (kind : Kind) (known : Known) (c : Code) (v : List ℕ) → cost (length (value_octets kind known c v)) ≤ 4 + length v + total (weight known) (members_of kind c)
+value_weight : (kind : Kind) (known : Known) (c : Code) (v : List ℕ) →
+    cost (length (value_octets kind known c v)) ≤ 4 + length v + total (weight known) (members_of kind c)
 value_weight kind known c v = grind (arith, cases_Bool, cost_weight, group_len, total_less, member_cost, member_weight)
 
 part_weight : (kind : Kind) (known : Known) (c : Code) → part_cost kind known c ≤ weight known c + total (weight known) (members_of kind c)
 part_weight kind known c = grind (arith, unit_cost, total, value_weight)
 
 -- each code occurs at most once in a unit
-unit_weight : (kind : Kind) (known : Known) → total (λ c. weight known c + total (weight known) (members_of kind c)) (codes_of kind) ≤ total (weight known) every_code
+unit_weight : (kind : Kind) (known : Known) →
+    total (λ c. weight known c + total (weight known) (members_of kind c)) (codes_of kind) ≤ total (weight known) every_code
 unfolding codes_of members_of
 unit_weight GiveTokens known = omega arith
 unit_weight _ known = omega arith
@@ -142,7 +153,8 @@ all_weight known is =
 pub few_fit : (unit : Contents) → IsCanonical unit.known → free_len unit.known ≤ 65000 → UnitFits unit
 few_fit unit is few =
     let a = body_len unit.kind unit.known in
-    let b = total_less (part_cost unit.kind unit.known) (λ c. weight unit.known c + total (weight unit.known) (members_of unit.kind c)) (codes_of unit.kind) (part_weight unit.kind unit.known) in
+    let b = total_less (part_cost unit.kind unit.known) (λ c. weight unit.known c + total (weight unit.known) (members_of unit.kind c))
+        (codes_of unit.kind) (part_weight unit.kind unit.known) in
     let c = unit_weight unit.kind unit.known in
     let d = all_weight unit.known is in
     omega arith
@@ -162,4 +174,5 @@ params_free p = grind (arith, same_count, some_less)
 pub made_fits : (unit : Contents) (p : Params) → unit.known ≡ known_of p → lent_len p ≤ 65000 → UnitFits unit
 made_fits unit p same few =
     let f = params_free p in
-    few_fit unit (subst IsCanonical (sym same) (params_canonical p)) (subst (λ (k : Known). free_len k ≤ 65000) (sym same) (let l : free_len (known_of p) ≤ 65000 = omega arith in l))
+    few_fit unit (subst IsCanonical (sym same) (params_canonical p))
+        (subst (λ (k : Known). free_len k ≤ 65000) (sym same) (let l : free_len (known_of p) ≤ 65000 = omega arith in l))

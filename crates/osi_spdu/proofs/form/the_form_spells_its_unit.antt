@@ -1,10 +1,20 @@
 -- The written form of a unit and of a TSDU spells it.
-use Rattle.std.proofs.Common.{inl, inr, ◌≡◌, ℕ, ◌<◌, Bool, true, false, cond, not, ◌&&◌, ◌||◌, List, [], ◌∷◌, ◌++◌, length, map, Option, Some, None, refl, sym, ap, subst, ◌∙◌, ltb, arith}
-use Rattle.osi_spdu.proofs.Vocabulary.{is_some, is_none, IsSome, flat_map, list_any, list_all, AllByRecursion, cases_Bool, and_parts, and_from, or_cases, or_parts, or_left, or_right, ltb-false, not-true, length-append, IsOctets, Code, Enclosure, UserData, ExtendedUserData, Kind, number_of, is_same, is_group, slot_of, every_code, codes_of, members_of, required_of, canonical, may_enclose, canonical_in, Known, some_octets, settled, Contents, Units, length_octets, HasLength, Part, part_octets, Sole, IsPart, Spells, only, MemberOf, MeansInGroup, GroupOf, ParameterOf, KnownOf, MeansInUnit, SpellsUnit, AreUnits, SpellsTsdu, written_item, among, written_code, member_octets, group_octets, value_octets, parameter_octets, body_octets, unit_octets, tsdu_octets, may_be_there, is_enclosed, is_formed, IsCanonical, IsFormedUnit, UnitFits, IsFormedTsdu, TsduFits}
+use Rattle.std.proofs.Common.{inl, inr, ◌≡◌, ℕ, ◌<◌, Bool, true, false, cond, not, ◌&&◌, ◌||◌, List, [], ◌∷◌, ◌++◌, length, map, Option}
+use Rattle.std.proofs.Common.{Some, None, refl, sym, ap, subst, ◌∙◌, ltb, arith}
+use Rattle.osi_spdu.proofs.Vocabulary.{is_some, is_none, IsSome, flat_map, list_any, list_all, AllByRecursion, cases_Bool, and_parts}
+use Rattle.osi_spdu.proofs.Vocabulary.{and_from, or_cases, or_parts, or_left, or_right, ltb-false, not-true, length-append, IsOctets, Code}
+use Rattle.osi_spdu.proofs.Vocabulary.{Enclosure, UserData, ExtendedUserData, Kind, number_of, is_same, is_group, slot_of, every_code}
+use Rattle.osi_spdu.proofs.Vocabulary.{codes_of, members_of, required_of, canonical, may_enclose, canonical_in, Known, some_octets, settled}
+use Rattle.osi_spdu.proofs.Vocabulary.{Contents, Units, length_octets, HasLength, Part, part_octets, Sole, IsPart, Spells, only, MemberOf}
+use Rattle.osi_spdu.proofs.Vocabulary.{MeansInGroup, GroupOf, ParameterOf, KnownOf, MeansInUnit, SpellsUnit, AreUnits, SpellsTsdu}
+use Rattle.osi_spdu.proofs.Vocabulary.{written_item, among, written_code, member_octets, group_octets, value_octets, parameter_octets}
+use Rattle.osi_spdu.proofs.Vocabulary.{body_octets, unit_octets, tsdu_octets, may_be_there, is_enclosed, is_formed, IsCanonical}
+use Rattle.osi_spdu.proofs.Vocabulary.{IsFormedUnit, UnitFits, IsFormedTsdu, TsduFits}
 use Rattle.osi_spdu.proofs.basics.options_that_are_added.{sole_one}
 use Rattle.osi_spdu.proofs.basics.the_steps_of_reading.{same_true, same_refl}
 use Rattle.osi_spdu.proofs.parameters.one_level_is_read.{group_form}
-use Rattle.osi_spdu.proofs.parameters.each_slot_has_one_code.{every_passes, number_octet, among_found, any_weaker, owns, once, code_once, member_once, group_apart, members_none}
+use Rattle.osi_spdu.proofs.parameters.each_slot_has_one_code.{every_passes, number_octet, among_found, any_weaker, owns, once, code_once}
+use Rattle.osi_spdu.proofs.parameters.each_slot_has_one_code.{member_once, group_apart, members_none}
 
 -- ---- the parts that a level writes
 
@@ -20,32 +30,40 @@ abbrev octets_if : (Code → List ℕ → Part) → Code → Option (List ℕ) �
 octets_if make c None = []
 octets_if make c (Some v) = part_octets (make c v)
 
-whole_if : (make : Code → List ℕ → Part) (c : Code) (o : Option (List ℕ)) (octets : List ℕ) (parts : List Part) → octets ≡ flat_map part_octets parts
+whole_if : (make : Code → List ℕ → Part) (c : Code) (o : Option (List ℕ)) (octets : List ℕ) (parts : List Part) →
+    octets ≡ flat_map part_octets parts
     → octets_if make c o ++ octets ≡ flat_map part_octets (part_if make c o parts)
 whole_if make c None octets parts e = e
 whole_if make c (Some v) octets parts e = ap (λ (t : List ℕ). part_octets (make c v) ++ t) e
 
-parts_whole : (make : Code → List ℕ → Part) (known : Known) (codes : List Code) → flat_map (λ c. octets_if make c (known c)) codes ≡ flat_map part_octets (parts_of make known codes)
+parts_whole : (make : Code → List ℕ → Part) (known : Known) (codes : List Code) →
+    flat_map (λ c. octets_if make c (known c)) codes ≡ flat_map part_octets (parts_of make known codes)
 parts_whole make known [] = refl
-parts_whole make known (c ∷ codes) = whole_if make c (known c) (flat_map (λ d. octets_if make d (known d)) codes) (parts_of make known codes) (parts_whole make known codes)
+parts_whole make known (c ∷ codes) =
+    whole_if make c (known c) (flat_map (λ d. octets_if make d (known d)) codes) (parts_of make known codes) (parts_whole make known codes)
 
 -- what makes each part one of the level
 abbrev Makes : (ℕ → List ℕ → Known → Type 0) → (Code → List ℕ → Part) → Known → List Code → Type 0
-Makes means make known codes = (c : Code) (v : List ℕ) → among codes c ≡ true → known c ≡ Some v → length (part_octets (make c v)) < 65536 → IsPart means (make c v)
+Makes means make known codes = (c : Code) (v : List ℕ) → among codes c ≡ true → known c ≡ Some v → length (part_octets (make c v)) < 65536 →
+    IsPart means (make c v)
 
-each_if : (means : ℕ → List ℕ → Known → Type 0) (make : Code → List ℕ → Part) (c : Code) (o : Option (List ℕ)) (octets : List ℕ) (parts : List Part)
-    → ((v : List ℕ) → o ≡ Some v → length (part_octets (make c v)) < 65536 → IsPart means (make c v)) → length (octets_if make c o ++ octets) < 65536
+each_if : (means : ℕ → List ℕ → Known → Type 0) (make : Code → List ℕ → Part) (c : Code) (o : Option (List ℕ)) (octets : List ℕ)
+    (parts : List Part)
+    → ((v : List ℕ) → o ≡ Some v → length (part_octets (make c v)) < 65536 → IsPart means (make c v)) →
+        length (octets_if make c o ++ octets) < 65536
     → AllByRecursion (IsPart means) parts → AllByRecursion (IsPart means) (part_if make c o parts)
 each_if means make c None octets parts h fits all = all
 each_if means make c (Some v) octets parts h fits all = (h v refl (omega (arith, length-append (part_octets (make c v)) octets)), all)
 
-parts_each : (means : ℕ → List ℕ → Known → Type 0) (make : Code → List ℕ → Part) (known : Known) (codes : List Code) → Makes means make known codes
+parts_each : (means : ℕ → List ℕ → Known → Type 0) (make : Code → List ℕ → Part) (known : Known) (codes : List Code) →
+    Makes means make known codes
     → length (flat_map (λ c. octets_if make c (known c)) codes) < 65536 → AllByRecursion (IsPart means) (parts_of make known codes)
 parts_each means make known [] h fits = tt
 parts_each means make known (c ∷ codes) h fits =
     let rest = flat_map (λ d. octets_if make d (known d)) codes in
     let shorter : length rest < 65536 = omega (arith, length-append (octets_if make c (known c)) rest) in
-    each_if means make c (known c) rest (parts_of make known codes) (λ v e l. h c v (or_left (is_same c c) (among codes c) (same_refl c)) e l) fits
+    each_if means make c (known c) rest (parts_of make known codes)
+        (λ v e l. h c v (or_left (is_same c c) (among codes c) (same_refl c)) e l) fits
     (parts_each means make known codes (λ d v a e l. h d v (or_right (is_same d c) (among codes d) a) e l) shorter)
 
 -- the values that each part gives: those of the slots that its code owns
@@ -55,40 +73,48 @@ Shares owner make known = (c : Code) (v : List ℕ) (d : Code) → (make c v).gi
 abbrev given : List Part → Code → List (Option (List ℕ))
 given parts d = map (λ p. p.gives d) parts
 
-none_if : (make : Code → List ℕ → Part) (c : Code) (o : Option (List ℕ)) (parts : List Part) (d : Code) → ((v : List ℕ) → (make c v).gives d ≡ None)
+none_if : (make : Code → List ℕ → Part) (c : Code) (o : Option (List ℕ)) (parts : List Part) (d : Code) →
+    ((v : List ℕ) → (make c v).gives d ≡ None)
     → Sole (given parts d) None → Sole (given (part_if make c o parts) d) None
 none_if make c None parts d g h = h
 none_if make c (Some v) parts d g h = subst (λ (x : Option (List ℕ)). Sole (x ∷ given parts d) None) (sym (g v)) h
 
-parts_none : (owner : Code → Code → Bool) (make : Code → List ℕ → Part) (known : Known) (codes : List Code) (d : Code) → Shares owner make known
+parts_none : (owner : Code → Code → Bool) (make : Code → List ℕ → Part) (known : Known) (codes : List Code) (d : Code) →
+    Shares owner make known
     → list_any (λ c. owner c d) codes ≡ false → Sole (given (parts_of make known codes) d) None
 parts_none owner make known [] d g e = refl
 parts_none owner make known (c ∷ codes) d g e =
     let o = or_parts (owner c d) (list_any (λ x. owner x d) codes) e in
-    none_if make c (known c) (parts_of make known codes) d (λ v. g c v d ∙ ap (λ (b : Bool). cond b (known d) None) o.0) (parts_none owner make known codes d g o.1)
+    none_if make c (known c) (parts_of make known codes) d (λ v. g c v d ∙ ap (λ (b : Bool). cond b (known d) None) o.0)
+        (parts_none owner make known codes d g o.1)
 
 sole_head : (o : Option (List ℕ)) (options : List (Option (List ℕ))) → Sole options None → Sole (o ∷ options) o
 sole_head None options h = h
 sole_head (Some v) options h = (refl, h)
 
-sole_if : (make : Code → List ℕ → Part) (c : Code) (o k : Option (List ℕ)) (parts : List Part) (d : Code) (b t : Bool) → ((v : List ℕ) → (make c v).gives d ≡ cond b k None)
-    → Sole (given parts d) (cond t k None) → (b ≡ true → Sole (given parts d) None) → Sole (given (part_if make c o parts) d) (cond ((b && is_some o) || t) k None)
+sole_if : (make : Code → List ℕ → Part) (c : Code) (o k : Option (List ℕ)) (parts : List Part) (d : Code) (b t : Bool) →
+    ((v : List ℕ) → (make c v).gives d ≡ cond b k None)
+    → Sole (given parts d) (cond t k None) → (b ≡ true → Sole (given parts d) None) →
+        Sole (given (part_if make c o parts) d) (cond ((b && is_some o) || t) k None)
 sole_if make c None k parts d true t g h n = h
 sole_if make c None k parts d false t g h n = h
-sole_if make c (Some v) k parts d true t g h n = subst (λ (x : Option (List ℕ)). Sole (x ∷ given parts d) k) (sym (g v)) (sole_head k (given parts d) (n refl))
+sole_if make c (Some v) k parts d true t g h n =
+    subst (λ (x : Option (List ℕ)). Sole (x ∷ given parts d) k) (sym (g v)) (sole_head k (given parts d) (n refl))
 sole_if make c (Some v) k parts d false t g h n = subst (λ (x : Option (List ℕ)). Sole (x ∷ given parts d) (cond t k None)) (sym (g v)) h
 
 pub once_tail : (b x y : Bool) → cond b (not x) y ≡ true → (b ≡ true → x ≡ false) × (b ≡ false → y ≡ true)
 once_tail true x y e = (λ h. not-true x e, λ h. absurd cc)
 once_tail false x y e = (λ h. absurd cc, λ h. e)
 
-once_rest : (owner : Code → Code → Bool) (codes : List Code) (d : Code) → list_any (λ c. owner c d) codes ≡ false → once owner codes d ≡ true
+once_rest : (owner : Code → Code → Bool) (codes : List Code) (d : Code) → list_any (λ c. owner c d) codes ≡ false →
+    once owner codes d ≡ true
 once_rest owner [] d e = refl
 once_rest owner (c ∷ codes) d e =
     let o = or_parts (owner c d) (list_any (λ x. owner x d) codes) e in
     rw o.0 (once_rest owner codes d o.1)
 
-pub tail_once : (owner : Code → Code → Bool) (c : Code) (codes : List Code) (d : Code) → once owner (c ∷ codes) d ≡ true → once owner codes d ≡ true
+pub tail_once : (owner : Code → Code → Bool) (c : Code) (codes : List Code) (d : Code) → once owner (c ∷ codes) d ≡ true →
+    once owner codes d ≡ true
 tail_once owner c codes d e =
     let o = once_tail (owner c d) (list_any (λ x. owner x d) codes) (once owner codes d) e in
     elim (cases_Bool (owner c d)) [
@@ -97,12 +123,14 @@ tail_once owner c codes d e =
     ]
 
 -- a slot that no two codes own has the value of the one that is there
-parts_sole : (owner : Code → Code → Bool) (make : Code → List ℕ → Part) (known : Known) (codes : List Code) (d : Code) → Shares owner make known → once owner codes d ≡ true
+parts_sole : (owner : Code → Code → Bool) (make : Code → List ℕ → Part) (known : Known) (codes : List Code) (d : Code) →
+    Shares owner make known → once owner codes d ≡ true
     → Sole (given (parts_of make known codes) d) (cond (list_any (λ c. owner c d && is_some (known c)) codes) (known d) None)
 parts_sole owner make known [] d g e = refl
 parts_sole owner make known (c ∷ codes) d g e =
     let o = once_tail (owner c d) (list_any (λ x. owner x d) codes) (once owner codes d) e in
-    sole_if make c (known c) (known d) (parts_of make known codes) d (owner c d) (list_any (λ x. owner x d && is_some (known x)) codes) (λ v. g c v d)
+    sole_if make c (known c) (known d) (parts_of make known codes) d (owner c d) (list_any (λ x. owner x d && is_some (known x)) codes)
+        (λ v. g c v d)
     (parts_sole owner make known codes d g (tail_once owner c codes d e))
     (λ t. parts_none owner make known codes d g (o.0 t))
 
@@ -114,7 +142,8 @@ record IsCanonicalIn (kind : Kind) (known : Known) : Type 0 where
   slots : known ExtendedUserData ≡ None
   data_there : known UserData ≡ Some [] → ⊥
 
-may_be_enclosed : (kind : Kind) (known : Known) (c : Code) (v : List ℕ) → is_enclosed kind (known Enclosure) ≡ true → known c ≡ Some v → may_enclose kind c v ≡ true
+may_be_enclosed : (kind : Kind) (known : Known) (c : Code) (v : List ℕ) → is_enclosed kind (known Enclosure) ≡ true → known c ≡ Some v →
+    may_enclose kind c v ≡ true
 unfolding may_enclose
 may_be_enclosed kind known c v is e = elim (cases_Bool (is_same c Enclosure)) [
   | inl t ↦ rw t (sym (ap (is_enclosed kind) (ap known (sym (same_true c Enclosure t)) ∙ e)) ∙ is)
@@ -150,10 +179,13 @@ fitting : (code : ℕ) (v : List ℕ) → length (written_item code v) < 65536 �
 fitting code v fits = fitting_if (ltb 254 (length v)) refl
   where
     fitting_if : (b : Bool) → ltb 254 (length v) ≡ b → HasLength b (length v)
-    fitting_if true e = (let l : length (written_item code v) < 65536 = fits in omega (arith, length-append (code ∷ [] ++ length_octets (ltb 254 (length v)) (length v)) v))
+    fitting_if true e =
+        (let l : length (written_item code v) < 65536 = fits in
+        omega (arith, length-append (code ∷ [] ++ length_octets (ltb 254 (length v)) (length v)) v))
     fitting_if false e = (let l = ltb-false 254 (length v) e in omega arith)
 
-member_makes : (kind : Kind) (known : Known) (g : Code) → IsCanonicalIn kind known → Makes (MeansInGroup kind (members_of kind g)) (member_part known) known (members_of kind g)
+member_makes : (kind : Kind) (known : Known) (g : Code) → IsCanonicalIn kind known →
+    Makes (MeansInGroup kind (members_of kind g)) (member_part known) known (members_of kind g)
 unfolding MeansInGroup
 member_makes kind known g is c v there e fits =
     let found = among_found (members_of kind g) c there in
@@ -176,7 +208,8 @@ same_and_there known d c v e =
 shown_member : (known : Known) (members : List Code) (d : Code) (o : Option (List ℕ)) → known d ≡ o
     → cond (list_any (λ c. is_same d c && is_some (known c)) members) (known d) None ≡ cond (among members d) (known d) None
 shown_member known members d None e =
-    ap (λ (k : Option (List ℕ)). cond (list_any (λ c. is_same d c && is_some (known c)) members) k None) e ∙ cond_none (list_any (λ c. is_same d c && is_some (known c)) members)
+    ap (λ (k : Option (List ℕ)). cond (list_any (λ c. is_same d c && is_some (known c)) members) k None) e ∙
+        cond_none (list_any (λ c. is_same d c && is_some (known c)) members)
     ∙ sym (ap (λ (k : Option (List ℕ)). cond (among members d) k None) e ∙ cond_none (among members d))
 shown_member known members d (Some v) e =
     ap (λ (p : Code → Bool). cond (list_any p members) (known d) None) (λ i c. (same_and_there known d c v e) i)
@@ -185,7 +218,8 @@ member_same : (known : Known) (c : Code) (o : Option (List ℕ)) → member_octe
 member_same known c None = refl
 member_same known c (Some v) = refl
 
-group_whole : (kind : Kind) (known : Known) (g : Code) → group_octets kind known g ≡ flat_map (λ c. octets_if (member_part known) c (known c)) (members_of kind g)
+group_whole : (kind : Kind) (known : Known) (g : Code) →
+    group_octets kind known g ≡ flat_map (λ c. octets_if (member_part known) c (known c)) (members_of kind g)
 unfolding group_octets
 group_whole kind known g = ap (λ (f : Code → List ℕ). flat_map f (members_of kind g)) (λ i c. (member_same known c (known c)) i)
 
@@ -197,14 +231,17 @@ group_spelled kind known g is fits =
     record {
       parts = parts_of (member_part known) known members;
       whole = whole ∙ parts_whole (member_part known) known members;
-      each = parts_each (MeansInGroup kind members) (member_part known) known members (member_makes kind known g is) (subst (λ (o : List ℕ). length o < 65536) whole fits);
-      once = λ d. subst (λ (x : Option (List ℕ)). Sole (given (parts_of (member_part known) known members) d) x) (shown_member known members d (known d) refl)
+      each = parts_each (MeansInGroup kind members) (member_part known) known members (member_makes kind known g is)
+          (subst (λ (o : List ℕ). length o < 65536) whole fits);
+      once = λ d. subst (λ (x : Option (List ℕ)). Sole (given (parts_of (member_part known) known members) d) x)
+          (shown_member known members d (known d) refl)
           (parts_sole (λ c e. is_same e c) (member_part known) known members d (λ c v e. refl) (member_once kind g d));
     }
 
 -- ---- a unit
 
-group_sole : (b a : Bool) (k : Option (List ℕ)) → (b ≡ true → k ≡ Some []) → (b ≡ true → a ≡ false) → Sole (cond b (Some []) None ∷ cond a k None ∷ []) (cond (b || a) k None)
+group_sole : (b a : Bool) (k : Option (List ℕ)) → (b ≡ true → k ≡ Some []) → (b ≡ true → a ≡ false) →
+    Sole (cond b (Some []) None ∷ cond a k None ∷ []) (cond (b || a) k None)
 group_sole true a k h n = subst (λ (x : Bool). Sole (Some [] ∷ cond x k None ∷ []) k) (sym (n refl)) (h refl, refl)
 group_sole false a k h n = sole_one (cond a k None)
 
@@ -229,7 +266,8 @@ owned_alone kind known c v leaf e = λ i d. (one d) i
     one : (d : Code) → owned kind known c d ≡ only c v d
     one d = rw (members_none kind c leaf, bare (is_same d c)) (own_only known c v d e)
 
-group_means : (kind : Kind) (known : Known) (c : Code) (v : List ℕ) → IsCanonicalIn kind known → is_group c ≡ true → known c ≡ Some v → length (group_octets kind known c) < 65536
+group_means : (kind : Kind) (known : Known) (c : Code) (v : List ℕ) → IsCanonicalIn kind known → is_group c ≡ true → known c ≡ Some v →
+    length (group_octets kind known c) < 65536
     → GroupOf kind c (group_octets kind known c) (owned kind known c)
 group_means kind known c v is group e fits =
     let empty : v ≡ [] = (let h : Some v ≡ Some [] = sym (is.values c v e) ∙ group_form kind c v group in cc) in
@@ -240,8 +278,10 @@ group_means kind known c v is group e fits =
           (λ t. ap (among (members_of kind c)) (same_true d c t) ∙ group_apart kind c),
     )
 
-parameter_means : (kind : Kind) (known : Known) (c : Code) (v : List ℕ) (b : Bool) → is_group c ≡ b → IsCanonicalIn kind known → known c ≡ Some v
-    → length (cond b (group_octets kind known c) v) < 65536 → ParameterOf kind c (cond b (group_octets kind known c) v) (owned kind known c) b
+parameter_means : (kind : Kind) (known : Known) (c : Code) (v : List ℕ) (b : Bool) → is_group c ≡ b → IsCanonicalIn kind known →
+    known c ≡ Some v
+    → length (cond b (group_octets kind known c) v) < 65536 →
+        ParameterOf kind c (cond b (group_octets kind known c) v) (owned kind known c) b
 parameter_means kind known c v true group is e fits = group_means kind known c v is group e fits
 parameter_means kind known c v false group is e fits =
     (v, is.values c v e, owned_alone kind known c v group e ∙ ap (λ (s : Code). only s v) (sym (own_slot kind known c v is e)))
@@ -251,11 +291,14 @@ long_data_means : (kind : Kind) (known : Known) (c : Code) (v : List ℕ) → c 
     → KnownOf kind (value_octets kind known c v) (owned kind known c) (Some ExtendedUserData)
 unfolding is_group canonical canonical_in may_enclose number_of slot_of
 long_data_means kind known c v data_code e =
-    subst (λ (x : Code). known x ≡ Some v → KnownOf kind (value_octets kind known x v) (owned kind known x) (Some ExtendedUserData)) (sym data_code)
+    subst (λ (x : Code). known x ≡ Some v → KnownOf kind (value_octets kind known x v) (owned kind known x) (Some ExtendedUserData))
+        (sym data_code)
     (λ there. (v, refl, owned_alone kind known UserData v refl there)) e
 
-unit_means : (kind : Kind) (known : Known) (c : Code) (v : List ℕ) → IsCanonicalIn kind known → among (codes_of kind) c ≡ true → known c ≡ Some v
-    → length (value_octets kind known c v) < 65536 → MeansInUnit kind (number_of (written_code kind c v)) (value_octets kind known c v) (owned kind known c)
+unit_means : (kind : Kind) (known : Known) (c : Code) (v : List ℕ) → IsCanonicalIn kind known → among (codes_of kind) c ≡ true →
+    known c ≡ Some v
+    → length (value_octets kind known c v) < 65536 →
+        MeansInUnit kind (number_of (written_code kind c v)) (value_octets kind known c v) (owned kind known c)
 unfolding MeansInUnit written_code
 unit_means kind known c v is there e fits =
     let test = is_same c UserData && among (codes_of kind) ExtendedUserData && ltb 512 (length v) in
@@ -267,17 +310,21 @@ unit_means kind known c v is there e fits =
       | inr f ↦ rw (f, among_found (codes_of kind) c there) (parameter_means kind known c v (is_group c) refl is e fits)
     ]
 
-unit_makes : (kind : Kind) (known : Known) → IsCanonicalIn kind known → Makes (MeansInUnit kind) (unit_part kind known) known (codes_of kind)
+unit_makes : (kind : Kind) (known : Known) → IsCanonicalIn kind known →
+    Makes (MeansInUnit kind) (unit_part kind known) known (codes_of kind)
 unit_makes kind known is c v there e fits =
     let value = value_octets kind known c v in
     let code = number_of (written_code kind c v) in
-    let shorter : length value < 65536 = omega (arith, length-append (code ∷ [] ++ length_octets (ltb 254 (length value)) (length value)) value) in
+    let shorter : length value < 65536 =
+        omega (arith, length-append (code ∷ [] ++ length_octets (ltb 254 (length value)) (length value)) value) in
     (number_octet (written_code kind c v), fitting code value fits, unit_means kind known c v is there e shorter)
 
-shown_owned : (kind : Kind) (known : Known) (d : Code) (o : Option (List ℕ)) → known d ≡ o → (may_be_there kind known d || is_none (known d)) ≡ true
+shown_owned : (kind : Kind) (known : Known) (d : Code) (o : Option (List ℕ)) → known d ≡ o →
+    (may_be_there kind known d || is_none (known d)) ≡ true
     → cond (list_any (λ c. owns kind c d && is_some (known c)) (codes_of kind)) (known d) None ≡ known d
 shown_owned kind known d None e formed =
-    ap (λ (k : Option (List ℕ)). cond (list_any (λ c. owns kind c d && is_some (known c)) (codes_of kind)) k None) e ∙ cond_none (list_any (λ c. owns kind c d && is_some (known c)) (codes_of kind)) ∙ sym e
+    ap (λ (k : Option (List ℕ)). cond (list_any (λ c. owns kind c d && is_some (known c)) (codes_of kind)) k None) e ∙
+        cond_none (list_any (λ c. owns kind c d && is_some (known c)) (codes_of kind)) ∙ sym e
 shown_owned kind known d (Some v) e formed =
     let present : may_be_there kind known d ≡ true = elim (or_cases (may_be_there kind known d) (is_none (known d)) formed) [
       | inl t ↦ t
@@ -286,21 +333,26 @@ shown_owned kind known d (Some v) e formed =
     let by : list_any (λ c. owns kind c d && is_some (known c)) (codes_of kind) ≡ true =
     elim (or_cases (among (codes_of kind) d) (list_any (λ g. among (members_of kind g) d && is_some (known g)) (codes_of kind)) present) [
       | inl a ↦ any_weaker (λ c. is_same d c) (λ c. owns kind c d && is_some (known c)) (codes_of kind)
-          (λ c t. and_from (owns kind c d) (is_some (known c)) (or_left (is_same d c) (among (members_of kind c) d) t) (ap is_some (sym (ap known (same_true d c t)) ∙ e))) a
+          (λ c t. and_from (owns kind c d) (is_some (known c)) (or_left (is_same d c) (among (members_of kind c) d) t)
+              (ap is_some (sym (ap known (same_true d c t)) ∙ e))) a
       | inr a ↦ any_weaker (λ g. among (members_of kind g) d && is_some (known g)) (λ c. owns kind c d && is_some (known c)) (codes_of kind)
-          (λ c t. (let q = and_parts (among (members_of kind c) d) (is_some (known c)) t in and_from (owns kind c d) (is_some (known c)) (or_right (is_same d c) (among (members_of kind c) d) q.0) q.1)) a
+          (λ c t. (let q = and_parts (among (members_of kind c) d) (is_some (known c)) t in
+              and_from (owns kind c d) (is_some (known c)) (or_right (is_same d c) (among (members_of kind c) d) q.0) q.1)) a
     ] in
     rw by refl
 
-parameter_same : (kind : Kind) (known : Known) (c : Code) (o : Option (List ℕ)) → parameter_octets kind known c o ≡ octets_if (unit_part kind known) c o
+parameter_same : (kind : Kind) (known : Known) (c : Code) (o : Option (List ℕ)) →
+    parameter_octets kind known c o ≡ octets_if (unit_part kind known) c o
 parameter_same kind known c None = refl
 parameter_same kind known c (Some v) = refl
 
-body_whole : (kind : Kind) (known : Known) → body_octets kind known ≡ flat_map (λ c. octets_if (unit_part kind known) c (known c)) (codes_of kind)
+body_whole : (kind : Kind) (known : Known) →
+    body_octets kind known ≡ flat_map (λ c. octets_if (unit_part kind known) c (known c)) (codes_of kind)
 unfolding body_octets
 body_whole kind known = ap (λ (f : Code → List ℕ). flat_map f (codes_of kind)) (λ i c. (parameter_same kind known c (known c)) i)
 
-body_spelled : (kind : Kind) (known : Known) → IsCanonicalIn kind known → list_all (λ c. may_be_there kind known c || is_none (known c)) every_code ≡ true → length (body_octets kind known) < 65536
+body_spelled : (kind : Kind) (known : Known) → IsCanonicalIn kind known →
+    list_all (λ c. may_be_there kind known c || is_none (known c)) every_code ≡ true → length (body_octets kind known) < 65536
     → Spells (MeansInUnit kind) known (body_octets kind known)
 body_spelled kind known is formed fits =
     let codes = codes_of kind in
@@ -308,15 +360,18 @@ body_spelled kind known is formed fits =
     record {
       parts = parts_of (unit_part kind known) known codes;
       whole = whole ∙ parts_whole (unit_part kind known) known codes;
-      each = parts_each (MeansInUnit kind) (unit_part kind known) known codes (unit_makes kind known is) (subst (λ (o : List ℕ). length o < 65536) whole fits);
+      each = parts_each (MeansInUnit kind) (unit_part kind known) known codes (unit_makes kind known is)
+          (subst (λ (o : List ℕ). length o < 65536) whole fits);
       once = λ d. subst (λ (x : Option (List ℕ)). Sole (given (parts_of (unit_part kind known) known codes) d) x)
           (shown_owned kind known d (known d) refl (every_passes (λ c. may_be_there kind known c || is_none (known c)) d formed))
           (parts_sole (owns kind) (unit_part kind known) known codes d (λ c v e. refl) (code_once kind d));
     }
 
-all_some : (known : Known) (codes : List Code) → list_all (λ c. is_some (known c)) codes ≡ true → AllByRecursion (λ c. IsSome (known c)) codes
+all_some : (known : Known) (codes : List Code) → list_all (λ c. is_some (known c)) codes ≡ true →
+    AllByRecursion (λ c. IsSome (known c)) codes
 all_some known [] e = tt
-all_some known (c ∷ codes) e = (let a = and_parts (is_some (known c)) (list_all (λ d. is_some (known d)) codes) e in (a.0, all_some known codes a.1))
+all_some known (c ∷ codes) e =
+    (let a = and_parts (is_some (known c)) (list_all (λ d. is_some (known d)) codes) e in (a.0, all_some known codes a.1))
 
 settled_option : (o : Option (List ℕ)) → (o ≡ Some [] → ⊥) → some_octets o ≡ o
 settled_option (Some []) h = absurd (h refl)
@@ -350,16 +405,19 @@ unit_written unit is fits =
       value = sym (settled_same unit.known is.canonical_values);
     }
   where
-    body_counted : (b : Bool) → ltb 254 (length (body_octets unit.kind unit.known)) ≡ b → HasLength b (length (body_octets unit.kind unit.known))
+    body_counted : (b : Bool) → ltb 254 (length (body_octets unit.kind unit.known)) ≡ b →
+        HasLength b (length (body_octets unit.kind unit.known))
     body_counted true e = fits
     body_counted false e = (let l = ltb-false 254 (length (body_octets unit.kind unit.known)) e in omega arith)
 
 pub units_written : (units : Units) → AllByRecursion IsFormedUnit units → TsduFits units → AreUnits units (tsdu_octets units)
 unfolding tsdu_octets
 units_written [] is fits = refl
-units_written (unit ∷ units) is fits = (unit_octets unit, tsdu_octets units, refl, unit_written unit is.0 fits.0, is.0.informed, units_written units is.1 fits.1)
+units_written (unit ∷ units) is fits =
+    (unit_octets unit, tsdu_octets units, refl, unit_written unit is.0 fits.0, is.0.informed, units_written units is.1 fits.1)
 
 -- the written form spells its value
-pub tsdu_written : (units : Units) → IsFormedTsdu units → TsduFits units → IsOctets (tsdu_octets units) → SpellsTsdu units (tsdu_octets units)
+pub tsdu_written : (units : Units) → IsFormedTsdu units → TsduFits units → IsOctets (tsdu_octets units) →
+    SpellsTsdu units (tsdu_octets units)
 unfolding SpellsTsdu
 tsdu_written units is fits octets = (octets, is.together, units_written units is.formed fits)

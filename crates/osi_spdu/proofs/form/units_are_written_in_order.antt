@@ -1,17 +1,20 @@
 -- Writing units one after the other, by a loop.
 use Rattle.std.proofs.Common.{◌≡◌, ℕ, ◌+◌, ◌*◌, ◌<◌, ◌≤◌, List, [], ◌∷◌, ◌++◌, length, refl, sym, ap, subst, ◌∙◌, append_assoc, arith}
-use Rattle.osi_spdu.proofs.Vocabulary.{AllByRecursion, length-append, append-nil, drop_at, IsOctets, Kind, DataTransfer, Contents, Units, HasInformation, EndsTsdu, AreBehind, unit_octets, tsdu_octets, IsFormedUnit, UnitFits, TsduFits}
+use Rattle.osi_spdu.proofs.Vocabulary.{AllByRecursion, length-append, append-nil, drop_at, IsOctets, Kind, DataTransfer, Contents, Units}
+use Rattle.osi_spdu.proofs.Vocabulary.{HasInformation, EndsTsdu, AreBehind, unit_octets, tsdu_octets, IsFormedUnit, UnitFits, TsduFits}
 use Rattle.osi_spdu.proofs.basics.length_indicators.{octets-drop}
 
 pub octets_none : (units : Units) → units ≡ [] → tsdu_octets units ≡ []
 unfolding tsdu_octets
 octets_none units e = ap tsdu_octets e
 
-pub octets_next : (units others : Units) (unit : Contents) → units ≡ unit ∷ others → tsdu_octets units ≡ unit_octets unit ++ (unit.information ++ tsdu_octets others)
+pub octets_next : (units others : Units) (unit : Contents) → units ≡ unit ∷ others →
+    tsdu_octets units ≡ unit_octets unit ++ (unit.information ++ tsdu_octets others)
 unfolding tsdu_octets
 octets_next units others unit e = ap tsdu_octets e
 
-len_next : (units others : Units) (unit : Contents) → units ≡ unit ∷ others → length (tsdu_octets units) ≡ length (unit_octets unit) + (length unit.information + length (tsdu_octets others))
+len_next : (units others : Units) (unit : Contents) → units ≡ unit ∷ others →
+    length (tsdu_octets units) ≡ length (unit_octets unit) + (length unit.information + length (tsdu_octets others))
 len_next units others unit e =
     let a = ap length (octets_next units others unit e) in
     let b = length-append (unit_octets unit) (unit.information ++ tsdu_octets others) in
@@ -23,9 +26,11 @@ len_next units others unit e =
 pub one_octets : (units : Units) (unit : Contents) → units ≡ unit ∷ [] → tsdu_octets units ≡ unit_octets unit ++ unit.information
 one_octets units unit e =
     octets_next units [] unit e
-    ∙ ap (λ (t : List ℕ). unit_octets unit ++ (unit.information ++ t)) (octets_none [] refl) ∙ ap (λ (t : List ℕ). unit_octets unit ++ t) (append-nil unit.information)
+    ∙ ap (λ (t : List ℕ). unit_octets unit ++ (unit.information ++ t)) (octets_none [] refl) ∙
+        ap (λ (t : List ℕ). unit_octets unit ++ t) (append-nil unit.information)
 
-pub one_len : (units : Units) (unit : Contents) → units ≡ unit ∷ [] → length (tsdu_octets units) ≡ length (unit_octets unit) + length unit.information
+pub one_len : (units : Units) (unit : Contents) → units ≡ unit ∷ [] →
+    length (tsdu_octets units) ≡ length (unit_octets unit) + length unit.information
 one_len units unit e = ap length (one_octets units unit e) ∙ length-append (unit_octets unit) unit.information
 
 pub one_fits : (units : Units) (unit : Contents) → units ≡ unit ∷ [] → TsduFits units → UnitFits unit
@@ -42,11 +47,13 @@ pub record IsCountingUnits (units : Units) (len : ℕ) (all : Units) : Type 0 wh
   pub few : length units ≤ 16
   pub small : 1 ≤ length units → len + 65540 * length units ≤ 65540 * 16
 
-plain_or_last : (kind : Kind) (information : List ℕ) (units : Units) → HasInformation kind information → EndsTsdu kind units → 1 ≤ length units → length information ≡ 0
+plain_or_last : (kind : Kind) (information : List ℕ) (units : Units) → HasInformation kind information → EndsTsdu kind units →
+    1 ≤ length units → length information ≡ 0
 plain_or_last DataTransfer information units h e some = absurd (omega (arith, ap length e))
 plain_or_last _ information units h e some = ap length h
 
-pub counting_start : (units : Units) → TsduFits units → AllByRecursion IsFormedUnit units → AreBehind units → length units ≤ 16 → IsCountingUnits units 0 units
+pub counting_start : (units : Units) → TsduFits units → AllByRecursion IsFormedUnit units → AreBehind units → length units ≤ 16 →
+    IsCountingUnits units 0 units
 counting_start units h0 h1 h2 h3 = grind arith
 
 -- the first of the units that are left fits
@@ -55,7 +62,8 @@ pub record CountsNext (units : Units) (len : ℕ) (unit : Contents) (others all 
   pub small : len ≤ 65540 * 15
   pub next : length (unit_octets unit) < 65540 → IsCountingUnits others (len + (length (unit_octets unit) + length unit.information)) all
 
-counts_cons : (len : ℕ) (unit : Contents) (others all : Units) → IsCountingUnits (unit ∷ others) len all → CountsNext (unit ∷ others) len unit others all
+counts_cons : (len : ℕ) (unit : Contents) (others all : Units) → IsCountingUnits (unit ∷ others) len all →
+    CountsNext (unit ∷ others) len unit others all
 counts_cons len unit others all so_far =
     let s = so_far.small (omega arith) in
     let f = so_far.few in
@@ -70,13 +78,16 @@ counts_cons len unit others all so_far =
         formed = so_far.formed.1;
         behind = so_far.behind.2;
         few = omega arith;
-        small = λ some. (let p = plain_or_last unit.kind unit.information others so_far.formed.0.informed so_far.behind.1 some in omega arith);
+        small = λ some. (let p = plain_or_last unit.kind unit.information others so_far.formed.0.informed so_far.behind.1 some in
+            omega arith);
       };
     }
 
-pub counts_next : (units : Units) (len : ℕ) (unit : Contents) (others all : Units) → units ≡ unit ∷ others → IsCountingUnits units len all → CountsNext units len unit others all
+pub counts_next : (units : Units) (len : ℕ) (unit : Contents) (others all : Units) → units ≡ unit ∷ others → IsCountingUnits units len all →
+    CountsNext units len unit others all
 counts_next units len unit others all e so_far =
-    subst (λ (us : Units). CountsNext us len unit others all) (sym e) (counts_cons len unit others all (subst (λ (us : Units). IsCountingUnits us len all) e so_far))
+    subst (λ (us : Units). CountsNext us len unit others all) (sym e)
+        (counts_cons len unit others all (subst (λ (us : Units). IsCountingUnits us len all) e so_far))
 
 pub counting_end : (units : Units) (len : ℕ) (all : Units) → units ≡ [] → IsCountingUnits units len all → len ≡ length (tsdu_octets all)
 counting_end units len all e so_far = (let n = ap length (octets_none units e) in let k = so_far.counted in omega arith)
@@ -90,15 +101,19 @@ pub record IsPuttingUnits (units : Units) (items : List ℕ) (spare : ℕ) (all 
   pub enough : length (tsdu_octets units) ≤ spare
   pub left : spare + length (tsdu_octets all) ≡ room + length (tsdu_octets units)
 
-pub putting_start : (units : Units) (items : List ℕ) (spare : ℕ) → TsduFits units → length (tsdu_octets units) ≤ spare → IsPuttingUnits units items spare units items spare
+pub putting_start : (units : Units) (items : List ℕ) (spare : ℕ) → TsduFits units → length (tsdu_octets units) ≤ spare →
+    IsPuttingUnits units items spare units items spare
 putting_start units items spare fits enough = record { put = refl; fits = fits; enough = enough; left = refl }
 
-pub record PutsNext (units : Units) (items : List ℕ) (spare : ℕ) (unit : Contents) (others all : Units) (before : List ℕ) (room : ℕ) : Type 0 where
+pub record PutsNext (units : Units) (items : List ℕ) (spare : ℕ) (unit : Contents) (others all : Units) (before : List ℕ) (room : ℕ) : Type
+    0 where
   pub fits : UnitFits unit
   pub enough : length (unit_octets unit) + length unit.information ≤ spare
-  pub next : (less : ℕ) → less + (length (unit_octets unit) + length unit.information) ≡ spare → IsPuttingUnits others ((items ++ unit_octets unit) ++ unit.information) less all before room
+  pub next : (less : ℕ) → less + (length (unit_octets unit) + length unit.information) ≡ spare →
+      IsPuttingUnits others ((items ++ unit_octets unit) ++ unit.information) less all before room
 
-puts_cons : (items : List ℕ) (spare : ℕ) (unit : Contents) (others all : Units) (before : List ℕ) (room : ℕ) → IsPuttingUnits (unit ∷ others) items spare all before room
+puts_cons : (items : List ℕ) (spare : ℕ) (unit : Contents) (others all : Units) (before : List ℕ) (room : ℕ) →
+    IsPuttingUnits (unit ∷ others) items spare all before room
     → PutsNext (unit ∷ others) items spare unit others all before room
 puts_cons items spare unit others all before room so_far =
     let n = len_next (unit ∷ others) others unit refl in
@@ -108,7 +123,8 @@ puts_cons items spare unit others all before room so_far =
     let info = unit.information in
     let rest = tsdu_octets others in
     let whole : ((items ++ front) ++ info) ++ rest ≡ items ++ tsdu_octets (unit ∷ others) =
-    append_assoc (items ++ front) info rest ∙ append_assoc items front (info ++ rest) ∙ ap (λ (t : List ℕ). items ++ t) (sym (octets_next (unit ∷ others) others unit refl)) in
+    append_assoc (items ++ front) info rest ∙ append_assoc items front (info ++ rest) ∙
+        ap (λ (t : List ℕ). items ++ t) (sym (octets_next (unit ∷ others) others unit refl)) in
     record {
       fits = so_far.fits.0;
       enough = omega arith;
@@ -120,23 +136,31 @@ puts_cons items spare unit others all before room so_far =
       };
     }
 
-pub puts_next : (units : Units) (items : List ℕ) (spare : ℕ) (unit : Contents) (others all : Units) (before : List ℕ) (room : ℕ) → units ≡ unit ∷ others → IsPuttingUnits units items spare all before room
+pub puts_next : (units : Units) (items : List ℕ) (spare : ℕ) (unit : Contents) (others all : Units) (before : List ℕ) (room : ℕ) →
+    units ≡ unit ∷ others → IsPuttingUnits units items spare all before room
     → PutsNext units items spare unit others all before room
 puts_next units items spare unit others all before room e so_far =
-    subst (λ (us : Units). PutsNext us items spare unit others all before room) (sym e) (puts_cons items spare unit others all before room (subst (λ (us : Units). IsPuttingUnits us items spare all before room) e so_far))
+    subst (λ (us : Units). PutsNext us items spare unit others all before room) (sym e)
+        (puts_cons items spare unit others all before room (subst (λ (us : Units). IsPuttingUnits us items spare all before room) e so_far))
 
-pub putting_end : (units : Units) (items : List ℕ) (spare : ℕ) (all : Units) (before : List ℕ) (room : ℕ) → units ≡ [] → IsPuttingUnits units items spare all before room → items ≡ before ++ tsdu_octets all
-putting_end units items spare all before room e so_far = sym (append-nil items) ∙ ap (λ (t : List ℕ). items ++ t) (sym (octets_none units e)) ∙ so_far.put
+pub putting_end : (units : Units) (items : List ℕ) (spare : ℕ) (all : Units) (before : List ℕ) (room : ℕ) → units ≡ [] →
+    IsPuttingUnits units items spare all before room → items ≡ before ++ tsdu_octets all
+putting_end units items spare all before room e so_far =
+    sym (append-nil items) ∙ ap (λ (t : List ℕ). items ++ t) (sym (octets_none units e)) ∙ so_far.put
 
-pub putting_spare : (units : Units) (items : List ℕ) (spare : ℕ) (all : Units) (before : List ℕ) (room : ℕ) → units ≡ [] → IsPuttingUnits units items spare all before room → spare + length (tsdu_octets all) ≡ room
+pub putting_spare : (units : Units) (items : List ℕ) (spare : ℕ) (all : Units) (before : List ℕ) (room : ℕ) → units ≡ [] →
+    IsPuttingUnits units items spare all before room → spare + length (tsdu_octets all) ≡ room
 putting_spare units items spare all before room e so_far = (let n = ap length (octets_none units e) in let l = so_far.left in omega arith)
 
 -- ---- the first unit, which has no information
 
-pub first_octets : (unit : Contents) (others : Units) → unit.information ≡ [] → tsdu_octets (unit ∷ others) ≡ unit_octets unit ++ tsdu_octets others
-first_octets unit others e = octets_next (unit ∷ others) others unit refl ∙ ap (λ (t : List ℕ). unit_octets unit ++ (t ++ tsdu_octets others)) e
+pub first_octets : (unit : Contents) (others : Units) → unit.information ≡ [] →
+    tsdu_octets (unit ∷ others) ≡ unit_octets unit ++ tsdu_octets others
+first_octets unit others e = octets_next (unit ∷ others) others unit refl ∙
+    ap (λ (t : List ℕ). unit_octets unit ++ (t ++ tsdu_octets others)) e
 
-pub first_len : (unit : Contents) (others : Units) → unit.information ≡ [] → length (tsdu_octets (unit ∷ others)) ≡ length (unit_octets unit) + length (tsdu_octets others)
+pub first_len : (unit : Contents) (others : Units) → unit.information ≡ [] →
+    length (tsdu_octets (unit ∷ others)) ≡ length (unit_octets unit) + length (tsdu_octets others)
 first_len unit others e = ap length (first_octets unit others e) ∙ length-append (unit_octets unit) (tsdu_octets others)
 
 pub octets_behind : (front rest : List ℕ) → IsOctets (front ++ rest) → IsOctets rest

@@ -1,6 +1,14 @@
 -- Units that are read have a written form: they hold only parameters that they know, and all mandatory ones.
-use Rattle.std.proofs.Common.{◌⊎◌, inl, inr, ◌≡◌, ℕ, Bool, true, false, cond, not, ◌&&◌, ◌||◌, List, [], ◌∷◌, map, Option, Some, None, Ok, refl, sym, ap, subst, ◌∙◌, ltb, arith}
-use Rattle.osi_spdu.proofs.Vocabulary.{is_some, is_none, IsSome, list_any, list_all, AllByRecursion, cases_Bool, and_parts, and_from, or_left, or_right, not-true, IsOctets, Code, ConnectionIdentifier, ConnectAcceptItem, Enclosure, UserData, ExtendedUserData, Kind, Connect, Resynchronize, ResynchronizeAck, MajorSyncPoint, MajorSyncAck, MinorSyncPoint, MinorSyncAck, number_of, is_same, is_group, slot_of, every_code, codes_of, members_of, references_of, required_of, octet_if, as_it_is, canonical, may_have_parts, is_three, may_enclose, canonical_in, Known, settled, Contents, code_among, Placed, contents_of, unit_at, Part, Sole, IsPart, Spells, only, MemberOf, MeansInGroup, GroupOf, ParameterOf, KnownOf, MeansInUnit, SpellsUnit, among, may_be_there, is_enclosed, is_formed}
+use Rattle.std.proofs.Common.{◌⊎◌, inl, inr, ◌≡◌, ℕ, Bool, true, false, cond, not, ◌&&◌, ◌||◌, List, [], ◌∷◌, map, Option, Some, None, Ok}
+use Rattle.std.proofs.Common.{refl, sym, ap, subst, ◌∙◌, ltb, arith}
+use Rattle.osi_spdu.proofs.Vocabulary.{is_some, is_none, IsSome, list_any, list_all, AllByRecursion, cases_Bool, and_parts, and_from}
+use Rattle.osi_spdu.proofs.Vocabulary.{or_left, or_right, not-true, IsOctets, Code, ConnectionIdentifier, ConnectAcceptItem, Enclosure}
+use Rattle.osi_spdu.proofs.Vocabulary.{UserData, ExtendedUserData, Kind, Connect, Resynchronize, ResynchronizeAck, MajorSyncPoint}
+use Rattle.osi_spdu.proofs.Vocabulary.{MajorSyncAck, MinorSyncPoint, MinorSyncAck, number_of, is_same, is_group, slot_of, every_code}
+use Rattle.osi_spdu.proofs.Vocabulary.{codes_of, members_of, references_of, required_of, octet_if, as_it_is, canonical, may_have_parts}
+use Rattle.osi_spdu.proofs.Vocabulary.{is_three, may_enclose, canonical_in, Known, settled, Contents, code_among, Placed, contents_of}
+use Rattle.osi_spdu.proofs.Vocabulary.{unit_at, Part, Sole, IsPart, Spells, only, MemberOf, MeansInGroup, GroupOf, ParameterOf, KnownOf}
+use Rattle.osi_spdu.proofs.Vocabulary.{MeansInUnit, SpellsUnit, among, may_be_there, is_enclosed, is_formed}
 use Rattle.osi_spdu.proofs.basics.options_that_are_added.{Joins, first, sole_same, sole_split}
 use Rattle.osi_spdu.proofs.basics.the_steps_of_reading.{same_true, same_refl}
 use Rattle.osi_spdu.proofs.parameters.each_slot_has_one_code.{among_named, any_weaker}
@@ -8,7 +16,8 @@ use Rattle.osi_spdu.proofs.tsdu.units_and_tsdus_are_read.{unit_found}
 
 -- ---- the source of a value
 
-sole_of_head : (x : Option (List ℕ)) (xs : List (Option (List ℕ))) (o : Option (List ℕ)) (w : List ℕ) → x ≡ Some w → Sole (x ∷ xs) o → o ≡ Some w
+sole_of_head : (x : Option (List ℕ)) (xs : List (Option (List ℕ))) (o : Option (List ℕ)) (w : List ℕ) → x ≡ Some w → Sole (x ∷ xs) o →
+    o ≡ Some w
 sole_of_head None xs o w e h = absurd cc
 sole_of_head (Some v) xs o w e h = h.0 ∙ e
 
@@ -28,12 +37,14 @@ record Source (means : ℕ → List ℕ → Known → Type 0) (raw : Known) (d :
   within : (c : Code) (w : List ℕ) → part.gives c ≡ Some w → raw c ≡ Some w
 
 later : (means : ℕ → List ℕ → Known → Type 0) (p : Part) (parts : List Part) (raw : Known) (d : Code) (v : List ℕ)
-    → ((c : Code) → Sole (p.gives c ∷ map (λ q. q.gives c) parts) (raw c)) → Source means (λ c. first (map (λ q. q.gives c) parts)) d v → Source means raw d v
+    → ((c : Code) → Sole (p.gives c ∷ map (λ q. q.gives c) parts) (raw c)) → Source means (λ c. first (map (λ q. q.gives c) parts)) d v →
+        Source means raw d v
 later means p parts raw d v once s = record {
   part = s.part;
   is_part = s.is_part;
   gives_it = s.gives_it;
-  within = λ c w g. joins_some (first (map (λ q. q.gives c) parts)) (p.gives c) (raw c) w (s.within c w g) ((sole_split (p.gives c) (map (λ q. q.gives c) parts) (raw c) (once c)).1);
+  within = λ c w g. joins_some (first (map (λ q. q.gives c) parts)) (p.gives c) (raw c) w (s.within c w g)
+      ((sole_split (p.gives c) (map (λ q. q.gives c) parts) (raw c) (once c)).1);
 }
 
 here : (means : ℕ → List ℕ → Known → Type 0) (p : Part) (parts : List Part) (raw : Known) (d : Code) (v w : List ℕ) → IsPart means p
@@ -49,7 +60,8 @@ pub option_cases : (o : Option (List ℕ)) → ((w : List ℕ) × (o ≡ Some w)
 option_cases None = inr refl
 option_cases (Some w) = inl (w, refl)
 
-source : (means : ℕ → List ℕ → Known → Type 0) (parts : List Part) (raw : Known) (d : Code) (v : List ℕ) → AllByRecursion (IsPart means) parts
+source : (means : ℕ → List ℕ → Known → Type 0) (parts : List Part) (raw : Known) (d : Code) (v : List ℕ) →
+    AllByRecursion (IsPart means) parts
     → ((c : Code) → Sole (map (λ p. p.gives c) parts) (raw c)) → raw d ≡ Some v → Source means raw d v
 source means [] raw d v each once e = absurd (let h : None ≡ Some v = sym (once d) ∙ e in cc)
 source means (p ∷ parts) raw d v each once e =
@@ -95,7 +107,8 @@ member_slot kind g ExtendedUserData e = absurd (let h : true ≡ false = sym e �
 member_slot kind g _ e = refl
 
 -- a value that a group's parameter gives is one of its members
-member_source : (kind : Kind) (g : Code) (value v : List ℕ) (gives : Known) (d : Code) (o : Option Code) (n : ℕ) → code_among (members_of kind g) n ≡ o → MemberOf kind value gives o → gives d ≡ Some v
+member_source : (kind : Kind) (g : Code) (value v : List ℕ) (gives : Known) (d : Code) (o : Option Code) (n : ℕ) →
+    code_among (members_of kind g) n ≡ o → MemberOf kind value gives o → gives d ≡ Some v
     → among (members_of kind g) d ≡ true
 member_source kind g value v gives d None n named m e = absurd (let h : None ≡ Some v = sym (ap (λ (k : Known). k d) m) ∙ e in cc)
 member_source kind g value v gives d (Some c) n named m e =
@@ -103,20 +116,25 @@ member_source kind g value v gives d (Some c) n named m e =
     let same : d ≡ slot_of c = only_slot d (slot_of c) m.0 v (sym (ap (λ (k : Known). k d) m.2) ∙ e) in
     subst (λ (x : Code). among (members_of kind g) x ≡ true) (sym (same ∙ member_slot kind g c there)) there
 
-pub inner_source : (kind : Kind) (g : Code) (value v : List ℕ) (inner : Known) (d : Code) → Spells (MeansInGroup kind (members_of kind g)) inner value → inner d ≡ Some v → among (members_of kind g) d ≡ true
+pub inner_source : (kind : Kind) (g : Code) (value v : List ℕ) (inner : Known) (d : Code) →
+    Spells (MeansInGroup kind (members_of kind g)) inner value → inner d ≡ Some v → among (members_of kind g) d ≡ true
 unfolding MeansInGroup
 inner_source kind g value v inner d s e =
     let from = source (MeansInGroup kind (members_of kind g)) s.parts inner d v s.each s.once e in
-    member_source kind g from.part.value v from.part.gives d (code_among (members_of kind g) from.part.code) from.part.code refl from.is_part.2 from.gives_it
+    member_source kind g from.part.value v from.part.gives d (code_among (members_of kind g) from.part.code) from.part.code refl
+        from.is_part.2 from.gives_it
 
 -- the source of a value of a unit: a code of the unit, or a group that is there
 abbrev pub IsOwned : Kind → Known → Code → Type 0
-IsOwned kind raw d = (among (codes_of kind) d ≡ true) ⊎ ((g : Code) × (among (codes_of kind) g ≡ true) × (among (members_of kind g) d ≡ true) × (raw g ≡ Some []))
+IsOwned kind raw d = (among (codes_of kind) d ≡ true) ⊎
+    ((g : Code) × (among (codes_of kind) g ≡ true) × (among (members_of kind g) d ≡ true) × (raw g ≡ Some []))
 
-group_source : (kind : Kind) (raw : Known) (g : Code) (value v : List ℕ) (gives : Known) (d : Code) → among (codes_of kind) g ≡ true → GroupOf kind g value gives → gives d ≡ Some v
+group_source : (kind : Kind) (raw : Known) (g : Code) (value v : List ℕ) (gives : Known) (d : Code) → among (codes_of kind) g ≡ true →
+    GroupOf kind g value gives → gives d ≡ Some v
     → ((c : Code) (w : List ℕ) → gives c ≡ Some w → raw c ≡ Some w) → IsOwned kind raw d
 group_source kind raw g value v gives d there m e within =
-    let presence : gives g ≡ Some [] = sole_of_head (only g [] g) (m.0 g ∷ []) (gives g) [] (ap (λ (b : Bool). cond b (Some []) None) (same_refl g)) (m.2 g) in
+    let presence : gives g ≡ Some [] =
+        sole_of_head (only g [] g) (m.0 g ∷ []) (gives g) [] (ap (λ (b : Bool). cond b (Some []) None) (same_refl g)) (m.2 g) in
     elim (option_cases (only g [] d)) [
       | inl s ↦ inl (subst (λ (x : Code). among (codes_of kind) x ≡ true) (sym (only_slot d g [] s.0 s.1)) there)
       | inr n ↦
@@ -125,24 +143,28 @@ group_source kind raw g value v gives d there m e within =
           inr (g, there, inner_source kind g value v m.0 d m.1 (sym same ∙ e), within g [] presence)
     ]
 
-parameter_source : (kind : Kind) (raw : Known) (c : Code) (value v : List ℕ) (gives : Known) (d : Code) (b : Bool) → among (codes_of kind) c ≡ true → ParameterOf kind c value gives b → gives d ≡ Some v
+parameter_source : (kind : Kind) (raw : Known) (c : Code) (value v : List ℕ) (gives : Known) (d : Code) (b : Bool) →
+    among (codes_of kind) c ≡ true → ParameterOf kind c value gives b → gives d ≡ Some v
     → ((x : Code) (w : List ℕ) → gives x ≡ Some w → raw x ≡ Some w) → IsOwned kind raw d
 parameter_source kind raw c value v gives d true there m e within = group_source kind raw c value v gives d there m e within
 parameter_source kind raw c value v gives d false there m e within =
     let same : d ≡ slot_of c = only_slot d (slot_of c) m.0 v (sym (ap (λ (k : Known). k d) m.2) ∙ e) in
     inl (subst (λ (x : Code). among (codes_of kind) x ≡ true) (sym same) (slot_among kind c there))
 
-unit_source : (kind : Kind) (raw : Known) (value v : List ℕ) (gives : Known) (d : Code) (o : Option Code) (n : ℕ) → code_among (codes_of kind) n ≡ o → KnownOf kind value gives o → gives d ≡ Some v
+unit_source : (kind : Kind) (raw : Known) (value v : List ℕ) (gives : Known) (d : Code) (o : Option Code) (n : ℕ) →
+    code_among (codes_of kind) n ≡ o → KnownOf kind value gives o → gives d ≡ Some v
     → ((x : Code) (w : List ℕ) → gives x ≡ Some w → raw x ≡ Some w) → IsOwned kind raw d
 unit_source kind raw value v gives d None n named m e within = absurd (let h : None ≡ Some v = sym (ap (λ (k : Known). k d) m) ∙ e in cc)
 unit_source kind raw value v gives d (Some c) n named m e within =
     parameter_source kind raw c value v gives d (is_group c) (among_named (codes_of kind) n c named) m e within
 
-pub owned : (kind : Kind) (raw : Known) (body v : List ℕ) (d : Code) → Spells (MeansInUnit kind) raw body → raw d ≡ Some v → IsOwned kind raw d
+pub owned : (kind : Kind) (raw : Known) (body v : List ℕ) (d : Code) → Spells (MeansInUnit kind) raw body → raw d ≡ Some v →
+    IsOwned kind raw d
 unfolding MeansInUnit
 owned kind raw body v d s e =
     let from = source (MeansInUnit kind) s.parts raw d v s.each s.once e in
-    unit_source kind raw from.part.value v from.part.gives d (code_among (codes_of kind) from.part.code) from.part.code refl from.is_part.2 from.gives_it from.within
+    unit_source kind raw from.part.value v from.part.gives d (code_among (codes_of kind) from.part.code) from.part.code refl from.is_part.2
+        from.gives_it from.within
 
 -- ---- an enclosure that is there
 
@@ -180,30 +202,40 @@ unfolding members_of number_of
 no_enclosed_member kind g = grind (arith, no_enclosed_reference)
 
 -- a group gives none
-group_encloses : (kind : Kind) (g : Code) (value v : List ℕ) (gives : Known) → is_group g ≡ true → GroupOf kind g value gives → gives Enclosure ≡ Some v → ⊥
+group_encloses : (kind : Kind) (g : Code) (value v : List ℕ) (gives : Known) → is_group g ≡ true → GroupOf kind g value gives →
+    gives Enclosure ≡ Some v → ⊥
 group_encloses kind g value v gives group m e =
     elim (option_cases (only g [] Enclosure)) [
       | inl s ↦ (let h : is_group Enclosure ≡ true = ap is_group (only_slot Enclosure g [] s.0 s.1) ∙ group in no_group h)
       | inr n ↦
-          let one : Sole (m.0 Enclosure ∷ []) (gives Enclosure) = subst (λ (k : Option (List ℕ)). Sole (k ∷ m.0 Enclosure ∷ []) (gives Enclosure)) n (m.2 Enclosure) in
+          let one : Sole (m.0 Enclosure ∷ []) (gives Enclosure) =
+              subst (λ (k : Option (List ℕ)). Sole (k ∷ m.0 Enclosure ∷ []) (gives Enclosure)) n (m.2 Enclosure) in
           let same : gives Enclosure ≡ m.0 Enclosure = sole_same (m.0 Enclosure) (gives Enclosure) one in
           let h : true ≡ false = sym (inner_source kind g value v m.0 Enclosure m.1 (sym same ∙ e)) ∙ no_enclosed_member kind g in
           cc
     ]
 
-parameter_encloses : (kind : Kind) (c : Code) (value v : List ℕ) (gives : Known) (b : Bool) → is_group c ≡ b → ParameterOf kind c value gives b → gives Enclosure ≡ Some v → is_enclosed kind (Some v) ≡ true
+parameter_encloses : (kind : Kind) (c : Code) (value v : List ℕ) (gives : Known) (b : Bool) → is_group c ≡ b →
+    ParameterOf kind c value gives b → gives Enclosure ≡ Some v → is_enclosed kind (Some v) ≡ true
 parameter_encloses kind c value v gives true group m e = absurd (group_encloses kind c value v gives group m e)
 parameter_encloses kind c value v gives false group m e =
     let own : only (slot_of c) m.0 Enclosure ≡ Some v = sym (ap (λ (k : Known). k Enclosure) m.2) ∙ e in
     let slot = only_slot Enclosure (slot_of c) m.0 v own in
-    let form : m.0 ≡ v = (let h : Some m.0 ≡ Some v = sym (ap (λ (b : Bool). cond b (Some m.0) None) (ap (λ (s : Code). is_same Enclosure s) (sym slot) ∙ same_refl Enclosure)) ∙ own in cc) in
-    enclosed_value kind value v (subst (λ (x : Code). canonical_in kind x value ≡ Some v) (enclosure_slot c slot) (m.1 ∙ ap {B = Option (List ℕ)} (λ x. Some x) form))
+    let form : m.0 ≡ v =
+        (let h : Some m.0 ≡ Some v = sym
+        (ap (λ (b : Bool). cond b (Some m.0) None) (ap (λ (s : Code). is_same Enclosure s) (sym slot) ∙ same_refl Enclosure)) ∙ own in cc)
+        in
+    enclosed_value kind value v
+        (subst (λ (x : Code). canonical_in kind x value ≡ Some v) (enclosure_slot c slot)
+        (m.1 ∙ ap {B = Option (List ℕ)} (λ x. Some x) form))
 
-unit_encloses : (kind : Kind) (value v : List ℕ) (gives : Known) (o : Option Code) → KnownOf kind value gives o → gives Enclosure ≡ Some v → is_enclosed kind (Some v) ≡ true
+unit_encloses : (kind : Kind) (value v : List ℕ) (gives : Known) (o : Option Code) → KnownOf kind value gives o → gives Enclosure ≡ Some v →
+    is_enclosed kind (Some v) ≡ true
 unit_encloses kind value v gives None m e = absurd (let h : None ≡ Some v = sym (ap (λ (k : Known). k Enclosure) m) ∙ e in cc)
 unit_encloses kind value v gives (Some c) m e = parameter_encloses kind c value v gives (is_group c) refl m e
 
-enclosed : (kind : Kind) (raw : Known) (body : List ℕ) (o : Option (List ℕ)) → Spells (MeansInUnit kind) raw body → raw Enclosure ≡ o → is_enclosed kind o ≡ true
+enclosed : (kind : Kind) (raw : Known) (body : List ℕ) (o : Option (List ℕ)) → Spells (MeansInUnit kind) raw body → raw Enclosure ≡ o →
+    is_enclosed kind o ≡ true
 unfolding MeansInUnit
 enclosed kind raw body None s e = refl
 enclosed kind raw body (Some v) s e =
@@ -227,13 +259,15 @@ pub any_at : (p : Code → Bool) (codes : List Code) (c : Code) → among codes 
 any_at p codes c there e = any_weaker (λ d. is_same c d) p codes (λ d t. ap p (sym (same_true c d t)) ∙ e) there
 
 there_from : (kind : Kind) (raw : Known) (d : Code) → IsOwned kind raw d → may_be_there kind (settled raw) d ≡ true
-there_from kind raw d (inl a) = or_left (among (codes_of kind) d) (list_any (λ g. among (members_of kind g) d && is_some (settled raw g)) (codes_of kind)) a
+there_from kind raw d (inl a) =
+    or_left (among (codes_of kind) d) (list_any (λ g. among (members_of kind g) d && is_some (settled raw g)) (codes_of kind)) a
 there_from kind raw d (inr q) =
     or_right (among (codes_of kind) d) (list_any (λ g. among (members_of kind g) d && is_some (settled raw g)) (codes_of kind))
     (any_at (λ g. among (members_of kind g) d && is_some (settled raw g)) (codes_of kind) q.0 q.1
     (and_from (among (members_of kind q.0) d) (is_some (settled raw q.0)) q.2 (ap is_some (group_stays kind raw q.0 d q.2 q.3))))
 
-settled_some : (raw : Known) (d : Code) (o : Option (List ℕ)) → raw d ≡ o → (is_none (settled raw d) ≡ true) ⊎ ((v : List ℕ) × (raw d ≡ Some v))
+settled_some : (raw : Known) (d : Code) (o : Option (List ℕ)) → raw d ≡ o →
+    (is_none (settled raw d) ≡ true) ⊎ ((v : List ℕ) × (raw d ≡ Some v))
 settled_some raw d o h0 = grind (arith, cases_Bool)
 
 each_test : (p : Code → Bool) (codes : List Code) → ((c : Code) → p c ≡ true) → list_all p codes ≡ true
@@ -241,7 +275,8 @@ each_test p [] h = refl
 each_test p (c ∷ codes) h = and_from (p c) (list_all p codes) (h c) (each_test p codes h)
 
 -- mandatory parameters are no user data
-required_stay : (raw : Known) (codes : List Code) → list_all (λ c. not (is_same c UserData)) codes ≡ true → AllByRecursion (λ c. IsSome (raw c)) codes → list_all (λ c. is_some (settled raw c)) codes ≡ true
+required_stay : (raw : Known) (codes : List Code) → list_all (λ c. not (is_same c UserData)) codes ≡ true →
+    AllByRecursion (λ c. IsSome (raw c)) codes → list_all (λ c. is_some (settled raw c)) codes ≡ true
 required_stay raw [] plain there = refl
 required_stay raw (c ∷ codes) plain there =
     let a = and_parts (not (is_same c UserData)) (list_all (λ d. not (is_same d UserData)) codes) plain in
@@ -259,18 +294,23 @@ unit_formed unit octets s =
     let test = λ (known : Known) (c : Code). may_be_there kind known c || is_none (known c) in
     let one : (c : Code) → test (settled s.raw) c ≡ true = λ c. elim (settled_some s.raw c (s.raw c) refl) [
       | inl n ↦ or_right (may_be_there kind (settled s.raw) c) (is_none (settled s.raw c)) n
-      | inr v ↦ or_left (may_be_there kind (settled s.raw) c) (is_none (settled s.raw c)) (there_from kind s.raw c (owned kind s.raw s.body v.0 c s.params v.1))
+      | inr v ↦ or_left (may_be_there kind (settled s.raw) c) (is_none (settled s.raw c))
+          (there_from kind s.raw c (owned kind s.raw s.body v.0 c s.params v.1))
     ] in
     let all : list_all (test (settled s.raw)) every_code ≡ true = each_test (test (settled s.raw)) every_code one in
     let required = required_stay s.raw (required_of kind) (required_plain kind) s.required in
     let enclosure : is_enclosed kind (settled s.raw Enclosure) ≡ true =
     ap (is_enclosed kind) (settled_other s.raw Enclosure no_user_data) ∙ enclosed kind s.raw s.body (s.raw Enclosure) s.params refl in
-    subst (λ (k : Known). ((list_all (test k) every_code && list_all (λ c. is_some (k c)) (required_of kind)) && is_enclosed kind (k Enclosure)) ≡ true) (sym s.value)
-    (and_from (list_all (test (settled s.raw)) every_code && list_all (λ c. is_some (settled s.raw c)) (required_of kind)) (is_enclosed kind (settled s.raw Enclosure))
-    (and_from (list_all (test (settled s.raw)) every_code) (list_all (λ c. is_some (settled s.raw c)) (required_of kind)) all required) enclosure)
+    subst (λ (k : Known). ((list_all (test k) every_code && list_all (λ c. is_some (k c)) (required_of kind)) &&
+        is_enclosed kind (k Enclosure)) ≡ true) (sym s.value)
+    (and_from (list_all (test (settled s.raw)) every_code && list_all (λ c. is_some (settled s.raw c)) (required_of kind))
+        (is_enclosed kind (settled s.raw Enclosure))
+    (and_from (list_all (test (settled s.raw)) every_code) (list_all (λ c. is_some (settled s.raw c)) (required_of kind)) all required)
+        enclosure)
 
 -- a unit that was read is well formed
-pub placed_formed : (second : Bool) (at : ℕ) (octets : List ℕ) (p : Placed) → IsOctets octets → unit_at second at octets ≡ Ok p → is_formed p.kind p.known ≡ true
+pub placed_formed : (second : Bool) (at : ℕ) (octets : List ℕ) (p : Placed) → IsOctets octets → unit_at second at octets ≡ Ok p →
+    is_formed p.kind p.known ≡ true
 placed_formed second at octets p fits e =
     let is = unit_found second at octets p fits e in
     unit_formed (contents_of p []) is.front (is.spelled [])

@@ -1,6 +1,15 @@
 -- What was read fits: its written form is no longer than the octets that were read.
-use Rattle.std.proofs.Common.{inl, inr, ◌≡◌, ℕ, ◌+◌, ◌/◌, ◌%◌, ◌<◌, ◌≤◌, Bool, true, false, cond, List, [], ◌∷◌, ◌++◌, length, map, Option, Some, None, refl, sym, ap, subst, ◌∙◌, ltb, arith}
-use Rattle.osi_spdu.proofs.Vocabulary.{flat_map, list_any, list_all, AllByRecursion, cases_Bool, or_cases, or_left, or_right, ltb-true, le-ltb, lt-ltb, both_ways, length-append, Code, UserData, ExtendedUserData, Kind, GiveTokens, PleaseTokens, DataTransfer, NotFinished, Finish, Disconnect, Refuse, Connect, Accept, Abort, AbortAccept, ResynchronizeAck, MajorSyncPoint, MajorSyncAck, MinorSyncPoint, MinorSyncAck, Resynchronize, number_of, is_same, is_group, slot_of, every_code, codes_of, members_of, Known, nothing, some_octets, settled, Contents, Units, code_among, length_octets, HasLength, Part, part_octets, Sole, IsPart, Spells, only, MemberOf, MeansInGroup, GroupOf, ParameterOf, KnownOf, MeansInUnit, SpellsUnit, AreUnits, SpellsTsdu, written_item, among, written_code, member_octets, group_octets, value_octets, parameter_octets, body_octets, UnitFits, TsduFits}
+use Rattle.std.proofs.Common.{inl, inr, ◌≡◌, ℕ, ◌+◌, ◌/◌, ◌%◌, ◌<◌, ◌≤◌, Bool, true, false, cond, List, [], ◌∷◌, ◌++◌, length, map, Option}
+use Rattle.std.proofs.Common.{Some, None, refl, sym, ap, subst, ◌∙◌, ltb, arith}
+use Rattle.osi_spdu.proofs.Vocabulary.{flat_map, list_any, list_all, AllByRecursion, cases_Bool, or_cases, or_left, or_right, ltb-true}
+use Rattle.osi_spdu.proofs.Vocabulary.{le-ltb, lt-ltb, both_ways, length-append, Code, UserData, ExtendedUserData, Kind, GiveTokens}
+use Rattle.osi_spdu.proofs.Vocabulary.{PleaseTokens, DataTransfer, NotFinished, Finish, Disconnect, Refuse, Connect, Accept, Abort}
+use Rattle.osi_spdu.proofs.Vocabulary.{AbortAccept, ResynchronizeAck, MajorSyncPoint, MajorSyncAck, MinorSyncPoint, MinorSyncAck}
+use Rattle.osi_spdu.proofs.Vocabulary.{Resynchronize, number_of, is_same, is_group, slot_of, every_code, codes_of, members_of, Known}
+use Rattle.osi_spdu.proofs.Vocabulary.{nothing, some_octets, settled, Contents, Units, code_among, length_octets, HasLength, Part}
+use Rattle.osi_spdu.proofs.Vocabulary.{part_octets, Sole, IsPart, Spells, only, MemberOf, MeansInGroup, GroupOf, ParameterOf, KnownOf}
+use Rattle.osi_spdu.proofs.Vocabulary.{MeansInUnit, SpellsUnit, AreUnits, SpellsTsdu, written_item, among, written_code, member_octets}
+use Rattle.osi_spdu.proofs.Vocabulary.{group_octets, value_octets, parameter_octets, body_octets, UnitFits, TsduFits}
 use Rattle.osi_spdu.proofs.basics.options_that_are_added.{Joins, first, sole_one, sole_same, sole_split}
 use Rattle.osi_spdu.proofs.basics.the_steps_of_reading.{same_true, same_refl}
 use Rattle.osi_spdu.proofs.parameters.one_level_is_read.{JoinsAll}
@@ -42,7 +51,8 @@ total_zero f (c ∷ codes) h =
     omega arith
 
 -- only one code counts, and it occurs once
-total_one : (f : Code → ℕ) (s : Code) (codes : List Code) → once (λ c e. is_same e c) codes s ≡ true → ((c : Code) → among codes c ≡ true → (c ≡ s → ⊥) → f c ≡ 0) → total f codes ≤ f s
+total_one : (f : Code → ℕ) (s : Code) (codes : List Code) → once (λ c e. is_same e c) codes s ≡ true →
+    ((c : Code) → among codes c ≡ true → (c ≡ s → ⊥) → f c ≡ 0) → total f codes ≤ f s
 total_one f s [] single h = omega arith
 total_one f s (c ∷ codes) single h =
     let t = once_tail (is_same s c) (list_any (λ e. is_same s e) codes) (once (λ x e. is_same e x) codes s) single in
@@ -54,7 +64,9 @@ total_one f s (c ∷ codes) single h =
           let first_is : f c ≡ f s = ap f (sym here) in
           omega arith
       | inr other ↦
-          let none : f c ≡ 0 = h c (or_left (is_same c c) (among codes c) (same_refl c)) (λ e. both_ways (is_same s c) other (subst (λ (x : Code). is_same s x ≡ true) (sym e) (same_refl s))) in
+          let none : f c ≡ 0 =
+              h c (or_left (is_same c c) (among codes c) (same_refl c))
+              (λ e. both_ways (is_same s c) other (subst (λ (x : Code). is_same s x ≡ true) (sym e) (same_refl s))) in
           let rest = total_one f s codes (t.1 other) (λ d a n. h d (or_right (is_same d c) (among codes d) a) n) in
           omega arith
     ]
@@ -70,7 +82,8 @@ written_cost code v = grind (arith, cases_Bool, length-append)
 cost_less : (m n : ℕ) → m ≤ n → cost m ≤ cost n
 cost_less m n h0 = grind (arith, cases_Bool, ltb-true, lt-ltb)
 
-spelled_cost : (code : ℕ) (long : Bool) (v : List ℕ) → HasLength long (length v) → cost (length v) ≤ length (code ∷ [] ++ length_octets long (length v) ++ v)
+spelled_cost : (code : ℕ) (long : Bool) (v : List ℕ) → HasLength long (length v) →
+    cost (length v) ≤ length (code ∷ [] ++ length_octets long (length v) ++ v)
 spelled_cost code long v h0 = grind (arith, cases_Bool, length-append, le-ltb)
 
 -- ---- parts together
@@ -83,10 +96,12 @@ joins_is (Some v) o j = j.1
 record IsCost (means : ℕ → List ℕ → Known → Type 0) (f : Known → Code → ℕ) (codes : List Code) (Good : Known → Type 0) : Type 0 where
   none : (c : Code) → f nothing c ≡ 0
   add : (x y o : Known) → JoinsAll x y o → Good x → Good y → (c : Code) → among codes c ≡ true → f o c ≡ f x c + f y c
-  good : (parts : List Part) (raw : Known) → AllByRecursion (IsPart means) parts → ((c : Code) → Sole (map (λ p. p.gives c) parts) (raw c)) → Good raw
+  good : (parts : List Part) (raw : Known) → AllByRecursion (IsPart means) parts →
+      ((c : Code) → Sole (map (λ p. p.gives c) parts) (raw c)) → Good raw
   one : (p : Part) → IsPart means p → total (f p.gives) codes ≤ length (part_octets p)
 
-parts_cost : (means : ℕ → List ℕ → Known → Type 0) (f : Known → Code → ℕ) (codes : List Code) (Good : Known → Type 0) → IsCost means f codes Good
+parts_cost : (means : ℕ → List ℕ → Known → Type 0) (f : Known → Code → ℕ) (codes : List Code) (Good : Known → Type 0) →
+    IsCost means f codes Good
     → (parts : List Part) (known : Known) → AllByRecursion (IsPart means) parts → ((c : Code) → Sole (map (λ p. p.gives c) parts) (known c))
     → total (f known) codes ≤ length (flat_map part_octets parts)
 parts_cost means f codes Good is [] known each sole =
@@ -99,12 +114,14 @@ parts_cost means f codes Good is (p ∷ parts) known each sole =
     let below = parts_cost means f codes Good is parts rest each.1 (λ c. (split c).0) in
     let good_rest = is.good parts rest each.1 (λ c. (split c).0) in
     let good_one = is.good (p ∷ []) p.gives (each.0, tt) (λ c. sole_one (p.gives c)) in
-    let sum = total_same (f known) (λ c. f rest c + f p.gives c) codes (λ c a. is.add rest p.gives known (λ d. (split d).1) good_rest good_one c a) in
+    let sum = total_same (f known) (λ c. f rest c + f p.gives c) codes
+        (λ c a. is.add rest p.gives known (λ d. (split d).1) good_rest good_one c a) in
     let both = total_both (f rest) (f p.gives) codes in
     let here = is.one p each.0 in
     omega (arith, length-append (part_octets p) (flat_map part_octets parts))
 
-sole_head_is : (x : Option (List ℕ)) (xs : List (Option (List ℕ))) (o : Option (List ℕ)) (w : List ℕ) → x ≡ Some w → Sole (x ∷ xs) o → o ≡ Some w
+sole_head_is : (x : Option (List ℕ)) (xs : List (Option (List ℕ))) (o : Option (List ℕ)) (w : List ℕ) → x ≡ Some w → Sole (x ∷ xs) o →
+    o ≡ Some w
 sole_head_is None xs o w e h = absurd cc
 sole_head_is (Some v) xs o w e h = h.0 ∙ e
 
@@ -123,7 +140,8 @@ member_add None k o j = (let e = ap member_cost j in omega arith)
 member_add (Some v) k o j = (let a = ap member_cost j.0 in let b = ap member_cost j.1 in omega arith)
 
 -- the value of a single slot
-only_cost : (f : Option (List ℕ) → ℕ) (s : Code) (form : List ℕ) (codes : List Code) → f None ≡ 0 → once (λ c e. is_same e c) codes s ≡ true → total (λ c. f (only s form c)) codes ≤ f (Some form)
+only_cost : (f : Option (List ℕ) → ℕ) (s : Code) (form : List ℕ) (codes : List Code) → f None ≡ 0 →
+    once (λ c e. is_same e c) codes s ≡ true → total (λ c. f (only s form c)) codes ≤ f (Some form)
 only_cost f s form codes none single =
     let h = total_one (λ c. f (only s form c)) s codes single (λ c a n. elim (cases_Bool (is_same c s)) [
       | inl t ↦ absurd (n (same_true c s t))
@@ -138,13 +156,15 @@ member_part kind g p None h m =
     let z = total_zero (λ c. member_cost (p.gives c)) (members_of kind g) (λ c a. ap (λ (k : Known). member_cost (k c)) m) in
     omega arith
 member_part kind g p (Some c) h m =
-    let same : total (λ d. member_cost (p.gives d)) (members_of kind g) ≡ total (λ d. member_cost (only (slot_of c) m.0 d)) (members_of kind g) = ap (λ (k : Known). total (λ d. member_cost (k d)) (members_of kind g)) m.2 in
+    let same : total (λ d. member_cost (p.gives d)) (members_of kind g) ≡ total (λ d. member_cost (only (slot_of c) m.0 d))
+        (members_of kind g) = ap (λ (k : Known). total (λ d. member_cost (k d)) (members_of kind g)) m.2 in
     let one = only_cost member_cost (slot_of c) m.0 (members_of kind g) refl (member_once kind g (slot_of c)) in
     let less = cost_less (length m.0) (length p.value) (canonical_shorter c p.value m.0 (canonical_from kind c p.value m.0 m.1)) in
     let s = spelled_cost p.code p.long p.value h in
     omega arith
 
-group_cost : (kind : Kind) (g : Code) → IsCost (MeansInGroup kind (members_of kind g)) (λ k c. member_cost (k c)) (members_of kind g) (λ k. Unit {0})
+group_cost : (kind : Kind) (g : Code) →
+    IsCost (MeansInGroup kind (members_of kind g)) (λ k c. member_cost (k c)) (members_of kind g) (λ k. Unit {0})
 unfolding MeansInGroup
 group_cost kind g = record {
   none = λ c. refl;
@@ -153,13 +173,17 @@ group_cost kind g = record {
   one = λ p is. member_part kind g p (code_among (members_of kind g) p.code) is.1 is.2;
 }
 
-pub group_len : (kind : Kind) (known : Known) (g : Code) → length (group_octets kind known g) ≡ total (λ c. member_cost (known c)) (members_of kind g)
+pub group_len : (kind : Kind) (known : Known) (g : Code) →
+    length (group_octets kind known g) ≡ total (λ c. member_cost (known c)) (members_of kind g)
 unfolding group_octets
-group_len kind known g = total_flat (λ c. member_octets c (known c)) (members_of kind g) ∙ total_same (λ c. length (member_octets c (known c))) (λ c. member_cost (known c)) (members_of kind g) (λ c a. member_len c (known c))
+group_len kind known g = total_flat (λ c. member_octets c (known c)) (members_of kind g) ∙
+    total_same (λ c. length (member_octets c (known c))) (λ c. member_cost (known c)) (members_of kind g) (λ c a. member_len c (known c))
 
-group_fits : (kind : Kind) (known : Known) (g : Code) (value : List ℕ) → Spells (MeansInGroup kind (members_of kind g)) known value → length (group_octets kind known g) ≤ length value
+group_fits : (kind : Kind) (known : Known) (g : Code) (value : List ℕ) → Spells (MeansInGroup kind (members_of kind g)) known value →
+    length (group_octets kind known g) ≤ length value
 group_fits kind known g value s =
-    let p = parts_cost (MeansInGroup kind (members_of kind g)) (λ k c. member_cost (k c)) (members_of kind g) (λ k. Unit {0}) (group_cost kind g) s.parts known s.each s.once in
+    let p = parts_cost (MeansInGroup kind (members_of kind g)) (λ k c. member_cost (k c)) (members_of kind g) (λ k. Unit {0})
+        (group_cost kind g) s.parts known s.each s.once in
     let l = group_len kind known g in
     let w = ap length s.whole in
     omega arith
@@ -170,12 +194,14 @@ abbrev pub unit_cost : Kind → Known → Code → Option (List ℕ) → ℕ
 unit_cost kind known c None = 0
 unit_cost kind known c (Some v) = cost (length (value_octets kind known c v))
 
-unit_len : (kind : Kind) (known : Known) (c : Code) (o : Option (List ℕ)) → length (parameter_octets kind known c o) ≡ unit_cost kind known c o
+unit_len : (kind : Kind) (known : Known) (c : Code) (o : Option (List ℕ)) →
+    length (parameter_octets kind known c o) ≡ unit_cost kind known c o
 unit_len kind known c None = refl
 unit_len kind known c (Some v) = written_cost (number_of (written_code kind c v)) (value_octets kind known c v)
 
 -- two codes of a unit that own the same slot are the same
-one_owner : (kind : Kind) (codes : List Code) (d a b : Code) → once (owns kind) codes d ≡ true → among codes a ≡ true → among codes b ≡ true → owns kind a d ≡ true → owns kind b d ≡ true → a ≡ b
+one_owner : (kind : Kind) (codes : List Code) (d a b : Code) → once (owns kind) codes d ≡ true → among codes a ≡ true →
+    among codes b ≡ true → owns kind a d ≡ true → owns kind b d ≡ true → a ≡ b
 one_owner kind [] d a b single ha hb oa ob = absurd cc
 one_owner kind (c ∷ codes) d a b single ha hb oa ob =
     let t = once_tail (owns kind c d) (list_any (λ e. owns kind e d) codes) (once (owns kind) codes d) single in
@@ -194,7 +220,8 @@ one_owner kind (c ∷ codes) d a b single ha hb oa ob =
 
 -- a value of a group is there only if the group is
 abbrev KeepsGroups : Kind → Known → Type 0
-KeepsGroups kind known = (g d : Code) (v : List ℕ) → among (codes_of kind) g ≡ true → among (members_of kind g) d ≡ true → known d ≡ Some v → (w : List ℕ) × (known g ≡ Some w)
+KeepsGroups kind known = (g d : Code) (v : List ℕ) → among (codes_of kind) g ≡ true → among (members_of kind g) d ≡ true →
+    known d ≡ Some v → (w : List ℕ) × (known g ≡ Some w)
 
 member_owned : (kind : Kind) (g d : Code) → among (members_of kind g) d ≡ true → owns kind g d ≡ true
 member_owned kind g d m = or_right (is_same d g) (among (members_of kind g) d) m
@@ -203,47 +230,58 @@ self_owned : (kind : Kind) (d : Code) → owns kind d d ≡ true
 self_owned kind d = or_left (is_same d d) (among (members_of kind d) d) (same_refl d)
 
 -- no member of a group is known outside it
-apart_from_unit : (kind : Kind) (g d : Code) → among (codes_of kind) g ≡ true → among (members_of kind g) d ≡ true → among (codes_of kind) d ≡ true → ⊥
+apart_from_unit : (kind : Kind) (g d : Code) → among (codes_of kind) g ≡ true → among (members_of kind g) d ≡ true →
+    among (codes_of kind) d ≡ true → ⊥
 apart_from_unit kind g d hg m hd =
     let same : g ≡ d = one_owner kind (codes_of kind) d g d (code_once kind d) hg hd (member_owned kind g d m) (self_owned kind d) in
     both_ways (among (members_of kind g) g) (group_apart kind g) (subst (λ (x : Code). among (members_of kind g) x ≡ true) (sym same) m)
 
-keeps_from : (kind : Kind) (raw : Known) (g d : Code) → among (codes_of kind) g ≡ true → among (members_of kind g) d ≡ true → IsOwned kind raw d → (w : List ℕ) × (raw g ≡ Some w)
+keeps_from : (kind : Kind) (raw : Known) (g d : Code) → among (codes_of kind) g ≡ true → among (members_of kind g) d ≡ true →
+    IsOwned kind raw d → (w : List ℕ) × (raw g ≡ Some w)
 keeps_from kind raw g d hg m (inl hd) = absurd (apart_from_unit kind g d hg m hd)
 keeps_from kind raw g d hg m (inr q) =
-    let same : q.0 ≡ g = one_owner kind (codes_of kind) d q.0 g (code_once kind d) q.1 hg (member_owned kind q.0 d q.2) (member_owned kind g d m) in
+    let same : q.0 ≡ g = one_owner kind (codes_of kind) d q.0 g (code_once kind d) q.1 hg (member_owned kind q.0 d q.2)
+        (member_owned kind g d m) in
     ([], sym (ap raw same) ∙ q.3)
 
-keeps_groups : (kind : Kind) (parts : List Part) (raw : Known) → AllByRecursion (IsPart (MeansInUnit kind)) parts → ((c : Code) → Sole (map (λ p. p.gives c) parts) (raw c)) → KeepsGroups kind raw
+keeps_groups : (kind : Kind) (parts : List Part) (raw : Known) → AllByRecursion (IsPart (MeansInUnit kind)) parts →
+    ((c : Code) → Sole (map (λ p. p.gives c) parts) (raw c)) → KeepsGroups kind raw
 keeps_groups kind parts raw each sole g d v hg m e =
     let s : Spells (MeansInUnit kind) raw (flat_map part_octets parts) = record { parts = parts; whole = refl; each = each; once = sole } in
     keeps_from kind raw g d hg m (owned kind raw (flat_map part_octets parts) v d s e)
 
 -- if only one of two values has a group, its members are those of that value
-members_same : (kind : Kind) (x o : Known) (c : Code) → ((d : Code) → among (members_of kind c) d ≡ true → o d ≡ x d) → length (group_octets kind o c) ≡ length (group_octets kind x c)
+members_same : (kind : Kind) (x o : Known) (c : Code) → ((d : Code) → among (members_of kind c) d ≡ true → o d ≡ x d) →
+    length (group_octets kind o c) ≡ length (group_octets kind x c)
 members_same kind x o c h =
-    group_len kind o c ∙ total_same (λ d. member_cost (o d)) (λ d. member_cost (x d)) (members_of kind c) (λ d a. ap member_cost (h d a)) ∙ sym (group_len kind x c)
+    group_len kind o c ∙ total_same (λ d. member_cost (o d)) (λ d. member_cost (x d)) (members_of kind c) (λ d a. ap member_cost (h d a)) ∙
+        sym (group_len kind x c)
 
-value_same : (kind : Kind) (x o : Known) (c : Code) (v : List ℕ) → ((d : Code) → among (members_of kind c) d ≡ true → o d ≡ x d) → cost (length (value_octets kind o c v)) ≡ cost (length (value_octets kind x c v))
+value_same : (kind : Kind) (x o : Known) (c : Code) (v : List ℕ) → ((d : Code) → among (members_of kind c) d ≡ true → o d ≡ x d) →
+    cost (length (value_octets kind o c v)) ≡ cost (length (value_octets kind x c v))
 value_same kind x o c v h0 = grind (arith, cases_Bool, cost, members_same)
 
 -- what joins a member of an absent group is nothing
-stays_out : (kind : Kind) (x : Known) (c d : Code) → KeepsGroups kind x → among (codes_of kind) c ≡ true → among (members_of kind c) d ≡ true → x c ≡ None → x d ≡ None
+stays_out : (kind : Kind) (x : Known) (c d : Code) → KeepsGroups kind x → among (codes_of kind) c ≡ true →
+    among (members_of kind c) d ≡ true → x c ≡ None → x d ≡ None
 stays_out kind x c d h0 h1 h2 h3 = grind (arith, option_cases)
 
-unit_add_at : (kind : Kind) (x y o : Known) (c : Code) (a b : Option (List ℕ)) → x c ≡ a → y c ≡ b → JoinsAll x y o → KeepsGroups kind x → KeepsGroups kind y → among (codes_of kind) c ≡ true
+unit_add_at : (kind : Kind) (x y o : Known) (c : Code) (a b : Option (List ℕ)) → x c ≡ a → y c ≡ b → JoinsAll x y o → KeepsGroups kind x →
+    KeepsGroups kind y → among (codes_of kind) c ≡ true
     → unit_cost kind o c (o c) ≡ unit_cost kind x c a + unit_cost kind y c b
 unit_add_at kind x y o c None None ex ey j kx ky hc =
     let e : o c ≡ None = subst (λ (m : Option (List ℕ)). Joins m (y c) (o c)) ex (j c) ∙ ey in
     ap (unit_cost kind o c) e
 unit_add_at kind x y o c None (Some v) ex ey j kx ky hc =
     let e : o c ≡ Some v = subst (λ (m : Option (List ℕ)). Joins m (y c) (o c)) ex (j c) ∙ ey in
-    let same = value_same kind y o c v (λ d m. subst (λ (q : Option (List ℕ)). Joins q (y d) (o d)) (stays_out kind x c d kx hc m ex) (j d)) in
+    let same = value_same kind y o c v (λ d m. subst (λ (q : Option (List ℕ)). Joins q (y d) (o d)) (stays_out kind x c d kx hc m ex) (j d))
+        in
     let at = ap (unit_cost kind o c) e in
     omega arith
 unit_add_at kind x y o c (Some w) None ex ey j kx ky hc =
     let e : o c ≡ Some w = joins_is (x c) (o c) (subst (λ (k : Option (List ℕ)). Joins (x c) k (o c)) ey (j c)) ∙ ex in
-    let same = value_same kind x o c w (λ d m. joins_is (x d) (o d) (subst (λ (k : Option (List ℕ)). Joins (x d) k (o d)) (stays_out kind y c d ky hc m ey) (j d))) in
+    let same = value_same kind x o c w
+        (λ d m. joins_is (x d) (o d) (subst (λ (k : Option (List ℕ)). Joins (x d) k (o d)) (stays_out kind y c d ky hc m ey) (j d))) in
     let at = ap (unit_cost kind o c) e in
     omega arith
 unit_add_at kind x y o c (Some w) (Some v) ex ey j kx ky hc =
@@ -270,48 +308,61 @@ part_cost kind known c = unit_cost kind known c (known c)
 absent_cost : (kind : Kind) (known : Known) (c : Code) → known c ≡ None → part_cost kind known c ≡ 0
 absent_cost kind known c e = ap (unit_cost kind known c) e
 
-leaf_part : (kind : Kind) (p : Part) (c : Code) → is_group c ≡ false → HasLength p.long (length p.value) → MemberOf kind p.value p.gives (Some c) → total (part_cost kind p.gives) (codes_of kind) ≤ length (part_octets p)
+leaf_part : (kind : Kind) (p : Part) (c : Code) → is_group c ≡ false → HasLength p.long (length p.value) →
+    MemberOf kind p.value p.gives (Some c) → total (part_cost kind p.gives) (codes_of kind) ≤ length (part_octets p)
 leaf_part kind p c leaf h m =
     let s = slot_of c in
     let form = m.0 in
     let there : p.gives s ≡ Some form = ap (λ (k : Known). k s) m.2 ∙ ap (λ (b : Bool). cond b (Some form) None) (same_refl s) in
-    let one = total_one (part_cost kind p.gives) s (codes_of kind) (code_single kind s) (λ d a n. absent_cost kind p.gives d (elim (option_cases (p.gives d)) [
+    let one = total_one (part_cost kind p.gives) s (codes_of kind) (code_single kind s)
+        (λ d a n. absent_cost kind p.gives d (elim (option_cases (p.gives d)) [
       | inl q ↦ absurd (n (only_slot d s form q.0 (sym (ap (λ (k : Known). k d) m.2) ∙ q.1)))
       | inr e ↦ e
     ])) in
-    let at : part_cost kind p.gives s ≡ cost (length form) = ap (unit_cost kind p.gives s) there ∙ ap (λ (b : Bool). cost (length (cond b (group_octets kind p.gives s) form))) (slot_leaf c leaf) in
+    let at : part_cost kind p.gives s ≡ cost (length form) = ap (unit_cost kind p.gives s) there ∙
+        ap (λ (b : Bool). cost (length (cond b (group_octets kind p.gives s) form))) (slot_leaf c leaf) in
     let less = cost_less (length form) (length p.value) (canonical_shorter c p.value form (canonical_from kind c p.value form m.1)) in
     let spelled = spelled_cost p.code p.long p.value h in
     omega arith
 
-group_part : (kind : Kind) (p : Part) (g : Code) → is_group g ≡ true → among (codes_of kind) g ≡ true → HasLength p.long (length p.value) → GroupOf kind g p.value p.gives → total (part_cost kind p.gives) (codes_of kind) ≤ length (part_octets p)
+group_part : (kind : Kind) (p : Part) (g : Code) → is_group g ≡ true → among (codes_of kind) g ≡ true → HasLength p.long (length p.value) →
+    GroupOf kind g p.value p.gives → total (part_cost kind p.gives) (codes_of kind) ≤ length (part_octets p)
 group_part kind p g group hg h m =
     let inner = m.0 in
-    let bare = λ (d : Code) (e : only g [] d ≡ None). sole_same (inner d) (p.gives d) (subst (λ (k : Option (List ℕ)). Sole (k ∷ inner d ∷ []) (p.gives d)) e (m.2 d)) in
+    let bare = λ (d : Code) (e : only g [] d ≡ None). sole_same (inner d) (p.gives d)
+        (subst (λ (k : Option (List ℕ)). Sole (k ∷ inner d ∷ []) (p.gives d)) e (m.2 d)) in
     let outside = λ (d : Code) (n : d ≡ g → ⊥). (let e : only g [] d ≡ None = elim (cases_Bool (is_same d g)) [
       | inl t ↦ absurd (n (same_true d g t))
       | inr f ↦ ap (λ (b : Bool). cond b (Some []) None) f
     ] in bare d e) in
     let there : p.gives g ≡ Some [] =
-    (let k = m.2 g in sole_head_is (only g [] g) (inner g ∷ []) (p.gives g) [] (ap (λ (b : Bool). cond b (Some []) None) (same_refl g)) k) in
-    let one = total_one (part_cost kind p.gives) g (codes_of kind) (code_single kind g) (λ d a n. absent_cost kind p.gives d (elim (option_cases (p.gives d)) [
+    (let k = m.2 g in sole_head_is (only g [] g) (inner g ∷ []) (p.gives g) [] (ap (λ (b : Bool). cond b (Some []) None) (same_refl g)) k)
+        in
+    let one = total_one (part_cost kind p.gives) g (codes_of kind) (code_single kind g)
+        (λ d a n. absent_cost kind p.gives d (elim (option_cases (p.gives d)) [
       | inl q ↦ absurd (apart_from_unit kind g d hg (inner_source kind g p.value q.0 inner d m.1 (sym (outside d n) ∙ q.1)) a)
       | inr e ↦ e
     ])) in
     let members : length (group_octets kind p.gives g) ≡ length (group_octets kind inner g) =
-    members_same kind inner p.gives g (λ d a. outside d (λ e. both_ways (among (members_of kind g) g) (group_apart kind g) (subst (λ (x : Code). among (members_of kind g) x ≡ true) e a))) in
-    let at : part_cost kind p.gives g ≡ cost (length (group_octets kind p.gives g)) = ap (unit_cost kind p.gives g) there ∙ ap (λ (b : Bool). cost (length (cond b (group_octets kind p.gives g) []))) group in
+    members_same kind inner p.gives g
+        (λ d a. outside d
+        (λ e. both_ways (among (members_of kind g) g) (group_apart kind g) (subst (λ (x : Code). among (members_of kind g) x ≡ true) e a)))
+        in
+    let at : part_cost kind p.gives g ≡ cost (length (group_octets kind p.gives g)) = ap (unit_cost kind p.gives g) there ∙
+        ap (λ (b : Bool). cost (length (cond b (group_octets kind p.gives g) []))) group in
     let fits = group_fits kind inner g p.value m.1 in
     let less = cost_less (length (group_octets kind p.gives g)) (length p.value) (omega arith) in
     let spelled = spelled_cost p.code p.long p.value h in
     omega arith
 
-parameter_part : (kind : Kind) (p : Part) (c : Code) (b : Bool) → is_group c ≡ b → among (codes_of kind) c ≡ true → HasLength p.long (length p.value) → ParameterOf kind c p.value p.gives b
+parameter_part : (kind : Kind) (p : Part) (c : Code) (b : Bool) → is_group c ≡ b → among (codes_of kind) c ≡ true →
+    HasLength p.long (length p.value) → ParameterOf kind c p.value p.gives b
     → total (part_cost kind p.gives) (codes_of kind) ≤ length (part_octets p)
 parameter_part kind p c true group hc h m = group_part kind p c group hc h m
 parameter_part kind p c false group hc h m = leaf_part kind p c group h m
 
-unit_part : (kind : Kind) (p : Part) (o : Option Code) → code_among (codes_of kind) p.code ≡ o → HasLength p.long (length p.value) → KnownOf kind p.value p.gives o → total (part_cost kind p.gives) (codes_of kind) ≤ length (part_octets p)
+unit_part : (kind : Kind) (p : Part) (o : Option Code) → code_among (codes_of kind) p.code ≡ o → HasLength p.long (length p.value) →
+    KnownOf kind p.value p.gives o → total (part_cost kind p.gives) (codes_of kind) ≤ length (part_octets p)
 unit_part kind p None named h m =
     let z = total_zero (part_cost kind p.gives) (codes_of kind) (λ c a. absent_cost kind p.gives c (ap (λ (k : Known). k c) m)) in
     omega arith
@@ -339,7 +390,8 @@ octets_less o = grind arith
 settled_member : (raw : Known) (c : Code) → member_cost (settled raw c) ≤ member_cost (raw c)
 settled_member raw c = grind (arith, cases_Bool, octets_less)
 
-settled_value : (kind : Kind) (raw : Known) (c : Code) (v : List ℕ) → cost (length (value_octets kind (settled raw) c v)) ≤ cost (length (value_octets kind raw c v))
+settled_value : (kind : Kind) (raw : Known) (c : Code) (v : List ℕ) →
+    cost (length (value_octets kind (settled raw) c v)) ≤ cost (length (value_octets kind raw c v))
 settled_value kind raw c v = grind (arith, cases_Bool, group_len, total_less, member_cost, settled_member)
 
 settled_cost : (kind : Kind) (raw : Known) (c : Code) (o : Option (List ℕ)) → unit_cost kind (settled raw) c o ≤ unit_cost kind raw c o
@@ -371,10 +423,12 @@ body_short false n h = omega arith
 unit_fits : (unit : Contents) (octets : List ℕ) → SpellsUnit unit octets → UnitFits unit
 unit_fits unit octets s =
     let kind = unit.kind in
-    let read = parts_cost (MeansInUnit kind) (part_cost kind) (codes_of kind) (KeepsGroups kind) (whole_cost kind) s.params.parts s.raw s.params.each s.params.once in
+    let read = parts_cost (MeansInUnit kind) (part_cost kind) (codes_of kind) (KeepsGroups kind) (whole_cost kind) s.params.parts s.raw
+        s.params.each s.params.once in
     let less = total_less (part_cost kind (settled s.raw)) (part_cost kind s.raw) (codes_of kind) (settled_part kind s.raw) in
     let len = body_len kind (settled s.raw) in
-    let same : length (body_octets kind unit.known) ≡ length (body_octets kind (settled s.raw)) = ap (λ (k : Known). length (body_octets kind k)) s.value in
+    let same : length (body_octets kind unit.known) ≡ length (body_octets kind (settled s.raw)) =
+        ap (λ (k : Known). length (body_octets kind k)) s.value in
     let w = ap length s.params.whole in
     let b = body_short s.long (length s.body) s.counted in
     omega arith

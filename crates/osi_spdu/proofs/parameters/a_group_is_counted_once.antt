@@ -1,7 +1,11 @@
 -- The contents of a group of a unit, which are counted once.
-use Rattle.std.proofs.Common.{inl, inr, ◌≡◌, ℕ, zero, suc, ◌<◌, ◌≤◌, true, List, [], ◌∷◌, ◌++◌, length, get_or, Option, Some, None, refl, sym, ap, subst, ltb, arith}
+use Rattle.std.proofs.Common.{inl, inr, ◌≡◌, ℕ, zero, suc, ◌<◌, ◌≤◌, true, List, [], ◌∷◌, ◌++◌, length, get_or, Option, Some, None, refl}
+use Rattle.std.proofs.Common.{sym, ap, subst, ltb, arith}
 use Rattle.osi_spdu.specs.declared.writing.GroupLengths.{GroupLengths}
-use Rattle.osi_spdu.proofs.Vocabulary.{is_some, option_map, flat_map, or_cases, or_left, or_right, length-append, Code, ConnectionIdentifier, ConnectAcceptItem, Kind, DataTransfer, Two, is_same, is_group, number_of, codes_of, category_of, Known, Contents, Units, length_octets, AreBehind, held, AreHeld, among, written_item, group_octets, value_octets, parameter_octets, body_octets, written_code}
+use Rattle.osi_spdu.proofs.Vocabulary.{is_some, option_map, flat_map, or_cases, or_left, or_right, length-append, Code}
+use Rattle.osi_spdu.proofs.Vocabulary.{ConnectionIdentifier, ConnectAcceptItem, Kind, DataTransfer, Two, is_same, is_group, number_of}
+use Rattle.osi_spdu.proofs.Vocabulary.{codes_of, category_of, Known, Contents, Units, length_octets, AreBehind, held, AreHeld, among}
+use Rattle.osi_spdu.proofs.Vocabulary.{written_item, group_octets, value_octets, parameter_octets, body_octets, written_code}
 use Rattle.osi_spdu.proofs.basics.the_steps_of_reading.{same_true, same_refl}
 
 -- a piece is no longer than all pieces
@@ -17,14 +21,17 @@ piece_within f (d ∷ codes) c there =
 value_within : (code : ℕ) (value : List ℕ) → length value ≤ length (written_item code value)
 value_within code value = (let l = length-append (code ∷ [] ++ length_octets (ltb 254 (length value)) (length value)) value in omega arith)
 
-octets_of_group : (kind : Kind) (known : Known) (c : Code) (value : List ℕ) → is_group c ≡ true → value_octets kind known c value ≡ group_octets kind known c
+octets_of_group : (kind : Kind) (known : Known) (c : Code) (value : List ℕ) → is_group c ≡ true →
+    value_octets kind known c value ≡ group_octets kind known c
 octets_of_group kind known c value e = rw e refl
 
-held_within : (kind : Kind) (known : Known) (c : Code) (o : Option (List ℕ)) → is_group c ≡ true → is_some o ≡ true → length (group_octets kind known c) ≤ length (parameter_octets kind known c o)
+held_within : (kind : Kind) (known : Known) (c : Code) (o : Option (List ℕ)) → is_group c ≡ true → is_some o ≡ true →
+    length (group_octets kind known c) ≤ length (parameter_octets kind known c o)
 held_within kind known c o h0 h1 = grind (arith, value_within, octets_of_group)
 
 -- what a group holds is no longer than all parameters and groups of its unit
-pub group_within : (kind : Kind) (known : Known) (c : Code) → among (codes_of kind) c ≡ true → is_group c ≡ true → is_some (known c) ≡ true → length (group_octets kind known c) ≤ length (body_octets kind known)
+pub group_within : (kind : Kind) (known : Known) (c : Code) → among (codes_of kind) c ≡ true → is_group c ≡ true →
+    is_some (known c) ≡ true → length (group_octets kind known c) ≤ length (body_octets kind known)
 unfolding body_octets
 group_within kind known c knows group there =
     let h = held_within kind known c (known c) group there in
@@ -35,12 +42,15 @@ group_within kind known c knows group there =
 pub among_at : (codes : List Code) (i : ℕ) (c : Code) → i < length codes → among codes (get_or codes i c) ≡ true
 among_at [] i c lt = absurd (omega arith)
 among_at (d ∷ codes) zero c lt = or_left (is_same d d) (among codes d) (same_refl d)
-among_at (d ∷ codes) (suc i) c lt = or_right (is_same (get_or codes i c) d) (among codes (get_or codes i c)) (among_at codes i c (omega arith))
+among_at (d ∷ codes) (suc i) c lt =
+    or_right (is_same (get_or codes i c) d) (among codes (get_or codes i c)) (among_at codes i c (omega arith))
 
 -- both groups are counted
 pub both_held : (lens : GroupLengths) (known : Known)
-    → (among (codes_of lens.kind) ConnectionIdentifier ≡ true → is_some (known ConnectionIdentifier) ≡ true → lens.connection_identifier ≡ length (group_octets lens.kind known ConnectionIdentifier))
-    → (among (codes_of lens.kind) ConnectAcceptItem ≡ true → is_some (known ConnectAcceptItem) ≡ true → lens.connect_accept_item ≡ length (group_octets lens.kind known ConnectAcceptItem))
+    → (among (codes_of lens.kind) ConnectionIdentifier ≡ true → is_some (known ConnectionIdentifier) ≡ true →
+        lens.connection_identifier ≡ length (group_octets lens.kind known ConnectionIdentifier))
+    → (among (codes_of lens.kind) ConnectAcceptItem ≡ true → is_some (known ConnectAcceptItem) ≡ true →
+        lens.connect_accept_item ≡ length (group_octets lens.kind known ConnectAcceptItem))
     → AreHeld lens known
 unfolding held is_group
 both_held lens known first second ConnectionIdentifier knows group there = first knows there
@@ -69,6 +79,7 @@ none_held lens two known c knows group there = absurd (no_group lens.kind c two 
 pub next_two : (units others : Units) (unit : Contents) → units ≡ unit ∷ others → AreBehind units → category_of unit.kind ≡ Two
 next_two units others unit e behind = (let h : AreBehind (unit ∷ others) = subst AreBehind e behind in h.0)
 
-pub mapped_there : {A : Type 0} (f : A → List ℕ) (o : Option A) (k : Option (List ℕ)) → option_map f o ≡ k → is_some o ≡ true → is_some k ≡ true
+pub mapped_there : {A : Type 0} (f : A → List ℕ) (o : Option A) (k : Option (List ℕ)) → option_map f o ≡ k → is_some o ≡ true →
+    is_some k ≡ true
 mapped_there f None k e there = absurd cc
 mapped_there f (Some x) k e there = ap is_some (sym e)

@@ -1,7 +1,14 @@
 -- Filling a slot, and the values of slots.
-use Rattle.std.proofs.Common.{inl, inr, ◌≡◌, ◌==◌, ◌&&◌, ℕ, ◌<◌, Bool, true, false, List, [], ◌∷◌, length, get_or, set, Option, Some, None, option_map, refl, sym, ap, ◌∙◌, get_or-set_other, get_or-set_same, eqb, ltb, arith}
+use Rattle.std.proofs.Common.{inl, inr, ◌≡◌, ◌==◌, ◌&&◌, ℕ, ◌<◌, Bool, true, false, List, [], ◌∷◌, length, get_or, set, Option, Some, None}
+use Rattle.std.proofs.Common.{option_map, refl, sym, ap, ◌∙◌, get_or-set_other, get_or-set_same, eqb, ltb, arith}
 use Rattle.osi_spdu.specs.declared.tokens.TokenSet.{TokenSet}
-use Rattle.osi_spdu.proofs.Vocabulary.{slice_get, cases_Bool, ltb-true, lt-ltb, eq-eqb, Code, ConnectionIdentifier, ConnectAcceptItem, CalledReference, CallingReference, CommonReference, AdditionalReference, SyncType, TokenItem, TransportDisconnect, ProtocolOptions, UserRequirements, TsduMaximumSize, Version, InitialNumber, Enclosure, TokenSetting, ResyncType, Number, Reflect, Reason, CallingSelector, CalledSelector, UserData, ExtendedUserData, Params, number_of, is_same, slot_of, every_code, nothing, put, some_octets, place_of, cells_of, filled, slots_of, known_of, no_params, present, count_of, has_octets, token_octets, tokens_alone, token_bits, is_some}
+use Rattle.osi_spdu.proofs.Vocabulary.{slice_get, cases_Bool, ltb-true, lt-ltb, eq-eqb, Code, ConnectionIdentifier, ConnectAcceptItem}
+use Rattle.osi_spdu.proofs.Vocabulary.{CalledReference, CallingReference, CommonReference, AdditionalReference, SyncType, TokenItem}
+use Rattle.osi_spdu.proofs.Vocabulary.{TransportDisconnect, ProtocolOptions, UserRequirements, TsduMaximumSize, Version, InitialNumber}
+use Rattle.osi_spdu.proofs.Vocabulary.{Enclosure, TokenSetting, ResyncType, Number, Reflect, Reason, CallingSelector, CalledSelector}
+use Rattle.osi_spdu.proofs.Vocabulary.{UserData, ExtendedUserData, Params, number_of, is_same, slot_of, every_code, nothing, put}
+use Rattle.osi_spdu.proofs.Vocabulary.{some_octets, place_of, cells_of, filled, slots_of, known_of, no_params, present, count_of}
+use Rattle.osi_spdu.proofs.Vocabulary.{has_octets, token_octets, tokens_alone, token_bits, is_some}
 use Rattle.osi_spdu.proofs.basics.values_of_one_octet.{token_bits_again}
 use Rattle.osi_spdu.proofs.basics.the_steps_of_reading.{same_true, same_refl}
 
@@ -26,7 +33,8 @@ unfolding cells_of
 cells_len p = refl
 
 -- the filled slot has the value, and the others are as they were
-pub slots_put : (p q : Params) (c : Code) (v : List ℕ) (o : Option (List ℕ)) → cells_of q ≡ filled (cells_of p) (place_of (slot_of c)) o → o ≡ Some v
+pub slots_put : (p q : Params) (c : Code) (v : List ℕ) (o : Option (List ℕ)) → cells_of q ≡ filled (cells_of p) (place_of (slot_of c)) o →
+    o ≡ Some v
     → slots_of q ≡ put (slot_of c) v (slots_of p)
 unfolding slots_of
 slots_put p q c v o e is = λ i d. (one d) i
@@ -41,7 +49,9 @@ slots_put p q c v o e is = λ i d. (one d) i
         ap (λ (cells : List (Option (List ℕ))). get_or cells (place_of d) None) now
         ∙ elim (cases_Bool (is_same d s)) [
           | inl t ↦ rw (t, same_true d s t) (get_or-set_same (cells_of p) (place_of s) (Some v) None within)
-          | inr f ↦ rw f (get_or-set_other (cells_of p) (place_of s) (place_of d) (Some v) None (λ h. absurd (let n = ap (λ (x : Code). is_same d x) (place_one d s h) in (let r : is_same d d ≡ true = same_refl d in cc))))
+          | inr f ↦ rw f
+              (get_or-set_other (cells_of p) (place_of s) (place_of d) (Some v) None
+              (λ h. absurd (let n = ap (λ (x : Code). is_same d x) (place_one d s h) in (let r : is_same d d ≡ true = same_refl d in cc))))
         ]
 
 -- no parameter is there among none
@@ -76,7 +86,8 @@ no_slots = λ i c. (none c) i
     none ExtendedUserData = refl
 
 -- what is there, with no empty user data
-pub known_some : (p : Params) (c : Code) (v : List ℕ) → slots_of p c ≡ Some v → (is_same c UserData && (length v == 0)) ≡ false → known_of p c ≡ Some v
+pub known_some : (p : Params) (c : Code) (v : List ℕ) → slots_of p c ≡ Some v → (is_same c UserData && (length v == 0)) ≡ false →
+    known_of p c ≡ Some v
 unfolding known_of
 known_some p c v e test =
     elim (cases_Bool (is_same c UserData)) [
@@ -96,7 +107,8 @@ known_none p c e =
       | inr f ↦ rw (f, e) refl
     ]
 
-pub known_empty : (p : Params) (c : Code) (v : List ℕ) → slots_of p c ≡ Some v → is_same c UserData ≡ true → length v ≡ 0 → known_of p c ≡ None
+pub known_empty : (p : Params) (c : Code) (v : List ℕ) → slots_of p c ≡ Some v → is_same c UserData ≡ true → length v ≡ 0 →
+    known_of p c ≡ None
 unfolding known_of
 known_empty p c v e t h = rw (t, e) (none v h)
   where
@@ -122,7 +134,8 @@ some_again (Some []) = refl
 some_again (Some (b ∷ v)) = refl
 
 -- parameters that differ only in how they keep the token item and the user data have the same meaning
-pub settled_known : (p q : Params) → q ≡ (let r : Params = record p { token_item = q.token_item; user_data = q.user_data } in r) → option_map token_octets q.token_item ≡ option_map token_octets p.token_item
+pub settled_known : (p q : Params) → q ≡ (let r : Params = record p { token_item = q.token_item; user_data = q.user_data } in r) →
+    option_map token_octets q.token_item ≡ option_map token_octets p.token_item
     → option_map (λ s. s.now) q.user_data ≡ some_octets (option_map (λ s. s.now) p.user_data) → known_of q ≡ known_of p
 unfolding known_of slots_of cells_of place_of number_of
 settled_known p q same tokens octets = λ i c. (one c) i

@@ -1,6 +1,14 @@
 -- Each slot belongs to one code of a unit: to itself, or to the group that knows it.
-use Rattle.std.proofs.Common.{inl, inr, ◌≡◌, ℕ, ◌<◌, Bool, true, false, cond, not, ◌||◌, List, [], ◌∷◌, Option, Some, refl, sym, ap, subst, ◌∙◌, eqb, ltb, arith}
-use Rattle.osi_spdu.proofs.Vocabulary.{list_any, list_all, and_parts, or_cases, or_left, or_right, eqb-true, ltb-true, cases_Bool, Code, ConnectionIdentifier, ConnectAcceptItem, CalledReference, CallingReference, CommonReference, AdditionalReference, SyncType, TokenItem, TransportDisconnect, ProtocolOptions, UserRequirements, TsduMaximumSize, Version, InitialNumber, Enclosure, TokenSetting, ResyncType, Number, Reflect, Reason, CallingSelector, CalledSelector, UserData, ExtendedUserData, Kind, GiveTokens, PleaseTokens, DataTransfer, NotFinished, Finish, Disconnect, Refuse, Connect, Accept, Abort, AbortAccept, ResynchronizeAck, MajorSyncPoint, MajorSyncAck, MinorSyncPoint, MinorSyncAck, Resynchronize, number_of, is_same, is_group, every_code, codes_of, members_of, references_of, code_among, among}
+use Rattle.std.proofs.Common.{inl, inr, ◌≡◌, ℕ, ◌<◌, Bool, true, false, cond, not, ◌||◌, List, [], ◌∷◌, Option, Some, refl, sym, ap, subst}
+use Rattle.std.proofs.Common.{◌∙◌, eqb, ltb, arith}
+use Rattle.osi_spdu.proofs.Vocabulary.{list_any, list_all, and_parts, or_cases, or_left, or_right, eqb-true, ltb-true, cases_Bool, Code}
+use Rattle.osi_spdu.proofs.Vocabulary.{ConnectionIdentifier, ConnectAcceptItem, CalledReference, CallingReference, CommonReference}
+use Rattle.osi_spdu.proofs.Vocabulary.{AdditionalReference, SyncType, TokenItem, TransportDisconnect, ProtocolOptions, UserRequirements}
+use Rattle.osi_spdu.proofs.Vocabulary.{TsduMaximumSize, Version, InitialNumber, Enclosure, TokenSetting, ResyncType, Number, Reflect}
+use Rattle.osi_spdu.proofs.Vocabulary.{Reason, CallingSelector, CalledSelector, UserData, ExtendedUserData, Kind, GiveTokens, PleaseTokens}
+use Rattle.osi_spdu.proofs.Vocabulary.{DataTransfer, NotFinished, Finish, Disconnect, Refuse, Connect, Accept, Abort, AbortAccept}
+use Rattle.osi_spdu.proofs.Vocabulary.{ResynchronizeAck, MajorSyncPoint, MajorSyncAck, MinorSyncPoint, MinorSyncAck, Resynchronize}
+use Rattle.osi_spdu.proofs.Vocabulary.{number_of, is_same, is_group, every_code, codes_of, members_of, references_of, code_among, among}
 use Rattle.osi_spdu.proofs.basics.the_steps_of_reading.{same_true, same_refl, number_one}
 use Rattle.osi_spdu.proofs.basics.length_indicators.{chosen}
 
@@ -25,7 +33,8 @@ pub every_passes : (p : Code → Bool) (c : Code) → list_all p every_code ≡ 
 every_passes p c all = all_pass p every_code c all (each_there c)
 
 number_small : (c : Code) → ltb (number_of c) 256 ≡ true
-number_small c = every_passes (λ d. ltb (number_of d) 256) c (let e : list_all (λ d. ltb (number_of d) 256) every_code ≡ true = all_small in e)
+number_small c =
+    every_passes (λ d. ltb (number_of d) 256) c (let e : list_all (λ d. ltb (number_of d) 256) every_code ≡ true = all_small in e)
   where
     all_small : list_all (λ d. ltb (number_of d) 256) every_code ≡ true
     all_small = unfold number_of in refl
@@ -40,7 +49,9 @@ among_found (d ∷ codes) c there =
     elim (cases_Bool (eqb (number_of d) (number_of c))) [
       | inl e ↦ rw e (ap {B = Option Code} (λ x. Some x) (number_one d c (eqb-true (number_of d) (number_of c) e)))
       | inr e ↦ rw e (elim (or_cases (is_same c d) (among codes c) there) [
-        | inl s ↦ absurd (let h : eqb (number_of d) (number_of c) ≡ true = subst (λ (x : Code). eqb (number_of d) (number_of x) ≡ true) (sym (same_true c d s)) (same_refl d) in cc)
+        | inl s ↦ absurd
+            (let h : eqb (number_of d) (number_of c) ≡ true = subst (λ (x : Code). eqb (number_of d) (number_of x) ≡ true)
+            (sym (same_true c d s)) (same_refl d) in cc)
         | inr r ↦ among_found codes c r
       ])
     ]
@@ -49,11 +60,13 @@ pub among_named : (codes : List Code) (n : ℕ) (c : Code) → code_among codes 
 among_named [] n c e = absurd cc
 among_named (d ∷ codes) n c e =
     elim (chosen (eqb (number_of d) n) (Some d) (code_among codes n) (Some c) e) [
-      | inl q ↦ (let same : c ≡ d = (let h : Some d ≡ Some c = q.1 in cc) in or_left (is_same c d) (among codes c) (subst (λ (x : Code). is_same c x ≡ true) same (same_refl c)))
+      | inl q ↦ (let same : c ≡ d = (let h : Some d ≡ Some c = q.1 in cc) in
+          or_left (is_same c d) (among codes c) (subst (λ (x : Code). is_same c x ≡ true) same (same_refl c)))
       | inr q ↦ or_right (is_same c d) (among codes c) (among_named codes n c q.1)
     ]
 
-pub any_weaker : (p q : Code → Bool) (codes : List Code) → ((c : Code) → p c ≡ true → q c ≡ true) → list_any p codes ≡ true → list_any q codes ≡ true
+pub any_weaker : (p q : Code → Bool) (codes : List Code) → ((c : Code) → p c ≡ true → q c ≡ true) → list_any p codes ≡ true →
+    list_any q codes ≡ true
 any_weaker p q [] h e = e
 any_weaker p q (c ∷ codes) h e =
     elim (or_cases (p c) (list_any p codes) e) [
@@ -85,7 +98,8 @@ unfolding number_of
 references_once Connect = refl
 references_once _ = refl
 
-items_once : list_all (once (λ c d. is_same d c) (ProtocolOptions ∷ TsduMaximumSize ∷ Version ∷ InitialNumber ∷ TokenSetting ∷ [])) every_code ≡ true
+items_once : list_all (once (λ c d. is_same d c) (ProtocolOptions ∷ TsduMaximumSize ∷ Version ∷ InitialNumber ∷ TokenSetting ∷ []))
+    every_code ≡ true
 unfolding number_of
 items_once = refl
 

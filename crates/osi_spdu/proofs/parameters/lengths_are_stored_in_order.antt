@@ -1,6 +1,8 @@
 -- The lengths of units are stored one after the other, by a loop.
-use Rattle.std.proofs.Common.{inl, inr, ◌≡◌, ℕ, zero, suc, ◌+◌, ◌<◌, ◌≤◌, List, [], ◌∷◌, ◌++◌, length, take, drop, get_or, set, refl, sym, ap, subst, ◌∙◌, append_assoc, ltb, arith}
-use Rattle.osi_spdu.proofs.Vocabulary.{cases_Bool, ltb-true, ltb-false, append-nil, length-set, take_more_set, drop_more, drop_all, Contents, Units, body_length, AreLengths}
+use Rattle.std.proofs.Common.{inl, inr, ◌≡◌, ℕ, zero, suc, ◌+◌, ◌<◌, ◌≤◌, List, [], ◌∷◌, ◌++◌, length, take, drop, get_or, set, refl, sym}
+use Rattle.std.proofs.Common.{ap, subst, ◌∙◌, append_assoc, ltb, arith}
+use Rattle.osi_spdu.proofs.Vocabulary.{cases_Bool, ltb-true, ltb-false, append-nil, length-set, take_more_set, drop_more, drop_all}
+use Rattle.osi_spdu.proofs.Vocabulary.{Contents, Units, body_length, AreLengths}
 
 -- the lengths of all units are those stored, followed by those of the units that are left
 pub record IsKeeping (lens : List ℕ) (count : ℕ) (units all : Units) : Type 0 where
@@ -11,10 +13,12 @@ pub record IsKeeping (lens : List ℕ) (count : ℕ) (units all : Units) : Type 
 pub keeping_start : (lens : List ℕ) (all : Units) → length lens ≡ 16 → length all ≤ 16 → IsKeeping lens 0 all all
 keeping_start lens all size few = record { room = omega arith; size = size; goes = λ tail h. h }
 
-pub keeping_within : (lens : List ℕ) (count : ℕ) (units others all : Units) (unit : Contents) → units ≡ unit ∷ others → IsKeeping lens count units all → count < length lens
+pub keeping_within : (lens : List ℕ) (count : ℕ) (units others all : Units) (unit : Contents) → units ≡ unit ∷ others →
+    IsKeeping lens count units all → count < length lens
 keeping_within lens count units others all unit h0 h1 = grind arith
 
-pub keeping_next : (lens more : List ℕ) (count body : ℕ) (units others all : Units) (unit : Contents) → units ≡ unit ∷ others → body ≡ body_length unit → more ≡ set lens count body
+pub keeping_next : (lens more : List ℕ) (count body : ℕ) (units others all : Units) (unit : Contents) → units ≡ unit ∷ others →
+    body ≡ body_length unit → more ≡ set lens count body
     → IsKeeping lens count units all → IsKeeping more (count + 1) others all
 keeping_next lens more count body units others all unit e is same so_far =
     let n = ap length e in
@@ -28,8 +32,10 @@ keeping_next lens more count body units others all unit e is same so_far =
       room = omega arith;
       size = omega arith;
       goes = λ tail h.
-          (let all_of : AreLengths (take count lens ++ (body ∷ tail)) all = so_far.goes (body ∷ tail) (subst (λ (us : Units). AreLengths (body ∷ tail) us) (sym e) (is, h)) in
-          let joined : (take count lens ++ body ∷ []) ++ tail ≡ take count lens ++ (body ∷ tail) = append_assoc (take count lens) (body ∷ []) tail in
+          (let all_of : AreLengths (take count lens ++ (body ∷ tail)) all = so_far.goes (body ∷ tail)
+              (subst (λ (us : Units). AreLengths (body ∷ tail) us) (sym e) (is, h)) in
+          let joined : (take count lens ++ body ∷ []) ++ tail ≡ take count lens ++ (body ∷ tail) =
+              append_assoc (take count lens) (body ∷ []) tail in
           subst (λ (x : List ℕ). AreLengths (x ++ tail) all) (sym front) (subst (λ (x : List ℕ). AreLengths x all) (sym joined) all_of));
     }
 
@@ -45,9 +51,11 @@ keeping_end lens count units all e so_far =
     front_enough count lens all (subst (λ (x : List ℕ). AreLengths x all) (append-nil (take count lens)) all_of)
 
 -- the length of one unit is kept
-pub one_kept : (lens more : List ℕ) (body : ℕ) (units : Units) (unit : Contents) → units ≡ unit ∷ [] → length lens ≡ 16 → body ≡ body_length unit → more ≡ set lens 0 body → AreLengths more units
+pub one_kept : (lens more : List ℕ) (body : ℕ) (units : Units) (unit : Contents) → units ≡ unit ∷ [] → length lens ≡ 16 →
+    body ≡ body_length unit → more ≡ set lens 0 body → AreLengths more units
 one_kept lens more body units unit e size is same =
-    keeping_end more 1 [] units refl (keeping_next lens more 0 body units [] units unit e is same (keeping_start lens units size (let n = ap length e in omega arith)))
+    keeping_end more 1 [] units refl
+        (keeping_next lens more 0 body units [] units unit e is same (keeping_start lens units size (let n = ap length e in omega arith)))
 
 -- the length of the next unit
 pub record IsNextLength (lens : List ℕ) (count : ℕ) (unit : Contents) (others : Units) : Type 0 where
@@ -55,12 +63,16 @@ pub record IsNextLength (lens : List ℕ) (count : ℕ) (unit : Contents) (other
   pub is : get_or lens count 0 ≡ body_length unit
   pub rest : AreLengths (drop (count + 1) lens) others
 
-pub next_length : (lens : List ℕ) (count : ℕ) (units others : Units) (unit : Contents) → units ≡ unit ∷ others → AreLengths (drop count lens) units → IsNextLength lens count unit others
+pub next_length : (lens : List ℕ) (count : ℕ) (units others : Units) (unit : Contents) → units ≡ unit ∷ others →
+    AreLengths (drop count lens) units → IsNextLength lens count unit others
 next_length lens count units others unit e h =
     let here : AreLengths (drop count lens) (unit ∷ others) = subst (λ (us : Units). AreLengths (drop count lens) us) e h in
     elim (cases_Bool (ltb count (length lens))) [
       | inl t ↦ (let lt = ltb-true count (length lens) t in
-          let both : AreLengths (get_or lens count 0 ∷ drop (count + 1) lens) (unit ∷ others) = subst (λ (x : List ℕ). AreLengths x (unit ∷ others)) (drop_more lens count 0 lt) here in
+          let both : AreLengths (get_or lens count 0 ∷ drop (count + 1) lens) (unit ∷ others) =
+              subst (λ (x : List ℕ). AreLengths x (unit ∷ others)) (drop_more lens count 0 lt) here in
           record { within = lt; is = both.0; rest = both.1 })
-      | inr f ↦ absurd (let none : AreLengths [] (unit ∷ others) = subst (λ (x : List ℕ). AreLengths x (unit ∷ others)) (drop_all count lens (ltb-false count (length lens) f)) here in none)
+      | inr f ↦ absurd
+          (let none : AreLengths [] (unit ∷ others) = subst (λ (x : List ℕ). AreLengths x (unit ∷ others))
+          (drop_all count lens (ltb-false count (length lens) f)) here in none)
     ]

@@ -1,7 +1,15 @@
 -- Parameters of one level: reading is sound and complete.
-use Rattle.std.proofs.Common.{◌≡◌, ℕ, zero, suc, ◌+◌, ◌<◌, ◌≤◌, Bool, true, false, cond, List, [], ◌∷◌, ◌++◌, length, map, Option, Some, None, Ok, refl, sym, ap, subst, ◌∙◌, arith}
-use Rattle.osi_spdu.proofs.Vocabulary.{is_some, flat_map, AllByRecursion, length-append, IsOctets, DuplicateParameter, Code, Kind, ConnectionIdentifier, ConnectAcceptItem, number_of, is_same, is_group, slot_of, codes_of, members_of, canonical, may_enclose, canonical_in, Known, nothing, put, ◌>>=◌, Measured, measured_at, Taking, params_at, params_of, code_among, judged, stored, member_taken, in_group, parameter_taken, in_unit, length_octets, Part, part_octets, Sole, IsPart, Spells, only, MemberOf, MeansInGroup, GroupOf, ParameterOf, KnownOf, MeansInUnit}
-use Rattle.osi_spdu.proofs.basics.options_that_are_added.{Joins, merged, first, sole_one, sole_same, sole_step, sole_back, sole_joins, sole_split, sole_join, joins_both, joins_apart, put_joins, joins_put, joins_free, joins_merged}
+use Rattle.std.proofs.Common.{◌≡◌, ℕ, zero, suc, ◌+◌, ◌<◌, ◌≤◌, Bool, true, false, cond, List, [], ◌∷◌, ◌++◌, length, map, Option, Some}
+use Rattle.std.proofs.Common.{None, Ok, refl, sym, ap, subst, ◌∙◌, arith}
+use Rattle.osi_spdu.proofs.Vocabulary.{is_some, flat_map, AllByRecursion, length-append, IsOctets, DuplicateParameter, Code, Kind}
+use Rattle.osi_spdu.proofs.Vocabulary.{ConnectionIdentifier, ConnectAcceptItem, number_of, is_same, is_group, slot_of, codes_of, members_of}
+use Rattle.osi_spdu.proofs.Vocabulary.{canonical, may_enclose, canonical_in, Known, nothing, put, ◌>>=◌, Measured, measured_at, Taking}
+use Rattle.osi_spdu.proofs.Vocabulary.{params_at, params_of, code_among, judged, stored, member_taken, in_group, parameter_taken, in_unit}
+use Rattle.osi_spdu.proofs.Vocabulary.{length_octets, Part, part_octets, Sole, IsPart, Spells, only, MemberOf, MeansInGroup, GroupOf}
+use Rattle.osi_spdu.proofs.Vocabulary.{ParameterOf, KnownOf, MeansInUnit}
+use Rattle.osi_spdu.proofs.basics.options_that_are_added.{Joins, merged, first, sole_one, sole_same, sole_step, sole_back, sole_joins}
+use Rattle.osi_spdu.proofs.basics.options_that_are_added.{sole_split, sole_join, joins_both, joins_apart, put_joins, joins_put, joins_free}
+use Rattle.osi_spdu.proofs.basics.options_that_are_added.{joins_merged}
 use Rattle.osi_spdu.proofs.basics.the_steps_of_reading.{bind_ok, bind_of, ok_is, guard_ok, is_none_of, none_is, same_true, same_refl}
 use Rattle.osi_spdu.proofs.basics.length_indicators.{octets-tail, measured_ok, measured_again, indicator_len}
 
@@ -23,7 +31,8 @@ pub record Reads (means : ℕ → List ℕ → Known → Type 0) (known more : K
   pub each : AllByRecursion (IsPart means) parts
   pub once : (c : Code) → Sole (known c ∷ map (λ p. p.gives c) parts) (more c)
 
-pub params_found : (taking : Taking) (means : ℕ → List ℕ → Known → Type 0) → Follows taking means → (n at : ℕ) (known more : Known) (octets : List ℕ)
+pub params_found : (taking : Taking) (means : ℕ → List ℕ → Known → Type 0) → Follows taking means →
+    (n at : ℕ) (known more : Known) (octets : List ℕ)
     → length octets ≤ n → IsOctets octets → params_at taking n at known octets ≡ Ok more → Reads means known more octets
 unfolding params_at
 params_found taking means follows n at known more [] le fits e =
@@ -35,23 +44,30 @@ params_found taking means follows n at known more [] le fits e =
     }
 params_found taking means follows zero at known more (code ∷ octets) le fits e = absurd (omega arith)
 params_found taking means follows (suc n) at known more (code ∷ octets) le fits e =
-    let a = bind_ok (measured_at at octets) (λ m. taking at (at + (1 + m.used)) code m.value known >>= λ k. params_at taking n (at + (1 + m.used + length m.value)) k m.rest) more e in
+    let a = bind_ok (measured_at at octets)
+        (λ m. taking at (at + (1 + m.used)) code m.value known >>= λ k. params_at taking n (at + (1 + m.used + length m.value)) k m.rest)
+        more e in
     let m = a.0 in
-    let b = bind_ok (taking at (at + (1 + m.used)) code m.value known) (λ k. params_at taking n (at + (1 + m.used + length m.value)) k m.rest) more a.2 in
+    let b = bind_ok (taking at (at + (1 + m.used)) code m.value known)
+        (λ k. params_at taking n (at + (1 + m.used + length m.value)) k m.rest) more a.2 in
     let is = measured_ok at octets m (octets-tail code octets fits) a.1 in
     let one = follows.takes at (at + (1 + m.used)) code m.value known b.0 is.value_octets b.1 in
-    let rest = params_found taking means follows n (at + (1 + m.used + length m.value)) b.0 more m.rest (omega (arith, is.shorter)) is.rest_octets b.2 in
+    let rest = params_found taking means follows n (at + (1 + m.used + length m.value)) b.0 more m.rest (omega (arith, is.shorter))
+        is.rest_octets b.2 in
     let part : Part = record { code = code; long = is.long; value = m.value; gives = one.0 } in
     let byte : code < 256 = fits 0 in
     record {
       parts = part ∷ rest.parts;
-      whole = ap (λ (t : List ℕ). code ∷ t) (is.parts ∙ ap (λ (t : List ℕ). length_octets is.long (length m.value) ++ m.value ++ t) rest.whole);
+      whole = ap (λ (t : List ℕ). code ∷ t)
+          (is.parts ∙ ap (λ (t : List ℕ). length_octets is.long (length m.value) ++ m.value ++ t) rest.whole);
       each = ((byte, is.counted, one.1), rest.each);
       once = λ c. sole_back (one.0 c) (known c) (b.0 c) (map (λ p. p.gives c) rest.parts) (more c) (one.2 c) (rest.once c);
     }
 
-pub params_only : (taking : Taking) (means : ℕ → List ℕ → Known → Type 0) → Follows taking means → (n at : ℕ) (known more : Known) (parts : List Part)
-    → length (flat_map part_octets parts) ≤ n → AllByRecursion (IsPart means) parts → ((c : Code) → Sole (known c ∷ map (λ p. p.gives c) parts) (more c))
+pub params_only : (taking : Taking) (means : ℕ → List ℕ → Known → Type 0) → Follows taking means →
+    (n at : ℕ) (known more : Known) (parts : List Part)
+    → length (flat_map part_octets parts) ≤ n → AllByRecursion (IsPart means) parts →
+        ((c : Code) → Sole (known c ∷ map (λ p. p.gives c) parts) (more c))
     → params_at taking n at known (flat_map part_octets parts) ≡ Ok more
 unfolding params_at
 params_only taking means follows n at known more [] le each once =
@@ -62,28 +78,34 @@ params_only taking means follows (suc n) at known more (p ∷ parts) le each onc
     let joins : JoinsAll p.gives known mid = λ c. sole_joins (p.gives c) (known c) (map (λ q. q.gives c) parts) (more c) (once c) in
     let after = at + (1 + indicator_len p.long + length p.value) in
     let one = follows.back at (at + (1 + indicator_len p.long)) p.code p.value p.gives known mid each.0.2 joins in
-    let shorter : length (flat_map part_octets parts) ≤ n = omega (arith, length-append (length_octets p.long (length p.value) ++ p.value) (flat_map part_octets parts)) in
-    let rest = params_only taking means follows n after mid more parts shorter each.1 (λ c. sole_step (p.gives c) (known c) (mid c) (map (λ q. q.gives c) parts) (more c) (joins c) (once c)) in
+    let shorter : length (flat_map part_octets parts) ≤ n =
+        omega (arith, length-append (length_octets p.long (length p.value) ++ p.value) (flat_map part_octets parts)) in
+    let rest = params_only taking means follows n after mid more parts shorter each.1
+        (λ c. sole_step (p.gives c) (known c) (mid c) (map (λ q. q.gives c) parts) (more c) (joins c) (once c)) in
     let made : Measured = record { used = indicator_len p.long; value = p.value; rest = flat_map part_octets parts } in
     let tail = length_octets p.long (length p.value) ++ p.value ++ flat_map part_octets parts in
     bind_of (measured_at at tail)
     (λ m. taking at (at + (1 + m.used)) p.code m.value known >>= λ k. params_at taking n (at + (1 + m.used + length m.value)) k m.rest)
     made (Ok more) (measured_again at p.long p.value (flat_map part_octets parts) each.0.1)
-    (bind_of (taking at (at + (1 + indicator_len p.long)) p.code p.value known) (λ k. params_at taking n after k (flat_map part_octets parts)) mid (Ok more) one rest)
+    (bind_of (taking at (at + (1 + indicator_len p.long)) p.code p.value known)
+        (λ k. params_at taking n after k (flat_map part_octets parts)) mid (Ok more) one rest)
 
 -- ---- one parameter
 
-judged_ok : (at : ℕ) (c : Code) (known more : Known) (o : Option (List ℕ)) → judged at c known o ≡ Ok more → (form : List ℕ) × (o ≡ Some form) × (more ≡ put (slot_of c) form known)
+judged_ok : (at : ℕ) (c : Code) (known more : Known) (o : Option (List ℕ)) → judged at c known o ≡ Ok more →
+    (form : List ℕ) × (o ≡ Some form) × (more ≡ put (slot_of c) form known)
 judged_ok at c known more None e = absurd cc
 judged_ok at c known more (Some form) e = (form, refl, sym (ok_is (put (slot_of c) form known) more e))
 
 -- a value that was stored found its slot free
 pub stored_ok : (kind : Kind) (at : ℕ) (c : Code) (value : List ℕ) (known more : Known) → stored kind at c value known ≡ Ok more
-    → (form : List ℕ) × (canonical_in kind c value ≡ Some form) × (more ≡ put (slot_of c) form known) × JoinsAll (only (slot_of c) form) known more
+    → (form : List ℕ) × (canonical_in kind c value ≡ Some form) × (more ≡ put (slot_of c) form known) ×
+        JoinsAll (only (slot_of c) form) known more
 unfolding stored
 stored_ok kind at c value known more h0 = grind (arith, guard_ok, judged_ok, is_none_of, put_joins, same_true, JoinsAll)
 
-pub stored_back : (kind : Kind) (at : ℕ) (c : Code) (value form : List ℕ) (known more : Known) → canonical_in kind c value ≡ Some form → JoinsAll (only (slot_of c) form) known more
+pub stored_back : (kind : Kind) (at : ℕ) (c : Code) (value form : List ℕ) (known more : Known) → canonical_in kind c value ≡ Some form →
+    JoinsAll (only (slot_of c) form) known more
     → stored kind at c value known ≡ Ok more
 unfolding stored
 stored_back kind at c value form known more h0 h1 = grind (arith, joins_free, same_refl, none_is, joins_put)
@@ -103,7 +125,8 @@ member_takes kind at value known more (Some c) e =
     let s = stored_ok kind at c value known more e in
     (only (slot_of c) s.0, (s.0, s.1, refl), s.3)
 
-member_back : (kind : Kind) (at : ℕ) (value : List ℕ) (gives known more : Known) (o : Option Code) → MemberOf kind value gives o → JoinsAll gives known more
+member_back : (kind : Kind) (at : ℕ) (value : List ℕ) (gives known more : Known) (o : Option Code) → MemberOf kind value gives o →
+    JoinsAll gives known more
     → member_taken kind at value known o ≡ Ok more
 member_back kind at value gives known more None m j =
     ap (λ (k : Known). Ok k) (same_of_nothing known more (subst (λ (g : Known). JoinsAll g known more) m j))
@@ -127,30 +150,38 @@ pub group_form : (kind : Kind) (c : Code) (value : List ℕ) → is_group c ≡ 
 unfolding is_group canonical canonical_in may_enclose number_of
 group_form kind c value h0 = grind arith
 
-group_takes : (kind : Kind) (body : ℕ) (c : Code) (value : List ℕ) (known mid more : Known) → IsOctets value → JoinsAll (only c []) known mid
-    → params_of (in_group kind (members_of kind c)) body mid value ≡ Ok more → (gives : Known) × GroupOf kind c value gives × JoinsAll gives known more
+group_takes : (kind : Kind) (body : ℕ) (c : Code) (value : List ℕ) (known mid more : Known) → IsOctets value →
+    JoinsAll (only c []) known mid
+    → params_of (in_group kind (members_of kind c)) body mid value ≡ Ok more →
+        (gives : Known) × GroupOf kind c value gives × JoinsAll gives known more
 group_takes kind body c value known mid more fits joins e =
     let members = members_of kind c in
-    let r = params_found (in_group kind members) (MeansInGroup kind members) (group_follows kind members) (length value) body mid more value (omega arith) fits e in
+    let r = params_found (in_group kind members) (MeansInGroup kind members) (group_follows kind members) (length value) body mid more value
+        (omega arith) fits e in
     let inner : Known = λ d. first (map (λ p. p.gives d) r.parts) in
     let split = λ (d : Code). sole_split (mid d) (map (λ p. p.gives d) r.parts) (more d) (r.once d) in
     let both = λ (d : Code). joins_both (only c [] d) (inner d) (known d) (mid d) (more d) (joins d) ((split d).1) in
-    let spelled : Spells (MeansInGroup kind members) inner value = record { parts = r.parts; whole = r.whole; each = r.each; once = λ d. (split d).0 } in
+    let spelled : Spells (MeansInGroup kind members) inner value =
+        record { parts = r.parts; whole = r.whole; each = r.each; once = λ d. (split d).0 } in
     ((λ d. first (only c [] d ∷ inner d ∷ [])), (inner, spelled, λ d. (both d).0), λ d. (both d).1)
 
-group_back : (kind : Kind) (at body : ℕ) (c : Code) (value : List ℕ) (gives known more : Known) → is_group c ≡ true → GroupOf kind c value gives → JoinsAll gives known more
+group_back : (kind : Kind) (at body : ℕ) (c : Code) (value : List ℕ) (gives known more : Known) → is_group c ≡ true →
+    GroupOf kind c value gives → JoinsAll gives known more
     → (stored kind at c value known >>= λ mid. params_of (in_group kind (members_of kind c)) body mid value) ≡ Ok more
 group_back kind at body c value gives known more is m j =
     let members = members_of kind c in
     let mid : Known = put c [] known in
     let apart = λ (d : Code). joins_apart (only c [] d) (m.0 d) (gives d) (known d) (more d) (m.2 d) (j d) in
     let same = λ (d : Code). joins_merged (is_same d c) [] (known d) ((apart d).0) in
-    let presence : JoinsAll (only c []) known mid = λ d. subst (λ (k : Option (List ℕ)). Joins (only c [] d) (known d) k) (same d) ((apart d).0) in
+    let presence : JoinsAll (only c []) known mid =
+        λ d. subst (λ (k : Option (List ℕ)). Joins (only c [] d) (known d) k) (same d) ((apart d).0) in
     let contents : JoinsAll m.0 mid more = λ d. subst (λ (k : Option (List ℕ)). Joins (m.0 d) k (more d)) (same d) ((apart d).1) in
     let one : stored kind at c value known ≡ Ok mid =
-    stored_back kind at c value [] known mid (group_form kind c value is) (subst (λ (s : Code). JoinsAll (only s []) known mid) (sym (group_slot c is)) presence) in
+    stored_back kind at c value [] known mid (group_form kind c value is)
+        (subst (λ (s : Code). JoinsAll (only s []) known mid) (sym (group_slot c is)) presence) in
     let read : params_of (in_group kind members) body mid (flat_map part_octets m.1.parts) ≡ Ok more =
-    params_only (in_group kind members) (MeansInGroup kind members) (group_follows kind members) (length (flat_map part_octets m.1.parts)) body mid more m.1.parts (omega arith) m.1.each
+    params_only (in_group kind members) (MeansInGroup kind members) (group_follows kind members) (length (flat_map part_octets m.1.parts))
+        body mid more m.1.parts (omega arith) m.1.each
     (λ d. sole_join (m.0 d) (mid d) (map (λ p. p.gives d) m.1.parts) (more d) (m.1.once d) (contents d)) in
     bind_of (stored kind at c value known) (λ k. params_of (in_group kind members) body k value) mid (Ok more) one
     (subst (λ (v : List ℕ). params_of (in_group kind members) body mid v ≡ Ok more) (sym m.1.whole) read)
@@ -162,26 +193,31 @@ opened_takes kind at body c value known more true is fits e =
     let a = bind_ok (stored kind at c value known) (λ mid. params_of (in_group kind (members_of kind c)) body mid value) more e in
     let s = stored_ok kind at c value known a.0 a.1 in
     let form : s.0 ≡ [] = (let h : Some s.0 ≡ Some [] = sym s.1 ∙ group_form kind c value is in cc) in
-    let joins : JoinsAll (only c []) known a.0 = subst (λ (x : Code). JoinsAll (only x []) known a.0) (group_slot c is) (subst (λ (v : List ℕ). JoinsAll (only (slot_of c) v) known a.0) form s.3) in
+    let joins : JoinsAll (only c []) known a.0 =
+        subst (λ (x : Code). JoinsAll (only x []) known a.0) (group_slot c is)
+        (subst (λ (v : List ℕ). JoinsAll (only (slot_of c) v) known a.0) form s.3) in
     group_takes kind body c value known a.0 more fits joins a.2
 opened_takes kind at body c value known more false is fits e =
     let a = bind_ok (stored kind at c value known) (λ mid. Ok mid) more e in
     let s = stored_ok kind at c value known a.0 a.1 in
     (only (slot_of c) s.0, (s.0, s.1, refl), subst (λ (m : Known). JoinsAll (only (slot_of c) s.0) known m) (ok_is a.0 more a.2) s.3)
 
-opened_back : (kind : Kind) (at body : ℕ) (c : Code) (value : List ℕ) (gives known more : Known) (b : Bool) → is_group c ≡ b → ParameterOf kind c value gives b → JoinsAll gives known more
+opened_back : (kind : Kind) (at body : ℕ) (c : Code) (value : List ℕ) (gives known more : Known) (b : Bool) → is_group c ≡ b →
+    ParameterOf kind c value gives b → JoinsAll gives known more
     → (stored kind at c value known >>= λ mid. cond b (params_of (in_group kind (members_of kind c)) body mid value) (Ok mid)) ≡ Ok more
 opened_back kind at body c value gives known more true is m j = group_back kind at body c value gives known more is m j
 opened_back kind at body c value gives known more false is m j =
     bind_of (stored kind at c value known) (λ mid. Ok mid) more (Ok more)
     (stored_back kind at c value m.0 known more m.1 (subst (λ (g : Known). JoinsAll g known more) m.2 j)) refl
 
-parameter_takes : (kind : Kind) (at body : ℕ) (value : List ℕ) (known more : Known) (o : Option Code) → IsOctets value → parameter_taken kind at body value known o ≡ Ok more
+parameter_takes : (kind : Kind) (at body : ℕ) (value : List ℕ) (known more : Known) (o : Option Code) → IsOctets value →
+    parameter_taken kind at body value known o ≡ Ok more
     → (gives : Known) × KnownOf kind value gives o × JoinsAll gives known more
 parameter_takes kind at body value known more None fits e = (nothing, refl, joins_nothing known more (ok_is known more e))
 parameter_takes kind at body value known more (Some c) fits e = opened_takes kind at body c value known more (is_group c) refl fits e
 
-parameter_back : (kind : Kind) (at body : ℕ) (value : List ℕ) (gives known more : Known) (o : Option Code) → KnownOf kind value gives o → JoinsAll gives known more
+parameter_back : (kind : Kind) (at body : ℕ) (value : List ℕ) (gives known more : Known) (o : Option Code) → KnownOf kind value gives o →
+    JoinsAll gives known more
     → parameter_taken kind at body value known o ≡ Ok more
 parameter_back kind at body value gives known more None m j =
     ap (λ (k : Known). Ok k) (same_of_nothing known more (subst (λ (g : Known). JoinsAll g known more) m j))
@@ -191,5 +227,6 @@ pub unit_follows : (kind : Kind) → Follows (in_unit kind) (MeansInUnit kind)
 unfolding in_unit MeansInUnit
 unit_follows kind = record {
   takes = λ at body code value known more fits e. parameter_takes kind at body value known more (code_among (codes_of kind) code) fits e;
-  back = λ at body code value gives known more m j. parameter_back kind at body value gives known more (code_among (codes_of kind) code) m j;
+  back = λ at body code value gives known more m j. parameter_back kind at body value gives known more (code_among (codes_of kind) code) m
+      j;
 }

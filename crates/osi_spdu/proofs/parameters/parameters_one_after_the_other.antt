@@ -1,23 +1,30 @@
 -- Reading parameters one after the other, by a loop.
-use Rattle.std.proofs.Common.{inl, inr, ◌≡◌, ℕ, zero, suc, ◌+◌, ◌*◌, ◌<◌, ◌≤◌, true, false, ltb, eqb, List, [], ◌∷◌, length, take, drop, Option, Some, None, Result, Ok, Err, refl, sym, ap, subst, ◌∙◌, arith}
-use Rattle.osi_spdu.proofs.Vocabulary.{is_some, length-drop, SpduFault, LengthPastEnd, DuplicateParameter, BadValue, Code, Kind, Params, number_of, slot_of, canonical_in, Known, ◌>>=◌, Measured, counted_at, long_at, measured_at, parameter_at, Taking, params_at, params_of, judged, stored, place_of, cells_of, filled, slots_of}
+use Rattle.std.proofs.Common.{inl, inr, ◌≡◌, ℕ, zero, suc, ◌+◌, ◌*◌, ◌<◌, ◌≤◌, true, false, ltb, eqb, List, [], ◌∷◌, length, take, drop}
+use Rattle.std.proofs.Common.{Option, Some, None, Result, Ok, Err, refl, sym, ap, subst, ◌∙◌, arith}
+use Rattle.osi_spdu.proofs.Vocabulary.{is_some, length-drop, SpduFault, LengthPastEnd, DuplicateParameter, BadValue, Code, Kind, Params}
+use Rattle.osi_spdu.proofs.Vocabulary.{number_of, slot_of, canonical_in, Known, ◌>>=◌, Measured, counted_at, long_at, measured_at}
+use Rattle.osi_spdu.proofs.Vocabulary.{parameter_at, Taking, params_at, params_of, judged, stored, place_of, cells_of, filled, slots_of}
 use Rattle.osi_spdu.proofs.basics.the_steps_of_reading.{bind_ok, bind_of, ok_is, guard_ok}
 use Rattle.osi_spdu.proofs.basics.length_indicators.{chosen}
 use Rattle.osi_spdu.proofs.parameters.a_slot_is_filled.{slots_put}
 
 -- ---- a slot
 
-pub stored_twice : (kind : Kind) (at n : ℕ) (c : Code) (value : List ℕ) (known : Known) → is_some (known (slot_of c)) ≡ true → n ≡ number_of c → stored kind at c value known ≡ Err (DuplicateParameter n at)
+pub stored_twice : (kind : Kind) (at n : ℕ) (c : Code) (value : List ℕ) (known : Known) → is_some (known (slot_of c)) ≡ true →
+    n ≡ number_of c → stored kind at c value known ≡ Err (DuplicateParameter n at)
 unfolding stored
 stored_twice kind at n c value known e same = rw (e, same) refl
 
-pub stored_bad : (kind : Kind) (at n : ℕ) (c : Code) (value : List ℕ) (known : Known) → is_some (known (slot_of c)) ≡ false → is_some (canonical_in kind c value) ≡ false → n ≡ number_of c
+pub stored_bad : (kind : Kind) (at n : ℕ) (c : Code) (value : List ℕ) (known : Known) → is_some (known (slot_of c)) ≡ false →
+    is_some (canonical_in kind c value) ≡ false → n ≡ number_of c
     → stored kind at c value known ≡ Err (BadValue n at)
 unfolding stored
 stored_bad kind at n c value known h0 h1 h2 = grind arith
 
-pub stored_done : (kind : Kind) (at : ℕ) (c : Code) (value : List ℕ) (p q : Params) → is_some (slots_of p (slot_of c)) ≡ false → is_some (canonical_in kind c value) ≡ true
-    → cells_of q ≡ filled (cells_of p) (place_of (slot_of c)) (canonical_in kind c value) → stored kind at c value (slots_of p) ≡ Ok (slots_of q)
+pub stored_done : (kind : Kind) (at : ℕ) (c : Code) (value : List ℕ) (p q : Params) → is_some (slots_of p (slot_of c)) ≡ false →
+    is_some (canonical_in kind c value) ≡ true
+    → cells_of q ≡ filled (cells_of p) (place_of (slot_of c)) (canonical_in kind c value) →
+        stored kind at c value (slots_of p) ≡ Ok (slots_of q)
 unfolding stored
 stored_done kind at c value p q h0 h1 h2 = grind (arith, slots_put)
 
@@ -39,11 +46,13 @@ unfolding measured_at
 measured_rest at octets m h0 = grind (arith, chosen, long_rest, counted_rest)
 
 -- two results of steps that agree if the first did not fail
-same_bind : {A B : Type 0} (r : Result A SpduFault) (f g : A → Result B SpduFault) → ((x : A) → r ≡ Ok x → f x ≡ g x) → (r >>= f) ≡ (r >>= g)
+same_bind : {A B : Type 0} (r : Result A SpduFault) (f g : A → Result B SpduFault) → ((x : A) → r ≡ Ok x → f x ≡ g x) →
+    (r >>= f) ≡ (r >>= g)
 same_bind (Ok x) f g h = h x refl
 same_bind (Err e) f g h = refl
 
-params_fuel : (taking : Taking) (n k at : ℕ) (known : Known) (octets : List ℕ) → length octets ≤ n → length octets ≤ k → params_at taking n at known octets ≡ params_at taking k at known octets
+params_fuel : (taking : Taking) (n k at : ℕ) (known : Known) (octets : List ℕ) → length octets ≤ n → length octets ≤ k →
+    params_at taking n at known octets ≡ params_at taking k at known octets
 unfolding params_at
 params_fuel taking n k at known [] hn hk = refl
 params_fuel taking zero k at known (code ∷ octets) hn hk = absurd (omega arith)
@@ -60,7 +69,8 @@ params_fuel taking (suc n) (suc k) at known (code ∷ octets) hn hk =
 
 -- one parameter, and then the others
 pub params_next : (taking : Taking) (at code : ℕ) (m : Measured) (known : Known) (octets : List ℕ) → parameter_at at octets ≡ Ok (code, m)
-    → params_of taking at known octets ≡ (taking at (at + (1 + m.used)) code m.value known >>= λ x. params_of taking (at + (1 + m.used + length m.value)) x m.rest)
+    → params_of taking at known
+        octets ≡ (taking at (at + (1 + m.used)) code m.value known >>= λ x. params_of taking (at + (1 + m.used + length m.value)) x m.rest)
 unfolding parameter_at params_at
 params_next taking at code m known [] e = absurd cc
 params_next taking at code m known (c ∷ octets) e =
@@ -71,9 +81,11 @@ params_next taking at code m known (c ∷ octets) e =
     let read : measured_at at octets ≡ Ok m = a.1 ∙ ap (λ (k : Measured). Ok k) same in
     let r = measured_rest at octets m read in
     bind_of (measured_at at octets)
-    (λ k. taking at (at + (1 + k.used)) c k.value known >>= λ x. params_at taking (length octets) (at + (1 + k.used + length k.value)) x k.rest) m
+    (λ k. taking at (at + (1 + k.used)) c k.value known >>= λ x. params_at taking (length octets) (at + (1 + k.used + length k.value)) x
+        k.rest) m
     (taking at (at + (1 + m.used)) code m.value known >>= λ x. params_of taking (at + (1 + m.used + length m.value)) x m.rest) read
-    (subst (λ (d : ℕ). (taking at (at + (1 + m.used)) c m.value known >>= λ x. params_at taking (length octets) (at + (1 + m.used + length m.value)) x m.rest)
+    (subst (λ (d : ℕ). (taking at (at + (1 + m.used)) c m.value known >>= λ x. params_at taking (length octets)
+        (at + (1 + m.used + length m.value)) x m.rest)
     ≡ (taking at (at + (1 + m.used)) d m.value known >>= λ x. params_of taking (at + (1 + m.used + length m.value)) x m.rest)) head
     (same_bind (taking at (at + (1 + m.used)) c m.value known)
     (λ x. params_at taking (length octets) (at + (1 + m.used + length m.value)) x m.rest)
@@ -83,7 +95,8 @@ params_next taking at code m known (c ∷ octets) e =
 abbrev tagged : ℕ → Measured → Result (ℕ × Measured) SpduFault
 tagged c m = Ok (c, m)
 
-pub params_fault : (taking : Taking) (at : ℕ) (known : Known) (octets : List ℕ) (fault : SpduFault) → 0 < length octets → parameter_at at octets ≡ Err fault → params_of taking at known octets ≡ Err fault
+pub params_fault : (taking : Taking) (at : ℕ) (known : Known) (octets : List ℕ) (fault : SpduFault) → 0 < length octets →
+    parameter_at at octets ≡ Err fault → params_of taking at known octets ≡ Err fault
 unfolding parameter_at params_at
 params_fault taking at known octets fault h0 h1 = grind arith
 
@@ -95,25 +108,34 @@ pub record IsTaking (taking : Taking) (at : ℕ) (known : Known) (rest : List �
 pub taking_start : (taking : Taking) (at : ℕ) (known : Known) (octets : List ℕ) → IsTaking taking at known octets at known octets
 taking_start taking at known octets = record { taken = refl; room = refl }
 
-pub taking_next : (taking : Taking) (at code : ℕ) (m : Measured) (known more : Known) (rest : List ℕ) (start : ℕ) (before : Known) (octets : List ℕ)
-    → parameter_at at rest ≡ Ok (code, m) → 1 + m.used + length m.value + length m.rest ≡ length rest → taking at (at + (1 + m.used)) code m.value known ≡ Ok more
-    → IsTaking taking at known rest start before octets → IsTaking taking (at + (1 + m.used + length m.value)) more m.rest start before octets
+pub taking_next : (taking : Taking) (at code : ℕ) (m : Measured) (known more : Known) (rest : List ℕ) (start : ℕ) (before : Known)
+    (octets : List ℕ)
+    → parameter_at at rest ≡ Ok (code, m) → 1 + m.used + length m.value + length m.rest ≡ length rest →
+        taking at (at + (1 + m.used)) code m.value known ≡ Ok more
+    → IsTaking taking at known rest start before octets →
+        IsTaking taking (at + (1 + m.used + length m.value)) more m.rest start before octets
 taking_next taking at code m known more rest start before octets read len one so_far = record {
   taken =
-      sym (bind_of (taking at (at + (1 + m.used)) code m.value known) (λ x. params_of taking (at + (1 + m.used + length m.value)) x m.rest) more (params_of taking (at + (1 + m.used + length m.value)) more m.rest) one refl)
+      sym (bind_of (taking at (at + (1 + m.used)) code m.value known) (λ x. params_of taking (at + (1 + m.used + length m.value)) x m.rest)
+          more (params_of taking (at + (1 + m.used + length m.value)) more m.rest) one refl)
       ∙ sym (params_next taking at code m known rest read) ∙ so_far.taken;
   room = (let r = so_far.room in omega arith);
 }
 
-pub taking_fault : (taking : Taking) (at : ℕ) (known : Known) (rest : List ℕ) (start : ℕ) (before : Known) (octets : List ℕ) (fault : SpduFault)
-    → 0 < length rest → parameter_at at rest ≡ Err fault → IsTaking taking at known rest start before octets → params_of taking start before octets ≡ Err fault
-taking_fault taking at known rest start before octets fault some e so_far = sym so_far.taken ∙ params_fault taking at known rest fault some e
+pub taking_fault : (taking : Taking) (at : ℕ) (known : Known) (rest : List ℕ) (start : ℕ) (before : Known) (octets : List ℕ)
+    (fault : SpduFault)
+    → 0 < length rest → parameter_at at rest ≡ Err fault → IsTaking taking at known rest start before octets →
+        params_of taking start before octets ≡ Err fault
+taking_fault taking at known rest start before octets fault some e so_far =
+    sym so_far.taken ∙ params_fault taking at known rest fault some e
 
-pub taking_refused : (taking : Taking) (at code : ℕ) (m : Measured) (known : Known) (rest : List ℕ) (start : ℕ) (before : Known) (octets : List ℕ) (fault : SpduFault)
+pub taking_refused : (taking : Taking) (at code : ℕ) (m : Measured) (known : Known) (rest : List ℕ) (start : ℕ) (before : Known)
+    (octets : List ℕ) (fault : SpduFault)
     → parameter_at at rest ≡ Ok (code, m) → taking at (at + (1 + m.used)) code m.value known ≡ Err fault
     → IsTaking taking at known rest start before octets → params_of taking start before octets ≡ Err fault
 taking_refused taking at code m known rest start before octets fault read e so_far =
-    sym so_far.taken ∙ params_next taking at code m known rest read ∙ ap (λ r. r >>= λ x. params_of taking (at + (1 + m.used + length m.value)) x m.rest) e
+    sym so_far.taken ∙ params_next taking at code m known rest read ∙
+        ap (λ r. r >>= λ x. params_of taking (at + (1 + m.used + length m.value)) x m.rest) e
 
 pub taking_end : (taking : Taking) (at : ℕ) (known : Known) (rest : List ℕ) (start : ℕ) (before : Known) (octets : List ℕ) → length rest ≡ 0
     → IsTaking taking at known rest start before octets → params_of taking start before octets ≡ Ok known

@@ -1,14 +1,18 @@
 -- How the reader of a TSDU continues after the first unit.
 use Rattle.std.proofs.Common.{◌≡◌, ℕ, Bool, true, false, ◌&&◌, List, [], ◌∷◌, length, Some, Result, Ok, Err, refl, sym, ◌∙◌, arith}
 use Rattle.osi_spdu.specs.declared.reading.Found.{Found}
-use Rattle.osi_spdu.proofs.Vocabulary.{IfOk, IsOkAnd, IsOctets, SpduFault, TrailingOctets, Kind, category_of, may_stand, Category, Zero, One, Two, Behind, Group, Contents, Units, Params, known_of, is_formed, is_joined, IsFormedTsdu, TsduFits, Gives, Placed, unit_at, contents_of, behind_at, ended, continued, tsdu_at, SpellsTsdu, placed_of, units_behind, units_of}
+use Rattle.osi_spdu.proofs.Vocabulary.{IfOk, IsOkAnd, IsOctets, SpduFault, TrailingOctets, Kind, category_of, may_stand, Category, Zero}
+use Rattle.osi_spdu.proofs.Vocabulary.{One, Two, Behind, Group, Contents, Units, Params, known_of, is_formed, is_joined, IsFormedTsdu}
+use Rattle.osi_spdu.proofs.Vocabulary.{TsduFits, Gives, Placed, unit_at, contents_of, behind_at, ended, continued, tsdu_at, SpellsTsdu}
+use Rattle.osi_spdu.proofs.Vocabulary.{placed_of, units_behind, units_of}
 use Rattle.osi_spdu.proofs.basics.the_steps_of_reading.{ok_is}
 use Rattle.osi_spdu.proofs.form.what_is_read_has_a_form.{placed_formed}
 use Rattle.osi_spdu.proofs.form.values_in_memory_are_in_their_form.{group_formed}
 use Rattle.osi_spdu.proofs.form.what_was_read_fits.{tsdu_fits}
 use Rattle.osi_spdu.proofs.tsdu.units_and_tsdus_are_read.{tsdu_found, tsdu_only}
 
-pub found_formed : (params : Params) (r : Result Found SpduFault) (second : Bool) (at : ℕ) (octets : List ℕ) → IsOctets octets → Gives (placed_of params) r (unit_at second at octets)
+pub found_formed : (params : Params) (r : Result Found SpduFault) (second : Bool) (at : ℕ) (octets : List ℕ) → IsOctets octets →
+    Gives (placed_of params) r (unit_at second at octets)
     → IfOk r (λ f. is_formed f.kind (known_of params) ≡ true)
 found_formed params (Ok f) second at octets fits e = placed_formed second at octets (placed_of params f) fits e
 found_formed params (Err d) second at octets fits e = tt
@@ -27,31 +31,37 @@ ended_some : (at : ℕ) (octets : List ℕ) (unit : Contents) → (length octets
 ended_some at [] unit h = absurd (h refl)
 ended_some at (b ∷ octets) unit h = refl
 
-pub continued_alone : (category : Category) (p : Placed) → (category ≡ Zero → ⊥) → length p.rest ≡ 0 → continued category p ≡ Ok (contents_of p [] ∷ [])
+pub continued_alone : (category : Category) (p : Placed) → (category ≡ Zero → ⊥) → length p.rest ≡ 0 →
+    continued category p ≡ Ok (contents_of p [] ∷ [])
 continued_alone Zero p other e = absurd (other refl)
 continued_alone _ p other e = ended_none p.end p.rest (contents_of p []) e
 
-pub continued_trailing : (category : Category) (p : Placed) → (category ≡ Zero → ⊥) → (length p.rest ≡ 0 → ⊥) → continued category p ≡ Err (TrailingOctets p.end)
+pub continued_trailing : (category : Category) (p : Placed) → (category ≡ Zero → ⊥) → (length p.rest ≡ 0 → ⊥) →
+    continued category p ≡ Err (TrailingOctets p.end)
 continued_trailing Zero p other h = absurd (other refl)
 continued_trailing _ p other h = ended_some p.end p.rest (contents_of p []) h
 
 -- ---- the laws, at what a reader returned
 
-pub all_found : (r : Result Group SpduFault) (octets : List ℕ) → IsOctets octets → Gives units_of r (tsdu_at octets) → IfOk r (λ g. SpellsTsdu (units_of g) octets)
+pub all_found : (r : Result Group SpduFault) (octets : List ℕ) → IsOctets octets → Gives units_of r (tsdu_at octets) →
+    IfOk r (λ g. SpellsTsdu (units_of g) octets)
 all_found (Ok g) octets fits e = tsdu_found octets (units_of g) fits e
 all_found (Err d) octets fits e = tt
 
-pub all_only : (r : Result Group SpduFault) (octets : List ℕ) → Gives units_of r (tsdu_at octets) → (units : Units) → SpellsTsdu units octets → IsOkAnd r (λ g. units_of g ≡ units)
+pub all_only : (r : Result Group SpduFault) (octets : List ℕ) → Gives units_of r (tsdu_at octets) → (units : Units) →
+    SpellsTsdu units octets → IsOkAnd r (λ g. units_of g ≡ units)
 all_only (Ok g) octets e units s = (let h : Ok (units_of g) ≡ Ok units = sym e ∙ tsdu_only units octets s in ok_is (units_of g) units h)
 all_only (Err d) octets e units s = absurd (let h : Err d ≡ Ok units = sym e ∙ tsdu_only units octets s in cc)
 
 -- ---- which units may occur together
 
-pub joined_ok : (first second : Kind) → category_of first ≡ Zero → may_stand true (category_of second) ≡ true → is_joined first (Some second) ≡ true
+pub joined_ok : (first second : Kind) → category_of first ≡ Zero → may_stand true (category_of second) ≡ true →
+    is_joined first (Some second) ≡ true
 unfolding is_joined may_stand
 joined_ok first second h0 h1 = grind arith
 
-pub all_fits : (r : Result Group SpduFault) (octets : List ℕ) → IsOctets octets → Gives units_of r (tsdu_at octets) → IfOk r (λ g. TsduFits (units_of g))
+pub all_fits : (r : Result Group SpduFault) (octets : List ℕ) → IsOctets octets → Gives units_of r (tsdu_at octets) →
+    IfOk r (λ g. TsduFits (units_of g))
 all_fits (Ok g) octets fits e = tsdu_fits (units_of g) octets (tsdu_found octets (units_of g) fits e)
 all_fits (Err d) octets fits e = tt
 

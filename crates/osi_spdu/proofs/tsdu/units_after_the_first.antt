@@ -1,6 +1,9 @@
 -- Units after the first one, given one after the other.
-use Rattle.std.proofs.Common.{◌≡◌, ℕ, zero, suc, ◌-◌, ◌≤◌, ◌==◌, ◌&&◌, ◌||◌, not, true, false, List, [], ◌∷◌, length, get_or, Option, Some, None, Result, Ok, Err, refl, sym, ap, subst, ◌∙◌, arith}
-use Rattle.osi_spdu.proofs.Vocabulary.{is_ok, AllByRecursion, result_unwrap_or, and_parts, or_right, eq-eqb, SpduFault, Kind, Category, Zero, One, Two, kind_named, category_of, may_stand, Units, ◌>>=◌, Next, next_at, behind_at, crowded, takes_rest, is_zero, is_joined, IsFormedUnit, left_at, AreLeft, is_behind}
+use Rattle.std.proofs.Common.{◌≡◌, ℕ, zero, suc, ◌-◌, ◌≤◌, ◌==◌, ◌&&◌, ◌||◌, not, true, false, List, [], ◌∷◌, length, get_or, Option, Some}
+use Rattle.std.proofs.Common.{None, Result, Ok, Err, refl, sym, ap, subst, ◌∙◌, arith}
+use Rattle.osi_spdu.proofs.Vocabulary.{is_ok, AllByRecursion, result_unwrap_or, and_parts, or_right, eq-eqb, SpduFault, Kind, Category}
+use Rattle.osi_spdu.proofs.Vocabulary.{Zero, One, Two, kind_named, category_of, may_stand, Units, ◌>>=◌, Next, next_at, behind_at, crowded}
+use Rattle.osi_spdu.proofs.Vocabulary.{takes_rest, is_zero, is_joined, IsFormedUnit, left_at, AreLeft, is_behind}
 use Rattle.osi_spdu.proofs.tsdu.units_and_tsdus_are_read.{left_read}
 
 abbrev Read : Type 0
@@ -16,19 +19,25 @@ unfolding behind_at
 behind_none room at [] e = refl
 behind_none room at (b ∷ octets) e = absurd (omega arith)
 
-pub behind_full : (room at : ℕ) (octets : List ℕ) → room ≡ 0 → 1 ≤ length octets → behind_at room at octets ≡ Err (crowded at (kind_named true (get_or octets 0 0)))
+pub behind_full : (room at : ℕ) (octets : List ℕ) → room ≡ 0 → 1 ≤ length octets →
+    behind_at room at octets ≡ Err (crowded at (kind_named true (get_or octets 0 0)))
 unfolding behind_at
 behind_full room at octets h0 h1 = grind arith
 
-behind_step : (room at : ℕ) (octets : List ℕ) → 1 ≤ room → 1 ≤ length octets → behind_at room at octets ≡ (next_at at octets >>= λ n. with_first n (behind_at (room - 1) n.end n.rest))
+behind_step : (room at : ℕ) (octets : List ℕ) → 1 ≤ room → 1 ≤ length octets →
+    behind_at room at octets ≡ (next_at at octets >>= λ n. with_first n (behind_at (room - 1) n.end n.rest))
 unfolding behind_at
 behind_step room at octets h0 h1 = grind arith
 
-pub behind_bad : (room at : ℕ) (octets : List ℕ) (f : SpduFault) → 1 ≤ room → 1 ≤ length octets → next_at at octets ≡ Err f → behind_at room at octets ≡ Err f
-behind_bad room at octets f one some e = behind_step room at octets one some ∙ ap (λ r. r >>= λ n. with_first n (behind_at (room - 1) n.end n.rest)) e
+pub behind_bad : (room at : ℕ) (octets : List ℕ) (f : SpduFault) → 1 ≤ room → 1 ≤ length octets → next_at at octets ≡ Err f →
+    behind_at room at octets ≡ Err f
+behind_bad room at octets f one some e = behind_step room at octets one some ∙
+    ap (λ r. r >>= λ n. with_first n (behind_at (room - 1) n.end n.rest)) e
 
-pub behind_goes : (room at : ℕ) (octets : List ℕ) (n : Next) → 1 ≤ room → 1 ≤ length octets → next_at at octets ≡ Ok n → behind_at room at octets ≡ (behind_at (room - 1) n.end n.rest >>= λ us. Ok (n.unit ∷ us))
-behind_goes room at octets n one some e = behind_step room at octets one some ∙ ap (λ r. r >>= λ x. with_first x (behind_at (room - 1) x.end x.rest)) e
+pub behind_goes : (room at : ℕ) (octets : List ℕ) (n : Next) → 1 ≤ room → 1 ≤ length octets → next_at at octets ≡ Ok n →
+    behind_at room at octets ≡ (behind_at (room - 1) n.end n.rest >>= λ us. Ok (n.unit ∷ us))
+behind_goes room at octets n one some e = behind_step room at octets one some ∙
+    ap (λ r. r >>= λ x. with_first x (behind_at (room - 1) x.end x.rest)) e
 
 -- ---- the units that are left
 
@@ -36,7 +45,8 @@ left_of : (room at : ℕ) (octets : List ℕ) (units : Units) → behind_at room
 unfolding left_at
 left_of room at octets units e = ap (λ (r : Read). result_unwrap_or r []) e
 
-are_left : (room at : ℕ) (octets : List ℕ) (units : Units) → behind_at room at octets ≡ Ok units → AllByRecursion IsFormedUnit units → AreLeft room at octets
+are_left : (room at : ℕ) (octets : List ℕ) (units : Units) → behind_at room at octets ≡ Ok units → AllByRecursion IsFormedUnit units →
+    AreLeft room at octets
 are_left room at octets units h0 h1 = grind (arith, left_of)
 
 pub left_none : (room at : ℕ) (octets : List ℕ) → length octets ≡ 0 → AreLeft room at octets
@@ -46,10 +56,12 @@ pub left_empty : (room at : ℕ) (octets : List ℕ) → length octets ≡ 0 →
 left_empty room at octets e = left_of room at octets [] (behind_none room at octets e)
 
 -- a unit before those that are left
-pub left_more : (room at : ℕ) (octets : List ℕ) (n : Next) → 1 ≤ room → 1 ≤ length octets → next_at at octets ≡ Ok n → IsFormedUnit n.unit → AreLeft (room - 1) n.end n.rest → AreLeft room at octets
+pub left_more : (room at : ℕ) (octets : List ℕ) (n : Next) → 1 ≤ room → 1 ≤ length octets → next_at at octets ≡ Ok n → IsFormedUnit n.unit →
+    AreLeft (room - 1) n.end n.rest → AreLeft room at octets
 left_more room at octets n one some e formed left =
     let units = left_at (room - 1) n.end n.rest in
-    let read : behind_at room at octets ≡ Ok (n.unit ∷ units) = behind_goes room at octets n one some e ∙ ap (with_first n) (left_read (room - 1) n.end n.rest left.readable) in
+    let read : behind_at room at octets ≡ Ok (n.unit ∷ units) = behind_goes room at octets n one some e ∙
+        ap (with_first n) (left_read (room - 1) n.end n.rest left.readable) in
     are_left room at octets (n.unit ∷ units) read (formed, left.formed)
 
 -- the first of the units that are left, and those after it
@@ -62,15 +74,18 @@ room_left : (room at : ℕ) (octets : List ℕ) → 1 ≤ length octets → is_o
 room_left zero at octets some e = absurd (let h = ap is_ok (behind_full 0 at octets refl some) in let g : false ≡ true = sym h ∙ e in cc)
 room_left (suc room) at octets some e = omega arith
 
-others_ok : (n : Next) (others : Read) (units : Units) → with_first n others ≡ Ok units → (us : Units) × (others ≡ Ok us) × (units ≡ n.unit ∷ us)
+others_ok : (n : Next) (others : Read) (units : Units) → with_first n others ≡ Ok units →
+    (us : Units) × (others ≡ Ok us) × (units ≡ n.unit ∷ us)
 others_ok n (Ok us) units e = (us, refl, (let h : Ok (n.unit ∷ us) ≡ Ok units = e in cc))
 others_ok n (Err f) units e = absurd cc
 
-pub left_goes : (room at : ℕ) (octets : List ℕ) (n : Next) → 1 ≤ length octets → AreLeft room at octets → next_at at octets ≡ Ok n → GoesOn room at octets n
+pub left_goes : (room at : ℕ) (octets : List ℕ) (n : Next) → 1 ≤ length octets → AreLeft room at octets → next_at at octets ≡ Ok n →
+    GoesOn room at octets n
 left_goes room at octets n some left e =
     let one = room_left room at octets some left.readable in
     let read = left_read room at octets left.readable in
-    let o = others_ok n (behind_at (room - 1) n.end n.rest) (left_at room at octets) (sym (behind_goes room at octets n one some e) ∙ read) in
+    let o = others_ok n (behind_at (room - 1) n.end n.rest) (left_at room at octets) (sym (behind_goes room at octets n one some e) ∙ read)
+        in
     let same = left_of (room - 1) n.end n.rest o.0 o.1 in
     let formed : AllByRecursion IsFormedUnit (n.unit ∷ o.0) = subst (λ (us : Units). AllByRecursion IsFormedUnit us) o.2 left.formed in
     record {
@@ -79,7 +94,8 @@ left_goes room at octets n some left e =
       given = o.2 ∙ ap (λ (us : Units). n.unit ∷ us) (sym same);
     }
 
-pub left_never_bad : (room at : ℕ) (octets : List ℕ) (f : SpduFault) → 1 ≤ length octets → AreLeft room at octets → next_at at octets ≡ Err f → ⊥
+pub left_never_bad : (room at : ℕ) (octets : List ℕ) (f : SpduFault) → 1 ≤ length octets → AreLeft room at octets →
+    next_at at octets ≡ Err f → ⊥
 left_never_bad room at octets f h0 h1 h2 = grind (arith, room_left, behind_bad)
 
 -- ---- reading on, as a loop does
@@ -92,7 +108,8 @@ pub record Leads (whole start : ℕ) (octets : List ℕ) (room at : ℕ) (rest :
 pub leads_start : (room at : ℕ) (octets : List ℕ) → Leads room at octets room at octets
 leads_start room at octets = record { left = λ h. h; refused = λ f h. h }
 
-pub leads_next : (whole start : ℕ) (octets : List ℕ) (room at : ℕ) (rest : List ℕ) (n : Next) → Leads whole start octets room at rest → 1 ≤ room → 1 ≤ length rest → next_at at rest ≡ Ok n → IsFormedUnit n.unit
+pub leads_next : (whole start : ℕ) (octets : List ℕ) (room at : ℕ) (rest : List ℕ) (n : Next) → Leads whole start octets room at rest →
+    1 ≤ room → 1 ≤ length rest → next_at at rest ≡ Ok n → IsFormedUnit n.unit
     → Leads whole start octets (room - 1) n.end n.rest
 leads_next whole start octets room at rest n leads one some e formed = record {
   left = λ h. leads.left (left_more room at rest n one some e formed h);
@@ -113,11 +130,14 @@ pub none_stands : is_behind None [] ≡ true
 unfolding is_behind
 none_stands = refl
 
-pub others_bad : (room at : ℕ) (octets : List ℕ) (n : Next) (f : SpduFault) → 1 ≤ room → 1 ≤ length octets → next_at at octets ≡ Ok n → behind_at (room - 1) n.end n.rest ≡ Err f → behind_at room at octets ≡ Err f
+pub others_bad : (room at : ℕ) (octets : List ℕ) (n : Next) (f : SpduFault) → 1 ≤ room → 1 ≤ length octets → next_at at octets ≡ Ok n →
+    behind_at (room - 1) n.end n.rest ≡ Err f → behind_at room at octets ≡ Err f
 others_bad room at octets n f one some e h = behind_goes room at octets n one some e ∙ ap (with_first n) h
 
-pub others_read : (room at : ℕ) (octets : List ℕ) (n : Next) → 1 ≤ room → 1 ≤ length octets → next_at at octets ≡ Ok n → AreLeft (room - 1) n.end n.rest → behind_at room at octets ≡ Ok (n.unit ∷ left_at (room - 1) n.end n.rest)
-others_read room at octets n one some e left = behind_goes room at octets n one some e ∙ ap (with_first n) (left_read (room - 1) n.end n.rest left.readable)
+pub others_read : (room at : ℕ) (octets : List ℕ) (n : Next) → 1 ≤ room → 1 ≤ length octets → next_at at octets ≡ Ok n →
+    AreLeft (room - 1) n.end n.rest → behind_at room at octets ≡ Ok (n.unit ∷ left_at (room - 1) n.end n.rest)
+others_read room at octets n one some e left = behind_goes room at octets n one some e ∙
+    ap (with_first n) (left_read (room - 1) n.end n.rest left.readable)
 
 -- ---- which units may occur together
 
@@ -132,6 +152,7 @@ joined_two first second e =
     two One h = unfold may_stand in absurd cc
     two Two h = refl
 
-pub joined_behind : (first : Kind) (next : Option Kind) (rest : List ℕ) → category_of first ≡ Zero → is_behind next rest ≡ true → is_joined first next ≡ true
+pub joined_behind : (first : Kind) (next : Option Kind) (rest : List ℕ) → category_of first ≡ Zero → is_behind next rest ≡ true →
+    is_joined first next ≡ true
 unfolding is_joined is_behind may_stand
 joined_behind first next rest h0 h1 = grind (arith, and_parts)

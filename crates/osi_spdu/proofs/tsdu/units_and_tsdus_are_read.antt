@@ -1,6 +1,14 @@
 -- Units and TSDUs: reading is sound and complete.
-use Rattle.std.proofs.Common.{inl, inr, ◌≡◌, ℕ, zero, suc, ◌+◌, ◌≤◌, Bool, true, false, List, [], ◌∷◌, ◌++◌, length, Option, Some, None, Result, Ok, Err, refl, sym, ap, subst, ◌∙◌, eqb, arith}
-use Rattle.osi_spdu.proofs.Vocabulary.{is_some, is_ok, IsSome, result_unwrap_or, flat_map, find, AllByRecursion, eqb-true, append-nil, IsOctets, SpduFault, MissingParameter, BadConcatenation, Code, Kind, GiveTokens, DataTransfer, Category, Zero, One, Two, number_of, si_of, category_of, required_of, kind_named, may_stand, one_kind, later_kinds, Known, nothing, settled, Contents, Units, ◌>>=◌, Measured, measured_at, params_of, in_unit, all_there, Placed, placed_kind, unit_at, contents_of, takes_rest, Next, next_if, next_at, behind_at, ended, continued, tsdu_at, length_octets, part_octets, item_octets, Spells, MeansInUnit, SpellsUnit, HasInformation, EndsTsdu, AreBehind, MayFollow, StandTogether, AreUnits, SpellsTsdu, left_at}
+use Rattle.std.proofs.Common.{inl, inr, ◌≡◌, ℕ, zero, suc, ◌+◌, ◌≤◌, Bool, true, false, List, [], ◌∷◌, ◌++◌, length, Option, Some, None}
+use Rattle.std.proofs.Common.{Result, Ok, Err, refl, sym, ap, subst, ◌∙◌, eqb, arith}
+use Rattle.osi_spdu.proofs.Vocabulary.{is_some, is_ok, IsSome, result_unwrap_or, flat_map, find, AllByRecursion, eqb-true, append-nil}
+use Rattle.osi_spdu.proofs.Vocabulary.{IsOctets, SpduFault, MissingParameter, BadConcatenation, Code, Kind, GiveTokens, DataTransfer}
+use Rattle.osi_spdu.proofs.Vocabulary.{Category, Zero, One, Two, number_of, si_of, category_of, required_of, kind_named, may_stand}
+use Rattle.osi_spdu.proofs.Vocabulary.{one_kind, later_kinds, Known, nothing, settled, Contents, Units, ◌>>=◌, Measured, measured_at}
+use Rattle.osi_spdu.proofs.Vocabulary.{params_of, in_unit, all_there, Placed, placed_kind, unit_at, contents_of, takes_rest, Next, next_if}
+use Rattle.osi_spdu.proofs.Vocabulary.{next_at, behind_at, ended, continued, tsdu_at, length_octets, part_octets, item_octets, Spells}
+use Rattle.osi_spdu.proofs.Vocabulary.{MeansInUnit, SpellsUnit, HasInformation, EndsTsdu, AreBehind, MayFollow, StandTogether, AreUnits}
+use Rattle.osi_spdu.proofs.Vocabulary.{SpellsTsdu, left_at}
 use Rattle.osi_spdu.proofs.basics.the_steps_of_reading.{bind_ok, bind_of, ok_is}
 use Rattle.osi_spdu.proofs.basics.length_indicators.{octets-tail, measured_ok, measured_again, indicator_len, chosen}
 use Rattle.osi_spdu.proofs.parameters.one_level_is_read.{params_found, params_only, unit_follows}
@@ -23,12 +31,14 @@ pub named_back : (second : Bool) (kind : Kind) → may_stand second (category_of
 unfolding kind_named si_of may_stand category_of
 named_back second kind h0 = grind arith
 
-placed_ok : (second : Bool) (at : ℕ) (o : Option Kind) (kind : Kind) → placed_kind second at o ≡ Ok kind → (o ≡ Some kind) × (may_stand second (category_of kind) ≡ true)
+placed_ok : (second : Bool) (at : ℕ) (o : Option Kind) (kind : Kind) → placed_kind second at o ≡ Ok kind →
+    (o ≡ Some kind) × (may_stand second (category_of kind) ≡ true)
 placed_ok second at o kind h0 = grind (arith, chosen, ok_is)
 
 -- ---- mandatory parameters
 
-there_ok : (at : ℕ) (codes : List Code) (known more : Known) → all_there at codes known ≡ Ok more → (more ≡ known) × AllByRecursion (λ c. IsSome (known c)) codes
+there_ok : (at : ℕ) (codes : List Code) (known more : Known) → all_there at codes known ≡ Ok more →
+    (more ≡ known) × AllByRecursion (λ c. IsSome (known c)) codes
 unfolding all_there
 there_ok at [] known more e = (sym (ok_is known more e), tt)
 there_ok at (c ∷ codes) known more e =
@@ -37,7 +47,8 @@ there_ok at (c ∷ codes) known more e =
       | inr q ↦ absurd (let h = q.1 in cc)
     ]
 
-there_back : (at : ℕ) (codes : List Code) (known : Known) → AllByRecursion (λ c. IsSome (known c)) codes → all_there at codes known ≡ Ok known
+there_back : (at : ℕ) (codes : List Code) (known : Known) → AllByRecursion (λ c. IsSome (known c)) codes →
+    all_there at codes known ≡ Ok known
 unfolding all_there
 there_back at [] known all = refl
 there_back at (c ∷ codes) known all = rw all.0 (there_back at codes known all.1)
@@ -51,22 +62,29 @@ pub record IsUnitAt (second : Bool) (octets : List ℕ) (p : Placed) : Type 0 wh
   pub stands : may_stand second (category_of p.kind) ≡ true
   pub rest_octets : IsOctets p.rest
 
-pub unit_found : (second : Bool) (at : ℕ) (octets : List ℕ) (p : Placed) → IsOctets octets → unit_at second at octets ≡ Ok p → IsUnitAt second octets p
+pub unit_found : (second : Bool) (at : ℕ) (octets : List ℕ) (p : Placed) → IsOctets octets → unit_at second at octets ≡ Ok p →
+    IsUnitAt second octets p
 unfolding unit_at
 unit_found second at [] p fits e = absurd cc
 unit_found second at (si ∷ octets) p fits e =
     let last = λ (kind : Kind) (m : Measured) (whole : Known).
     (let r : Placed = record { kind = kind; known = settled whole; end = at + (1 + m.used + length m.value); rest = m.rest } in r) in
-    let a = bind_ok (placed_kind second at (kind_named second si)) (λ kind. measured_at at octets >>= λ m. params_of (in_unit kind) (at + (1 + m.used)) nothing m.value >>= λ raw. all_there at (required_of kind) raw >>= λ whole. Ok (last kind m whole)) p e in
+    let a = bind_ok (placed_kind second at (kind_named second si))
+        (λ kind. measured_at at octets >>= λ m. params_of (in_unit kind) (at + (1 + m.used)) nothing m.value >>= λ raw. all_there at
+        (required_of kind) raw >>= λ whole. Ok (last kind m whole)) p e in
     let kind = a.0 in
-    let b = bind_ok (measured_at at octets) (λ m. params_of (in_unit kind) (at + (1 + m.used)) nothing m.value >>= λ raw. all_there at (required_of kind) raw >>= λ whole. Ok (last kind m whole)) p a.2 in
+    let b = bind_ok (measured_at at octets)
+        (λ m. params_of (in_unit kind) (at + (1 + m.used)) nothing m.value >>= λ raw. all_there at (required_of kind) raw >>= λ whole. Ok
+        (last kind m whole)) p a.2 in
     let m = b.0 in
-    let c = bind_ok (params_of (in_unit kind) (at + (1 + m.used)) nothing m.value) (λ raw. all_there at (required_of kind) raw >>= λ whole. Ok (last kind m whole)) p b.2 in
+    let c = bind_ok (params_of (in_unit kind) (at + (1 + m.used)) nothing m.value)
+        (λ raw. all_there at (required_of kind) raw >>= λ whole. Ok (last kind m whole)) p b.2 in
     let raw = c.0 in
     let d = bind_ok (all_there at (required_of kind) raw) (λ whole. Ok (last kind m whole)) p c.2 in
     let named = placed_ok second at (kind_named second si) kind a.1 in
     let is = measured_ok at octets m (octets-tail si octets fits) b.1 in
-    let r = params_found (in_unit kind) (MeansInUnit kind) (unit_follows kind) (length m.value) (at + (1 + m.used)) nothing raw m.value (omega arith) is.value_octets c.1 in
+    let r = params_found (in_unit kind) (MeansInUnit kind) (unit_follows kind) (length m.value) (at + (1 + m.used)) nothing raw m.value
+        (omega arith) is.value_octets c.1 in
     let there = there_ok at (required_of kind) raw d.0 d.1 in
     let params : Spells (MeansInUnit kind) raw m.value = record { parts = r.parts; whole = r.whole; each = r.each; once = r.once } in
     let front : List ℕ = item_octets (si_of kind) is.long m.value in
@@ -90,7 +108,8 @@ unit_found second at (si ∷ octets) p fits e =
     } in
     subst (λ (x : Placed). IsUnitAt second (si ∷ octets) x) (ok_is (last kind m d.0) p d.2) made
 
-pub unit_only : (second : Bool) (at : ℕ) (unit : Contents) (front rest : List ℕ) → SpellsUnit unit front → may_stand second (category_of unit.kind) ≡ true
+pub unit_only : (second : Bool) (at : ℕ) (unit : Contents) (front rest : List ℕ) → SpellsUnit unit front →
+    may_stand second (category_of unit.kind) ≡ true
     → (end : ℕ) × (unit_at second at (front ++ rest) ≡ Ok (record { kind = unit.kind; known = unit.known; end = end; rest = rest }))
 unfolding unit_at
 unit_only second at unit front rest s stands =
@@ -104,17 +123,23 @@ unit_only second at unit front rest s stands =
     let named : placed_kind second at (kind_named second (si_of kind)) ≡ Ok kind = rw (named_back second kind stands, stands) refl in
     let read : params_of (in_unit kind) (at + (1 + used)) nothing s.body ≡ Ok s.raw =
     subst (λ (b : List ℕ). params_of (in_unit kind) (at + (1 + used)) nothing b ≡ Ok s.raw) (sym s.params.whole)
-    (params_only (in_unit kind) (MeansInUnit kind) (unit_follows kind) (length (flat_map part_octets s.params.parts)) (at + (1 + used)) nothing s.raw s.params.parts (omega arith) s.params.each s.params.once) in
+    (params_only (in_unit kind) (MeansInUnit kind) (unit_follows kind) (length (flat_map part_octets s.params.parts)) (at + (1 + used))
+        nothing s.raw s.params.parts (omega arith) s.params.each s.params.once) in
     let tail = length_octets s.long (length s.body) ++ s.body ++ rest in
-    let finish : Ok (last made s.raw) ≡ Ok want = ap (λ (k : Known). Ok (let r : Placed = record { kind = kind; known = k; end = end; rest = rest } in r)) (sym s.value) in
+    let finish : Ok (last made s.raw) ≡ Ok want =
+        ap (λ (k : Known). Ok (let r : Placed = record { kind = kind; known = k; end = end; rest = rest } in r)) (sym s.value) in
     let whole : unit_at second at (item_octets (si_of kind) s.long s.body ++ rest) ≡ Ok want =
     bind_of (placed_kind second at (kind_named second (si_of kind)))
-    (λ k. measured_at at tail >>= λ m. params_of (in_unit k) (at + (1 + m.used)) nothing m.value >>= λ raw. all_there at (required_of k) raw >>= λ w. Ok (let r : Placed = record { kind = k; known = settled w; end = at + (1 + m.used + length m.value); rest = m.rest } in r)) kind (Ok want) named
+    (λ k. measured_at at tail >>= λ m. params_of (in_unit k) (at + (1 + m.used)) nothing m.value >>= λ raw. all_there at (required_of k) raw
+        >>= λ w. Ok (let r : Placed = record { kind = k; known = settled w; end = at + (1 + m.used + length m.value); rest = m.rest } in r))
+        kind (Ok want) named
     (bind_of (measured_at at tail)
-    (λ m. params_of (in_unit kind) (at + (1 + m.used)) nothing m.value >>= λ raw. all_there at (required_of kind) raw >>= λ w. Ok (last m w)) made (Ok want) (measured_again at s.long s.body rest s.counted)
+    (λ m. params_of (in_unit kind) (at + (1 + m.used)) nothing m.value >>= λ raw. all_there at (required_of kind) raw >>= λ w. Ok
+        (last m w)) made (Ok want) (measured_again at s.long s.body rest s.counted)
     (bind_of (params_of (in_unit kind) (at + (1 + used)) nothing s.body)
     (λ raw. all_there at (required_of kind) raw >>= λ w. Ok (last made w)) s.raw (Ok want) read
-    (bind_of (all_there at (required_of kind) s.raw) (λ w. Ok (last made w)) s.raw (Ok want) (there_back at (required_of kind) s.raw s.required) finish))) in
+    (bind_of (all_there at (required_of kind) s.raw) (λ w. Ok (last made w)) s.raw (Ok want)
+        (there_back at (required_of kind) s.raw s.required) finish))) in
     (end, subst (λ (f : List ℕ). unit_at second at (f ++ rest) ≡ Ok want) (sym s.whole) whole)
 
 -- ---- a unit after another
@@ -180,17 +205,25 @@ next_found : (at : ℕ) (octets : List ℕ) (n : Next) → IsOctets octets → n
 unfolding next_at
 next_found at octets n h0 h1 = grind (arith, bind_ok, ok_is, next_is, unit_found)
 
-next_if_only : (unit : Contents) (end : ℕ) (rest : List ℕ) (b : Bool) → takes_rest unit.kind ≡ b → HasInformation unit.kind unit.information → (takes_rest unit.kind ≡ true → rest ≡ [])
-    → (end' : ℕ) × (next_if b (let p : Placed = record { kind = unit.kind; known = unit.known; end = end; rest = unit.information ++ rest } in p) ≡ (let n : Next = record { unit = unit; end = end'; rest = rest } in n))
+next_if_only : (unit : Contents) (end : ℕ) (rest : List ℕ) (b : Bool) → takes_rest unit.kind ≡ b →
+    HasInformation unit.kind unit.information → (takes_rest unit.kind ≡ true → rest ≡ [])
+    → (end' : ℕ) ×
+        (next_if b (let p : Placed = record { kind = unit.kind; known = unit.known; end = end; rest = unit.information ++ rest } in p) ≡
+        (let n : Next = record { unit = unit; end = end'; rest = rest } in n))
 next_if_only unit end rest true e h ends =
     let none = ends e in
     let all : unit.information ++ rest ≡ unit.information = ap (λ (t : List ℕ). unit.information ++ t) none ∙ append-nil unit.information in
-    (end + length (unit.information ++ rest), λ i. (let n : Next = record { unit = (let c : Contents = record { kind = unit.kind; known = unit.known; information = all i } in c); end = end + length (unit.information ++ rest); rest = sym none i } in n))
+    (end + length (unit.information ++ rest),
+        λ i. (let n : Next = record { unit = (let c : Contents = record { kind = unit.kind; known = unit.known; information = all i } in c);
+        end = end + length (unit.information ++ rest); rest = sym none i } in n))
 next_if_only unit end rest false e h ends =
     let none = informed_plain unit.kind unit.information e h in
-    (end, λ i. (let n : Next = record { unit = (let c : Contents = record { kind = unit.kind; known = unit.known; information = sym none i } in c); end = end; rest = ap (λ (t : List ℕ). t ++ rest) none i } in n))
+    (end, λ i. (let
+        n : Next = record { unit = (let c : Contents = record { kind = unit.kind; known = unit.known; information = sym none i } in c);
+        end = end; rest = ap (λ (t : List ℕ). t ++ rest) none i } in n))
 
-next_only : (at : ℕ) (unit : Contents) (front rest : List ℕ) → SpellsUnit unit front → HasInformation unit.kind unit.information → category_of unit.kind ≡ Two
+next_only : (at : ℕ) (unit : Contents) (front rest : List ℕ) → SpellsUnit unit front → HasInformation unit.kind unit.information →
+    category_of unit.kind ≡ Two
     → (takes_rest unit.kind ≡ true → rest ≡ [])
     → (end : ℕ) × (next_at at (front ++ (unit.information ++ rest)) ≡ Ok (record { unit = unit; end = end; rest = rest }))
 unfolding next_at
@@ -198,11 +231,13 @@ next_only at unit front rest s h two ends =
     let u = unit_only true at unit front (unit.information ++ rest) s (two_second (category_of unit.kind) two) in
     let made : Placed = record { kind = unit.kind; known = unit.known; end = u.0; rest = unit.information ++ rest } in
     let n = next_if_only unit u.0 rest (takes_rest unit.kind) refl h ends in
-    (n.0, bind_of (unit_at true at (front ++ (unit.information ++ rest))) (λ p. Ok (next_if (takes_rest p.kind) p)) made _ u.1 (ap (λ (x : Next). Ok x) n.1))
+    (n.0, bind_of (unit_at true at (front ++ (unit.information ++ rest))) (λ p. Ok (next_if (takes_rest p.kind) p)) made _ u.1
+        (ap (λ (x : Next). Ok x) n.1))
 
 -- ---- the units after the first
 
-pub behind_found : (room at : ℕ) (octets : List ℕ) (units : Units) → IsOctets octets → behind_at room at octets ≡ Ok units → AreUnits units octets
+pub behind_found : (room at : ℕ) (octets : List ℕ) (units : Units) → IsOctets octets → behind_at room at octets ≡ Ok units →
+    AreUnits units octets
 unfolding behind_at
 behind_found room at [] units fits e = subst (λ (us : Units). AreUnits us []) (ok_is [] units e) refl
 behind_found zero at (si ∷ octets) units fits e = absurd cc
@@ -212,22 +247,30 @@ behind_found (suc room) at (si ∷ octets) units fits e =
     let b = bind_ok (behind_at room n.end n.rest) (λ others. Ok (n.unit ∷ others)) units a.2 in
     let is = next_found at (si ∷ octets) n fits a.1 in
     let r = behind_found room n.end n.rest b.0 is.rest_octets b.1 in
-    subst (λ (us : Units). AreUnits us (si ∷ octets)) (ok_is (n.unit ∷ b.0) units b.2) (is.front, n.rest, is.parts, is.spelled, is.informed, r)
+    subst (λ (us : Units). AreUnits us (si ∷ octets)) (ok_is (n.unit ∷ b.0) units b.2) (is.front, n.rest, is.parts, is.spelled, is.informed,
+        r)
 
 -- which units may occur there, whatever the octets are
-stands_ok : (second : Bool) (at : ℕ) (octets : List ℕ) (p : Placed) → unit_at second at octets ≡ Ok p → may_stand second (category_of p.kind) ≡ true
+stands_ok : (second : Bool) (at : ℕ) (octets : List ℕ) (p : Placed) → unit_at second at octets ≡ Ok p →
+    may_stand second (category_of p.kind) ≡ true
 unfolding unit_at
 stands_ok second at [] p e = absurd cc
 stands_ok second at (si ∷ octets) p e =
     let last = λ (kind : Kind) (m : Measured) (whole : Known).
     (let r : Placed = record { kind = kind; known = settled whole; end = at + (1 + m.used + length m.value); rest = m.rest } in r) in
-    let a = bind_ok (placed_kind second at (kind_named second si)) (λ kind. measured_at at octets >>= λ m. params_of (in_unit kind) (at + (1 + m.used)) nothing m.value >>= λ raw. all_there at (required_of kind) raw >>= λ whole. Ok (last kind m whole)) p e in
+    let a = bind_ok (placed_kind second at (kind_named second si))
+        (λ kind. measured_at at octets >>= λ m. params_of (in_unit kind) (at + (1 + m.used)) nothing m.value >>= λ raw. all_there at
+        (required_of kind) raw >>= λ whole. Ok (last kind m whole)) p e in
     let kind = a.0 in
-    let b = bind_ok (measured_at at octets) (λ m. params_of (in_unit kind) (at + (1 + m.used)) nothing m.value >>= λ raw. all_there at (required_of kind) raw >>= λ whole. Ok (last kind m whole)) p a.2 in
+    let b = bind_ok (measured_at at octets)
+        (λ m. params_of (in_unit kind) (at + (1 + m.used)) nothing m.value >>= λ raw. all_there at (required_of kind) raw >>= λ whole. Ok
+        (last kind m whole)) p a.2 in
     let m = b.0 in
-    let c = bind_ok (params_of (in_unit kind) (at + (1 + m.used)) nothing m.value) (λ raw. all_there at (required_of kind) raw >>= λ whole. Ok (last kind m whole)) p b.2 in
+    let c = bind_ok (params_of (in_unit kind) (at + (1 + m.used)) nothing m.value)
+        (λ raw. all_there at (required_of kind) raw >>= λ whole. Ok (last kind m whole)) p b.2 in
     let d = bind_ok (all_there at (required_of kind) c.0) (λ whole. Ok (last kind m whole)) p c.2 in
-    subst (λ (x : Placed). may_stand second (category_of x.kind) ≡ true) (ok_is (last kind m d.0) p d.2) ((placed_ok second at (kind_named second si) kind a.1).1)
+    subst (λ (x : Placed). may_stand second (category_of x.kind) ≡ true) (ok_is (last kind m d.0) p d.2)
+        ((placed_ok second at (kind_named second si) kind a.1).1)
 
 -- a unit of category 2; nothing follows it if it is a DT
 record IsSecond (n : Next) : Type 0 where
@@ -245,7 +288,8 @@ second_found at octets n h0 = grind (arith, bind_ok, ok_is, second_is, stands_ok
 abbrev Standing : Units → ℕ → Type 0
 Standing units room = AreBehind units × (length units ≤ room)
 
-pub behind_stands : (room at : ℕ) (octets : List ℕ) (units : Units) → behind_at room at octets ≡ Ok units → AreBehind units × (length units ≤ room)
+pub behind_stands : (room at : ℕ) (octets : List ℕ) (units : Units) → behind_at room at octets ≡ Ok units →
+    AreBehind units × (length units ≤ room)
 unfolding behind_at
 behind_stands room at [] units e = subst (λ (us : Units). Standing us room) (ok_is [] units e) (tt, omega arith)
 behind_stands zero at (si ∷ octets) units e = absurd cc
@@ -260,16 +304,19 @@ behind_stands (suc room) at (si ∷ octets) units e =
 
 -- a unit is never empty, so octets with a unit begin with an octet
 pub behind_cons : (room at : ℕ) (front tail : List ℕ) (unit : Contents) → SpellsUnit unit front
-    → behind_at (suc room) at (front ++ tail) ≡ (next_at at (front ++ tail) >>= λ n. behind_at room n.end n.rest >>= λ others. Ok (n.unit ∷ others))
+    → behind_at (suc room) at
+        (front ++ tail) ≡ (next_at at (front ++ tail) >>= λ n. behind_at room n.end n.rest >>= λ others. Ok (n.unit ∷ others))
 unfolding behind_at
 behind_cons room at front tail unit s =
-    subst (λ (f : List ℕ). behind_at (suc room) at (f ++ tail) ≡ (next_at at (f ++ tail) >>= λ n. behind_at room n.end n.rest >>= λ others. Ok (n.unit ∷ others))) (sym s.whole) refl
+    subst (λ (f : List ℕ). behind_at (suc room) at
+        (f ++ tail) ≡ (next_at at (f ++ tail) >>= λ n. behind_at room n.end n.rest >>= λ others. Ok (n.unit ∷ others))) (sym s.whole) refl
 
 none_spelled : (units : Units) (octets : List ℕ) → units ≡ [] → AreUnits units octets → octets ≡ []
 none_spelled [] octets e s = s
 none_spelled (unit ∷ units) octets e s = absurd cc
 
-pub behind_only : (room at : ℕ) (units : Units) (octets : List ℕ) → AreUnits units octets → AreBehind units → length units ≤ room → behind_at room at octets ≡ Ok units
+pub behind_only : (room at : ℕ) (units : Units) (octets : List ℕ) → AreUnits units octets → AreBehind units → length units ≤ room →
+    behind_at room at octets ≡ Ok units
 unfolding behind_at
 behind_only room at [] octets s are few = ap (behind_at room at) s
 behind_only zero at (unit ∷ units) octets s are few = absurd (omega arith)
@@ -282,12 +329,14 @@ behind_only (suc room) at (unit ∷ units) octets s are few =
     let others = behind_only room n.0 units rest s.5 are.2 (omega arith) in
     let one = behind_cons room at front (unit.information ++ rest) unit s.3 in
     ap (behind_at (suc room) at) s.2 ∙ one
-    ∙ bind_of (next_at at (front ++ (unit.information ++ rest))) (λ x. behind_at room x.end x.rest >>= λ us. Ok (x.unit ∷ us)) made (Ok (unit ∷ units)) n.1
+    ∙ bind_of (next_at at (front ++ (unit.information ++ rest))) (λ x. behind_at room x.end x.rest >>= λ us. Ok (x.unit ∷ us)) made
+        (Ok (unit ∷ units)) n.1
     (bind_of (behind_at room n.0 rest) (λ us. Ok (unit ∷ us)) units (Ok (unit ∷ units)) others refl)
 
 -- ---- a TSDU
 
-ended_ok : (at : ℕ) (octets : List ℕ) (unit : Contents) (units : Units) → ended at octets unit ≡ Ok units → (octets ≡ []) × (unit ∷ [] ≡ units)
+ended_ok : (at : ℕ) (octets : List ℕ) (unit : Contents) (units : Units) → ended at octets unit ≡ Ok units →
+    (octets ≡ []) × (unit ∷ [] ≡ units)
 ended_ok at [] unit units e = (refl, ok_is (unit ∷ []) units e)
 ended_ok at (b ∷ octets) unit units e = absurd cc
 
@@ -297,16 +346,21 @@ not_second Zero e h = absurd cc
 not_second _ e h = absurd cc
 
 -- a first unit with those after it
-first_found : (octets : List ℕ) (p : Placed) (behind : Units) → IsOctets octets → IsUnitAt false octets p → MayFollow (category_of p.kind) behind → AreBehind behind → AreUnits behind p.rest
+first_found : (octets : List ℕ) (p : Placed) (behind : Units) → IsOctets octets → IsUnitAt false octets p →
+    MayFollow (category_of p.kind) behind → AreBehind behind → AreUnits behind p.rest
     → SpellsTsdu (contents_of p [] ∷ behind) octets
 unfolding SpellsTsdu StandTogether
-first_found octets p behind fits is follow are spelled = (fits, (follow, are), (is.front, p.rest, is.parts, is.spelled [], informed_none p.kind, spelled))
+first_found octets p behind fits is follow are spelled =
+    (fits, (follow, are), (is.front, p.rest, is.parts, is.spelled [], informed_none p.kind, spelled))
 
-ended_found : (octets : List ℕ) (p : Placed) (units : Units) → IsOctets octets → category_of p.kind ≡ One → IsUnitAt false octets p → ended p.end p.rest (contents_of p []) ≡ Ok units → SpellsTsdu units octets
+ended_found : (octets : List ℕ) (p : Placed) (units : Units) → IsOctets octets → category_of p.kind ≡ One → IsUnitAt false octets p →
+    ended p.end p.rest (contents_of p []) ≡ Ok units → SpellsTsdu units octets
 ended_found octets p units h0 h1 h2 h3 = grind (arith, ended_ok, first_found)
 
-continued_found : (octets : List ℕ) (p : Placed) (units : Units) (category : Category) → IsOctets octets → category_of p.kind ≡ category → IsUnitAt false octets p → continued category p ≡ Ok units → SpellsTsdu units octets
-continued_found octets p units category h0 h1 h2 h3 = grind (arith, bind_ok, behind_stands, ok_is, first_found, behind_found, ended_found, not_second)
+continued_found : (octets : List ℕ) (p : Placed) (units : Units) (category : Category) → IsOctets octets → category_of p.kind ≡ category →
+    IsUnitAt false octets p → continued category p ≡ Ok units → SpellsTsdu units octets
+continued_found octets p units category h0 h1 h2 h3 =
+    grind (arith, bind_ok, behind_stands, ok_is, first_found, behind_found, ended_found, not_second)
 
 pub tsdu_found : (octets : List ℕ) (units : Units) → IsOctets octets → tsdu_at octets ≡ Ok units → SpellsTsdu units octets
 unfolding tsdu_at
@@ -338,9 +392,11 @@ tsdu_read (first ∷ behind) octets together u =
     let whole : octets ≡ u.0 ++ u.1 = u.2 ∙ ap (λ (t : List ℕ). u.0 ++ (t ++ u.1)) empty in
     let one = unit_only false 0 first u.0 u.1 u.3 stands in
     let p : Placed = record { kind = first.kind; known = first.known; end = one.0; rest = u.1 } in
-    let same : contents_of p [] ≡ first = λ i. (let c : Contents = record { kind = first.kind; known = first.known; information = sym empty i } in c) in
+    let same : contents_of p [] ≡ first =
+        λ i. (let c : Contents = record { kind = first.kind; known = first.known; information = sym empty i } in c) in
     let read : tsdu_at (u.0 ++ u.1) ≡ Ok (contents_of p [] ∷ behind) =
-    bind_of (unit_at false 0 (u.0 ++ u.1)) (λ unit. continued (category_of unit.kind) unit) p (Ok (contents_of p [] ∷ behind)) one.1 (continued_only (category_of first.kind) p behind together.0 together.1 u.5) in
+    bind_of (unit_at false 0 (u.0 ++ u.1)) (λ unit. continued (category_of unit.kind) unit) p (Ok (contents_of p [] ∷ behind)) one.1
+        (continued_only (category_of first.kind) p behind together.0 together.1 u.5) in
     ap tsdu_at whole ∙ read ∙ ap (λ (c : Contents). Ok (c ∷ behind)) same
 
 pub tsdu_only : (units : Units) (octets : List ℕ) → SpellsTsdu units octets → tsdu_at octets ≡ Ok units
@@ -357,9 +413,11 @@ left_from (Ok units) e = refl
 left_from (Err f) e = absurd cc
 
 -- octets that can be read are the units that are left
-pub left_read : (room at : ℕ) (octets : List ℕ) → is_ok (behind_at room at octets) ≡ true → behind_at room at octets ≡ Ok (left_at room at octets)
+pub left_read : (room at : ℕ) (octets : List ℕ) → is_ok (behind_at room at octets) ≡ true →
+    behind_at room at octets ≡ Ok (left_at room at octets)
 unfolding left_at
 left_read room at octets e = left_from (behind_at room at octets) e
 
-pub left_stands : (room at : ℕ) (octets : List ℕ) → is_ok (behind_at room at octets) ≡ true → AreBehind (left_at room at octets) × (length (left_at room at octets) ≤ room)
+pub left_stands : (room at : ℕ) (octets : List ℕ) → is_ok (behind_at room at octets) ≡ true →
+    AreBehind (left_at room at octets) × (length (left_at room at octets) ≤ room)
 left_stands room at octets e = behind_stands room at octets (left_at room at octets) (left_read room at octets e)

@@ -1,14 +1,19 @@
 -- TSDUs that are handed over together.
-use Rattle.std.proofs.Common.{◌≡◌, ◌∙◌, refl, sym, ap, ℕ, ◌≤◌, Bool, true, false, ◌||◌, List, [], ◌∷◌, length, map, nat_lt, Option, Some, None, option_map, unwrap_or, arith, if◌then◌else◌}
+use Rattle.std.proofs.Common.{◌≡◌, ◌∙◌, refl, sym, ap, ℕ, ◌≤◌, Bool, true, false, ◌||◌, List, [], ◌∷◌, length, map, nat_lt, Option, Some}
+use Rattle.std.proofs.Common.{None, option_map, unwrap_or, arith, if◌then◌else◌}
 use Rattle.osi_carrier.specs.declared.faults.SendError.TheVariants.{TooLong}
 use Rattle.osi_stack.specs.declared.told.Told.TheVariants.{Tsdu}
-use Rattle.osi_stack.proofs.Vocabulary.{list_any, nat_tests, or-false, send_error, send_all_error, lengths_error, open_link, sent, sent_on, sent_all, State as Carrier, SendError, Standing as Link, Meaning, DT, is_parted, tsdus_sent, in_one, Words, Word, says, part, word_octets, sent_alone, Listener, Move, came, AreShort, message_of, does, puts, limit_for, answers, told_input, sent_unless, hands, answers_by, Told}
+use Rattle.osi_stack.proofs.Vocabulary.{list_any, nat_tests, or-false, send_error, send_all_error, lengths_error, open_link, sent, sent_on}
+use Rattle.osi_stack.proofs.Vocabulary.{sent_all, State as Carrier, SendError, Standing as Link, Meaning, DT, is_parted, tsdus_sent, in_one}
+use Rattle.osi_stack.proofs.Vocabulary.{Words, Word, says, part, word_octets, sent_alone, Listener, Move, came, AreShort, message_of, does}
+use Rattle.osi_stack.proofs.Vocabulary.{puts, limit_for, answers, told_input, sent_unless, hands, answers_by, Told}
 
 -- ---- one, and none
 
 pub one_error : (tsdu : List ℕ) (o : Option (ℕ × Link)) → send_all_error (tsdu ∷ []) o ≡ send_error tsdu o
 one_error tsdu None = refl
-one_error tsdu (Some link) = ap (λ (b : Bool). if◌then◌else◌ {A = Option SendError} b (Some TooLong) None) (or-false (nat_lt 1048576 (length tsdu)))
+one_error tsdu (Some link) =
+    ap (λ (b : Bool). if◌then◌else◌ {A = Option SendError} b (Some TooLong) None) (or-false (nat_lt 1048576 (length tsdu)))
 
 none_by : (r : ℕ) (c : Carrier) (o : Option (ℕ × Link)) → sent_unless (send_all_error [] o) r [] c ≡ c
 none_by r c None = refl
@@ -23,7 +28,8 @@ unlinked : (r : ℕ) (tsdus : List (List ℕ)) (c : Carrier) → open_link r c �
 unlinked r [] c e = refl
 unlinked r (tsdu ∷ tsdus) c e = ap (sent_all r tsdus) (ap (λ o. sent_on r tsdu o c) e) ∙ unlinked r tsdus c e
 
-any_if : (b : Bool) (tsdus : List (List ℕ)) → b ≡ false → list_any (λ (t : List ℕ). nat_lt 1048576 (length t)) tsdus ≡ false → (b || list_any (λ (t : List ℕ). nat_lt 1048576 (length t)) tsdus) ≡ false
+any_if : (b : Bool) (tsdus : List (List ℕ)) → b ≡ false → list_any (λ (t : List ℕ). nat_lt 1048576 (length t)) tsdus ≡ false →
+    (b || list_any (λ (t : List ℕ). nat_lt 1048576 (length t)) tsdus) ≡ false
 any_if true tsdus e h = absurd (cc)
 any_if false tsdus e h = h
 
@@ -36,7 +42,8 @@ none_long (tsdu ∷ tsdus) h =
 pub lengths_fit : (tsdus : List (List ℕ)) → AreShort tsdus → lengths_error tsdus ≡ None
 lengths_fit tsdus h = ap (λ (b : Bool). if◌then◌else◌ {A = Option SendError} b (Some TooLong) None) (none_long tsdus h)
 
-handed_by : (r : ℕ) (tsdus : List (List ℕ)) (c : Carrier) (o : Option (ℕ × Link)) → open_link r c ≡ o → AreShort tsdus → hands r tsdus c ≡ sent_all r tsdus c
+handed_by : (r : ℕ) (tsdus : List (List ℕ)) (c : Carrier) (o : Option (ℕ × Link)) → open_link r c ≡ o → AreShort tsdus →
+    hands r tsdus c ≡ sent_all r tsdus c
 handed_by r tsdus c None e short = ap (λ x. sent_unless (send_all_error tsdus x) r tsdus c) e ∙ sym (unlinked r tsdus c e)
 handed_by r tsdus c (Some link) e short =
     ap (λ x. sent_unless (send_all_error tsdus x) r tsdus c) e ∙ ap (λ x. sent_unless x r tsdus c) (lengths_fit tsdus short)
@@ -72,6 +79,7 @@ told_unbounded s (Tsdu octets) = came_unbounded s octets.items
 told_unbounded s _ = refl
 
 -- what is handed over for a session that handles an event
-pub answer_heard : (s : Listener) (told : Told) (r : ℕ) (reply : Option (List (List ℕ))) (closes : Bool) (move : Move) (c : Carrier) → reply ≡ option_map in_one move.reply → closes ≡ move.closes →
+pub answer_heard : (s : Listener) (told : Told) (r : ℕ) (reply : Option (List (List ℕ))) (closes : Bool) (move : Move) (c : Carrier) →
+    reply ≡ option_map in_one move.reply → closes ≡ move.closes →
     answers_by closes r (unwrap_or reply []) c ≡ answers r (limit_for s (told_input told)) move c
 answer_heard s told r reply closes move c e f = grind (arith, answers_by, unwrap_or, sent_by_itself, answers, told_unbounded)

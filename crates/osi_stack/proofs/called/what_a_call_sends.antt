@@ -1,6 +1,10 @@
 -- What a call sends, and what it does not do.
-use Rattle.std.proofs.Common.{◌≡◌, ℕ, Bool, false, List, [], ◌++◌, Option, Some, None, is_none, Result, Ok, Err, OnOk, IfErr, refl, sym, ap, subst, ◌∙◌, if◌then◌else◌, arith}
-use Rattle.osi_stack.proofs.Vocabulary.{append-nil, Carrying, send_all_error, open_link, State as Carrier, Meaning, tsdus_sent, Answer, allowed, Call, CallError, Listener, Move, called, answered, react, limit_of, send_refusal, reply_refusal, move_refusal, or_else, Refuses, answers, line_by, carrier_by, Line, hands, answers_by}
+use Rattle.std.proofs.Common.{◌≡◌, ℕ, Bool, false, List, [], ◌++◌, Option, Some, None, is_none, Result, Ok, Err, OnOk, IfErr, refl, sym, ap}
+use Rattle.std.proofs.Common.{subst, ◌∙◌, if◌then◌else◌, arith}
+use Rattle.osi_stack.proofs.Vocabulary.{append-nil, Carrying, send_all_error, open_link, State as Carrier, Meaning, tsdus_sent, Answer}
+use Rattle.osi_stack.proofs.Vocabulary.{allowed, Call, CallError, Listener, Move, called, answered, react, limit_of, send_refusal}
+use Rattle.osi_stack.proofs.Vocabulary.{reply_refusal, move_refusal, or_else, Refuses, answers, line_by, carrier_by, Line, hands}
+use Rattle.osi_stack.proofs.Vocabulary.{answers_by}
 
 -- a call indicates nothing and closes nothing, and one that is accepted sends something
 pub record IsCall (move : Move) : Type 0 where
@@ -32,27 +36,33 @@ call_sends s call sent r limit c none e = record {
   refusal = ap (λ o. or_else o (reply_refusal r limit (react s (called call)).reply c)) none
       ∙ reply_by r limit (react s (called call)).reply c ((call_is s call).sends none)
       ∙ ap (λ (l : List (List ℕ)). send_refusal (send_all_error l (open_link r c))) (sym e);
-  handed = ap (λ (b : Bool). answers_by b r (tsdus_sent limit (react s (called call)).reply) c) (call_is s call).closes ∙ ap (λ (l : List (List ℕ)). hands r l c) (sym e);
+  handed = ap (λ (b : Bool). answers_by b r (tsdus_sent limit (react s (called call)).reply) c) (call_is s call).closes ∙
+      ap (λ (l : List (List ℕ)). hands r l c) (sym e);
 }
 
 -- ---- the carrier's answer to what a call sends
 
-pub call_handed : {A E : Type 0} (result : Result A E) (s : Listener) (call : Call) (sent tsdus : List (List ℕ)) (r limit : ℕ) (c d : Carrying) → (react s (called call)).error ≡ None →
+pub call_handed : {A E : Type 0} (result : Result A E) (s : Listener) (call : Call) (sent tsdus : List (List ℕ)) (r limit : ℕ)
+    (c d : Carrying) → (react s (called call)).error ≡ None →
     sent ≡ tsdus_sent limit (react s (called call)).reply → tsdus ≡ sent →
-    OnOk result (d ≡ record c { state = hands r tsdus c.state }) → OnOk result (d ≡ record c { state = answers r limit (react s (called call)) c.state })
+    OnOk result (d ≡ record c { state = hands r tsdus c.state }) →
+        OnOk result (d ≡ record c { state = answers r limit (react s (called call)) c.state })
 call_handed (Err f) s call sent tsdus r limit c d none e same h = tt
 call_handed (Ok a) s call sent tsdus r limit c d none e same h =
     h ∙ ap (λ (l : List (List ℕ)). record c { state = hands r l c.state }) same
     ∙ ap (λ (x : Carrier). record c { state = x }) (sym (call_sends s call sent r limit c.state none e).handed)
 
 refusal_is : (s : Listener) (call : Call) (sent tsdus : List (List ℕ)) (r limit : ℕ) (c : Carrier) → (react s (called call)).error ≡ None →
-    sent ≡ tsdus_sent limit (react s (called call)).reply → tsdus ≡ sent → send_refusal (send_all_error tsdus (open_link r c)) ≡ move_refusal r limit (react s (called call)) c
+    sent ≡ tsdus_sent limit (react s (called call)).reply → tsdus ≡ sent →
+        send_refusal (send_all_error tsdus (open_link r c)) ≡ move_refusal r limit (react s (called call)) c
 refusal_is s call sent tsdus r limit c none e same =
     ap (λ (l : List (List ℕ)). send_refusal (send_all_error l (open_link r c))) same ∙ sym (call_sends s call sent r limit c none e).refusal
 
-pub call_allowed : {A E : Type 0} (result : Result A E) (s : Listener) (call : Call) (sent tsdus : List (List ℕ)) (r limit : ℕ) (c : Carrier) → (react s (called call)).error ≡ None →
+pub call_allowed : {A E : Type 0} (result : Result A E) (s : Listener) (call : Call) (sent tsdus : List (List ℕ)) (r limit : ℕ)
+    (c : Carrier) → (react s (called call)).error ≡ None →
     sent ≡ tsdus_sent limit (react s (called call)).reply → tsdus ≡ sent →
-    OnOk result (send_refusal (send_all_error tsdus (open_link r c)) ≡ None) → OnOk result (move_refusal r limit (react s (called call)) c ≡ None)
+    OnOk result (send_refusal (send_all_error tsdus (open_link r c)) ≡ None) →
+        OnOk result (move_refusal r limit (react s (called call)) c ≡ None)
 call_allowed result s call sent tsdus r limit c none e same h =
     subst (λ (o : Option CallError). OnOk result (o ≡ None)) (refusal_is s call sent tsdus r limit c none e same) h
 
@@ -60,7 +70,8 @@ refuses_is : (e : CallError) (first all other : Option CallError) → first ≡ 
 refuses_is e first all other none same h =
     subst (λ (o : Option CallError). Refuses e o all) (sym none) (subst (λ (o : Option CallError). Refuses e None o) same h)
 
-pub call_refused : {A : Type 0} (result : Result A CallError) (s : Listener) (call : Call) (sent tsdus : List (List ℕ)) (r limit : ℕ) (c : Carrier) → (react s (called call)).error ≡ None →
+pub call_refused : {A : Type 0} (result : Result A CallError) (s : Listener) (call : Call) (sent tsdus : List (List ℕ)) (r limit : ℕ)
+    (c : Carrier) → (react s (called call)).error ≡ None →
     sent ≡ tsdus_sent limit (react s (called call)).reply → tsdus ≡ sent →
     IfErr result (λ e. Refuses e None (send_refusal (send_all_error tsdus (open_link r c)))) →
     IfErr result (λ e. Refuses e (react s (called call)).error (move_refusal r limit (react s (called call)) c))
@@ -70,10 +81,14 @@ call_refused (Err f) s call sent tsdus r limit c none e same h =
 
 -- ---- the line and the carrier after a call
 
-pub called_line : {A E : Type 0} (result : Result A E) (r : ℕ) (l : Line) (v : ℕ × Line) (s t : Listener) (call : Call) → (r, l) ≡ v → l.session ≡ Some s →
-    OnOk result (t ≡ (react s (called call)).next) → OnOk result (◌≡◌ {A = ℕ × Line} (r, record l { session = Some t }) (v.0, line_by v.1 v.1.session (called call)))
+pub called_line : {A E : Type 0} (result : Result A E) (r : ℕ) (l : Line) (v : ℕ × Line) (s t : Listener) (call : Call) → (r, l) ≡ v →
+    l.session ≡ Some s →
+    OnOk result (t ≡ (react s (called call)).next) →
+        OnOk result (◌≡◌ {A = ℕ × Line} (r, record l { session = Some t }) (v.0, line_by v.1 v.1.session (called call)))
 called_line result r l v s t call is here h = grind (arith, react, called, line_by, append-nil, call_is)
 
-pub called_carrier : {A E : Type 0} (result : Result A E) (r : ℕ) (l : Line) (v : ℕ × Line) (s : Listener) (c d : Carrying) (call : Call) → (r, l) ≡ v → l.session ≡ Some s →
-    OnOk result (d ≡ record c { state = answers r (limit_of s.state) (react s (called call)) c.state }) → OnOk result (d ≡ record c { state = carrier_by v.0 v.1.session (called call) c.state })
+pub called_carrier : {A E : Type 0} (result : Result A E) (r : ℕ) (l : Line) (v : ℕ × Line) (s : Listener) (c d : Carrying) (call : Call) →
+    (r, l) ≡ v → l.session ≡ Some s →
+    OnOk result (d ≡ record c { state = answers r (limit_of s.state) (react s (called call)) c.state }) →
+        OnOk result (d ≡ record c { state = carrier_by v.0 v.1.session (called call) c.state })
 called_carrier result r l v s c d call is here h = grind arith

@@ -1,9 +1,11 @@
 -- Once the carrier has ended no session changes it, and it stays ended for the same reason.
-use Rattle.std.proofs.Common.{◌≡◌, ℕ, zero, suc, true, List, ◌∷◌, length, Option, Some, None, is_some, refl, sym, ap, ◌∙◌, ◌⊎◌, inl, inr, if◌then◌else◌, [], arith}
+use Rattle.std.proofs.Common.{◌≡◌, ℕ, zero, suc, true, List, ◌∷◌, length, Option, Some, None, is_some, refl, sym, ap, ◌∙◌, ◌⊎◌, inl, inr}
+use Rattle.std.proofs.Common.{if◌then◌else◌, [], arith}
 use Rattle.osi_carrier.specs.Happenings as told
 use Rattle.osi_carrier.specs.Packets as carriers
 use Rattle.osi_carrier.specs.State as states
-use Rattle.osi_stack.proofs.Vocabulary.{Happening, State as Carrier, EndReason, NoMemory, acts_cases, hears_first, hears_next, hears_times, hears_all, with_events, with_carrier, attends, after_packet, starves, RunsOut, Starves, End}
+use Rattle.osi_stack.proofs.Vocabulary.{Happening, State as Carrier, EndReason, NoMemory, acts_cases, hears_first, hears_next, hears_times}
+use Rattle.osi_stack.proofs.Vocabulary.{hears_all, with_events, with_carrier, attends, after_packet, starves, RunsOut, Starves, End}
 use Rattle.osi_stack.proofs.carried.events_one_after_the_other.{times_quiet, concluded_carrier}
 use Rattle.osi_stack.proofs.carried.packets_without_events.{packet_is}
 use Rattle.osi_stack.proofs.carried.open_connections_stay_open.{rest_is, times_last}
@@ -30,7 +32,8 @@ pub attends_over : (e : End) → is_some e.carrier.ended ≡ true → (attends e
 attends_over e over = ap (λ (c : Carrier). c.ended) (concluded_carrier (hears_all e)) ∙ times_over (length e.carrier.events) e over
 
 -- if the carrier lasts after all pending events, it lasts after some of them
-times_within : (n : ℕ) (events : List Happening) (e : End) → e.carrier.events ≡ events → (hears_times (length events) e).carrier.ended ≡ None → (hears_times n e).carrier.ended ≡ None
+times_within : (n : ℕ) (events : List Happening) (e : End) → e.carrier.events ≡ events →
+    (hears_times (length events) e).carrier.ended ≡ None → (hears_times n e).carrier.ended ≡ None
 times_within zero events e is lasts = times_last (length events) e lasts
 times_within (suc n) [] e is lasts = ap (λ (x : End). x.carrier.ended) (times_quiet (suc n) e is) ∙ lasts
 times_within (suc n) (event ∷ events) e is lasts = times_within n events (hears_next e) (rest_is event events e is) lasts
@@ -50,18 +53,22 @@ out_full e new out full =
 
 out_lasting : (e new : End) → RunsOut e new → (attends e).carrier.ended ≡ None → new.carrier.ended ≡ Some NoMemory
 out_lasting e new out lasts =
-    let heard = times_within out.heard e.carrier.events e refl (ap (λ (c : Carrier). c.ended) (sym (concluded_carrier (hears_all e))) ∙ lasts) in
+    let heard = times_within out.heard e.carrier.events e refl (ap (λ (c : Carrier). c.ended) (sym (concluded_carrier (hears_all e))) ∙
+        lasts) in
     ap (λ (x : End). x.carrier.ended) out.starved ∙ starves_lasting (with_events out.more (hears_times out.heard e)) heard
 
-out_by : (e new : End) (packet : List ℕ) (c : Carrier) → (c ≡ carriers.after_packet e.carrier packet) ⊎ carriers.Starves e.carrier packet c → RunsOut (with_carrier c e) new →
+out_by : (e new : End) (packet : List ℕ) (c : Carrier) →
+    (c ≡ carriers.after_packet e.carrier packet) ⊎ carriers.Starves e.carrier packet c → RunsOut (with_carrier c e) new →
     (after_packet e packet).carrier.ended ≡ None → new.carrier.ended ≡ Some NoMemory
 out_by e new packet c (inl is) out lasts =
     out_lasting (with_carrier c e) new out
-    (ap (λ (x : Carrier). (attends (with_carrier x e)).carrier.ended) is ∙ ap (λ (x : End). x.carrier.ended) (sym (packet_is e packet)) ∙ lasts)
+    (ap (λ (x : Carrier). (attends (with_carrier x e)).carrier.ended) is ∙ ap (λ (x : End). x.carrier.ended) (sym (packet_is e packet)) ∙
+        lasts)
 out_by e new packet c (inr starved) out lasts = out_full (with_carrier c e) new out (ap (λ (x : Carrier). x.ended) starved.2.ended)
 
 -- if the packet does not end it, an allocation failure does
-pub starved_full : (e new : End) (packet : List ℕ) → Starves e packet new → (after_packet e packet).carrier.ended ≡ None → new.carrier.ended ≡ Some NoMemory
+pub starved_full : (e new : End) (packet : List ℕ) → Starves e packet new → (after_packet e packet).carrier.ended ≡ None →
+    new.carrier.ended ≡ Some NoMemory
 starved_full e new packet (inl h) lasts =
     let full = ap (λ (x : Carrier). x.ended) h.1.2.ended in
     ap (λ (x : End). x.carrier.ended) h.2 ∙ attends_over (with_carrier h.0 e) (ap is_some full) ∙ full
@@ -69,6 +76,8 @@ starved_full e new packet (inr h) lasts = out_by e new packet h.0 (acts_cases e.
 
 -- ---- packets
 
-pub packet_over : (e : End) (packet : List ℕ) → is_some (carriers.after_packet e.carrier packet).ended ≡ true → is_some (after_packet e packet).carrier.ended ≡ true
+pub packet_over : (e : End) (packet : List ℕ) → is_some (carriers.after_packet e.carrier packet).ended ≡ true →
+    is_some (after_packet e packet).carrier.ended ≡ true
 packet_over e packet over =
-    ap (λ (x : End). is_some x.carrier.ended) (packet_is e packet) ∙ ap is_some (attends_over (with_carrier (carriers.after_packet e.carrier packet) e) over) ∙ over
+    ap (λ (x : End). is_some x.carrier.ended) (packet_is e packet) ∙
+        ap is_some (attends_over (with_carrier (carriers.after_packet e.carrier packet) e) over) ∙ over

@@ -1,7 +1,11 @@
 -- Pending events are handled one after the other.
-use Rattle.std.proofs.Common.{◌≡◌, ℕ, ◌+◌, ◌<◌, ◌==◌, zero, suc, Bool, true, false, not, List, ◌∷◌, length, None, is_some, refl, sym, ap, subst, ◌∙◌, inl, inr, arith, if◌then◌else◌, []}
+use Rattle.std.proofs.Common.{◌≡◌, ℕ, ◌+◌, ◌<◌, ◌==◌, zero, suc, Bool, true, false, not, List, ◌∷◌, length, None, is_some, refl, sym, ap}
+use Rattle.std.proofs.Common.{subst, ◌∙◌, inl, inr, arith, if◌then◌else◌, []}
 use Rattle.osi_carrier.specs.Packets as carriers
-use Rattle.osi_stack.proofs.Vocabulary.{eqb-true, not-false, Fed, Tells, Happening, Carrying, is_spoilt, Rows, State as Carrier, Interrupted, LeftOff, Fetches, hears, hears_first, hears_next, hears_times, hears_all, with_events, with_carrier, all_lost, concludes, starves, RunsOut, needs_memory, Line, End, Holding, IsAttended, holding}
+use Rattle.osi_stack.proofs.Vocabulary.{eqb-true, not-false, Fed, Tells, Happening, Carrying, is_spoilt, Rows, State as Carrier}
+use Rattle.osi_stack.proofs.Vocabulary.{Interrupted, LeftOff, Fetches, hears, hears_first, hears_next, hears_times, hears_all, with_events}
+use Rattle.osi_stack.proofs.Vocabulary.{with_carrier, all_lost, concludes, starves, RunsOut, needs_memory, Line, End, Holding, IsAttended}
+use Rattle.osi_stack.proofs.Vocabulary.{holding}
 use Rattle.osi_stack.proofs.carried.what_sessions_leave_of_the_carrier.{hears_keep}
 
 -- ---- one more
@@ -15,7 +19,8 @@ record IsTaken (now : End) (event : Happening) (mid : Carrier) : Type 0 where
   first : now.carrier.events ≡ event ∷ mid.events
   rest : with_events mid.events now ≡ with_carrier mid now
 
-taken_is : (now : End) (event : Happening) (mid : Carrier) → now.carrier ≡ record mid { events = event ∷ mid.events } → IsTaken now event mid
+taken_is : (now : End) (event : Happening) (mid : Carrier) → now.carrier ≡ record mid { events = event ∷ mid.events } →
+    IsTaken now event mid
 taken_is now event mid h = grind arith
 
 -- the carrier of an end, and the unfinished packet
@@ -33,7 +38,8 @@ pub heard_fewer : (now : End) (event : Happening) (mid : Carrier) → now.carrie
     length now.carrier.events ≡ suc (length (hears event (with_carrier mid now)).carrier.events)
 heard_fewer now event mid h = grind (arith, taken_is, length, hears_keep, with_carrier)
 
-pub heard_next : (old now : Holding) (event : Happening) (mid : Carrier) (new : Holding) → HasHeard old now → now.end.carrier ≡ record mid { events = event ∷ mid.events } →
+pub heard_next : (old now : Holding) (event : Happening) (mid : Carrier) (new : Holding) → HasHeard old now →
+    now.end.carrier ≡ record mid { events = event ∷ mid.events } →
     new.end ≡ hears event (with_carrier mid now.end) → new.held ≡ now.held → HasHeard old new
 heard_next old now event mid new so_far h is held =
     let t = taken_is now.end event mid h in
@@ -42,24 +48,29 @@ heard_next old now event mid new so_far h is held =
     let before = so_far.left in
     record {
       count = suc so_far.count;
-      is = is ∙ ap (hears event) (sym t.rest) ∙ sym (ap (λ l. hears_first l now.end) t.first) ∙ ap hears_next so_far.is ∙ sym (one_later so_far.count old.end);
+      is = is ∙ ap (hears event) (sym t.rest) ∙ sym (ap (λ l. hears_first l now.end) t.first) ∙ ap hears_next so_far.is ∙
+          sym (one_later so_far.count old.end);
       left = omega arith;
       held = held ∙ so_far.held;
     }
 
 -- fewer events are left
-pub heard_left_over : (now new : Holding) (event : Happening) (mid : Carrier) → now.end.carrier ≡ record mid { events = event ∷ mid.events } →
+pub heard_left_over : (now new : Holding) (event : Happening) (mid : Carrier) →
+    now.end.carrier ≡ record mid { events = event ∷ mid.events } →
     new.end ≡ hears event (with_carrier mid now.end) → length new.end.carrier.events < length now.end.carrier.events
 heard_left_over now new event mid h is = grind (arith, heard_fewer, length)
 
 pub heard_all : (old now : Holding) → HasHeard old now → now.end.carrier.events ≡ [] → now.end ≡ hears_all old.end
 heard_all old now so_far none = grind arith
 
-pub heard_left : (old now : Holding) (event : Happening) (mid : Carrier) (new : End) → HasHeard old now → now.end.carrier ≡ record mid { events = event ∷ mid.events } →
+pub heard_left : (old now : Holding) (event : Happening) (mid : Carrier) (new : End) → HasHeard old now →
+    now.end.carrier ≡ record mid { events = event ∷ mid.events } →
     needs_memory event (with_carrier mid now.end) ≡ true → Interrupted (with_carrier mid now.end) new → LeftOff old.end new
 heard_left old now event mid new so_far h needed stopped =
     let t = taken_is now.end event mid h in
-    search (ap (λ (e : End). e.carrier.events) (sym so_far.is) ∙ t.first, subst (λ (e : End). needs_memory event e ≡ true) (sym t.rest ∙ ap (with_events mid.events) so_far.is) needed, subst (λ (e : End). Interrupted e new) (sym t.rest ∙ ap (with_events mid.events) so_far.is) stopped)
+    search (ap (λ (e : End). e.carrier.events) (sym so_far.is) ∙ t.first,
+        subst (λ (e : End). needs_memory event e ≡ true) (sym t.rest ∙ ap (with_events mid.events) so_far.is) needed,
+        subst (λ (e : End). Interrupted e new) (sym t.rest ∙ ap (with_events mid.events) so_far.is) stopped)
 
 -- ---- an allocation failure
 
@@ -70,7 +81,8 @@ starved_is old mid left = grind arith
 
 pub no_events : {A : Type 0} (events : List A) → not (length events == 0) ≡ false → events ≡ []
 no_events [] h = refl
-no_events (x ∷ l) h = let none : suc (length l) ≡ 0 = eqb-true (length (x ∷ l)) 0 (not-false (length (x ∷ l) == 0) h) in absurd (omega arith)
+no_events (x ∷ l) h = let none : suc (length l) ≡ 0 = eqb-true (length (x ∷ l)) 0 (not-false (length (x ∷ l) == 0) h) in
+    absurd (omega arith)
 
 pub times_quiet : (n : ℕ) (e : End) → e.carrier.events ≡ [] → hears_times n e ≡ e
 times_quiet zero e none = refl
@@ -113,14 +125,20 @@ concluded_attended e new h none over = ap (λ (x : End). x.carrier.events) h ∙
 
 -- ---- one look at the stream
 
-concluded_lines : (b : Bool) (e : End) (lines : Rows Line) → is_some e.carrier.ended ≡ b → lines ≡ (if b then all_lost e.lines else e.lines) → record e { lines = lines } ≡ concludes e
-concluded_lines true e lines is h = ap (λ (l : Rows Line). record e { lines = l }) h ∙ sym (ap (λ (c : Bool). if c then record e { lines = all_lost e.lines } else e) is)
-concluded_lines false e lines is h = ap (λ (l : Rows Line). record e { lines = l }) h ∙ sym (ap (λ (c : Bool). if c then record e { lines = all_lost e.lines } else e) is)
+concluded_lines : (b : Bool) (e : End) (lines : Rows Line) → is_some e.carrier.ended ≡ b →
+    lines ≡ (if b then all_lost e.lines else e.lines) → record e { lines = lines } ≡ concludes e
+concluded_lines true e lines is h = ap (λ (l : Rows Line). record e { lines = l }) h ∙
+    sym (ap (λ (c : Bool). if c then record e { lines = all_lost e.lines } else e) is)
+concluded_lines false e lines is h = ap (λ (l : Rows Line). record e { lines = l }) h ∙
+    sym (ap (λ (c : Bool). if c then record e { lines = all_lost e.lines } else e) is)
 
 -- the carrier took packets, and its events were handled
-pub fetched : (old : Holding) (octets : List ℕ) (fed : Fed) (told : Carrying) (heard : Holding) (carrier : Carrying) (lines : Rows Line) (b : Bool) →
-    carriers.Feeds (carrying_of old) octets fed told → HasHeard (holding told old.end.lines) heard → Tells None heard.end.carrier carrier.state → carrier.held ≡ heard.held →
-    is_some carrier.state.ended ≡ b → lines ≡ (if b then all_lost heard.end.lines else heard.end.lines) → Fetches old octets fed.used (holding carrier lines)
+pub fetched : (old : Holding) (octets : List ℕ) (fed : Fed) (told : Carrying) (heard : Holding) (carrier : Carrying) (lines : Rows Line)
+    (b : Bool) →
+    carriers.Feeds (carrying_of old) octets fed told → HasHeard (holding told old.end.lines) heard →
+        Tells None heard.end.carrier carrier.state → carrier.held ≡ heard.held →
+    is_some carrier.state.ended ≡ b → lines ≡ (if b then all_lost heard.end.lines else heard.end.lines) →
+        Fetches old octets fed.used (holding carrier lines)
 fetched old octets fed told heard carrier lines b feeds so_far none held over left =
     let is : (holding carrier lines).end ≡ concludes heard.end =
     ap (λ (c : Carrier). record { carrier = c; lines = lines }) none.1
@@ -135,15 +153,18 @@ fetched old octets fed told heard carrier lines b feeds so_far none held over le
     }
 
 -- the same if memory ran out for the effect of one of them
-pub fetched_not : (old : Holding) (octets : List ℕ) (fed : Fed) (told : Carrying) (heard new : Holding) → carriers.Feeds (carrying_of old) octets fed told →
-    LeftOff (with_carrier told.state old.end) heard.end → heard.held ≡ told.held → new ≡ record heard { end = starves heard.end } → Fetches old octets (length octets) new
+pub fetched_not : (old : Holding) (octets : List ℕ) (fed : Fed) (told : Carrying) (heard new : Holding) →
+    carriers.Feeds (carrying_of old) octets fed told →
+    LeftOff (with_carrier told.state old.end) heard.end → heard.held ≡ told.held → new ≡ record heard { end = starves heard.end } →
+        Fetches old octets (length octets) new
 fetched_not old octets fed told heard new feeds left held is = record {
   fed = fed;
   told = told;
   feeds = feeds;
   held = ap (λ (h : Holding). h.held) is ∙ held;
   heard = inr (
-    subst (RunsOut (with_carrier told.state old.end)) (sym (ap (λ (h : Holding). h.end) is)) (starved_is (with_carrier told.state old.end) heard.end left),
+    subst (RunsOut (with_carrier told.state old.end)) (sym (ap (λ (h : Holding). h.end) is))
+        (starved_is (with_carrier told.state old.end) heard.end left),
     refl,
   );
   attended = starved_attended heard.end new.end (ap (λ (h : Holding). h.end) is);

@@ -1,7 +1,13 @@
 -- Once the carrier has ended no session is left.
-use Rattle.std.proofs.Common.{◌≡◌, ℕ, ◌||◌, Bool, true, false, List, ◌∷◌, Option, Some, None, is_some, IsSome, refl, sym, ap, subst, ◌∙◌, inl, inr, ◌⊎◌, if◌then◌else◌, []}
+use Rattle.std.proofs.Common.{◌≡◌, ℕ, ◌||◌, Bool, true, false, List, ◌∷◌, Option, Some, None, is_some, IsSome, refl, sym, ap, subst, ◌∙◌}
+use Rattle.std.proofs.Common.{inl, inr, ◌⊎◌, if◌then◌else◌, []}
 use Rattle.osi_carrier.specs.Packets as carriers
-use Rattle.osi_stack.proofs.Vocabulary.{tsdus_sent, limit_of, Fed, open_link, sent_on, may_connect, send_all_error, value_at, put, State as Carrier, EndReason, free_of, put_same, Standing as Link, Call, Input, Listener, called, react, connects, connect_error, terms_error, breaks, without_first, Feeds, with_events, with_carrier, hears_all, hears_times, attends, concludes, after_packet, ends, all_lost, Starves, kept_at, line_by, carrier_by, by_line, to_session, IsGone, Line, End, Holding, session_in, answers_by, Connect, none_of}
+use Rattle.osi_stack.proofs.Vocabulary.{tsdus_sent, limit_of, Fed, open_link, sent_on, may_connect, send_all_error, value_at, put}
+use Rattle.osi_stack.proofs.Vocabulary.{State as Carrier, EndReason, free_of, put_same, Standing as Link, Call, Input, Listener, called}
+use Rattle.osi_stack.proofs.Vocabulary.{react, connects, connect_error, terms_error, breaks, without_first, Feeds, with_events}
+use Rattle.osi_stack.proofs.Vocabulary.{with_carrier, hears_all, hears_times, attends, concludes, after_packet, ends, all_lost, Starves}
+use Rattle.osi_stack.proofs.Vocabulary.{kept_at, line_by, carrier_by, by_line, to_session, IsGone, Line, End, Holding, session_in}
+use Rattle.osi_stack.proofs.Vocabulary.{answers_by, Connect, none_of}
 use Rattle.osi_stack.proofs.carried.packets_without_events.{packet_is}
 use Rattle.osi_stack.proofs.carried.what_a_move_leaves.{are_lost, kept_first}
 use Rattle.osi_stack.proofs.sound.the_invariant_is_kept.{open_none}
@@ -19,30 +25,38 @@ lost_gone e new is over r = ap (kept_at r) is ∙ (are_lost e.lines).none r
 -- ---- calls
 
 pub connect_gone : (c : Connect) (e : End) → connect_error c e ≡ None → IsGone (connects c e)
-connect_gone c e allowed = lasting_gone (connects c e) (none_of e.carrier.ended (free_of e.carrier (open_none (may_connect e.carrier) (terms_error c) allowed)).lasts)
+connect_gone c e allowed =
+    lasting_gone (connects c e)
+    (none_of e.carrier.ended (free_of e.carrier (open_none (may_connect e.carrier) (terms_error c) allowed)).lasts)
 
 sent_lasts_by : (r : ℕ) (tsdu : List ℕ) (o : Option (ℕ × Link)) (c : Carrier) → (sent_on r tsdu o c).ended ≡ c.ended
 sent_lasts_by r tsdu None c = refl
 sent_lasts_by r tsdu (Some (peer, link)) c = refl
 
 -- what a call sends does not end the carrier
-answers_last : (closes : Bool) (r : ℕ) (tsdus : List (List ℕ)) (c : Carrier) → closes ≡ false → (answers_by closes r tsdus c).ended ≡ c.ended
+answers_last : (closes : Bool) (r : ℕ) (tsdus : List (List ℕ)) (c : Carrier) → closes ≡ false →
+    (answers_by closes r tsdus c).ended ≡ c.ended
 answers_last true r tsdus c still = cc
 answers_last false r tsdus c still =
-    unless_sent (λ x. x.ended ≡ c.ended) (λ q tsdu x same. sent_lasts_by q tsdu (open_link q x) x ∙ same) (send_all_error tsdus (open_link r c)) r tsdus c refl
+    unless_sent (λ x. x.ended ≡ c.ended) (λ q tsdu x same. sent_lasts_by q tsdu (open_link q x) x ∙ same)
+        (send_all_error tsdus (open_link r c)) r tsdus c refl
 
-carrier_lasts : ((s : Listener) (call : Call) → (react s (called call)).closes ≡ false) → (r : ℕ) (o : Option Listener) (call : Call) (c : Carrier) →
+carrier_lasts : ((s : Listener) (call : Call) → (react s (called call)).closes ≡ false) →
+    (r : ℕ) (o : Option Listener) (call : Call) (c : Carrier) →
     (carrier_by r o (called call) c).ended ≡ c.ended
 carrier_lasts law r None call c = refl
-carrier_lasts law r (Some s) call c = answers_last (react s (called call)).closes r (tsdus_sent (limit_of s.state) (react s (called call)).reply) c (law s call)
+carrier_lasts law r (Some s) call c =
+    answers_last (react s (called call)).closes r (tsdus_sent (limit_of s.state) (react s (called call)).reply) c (law s call)
 
-line_gone : (r : ℕ) (input : Input) (e : End) (line : Line) (o : Option Listener) → value_at r e.lines ≡ Some line → line.session ≡ o → kept_at r e.lines ≡ None →
+line_gone : (r : ℕ) (input : Input) (e : End) (line : Line) (o : Option Listener) → value_at r e.lines ≡ Some line → line.session ≡ o →
+    kept_at r e.lines ≡ None →
     put r (line_by line o input) e.lines ≡ e.lines
 line_gone r input e line None here is none = put_same r line e.lines here
 line_gone r input e line (Some s) here is none = let no : Some s ≡ None = sym is ∙ sym (ap session_in here) ∙ none in cc
 
 -- a session that is not there does nothing
-rest_by : (r : ℕ) (input : Input) (e : End) (o : Option Line) → value_at r e.lines ≡ o → kept_at r e.lines ≡ None → (by_line r o input e).lines ≡ e.lines
+rest_by : (r : ℕ) (input : Input) (e : End) (o : Option Line) → value_at r e.lines ≡ o → kept_at r e.lines ≡ None →
+    (by_line r o input e).lines ≡ e.lines
 rest_by r input e None here none = refl
 rest_by r input e (Some line) here none = line_gone r input e line line.session here refl none
 
@@ -51,7 +65,8 @@ call_ended : ((s : Listener) (call : Call) → (react s (called call)).closes �
 call_ended law r call e None = refl
 call_ended law r call e (Some line) = carrier_lasts law r line.session call e.carrier
 
-pub call_gone : ((s : Listener) (call : Call) → (react s (called call)).closes ≡ false) → (r : ℕ) (call : Call) (e : End) → IsGone e → IsGone (to_session r (called call) e)
+pub call_gone : ((s : Listener) (call : Call) → (react s (called call)).closes ≡ false) → (r : ℕ) (call : Call) (e : End) → IsGone e →
+    IsGone (to_session r (called call) e)
 call_gone law r call e gone over q =
     let ended : IsSome e.carrier.ended = subst IsSome (call_ended law r call e (value_at r e.lines)) over in
     ap (kept_at q) (rest_by r (called call) e (value_at r e.lines) refl (gone ended r)) ∙ gone ended q
@@ -61,7 +76,8 @@ first_gone e gone over r = kept_first r e.lines ∙ gone over r
 
 -- ---- packets
 
-concludes_by : (o : Option EndReason) (e : End) → e.carrier.ended ≡ o → IsGone (if is_some o then record e { lines = all_lost e.lines } else e)
+concludes_by : (o : Option EndReason) (e : End) → e.carrier.ended ≡ o →
+    IsGone (if is_some o then record e { lines = all_lost e.lines } else e)
 concludes_by None e is = lasting_gone e is
 concludes_by (Some reason) e is = lost_gone e (record e { lines = all_lost e.lines }) refl
 
@@ -78,7 +94,8 @@ starved_gone e new packet (inr h) =
 
 gone_kept : IsKept IsGone
 gone_kept = record {
-  each = λ packet e lasts gone. then_gone (with_carrier (carriers.after_packet e.carrier packet) e) (after_packet e packet) (packet_is e packet);
+  each = λ packet e lasts gone. then_gone (with_carrier (carriers.after_packet e.carrier packet) e) (after_packet e packet)
+      (packet_is e packet);
   over = λ reason e gone. lost_gone e (ends reason e) refl;
   starved = λ packet e new lasts h gone. starved_gone e new packet h;
 }

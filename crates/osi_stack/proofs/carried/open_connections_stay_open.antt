@@ -1,7 +1,16 @@
 -- Sessions keep their open transport connections, whatever event is handled.
-use Rattle.std.proofs.Common.{◌≡◌, ◌≢◌, ℕ, zero, suc, ◌==◌, Bool, true, false, not, ◌&&◌, ◌||◌, List, ◌∷◌, ◌++◌, length, Option, Some, None, is_some, IsSome, option_map, Result, Ok, Err, refl, sym, ap, subst, ◌∙◌, inl, inr, ◌⊎◌, if◌then◌else◌, [], arith}
+use Rattle.std.proofs.Common.{◌≡◌, ◌≢◌, ℕ, zero, suc, ◌==◌, Bool, true, false, not, ◌&&◌, ◌||◌, List, ◌∷◌, ◌++◌, length, Option, Some, None}
+use Rattle.std.proofs.Common.{is_some, IsSome, option_map, Result, Ok, Err, refl, sym, ap, subst, ◌∙◌, inl, inr, ◌⊎◌, if◌then◌else◌, []}
+use Rattle.std.proofs.Common.{arith}
 use Rattle.osi_carrier.specs.Happenings as told
-use Rattle.osi_stack.proofs.Vocabulary.{ne_eqb, eqb-true, eq-eqb, or_right, and-true, open_link, link_of, sent, sent_on, closes, closed_on, closed_with, sent_all, send_all_error, Happening, Rows, value_at, put, Connection, closing, State as Carrier, is_open, open_after, SendError, put_here, push_here, put_other, push_other, put_none, put_same, told_of, sent_opens, closed_opens, Standing as Link, Class, Zero, Input, Listener, opened, refused, broken, came, came_as, react, said_at, Words, SpduFault, is_ended, awaits, Phase, opens, hears, hears_first, hears_next, hears_times, with_events, loses, all_lost, needs_link, AreApart, kept_at, tsdus_sent, limit_for, line_by, carrier_by, by_line, to_session, Line, End, session_in, is_used, used_lines, joins, fresh_line, sent_unless, answers_by, input_of}
+use Rattle.osi_stack.proofs.Vocabulary.{ne_eqb, eqb-true, eq-eqb, or_right, and-true, open_link, link_of, sent, sent_on, closes, closed_on}
+use Rattle.osi_stack.proofs.Vocabulary.{closed_with, sent_all, send_all_error, Happening, Rows, value_at, put, Connection, closing}
+use Rattle.osi_stack.proofs.Vocabulary.{State as Carrier, is_open, open_after, SendError, put_here, push_here, put_other, push_other}
+use Rattle.osi_stack.proofs.Vocabulary.{put_none, put_same, told_of, sent_opens, closed_opens, Standing as Link, Class, Zero, Input}
+use Rattle.osi_stack.proofs.Vocabulary.{Listener, opened, refused, broken, came, came_as, react, said_at, Words, SpduFault, is_ended}
+use Rattle.osi_stack.proofs.Vocabulary.{awaits, Phase, opens, hears, hears_first, hears_next, hears_times, with_events, loses, all_lost}
+use Rattle.osi_stack.proofs.Vocabulary.{needs_link, AreApart, kept_at, tsdus_sent, limit_for, line_by, carrier_by, by_line, to_session}
+use Rattle.osi_stack.proofs.Vocabulary.{Line, End, session_in, is_used, used_lines, joins, fresh_line, sent_unless, answers_by, input_of}
 use Rattle.osi_stack.proofs.carried.what_sessions_leave_of_the_carrier.{hears_keep}
 use Rattle.osi_stack.proofs.carried.packets_without_events.{both}
 use Rattle.osi_stack.proofs.carried.what_a_move_leaves.{lost_at, used_keep}
@@ -12,14 +21,17 @@ use Rattle.osi_stack.proofs.carried.what_each_step_preserves.{event_heard, event
 pub record SessionLaws : Type 0 where
   pub closed : (s : Listener) (input : Input) → (react s input).closes ≡ true → is_ended (react s input).next.state.phase ≡ true
   pub ended : (s : Listener) (input : Input) → is_ended s.state.phase ≡ true → is_ended (react s input).next.state.phase ≡ true
-  pub linked : (s : Listener) (input : Input) → (input ≡ opened → ⊥) → needs_link (react s input).next.state.phase ≡ true → needs_link s.state.phase ≡ true
+  pub linked : (s : Listener) (input : Input) → (input ≡ opened → ⊥) → needs_link (react s input).next.state.phase ≡ true →
+      needs_link s.state.phase ≡ true
   -- once it is open
-  pub begun : (s : Listener) → needs_link (react s opened).next.state.phase ≡ true → needs_link s.state.phase ≡ false → is_ended s.state.phase ≡ false
+  pub begun : (s : Listener) → needs_link (react s opened).next.state.phase ≡ true → needs_link s.state.phase ≡ false →
+      is_ended s.state.phase ≡ false
   pub unneeded : (p : Phase) → is_ended p ≡ true → needs_link p ≡ false
 
 -- ---- what a session does to the carrier
 
-put_some_by : {X : Type 0} (r q : ℕ) (x : X) (rows : Rows X) (o : Option X) (b : Bool) → (r == q) ≡ b → value_at r rows ≡ o → IsSome o → IsSome (value_at r (put q x rows))
+put_some_by : {X : Type 0} (r q : ℕ) (x : X) (rows : Rows X) (o : Option X) (b : Bool) → (r == q) ≡ b → value_at r rows ≡ o → IsSome o →
+    IsSome (value_at r (put q x rows))
 put_some_by r q x rows None b e at some = cc
 put_some_by {X} r q x rows (Some y) true e at some =
     let same = eqb-true r q e in
@@ -39,7 +51,8 @@ pub record Answered (q : ℕ) (closes : Bool) (c d : Carrier) : Type 0 where
   pub here : closes ≡ false → is_open q d ≡ is_open q c
   pub closing_here : closes ≡ true → d.ended ≡ None → (is_open q d ≡ is_open q c) ⊎ IsSome (value_at q d.live)
 
-sent_stays_by : (q : ℕ) (tsdu : List ℕ) (o : Option (ℕ × Link)) (c : Carrier) (r : ℕ) → IsSome (value_at r c.live) → IsSome (value_at r (sent_on q tsdu o c).live)
+sent_stays_by : (q : ℕ) (tsdu : List ℕ) (o : Option (ℕ × Link)) (c : Carrier) (r : ℕ) → IsSome (value_at r c.live) →
+    IsSome (value_at r (sent_on q tsdu o c).live)
 sent_stays_by q tsdu None c r some = some
 sent_stays_by q tsdu (Some (peer, link)) c r some = put_some r q _ c.live some
 
@@ -56,17 +69,20 @@ all_answered q tsdus c = grind (arith, all_open, all_stay)
 
 hands_by : (q : ℕ) (tsdus : List (List ℕ)) (c : Carrier) (o : Option SendError) → Answered q false c (sent_unless o q tsdus c)
 hands_by q tsdus c None = all_answered q tsdus c
-hands_by q tsdus c (Some e) = record { others = λ over r ne. refl; stays = λ over r some. some; here = λ e. refl; closing_here = λ e over. inl refl }
+hands_by q tsdus c (Some e) =
+    record { others = λ over r ne. refl; stays = λ over r some. some; here = λ e. refl; closing_here = λ e over. inl refl }
 
 live_of_link : (over : Bool) (o : Option Connection) (link : ℕ × Link) → (if over then None else link_of o) ≡ Some link → IsSome o
 live_of_link over o link e = grind arith
 
-closes_stays : (q peer : ℕ) (class : Option Class) (c : Carrier) → (closes q peer 128 class c).ended ≡ None → (r : ℕ) → IsSome (value_at r c.live) →
+closes_stays : (q peer : ℕ) (class : Option Class) (c : Carrier) → (closes q peer 128 class c).ended ≡ None → (r : ℕ) →
+    IsSome (value_at r c.live) →
     IsSome (value_at r (closes q peer 128 class c).live)
 closes_stays q peer (Some Zero) c over r some = cc
 closes_stays q peer _ c over r some = put_some r q (closing peer) c.live some
 
-closed_stays_by : (q : ℕ) (o : Option (ℕ × Link)) (c : Carrier) → (closed_on q 128 o c).ended ≡ None → (r : ℕ) → IsSome (value_at r c.live) →
+closed_stays_by : (q : ℕ) (o : Option (ℕ × Link)) (c : Carrier) → (closed_on q 128 o c).ended ≡ None → (r : ℕ) →
+    IsSome (value_at r c.live) →
     IsSome (value_at r (closed_on q 128 o c).live)
 closed_stays_by q None c over r some = some
 closed_stays_by q (Some (peer, link)) c over r some = closes_stays q peer c.class c over r some
@@ -101,7 +117,8 @@ mono_and : (a b x : Bool) → (a ≡ true → b ≡ true) → (a && x) ≡ true 
 mono_and true b x imp h = ap (λ y. y && x) (imp refl) ∙ h
 mono_and false b x imp h = cc
 
-pub mono : (r : ℕ) (events : List Happening) (a b : Bool) → (a ≡ true → b ≡ true) → open_after r a events ≡ true → open_after r b events ≡ true
+pub mono : (r : ℕ) (events : List Happening) (a b : Bool) → (a ≡ true → b ≡ true) → open_after r a events ≡ true →
+    open_after r b events ≡ true
 mono r [] a b imp h = imp h
 mono r (told.opened q ∷ events) a b imp h = mono r events (a || (q == r)) (b || (q == r)) (mono_or a b (q == r) imp) h
 mono r (told.closed q reason ∷ events) a b imp h = mono r events (a && not (q == r)) (b && not (q == r)) (mono_and a b (not (q == r)) imp) h
@@ -109,7 +126,8 @@ mono r (told.faulted q fault ∷ events) a b imp h = mono r events (a && not (q 
 mono r (event ∷ events) a b imp h = mono r events a b imp h
 
 -- one event that is handled
-later_false : (r : ℕ) (event : Happening) (rest : List Happening) → open_after r false rest ≡ true → open_after r false (event ∷ rest) ≡ true
+later_false : (r : ℕ) (event : Happening) (rest : List Happening) → open_after r false rest ≡ true →
+    open_after r false (event ∷ rest) ≡ true
 later_false r (told.opened q) rest h = mono r rest false (false || (q == r)) (λ no. cc) h
 later_false r event rest h = h
 
@@ -126,19 +144,23 @@ pub record IsLinked (r : ℕ) (o : Option Listener) (events : List Happening) (c
   pub fresh : (open_after r false events ≡ true → is_open r c ≡ true) ⊎ HasClosed r o c
 
 -- an event for another connection
-event_other : (event : Happening) (r : ℕ) (b : Bool) (rest : List Happening) → r ≢ told_of event → open_after r b (event ∷ rest) ≡ open_after r b rest
+event_other : (event : Happening) (r : ℕ) (b : Bool) (rest : List Happening) → r ≢ told_of event →
+    open_after r b (event ∷ rest) ≡ open_after r b rest
 event_other event r b rest ne = grind arith
 
-other_linked : (event : Happening) (rest : List Happening) (r : ℕ) (o : Option Listener) (c d : Carrier) → r ≢ told_of event → is_open r d ≡ is_open r c →
+other_linked : (event : Happening) (rest : List Happening) (r : ℕ) (o : Option Listener) (c d : Carrier) → r ≢ told_of event →
+    is_open r d ≡ is_open r c →
     (IsSome (value_at r c.live) → IsSome (value_at r d.live)) → IsLinked r o (event ∷ rest) c → IsLinked r o rest d
 other_linked event rest r o c d ne same stays l = search (arith, event_other)
 
 -- no session is there
-none_linked : (event : Happening) (rest : List Happening) (r : ℕ) (o : Option Listener) (c : Carrier) → o ≡ None → IsLinked r o (event ∷ rest) c → IsLinked r o rest c
+none_linked : (event : Happening) (rest : List Happening) (r : ℕ) (o : Option Listener) (c : Carrier) → o ≡ None →
+    IsLinked r o (event ∷ rest) c → IsLinked r o rest c
 none_linked event rest r o c none l = grind (arith, later_false)
 
 -- the session there made its move
-here_linked : SessionLaws → (q : ℕ) (s : Listener) (input : Input) (event : Happening) (rest : List Happening) (c d : Carrier) (b : Bool) → (react s input).closes ≡ b →
+here_linked : SessionLaws → (q : ℕ) (s : Listener) (input : Input) (event : Happening) (rest : List Happening) (c d : Carrier) (b : Bool) →
+    (react s input).closes ≡ b →
     Answered q (react s input).closes c d → d.ended ≡ None →
     (needs_link (react s input).next.state.phase ≡ true → open_after q true rest ≡ true → is_open q c ≡ true) →
     IsLinked q (Some s) (event ∷ rest) c → IsLinked q (Some (react s input).next) rest d
@@ -186,7 +208,8 @@ pub record HasRested (q : ℕ) (old new : End) : Type 0 where
 abbrev pub Hearing : ℕ → Input → End → End → Type 0
 Hearing q input old new = HasMoved q input old new ⊎ HasRested q old new
 
-line_hears : (q : ℕ) (input : Input) (e : End) (line : Line) (o : Option Listener) → value_at q e.lines ≡ Some line → line.session ≡ o → Hearing q input e (by_line q (Some line) input e)
+line_hears : (q : ℕ) (input : Input) (e : End) (line : Line) (o : Option Listener) → value_at q e.lines ≡ Some line → line.session ≡ o →
+    Hearing q input e (by_line q (Some line) input e)
 line_hears q input e line None here is = inr (record {
   none = ap session_in here ∙ is;
   same = ap (λ (x : Option Listener). record { carrier = carrier_by q x input e.carrier; lines = put q (line_by line x input) e.lines }) is
@@ -214,34 +237,44 @@ session_hears q input e = session_hears_by q input e (value_at q e.lines) refl
 abbrev pub AllLinked : List Happening → End → Type 0
 AllLinked events e = (r : ℕ) → IsLinked r (kept_at r e.lines) events e.carrier
 
-moved_linked : SessionLaws → (q : ℕ) (input : Input) (event : Happening) (rest : List Happening) (e d : End) → told_of event ≡ q → HasMoved q input e d → d.carrier.ended ≡ None →
-    ((s : Listener) → kept_at q e.lines ≡ Some s → needs_link (react s input).next.state.phase ≡ true → open_after q true rest ≡ true → is_open q e.carrier ≡ true) →
+moved_linked : SessionLaws → (q : ℕ) (input : Input) (event : Happening) (rest : List Happening) (e d : End) → told_of event ≡ q →
+    HasMoved q input e d → d.carrier.ended ≡ None →
+    ((s : Listener) → kept_at q e.lines ≡ Some s → needs_link (react s input).next.state.phase ≡ true → open_after q true rest ≡ true →
+        is_open q e.carrier ≡ true) →
     AllLinked (event ∷ rest) e → (r : ℕ) (b : Bool) → (r == q) ≡ b → IsLinked r (kept_at r d.lines) rest d.carrier
 moved_linked laws q input event rest e d of m over needs l r true at =
     let same = eqb-true r q at in
-    let before : IsLinked q (Some m.session) (event ∷ rest) e.carrier = subst (λ (o : Option Listener). IsLinked q o (event ∷ rest) e.carrier) m.was (l q) in
-    let after = here_linked laws q m.session input event rest e.carrier d.carrier (react m.session input).closes refl m.answered over (needs m.session m.was) before in
-    subst (λ (n : ℕ). IsLinked n (kept_at n d.lines) rest d.carrier) (sym same) (subst (λ (o : Option Listener). IsLinked q o rest d.carrier) (sym m.is) after)
+    let before : IsLinked q (Some m.session) (event ∷ rest) e.carrier =
+        subst (λ (o : Option Listener). IsLinked q o (event ∷ rest) e.carrier) m.was (l q) in
+    let after = here_linked laws q m.session input event rest e.carrier d.carrier (react m.session input).closes refl m.answered over
+        (needs m.session m.was) before in
+    subst (λ (n : ℕ). IsLinked n (kept_at n d.lines) rest d.carrier) (sym same)
+        (subst (λ (o : Option Listener). IsLinked q o rest d.carrier) (sym m.is) after)
 moved_linked laws q input event rest e d of m over needs l r false at =
     let ne : r ≢ q = (λ same. both (r == q) (eq-eqb r q same) at) in
     let other : r ≢ told_of event = (λ same. ne (same ∙ of)) in
     subst (λ (o : Option Listener). IsLinked r o rest d.carrier) (sym (m.others r ne))
     (other_linked event rest r (kept_at r e.lines) e.carrier d.carrier other (m.answered.others over r ne) (m.answered.stays over r) (l r))
 
-rested_linked : (q : ℕ) (event : Happening) (rest : List Happening) (e : End) → told_of event ≡ q → kept_at q e.lines ≡ None → AllLinked (event ∷ rest) e →
+rested_linked : (q : ℕ) (event : Happening) (rest : List Happening) (e : End) → told_of event ≡ q → kept_at q e.lines ≡ None →
+    AllLinked (event ∷ rest) e →
     (r : ℕ) (b : Bool) → (r == q) ≡ b → IsLinked r (kept_at r e.lines) rest e.carrier
 rested_linked q event rest e of none l r b at = search (arith, eqb-true, none_linked, kept_at, told_of, both, eq-eqb, other_linked)
 
-pub session_linked : SessionLaws → (q : ℕ) (input : Input) (event : Happening) (rest : List Happening) (e d : End) → told_of event ≡ q → Hearing q input e d → d.carrier.ended ≡ None →
-    ((s : Listener) → kept_at q e.lines ≡ Some s → needs_link (react s input).next.state.phase ≡ true → open_after q true rest ≡ true → is_open q e.carrier ≡ true) →
+pub session_linked : SessionLaws → (q : ℕ) (input : Input) (event : Happening) (rest : List Happening) (e d : End) → told_of event ≡ q →
+    Hearing q input e d → d.carrier.ended ≡ None →
+    ((s : Listener) → kept_at q e.lines ≡ Some s → needs_link (react s input).next.state.phase ≡ true → open_after q true rest ≡ true →
+        is_open q e.carrier ≡ true) →
     AllLinked (event ∷ rest) e → AllLinked rest d
-session_linked laws q input event rest e d of (inl m) over needs l = λ r. moved_linked laws q input event rest e d of m over needs l r (r == q) refl
+session_linked laws q input event rest e d of (inl m) over needs l =
+    λ r. moved_linked laws q input event rest e d of m over needs l r (r == q) refl
 session_linked laws q input event rest e d of (inr m) over needs l =
     subst (λ (x : End). AllLinked rest x) (sym m.same) (λ r. rested_linked q event rest e of m.none l r (r == q) refl)
 
 -- ---- lines stay apart
 
-apart_put_by : (r q : ℕ) (x y : Line) (rows : Rows Line) (b : Bool) → (q == r) ≡ b → value_at q rows ≡ None → AreApart rows → AreApart (put r x rows) →
+apart_put_by : (r q : ℕ) (x y : Line) (rows : Rows Line) (b : Bool) → (q == r) ≡ b → value_at q rows ≡ None → AreApart rows →
+    AreApart (put r x rows) →
     AreApart (put r x ((q, y) ∷ rows))
 apart_put_by r q x y rows true e none apart more = rw e (none, apart)
 apart_put_by r q x y rows false e none apart more = rw e (put_none q r x rows none, more)
@@ -250,30 +283,36 @@ pub apart_put : (r : ℕ) (x : Line) (rows : Rows Line) → AreApart rows → Ar
 apart_put r x [] apart = tt
 apart_put r x ((q, y) ∷ rows) apart = apart_put_by r q x y rows (q == r) refl apart.0 apart.1 (apart_put r x rows apart.1)
 
-apart_push_by : (r q : ℕ) (x y : Line) (rows : Rows Line) (b : Bool) → (q == r) ≡ b → value_at r ((q, y) ∷ rows) ≡ None → value_at q rows ≡ None →
+apart_push_by : (r q : ℕ) (x y : Line) (rows : Rows Line) (b : Bool) → (q == r) ≡ b → value_at r ((q, y) ∷ rows) ≡ None →
+    value_at q rows ≡ None →
     (value_at r rows ≡ None → AreApart (rows ++ (r, x) ∷ [])) → AreApart ((q, y) ∷ (rows ++ (r, x) ∷ []))
 apart_push_by r q x y rows b e none alone more = grind (arith, value_at, both, eq-eqb, push_other)
 
 pub apart_push : (r : ℕ) (x : Line) (rows : Rows Line) → value_at r rows ≡ None → AreApart rows → AreApart (rows ++ (r, x) ∷ [])
 apart_push r x [] none apart = (refl, tt)
-apart_push r x ((q, y) ∷ rows) none apart = apart_push_by r q x y rows (q == r) refl none apart.0 (λ behind. apart_push r x rows behind apart.1)
+apart_push r x ((q, y) ∷ rows) none apart =
+    apart_push_by r q x y rows (q == r) refl none apart.0 (λ behind. apart_push r x rows behind apart.1)
 
 -- ---- lines that are of use
 
 -- a line stays, or its connection is gone
 abbrev pub Stays : ℕ → Rows Connection → Rows Line → Type 0
-Stays r live lines = (value_at r (used_lines live lines) ≡ value_at r lines) ⊎ ((value_at r (used_lines live lines) ≡ None) × (value_at r live ≡ None))
+Stays r live lines = (value_at r (used_lines live lines) ≡ value_at r lines) ⊎
+    ((value_at r (used_lines live lines) ≡ None) × (value_at r live ≡ None))
 
-used_at_by : (r p : ℕ) (y : Line) (live : Rows Connection) (lines : Rows Line) (b u : Bool) → (p == r) ≡ b → is_used live (p, y) ≡ u → value_at p lines ≡ None → Stays r live lines →
+used_at_by : (r p : ℕ) (y : Line) (live : Rows Connection) (lines : Rows Line) (b u : Bool) → (p == r) ≡ b → is_used live (p, y) ≡ u →
+    value_at p lines ≡ None → Stays r live lines →
     Stays r live ((p, y) ∷ lines)
 used_at_by r p y live lines b u e used alone more = grind arith
 
 pub used_at : (r : ℕ) (live : Rows Connection) (lines : Rows Line) → AreApart lines → Stays r live lines
 used_at r live [] apart = inl refl
-used_at r live ((p, y) ∷ lines) apart = used_at_by r p y live lines (p == r) (is_used live (p, y)) refl refl apart.0 (used_at r live lines apart.1)
+used_at r live ((p, y) ∷ lines) apart =
+    used_at_by r p y live lines (p == r) (is_used live (p, y)) refl refl apart.0 (used_at r live lines apart.1)
 
 -- no line comes about
-used_none : (r : ℕ) (live : Rows Connection) (lines : Rows Line) → AreApart lines → value_at r lines ≡ None → value_at r (used_lines live lines) ≡ None
+used_none : (r : ℕ) (live : Rows Connection) (lines : Rows Line) → AreApart lines → value_at r lines ≡ None →
+    value_at r (used_lines live lines) ≡ None
 used_none r live lines apart none = grind (arith, used_at)
 
 pub apart_used : (live : Rows Connection) (lines : Rows Line) → AreApart lines → AreApart (used_lines live lines)
@@ -292,30 +331,36 @@ apart_lost ((r, line) ∷ lines) apart = (lost_at r lines ∙ ap (option_map los
 -- ---- a new session
 
 -- the connection of a session that is new
-joined_here : (q : ℕ) (rest : List Happening) (e : End) → value_at q e.lines ≡ None → IsLinked q (kept_at q e.lines) (told.opened q ∷ rest) e.carrier →
+joined_here : (q : ℕ) (rest : List Happening) (e : End) → value_at q e.lines ≡ None →
+    IsLinked q (kept_at q e.lines) (told.opened q ∷ rest) e.carrier →
     open_after q true rest ≡ true → is_open q e.carrier ≡ true
 joined_here q rest e none l h = grind arith
 
 abbrev pub joined_lines : ℕ → Listener → Rows Line → Rows Line
 joined_lines q s lines = lines ++ (q, fresh_line s) ∷ []
 
-joined_by : (q : ℕ) (rest : List Happening) (e : End) → value_at q e.lines ≡ None → AllLinked (told.opened q ∷ rest) e → (r : ℕ) (b : Bool) → (r == q) ≡ b →
+joined_by : (q : ℕ) (rest : List Happening) (e : End) → value_at q e.lines ≡ None → AllLinked (told.opened q ∷ rest) e →
+    (r : ℕ) (b : Bool) → (r == q) ≡ b →
     Stays r e.carrier.live (joined_lines q awaits e.lines) → IsLinked r (kept_at r (joins q awaits e).lines) rest e.carrier
 joined_by q rest e none l r true at (inl same) =
     let is = eqb-true r q at in
     let kept : kept_at r (joins q awaits e).lines ≡ Some awaits =
     ap session_in (same ∙ ap (λ n. value_at n (joined_lines q awaits e.lines)) is ∙ push_here q (fresh_line awaits) e.lines none) in
     subst (λ (o : Option Listener). IsLinked r o rest e.carrier) (sym kept) (record {
-      needed = λ s same n h. ap (λ n. is_open n e.carrier) is ∙ joined_here q rest e none (l q) (ap (λ n. open_after n true rest) (sym is) ∙ h);
-      fresh = inl (λ h. ap (λ n. is_open n e.carrier) is ∙ joined_here q rest e none (l q) (mono q rest false true (λ no. refl) (ap (λ n. open_after n false rest) (sym is) ∙ h)));
+      needed = λ s same n h. ap (λ n. is_open n e.carrier) is ∙
+          joined_here q rest e none (l q) (ap (λ n. open_after n true rest) (sym is) ∙ h);
+      fresh = inl (λ h. ap (λ n. is_open n e.carrier) is ∙
+          joined_here q rest e none (l q) (mono q rest false true (λ no. refl) (ap (λ n. open_after n false rest) (sym is) ∙ h)));
     })
 joined_by q rest e none l r true at (inr gone) =
     let before : kept_at r e.lines ≡ None = ap (λ n. kept_at n e.lines) (eqb-true r q at) ∙ ap session_in none in
-    subst (λ (o : Option Listener). IsLinked r o rest e.carrier) (before ∙ sym (ap session_in gone.0)) (none_linked (told.opened q) rest r (kept_at r e.lines) e.carrier before (l r))
+    subst (λ (o : Option Listener). IsLinked r o rest e.carrier) (before ∙ sym (ap session_in gone.0))
+        (none_linked (told.opened q) rest r (kept_at r e.lines) e.carrier before (l r))
 joined_by q rest e none l r false at (inl same) =
     let ne : r ≢ q = (λ is. both (r == q) (eq-eqb r q is) at) in
     let kept : kept_at r e.lines ≡ kept_at r (joins q awaits e).lines = ap session_in (sym (push_other r q _ e.lines ne) ∙ sym same) in
-    subst (λ (o : Option Listener). IsLinked r o rest e.carrier) kept (other_linked (told.opened q) rest r (kept_at r e.lines) e.carrier e.carrier ne refl (λ x. x) (l r))
+    subst (λ (o : Option Listener). IsLinked r o rest e.carrier) kept
+        (other_linked (told.opened q) rest r (kept_at r e.lines) e.carrier e.carrier ne refl (λ x. x) (l r))
 joined_by q rest e none l r false at (inr gone) =
     let ne : r ≢ q = (λ is. both (r == q) (eq-eqb r q is) at) in
     subst (λ (o : Option Listener). IsLinked r o rest e.carrier) (sym (ap session_in gone.0)) (record {
@@ -326,9 +371,11 @@ joined_by q rest e none l r false at (inr gone) =
       ];
     })
 
-joined_linked : (q : ℕ) (rest : List Happening) (e : End) → AreApart e.lines → value_at q e.lines ≡ None → AllLinked (told.opened q ∷ rest) e → AllLinked rest (joins q awaits e)
+joined_linked : (q : ℕ) (rest : List Happening) (e : End) → AreApart e.lines → value_at q e.lines ≡ None →
+    AllLinked (told.opened q ∷ rest) e → AllLinked rest (joins q awaits e)
 joined_linked q rest e apart none l =
-    λ r. joined_by q rest e none l r (r == q) refl (used_at r e.carrier.live (joined_lines q awaits e.lines) (apart_push q _ e.lines none apart))
+    λ r. joined_by q rest e none l r (r == q) refl
+        (used_at r e.carrier.live (joined_lines q awaits e.lines) (apart_push q _ e.lines none apart))
 
 -- ---- one event
 
@@ -341,18 +388,22 @@ unfolding react
 broken_needs_none s = refl
 
 -- a session that needs its connection once it is open
-opened_needs : SessionLaws → (q : ℕ) (rest : List Happening) (e : End) (s : Listener) (b : Bool) → needs_link s.state.phase ≡ b → kept_at q e.lines ≡ Some s →
-    IsLinked q (kept_at q e.lines) (told.opened q ∷ rest) e.carrier → needs_link (react s opened).next.state.phase ≡ true → open_after q true rest ≡ true → is_open q e.carrier ≡ true
+opened_needs : SessionLaws → (q : ℕ) (rest : List Happening) (e : End) (s : Listener) (b : Bool) → needs_link s.state.phase ≡ b →
+    kept_at q e.lines ≡ Some s →
+    IsLinked q (kept_at q e.lines) (told.opened q ∷ rest) e.carrier → needs_link (react s opened).next.state.phase ≡ true →
+        open_after q true rest ≡ true → is_open q e.carrier ≡ true
 opened_needs laws q rest e s b needs is l n h = search (arith, mono, eq-eqb, both, is_ended)
 
-opened_linked : SessionLaws → (q : ℕ) (rest : List Happening) (e : End) (o : Option Line) → value_at q e.lines ≡ o → AreApart e.lines → (opens q o e).carrier.ended ≡ None →
+opened_linked : SessionLaws → (q : ℕ) (rest : List Happening) (e : End) (o : Option Line) → value_at q e.lines ≡ o → AreApart e.lines →
+    (opens q o e).carrier.ended ≡ None →
     AllLinked (told.opened q ∷ rest) e → AllLinked rest (opens q o e)
 opened_linked laws q rest e None here apart over l = joined_linked q rest e apart here l
 opened_linked laws q rest e (Some line) here apart over l =
     session_linked laws q opened (told.opened q) rest e (to_session q opened e) refl (session_hears q opened e) over
     (λ s is n h. opened_needs laws q rest e s (needs_link s.state.phase) refl is (l q) n h) l
 
-hears_linked : SessionLaws → (event : Happening) (rest : List Happening) (e : End) → AreApart e.lines → (hears event e).carrier.ended ≡ None →
+hears_linked : SessionLaws → (event : Happening) (rest : List Happening) (e : End) → AreApart e.lines →
+    (hears event e).carrier.ended ≡ None →
     AllLinked (event ∷ rest) e → AllLinked rest (hears event e)
 hears_linked laws (told.opened q) rest e apart over l = opened_linked laws q rest e (value_at q e.lines) refl apart over l
 hears_linked laws (told.refused q reason) rest e apart over l =
@@ -380,7 +431,8 @@ hears_apart event e apart = event_heard (λ x. AreApart x.lines) heard_apart eve
 
 -- ---- all events
 
-pub first_is : (event : Happening) (rest : List Happening) (e : End) → e.carrier.events ≡ event ∷ rest → hears_next e ≡ hears event (with_events rest e)
+pub first_is : (event : Happening) (rest : List Happening) (e : End) → e.carrier.events ≡ event ∷ rest →
+    hears_next e ≡ hears event (with_events rest e)
 first_is event rest e h = ap (λ (l : List Happening). hears_first l e) h
 
 pub rest_is : (event : Happening) (rest : List Happening) (e : End) → e.carrier.events ≡ event ∷ rest → (hears_next e).carrier.events ≡ rest
@@ -398,16 +450,21 @@ pub times_apart : (n : ℕ) (e : End) → AreApart e.lines → AreApart (hears_t
 times_apart n e apart = events_heard (λ x. AreApart x.lines) (λ events x apart. apart) heard_apart n e apart
 
 -- what a carrier has still to report does not matter
-untold_linked : (rest : List Happening) (r : ℕ) (o : Option Listener) (events : List Happening) (c : Carrier) → IsLinked r o events c → IsLinked r o events (record c { events = rest })
+untold_linked : (rest : List Happening) (r : ℕ) (o : Option Listener) (events : List Happening) (c : Carrier) → IsLinked r o events c →
+    IsLinked r o events (record c { events = rest })
 untold_linked rest r o events c l = grind arith
 
-pub times_linked : SessionLaws → (l : List Happening) (e : End) → e.carrier.events ≡ l → AreApart e.lines → (hears_times (length l) e).carrier.ended ≡ None → AllLinked l e →
+pub times_linked : SessionLaws → (l : List Happening) (e : End) → e.carrier.events ≡ l → AreApart e.lines →
+    (hears_times (length l) e).carrier.ended ≡ None → AllLinked l e →
     AllLinked [] (hears_times (length l) e)
 times_linked laws [] e h apart over l = l
 times_linked laws (event ∷ rest) e h apart over l =
     let here = with_events rest e in
     let is = first_is event rest e h in
-    let lasts : (hears event here).carrier.ended ≡ None = ap (λ (x : End). x.carrier.ended) (sym is) ∙ times_last (length rest) (hears_next e) over in
-    let next : AllLinked rest (hears_next e) = subst (λ (x : End). AllLinked rest x) (sym is) (hears_linked laws event rest here apart lasts (λ r. untold_linked rest r (kept_at r e.lines) (event ∷ rest) e.carrier (l r))) in
+    let lasts : (hears event here).carrier.ended ≡ None = ap (λ (x : End). x.carrier.ended) (sym is) ∙
+        times_last (length rest) (hears_next e) over in
+    let next : AllLinked rest (hears_next e) =
+        subst (λ (x : End). AllLinked rest x) (sym is)
+        (hears_linked laws event rest here apart lasts (λ r. untold_linked rest r (kept_at r e.lines) (event ∷ rest) e.carrier (l r))) in
     let still : AreApart (hears_next e).lines = subst (λ (x : End). AreApart x.lines) (sym is) (hears_apart event here apart) in
     times_linked laws rest (hears_next e) (rest_is event rest e h) still over next

@@ -1,7 +1,9 @@
 -- What packets without events do to an end, and what the last of them does.
-use Rattle.std.proofs.Common.{◌≡◌, ℕ, ◌||◌, Bool, true, false, List, ◌∷◌, ◌++◌, Option, Some, None, is_some, refl, sym, ap, subst, ◌∙◌, if◌then◌else◌, [], arith}
+use Rattle.std.proofs.Common.{◌≡◌, ℕ, ◌||◌, Bool, true, false, List, ◌∷◌, ◌++◌, Option, Some, None, is_some, refl, sym, ap, subst, ◌∙◌}
+use Rattle.std.proofs.Common.{if◌then◌else◌, [], arith}
 use Rattle.osi_carrier.specs.Packets as carriers
-use Rattle.osi_stack.proofs.Vocabulary.{ArePackets, Rows, State as Carrier, EndReason, stops, TakesPackets, attends, after_packet, with_carrier, Line, End, waits}
+use Rattle.osi_stack.proofs.Vocabulary.{ArePackets, Rows, State as Carrier, EndReason, stops, TakesPackets, attends, after_packet}
+use Rattle.osi_stack.proofs.Vocabulary.{with_carrier, Line, End, waits}
 use Rattle.osi_stack.proofs.carried.events_one_after_the_other.{no_events}
 
 pub both : {A : Type 0} (b : Bool) → b ≡ true → b ≡ false → A
@@ -49,7 +51,8 @@ next_quiet : (c d : Carrier) (units : List (List ℕ)) → carriers.TakesPackets
 next_quiet c d [] h quiet = ap carriers.stops (sym h) ∙ quiet
 next_quiet c d (u ∷ units) h quiet = h.0
 
-pub lift_dry : (lines : Rows Line) (c d : Carrier) (units : List (List ℕ)) → waits lines ≡ false → carriers.TakesPackets c units d → carriers.stops d ≡ false →
+pub lift_dry : (lines : Rows Line) (c d : Carrier) (units : List (List ℕ)) → waits lines ≡ false → carriers.TakesPackets c units d →
+    carriers.stops d ≡ false →
     TakesPackets (record { carrier = c; lines = lines }) units (record { carrier = d; lines = lines })
 lift_dry lines c d [] none h quiet = ap (λ (x : Carrier). record { carrier = x; lines = lines }) h
 lift_dry lines c d (u ∷ units) none h quiet =
@@ -59,7 +62,8 @@ lift_dry lines c d (u ∷ units) none h quiet =
     let there : End = record { carrier = next; lines = lines } in
     let acted : after_packet here u ≡ there = packet_is here u ∙ quiet_attends there q in (
       quiet_stops here (quiet_is c h.0).lasts none,
-      subst (λ (x : End). TakesPackets x units (record { carrier = d; lines = lines })) (sym acted) (lift_dry lines next d units none h.1 quiet),
+      subst (λ (x : End). TakesPackets x units (record { carrier = d; lines = lines })) (sym acted)
+          (lift_dry lines next d units none h.1 quiet),
     )
 
 -- ---- packets of which the last stops
@@ -74,7 +78,8 @@ pub record HasLast (c : Carrier) (units : List (List ℕ)) (d : Carrier) : Type 
   pub quiet : carriers.stops before ≡ false
   pub acts : d ≡ carriers.after_packet before last
 
-last_by : (c d : Carrier) (u : List ℕ) (units : List (List ℕ)) (b : Bool) → carriers.stops (carriers.after_packet c u) ≡ b → carriers.stops c ≡ false →
+last_by : (c d : Carrier) (u : List ℕ) (units : List (List ℕ)) (b : Bool) → carriers.stops (carriers.after_packet c u) ≡ b →
+    carriers.stops c ≡ false →
     carriers.TakesPackets (carriers.after_packet c u) units d → carriers.stops d ≡ true →
     (carriers.stops (carriers.after_packet c u) ≡ false → HasLast (carriers.after_packet c u) units d) → HasLast c (u ∷ units) d
 last_by c d u units false e quiet h stopped more =
@@ -99,14 +104,17 @@ last_by c d u [] true e quiet h stopped more = record {
 }
 last_by c d u (v ∷ units) true e quiet h stopped more = both (carriers.stops (carriers.after_packet c u)) e h.0
 
-pub last_is : (c d : Carrier) (units : List (List ℕ)) → carriers.TakesPackets c units d → carriers.stops c ≡ false → carriers.stops d ≡ true → HasLast c units d
+pub last_is : (c d : Carrier) (units : List (List ℕ)) → carriers.TakesPackets c units d → carriers.stops c ≡ false →
+    carriers.stops d ≡ true → HasLast c units d
 last_is c d [] h quiet stopped = both (carriers.stops c) (ap carriers.stops (sym h) ∙ stopped) quiet
 last_is c d (u ∷ units) h quiet stopped =
-    last_by c d u units (carriers.stops (carriers.after_packet c u)) refl quiet h.1 stopped (λ e. last_is (carriers.after_packet c u) d units h.1 e stopped)
+    last_by c d u units (carriers.stops (carriers.after_packet c u)) refl quiet h.1 stopped
+        (λ e. last_is (carriers.after_packet c u) d units h.1 e stopped)
 
 -- ---- one list of packets after another
 
-pub takes_append : (old mid new : End) (us vs : List (List ℕ)) → TakesPackets old us mid → TakesPackets mid vs new → TakesPackets old (us ++ vs) new
+pub takes_append : (old mid new : End) (us vs : List (List ℕ)) → TakesPackets old us mid → TakesPackets mid vs new →
+    TakesPackets old (us ++ vs) new
 takes_append old mid new [] vs h k = subst (λ (x : End). TakesPackets x vs new) h k
 takes_append old mid new (u ∷ us) vs h k = (h.0, takes_append (after_packet old u) mid new us vs h.1 k)
 
@@ -126,8 +134,10 @@ packets_part (u ∷ us) vs s q h =
     record { between = more.between; front = (h.0, h.1, h.2, h.3, more.front); back = more.back }
 
 -- the end after the last packet
-pub lift_last : (lines : Rows Line) (c d : Carrier) (units : List (List ℕ)) (new : End) → waits lines ≡ false → carriers.TakesPackets c units d → carriers.stops c ≡ false →
-    carriers.stops d ≡ true → new ≡ attends (record { carrier = d; lines = lines }) → TakesPackets (record { carrier = c; lines = lines }) units new
+pub lift_last : (lines : Rows Line) (c d : Carrier) (units : List (List ℕ)) (new : End) → waits lines ≡ false →
+    carriers.TakesPackets c units d → carriers.stops c ≡ false →
+    carriers.stops d ≡ true → new ≡ attends (record { carrier = d; lines = lines }) →
+        TakesPackets (record { carrier = c; lines = lines }) units new
 lift_last lines c d units new none h quiet stopped is =
     let l = last_is c d units h quiet stopped in
     let before : End = record { carrier = l.before; lines = lines } in

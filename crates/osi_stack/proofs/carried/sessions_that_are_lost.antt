@@ -1,6 +1,8 @@
 -- Sessions that are lost.
-use Rattle.std.proofs.Common.{◌≡◌, ℕ, ◌+◌, ◌<◌, ◌==◌, zero, suc, Bool, List, [], ◌∷◌, ◌++◌, length, take, drop, map, get_or, set, arith, Some, None, Result, Ok, Err, OnErr, refl, sym, ap, ◌∙◌, if◌then◌else◌}
-use Rattle.osi_stack.proofs.Vocabulary.{append-nil, map-append, placed, here_is, Rows, value_at, place_of, put, Listener, broken, react, shows_loss, Shown, Lost, shown_by, Indication, shown_at_loss, loses, all_lost, Line}
+use Rattle.std.proofs.Common.{◌≡◌, ℕ, ◌+◌, ◌<◌, ◌==◌, zero, suc, Bool, List, [], ◌∷◌, ◌++◌, length, take, drop, map, get_or, set, arith}
+use Rattle.std.proofs.Common.{Some, None, Result, Ok, Err, OnErr, refl, sym, ap, ◌∙◌, if◌then◌else◌}
+use Rattle.osi_stack.proofs.Vocabulary.{append-nil, map-append, placed, here_is, Rows, value_at, place_of, put, Listener, broken, react}
+use Rattle.osi_stack.proofs.Vocabulary.{shows_loss, Shown, Lost, shown_by, Indication, shown_at_loss, loses, all_lost, Line}
 
 -- what a session indicates when it is lost
 lost_shown : (s : Listener) → (react s broken).shown ≡ (if shows_loss s.state.phase then Lost ∷ [] else [])
@@ -10,7 +12,8 @@ lost_shown s = refl
 pub lost_line : (s : Listener) (l : Line) (b : Bool) (waiting : List Shown) → l.session ≡ Some s → b ≡ shows_loss s.state.phase →
     waiting ≡ l.waiting ++ (if b then Lost ∷ [] else []) → record l { session = None; waiting = waiting } ≡ loses l
 lost_line s l b waiting e shows h =
-    ap (λ (w : List Shown). record l { session = None; waiting = w }) (h ∙ ap (λ (v : Bool). l.waiting ++ (if v then Lost ∷ [] else [])) shows
+    ap (λ (w : List Shown). record l { session = None; waiting = w })
+        (h ∙ ap (λ (v : Bool). l.waiting ++ (if v then Lost ∷ [] else [])) shows
     ∙ ap (λ v. l.waiting ++ v) (sym (lost_shown s)) ∙ ap (λ o. l.waiting ++ shown_at_loss o) (sym e))
 
 -- one indication more
@@ -23,7 +26,8 @@ one_more items new i shown h e = ap (map shown_by) h ∙ map-append shown_by ite
 lost_twice : (l : Line) → loses (loses l) ≡ loses l
 lost_twice l = ap (λ (w : List Shown). record l { session = None; waiting = w }) (append-nil (l.waiting ++ shown_at_loss l.session))
 
-lost_put_by : (r q : ℕ) (y l : Line) (rows : Rows Line) (b : Bool) → (q == r) ≡ b → (value_at r rows ≡ Some l → all_lost (put r (loses l) rows) ≡ all_lost rows) →
+lost_put_by : (r q : ℕ) (y l : Line) (rows : Rows Line) (b : Bool) → (q == r) ≡ b →
+    (value_at r rows ≡ Some l → all_lost (put r (loses l) rows) ≡ all_lost rows) →
     value_at r ((q, y) ∷ rows) ≡ Some l → all_lost (put r (loses l) ((q, y) ∷ rows)) ≡ all_lost ((q, y) ∷ rows)
 lost_put_by r q y l rows b t more h = grind (arith, all_lost, lost_twice, loses, value_at)
 
@@ -32,8 +36,10 @@ pub lost_put : (r : ℕ) (l : Line) (rows : Rows Line) → value_at r rows ≡ S
 lost_put r l [] h = refl
 lost_put r l ((q, y) ∷ rows) h = lost_put_by r q y l rows (q == r) refl (lost_put r l rows) h
 
-pub stopped_rows : {A E : Type 0} (result : Result A E) (r : ℕ) (rows items : Rows Line) (i : ℕ) (row new : ℕ × Line) → place_of r rows ≡ Some i →
-    row ≡ get_or rows i row → items ≡ rows → OnErr result (new ≡ (row.0, loses row.1)) → OnErr result (all_lost (set items i new) ≡ all_lost rows)
+pub stopped_rows : {A E : Type 0} (result : Result A E) (r : ℕ) (rows items : Rows Line) (i : ℕ) (row new : ℕ × Line) →
+    place_of r rows ≡ Some i →
+    row ≡ get_or rows i row → items ≡ rows → OnErr result (new ≡ (row.0, loses row.1)) →
+        OnErr result (all_lost (set items i new) ≡ all_lost rows)
 stopped_rows (Ok a) r rows items i row new e here same h = tt
 stopped_rows (Err f) r rows items i row new e here same h =
     let p = placed r rows i row e in
@@ -45,7 +51,8 @@ stopped_rows (Err f) r rows items i row new e here same h =
 
 record IsStep (xs : Rows Line) (i : ℕ) (d : ℕ × Line) : Type 0 where
   here : get_or (all_lost (take i xs) ++ drop i xs) i d ≡ get_or xs i d
-  next : set (all_lost (take i xs) ++ drop i xs) i ((get_or xs i d).0, loses (get_or xs i d).1) ≡ all_lost (take (suc i) xs) ++ drop (suc i) xs
+  next : set (all_lost (take i xs) ++ drop i xs) i ((get_or xs i d).0, loses (get_or xs i d).1) ≡ all_lost (take (suc i) xs) ++
+      drop (suc i) xs
 
 step_at : (xs : Rows Line) (i : ℕ) (d : ℕ × Line) → i < length xs → IsStep xs i d
 step_at [] i d h = absurd (omega arith)

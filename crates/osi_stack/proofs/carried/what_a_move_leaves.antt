@@ -1,11 +1,24 @@
 -- What a session that makes a move leaves, and a message that arrives.
-use Rattle.std.proofs.Common.{◌≡◌, ℕ, ◌≤◌, ◌==◌, Bool, true, false, not, ◌||◌, List, [], ◌∷◌, ◌++◌, length, nat_lt, Option, Some, None, is_some, IsSome, option_map, Result, Ok, Err, refl, sym, ap, subst, ◌∙◌, arith, if◌then◌else◌}
+use Rattle.std.proofs.Common.{◌≡◌, ℕ, ◌≤◌, ◌==◌, Bool, true, false, not, ◌||◌, List, [], ◌∷◌, ◌++◌, length, nat_lt, Option, Some, None}
+use Rattle.std.proofs.Common.{is_some, IsSome, option_map, Result, Ok, Err, refl, sym, ap, subst, ◌∙◌, arith, if◌then◌else◌}
 use Rattle.osi_carrier.specs.Place.{Place, never, was_given}
 use Rattle.osi_carrier.specs.Happenings as told
 use Rattle.osi_carrier.specs.React as carriers
 use Rattle.osi_message.specs.Words as words
 use Rattle.osi_stack.specs.Messages.{part}
-use Rattle.osi_stack.proofs.Vocabulary.{nat_tests, list_any, Value, send_all_error, open_link, Happening, Rows, value_at, put, Connection, asked, linked, State as Carrier, put_here, put_other, Standing as Link, Meaning, said_by_units, said_at, said_if_read, Units, SpduFault, words_of, IsSendable, words_sent, tsdus_of, tsdus_sent, behind_no_token, part_octets, written, spelled, Place as PartPlace, tsdu_at, Input, Listener, Move, called, opened, refused, broken, taken, came, came_as, answered, react, awaits, limit_of, Shown, first_shown, first_by, without_first, rest_by, has_given, send_refusal, move_refusal, session_refusal, call_error, carries_out, after_unit, opens, hears, hears_times, hears_first, hears_all, with_events, concludes, attends, shown_at_loss, loses, all_lost, Message, unit, ask, agree, deny, bye, IsWhole, put_by, puts, Acts, Effect, begins, happens, rests, effect_at, told_at, HasSession, AreShort, IsShort, CanHear, Hears, told_all, Arrives, kept_at, waiting_of, Becomes, IsGranted, Says, AreLost, shown_of, all_waiting, IsFirstOf, limit_for, line_by, carrier_by, by_line, to_session, Line, End, session_in, session_at, line_waits, waits, is_used, used_lines, joins, answers_by, Answer, allowed, Call, CallError}
+use Rattle.osi_stack.proofs.Vocabulary.{nat_tests, list_any, Value, send_all_error, open_link, Happening, Rows, value_at, put, Connection}
+use Rattle.osi_stack.proofs.Vocabulary.{asked, linked, State as Carrier, put_here, put_other, Standing as Link, Meaning, said_by_units}
+use Rattle.osi_stack.proofs.Vocabulary.{said_at, said_if_read, Units, SpduFault, words_of, IsSendable, words_sent, tsdus_of, tsdus_sent}
+use Rattle.osi_stack.proofs.Vocabulary.{behind_no_token, part_octets, written, spelled, Place as PartPlace, tsdu_at, Input, Listener, Move}
+use Rattle.osi_stack.proofs.Vocabulary.{called, opened, refused, broken, taken, came, came_as, answered, react, awaits, limit_of, Shown}
+use Rattle.osi_stack.proofs.Vocabulary.{first_shown, first_by, without_first, rest_by, has_given, send_refusal, move_refusal}
+use Rattle.osi_stack.proofs.Vocabulary.{session_refusal, call_error, carries_out, after_unit, opens, hears, hears_times, hears_first}
+use Rattle.osi_stack.proofs.Vocabulary.{hears_all, with_events, concludes, attends, shown_at_loss, loses, all_lost, Message, unit, ask}
+use Rattle.osi_stack.proofs.Vocabulary.{agree, deny, bye, IsWhole, put_by, puts, Acts, Effect, begins, happens, rests, effect_at, told_at}
+use Rattle.osi_stack.proofs.Vocabulary.{HasSession, AreShort, IsShort, CanHear, Hears, told_all, Arrives, kept_at, waiting_of, Becomes}
+use Rattle.osi_stack.proofs.Vocabulary.{IsGranted, Says, AreLost, shown_of, all_waiting, IsFirstOf, limit_for, line_by, carrier_by, by_line}
+use Rattle.osi_stack.proofs.Vocabulary.{to_session, Line, End, session_in, session_at, line_waits, waits, is_used, used_lines, joins}
+use Rattle.osi_stack.proofs.Vocabulary.{answers_by, Answer, allowed, Call, CallError}
 use Rattle.osi_stack.proofs.called.tsdus_that_are_handed_together.{hands_none, handed, puts_words}
 use Rattle.osi_stack.proofs.carried.events_one_after_the_other.{all_quiet}
 use Rattle.osi_stack.proofs.each_line.the_first_that_indicates.{quiet_line}
@@ -22,13 +35,17 @@ answers_put r false limit (Some m) c short = handed r (tsdus_of limit m) c short
 
 -- ---- a move
 
-by_acts : (r : ℕ) (input : Input) (e : End) (line : Line) (s : Listener) → value_at r e.lines ≡ Some line → line.session ≡ Some s → IsShort (limit_for s input) (react s input).reply →
+by_acts : (r : ℕ) (input : Input) (e : End) (line : Line) (s : Listener) → value_at r e.lines ≡ Some line → line.session ≡ Some s →
+    IsShort (limit_for s input) (react s input).reply →
     Acts r input e (to_session r input e)
 by_acts r input e line s here is short =
     let at : to_session r input e ≡ by_line r (Some line) input e = ap (λ o. by_line r o input e) here in
-    search (ap (λ (x : End). x.lines) at ∙ ap (λ o. put r (line_by line o input) e.lines) is, ap (λ (x : End). x.carrier) at ∙ ap (λ o. carrier_by r o input e.carrier) is ∙ answers_put r (react s input).closes (limit_for s input) (react s input).reply e.carrier short)
+    search (ap (λ (x : End). x.lines) at ∙ ap (λ o. put r (line_by line o input) e.lines) is, ap (λ (x : End). x.carrier) at ∙
+        ap (λ o. carrier_by r o input e.carrier) is ∙ answers_put r (react s input).closes (limit_for s input) (react s input).reply
+        e.carrier short)
 
-pub acts_is : (r : ℕ) (input : Input) (e : End) (s : HasSession r e.lines) → IsShort (limit_for s.session input) (react s.session input).reply → Acts r input e (to_session r input e)
+pub acts_is : (r : ℕ) (input : Input) (e : End) (s : HasSession r e.lines) →
+    IsShort (limit_for s.session input) (react s.session input).reply → Acts r input e (to_session r input e)
 acts_is r input e s short = by_acts r input e s.line s.session s.here s.is short
 
 pub acts_becomes : (r : ℕ) (input : Input) (old new : End) (a : Acts r input old new) →
@@ -47,11 +64,13 @@ attends_one e event h = ap concludes (one_heard e event h)
 attends_none : (e : End) → e.carrier.events ≡ [] → attends e ≡ concludes (with_events [] e)
 attends_none e h = ap concludes (all_quiet e h ∙ sym (ap (λ (l : List Happening). with_events l e) (sym h)))
 
-arrives_by : (r : ℕ) (effect : Effect) (v : Value) (e heard : End) → Hears r effect (told_all v e) heard → after_unit e v ≡ concludes heard → Arrives r effect v e (after_unit e v)
+arrives_by : (r : ℕ) (effect : Effect) (v : Value) (e heard : End) → Hears r effect (told_all v e) heard →
+    after_unit e v ≡ concludes heard → Arrives r effect v e (after_unit e v)
 arrives_by r effect v e heard h is = record { heard = heard; hears = h; is = is }
 
 happens_by : (r : ℕ) (input : Input) (event : Happening) (v : Value) (e : End) → (carries_out v e).carrier.events ≡ event ∷ [] →
-    hears event (told_all v e) ≡ to_session r input (told_all v e) → CanHear r (happens input) e.lines → Arrives r (happens input) v e (after_unit e v)
+    hears event (told_all v e) ≡ to_session r input (told_all v e) → CanHear r (happens input) e.lines →
+        Arrives r (happens input) v e (after_unit e v)
 happens_by r input event v e h same can =
     arrives_by r (happens input) v e (to_session r input (told_all v e)) (acts_is r input (told_all v e) can.0 can.1)
     (attends_one (carries_out v e) event h ∙ ap concludes same)
@@ -64,13 +83,17 @@ pub record Readings : Type 0 where
 -- a message arrives as the words that were sent
 pub came_is : Readings → (m : Meaning) → IsSendable m → came (written m) ≡ taken (words_of m)
 unfolding said_at
-came_is law m sendable = ap (λ (r : Result Units SpduFault). came_as (said_if_read r)) (law.read m sendable) ∙ ap taken (law.said m sendable)
+came_is law m sendable = ap (λ (r : Result Units SpduFault). came_as (said_if_read r)) (law.read m sendable) ∙
+    ap taken (law.said m sendable)
 
-pub arrives : Readings → (r : ℕ) (place : Place) (m : Message) (v : Value) (e : End) → IsWhole m → (carriers.react v e.carrier).events ≡ told_at r place m →
+pub arrives : Readings → (r : ℕ) (place : Place) (m : Message) (v : Value) (e : End) → IsWhole m →
+    (carriers.react v e.carrier).events ≡ told_at r place m →
     CanHear r (effect_at place m) e.lines → Arrives r (effect_at place m) v e (after_unit e v)
 arrives law r never ask v e whole h can =
-    arrives_by r begins v e (joins r awaits (told_all v e)) refl (attends_one (carries_out v e) (told.opened r) h ∙ ap (λ o. concludes (opens r o (told_all v e))) can)
-arrives law r (was_given (Some asked)) agree v e whole h can = happens_by r opened (told.opened r) v e h (ap (λ o. opens r o (told_all v e)) can.0.here) can
+    arrives_by r begins v e (joins r awaits (told_all v e)) refl
+        (attends_one (carries_out v e) (told.opened r) h ∙ ap (λ o. concludes (opens r o (told_all v e))) can)
+arrives law r (was_given (Some asked)) agree v e whole h can =
+    happens_by r opened (told.opened r) v e h (ap (λ o. opens r o (told_all v e)) can.0.here) can
 arrives law r (was_given (Some asked)) (deny reason) v e whole h can = happens_by r (refused reason) (told.refused r reason) v e h refl can
 arrives law r (was_given (Some (linked peer link))) (unit m) v e whole h can =
     happens_by r (taken (words_of m)) (told.tsdu r (written m)) v e h (ap (λ i. to_session r i (told_all v e)) (came_is law m whole)) can
@@ -82,7 +105,8 @@ arrives law r place m v e whole h can = arrives_by r rests v e (told_all v e) re
 
 -- ---- all are lost
 
-lost_at_by : (r q : ℕ) (line : Line) (lines : Rows Line) (b : Bool) → (q == r) ≡ b → value_at r (all_lost lines) ≡ option_map loses (value_at r lines) →
+lost_at_by : (r q : ℕ) (line : Line) (lines : Rows Line) (b : Bool) → (q == r) ≡ b →
+    value_at r (all_lost lines) ≡ option_map loses (value_at r lines) →
     value_at r (all_lost ((q, line) ∷ lines)) ≡ option_map loses (value_at r ((q, line) ∷ lines))
 lost_at_by r q line lines true e more = rw e refl
 lost_at_by r q line lines false e more = rw e more
@@ -106,7 +130,8 @@ are_lost lines = grind (arith, session_in, lost_at, lost_none, value_at, waiting
 
 shown_first : (r : ℕ) (line : Line) (waiting : List Shown) (lines : Rows Line) → line.waiting ≡ waiting →
     IsFirstOf (first_shown lines) (all_waiting lines) (all_waiting (without_first lines)) →
-    IsFirstOf (first_by r waiting (first_shown lines)) (shown_of r waiting ++ all_waiting lines) (all_waiting (rest_by r line waiting lines (without_first lines)))
+    IsFirstOf (first_by r waiting (first_shown lines)) (shown_of r waiting ++ all_waiting lines)
+        (all_waiting (rest_by r line waiting lines (without_first lines)))
 shown_first r line waiting lines none more = grind arith
 
 pub first_of_all : (lines : Rows Line) → IsFirstOf (first_shown lines) (all_waiting lines) (all_waiting (without_first lines))
@@ -118,7 +143,8 @@ pub first_keep : (Q : Rows Line → Type 0) (r : ℕ) (line : Line) (lines : Row
     ((left : List Shown) → Q ((r, record line { waiting = left }) ∷ lines)) → Q (without_first ((r, line) ∷ lines))
 first_keep Q r line lines behind here = grind arith
 
-kept_first_by : (q r : ℕ) (line : Line) (waiting : List Shown) (lines : Rows Line) (b : Bool) → (r == q) ≡ b → kept_at q (without_first lines) ≡ kept_at q lines →
+kept_first_by : (q r : ℕ) (line : Line) (waiting : List Shown) (lines : Rows Line) (b : Bool) → (r == q) ≡ b →
+    kept_at q (without_first lines) ≡ kept_at q lines →
     kept_at q (rest_by r line waiting lines (without_first lines)) ≡ kept_at q ((r, line) ∷ lines)
 kept_first_by q r line waiting lines b e more = grind arith
 
@@ -159,7 +185,8 @@ unsent_link (Some link) tsdus h = short_by (list_any (λ (t : List ℕ). nat_lt 
     short_by true e = let no = rw e at h in cc
     short_by false e = record { opened = refl; short = all_short tsdus e }
 
-granted_by : (r : ℕ) (call : Call) (s : Listener) (c : Carrier) (a : Answer) → allowed s.state call ≡ a → move_refusal r (limit_of s.state) (react s (called call)) c ≡ None → IsGranted r call s c
+granted_by : (r : ℕ) (call : Call) (s : Listener) (c : Carrier) (a : Answer) → allowed s.state call ≡ a →
+    move_refusal r (limit_of s.state) (react s (called call)) c ≡ None → IsGranted r call s c
 unfolding react
 granted_by r call s c (Err error) e h =
     let is : react s (called call) ≡ answered s (Err error) = ap (answered s) e in
@@ -167,14 +194,17 @@ granted_by r call s c (Err error) e h =
     cc
 granted_by r call s c (Ok step) e h =
     let is : react s (called call) ≡ answered s (Ok step) = ap (answered s) e in
-    let sends : send_refusal (send_all_error (tsdus_of (limit_of s.state) step.sent) (open_link r c)) ≡ None = sym (ap (λ (m : Move). move_refusal r (limit_of s.state) m c) is) ∙ h in
+    let sends : send_refusal (send_all_error (tsdus_of (limit_of s.state) step.sent) (open_link r c)) ≡ None =
+        sym (ap (λ (m : Move). move_refusal r (limit_of s.state) m c) is) ∙ h in
     let link = unsent_link (open_link r c) (tsdus_of (limit_of s.state) step.sent) sends in
     search (ap (λ (m : Move). m.reply) is, ap (λ (m : Move). m.closes) is, ap (λ (m : Move). m.shown) is, ap (λ (m : Move). m.next) is)
 
-pub line_of : (b : Bool) (o : Option Line) (s : Listener) → (if b then session_in o else None) ≡ Some s → (line : Line) × (o ≡ Some line) × (line.session ≡ Some s)
+pub line_of : (b : Bool) (o : Option Line) (s : Listener) → (if b then session_in o else None) ≡ Some s →
+    (line : Line) × (o ≡ Some line) × (line.session ≡ Some s)
 line_of b o s h = grind arith
 
-says_at : (r : ℕ) (call : Call) (e : End) (o : Option Listener) → session_at r e ≡ o → session_refusal r o call e.carrier ≡ None → Says r call e (to_session r (called call) e)
+says_at : (r : ℕ) (call : Call) (e : End) (o : Option Listener) → session_at r e ≡ o → session_refusal r o call e.carrier ≡ None →
+    Says r call e (to_session r (called call) e)
 unfolding by_acts
 says_at r call e None at h = let no : Some error.Ended ≡ None = h in cc
 says_at r call e (Some s) at h =
@@ -207,10 +237,12 @@ pub used_keep : (Q : Rows Line → Type 0) (live : Rows Connection) (row : ℕ �
 used_keep Q live row lines gone stays = grind arith
 
 -- lines of live connections stay
-used_live_by : (q p : ℕ) (y : Line) (live : Rows Connection) (lines : Rows Line) (b u : Bool) → (p == q) ≡ b → is_used live (p, y) ≡ u → is_some (value_at q live) ≡ true →
+used_live_by : (q p : ℕ) (y : Line) (live : Rows Connection) (lines : Rows Line) (b u : Bool) → (p == q) ≡ b → is_used live (p, y) ≡ u →
+    is_some (value_at q live) ≡ true →
     value_at q (used_lines live lines) ≡ value_at q lines → value_at q (used_lines live ((p, y) ∷ lines)) ≡ value_at q ((p, y) ∷ lines)
 used_live_by q p y live lines b u e used is more = grind arith
 
-pub used_live : (q : ℕ) (live : Rows Connection) (lines : Rows Line) → is_some (value_at q live) ≡ true → value_at q (used_lines live lines) ≡ value_at q lines
+pub used_live : (q : ℕ) (live : Rows Connection) (lines : Rows Line) → is_some (value_at q live) ≡ true →
+    value_at q (used_lines live lines) ≡ value_at q lines
 used_live q live [] is = refl
 used_live q live ((p, y) ∷ lines) is = used_live_by q p y live lines (p == q) (is_used live (p, y)) refl refl is (used_live q live lines is)

@@ -1,12 +1,16 @@
 -- What each step of a session preserves, handling all events of an end preserves.
 use Rattle.std.proofs.Common.{◌≡◌, ℕ, zero, suc, Bool, true, false, List, ◌∷◌, Option, Some, None, is_some, refl, if◌then◌else◌, []}
 use Rattle.osi_carrier.specs.Happenings as told
-use Rattle.osi_stack.proofs.Vocabulary.{open_link, sent, send_all_error, closed_with, Happening, told_of, value_at, State as Carrier, Broken, SendError, Input, Listener, react, awaits, breaks, opens, hears, hears_first, hears_next, hears_times, with_events, concludes, ends, all_lost, input_of, carrier_by, by_line, to_session, Line, End, joins, sent_unless, answers_by}
+use Rattle.osi_stack.proofs.Vocabulary.{open_link, sent, send_all_error, closed_with, Happening, told_of, value_at, State as Carrier}
+use Rattle.osi_stack.proofs.Vocabulary.{Broken, SendError, Input, Listener, react, awaits, breaks, opens, hears, hears_first, hears_next}
+use Rattle.osi_stack.proofs.Vocabulary.{hears_times, with_events, concludes, ends, all_lost, input_of, carrier_by, by_line, to_session}
+use Rattle.osi_stack.proofs.Vocabulary.{Line, End, joins, sent_unless, answers_by}
 
 -- ---- the carrier
 
 -- TSDUs that are handed to it
-pub unless_sent : (P : Carrier → Type 0) → ((r : ℕ) (tsdu : List ℕ) (c : Carrier) → P c → P (sent r tsdu c)) → (o : Option SendError) (r : ℕ) (tsdus : List (List ℕ)) (c : Carrier) →
+pub unless_sent : (P : Carrier → Type 0) → ((r : ℕ) (tsdu : List ℕ) (c : Carrier) → P c → P (sent r tsdu c)) →
+    (o : Option SendError) (r : ℕ) (tsdus : List (List ℕ)) (c : Carrier) →
     P c → P (sent_unless o r tsdus c)
 unless_sent P law (Some e) r tsdus c p = p
 unless_sent P law None r [] c p = p
@@ -17,19 +21,23 @@ pub record Carries (P : Carrier → Type 0) : Type 0 where
   pub sends : (r : ℕ) (tsdu : List ℕ) (c : Carrier) → P c → P (sent r tsdu c)
   pub closes : (r : ℕ) (c : Carrier) → P c → P (closed_with r 128 c)
 
-answer_carried : (P : Carrier → Type 0) → Carries P → (closing : Bool) (r : ℕ) (tsdus : List (List ℕ)) (c : Carrier) → P c → P (answers_by closing r tsdus c)
+answer_carried : (P : Carrier → Type 0) → Carries P → (closing : Bool) (r : ℕ) (tsdus : List (List ℕ)) (c : Carrier) → P c →
+    P (answers_by closing r tsdus c)
 answer_carried P law true r tsdus c p = law.closes r c p
 answer_carried P law false r tsdus c p = unless_sent P law.sends (send_all_error tsdus (open_link r c)) r tsdus c p
 
-move_carried : (P : Carrier → Type 0) → Carries P → (r : ℕ) (o : Option Listener) (input : Input) (c : Carrier) → P c → P (carrier_by r o input c)
+move_carried : (P : Carrier → Type 0) → Carries P → (r : ℕ) (o : Option Listener) (input : Input) (c : Carrier) → P c →
+    P (carrier_by r o input c)
 move_carried P law r None input c p = p
 move_carried P law r (Some session) input c p = answer_carried P law (react session input).closes r _ c p
 
-pub line_carried : (P : Carrier → Type 0) → Carries P → (r : ℕ) (o : Option Line) (input : Input) (e : End) → P e.carrier → P (by_line r o input e).carrier
+pub line_carried : (P : Carrier → Type 0) → Carries P → (r : ℕ) (o : Option Line) (input : Input) (e : End) → P e.carrier →
+    P (by_line r o input e).carrier
 line_carried P law r None input e p = p
 line_carried P law r (Some line) input e p = move_carried P law r line.session input e.carrier p
 
-pub session_carried : (P : Carrier → Type 0) → Carries P → (r : ℕ) (input : Input) (e : End) → P e.carrier → P (to_session r input e).carrier
+pub session_carried : (P : Carrier → Type 0) → Carries P → (r : ℕ) (input : Input) (e : End) → P e.carrier →
+    P (to_session r input e).carrier
 session_carried P law r input e p = line_carried P law r (value_at r e.lines) input e p
 
 -- ---- events
@@ -61,7 +69,8 @@ events_heard P untold law (suc n) e p = events_heard P untold law n (hears_next 
 
 -- ---- the end
 
-concluded_by : (P : End → Type 0) → ((e : End) → P e → P (record e { lines = all_lost e.lines })) → (b : Bool) (e : End) → P e → P (if b then record e { lines = all_lost e.lines } else e)
+concluded_by : (P : End → Type 0) → ((e : End) → P e → P (record e { lines = all_lost e.lines })) → (b : Bool) (e : End) → P e →
+    P (if b then record e { lines = all_lost e.lines } else e)
 concluded_by P lost true e p = lost e p
 concluded_by P lost false e p = p
 

@@ -1,7 +1,8 @@
 -- What sessions leave of the carrier as it was: the events that are pending, and how it ended.
 use Rattle.std.proofs.Common.{◌≡◌, ℕ, None, refl, if◌then◌else◌, ◌∙◌, ◌∷◌, [], arith}
 use Rattle.osi_carrier.specs.Happenings as told
-use Rattle.osi_stack.proofs.Vocabulary.{Happening, closed_with, is_spoilt, State as Carrier, Input, hears, to_session, End, told_of, input_of}
+use Rattle.osi_stack.proofs.Vocabulary.{Happening, closed_with, is_spoilt, State as Carrier, Input, hears, to_session, End, told_of}
+use Rattle.osi_stack.proofs.Vocabulary.{input_of}
 use Rattle.osi_stack.proofs.carried.what_each_step_preserves.{Carries, session_carried, event_heard}
 
 pub record Keeps (old new : Carrier) : Type 0 where

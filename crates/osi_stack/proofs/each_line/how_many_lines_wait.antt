@@ -1,7 +1,10 @@
 -- How many lines have pending indications.
-use Rattle.std.proofs.Common.{◌≡◌, ℕ, ◌+◌, ◌<◌, ◌≤◌, ◌==◌, ◌||◌, Bool, zero, suc, true, false, not, cond, List, [], ◌∷◌, ◌++◌, length, get_or, set, nat_lt, Option, Some, None, Result, Ok, Err, OnOk, OnErr, refl, sym, ap, subst, ◌∙◌, arith}
+use Rattle.std.proofs.Common.{◌≡◌, ℕ, ◌+◌, ◌<◌, ◌≤◌, ◌==◌, ◌||◌, Bool, zero, suc, true, false, not, cond, List, [], ◌∷◌, ◌++◌, length}
+use Rattle.std.proofs.Common.{get_or, set, nat_lt, Option, Some, None, Result, Ok, Err, OnOk, OnErr, refl, sym, ap, subst, ◌∙◌, arith}
 use Rattle.osi_carrier.proofs.references.rows_in_order.{set_rise}
-use Rattle.osi_stack.proofs.Vocabulary.{position, position_or_len, lt-ltb, eqb-true, common_steps, length-set, sum_by-cons, sum_by-set, count_by-le-length, position_or_len_is, placed, RiseFrom, Rows, place_of, Input, Listener, react, Shown, Lost, shown_at_loss, loses, line_by, Line, line_waits, waits, how_many_wait}
+use Rattle.osi_stack.proofs.Vocabulary.{position, position_or_len, lt-ltb, eqb-true, common_steps, length-set, sum_by-cons, sum_by-set}
+use Rattle.osi_stack.proofs.Vocabulary.{count_by-le-length, position_or_len_is, placed, RiseFrom, Rows, place_of, Input, Listener, react}
+use Rattle.osi_stack.proofs.Vocabulary.{Shown, Lost, shown_at_loss, loses, line_by, Line, line_waits, waits, how_many_wait}
 use Rattle.osi_stack.proofs.each_line.the_first_that_indicates.{IsNone, quiet_none}
 
 -- ---- one has, or none
@@ -33,10 +36,12 @@ counted_by false n e = cc
 counted_at : (rows : Rows Line) (i : ℕ) (d : ℕ × Line) → i < length rows → line_waits (get_or rows i d).1 ≡ true → 0 < how_many_wait rows
 counted_at [] i d within here = absurd (omega arith)
 counted_at (row ∷ rows) zero d within here =
-    subst (λ (n : ℕ). 0 < n) (sym (sum_by-cons (λ x. cond (line_waits x.1) 1 0) row rows)) (counted_by (line_waits row.1) (how_many_wait rows) here)
+    subst (λ (n : ℕ). 0 < n) (sym (sum_by-cons (λ x. cond (line_waits x.1) 1 0) row rows))
+        (counted_by (line_waits row.1) (how_many_wait rows) here)
 counted_at (row ∷ rows) (suc i) d within here =
     let more = counted_at rows i d (omega arith) here in
-    let sum : how_many_wait (row ∷ rows) ≡ cond (line_waits row.1) 1 0 + how_many_wait rows = sum_by-cons (λ x. cond (line_waits x.1) 1 0) row rows in
+    let sum : how_many_wait (row ∷ rows) ≡ cond (line_waits row.1) 1 0 + how_many_wait rows =
+        sum_by-cons (λ x. cond (line_waits x.1) 1 0) row rows in
     omega arith
 
 -- if one is counted and another has pending ones, a line has none
@@ -44,19 +49,23 @@ quiet_by : (b : Bool) (n : ℕ) → cond b 1 0 + n ≡ 1 → 0 < n → b ≡ fal
 quiet_by true n e h = absurd (omega arith)
 quiet_by false n e h = refl
 
-quiet_before : (rows : Rows Line) (i k : ℕ) (d : ℕ × Line) → how_many_wait rows ≡ 1 → i < length rows → line_waits (get_or rows i d).1 ≡ true → k < i →
+quiet_before : (rows : Rows Line) (i k : ℕ) (d : ℕ × Line) → how_many_wait rows ≡ 1 → i < length rows →
+    line_waits (get_or rows i d).1 ≡ true → k < i →
     line_waits (get_or rows k d).1 ≡ false
 quiet_before [] i k d one within here less = absurd (omega arith)
 quiet_before (row ∷ rows) zero k d one within here less = absurd (omega arith)
 quiet_before (row ∷ rows) (suc i) zero d one within here less =
-    quiet_by (line_waits row.1) (how_many_wait rows) (sym (sum_by-cons (λ x. cond (line_waits x.1) 1 0) row rows) ∙ one) (counted_at rows i d (omega arith) here)
+    quiet_by (line_waits row.1) (how_many_wait rows) (sym (sum_by-cons (λ x. cond (line_waits x.1) 1 0) row rows) ∙ one)
+        (counted_at rows i d (omega arith) here)
 quiet_before (row ∷ rows) (suc i) (suc k) d one within here less =
     let some = counted_at rows i d (omega arith) here in
-    let sum : how_many_wait (row ∷ rows) ≡ cond (line_waits row.1) 1 0 + how_many_wait rows = sum_by-cons (λ x. cond (line_waits x.1) 1 0) row rows in
+    let sum : how_many_wait (row ∷ rows) ≡ cond (line_waits row.1) 1 0 + how_many_wait rows =
+        sum_by-cons (λ x. cond (line_waits x.1) 1 0) row rows in
     quiet_before rows i k d (omega arith) (omega arith) here (omega arith)
 
 -- the only line with pending indications is the first
-pub only_first : (rows : Rows Line) (i : ℕ) (d : ℕ × Line) → how_many_wait rows ≡ 1 → i < length rows → line_waits (get_or rows i d).1 ≡ true →
+pub only_first : (rows : Rows Line) (i : ℕ) (d : ℕ × Line) → how_many_wait rows ≡ 1 → i < length rows →
+    line_waits (get_or rows i d).1 ≡ true →
     position (λ row. line_waits row.1) rows ≡ Some i
 only_first rows i d one within here =
     let at : position_or_len (λ row. line_waits row.1) rows ≡ i =
@@ -70,19 +79,22 @@ only_first rows i d one within here =
 any_waiting : ℕ × Line
 any_waiting = (0, record { session = None; waiting = Lost ∷ []; selectors = None })
 
-room_at : (rows : Rows Line) (i : ℕ) (row : ℕ × Line) → i < length rows → row ≡ get_or rows i row → line_waits row.1 ≡ false → how_many_wait rows < length rows
+room_at : (rows : Rows Line) (i : ℕ) (row : ℕ × Line) → i < length rows → row ≡ get_or rows i row → line_waits row.1 ≡ false →
+    how_many_wait rows < length rows
 unfolding any_waiting
 room_at rows i row within here h =
     let quiet : line_waits (get_or rows i row).1 ≡ false = ap (λ (x : ℕ × Line). line_waits x.1) (sym here) ∙ h in
     let none : cond {A = ℕ} (line_waits (get_or rows i row).1) 1 0 ≡ 0 = ap (λ (b : Bool). cond {A = ℕ} b 1 0) quiet in
     let more : how_many_wait (set rows i any_waiting) + cond {A = ℕ} (line_waits (get_or rows i row).1) 1 0 ≡ how_many_wait rows + 1 =
     sum_by-set (λ x. cond (line_waits x.1) 1 0) rows i any_waiting row within in
-    let most : how_many_wait (set rows i any_waiting) ≤ length (set rows i any_waiting) = count_by-le-length (λ x. line_waits x.1) (set rows i any_waiting) in
+    let most : how_many_wait (set rows i any_waiting) ≤ length (set rows i any_waiting) =
+        count_by-le-length (λ x. line_waits x.1) (set rows i any_waiting) in
     let same : length (set rows i any_waiting) ≡ length rows = length-set rows i any_waiting in
     omega arith
 
 -- if nothing is pending for the line of a reference, it is not counted
-pub room_of : (r : ℕ) (rows items : Rows Line) (i : ℕ) (row : ℕ × Line) (waiting lines : ℕ) → place_of r rows ≡ Some i → row ≡ get_or rows i row → items ≡ rows →
+pub room_of : (r : ℕ) (rows items : Rows Line) (i : ℕ) (row : ℕ × Line) (waiting lines : ℕ) → place_of r rows ≡ Some i →
+    row ≡ get_or rows i row → items ≡ rows →
     waiting ≡ how_many_wait items → lines ≡ length items → line_waits row.1 ≡ false → waiting < lines
 room_of r rows items i row waiting lines e here same counts len h = grind (arith, how_many_wait, length, room_at, placed)
 
@@ -92,9 +104,12 @@ room_of r rows items i row waiting lines e here same counts len h = grind (arith
 abbrev pub AreKept : ℕ → Bool → Rows Line → Type 0
 AreKept waiting rises rows = (waiting ≡ how_many_wait rows) × (rises ≡ true → RiseFrom 0 rows)
 
-pub set_kept : (waiting counted : ℕ) (rises before after : Bool) (rows : Rows Line) (i : ℕ) (row new : ℕ × Line) → AreKept waiting rises rows → row ≡ get_or rows i row → i < length rows →
-    new.0 ≡ row.0 → before ≡ line_waits row.1 → after ≡ line_waits new.1 → counted + cond before 1 0 ≡ waiting + cond after 1 0 → AreKept counted rises (set rows i new)
-set_kept waiting counted rises before after rows i row new kept here within named was is sum = grind (arith, cond, line_waits, get_or, how_many_wait, set, sum_by-set, set_rise)
+pub set_kept : (waiting counted : ℕ) (rises before after : Bool) (rows : Rows Line) (i : ℕ) (row new : ℕ × Line) →
+    AreKept waiting rises rows → row ≡ get_or rows i row → i < length rows →
+    new.0 ≡ row.0 → before ≡ line_waits row.1 → after ≡ line_waits new.1 → counted + cond before 1 0 ≡ waiting + cond after 1 0 →
+        AreKept counted rises (set rows i new)
+set_kept waiting counted rises before after rows i row new kept here within named was is sum =
+    grind (arith, cond, line_waits, get_or, how_many_wait, set, sum_by-set, set_rise)
 
 -- ---- a line whose session receives something
 
@@ -111,10 +126,12 @@ line_stays l None input h = h
 line_stays l (Some s) input h = more_wait l.waiting (react s input).shown h
 
 -- what was pending there stays pending
-pub heard_stays : {A E : Type 0} (result : Result A E) (row new : ℕ × Line) (input : Input) → OnOk result (new ≡ (row.0, line_by row.1 row.1.session input)) →
+pub heard_stays : {A E : Type 0} (result : Result A E) (row new : ℕ × Line) (input : Input) →
+    OnOk result (new ≡ (row.0, line_by row.1 row.1.session input)) →
     OnErr result (new ≡ (row.0, loses row.1)) → line_waits row.1 ≡ true → line_waits new.1 ≡ true
 heard_stays (Ok a) row new input ok lost h = ap (λ (x : ℕ × Line). line_waits x.1) ok ∙ line_stays row.1 row.1.session input h
-heard_stays (Err e) row new input ok lost h = ap (λ (x : ℕ × Line). line_waits x.1) lost ∙ more_wait row.1.waiting (shown_at_loss row.1.session) h
+heard_stays (Err e) row new input ok lost h = ap (λ (x : ℕ × Line). line_waits x.1) lost ∙
+    more_wait row.1.waiting (shown_at_loss row.1.session) h
 
 -- a line that has no pending indication afterwards had none before
 pub still_quiet : (before after : Bool) → (before ≡ true → after ≡ true) → after ≡ false → before ≡ false

@@ -1,12 +1,24 @@
 -- The lines of an end are in the order of their references, whatever packets come.
-use Rattle.std.proofs.Common.{◌≡◌, ◌≢◌, ℕ, zero, suc, ◌+◌, ◌<◌, ◌≤◌, ◌==◌, Bool, true, false, ◌||◌, not, List, ◌∷◌, ◌++◌, length, Option, Some, None, Result, Ok, Err, is_some, IsSome, refl, sym, ap, subst, ◌∙◌, inl, inr, ◌⊎◌, arith, if◌then◌else◌, []}
+use Rattle.std.proofs.Common.{◌≡◌, ◌≢◌, ℕ, zero, suc, ◌+◌, ◌<◌, ◌≤◌, ◌==◌, Bool, true, false, ◌||◌, not, List, ◌∷◌, ◌++◌, length, Option}
+use Rattle.std.proofs.Common.{Some, None, Result, Ok, Err, is_some, IsSome, refl, sym, ap, subst, ◌∙◌, inl, inr, ◌⊎◌, arith, if◌then◌else◌}
+use Rattle.std.proofs.Common.{[]}
 use Rattle.osi_carrier.specs.Packets as carriers
 use Rattle.osi_carrier.specs.declared.faults.OpenError.TheVariants.{NotCaller}
-use Rattle.osi_stack.proofs.Vocabulary.{eqb-true, eq-eqb, Fed, units_of, Value, TpduFault, Standing as Link, Class, Zero, Local, open_link, may_connect, sent_on, closes, closed_on, sent, closed_with, Happening, tsdu, RiseFrom, AreUpTo, IsOrderly, told_of, reacts, Rows, value_at, Connection, asked, closing, State as Carrier, EndReason, Broken, NoMemory, OpenError, beyond, push_here, push_other, free_of, none_of, Input, opened as linked_up, awaits, calls_with, connects, connect_error, terms_error, breaks, carried, without_first, Feeds, opens, hears, hears_next, hears_times, hears_all, with_events, with_carrier, attends, after_packet, ends, starves, loses, all_lost, Starves, AreApart, Soundness, IsSound, line_by, by_line, to_session, IsOrdered, Line, End, Holding, IsAttended, fresh_end, used_lines, fresh_line, Connect, input_of, told_opened as opened, carrier_ends}
+use Rattle.osi_stack.proofs.Vocabulary.{eqb-true, eq-eqb, Fed, units_of, Value, TpduFault, Standing as Link, Class, Zero, Local, open_link}
+use Rattle.osi_stack.proofs.Vocabulary.{may_connect, sent_on, closes, closed_on, sent, closed_with, Happening, tsdu, RiseFrom, AreUpTo}
+use Rattle.osi_stack.proofs.Vocabulary.{IsOrderly, told_of, reacts, Rows, value_at, Connection, asked, closing, State as Carrier, EndReason}
+use Rattle.osi_stack.proofs.Vocabulary.{Broken, NoMemory, OpenError, beyond, push_here, push_other, free_of, none_of, Input}
+use Rattle.osi_stack.proofs.Vocabulary.{opened as linked_up, awaits, calls_with, connects, connect_error, terms_error, breaks, carried}
+use Rattle.osi_stack.proofs.Vocabulary.{without_first, Feeds, opens, hears, hears_next, hears_times, hears_all, with_events, with_carrier}
+use Rattle.osi_stack.proofs.Vocabulary.{attends, after_packet, ends, starves, loses, all_lost, Starves, AreApart, Soundness, IsSound}
+use Rattle.osi_stack.proofs.Vocabulary.{line_by, by_line, to_session, IsOrdered, Line, End, Holding, IsAttended, fresh_end, used_lines}
+use Rattle.osi_stack.proofs.Vocabulary.{fresh_line, Connect, input_of, told_opened as opened, carrier_ends}
 use Rattle.osi_stack.proofs.carried.events_one_after_the_other.{times_quiet}
 use Rattle.osi_stack.proofs.carried.packets_without_events.{both, packet_is}
 use Rattle.osi_stack.proofs.carried.open_connections_stay_open.{SessionLaws, first_is, rest_is, used_at, apart_push, joined_lines, put_some}
-use Rattle.osi_stack.proofs.opening.connections_that_units_open.{AwaitedBefore, awaited_put, linked_not_asked, closing_not_asked, opened_in, Rises, AreAwaited, NoneAwaited, OpensAlong, along_units, along_end, along_over}
+use Rattle.osi_stack.proofs.opening.connections_that_units_open.{AwaitedBefore, awaited_put, linked_not_asked, closing_not_asked, opened_in}
+use Rattle.osi_stack.proofs.opening.connections_that_units_open.{Rises, AreAwaited, NoneAwaited, OpensAlong, along_units, along_end}
+use Rattle.osi_stack.proofs.opening.connections_that_units_open.{along_over}
 use Rattle.osi_stack.proofs.each_line.references_rise.{rise_joins, rise_lost, rise_first, rise_session, rise_connect}
 use Rattle.osi_stack.proofs.sound.the_invariant_is_kept.{up_more, open_none, session_up, hale_kept, IsHale}
 use Rattle.osi_stack.proofs.carried.what_each_step_preserves.{Carries, session_carried, events_heard, concluded_end, broken_end}
@@ -55,7 +67,8 @@ times_leave n e =
 
 -- ---- a line that is there
 
-has_cons : (r p : ℕ) (y z : Line) (lines rest : Rows Line) (b : Bool) → (p == r) ≡ b → IsSome (value_at r ((p, y) ∷ lines)) → (IsSome (value_at r lines) → IsSome (value_at r rest)) →
+has_cons : (r p : ℕ) (y z : Line) (lines rest : Rows Line) (b : Bool) → (p == r) ≡ b → IsSome (value_at r ((p, y) ∷ lines)) →
+    (IsSome (value_at r lines) → IsSome (value_at r rest)) →
     IsSome (value_at r ((p, z) ∷ rest))
 has_cons r p y z lines rest true e h more = rw e refl
 has_cons r p y z lines rest false e h more = rw e (more (rw e at h))
@@ -71,7 +84,8 @@ has_first r ((p, y) ∷ lines) h =
     (λ left. has_cons r p y (record y { waiting = left }) lines lines (p == r) refl h (λ some. some))
 
 -- that of a live connection is of use
-has_used : (r : ℕ) (live : Rows Connection) (lines : Rows Line) → AreApart lines → value_at r live ≡ Some asked → IsSome (value_at r lines) → IsSome (value_at r (used_lines live lines))
+has_used : (r : ℕ) (live : Rows Connection) (lines : Rows Line) → AreApart lines → value_at r live ≡ Some asked →
+    IsSome (value_at r lines) → IsSome (value_at r (used_lines live lines))
 has_used r live lines apart here h = grind (arith, used_at, asked)
 
 -- ---- the events of a caller
@@ -80,7 +94,8 @@ abbrev pub HaveLines : Rows Line → List ℕ → Type 0
 HaveLines lines [] = Unit {0}
 HaveLines lines (r ∷ more) = IsSome (value_at r lines) × HaveLines lines more
 
-pub have_still : (old new : Rows Line) (l : List ℕ) → ((r : ℕ) → IsSome (value_at r old) → IsSome (value_at r new)) → HaveLines old l → HaveLines new l
+pub have_still : (old new : Rows Line) (l : List ℕ) → ((r : ℕ) → IsSome (value_at r old) → IsSome (value_at r new)) → HaveLines old l →
+    HaveLines new l
 have_still old new [] kept all = tt
 have_still old new (r ∷ more) kept all = (kept r all.0, have_still old new more kept all.1)
 
@@ -88,7 +103,8 @@ pub record Heard (old new : End) : Type 0 where
   pub rise : RiseFrom 0 new.lines
   pub kept : (r : ℕ) → IsSome (value_at r old.lines) → IsSome (value_at r new.lines)
 
-kept_by : (r : ℕ) (input : Input) (e : End) (o : Option Line) (q : ℕ) → IsSome (value_at q e.lines) → IsSome (value_at q (by_line r o input e).lines)
+kept_by : (r : ℕ) (input : Input) (e : End) (o : Option Line) (q : ℕ) → IsSome (value_at q e.lines) →
+    IsSome (value_at q (by_line r o input e).lines)
 kept_by r input e None q h = h
 kept_by r input e (Some line) q h = put_some q r (line_by line line.session input) e.lines h
 
@@ -99,23 +115,28 @@ opens_heard : (r : ℕ) (o : Option Line) (e : End) → IsSome o → RiseFrom 0 
 opens_heard r None e some rise = cc
 opens_heard r (Some line) e some rise = session_heard r linked_up e rise
 
-pub one_heard : (event : Happening) (rest : List Happening) (e : End) → HaveLines e.lines (opened_in (event ∷ rest)) → RiseFrom 0 e.lines → Heard e (hears event e)
+pub one_heard : (event : Happening) (rest : List Happening) (e : End) → HaveLines e.lines (opened_in (event ∷ rest)) → RiseFrom 0 e.lines →
+    Heard e (hears event e)
 one_heard (opened r) rest e all rise = opens_heard r (value_at r e.lines) e all.0 rise
 one_heard event rest e all rise = session_heard (told_of event) _ e rise
 
-pub have_rest : (event : Happening) (rest : List Happening) (lines : Rows Line) → HaveLines lines (opened_in (event ∷ rest)) → HaveLines lines (opened_in rest)
+pub have_rest : (event : Happening) (rest : List Happening) (lines : Rows Line) → HaveLines lines (opened_in (event ∷ rest)) →
+    HaveLines lines (opened_in rest)
 have_rest (opened r) rest lines all = all.1
 have_rest event rest lines all = all
 
-times_heard : (n : ℕ) (l : List Happening) (e : End) → e.carrier.events ≡ l → HaveLines e.lines (opened_in l) → RiseFrom 0 e.lines → Heard e (hears_times n e)
+times_heard : (n : ℕ) (l : List Happening) (e : End) → e.carrier.events ≡ l → HaveLines e.lines (opened_in l) → RiseFrom 0 e.lines →
+    Heard e (hears_times n e)
 times_heard zero l e h all rise = record { rise = rise; kept = λ r some. some }
 times_heard (suc n) [] e h all rise = subst (Heard e) (sym (times_quiet (suc n) e h)) (record { rise = rise; kept = λ r some. some })
 times_heard (suc n) (event ∷ rest) e h all rise =
     let is = first_is event rest e h in
     let one = one_heard event rest (with_events rest e) all rise in
     let risen : RiseFrom 0 (hears_next e).lines = subst (λ (x : End). RiseFrom 0 x.lines) (sym is) one.rise in
-    let kept : (r : ℕ) → IsSome (value_at r e.lines) → IsSome (value_at r (hears_next e).lines) = λ r some. subst (λ (x : End). IsSome (value_at r x.lines)) (sym is) (one.kept r some) in
-    let more = times_heard n rest (hears_next e) (rest_is event rest e h) (have_still e.lines (hears_next e).lines (opened_in rest) kept (have_rest event rest e.lines all)) risen in
+    let kept : (r : ℕ) → IsSome (value_at r e.lines) → IsSome (value_at r (hears_next e).lines) =
+        λ r some. subst (λ (x : End). IsSome (value_at r x.lines)) (sym is) (one.kept r some) in
+    let more = times_heard n rest (hears_next e) (rest_is event rest e h)
+        (have_still e.lines (hears_next e).lines (opened_in rest) kept (have_rest event rest e.lines all)) risen in
     record { rise = more.rise; kept = λ r some. more.kept r (kept r some) }
 
 -- ---- the events of a called end
@@ -150,11 +171,14 @@ record HasRisen (event : Happening) (rest : List Happening) (e : End) (last : �
   rises : Rises reached (opened_in rest) last
   heard : HeardUpTo reached (hears event e)
 
-one_risen : (event : Happening) (rest : List Happening) (e : End) (g h : ℕ) → Rises g (opened_in (event ∷ rest)) h → RiseFrom 0 e.lines → AreUpTo g e.lines → HasRisen event rest e h
-one_risen (opened r) rest e g h rises rise up = record { reached = r; rises = rises.1; heard = opens_up g r (value_at r e.lines) e rises.0 rise up }
+one_risen : (event : Happening) (rest : List Happening) (e : End) (g h : ℕ) → Rises g (opened_in (event ∷ rest)) h → RiseFrom 0 e.lines →
+    AreUpTo g e.lines → HasRisen event rest e h
+one_risen (opened r) rest e g h rises rise up =
+    record { reached = r; rises = rises.1; heard = opens_up g r (value_at r e.lines) e rises.0 rise up }
 one_risen event rest e g h rises rise up = record { reached = g; rises = rises; heard = session_risen g (told_of event) _ e rise up }
 
-times_up : (n : ℕ) (l : List Happening) (e : End) (g h : ℕ) → e.carrier.events ≡ l → Rises g (opened_in l) h → RiseFrom 0 e.lines → AreUpTo g e.lines → RiseFrom 0 (hears_times n e).lines
+times_up : (n : ℕ) (l : List Happening) (e : End) (g h : ℕ) → e.carrier.events ≡ l → Rises g (opened_in l) h → RiseFrom 0 e.lines →
+    AreUpTo g e.lines → RiseFrom 0 (hears_times n e).lines
 times_up zero l e g h is rises rise up = rise
 times_up (suc n) [] e g h is rises rise up = subst (λ (x : End). RiseFrom 0 x.lines) (sym (times_quiet (suc n) e is)) rise
 times_up (suc n) (event ∷ rest) e g h is rises rise up =
@@ -169,7 +193,8 @@ pub awaited_lines : (e : End) (l : List ℕ) → IsOrdered e → AreAwaited e.ca
 awaited_lines e [] o all = tt
 awaited_lines e (r ∷ more) o all = ((o.awaiting r all.0).1, awaited_lines e more o all.1)
 
-heard_by : (b : Bool) (n : ℕ) (e : End) (c : Carrier) → e.carrier.is_caller ≡ b → e.carrier.events ≡ [] → AreUpTo e.carrier.given e.lines → IsOrdered e → OpensAlong e.carrier c →
+heard_by : (b : Bool) (n : ℕ) (e : End) (c : Carrier) → e.carrier.is_caller ≡ b → e.carrier.events ≡ [] → AreUpTo e.carrier.given e.lines →
+    IsOrdered e → OpensAlong e.carrier c →
     IsOrdered (hears_times n (with_carrier c e))
 heard_by true n e c caller none known o a =
     let mid = with_carrier c e in
@@ -184,17 +209,21 @@ heard_by false n e c is_called none known o a =
     let mid = with_carrier c e in
     let nobody : NoneAwaited e.carrier.live = λ q h. both e.carrier.is_caller (o.awaiting q h).0 is_called in
     record {
-      rise = times_up n a.told mid e.carrier.given c.given (a.events ∙ ap (λ (l : List Happening). l ++ a.told) none) (a.called is_called nobody) o.rise known;
+      rise = times_up n a.told mid e.carrier.given c.given (a.events ∙ ap (λ (l : List Happening). l ++ a.told) none)
+          (a.called is_called nobody) o.rise known;
       awaiting = λ r h. absurd (nobody r (a.awaited r ((times_leave n mid).awaited r h)));
     }
 
-heard_ordered : (n : ℕ) (e : End) (c : Carrier) → e.carrier.events ≡ [] → AreUpTo e.carrier.given e.lines → IsOrdered e → OpensAlong e.carrier c → IsOrdered (hears_times n (with_carrier c e))
+heard_ordered : (n : ℕ) (e : End) (c : Carrier) → e.carrier.events ≡ [] → AreUpTo e.carrier.given e.lines → IsOrdered e →
+    OpensAlong e.carrier c → IsOrdered (hears_times n (with_carrier c e))
 heard_ordered n e c none known o a = heard_by e.carrier.is_caller n e c refl none known o a
 
 pub lost_ordered : (e : End) → IsOrdered e → IsOrdered (record e { lines = all_lost e.lines })
-lost_ordered e o = record { rise = rise_lost 0 e.lines o.rise; awaiting = λ r h. ((o.awaiting r h).0, has_lost r e.lines (o.awaiting r h).1) }
+lost_ordered e o =
+    record { rise = rise_lost 0 e.lines o.rise; awaiting = λ r h. ((o.awaiting r h).0, has_lost r e.lines (o.awaiting r h).1) }
 
-attends_ordered : (e : End) (c : Carrier) → e.carrier.events ≡ [] → AreUpTo e.carrier.given e.lines → IsOrdered e → OpensAlong e.carrier c → IsOrdered (attends (with_carrier c e))
+attends_ordered : (e : End) (c : Carrier) → e.carrier.events ≡ [] → AreUpTo e.carrier.given e.lines → IsOrdered e → OpensAlong e.carrier c →
+    IsOrdered (attends (with_carrier c e))
 attends_ordered e c none known o a =
     concluded_end IsOrdered lost_ordered (hears_all (with_carrier c e)) (heard_ordered (length c.events) e c none known o a)
 
@@ -210,14 +239,16 @@ packet_along packet c orderly = acts_along (units_of packet) c orderly
 
 pub packet_ordered : (packet : List ℕ) (e : End) → e.carrier.events ≡ [] → Soundness e → IsOrdered e → IsOrdered (after_packet e packet)
 packet_ordered packet e none s o =
-    subst IsOrdered (sym (packet_is e packet)) (attends_ordered e (carriers.after_packet e.carrier packet) none s.known o (packet_along packet e.carrier s.orderly))
+    subst IsOrdered (sym (packet_is e packet))
+        (attends_ordered e (carriers.after_packet e.carrier packet) none s.known o (packet_along packet e.carrier s.orderly))
 
 -- ---- the end
 
 ends_ordered : (reason : EndReason) (e : End) → IsOrdered e → IsOrdered (ends reason e)
 ends_ordered reason e o = record { rise = rise_lost 0 e.lines o.rise; awaiting = λ r h. cc }
 
-starves_by : (b : Bool) (e : End) → IsOrdered e → IsOrdered (record { carrier = if b then e.carrier else carrier_ends NoMemory e.carrier; lines = all_lost e.lines })
+starves_by : (b : Bool) (e : End) → IsOrdered e →
+    IsOrdered (record { carrier = if b then e.carrier else carrier_ends NoMemory e.carrier; lines = all_lost e.lines })
 starves_by true e o = lost_ordered e o
 starves_by false e o = record { rise = rise_lost 0 e.lines o.rise; awaiting = λ r h. cc }
 
@@ -225,9 +256,11 @@ starves_ordered : (e : End) → IsOrdered e → IsOrdered (starves e)
 starves_ordered e o = starves_by (is_some e.carrier.ended) e o
 
 out_along : (units : List Value) (old new : Carrier) → carriers.RunsOut old units new → IsOrderly old → OpensAlong old new
-out_along units old new h orderly = subst (OpensAlong old) (sym h.ended) (along_end old (reacts h.done old) NoMemory (along_units h.done old orderly))
+out_along units old new h orderly =
+    subst (OpensAlong old) (sym h.ended) (along_end old (reacts h.done old) NoMemory (along_units h.done old orderly))
 
-acted_along : (units : Result (List Value) TpduFault) (old new : Carrier) → carriers.ActsBy units old new → IsOrderly old → OpensAlong old new
+acted_along : (units : Result (List Value) TpduFault) (old new : Carrier) → carriers.ActsBy units old new → IsOrderly old →
+    OpensAlong old new
 acted_along (Ok units) old new (inl is) orderly = subst (OpensAlong old) (sym is) (along_units units old orderly)
 acted_along (Ok units) old new (inr h) orderly = out_along units old new h orderly
 acted_along (Err fault) old new is orderly = subst (OpensAlong old) (sym is) (along_over old _)
@@ -252,8 +285,10 @@ ordered_kept = record {
   starved = λ packet e new lasts h hale o. starved_ordered e new packet h (hale.0 lasts) (hale.1 lasts) o;
 }
 
-pub feeds_ordered : SessionLaws → (old new : Holding) (piece : List ℕ) (fed : Fed) → Feeds old piece fed new → IsAttended old.end → IsSound old.end → IsOrdered old.end → IsOrdered new.end
-feeds_ordered laws old new piece fed h attended sound ordered = feeds_beside IsHale IsOrdered (hale_kept laws) ordered_kept old new piece fed h (attended, sound) ordered
+pub feeds_ordered : SessionLaws → (old new : Holding) (piece : List ℕ) (fed : Fed) → Feeds old piece fed new → IsAttended old.end →
+    IsSound old.end → IsOrdered old.end → IsOrdered new.end
+feeds_ordered laws old new piece fed h attended sound ordered =
+    feeds_beside IsHale IsOrdered (hale_kept laws) ordered_kept old new piece fed h (attended, sound) ordered
 
 -- ---- calls
 
@@ -265,9 +300,11 @@ caller_by true o h = refl
 caller_by false o h = cc
 
 -- the new connection, and those before it
-joined_has : (r q : ℕ) (x : Line) (e : End) (b : Bool) → (r == q) ≡ b → value_at q e.lines ≡ None → IsOrdered e → value_at r (e.carrier.live ++ (q, asked) ∷ []) ≡ Some asked →
+joined_has : (r q : ℕ) (x : Line) (e : End) (b : Bool) → (r == q) ≡ b → value_at q e.lines ≡ None → IsOrdered e →
+    value_at r (e.carrier.live ++ (q, asked) ∷ []) ≡ Some asked →
     IsSome (value_at r (e.lines ++ (q, x) ∷ []))
-joined_has r q x e true at none o h = ap is_some (ap (λ n. value_at n (e.lines ++ (q, x) ∷ [])) (eqb-true r q at) ∙ push_here q x e.lines none)
+joined_has r q x e true at none o h =
+    ap is_some (ap (λ n. value_at n (e.lines ++ (q, x) ∷ [])) (eqb-true r q at) ∙ push_here q x e.lines none)
 joined_has r q x e false at none o h =
     let ne : r ≢ q = (λ same. both (r == q) (eq-eqb r q same) at) in
     ap is_some (push_other r q x e.lines ne) ∙ (o.awaiting r (sym (push_other r q asked e.carrier.live ne) ∙ h)).1
@@ -298,7 +335,8 @@ call_ordered r input e o =
     }
 
 pub first_ordered : (e : End) → IsOrdered e → IsOrdered (record e { lines = without_first e.lines })
-first_ordered e o = record { rise = rise_first 0 e.lines o.rise; awaiting = λ r h. ((o.awaiting r h).0, has_first r e.lines (o.awaiting r h).1) }
+first_ordered e o =
+    record { rise = rise_first 0 e.lines o.rise; awaiting = λ r h. ((o.awaiting r h).0, has_first r e.lines (o.awaiting r h).1) }
 
 pub carried_ordered : (octets : ℕ) (e : End) → IsOrdered e → IsOrdered (carried octets e)
 carried_ordered octets e o = record { rise = o.rise; awaiting = o.awaiting }

@@ -1,15 +1,21 @@
 -- The lines of an end are in the order in which their references were given.
-use Rattle.std.proofs.Common.{◌≡◌, ℕ, ◌+◌, ◌<◌, zero, suc, take, [], ◌∷◌, ◌++◌, Option, Some, None, option_map, refl, sym, subst, arith, if◌then◌else◌}
-use Rattle.osi_stack.proofs.Vocabulary.{Value, tsap_octets, asks, RiseFrom, AreUpTo, Rows, value_at, Connection, rise_lower, put_rise, Input, Listener, awaits, calls_with, connects, breaks, without_first, all_lost, Soundness, Effect, begins, happens, rests, Hears, Arrives, told_all, line_by, by_line, to_session, Line, End, used_lines, joins, fresh_line, Connect}
+use Rattle.std.proofs.Common.{◌≡◌, ℕ, ◌+◌, ◌<◌, zero, suc, take, [], ◌∷◌, ◌++◌, Option, Some, None, option_map, refl, sym, subst, arith}
+use Rattle.std.proofs.Common.{if◌then◌else◌}
+use Rattle.osi_stack.proofs.Vocabulary.{Value, tsap_octets, asks, RiseFrom, AreUpTo, Rows, value_at, Connection, rise_lower, put_rise}
+use Rattle.osi_stack.proofs.Vocabulary.{Input, Listener, awaits, calls_with, connects, breaks, without_first, all_lost, Soundness, Effect}
+use Rattle.osi_stack.proofs.Vocabulary.{begins, happens, rests, Hears, Arrives, told_all, line_by, by_line, to_session, Line, End}
+use Rattle.osi_stack.proofs.Vocabulary.{used_lines, joins, fresh_line, Connect}
 use Rattle.osi_stack.proofs.carried.what_each_step_preserves.{concluded_end, broken_end}
 use Rattle.osi_stack.proofs.carried.what_a_move_leaves.{used_keep, first_keep}
 
 -- ---- rows
 
 -- a reference above all others comes last
-pub rise_push : (n g r : ℕ) (line : Line) (lines : Rows Line) → n < r → g < r → AreUpTo g lines → RiseFrom n lines → RiseFrom n (lines ++ (r, line) ∷ [])
+pub rise_push : (n g r : ℕ) (line : Line) (lines : Rows Line) → n < r → g < r → AreUpTo g lines → RiseFrom n lines →
+    RiseFrom n (lines ++ (r, line) ∷ [])
 rise_push n g r line [] above over up rise = (above, tt)
-rise_push n g r line ((q, y) ∷ lines) above over up rise = (rise.0, rise_push q g r line lines (let low = up.0 in omega arith) over up.1 rise.1)
+rise_push n g r line ((q, y) ∷ lines) above over up rise =
+    (rise.0, rise_push q g r line lines (let low = up.0 in omega arith) over up.1 rise.1)
 
 -- some are dropped
 pub rise_used : (n : ℕ) (live : Rows Connection) (lines : Rows Line) → RiseFrom n lines → RiseFrom n (used_lines live lines)
@@ -50,19 +56,23 @@ rise_session r input e rise = rise_line r input e (value_at r e.lines) rise
 pub rise_connect : (c : Connect) (e : End) → Soundness e → RiseFrom 0 e.lines → RiseFrom 0 (connects c e).lines
 rise_connect c e sound rise =
     rise_joins e.carrier.given (e.carrier.given + 1) (calls_with c)
-    (record e { carrier = asks (option_map tsap_octets c.calling_tsap) (option_map tsap_octets c.called_tsap) e.carrier }) (omega arith) sound.known rise
+    (record e { carrier = asks (option_map tsap_octets c.calling_tsap) (option_map tsap_octets c.called_tsap) e.carrier }) (omega arith)
+        sound.known rise
 
 pub rise_breaks : (e : End) → RiseFrom 0 e.lines → RiseFrom 0 (breaks e).lines
 rise_breaks e rise = broken_end (λ x. RiseFrom 0 x.lines) (λ x rise. rise_lost 0 x.lines rise) e rise
 
-rise_hears : (r : ℕ) (effect : Effect) (e new : End) → Hears r effect e new → (g : ℕ) → AreUpTo g e.lines → (effect ≡ begins → g < r) → RiseFrom 0 e.lines → RiseFrom 0 new.lines
+rise_hears : (r : ℕ) (effect : Effect) (e new : End) → Hears r effect e new → (g : ℕ) → AreUpTo g e.lines → (effect ≡ begins → g < r) →
+    RiseFrom 0 e.lines → RiseFrom 0 new.lines
 rise_hears r begins e new h g up over rise = subst (λ (x : End). RiseFrom 0 x.lines) (sym h) (rise_joins g r awaits e (over refl) up rise)
 rise_hears r (happens input) e new h g up over rise = subst (λ (l : Rows Line). RiseFrom 0 l) (sym h.lines) (put_rise 0 r _ e.lines rise)
 rise_hears r rests e new h g up over rise = subst (λ (x : End). RiseFrom 0 x.lines) (sym h) rise
 
 -- a connection that begins was not given before
-pub rise_arrives : (r : ℕ) (effect : Effect) (v : Value) (e new : End) → Arrives r effect v e new → AreUpTo e.carrier.given e.lines → (effect ≡ begins → e.carrier.given < r) →
+pub rise_arrives : (r : ℕ) (effect : Effect) (v : Value) (e new : End) → Arrives r effect v e new → AreUpTo e.carrier.given e.lines →
+    (effect ≡ begins → e.carrier.given < r) →
     RiseFrom 0 e.lines → RiseFrom 0 new.lines
 rise_arrives r effect v e new a up over rise =
     subst (λ (x : End). RiseFrom 0 x.lines) (sym a.is)
-    (concluded_end (λ x. RiseFrom 0 x.lines) (λ x rise. rise_lost 0 x.lines rise) a.heard (rise_hears r effect (told_all v e) a.heard a.hears e.carrier.given up over rise))
+    (concluded_end (λ x. RiseFrom 0 x.lines) (λ x rise. rise_lost 0 x.lines rise) a.heard
+        (rise_hears r effect (told_all v e) a.heard a.hears e.carrier.given up over rise))

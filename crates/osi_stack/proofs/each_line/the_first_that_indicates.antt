@@ -1,7 +1,9 @@
 -- The first connection for which an indication is pending.
-use Rattle.std.proofs.Common.{◌≡◌, ℕ, ◌+◌, ◌<◌, ◌≤◌, ◌==◌, Bool, zero, suc, true, false, not, List, [], ◌∷◌, length, map, get_or, set, Option, Some, None, refl, sym, ap, ◌∙◌, arith}
+use Rattle.std.proofs.Common.{◌≡◌, ℕ, ◌+◌, ◌<◌, ◌≤◌, ◌==◌, Bool, zero, suc, true, false, not, List, [], ◌∷◌, length, map, get_or, set}
+use Rattle.std.proofs.Common.{Option, Some, None, refl, sym, ap, ◌∙◌, arith}
 use Rattle.std.proofs.lemmas.List.Quantifiers.{position-Some}
-use Rattle.osi_stack.proofs.Vocabulary.{position, position_or_len, common_steps, Rows, Shown, shown_by, Indication, first_by, first_shown, rest_by, without_first, TellsOf, Line, line_waits, waits}
+use Rattle.osi_stack.proofs.Vocabulary.{position, position_or_len, common_steps, Rows, Shown, shown_by, Indication, first_by, first_shown}
+use Rattle.osi_stack.proofs.Vocabulary.{rest_by, without_first, TellsOf, Line, line_waits, waits}
 use Rattle.osi_stack.proofs.carried.events_one_after_the_other.{no_events}
 use Rattle.osi_stack.proofs.carried.packets_without_events.{or_first, or_second}
 
@@ -17,7 +19,8 @@ pub record IsNone (rows : Rows Line) : Type 0 where
 none_cons : (r : ℕ) (l : Line) (rows : Rows Line) → l.waiting ≡ [] → IsNone rows → IsNone ((r, l) ∷ rows)
 none_cons r l rows e more = search
 
-none_by : (r : ℕ) (l : Line) (rows : Rows Line) (b : Bool) → line_waits l ≡ b → (length rows ≤ position_or_len (λ row. line_waits row.1) rows → IsNone rows) →
+none_by : (r : ℕ) (l : Line) (rows : Rows Line) (b : Bool) → line_waits l ≡ b →
+    (length rows ≤ position_or_len (λ row. line_waits row.1) rows → IsNone rows) →
     length ((r, l) ∷ rows) ≤ position_or_len (λ row. line_waits row.1) ((r, l) ∷ rows) → IsNone ((r, l) ∷ rows)
 none_by r l rows b t more h = grind arith
 
@@ -74,7 +77,8 @@ first_is rows i d e =
 -- ---- it is reported
 
 -- a line with a pending indication can give one
-pub never_popped : {A : Type 0} (items : List Indication) (n : ℕ) → n ≡ length items → n ≡ 0 → not (length (map shown_by items) == 0) ≡ true → A
+pub never_popped : {A : Type 0} (items : List Indication) (n : ℕ) → n ≡ length items → n ≡ 0 →
+    not (length (map shown_by items) == 0) ≡ true → A
 never_popped [] n len none waits = cc
 never_popped (x ∷ items) n len none waits = absurd (omega arith)
 

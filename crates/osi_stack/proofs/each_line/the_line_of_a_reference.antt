@@ -1,7 +1,9 @@
 -- The line of a reference, at its place among the lines.
 use Rattle.std.proofs.Common.{◌≡◌, ℕ, [], get_or, set, is_some, Option, Some, None, Result, Ok, Err, OnOk, IfErr, refl, sym, ap, subst, ◌∙◌}
 pub use Rattle.osi_carrier.proofs.references.the_row_at_a_place.{nowhere}
-use Rattle.osi_stack.proofs.Vocabulary.{placed, here_is, Carrying, Rows, value_at, place_of, put, State as Carrier, Call, Input, Listener, CallError, session_refusal, session_error, Refuses, line_by, carrier_by, by_line, to_session, Line, End, session_in}
+use Rattle.osi_stack.proofs.Vocabulary.{placed, here_is, Carrying, Rows, value_at, place_of, put, State as Carrier, Call, Input, Listener}
+use Rattle.osi_stack.proofs.Vocabulary.{CallError, session_refusal, session_error, Refuses, line_by, carrier_by, by_line, to_session, Line}
+use Rattle.osi_stack.proofs.Vocabulary.{End, session_in}
 
 found_by : (r : ℕ) (rows : Rows Line) (o : Option ℕ) → place_of r rows ≡ o → is_some o ≡ is_some (value_at r rows)
 found_by r rows None e = sym (ap is_some (nowhere r rows e))
@@ -12,7 +14,8 @@ found r rows = found_by r rows (place_of r rows) refl
 
 -- ---- an event for the line at a place
 
-pub same_end : (c d : Carrier) (l k : Rows Line) → c ≡ d → l ≡ k → ◌≡◌ {A = End} (record { carrier = c; lines = l }) (record { carrier = d; lines = k })
+pub same_end : (c d : Carrier) (l k : Rows Line) → c ≡ d → l ≡ k →
+    ◌≡◌ {A = End} (record { carrier = c; lines = l }) (record { carrier = d; lines = k })
 same_end c d l k e f = ap (λ v. record { carrier = v; lines = l }) e ∙ ap (λ v. record { carrier = d; lines = v }) f
 
 -- no line, and nothing happens
@@ -20,10 +23,13 @@ pub unheard : (r : ℕ) (rows : Rows Line) (input : Input) (c : Carrier) → pla
     ◌≡◌ {A = End} (record { carrier = c; lines = rows }) (to_session r input (record { carrier = c; lines = rows }))
 unheard r rows input c e = sym (ap (λ o. by_line r o input (record { carrier = c; lines = rows })) (nowhere r rows e))
 
-pub heard_rows : {A E : Type 0} (result : Result A E) (r : ℕ) (rows items : Rows Line) (i : ℕ) (row new : ℕ × Line) (c d : Carrying) (input : Input) →
+pub heard_rows : {A E : Type 0} (result : Result A E) (r : ℕ) (rows items : Rows Line) (i : ℕ) (row new : ℕ × Line) (c d : Carrying)
+    (input : Input) →
     place_of r rows ≡ Some i → row ≡ get_or rows i row → items ≡ rows →
-    OnOk result (new ≡ (row.0, line_by row.1 row.1.session input)) → OnOk result (d ≡ record c { state = carrier_by row.0 row.1.session input c.state }) →
-    OnOk result (◌≡◌ {A = End} (record { carrier = d.state; lines = set items i new }) (to_session r input (record { carrier = c.state; lines = rows })))
+    OnOk result (new ≡ (row.0, line_by row.1 row.1.session input)) →
+        OnOk result (d ≡ record c { state = carrier_by row.0 row.1.session input c.state }) →
+    OnOk result (◌≡◌ {A = End} (record { carrier = d.state; lines = set items i new })
+        (to_session r input (record { carrier = c.state; lines = rows })))
 heard_rows (Err f) r rows items i row new c d input e here same h k = tt
 heard_rows (Ok a) r rows items i row new c d input e here same h k =
     let p = placed r rows i row e in
@@ -36,24 +42,34 @@ heard_rows (Ok a) r rows items i row new c d input e here same h k =
 
 -- ---- calls at a place
 
-pub refusal_at : (r : ℕ) (rows : Rows Line) (i : ℕ) (row : ℕ × Line) (call : Call) (c : Carrier) → place_of r rows ≡ Some i → row ≡ get_or rows i row →
+pub refusal_at : (r : ℕ) (rows : Rows Line) (i : ℕ) (row : ℕ × Line) (call : Call) (c : Carrier) → place_of r rows ≡ Some i →
+    row ≡ get_or rows i row →
     session_refusal row.0 row.1.session call c ≡ session_refusal r (session_in (value_at r rows)) call c
 refusal_at r rows i row call c e here =
     let p = placed r rows i row e in
     let named = ap (λ (x : ℕ × Line). x.0) here ∙ p.named in
-    ap (λ n. session_refusal n row.1.session call c) named ∙ sym (ap (λ o. session_refusal r (session_in o) call c) (here_is r rows rows i row e here refl))
+    ap (λ n. session_refusal n row.1.session call c) named ∙
+        sym (ap (λ o. session_refusal r (session_in o) call c) (here_is r rows rows i row e here refl))
 
 pub session_here : (r : ℕ) (rows : Rows Line) (i : ℕ) (row : ℕ × Line) → place_of r rows ≡ Some i → row ≡ get_or rows i row →
     row.1.session ≡ session_in (value_at r rows)
 session_here r rows i row e here = sym (ap session_in (here_is r rows rows i row e here refl))
 
-pub allowed_at : {A E : Type 0} (result : Result A E) (r : ℕ) (rows : Rows Line) (i : ℕ) (row : ℕ × Line) (call : Call) (c : Carrier) → place_of r rows ≡ Some i →
-    row ≡ get_or rows i row → OnOk result (session_refusal row.0 row.1.session call c ≡ None) → OnOk result (session_refusal r (session_in (value_at r rows)) call c ≡ None)
-allowed_at result r rows i row call c e here h = subst (λ (o : Option CallError). OnOk result (o ≡ None)) (refusal_at r rows i row call c e here) h
+pub allowed_at : {A E : Type 0} (result : Result A E) (r : ℕ) (rows : Rows Line) (i : ℕ) (row : ℕ × Line) (call : Call) (c : Carrier) →
+    place_of r rows ≡ Some i →
+    row ≡ get_or rows i row → OnOk result (session_refusal row.0 row.1.session call c ≡ None) →
+        OnOk result (session_refusal r (session_in (value_at r rows)) call c ≡ None)
+allowed_at result r rows i row call c e here h =
+    subst (λ (o : Option CallError). OnOk result (o ≡ None)) (refusal_at r rows i row call c e here) h
 
-pub refused_at : {A : Type 0} (result : Result A CallError) (r : ℕ) (rows : Rows Line) (i : ℕ) (row : ℕ × Line) (call : Call) (c : Carrier) → place_of r rows ≡ Some i →
-    row ≡ get_or rows i row → IfErr result (λ e. Refuses e (session_error row.1.session call) (session_refusal row.0 row.1.session call c)) →
-    IfErr result (λ e. Refuses e (session_error (session_in (value_at r rows)) call) (session_refusal r (session_in (value_at r rows)) call c))
+pub refused_at : {A : Type 0} (result : Result A CallError) (r : ℕ) (rows : Rows Line) (i : ℕ) (row : ℕ × Line) (call : Call)
+    (c : Carrier) → place_of r rows ≡ Some i →
+    row ≡ get_or rows i row →
+        IfErr result (λ e. Refuses e (session_error row.1.session call) (session_refusal row.0 row.1.session call c)) →
+    IfErr result (λ e. Refuses e (session_error (session_in (value_at r rows)) call)
+        (session_refusal r (session_in (value_at r rows)) call c))
 refused_at result r rows i row call c e here h =
-    subst (λ (o : Option CallError). IfErr result (λ e. Refuses e (session_error (session_in (value_at r rows)) call) o)) (refusal_at r rows i row call c e here)
-    (subst (λ (o : Option Listener). IfErr result (λ e. Refuses e (session_error o call) (session_refusal row.0 row.1.session call c))) (session_here r rows i row e here) h)
+    subst (λ (o : Option CallError). IfErr result (λ e. Refuses e (session_error (session_in (value_at r rows)) call) o))
+        (refusal_at r rows i row call c e here)
+    (subst (λ (o : Option Listener). IfErr result (λ e. Refuses e (session_error o call) (session_refusal row.0 row.1.session call c)))
+        (session_here r rows i row e here) h)

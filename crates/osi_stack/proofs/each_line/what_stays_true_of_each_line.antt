@@ -1,8 +1,12 @@
 -- What holds of each line of an end stays so, whatever is called and fed.
-use Rattle.std.proofs.Common.{◌≡◌, ℕ, ◌+◌, ◌==◌, Bool, true, false, ◌||◌, List, ◌∷◌, ◌++◌, length, Option, Some, None, refl, sym, subst, ◌∙◌, inl, inr, ◌⊎◌, if◌then◌else◌, [], arith}
+use Rattle.std.proofs.Common.{◌≡◌, ℕ, ◌+◌, ◌==◌, Bool, true, false, ◌||◌, List, ◌∷◌, ◌++◌, length, Option, Some, None, refl, sym, subst}
+use Rattle.std.proofs.Common.{◌∙◌, inl, inr, ◌⊎◌, if◌then◌else◌, [], arith}
 use Rattle.osi_carrier.specs.Happenings as told
 use Rattle.osi_carrier.specs.Packets as carriers
-use Rattle.osi_stack.proofs.Vocabulary.{Fed, Happening, Rows, value_at, put, Connection, Input, opened, refused, broken, came, awaits, Shown, calls_with, connects, breaks, without_first, Feeds, OfLines, hears_times, hears_all, with_events, with_carrier, attends, after_packet, loses, all_lost, Starves, line_by, by_line, to_session, Line, End, Holding, used_lines, fresh_line, Connect, told_of, input_of}
+use Rattle.osi_stack.proofs.Vocabulary.{Fed, Happening, Rows, value_at, put, Connection, Input, opened, refused, broken, came, awaits}
+use Rattle.osi_stack.proofs.Vocabulary.{Shown, calls_with, connects, breaks, without_first, Feeds, OfLines, hears_times, hears_all}
+use Rattle.osi_stack.proofs.Vocabulary.{with_events, with_carrier, attends, after_packet, loses, all_lost, Starves, line_by, by_line}
+use Rattle.osi_stack.proofs.Vocabulary.{to_session, Line, End, Holding, used_lines, fresh_line, Connect, told_of, input_of}
 use Rattle.osi_stack.proofs.carried.packets_without_events.{packet_is}
 use Rattle.osi_stack.proofs.carried.what_each_step_preserves.{events_heard, concluded_end, broken_end}
 use Rattle.osi_stack.proofs.stream.what_feeding_keeps.{feeds_kept}
@@ -21,7 +25,8 @@ pub record LinesStay (Q : Line → Type 0) : Type 0 where
 
 -- ---- lines
 
-at_by : (Q : Line → Type 0) (r q : ℕ) (line y : Line) (lines : Rows Line) (b : Bool) → (q == r) ≡ b → Q y → (value_at r lines ≡ Some line → Q line) →
+at_by : (Q : Line → Type 0) (r q : ℕ) (line y : Line) (lines : Rows Line) (b : Bool) → (q == r) ≡ b → Q y →
+    (value_at r lines ≡ Some line → Q line) →
     value_at r ((q, y) ∷ lines) ≡ Some line → Q line
 at_by Q r q line y lines b e here more h = grind arith
 
@@ -52,17 +57,21 @@ lost_lines Q ((q, y) ∷ lines) lost = (lost y, lost_lines Q lines lost)
 
 -- ---- what happens to them
 
-session_by : (Q : Line → Type 0) (r : ℕ) (input : Input) (e : End) (o : Option Line) → value_at r e.lines ≡ o → ((line : Line) → Q line → Q (line_by line line.session input)) →
+session_by : (Q : Line → Type 0) (r : ℕ) (input : Input) (e : End) (o : Option Line) → value_at r e.lines ≡ o →
+    ((line : Line) → Q line → Q (line_by line line.session input)) →
     OfLines Q e.lines → OfLines Q (by_line r o input e).lines
 session_by Q r input e None here moves all = all
-session_by Q r input e (Some line) here moves all = put_lines Q r (line_by line line.session input) e.lines (moves line (line_at Q r line e.lines all here)) all
+session_by Q r input e (Some line) here moves all =
+    put_lines Q r (line_by line line.session input) e.lines (moves line (line_at Q r line e.lines all here)) all
 
 -- in one input
-pub session_lines : (Q : Line → Type 0) (r : ℕ) (input : Input) (e : End) → ((line : Line) → Q line → Q (line_by line line.session input)) → OfLines Q e.lines →
+pub session_lines : (Q : Line → Type 0) (r : ℕ) (input : Input) (e : End) → ((line : Line) → Q line → Q (line_by line line.session input)) →
+    OfLines Q e.lines →
     OfLines Q (to_session r input e).lines
 session_lines Q r input e moves all = session_by Q r input e (value_at r e.lines) refl moves all
 
-heard_lines : (Q : Line → Type 0) → LinesStay Q → (event : Happening) (e : End) → OfLines Q e.lines → OfLines Q (to_session (told_of event) (input_of event) e).lines
+heard_lines : (Q : Line → Type 0) → LinesStay Q → (event : Happening) (e : End) → OfLines Q e.lines →
+    OfLines Q (to_session (told_of event) (input_of event) e).lines
 heard_lines Q law (told.opened q) e all = session_lines Q q opened e law.opened all
 heard_lines Q law (told.refused q reason) e all = session_lines Q q (refused reason) e (λ line. law.refused line reason) all
 heard_lines Q law (told.tsdu q octets) e all = session_lines Q q (came octets) e (λ line. law.came line octets) all
@@ -76,16 +85,22 @@ attends_lines Q law e all =
       moves = heard_lines Q law;
     }) (length e.carrier.events) e all)
 
-pub packet_lines : (Q : Line → Type 0) → LinesStay Q → (packet : List ℕ) (e : End) → OfLines Q e.lines → OfLines Q (after_packet e packet).lines
+pub packet_lines : (Q : Line → Type 0) → LinesStay Q → (packet : List ℕ) (e : End) → OfLines Q e.lines →
+    OfLines Q (after_packet e packet).lines
 packet_lines Q law packet e all =
-    subst (λ (x : End). OfLines Q x.lines) (sym (packet_is e packet)) (attends_lines Q law (with_carrier (carriers.after_packet e.carrier packet) e) all)
+    subst (λ (x : End). OfLines Q x.lines) (sym (packet_is e packet))
+        (attends_lines Q law (with_carrier (carriers.after_packet e.carrier packet) e) all)
 
-starved_lines : (Q : Line → Type 0) → LinesStay Q → (e new : End) (packet : List ℕ) → Starves e packet new → OfLines Q e.lines → OfLines Q new.lines
-starved_lines Q law e new packet (inl h) all = subst (λ (x : End). OfLines Q x.lines) (sym h.2) (attends_lines Q law (with_carrier h.0 e) all)
+starved_lines : (Q : Line → Type 0) → LinesStay Q → (e new : End) (packet : List ℕ) → Starves e packet new → OfLines Q e.lines →
+    OfLines Q new.lines
+starved_lines Q law e new packet (inl h) all =
+    subst (λ (x : End). OfLines Q x.lines) (sym h.2) (attends_lines Q law (with_carrier h.0 e) all)
 starved_lines Q law e new packet (inr h) all =
-    subst (λ (x : End). OfLines Q x.lines) (sym h.2.starved) (lost_lines Q (with_events h.2.more (hears_times h.2.heard (with_carrier h.0 e))).lines law.lost)
+    subst (λ (x : End). OfLines Q x.lines) (sym h.2.starved)
+        (lost_lines Q (with_events h.2.more (hears_times h.2.heard (with_carrier h.0 e))).lines law.lost)
 
-pub feeds_lines : (Q : Line → Type 0) → LinesStay Q → (old new : Holding) (piece : List ℕ) (fed : Fed) → Feeds old piece fed new → OfLines Q old.end.lines → OfLines Q new.end.lines
+pub feeds_lines : (Q : Line → Type 0) → LinesStay Q → (old new : Holding) (piece : List ℕ) (fed : Fed) → Feeds old piece fed new →
+    OfLines Q old.end.lines → OfLines Q new.end.lines
 feeds_lines Q law old new piece fed h all =
     feeds_kept (λ x. OfLines Q x.lines) (record {
       each = λ packet e lasts all. packet_lines Q law packet e all;
@@ -95,13 +110,16 @@ feeds_lines Q law old new piece fed h all =
 
 -- ---- calls
 
-pub connect_lines : (Q : Line → Type 0) (c : Connect) (e : End) → Q (fresh_line (calls_with c)) → OfLines Q e.lines → OfLines Q (connects c e).lines
+pub connect_lines : (Q : Line → Type 0) (c : Connect) (e : End) → Q (fresh_line (calls_with c)) → OfLines Q e.lines →
+    OfLines Q (connects c e).lines
 connect_lines Q c e new all = more_lines Q _ e.lines (e.carrier.given + 1, fresh_line (calls_with c)) new all
 
-pub told_lines : (Q : Line → Type 0) → ((line : Line) (waiting : List Shown) → Q line → Q (record line { waiting = waiting })) → (lines : Rows Line) → OfLines Q lines →
+pub told_lines : (Q : Line → Type 0) → ((line : Line) (waiting : List Shown) → Q line → Q (record line { waiting = waiting })) →
+    (lines : Rows Line) → OfLines Q lines →
     OfLines Q (without_first lines)
 told_lines Q tells [] all = tt
-told_lines Q tells ((r, line) ∷ lines) all = first_keep (OfLines Q) r line lines (all.0, told_lines Q tells lines all.1) (λ left. (tells line left all.0, all.1))
+told_lines Q tells ((r, line) ∷ lines) all =
+    first_keep (OfLines Q) r line lines (all.0, told_lines Q tells lines all.1) (λ left. (tells line left all.0, all.1))
 
 pub breaks_lines : (Q : Line → Type 0) → ((line : Line) → Q (loses line)) → (e : End) → OfLines Q e.lines → OfLines Q (breaks e).lines
 breaks_lines Q lost e all = broken_end (λ x. OfLines Q x.lines) (λ x all. lost_lines Q x.lines lost) e all

@@ -1,27 +1,46 @@
 -- Each session of an end is what its own inputs made of what it began as.
-use Rattle.std.proofs.Common.{◌≡◌, ◌≢◌, ℕ, ◌+◌, ◌<◌, ◌≤◌, ◌==◌, Bool, true, false, List, ◌∷◌, ◌++◌, length, take, Option, Some, None, is_some, IsSome, not, refl, sym, ap, subst, ◌∙◌, inl, inr, ◌⊎◌, arith, append_assoc, option_map, if◌then◌else◌, []}
+use Rattle.std.proofs.Common.{◌≡◌, ◌≢◌, ℕ, ◌+◌, ◌<◌, ◌≤◌, ◌==◌, Bool, true, false, List, ◌∷◌, ◌++◌, length, take, Option, Some, None}
+use Rattle.std.proofs.Common.{is_some, IsSome, not, refl, sym, ap, subst, ◌∙◌, inl, inr, ◌⊎◌, arith, append_assoc, option_map}
+use Rattle.std.proofs.Common.{if◌then◌else◌, []}
 use Rattle.osi_carrier.specs.Packets as carriers
 use Rattle.osi_session.specs.Listening.{broken as linked_down, after_input}
 use Rattle.osi_session.specs.declared.faults.CallError.TheVariants.{BadState}
 use Rattle.osi_stack.specs.Disconnecting.{given_up, gives_up_by, gives_up}
 use Rattle.osi_stack.specs.Inputs.{Step}
-use Rattle.osi_stack.proofs.Vocabulary.{eqb-true, eq-eqb, append-nil, AllByRecursion, fresh, IsPartial, ArePackets, Fed, tsap_octets, Local, beyond, push_here, push_other, OneCut, asks, Happening, told_of, RiseFrom, Rows, value_at, Connection, State as Carrier, Broken, Call as SessionCall, Input, Listener, called, opened as linked_up, react, after_inputs, awaits, calls_with, connects, breaks, call_error, connect_error, without_first, TakesPackets, Goes, Feeds, opens, hears, hears_next, hears_times, hears_all, with_events, with_carrier, after_packet, ends, input_of, inputs_told, Past, no_past, then_came, inputs_of, begun_as, made_at, AreMadeBy, told_along, past_called, IsAccepted, serving, using, Steps, StepsAlong, AreApart, Soundness, IsSound, kept_at, to_session, IsOrdered, UserCall, user_does, connecting, calling, disconnecting, breaking, awaits_transport, disconnect_error, disconnects, has_given, session_at, NoSuchConnection, nat_tests, open_link, put, put_here, put_other, line_by, by_line, put_back, Calls, used_in, feeding, telling, carrying, Line, End, Holding, IsAttended, fresh_end, session_in, used_lines, joins, waits, fresh_line, Connect, told_opened as opened, EndCall as Call}
+use Rattle.osi_stack.proofs.Vocabulary.{eqb-true, eq-eqb, append-nil, AllByRecursion, fresh, IsPartial, ArePackets, Fed, tsap_octets, Local}
+use Rattle.osi_stack.proofs.Vocabulary.{beyond, push_here, push_other, OneCut, asks, Happening, told_of, RiseFrom, Rows, value_at}
+use Rattle.osi_stack.proofs.Vocabulary.{Connection, State as Carrier, Broken, Call as SessionCall, Input, Listener, called}
+use Rattle.osi_stack.proofs.Vocabulary.{opened as linked_up, react, after_inputs, awaits, calls_with, connects, breaks, call_error}
+use Rattle.osi_stack.proofs.Vocabulary.{connect_error, without_first, TakesPackets, Goes, Feeds, opens, hears, hears_next, hears_times}
+use Rattle.osi_stack.proofs.Vocabulary.{hears_all, with_events, with_carrier, after_packet, ends, input_of, inputs_told, Past, no_past}
+use Rattle.osi_stack.proofs.Vocabulary.{then_came, inputs_of, begun_as, made_at, AreMadeBy, told_along, past_called, IsAccepted, serving}
+use Rattle.osi_stack.proofs.Vocabulary.{using, Steps, StepsAlong, AreApart, Soundness, IsSound, kept_at, to_session, IsOrdered, UserCall}
+use Rattle.osi_stack.proofs.Vocabulary.{user_does, connecting, calling, disconnecting, breaking, awaits_transport, disconnect_error}
+use Rattle.osi_stack.proofs.Vocabulary.{disconnects, has_given, session_at, NoSuchConnection, nat_tests, open_link, put, put_here}
+use Rattle.osi_stack.proofs.Vocabulary.{put_other, line_by, by_line, put_back, Calls, used_in, feeding, telling, carrying, Line, End}
+use Rattle.osi_stack.proofs.Vocabulary.{Holding, IsAttended, fresh_end, session_in, used_lines, joins, waits, fresh_line, Connect}
+use Rattle.osi_stack.proofs.Vocabulary.{told_opened as opened, EndCall as Call}
 use Rattle.osi_stack.proofs.carried.all_events_are_handled.{session_attended, connect_attended, feeds_attended}
 use Rattle.osi_stack.proofs.stream.what_was_written_is_read.{attended_then}
 use Rattle.osi_stack.proofs.given_up.the_invariant_stays.{disconnect_attended, disconnect_is, disconnect_ordered, disconnect_sound}
 use Rattle.osi_stack.proofs.carried.events_one_after_the_other.{concluded_carrier}
 use Rattle.osi_stack.proofs.carried.packets_without_events.{both, packet_is, lasting_of, never}
-use Rattle.osi_stack.proofs.carried.open_connections_stay_open.{SessionLaws, HasMoved, session_hears, hears_apart, used_at, apart_push, joined_lines, unlike, first_is, rest_is, Stays}
+use Rattle.osi_stack.proofs.carried.open_connections_stay_open.{SessionLaws, HasMoved, session_hears, hears_apart, used_at, apart_push}
+use Rattle.osi_stack.proofs.carried.open_connections_stay_open.{joined_lines, unlike, first_is, rest_is, Stays}
 use Rattle.osi_stack.proofs.carried.what_a_move_leaves.{kept_first, says_is}
 use Rattle.osi_stack.proofs.opening.connections_that_units_open.{opened_in, NoneAwaited, IsGiven, Comes, OpensAlong}
-use Rattle.osi_stack.proofs.each_line.lines_stay_in_order.{HaveLines, have_still, have_rest, one_heard, awaited_lines, packet_along, packet_ordered, connect_ordered, call_ordered, feeds_ordered, first_ordered, fresh_ordered}
+use Rattle.osi_stack.proofs.each_line.lines_stay_in_order.{HaveLines, have_still, have_rest, one_heard, awaited_lines, packet_along}
+use Rattle.osi_stack.proofs.each_line.lines_stay_in_order.{packet_ordered, connect_ordered, call_ordered, feeds_ordered, first_ordered}
+use Rattle.osi_stack.proofs.each_line.lines_stay_in_order.{fresh_ordered}
 use Rattle.osi_stack.proofs.stream.an_end_is_what_its_packets_make.{call_lasts, reads_dry, reads_stopped, ReadsOne, none_ended}
-use Rattle.osi_stack.proofs.sound.the_invariant_is_kept.{concludes_lasting, packet_sound, connect_sound, call_sound, feeds_sound, first_sound, fresh_sound, up_at, closed_given}
+use Rattle.osi_stack.proofs.sound.the_invariant_is_kept.{concludes_lasting, packet_sound, connect_sound, call_sound, feeds_sound}
+use Rattle.osi_stack.proofs.sound.the_invariant_is_kept.{first_sound, fresh_sound, up_at, closed_given}
 use Rattle.osi_stack.proofs.carried.what_each_step_preserves.{Carries, session_carried, events_heard}
 
 -- ---- inputs
 
-inputs_by : (r q : ℕ) (input : Input) (l m : List (ℕ × Input)) (b : Bool) → (q == r) ≡ b → inputs_of r (l ++ m) ≡ inputs_of r l ++ inputs_of r m →
+inputs_by : (r q : ℕ) (input : Input) (l m : List (ℕ × Input)) (b : Bool) → (q == r) ≡ b →
+    inputs_of r (l ++ m) ≡ inputs_of r l ++ inputs_of r m →
     inputs_of r (((q, input) ∷ l) ++ m) ≡ inputs_of r ((q, input) ∷ l) ++ inputs_of r m
 inputs_by r q input l m true e more = rw e (ap (λ x. input ∷ x) more)
 inputs_by r q input l m false e more = rw e more
@@ -36,7 +55,8 @@ after_more s (input ∷ l) m = after_more (react s input).next l m
 
 made_more : (r : ℕ) (l : List (ℕ × Input)) (past : Past) → made_at r (then_came l past) ≡ after_inputs (made_at r past) (inputs_of r l)
 made_more r l past =
-    ap (after_inputs (begun_as (value_at r past.asked))) (inputs_more r past.inputs l) ∙ after_more (begun_as (value_at r past.asked)) (inputs_of r past.inputs) (inputs_of r l)
+    ap (after_inputs (begun_as (value_at r past.asked))) (inputs_more r past.inputs l) ∙
+        after_more (begun_as (value_at r past.asked)) (inputs_of r past.inputs) (inputs_of r l)
 
 one_here : (q : ℕ) (input : Input) → inputs_of q ((q, input) ∷ []) ≡ input ∷ []
 one_here q input = let e = eq-eqb q q refl in rw e refl
@@ -69,27 +89,32 @@ new_awaits g past lines r k above =
 unheard_more : (g q : ℕ) (input : Input) (past : Past) → ((r : ℕ) → g < r → inputs_of r past.inputs ≡ []) → (r : ℕ) → g < r → r ≢ q →
     inputs_of r (then_came ((q, input) ∷ []) past).inputs ≡ []
 unheard_more g q input past none r above ne =
-    inputs_more r past.inputs ((q, input) ∷ []) ∙ ap (λ (l : List Input). l ++ inputs_of r ((q, input) ∷ [])) (none r above) ∙ one_other r q input (unlike q r ne)
+    inputs_more r past.inputs ((q, input) ∷ []) ∙ ap (λ (l : List Input). l ++ inputs_of r ((q, input) ∷ [])) (none r above) ∙
+        one_other r q input (unlike q r ne)
 
-moved_made : (q : ℕ) (input : Input) (e d : End) (past : Past) → HasMoved q input e d → ((r : ℕ) (s : Listener) → kept_at r e.lines ≡ Some s → s ≡ made_at r past) →
+moved_made : (q : ℕ) (input : Input) (e d : End) (past : Past) → HasMoved q input e d →
+    ((r : ℕ) (s : Listener) → kept_at r e.lines ≡ Some s → s ≡ made_at r past) →
     (r : ℕ) (s : Listener) (b : Bool) → (q == r) ≡ b → kept_at r d.lines ≡ Some s → s ≡ made_at r (then_came ((q, input) ∷ []) past)
 moved_made q input e d past m made r s true at is =
     let same = eqb-true q r at in
     let here : kept_at q d.lines ≡ Some s = ap (λ n. kept_at n d.lines) same ∙ is in
     let two : Some (react m.session input).next ≡ Some s = sym m.is ∙ here in
     let one : (react m.session input).next ≡ s = cc in
-    sym one ∙ ap (λ (x : Listener). (react x input).next) (made q m.session m.was) ∙ sym (made_here q input past) ∙ ap (λ n. made_at n (then_came ((q, input) ∷ []) past)) same
+    sym one ∙ ap (λ (x : Listener). (react x input).next) (made q m.session m.was) ∙ sym (made_here q input past) ∙
+        ap (λ n. made_at n (then_came ((q, input) ∷ []) past)) same
 moved_made q input e d past m made r s false at is =
     let ne : r ≢ q = (λ same. both (q == r) (eq-eqb q r (sym same)) at) in
     made r s (sym (m.others r ne) ∙ is) ∙ sym (made_other r q input past at)
 
-rested_made : (q : ℕ) (input : Input) (e : End) (past : Past) → kept_at q e.lines ≡ None → ((r : ℕ) (s : Listener) → kept_at r e.lines ≡ Some s → s ≡ made_at r past) →
+rested_made : (q : ℕ) (input : Input) (e : End) (past : Past) → kept_at q e.lines ≡ None →
+    ((r : ℕ) (s : Listener) → kept_at r e.lines ≡ Some s → s ≡ made_at r past) →
     (r : ℕ) (s : Listener) (b : Bool) → (q == r) ≡ b → kept_at r e.lines ≡ Some s → s ≡ made_at r (then_came ((q, input) ∷ []) past)
 rested_made q input e past none made r s true at is =
     let no : None ≡ Some s = sym none ∙ ap (λ n. kept_at n e.lines) (eqb-true q r at) ∙ is in cc
 rested_made q input e past none made r s false at is = made r s is ∙ sym (made_other r q input past at)
 
-session_made : (q : ℕ) (input : Input) (e : End) (past : Past) → ((r : ℕ) (s : Listener) → kept_at r e.lines ≡ Some s → s ≡ made_at r past) →
+session_made : (q : ℕ) (input : Input) (e : End) (past : Past) →
+    ((r : ℕ) (s : Listener) → kept_at r e.lines ≡ Some s → s ≡ made_at r past) →
     (r : ℕ) (s : Listener) → kept_at r (to_session q input e).lines ≡ Some s → s ≡ made_at r (then_came ((q, input) ∷ []) past)
 session_made q input e past made r s is = elim (session_hears q input e) [
   | inl m ↦ moved_made q input e (to_session q input e) past m made r s (q == r) refl is
@@ -97,7 +122,8 @@ session_made q input e past made r s is = elim (session_hears q input e) [
 ]
 
 -- a session of a reference that was given
-given_known : (g q : ℕ) (input : Input) (e : End) (past : Past) → q ≤ g → IsKnown g past e.lines → IsKnown g (then_came ((q, input) ∷ []) past) (to_session q input e).lines
+given_known : (g q : ℕ) (input : Input) (e : End) (past : Past) → q ≤ g → IsKnown g past e.lines →
+    IsKnown g (then_came ((q, input) ∷ []) past) (to_session q input e).lines
 given_known g q input e past up k = record {
   made = session_made q input e past k.made;
   unasked = k.unasked;
@@ -106,12 +132,14 @@ given_known g q input e past up k = record {
 
 -- ---- a new session
 
-pub kept_joined : (q r : ℕ) (s t : Listener) (live : Rows Connection) (lines : Rows Line) (b : Bool) → (q == r) ≡ b → value_at q lines ≡ None → Stays r live (joined_lines q s lines) →
+pub kept_joined : (q r : ℕ) (s t : Listener) (live : Rows Connection) (lines : Rows Line) (b : Bool) → (q == r) ≡ b →
+    value_at q lines ≡ None → Stays r live (joined_lines q s lines) →
     kept_at r (used_lines live (joined_lines q s lines)) ≡ Some t → ((q ≡ r) × (t ≡ s)) ⊎ ((q ≡ r → ⊥) × (kept_at r lines ≡ Some t))
 kept_joined q r s t live lines true at none (inl same) is =
     let e = eqb-true q r at in
     let x : Line = fresh_line s in
-    let here : Some s ≡ Some t = ap session_in (sym (push_here q x lines none)) ∙ ap (λ n. session_in (value_at n (joined_lines q s lines))) e ∙ ap session_in (sym same) ∙ is in
+    let here : Some s ≡ Some t = ap session_in (sym (push_here q x lines none)) ∙ ap (λ n. session_in (value_at n (joined_lines q s lines)))
+        e ∙ ap session_in (sym same) ∙ is in
     inl (e, (let one : s ≡ t = cc in sym one))
 kept_joined q r s t live lines false at none (inl same) is =
     let ne : r ≢ q = (λ e. both (q == r) (eq-eqb q r (sym e)) at) in
@@ -138,7 +166,8 @@ joins_known g q e past above apart none k = record {
 -- ---- one event
 
 -- a connection that was opened, and is new
-new_known : (g q : ℕ) (o : Option Line) (e : End) (past : Past) → value_at q e.lines ≡ o → g < q → AreApart e.lines → IsKnown g past e.lines →
+new_known : (g q : ℕ) (o : Option Line) (e : End) (past : Past) → value_at q e.lines ≡ o → g < q → AreApart e.lines →
+    IsKnown g past e.lines →
     IsKnown q (then_came ((q, linked_up) ∷ []) past) (opens q o e).lines
 new_known g q None e past here above apart k = joins_known g q e past above apart here k
 new_known g q (Some line) e past here above apart k = record {
@@ -153,7 +182,8 @@ line_known : (g q : ℕ) (o : Option Line) (e : End) (past : Past) → value_at 
 line_known g q None e past here some up k = cc
 line_known g q (Some line) e past here some up k = given_known g q linked_up e past up k
 
-caller_known : (g : ℕ) (event : Happening) (rest : List Happening) (e : End) (past : Past) → IsGiven g event → HaveLines e.lines (opened_in (event ∷ rest)) → IsKnown g past e.lines →
+caller_known : (g : ℕ) (event : Happening) (rest : List Happening) (e : End) (past : Past) → IsGiven g event →
+    HaveLines e.lines (opened_in (event ∷ rest)) → IsKnown g past e.lines →
     IsKnown g (then_came ((told_of event, input_of event) ∷ []) past) (hears event e).lines
 caller_known g (opened r) rest e past up all k = line_known g r (value_at r e.lines) e past refl all.0 up k
 caller_known g event rest e past up all k = given_known g (told_of event) _ e past up k
@@ -164,52 +194,66 @@ next_known : (g : ℕ) (event : Happening) (rest : List Happening) (e : End) (pa
     IsKnown g past (hears event (with_events rest e)).lines → IsKnown g past (hears_next e).lines
 next_known g event rest e past is k = subst (λ (x : End). IsKnown g past x.lines) (sym (first_is event rest e is)) k
 
-behind_known : (g : ℕ) (event : ℕ × Input) (more : List (ℕ × Input)) (past : Past) (lines : Rows Line) → IsKnown g (then_came more (then_came (event ∷ []) past)) lines →
+behind_known : (g : ℕ) (event : ℕ × Input) (more : List (ℕ × Input)) (past : Past) (lines : Rows Line) →
+    IsKnown g (then_came more (then_came (event ∷ []) past)) lines →
     IsKnown g (then_came (event ∷ more) past) lines
 behind_known g event more past lines k = subst (λ (p : Past). IsKnown g p lines) (then_joined (event ∷ []) more past) k
 
 none_known : (g : ℕ) (past : Past) (lines : Rows Line) → IsKnown g past lines → IsKnown g (then_came [] past) lines
-none_known g past lines k = subst (λ (p : Past). IsKnown g p lines) (sym (ap (λ (x : List (ℕ × Input)). record past { inputs = x }) (append-nil past.inputs))) k
+none_known g past lines k =
+    subst (λ (p : Past). IsKnown g p lines) (sym (ap (λ (x : List (ℕ × Input)). record past { inputs = x }) (append-nil past.inputs))) k
 
-times_caller : (g : ℕ) (l : List Happening) (e : End) (past : Past) → e.carrier.events ≡ l → AllByRecursion (IsGiven g) l → HaveLines e.lines (opened_in l) → RiseFrom 0 e.lines →
+times_caller : (g : ℕ) (l : List Happening) (e : End) (past : Past) → e.carrier.events ≡ l → AllByRecursion (IsGiven g) l →
+    HaveLines e.lines (opened_in l) → RiseFrom 0 e.lines →
     IsKnown g past e.lines → IsKnown g (then_came (inputs_told l) past) (hears_times (length l) e).lines
 times_caller g [] e past is up all rise k = none_known g past e.lines k
 times_caller g (event ∷ rest) e past is up all rise k =
     let at = first_is event rest e is in
     let one = one_heard event rest (with_events rest e) all rise in
     let risen : RiseFrom 0 (hears_next e).lines = subst (λ (x : End). RiseFrom 0 x.lines) (sym at) one.rise in
-    let kept : (r : ℕ) → IsSome (value_at r e.lines) → IsSome (value_at r (hears_next e).lines) = λ r some. subst (λ (x : End). IsSome (value_at r x.lines)) (sym at) (one.kept r some) in
+    let kept : (r : ℕ) → IsSome (value_at r e.lines) → IsSome (value_at r (hears_next e).lines) =
+        λ r some. subst (λ (x : End). IsSome (value_at r x.lines)) (sym at) (one.kept r some) in
     let entry : ℕ × Input = (told_of event, input_of event) in
     let now = next_known g event rest e (then_came (entry ∷ []) past) is (caller_known g event rest (with_events rest e) past up.0 all k) in
     behind_known g entry (inputs_told rest) past (hears_times (length rest) (hears_next e)).lines
     (times_caller g rest (hears_next e) (then_came (entry ∷ []) past) (rest_is event rest e is) up.1
     (have_still e.lines (hears_next e).lines (opened_in rest) kept (have_rest event rest e.lines all)) risen now)
 
-next_apart : (event : Happening) (rest : List Happening) (e : End) → e.carrier.events ≡ event ∷ rest → AreApart e.lines → AreApart (hears_next e).lines
-next_apart event rest e is apart = subst (λ (x : End). AreApart x.lines) (sym (first_is event rest e is)) (hears_apart event (with_events rest e) apart)
+next_apart : (event : Happening) (rest : List Happening) (e : End) → e.carrier.events ≡ event ∷ rest → AreApart e.lines →
+    AreApart (hears_next e).lines
+next_apart event rest e is apart =
+    subst (λ (x : End). AreApart x.lines) (sym (first_is event rest e is)) (hears_apart event (with_events rest e) apart)
 
-times_called : (g h : ℕ) (l : List Happening) (e : End) (past : Past) → e.carrier.events ≡ l → Comes g l h → AreApart e.lines → IsKnown g past e.lines →
+times_called : (g h : ℕ) (l : List Happening) (e : End) (past : Past) → e.carrier.events ≡ l → Comes g l h → AreApart e.lines →
+    IsKnown g past e.lines →
     IsKnown h (then_came (inputs_told l) past) (hears_times (length l) e).lines
 times_called g h [] e past is comes apart k = subst (λ n. IsKnown n (then_came [] past) e.lines) (sym comes) (none_known g past e.lines k)
 times_called g h (opened r ∷ rest) e past is comes apart k =
-    behind_known h _ (inputs_told rest) past _ (times_called r h rest (hears_next e) _ (rest_is (opened r) rest e is) comes.1 (next_apart (opened r) rest e is apart)
+    behind_known h _ (inputs_told rest) past _
+        (times_called r h rest (hears_next e) _ (rest_is (opened r) rest e is) comes.1 (next_apart (opened r) rest e is apart)
     (next_known r (opened r) rest e _ is (new_known g r (value_at r e.lines) (with_events rest e) past refl comes.0 apart k)))
 times_called g h (event ∷ rest) e past is comes apart k =
-    behind_known h _ (inputs_told rest) past _ (times_called g h rest (hears_next e) _ (rest_is event rest e is) comes.1 (next_apart event rest e is apart)
+    behind_known h _ (inputs_told rest) past _
+        (times_called g h rest (hears_next e) _ (rest_is event rest e is) comes.1 (next_apart event rest e is apart)
     (next_known g event rest e _ is (given_known g (told_of event) _ (with_events rest e) past comes.0 k)))
 
-heard_by : (b : Bool) (e : End) (c : Carrier) (past : Past) → e.carrier.is_caller ≡ b → e.carrier.events ≡ [] → Soundness e → IsOrdered e → OpensAlong e.carrier c →
-    IsKnown e.carrier.given past e.lines → IsKnown c.given (then_came (inputs_told c.events) past) (hears_times (length c.events) (with_carrier c e)).lines
+heard_by : (b : Bool) (e : End) (c : Carrier) (past : Past) → e.carrier.is_caller ≡ b → e.carrier.events ≡ [] → Soundness e → IsOrdered e →
+    OpensAlong e.carrier c →
+    IsKnown e.carrier.given past e.lines →
+        IsKnown c.given (then_came (inputs_told c.events) past) (hears_times (length c.events) (with_carrier c e)).lines
 heard_by true e c past side none s o a k =
     let events : c.events ≡ a.told = a.events ∙ ap (λ (l : List Happening). l ++ a.told) none in
     let known = a.known side in
     subst (λ n. IsKnown n (then_came (inputs_told c.events) past) (hears_times (length c.events) (with_carrier c e)).lines) (sym known.0)
-    (subst (λ (l : List Happening). IsKnown e.carrier.given (then_came (inputs_told l) past) (hears_times (length l) (with_carrier c e)).lines) (sym events)
-    (times_caller e.carrier.given a.told (with_carrier c e) past events known.1 (awaited_lines e (opened_in a.told) o (a.caller side)) o.rise k))
+    (subst (λ (l : List Happening). IsKnown e.carrier.given (then_came (inputs_told l) past)
+        (hears_times (length l) (with_carrier c e)).lines) (sym events)
+    (times_caller e.carrier.given a.told (with_carrier c e) past events known.1 (awaited_lines e (opened_in a.told) o (a.caller side))
+        o.rise k))
 heard_by false e c past side none s o a k =
     let events : c.events ≡ a.told = a.events ∙ ap (λ (l : List Happening). l ++ a.told) none in
     let nobody : NoneAwaited e.carrier.live = λ q h. both e.carrier.is_caller (o.awaiting q h).0 side in
-    subst (λ (l : List Happening). IsKnown c.given (then_came (inputs_told l) past) (hears_times (length l) (with_carrier c e)).lines) (sym events)
+    subst (λ (l : List Happening). IsKnown c.given (then_came (inputs_told l) past) (hears_times (length l) (with_carrier c e)).lines)
+        (sym events)
     (times_called e.carrier.given c.given a.told (with_carrier c e) past events (a.comes side nobody) s.apart k)
 
 -- ---- the references that were given stay
@@ -221,19 +265,23 @@ times_given : (n : ℕ) (e : End) → (hears_times n e).carrier.given ≡ e.carr
 times_given n e =
     events_heard (λ x. x.carrier.given ≡ e.carrier.given) (λ events x same. same) (record {
       begins = λ r x none same. same;
-      moves = λ event x same. session_carried (λ k. k.given ≡ e.carrier.given) (session_given e.carrier) (told_of event) (input_of event) x same;
+      moves = λ event x same. session_carried (λ k. k.given ≡ e.carrier.given) (session_given e.carrier) (told_of event) (input_of event) x
+          same;
     }) n e refl
 
 -- ---- packets
 
-packet_made : (packet : List ℕ) (e : End) (past : Past) → e.carrier.events ≡ [] → Soundness e → IsOrdered e → (after_packet e packet).carrier.ended ≡ None → IsKnown e.carrier.given past e.lines →
-    IsKnown (after_packet e packet).carrier.given (then_came (inputs_told (carriers.after_packet e.carrier packet).events) past) (after_packet e packet).lines
+packet_made : (packet : List ℕ) (e : End) (past : Past) → e.carrier.events ≡ [] → Soundness e → IsOrdered e →
+    (after_packet e packet).carrier.ended ≡ None → IsKnown e.carrier.given past e.lines →
+    IsKnown (after_packet e packet).carrier.given (then_came (inputs_told (carriers.after_packet e.carrier packet).events) past)
+        (after_packet e packet).lines
 packet_made packet e past none s o over k =
     let c = carriers.after_packet e.carrier packet in
     let mid = with_carrier c e in
     let heard = hears_all mid in
     let is = packet_is e packet in
-    let lasts : heard.carrier.ended ≡ None = sym (ap (λ (x : Carrier). x.ended) (concluded_carrier heard)) ∙ ap (λ (x : End). x.carrier.ended) (sym is) ∙ over in
+    let lasts : heard.carrier.ended ≡ None = sym (ap (λ (x : Carrier). x.ended) (concluded_carrier heard)) ∙
+        ap (λ (x : End). x.carrier.ended) (sym is) ∙ over in
     let same : heard ≡ after_packet e packet = sym (concludes_lasting heard.carrier.ended heard lasts) ∙ sym is in
     subst (λ (x : End). IsKnown x.carrier.given (then_came (inputs_told c.events) past) x.lines) same
     (subst (λ n. IsKnown n (then_came (inputs_told c.events) past) heard.lines) (sym (times_given (length c.events) mid))
@@ -243,7 +291,8 @@ takes_last : (units : List (List ℕ)) (e new : End) → TakesPackets e units ne
 takes_last [] e new h lasts = ap (λ (x : End). x.carrier.ended) (sym h) ∙ lasts
 takes_last (u ∷ units) e new h lasts = lasting_of e.carrier.ended (waits e.lines) h.0
 
-packets_made : SessionLaws → (units : List (List ℕ)) (old new : End) (past : Past) → TakesPackets old units new → IsAttended old → IsSound old → IsOrdered old → new.carrier.ended ≡ None →
+packets_made : SessionLaws → (units : List (List ℕ)) (old new : End) (past : Past) → TakesPackets old units new → IsAttended old →
+    IsSound old → IsOrdered old → new.carrier.ended ≡ None →
     IsKnown old.carrier.given past old.lines → IsKnown new.carrier.given (then_came (told_along old units) past) new.lines
 packets_made laws [] old new past h attended sound o over k =
     subst (λ (x : End). IsKnown x.carrier.given (then_came [] past) x.lines) (sym h) (none_known old.carrier.given past old.lines k)
@@ -253,7 +302,8 @@ packets_made laws (u ∷ units) old new past h attended sound o over k =
     let first = inputs_told (carriers.after_packet old.carrier u).events in
     let now = packet_made u old past (attended lasts) (sound lasts) o (takes_last units next new h.1 over) k in
     subst (λ (p : Past). IsKnown new.carrier.given p new.lines) (then_joined first (told_along next units) past)
-    (packets_made laws units next new (then_came first past) h.1 (attended_then (with_carrier (carriers.after_packet old.carrier u) old) next (packet_is old u))
+    (packets_made laws units next new (then_came first past) h.1
+        (attended_then (with_carrier (carriers.after_packet old.carrier u) old) next (packet_is old u))
     (packet_sound laws u old lasts (attended lasts) sound) (packet_ordered u old (attended lasts) (sound lasts) o) over now)
 
 -- ---- a call that feeds, tells or carries
@@ -268,22 +318,29 @@ record Served (old : Holding) (call : Call) (new : Holding) : Type 0 where
   packets : List (List ℕ)
   cut : ArePackets packets (old.held.octets ++ used_in call) new.held.octets
   partial : IsPartial old.held.octets → IsPartial new.held.octets
-  known : (past : Past) → IsKnown old.end.carrier.given past old.end.lines → IsKnown new.end.carrier.given (then_came (told_along old.end packets) past) new.end.lines
+  known : (past : Past) → IsKnown old.end.carrier.given past old.end.lines →
+      IsKnown new.end.carrier.given (then_came (told_along old.end packets) past) new.end.lines
 
-served_by : SessionLaws → (old : Holding) (call : Call) (new : Holding) (one : ReadsOne old call new) → TakesPackets old.end one.packets new.end → IsSane old.end → new.end.carrier.ended ≡ None →
+served_by : SessionLaws → (old : Holding) (call : Call) (new : Holding) (one : ReadsOne old call new) →
+    TakesPackets old.end one.packets new.end → IsSane old.end → new.end.carrier.ended ≡ None →
     Served old call new
 served_by laws old call new one taken s over = search (arith, packets_made)
 
-served_goes : SessionLaws → IsPartial [] → (old : Holding) (piece : List ℕ) (fed : Fed) (new : Holding) → Goes old piece fed.used new → IsSane old.end → new.end.carrier.ended ≡ None →
+served_goes : SessionLaws → IsPartial [] → (old : Holding) (piece : List ℕ) (fed : Fed) (new : Holding) → Goes old piece fed.used new →
+    IsSane old.end → new.end.carrier.ended ≡ None →
     Served old (feeding piece fed) new
 unfolding reads_dry reads_stopped
-served_goes laws nothing old piece fed new (inl (inl dry)) s lasts = served_by laws old (feeding piece fed) new (reads_dry old piece fed new dry) dry.taken s lasts
-served_goes laws nothing old piece fed new (inl (inr stop)) s lasts = served_by laws old (feeding piece fed) new (reads_stopped nothing old piece fed new stop lasts) stop.taken s lasts
-served_goes laws nothing old piece fed new (inr (inl fault)) s lasts = never new.end (ap (λ (x : End). is_some x.carrier.ended) fault.ended) lasts
+served_goes laws nothing old piece fed new (inl (inl dry)) s lasts =
+    served_by laws old (feeding piece fed) new (reads_dry old piece fed new dry) dry.taken s lasts
+served_goes laws nothing old piece fed new (inl (inr stop)) s lasts =
+    served_by laws old (feeding piece fed) new (reads_stopped nothing old piece fed new stop lasts) stop.taken s lasts
+served_goes laws nothing old piece fed new (inr (inl fault)) s lasts =
+    never new.end (ap (λ (x : End). is_some x.carrier.ended) fault.ended) lasts
 served_goes laws nothing old piece fed new (inr (inr starved)) s lasts = never new.end (none_ended old piece fed.used new starved) lasts
 
 -- no octet was used, and no session received anything
-served_still : (old : Holding) (call : Call) (new : Holding) → used_in call ≡ [] → new.held.octets ≡ old.held.octets → new.end.carrier.given ≡ old.end.carrier.given →
+served_still : (old : Holding) (call : Call) (new : Holding) → used_in call ≡ [] → new.held.octets ≡ old.held.octets →
+    new.end.carrier.given ≡ old.end.carrier.given →
     ((r : ℕ) → kept_at r new.end.lines ≡ kept_at r old.end.lines) → Served old call new
 served_still old call new none held given same = record {
   packets = [];
@@ -296,18 +353,22 @@ served_still old call new none held given same = record {
   });
 }
 
-served_feed : SessionLaws → IsPartial [] → (old : Holding) (piece : List ℕ) (fed : Fed) (new : Holding) (waiting : Bool) → waits old.end.lines ≡ waiting → old.end.carrier.ended ≡ None →
+served_feed : SessionLaws → IsPartial [] → (old : Holding) (piece : List ℕ) (fed : Fed) (new : Holding) (waiting : Bool) →
+    waits old.end.lines ≡ waiting → old.end.carrier.ended ≡ None →
     Feeds old piece fed new → IsSane old.end → new.end.carrier.ended ≡ None → Served old (feeding piece fed) new
-served_feed laws nothing old piece fed new waiting e quiet h s lasts = search (arith, served_still, feeding, take, kept_at, served_goes, is_some, waits)
+served_feed laws nothing old piece fed new waiting e quiet h s lasts =
+    search (arith, served_still, feeding, take, kept_at, served_goes, is_some, waits)
 
-served : SessionLaws → IsPartial [] → (old : Holding) (call : Call) (new : Holding) → Calls old call new → IsSane old.end → new.end.carrier.ended ≡ None → Served old call new
+served : SessionLaws → IsPartial [] → (old : Holding) (call : Call) (new : Holding) → Calls old call new → IsSane old.end →
+    new.end.carrier.ended ≡ None → Served old call new
 served laws nothing old (feeding piece fed) new h s lasts =
     served_feed laws nothing old piece fed new (waits old.end.lines) refl (call_lasts old (feeding piece fed) new h lasts) h s lasts
 served laws nothing old (telling shown) new h s lasts =
     served_still old (telling shown) new refl (ap (λ (x : Holding). x.held.octets) h.1) (ap (λ (x : Holding). x.end.carrier.given) h.1)
     (λ r. ap (λ (x : Holding). kept_at r x.end.lines) h.1 ∙ kept_first r old.end.lines)
 served laws nothing old (carrying octets) new h s lasts =
-    served_still old (carrying octets) new refl (ap (λ (x : Holding). x.held.octets) (sym h)) (ap (λ (x : Holding). x.end.carrier.given) (sym h))
+    served_still old (carrying octets) new refl (ap (λ (x : Holding). x.held.octets) (sym h))
+        (ap (λ (x : Holding). x.end.carrier.given) (sym h))
     (λ r. ap (λ (x : Holding). kept_at r x.end.lines) (sym h))
 
 -- ---- an end keeps its invariant
@@ -319,15 +380,19 @@ sane_first : (e : End) → IsSane e → IsSane (record e { lines = without_first
 sane_first e s = record { attended = s.attended; sound = first_sound e s.sound; ordered = first_ordered e s.ordered }
 
 pub sane_served : SessionLaws → (old : Holding) (call : Call) (new : Holding) → Calls old call new → IsSane old.end → IsSane new.end
-sane_served laws old (feeding piece fed) new h s = search (feeds_attended old new piece fed h s.attended, feeds_sound laws old new piece fed h s.attended s.sound, feeds_ordered laws old new piece fed h s.attended s.sound s.ordered)
+sane_served laws old (feeding piece fed) new h s =
+    search (feeds_attended old new piece fed h s.attended, feeds_sound laws old new piece fed h s.attended s.sound,
+    feeds_ordered laws old new piece fed h s.attended s.sound s.ordered)
 sane_served laws old (telling shown) new h s = subst (λ (x : Holding). IsSane x.end) (sym h.1) (sane_first old.end s)
 sane_served laws old (carrying octets) new h s = sane_carried octets new.end (subst (λ (x : Holding). IsSane x.end) h s)
 
 pub sane_connect : (c : Connect) (e : End) → connect_error c e ≡ None → IsSane e → IsSane (connects c e)
-sane_connect c e allowed s = search (connect_attended c e s.attended, connect_sound c e allowed s.sound, connect_ordered c e allowed s.sound s.ordered)
+sane_connect c e allowed s =
+    search (connect_attended c e s.attended, connect_sound c e allowed s.sound, connect_ordered c e allowed s.sound s.ordered)
 
 pub sane_call : SessionLaws → (r : ℕ) (call : SessionCall) (e : End) → IsSane e → IsSane (to_session r (called call) e)
-sane_call laws r call e s = search (session_attended r (called call) e s.attended, call_sound laws r call e s.sound, call_ordered r (called call) e s.ordered)
+sane_call laws r call e s =
+    search (session_attended r (called call) e s.attended, call_sound laws r call e s.sound, call_ordered r (called call) e s.ordered)
 
 -- ---- a call of the user
 
@@ -338,10 +403,12 @@ session_left line (Some s) is = ap (option_map (λ s. after_input s linked_down)
 asked_here : (q : ℕ) (c : Connect) (past : Past) → value_at q past.asked ≡ None → inputs_of q past.inputs ≡ [] →
     made_at q (record past { asked = past.asked ++ (q, c) ∷ [] }) ≡ calls_with c
 asked_here q c past unasked unheard =
-    ap (λ (l : List Input). after_inputs (begun_as (value_at q (past.asked ++ (q, c) ∷ []))) l) unheard ∙ ap begun_as (push_here q c past.asked unasked)
+    ap (λ (l : List Input). after_inputs (begun_as (value_at q (past.asked ++ (q, c) ∷ []))) l) unheard ∙
+        ap begun_as (push_here q c past.asked unasked)
 
 asked_other : (r q : ℕ) (c : Connect) (past : Past) → r ≢ q → made_at r (record past { asked = past.asked ++ (q, c) ∷ [] }) ≡ made_at r past
-asked_other r q c past ne = ap (λ (o : Option Connect). after_inputs (begun_as o) (inputs_of r past.inputs)) (push_other r q c past.asked ne)
+asked_other r q c past ne =
+    ap (λ (o : Option Connect). after_inputs (begun_as o) (inputs_of r past.inputs)) (push_other r q c past.asked ne)
 
 connect_known : (c : Connect) (e : End) (past : Past) → Soundness e → IsKnown e.carrier.given past e.lines →
     IsKnown (e.carrier.given + 1) (past_called (connecting c) e past) (connects c e).lines
@@ -349,10 +416,12 @@ connect_known c e past s k =
     let q = e.carrier.given + 1 in
     let none : value_at q e.lines ≡ None = beyond q e.carrier.given e.lines s.known (omega arith) in
     let live = (asks (option_map tsap_octets c.calling_tsap) (option_map tsap_octets c.called_tsap) e.carrier).live in
-    let stays = (λ (r : ℕ). used_at r live (joined_lines q (calls_with c) e.lines) (apart_push q (fresh_line (calls_with c)) e.lines none s.apart)) in
+    let stays = (λ (r : ℕ). used_at r live (joined_lines q (calls_with c) e.lines)
+        (apart_push q (fresh_line (calls_with c)) e.lines none s.apart)) in
     record {
       made = λ r t is. elim (kept_joined q r (calls_with c) t live e.lines (q == r) refl none (stays r) is) [
-        | inl h ↦ h.1 ∙ sym (asked_here q c past (k.unasked q (omega arith)) (k.unheard q (omega arith))) ∙ ap (λ n. made_at n (past_called (connecting c) e past)) h.0
+        | inl h ↦ h.1 ∙ sym (asked_here q c past (k.unasked q (omega arith)) (k.unheard q (omega arith))) ∙
+            ap (λ n. made_at n (past_called (connecting c) e past)) h.0
         | inr h ↦ k.made r t h.1 ∙ sym (asked_other r q c past (λ same. h.0 (sym same)))
       ];
       unasked = λ r up. push_other r q c past.asked (λ same. absurd (omega arith)) ∙ k.unasked r (omega arith);
@@ -363,12 +432,15 @@ live_by : (o : Option Connection) (kept : Option Listener) (s : Listener) → (i
 live_by None kept s h = cc
 live_by (Some c) kept s h = refl
 
-call_known : (r : ℕ) (call : SessionCall) (e : End) (past : Past) → call_error r call e ≡ None → Soundness e → IsKnown e.carrier.given past e.lines →
+call_known : (r : ℕ) (call : SessionCall) (e : End) (past : Past) → call_error r call e ≡ None → Soundness e →
+    IsKnown e.carrier.given past e.lines →
     IsKnown (to_session r (called call) e).carrier.given (past_called (calling r call) e past) (to_session r (called call) e).lines
 call_known r call e past allowed s k =
     let says = says_is r call e allowed in
-    let up = up_at r e.carrier.given e.carrier.live s.orderly.up_to (live_by (value_at r e.carrier.live) (session_in (value_at r e.lines)) says.acts.session says.live) in
-    subst (λ n. IsKnown n (past_called (calling r call) e past) (to_session r (called call) e).lines) (sym (session_carried (λ k. k.given ≡ e.carrier.given) (session_given e.carrier) r (called call) e refl))
+    let up = up_at r e.carrier.given e.carrier.live s.orderly.up_to
+        (live_by (value_at r e.carrier.live) (session_in (value_at r e.lines)) says.acts.session says.live) in
+    subst (λ n. IsKnown n (past_called (calling r call) e past) (to_session r (called call) e).lines)
+        (sym (session_carried (λ k. k.given ≡ e.carrier.given) (session_given e.carrier) r (called call) e refl))
     (given_known e.carrier.given r (called call) e past up k)
 
 -- what is left of sessions if one is given up is what a break leaves of it
@@ -379,13 +451,16 @@ given_line r line o lines is here q = by (q == r) refl
     by : (b : Bool) → (q == r) ≡ b → kept_at q (put r (given_up line) lines) ≡ kept_at q (put r (line_by line o linked_down) lines)
     by true e =
         let same = eqb-true q r e in
-        ap (λ n. kept_at n (put r (given_up line) lines)) same ∙ ap session_in (put_here r (given_up line) line lines here) ∙ session_left line o is
-        ∙ sym (ap (λ n. kept_at n (put r (line_by line o linked_down) lines)) same ∙ ap session_in (put_here r (line_by line o linked_down) line lines here))
+        ap (λ n. kept_at n (put r (given_up line) lines)) same ∙ ap session_in (put_here r (given_up line) line lines here) ∙
+            session_left line o is
+        ∙ sym (ap (λ n. kept_at n (put r (line_by line o linked_down) lines)) same ∙
+            ap session_in (put_here r (line_by line o linked_down) line lines here))
     by false e =
         let ne : q ≢ r = (λ same. both (q == r) (eq-eqb q r same) e) in
         ap session_in (put_other q r (given_up line) lines ne) ∙ sym (ap session_in (put_other q r (line_by line o linked_down) lines ne))
 
-given_same : (r : ℕ) (e : End) (o : Option Line) → value_at r e.lines ≡ o → (q : ℕ) → kept_at q (gives_up_by r o e.lines) ≡ kept_at q (by_line r o linked_down e).lines
+given_same : (r : ℕ) (e : End) (o : Option Line) → value_at r e.lines ≡ o → (q : ℕ) →
+    kept_at q (gives_up_by r o e.lines) ≡ kept_at q (by_line r o linked_down e).lines
 given_same r e None here q = refl
 given_same r e (Some line) here q = given_line r line line.session e.lines refl here q
 
@@ -396,7 +471,8 @@ accepted_given : (b waits : Bool) → (if not b then Some NoSuchConnection else 
 accepted_given true waits h = refl
 accepted_given false waits h = cc
 
-disconnect_known : (r : ℕ) (e : End) (past : Past) → disconnect_error r e ≡ None → (disconnects r e).carrier.ended ≡ None → IsKnown e.carrier.given past e.lines →
+disconnect_known : (r : ℕ) (e : End) (past : Past) → disconnect_error r e ≡ None → (disconnects r e).carrier.ended ≡ None →
+    IsKnown e.carrier.given past e.lines →
     IsKnown (disconnects r e).carrier.given (past_called (disconnecting r) e past) (disconnects r e).lines
 disconnect_known r e past allowed lasts k =
     let low = given_of r e.carrier (accepted_given (has_given r e.carrier) (awaits_transport (session_at r e)) allowed) in
@@ -410,7 +486,9 @@ disconnect_known r e past allowed lasts k =
     }))
 
 sane_disconnect : (r : ℕ) (e : End) → IsSane e → IsSane (disconnects r e)
-sane_disconnect r e s = record { attended = disconnect_attended r e s.attended; sound = disconnect_sound r e s.sound; ordered = disconnect_ordered r e s.ordered }
+sane_disconnect r e s =
+    record { attended = disconnect_attended r e s.attended; sound = disconnect_sound r e s.sound;
+    ordered = disconnect_ordered r e s.ordered }
 
 -- ---- steps
 
@@ -426,39 +504,48 @@ break_over : (over : Bool) (e : End) → is_some e.carrier.ended ≡ over → is
 break_over true e is = is
 break_over false e is = refl
 
-used_run : SessionLaws → (call : UserCall) (old : Holding) (before : Past) → old.end.carrier.ended ≡ None → IsAccepted call old.end → (user_does call old.end).carrier.ended ≡ None →
+used_run : SessionLaws → (call : UserCall) (old : Holding) (before : Past) → old.end.carrier.ended ≡ None → IsAccepted call old.end →
+    (user_does call old.end).carrier.ended ≡ None →
     IsRun old before → IsRun (record old { end = user_does call old.end }) (past_called call old.end before)
-used_run laws (connecting c) old before quiet allowed lasts run = search (sane_connect c old.end allowed run.sane, connect_known c old.end before (run.sane.sound quiet) run.known)
-used_run laws (calling r call) old before quiet allowed lasts run = search (sane_call laws r call old.end run.sane, call_known r call old.end before allowed (run.sane.sound quiet) run.known)
+used_run laws (connecting c) old before quiet allowed lasts run =
+    search (sane_connect c old.end allowed run.sane, connect_known c old.end before (run.sane.sound quiet) run.known)
+used_run laws (calling r call) old before quiet allowed lasts run =
+    search (sane_call laws r call old.end run.sane, call_known r call old.end before allowed (run.sane.sound quiet) run.known)
 used_run laws (disconnecting r) old before quiet allowed lasts run = record {
   sane = sane_disconnect r old.end run.sane;
   partial = run.partial;
   known = disconnect_known r old.end before allowed lasts run.known;
 }
-used_run laws breaking old before quiet allowed lasts run = never (breaks old.end) (break_over (is_some old.end.carrier.ended) old.end refl) lasts
+used_run laws breaking old before quiet allowed lasts run =
+    never (breaks old.end) (break_over (is_some old.end.carrier.ended) old.end refl) lasts
 
-step_run : SessionLaws → IsPartial [] → OneCut → (step : Step) (old new : Holding) (before behind : Past) → Steps old before step new behind → new.end.carrier.ended ≡ None →
+step_run : SessionLaws → IsPartial [] → OneCut → (step : Step) (old new : Holding) (before behind : Past) →
+    Steps old before step new behind → new.end.carrier.ended ≡ None →
     IsRun old before → IsRun new behind
 step_run laws nothing one_cut (serving call packets) old new before behind h lasts run =
     let s = served laws nothing old call new h.0 run.sane lasts in
     let partial = s.partial run.partial in
     let one = one_cut (old.held.octets ++ used_in call) new.held.octets new.held.octets s.packets packets partial partial s.cut h.1 in
-    search (sane_served laws old call new h.0 run.sane, subst (λ (p : Past). IsKnown new.end.carrier.given p new.end.lines) (ap (λ (l : List (List ℕ)). then_came (told_along old.end l) before) one.0 ∙ sym h.2) (s.known before run.known))
+    search (sane_served laws old call new h.0 run.sane, subst (λ (p : Past). IsKnown new.end.carrier.given p new.end.lines)
+        (ap (λ (l : List (List ℕ)). then_came (told_along old.end l) before) one.0 ∙ sym h.2) (s.known before run.known))
 step_run laws nothing one_cut (using call) old new before behind h lasts run =
     subst (λ (x : Holding). IsRun x behind) (sym h.2)
     (subst (λ (p : Past). IsRun (record old { end = user_does call old.end }) p) (sym h.3)
     (used_run laws call old before h.0 h.1 (ap (λ (x : Holding). x.end.carrier.ended) (sym h.2) ∙ lasts) run))
 
-step_lasts : (step : Step) (old new : Holding) (before behind : Past) → Steps old before step new behind → new.end.carrier.ended ≡ None → old.end.carrier.ended ≡ None
+step_lasts : (step : Step) (old new : Holding) (before behind : Past) → Steps old before step new behind → new.end.carrier.ended ≡ None →
+    old.end.carrier.ended ≡ None
 step_lasts (serving call packets) old new before behind h lasts = call_lasts old call new h.0 lasts
 step_lasts (using call) old new before behind h lasts = h.0
 
-steps_last : (steps : List Step) (old new : Holding) (before behind : Past) → StepsAlong old before steps new behind → new.end.carrier.ended ≡ None → old.end.carrier.ended ≡ None
+steps_last : (steps : List Step) (old new : Holding) (before behind : Past) → StepsAlong old before steps new behind →
+    new.end.carrier.ended ≡ None → old.end.carrier.ended ≡ None
 steps_last [] old new before behind h lasts = ap (λ (x : Holding). x.end.carrier.ended) (sym h.0) ∙ lasts
 steps_last (step ∷ steps) old new before behind h lasts =
     step_lasts step old h.0 before h.1 h.2 (steps_last steps h.0 new h.1 behind h.3 lasts)
 
-steps_run : SessionLaws → IsPartial [] → OneCut → (steps : List Step) (old new : Holding) (before behind : Past) → StepsAlong old before steps new behind → new.end.carrier.ended ≡ None →
+steps_run : SessionLaws → IsPartial [] → OneCut → (steps : List Step) (old new : Holding) (before behind : Past) →
+    StepsAlong old before steps new behind → new.end.carrier.ended ≡ None →
     IsRun old before → IsRun new behind
 steps_run laws nothing one_cut [] old new before behind h lasts run =
     subst (λ (x : Holding). IsRun x behind) (sym h.0) (subst (λ (p : Past). IsRun old p) (sym h.1) run)
@@ -466,6 +553,9 @@ steps_run laws nothing one_cut (step ∷ steps) old new before behind h lasts ru
     steps_run laws nothing one_cut steps h.0 new h.1 behind h.3 lasts
     (step_run laws nothing one_cut step old h.0 before h.1 h.2 (steps_last steps h.0 new h.1 behind h.3 lasts) run)
 
-pub made_along : SessionLaws → IsPartial [] → OneCut → (is_caller : Bool) (local : Local) (steps : List Step) (new : Holding) (past : Past) →
-    StepsAlong (record { end = fresh_end is_caller local; held = fresh }) no_past steps new past → new.end.carrier.ended ≡ None → AreMadeBy past new.end
-made_along laws nothing one_cut is_caller local steps new past h lasts = grind (arith, steps_run, fresh_end, fresh, no_past, fresh_sound, fresh_ordered)
+pub made_along : SessionLaws → IsPartial [] → OneCut →
+    (is_caller : Bool) (local : Local) (steps : List Step) (new : Holding) (past : Past) →
+    StepsAlong (record { end = fresh_end is_caller local; held = fresh }) no_past steps new past → new.end.carrier.ended ≡ None →
+        AreMadeBy past new.end
+made_along laws nothing one_cut is_caller local steps new past h lasts =
+    grind (arith, steps_run, fresh_end, fresh, no_past, fresh_sound, fresh_ordered)

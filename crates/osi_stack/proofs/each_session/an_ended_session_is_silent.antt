@@ -1,13 +1,18 @@
 -- A session that has ended indicates nothing, whatever happens to it: a received unit, a call, or its transport
 -- connection being opened, refused or lost.
-use Rattle.std.proofs.Common.{◌≡◌, ℕ, ◌==◌, ◌||◌, Bool, true, false, List, [], ◌∷◌, ◌++◌, Option, Some, None, Result, Ok, Err, refl, sym, ap, ◌∙◌, if◌then◌else◌, arith}
+use Rattle.std.proofs.Common.{◌≡◌, ℕ, ◌==◌, ◌||◌, Bool, true, false, List, [], ◌∷◌, ◌++◌, Option, Some, None, Result, Ok, Err, refl, sym}
+use Rattle.std.proofs.Common.{ap, ◌∙◌, if◌then◌else◌, arith}
 use Rattle.osi_session.proofs.tables.what_is_true_of_each_phase.{excluded}
 use Rattle.osi_session.proofs.runs.what_every_run_preserves.{word_ended}
-use Rattle.osi_session.specs.Joining.{Taker, respond_word, respond_words, respond_tsdu, acting_words, word_verdict, enacted_word, heard, heard_then, idle}
+use Rattle.osi_session.specs.Joining.{Taker, respond_word, respond_words, respond_tsdu, acting_words, word_verdict, enacted_word, heard}
+use Rattle.osi_session.specs.Joining.{heard_then, idle}
 use Rattle.osi_session.specs.Phases.{is_aborting}
 use Rattle.osi_session.specs.Respond.{Verdict, over, is_faulty, enacted, in_ended, respond_fault}
 use Rattle.osi_session.specs.Allowed.{Answer, allowed}
-use Rattle.osi_stack.proofs.Vocabulary.{append-nil, put_here, value_at, Rows, Meaning, SpduFault, Word, Words, as_message, SessionState as State, Call, Input, Listener, called, taken, unread, opened, refused, broken, answered, react, is_ended, is_over, Phase, implied, is_wait_transport, shows_loss, kept_at, waiting_of, waiting_at, line_by, by_line, to_session, Line, End, session_in}
+use Rattle.osi_stack.proofs.Vocabulary.{append-nil, put_here, value_at, Rows, Meaning, SpduFault, Word, Words, as_message}
+use Rattle.osi_stack.proofs.Vocabulary.{SessionState as State, Call, Input, Listener, called, taken, unread, opened, refused, broken}
+use Rattle.osi_stack.proofs.Vocabulary.{answered, react, is_ended, is_over, Phase, implied, is_wait_transport, shows_loss, kept_at}
+use Rattle.osi_stack.proofs.Vocabulary.{waiting_of, waiting_at, line_by, by_line, to_session, Line, End, session_in}
 
 ended_over : (p : Phase) → is_ended p ≡ true → is_over p ≡ true
 ended_over p h = implied is_ended is_over refl p h
@@ -29,7 +34,8 @@ word_silent t w h =
     ap (λ (v : Verdict). (enacted_word t w v).shown) (verdict_over t w h)
     ∙ enacted_over t.state (as_message w) (is_aborting t.state.phase) refl (excluded is_ended is_aborting refl t.state.phase h)
 
-words_by : (t : Taker) (w : Word) (ws : Words) (b : Bool) → is_faulty (word_verdict t w) ≡ b → b ≡ false → (respond_word t w).shown ≡ [] → (respond_words (respond_word t w).next ws).shown ≡ [] →
+words_by : (t : Taker) (w : Word) (ws : Words) (b : Bool) → is_faulty (word_verdict t w) ≡ b → b ≡ false → (respond_word t w).shown ≡ [] →
+    (respond_words (respond_word t w).next ws).shown ≡ [] →
     (respond_words t (w ∷ ws)).shown ≡ []
 unfolding respond_words
 words_by t w ws b at none one more = rw (at ∙ none) (ap (λ l. l ++ (respond_words (respond_word t w).next ws).shown) one ∙ more)
@@ -62,13 +68,15 @@ ended_silent s broken h = let w = excluded is_ended shows_loss refl s.state.phas
 
 -- ---- its line
 
-line_silent : (line : Line) (o : Option Listener) (input : Input) → line.session ≡ o → (s : Listener) → o ≡ Some s → is_ended s.state.phase ≡ true → (line_by line o input).waiting ≡ line.waiting
+line_silent : (line : Line) (o : Option Listener) (input : Input) → line.session ≡ o → (s : Listener) → o ≡ Some s →
+    is_ended s.state.phase ≡ true → (line_by line o input).waiting ≡ line.waiting
 line_silent line None input here s is h = cc
 line_silent line (Some t) input here s is h =
     let one : t ≡ s = cc in
     ap (λ l. line.waiting ++ l) (ended_silent t input (ap (λ (x : Listener). is_ended x.state.phase) one ∙ h)) ∙ append-nil line.waiting
 
-silent_by : (r : ℕ) (input : Input) (s : Listener) (e : End) (o : Option Line) → value_at r e.lines ≡ o → session_in o ≡ Some s → is_ended s.state.phase ≡ true →
+silent_by : (r : ℕ) (input : Input) (s : Listener) (e : End) (o : Option Line) → value_at r e.lines ≡ o → session_in o ≡ Some s →
+    is_ended s.state.phase ≡ true →
     waiting_at r (by_line r o input e).lines ≡ waiting_of o
 silent_by r input s e None here is h = cc
 silent_by r input s e (Some line) here is h =

@@ -1,8 +1,12 @@
 -- The parts of one Data have on an end the effect of the whole, whatever calls come between.
-use Rattle.std.proofs.Common.{◌≡◌, ℕ, ◌==◌, Bool, true, false, List, [], ◌∷◌, ◌++◌, map, Option, Some, None, refl, sym, ap, ◌∙◌, if◌then◌else◌, arith}
+use Rattle.std.proofs.Common.{◌≡◌, ℕ, ◌==◌, Bool, true, false, List, [], ◌∷◌, ◌++◌, map, Option, Some, None, refl, sym, ap, ◌∙◌}
+use Rattle.std.proofs.Common.{if◌then◌else◌, arith}
 use Rattle.osi_session.specs.Parts.{AreAlike}
 use Rattle.osi_stack.specs.Parted.{to_session_along}
-use Rattle.osi_stack.proofs.Vocabulary.{append-nil, Rows, value_at, put, State as Carrier, put_here, put_same, Meaning, part_octets, tsdus_sent, Input, Listener, Move, called, came, react, after_inputs, Act, comes, calls, act_in_octets, calls_in, IsSilent, AreSilent, Shown, limit_of, kept_at, limit_for, answers, line_by, by_line, to_session, Selectors, selectors_told, shows_connect, Line, End, session_in, answers_by}
+use Rattle.osi_stack.proofs.Vocabulary.{append-nil, Rows, value_at, put, State as Carrier, put_here, put_same, Meaning, part_octets}
+use Rattle.osi_stack.proofs.Vocabulary.{tsdus_sent, Input, Listener, Move, called, came, react, after_inputs, Act, comes, calls}
+use Rattle.osi_stack.proofs.Vocabulary.{act_in_octets, calls_in, IsSilent, AreSilent, Shown, limit_of, kept_at, limit_for, answers, line_by}
+use Rattle.osi_stack.proofs.Vocabulary.{by_line, to_session, Selectors, selectors_told, shows_connect, Line, End, session_in, answers_by}
 use Rattle.osi_stack.proofs.called.tsdus_that_are_handed_together.{hands_none}
 
 -- ---- the end with a session at a reference
@@ -18,7 +22,8 @@ put_twice r x y ((q, z) ∷ rows) = put_twice_by r q x y z rows (q == r) refl (p
 
 -- with these pending indications for its user, and with these selectors
 abbrev at : ℕ → Carrier → Listener → List Shown → Option Selectors → Rows Line → End
-at r c l waiting selectors rows = record { carrier = c; lines = put r (record { session = Some l; waiting = waiting; selectors = selectors }) rows }
+at r c l waiting selectors rows =
+    record { carrier = c; lines = put r (record { session = Some l; waiting = waiting; selectors = selectors }) rows }
 
 -- its selectors after a move with these indications
 abbrev names : List Shown → Option Selectors → Option Selectors → Option Selectors
@@ -29,22 +34,27 @@ record HasLine (r : ℕ) (rows : Rows Line) : Type 0 where
   line : Line
   here : value_at r rows ≡ Some line
 
-moves_at : (r : ℕ) (input : Input) (c : Carrier) (l : Listener) (waiting : List Shown) (selectors : Option Selectors) (rows : Rows Line) → HasLine r rows →
+moves_at : (r : ℕ) (input : Input) (c : Carrier) (l : Listener) (waiting : List Shown) (selectors : Option Selectors) (rows : Rows Line) →
+    HasLine r rows →
     to_session r input (at r c l waiting selectors rows)
-    ≡ at r (answers r (limit_for l input) (react l input) c) (react l input).next (waiting ++ (react l input).shown) (names (react l input).shown (selectors_told input) selectors) rows
+    ≡ at r (answers r (limit_for l input) (react l input) c) (react l input).next (waiting ++ (react l input).shown)
+        (names (react l input).shown (selectors_told input) selectors) rows
 moves_at r input c l waiting selectors rows h =
     let line : Line = record { session = Some l; waiting = waiting; selectors = selectors } in
     let there = put_here r line h.line rows h.here in
     ap (λ (o : Option Line). by_line r o input (at r c l waiting selectors rows)) there
-    ∙ ap (λ (x : Rows Line). record { carrier = answers r (limit_for l input) (react l input) c; lines = x }) (put_twice r (line_by line (Some l) input) line rows)
+    ∙ ap (λ (x : Rows Line). record { carrier = answers r (limit_for l input) (react l input) c; lines = x })
+        (put_twice r (line_by line (Some l) input) line rows)
 
 -- ---- a part before the last, and a call
 
 quiet_answers : (r limit : ℕ) (move : Move) (c : Carrier) → IsSilent move → answers r limit move c ≡ c
 quiet_answers r limit move c s =
-    ap (λ (b : Bool). answers_by b r (tsdus_sent limit move.reply) c) s.closes ∙ ap (λ (o : Option Meaning). answers_by false r (tsdus_sent limit o) c) s.reply ∙ hands_none r c
+    ap (λ (b : Bool). answers_by b r (tsdus_sent limit move.reply) c) s.closes ∙
+        ap (λ (o : Option Meaning). answers_by false r (tsdus_sent limit o) c) s.reply ∙ hands_none r c
 
-silent_at : (r : ℕ) (input : Input) (c : Carrier) (l : Listener) (waiting : List Shown) (selectors : Option Selectors) (rows : Rows Line) → HasLine r rows → IsSilent (react l input) →
+silent_at : (r : ℕ) (input : Input) (c : Carrier) (l : Listener) (waiting : List Shown) (selectors : Option Selectors) (rows : Rows Line) →
+    HasLine r rows → IsSilent (react l input) →
     to_session r input (at r c l waiting selectors rows) ≡ at r c (react l input).next waiting selectors rows
 silent_at r input c l waiting selectors rows h s = grind (arith, moves_at, react, selectors_told, quiet_answers, limit_for, append-nil)
 
@@ -61,10 +71,13 @@ record Runs (r : ℕ) (rows : Rows Line) (l m : Listener) (a b : End) : Type 0 w
   parts : a ≡ at r carrier l waiting selectors rows
   whole : b ≡ at r carrier m waiting selectors rows
 
-runs : (r : ℕ) (rows : Rows Line) (c : Carrier) (waiting : List Shown) (selectors : Option Selectors) (l m : Listener) (acts : List Act) → HasLine r rows → AreSilent l m acts →
-    Runs r rows (after_inputs l (map act_in_octets acts)) (after_inputs m (calls_in acts)) (to_session_along r (map act_in_octets acts) (at r c l waiting selectors rows))
+runs : (r : ℕ) (rows : Rows Line) (c : Carrier) (waiting : List Shown) (selectors : Option Selectors) (l m : Listener) (acts : List Act) →
+    HasLine r rows → AreSilent l m acts →
+    Runs r rows (after_inputs l (map act_in_octets acts)) (after_inputs m (calls_in acts))
+        (to_session_along r (map act_in_octets acts) (at r c l waiting selectors rows))
     (to_session_along r (calls_in acts) (at r c m waiting selectors rows))
-runs r rows c waiting selectors l m [] h silent = record { carrier = c; waiting = waiting; selectors = selectors; parts = refl; whole = refl }
+runs r rows c waiting selectors l m [] h silent =
+    record { carrier = c; waiting = waiting; selectors = selectors; parts = refl; whole = refl }
 runs r rows c waiting selectors l m (comes place o ∷ acts) h silent =
     let input = came (part_octets place o) in
     let more = runs r rows c waiting selectors (react l input).next m acts h silent.1 in
@@ -72,27 +85,36 @@ runs r rows c waiting selectors l m (comes place o ∷ acts) h silent =
 runs r rows c waiting selectors l m (calls call ∷ acts) h silent =
     let one = react l (called call) in
     let two = react m (called call) in
-    let more = runs r rows (answers r (limit_of l.state) one c) (waiting ++ one.shown) (names one.shown None selectors) one.next two.next acts h silent.1 in
+    let more = runs r rows (answers r (limit_of l.state) one c) (waiting ++ one.shown) (names one.shown None selectors) one.next two.next
+        acts h silent.1 in
     let same : at r (answers r (limit_of m.state) two c) two.next (waiting ++ two.shown) (names two.shown None selectors) rows
     ≡ at r (answers r (limit_of l.state) one c) two.next (waiting ++ one.shown) (names one.shown None selectors) rows =
-    ap (λ (d : Carrier). at r d two.next (waiting ++ two.shown) (names two.shown None selectors) rows) (sym (alike_answers r (limit_of l.state) (limit_of m.state) one two c silent.0.0 silent.0.1))
-    ∙ ap (λ (w : List Shown). at r (answers r (limit_of l.state) one c) two.next (waiting ++ w) (names w None selectors) rows) (sym silent.0.1.shown) in
-    search (ap (to_session_along r (map act_in_octets acts)) (moves_at r (called call) c l waiting selectors rows h) ∙ more.parts, ap (to_session_along r (calls_in acts)) (moves_at r (called call) c m waiting selectors rows h ∙ same) ∙ more.whole)
+    ap (λ (d : Carrier). at r d two.next (waiting ++ two.shown) (names two.shown None selectors) rows)
+        (sym (alike_answers r (limit_of l.state) (limit_of m.state) one two c silent.0.0 silent.0.1))
+    ∙ ap (λ (w : List Shown). at r (answers r (limit_of l.state) one c) two.next (waiting ++ w) (names w None selectors) rows)
+        (sym silent.0.1.shown) in
+    search (ap (to_session_along r (map act_in_octets acts)) (moves_at r (called call) c l waiting selectors rows h) ∙ more.parts,
+        ap (to_session_along r (calls_in acts)) (moves_at r (called call) c m waiting selectors rows h ∙ same) ∙ more.whole)
 
 -- ---- the end as it was
 
-line_of : (o : Option Line) (session : Listener) → session_in o ≡ Some session → (line : Line) × (o ≡ Some line) × (line.session ≡ Some session)
+line_of : (o : Option Line) (session : Listener) → session_in o ≡ Some session →
+    (line : Line) × (o ≡ Some line) × (line.session ≡ Some session)
 line_of None session h = cc
 line_of (Some line) session h = (line, refl, h)
 
-stands_at : (r : ℕ) (session : Listener) (e : End) (line : Line) → value_at r e.lines ≡ Some line → line.session ≡ Some session → e ≡ at r e.carrier session line.waiting line.selectors e.lines
+stands_at : (r : ℕ) (session : Listener) (e : End) (line : Line) → value_at r e.lines ≡ Some line → line.session ≡ Some session →
+    e ≡ at r e.carrier session line.waiting line.selectors e.lines
 stands_at r session e line here is =
     ap (λ (x : Rows Line). record { carrier = e.carrier; lines = x })
-    (sym (put_same r line e.lines here) ∙ ap (λ (o : Option Listener). put r (record { session = o; waiting = line.waiting; selectors = line.selectors }) e.lines) is)
+    (sym (put_same r line e.lines here) ∙
+        ap (λ (o : Option Listener). put r (record { session = o; waiting = line.waiting; selectors = line.selectors }) e.lines) is)
 
-pub parts_as_whole : (r : ℕ) (session : Listener) (acts : List Act) (last whole : Input) (e : End) → kept_at r e.lines ≡ Some session → AreSilent session session acts →
+pub parts_as_whole : (r : ℕ) (session : Listener) (acts : List Act) (last whole : Input) (e : End) → kept_at r e.lines ≡ Some session →
+    AreSilent session session acts →
     react (after_inputs session (map act_in_octets acts)) last ≡ react (after_inputs session (calls_in acts)) whole →
-    limit_for (after_inputs session (map act_in_octets acts)) last ≡ limit_for (after_inputs session (calls_in acts)) whole → selectors_told last ≡ selectors_told whole →
+    limit_for (after_inputs session (map act_in_octets acts)) last ≡ limit_for (after_inputs session (calls_in acts)) whole →
+        selectors_told last ≡ selectors_told whole →
     to_session r last (to_session_along r (map act_in_octets acts) e) ≡ to_session r whole (to_session_along r (calls_in acts) e)
 parts_as_whole r session acts last whole e kept silent same sizes told =
     let parted = after_inputs session (map act_in_octets acts) in
@@ -104,9 +126,12 @@ parts_as_whole r session acts last whole e kept silent same sizes told =
     ap (λ (x : End). to_session r last (to_session_along r (map act_in_octets acts) x)) begun
     ∙ ap (to_session r last) both.parts
     ∙ moves_at r last both.carrier (after_inputs session (map act_in_octets acts)) both.waiting both.selectors e.lines h
-    ∙ ap (λ (m : Move). at r (answers r (limit_for parted last) m both.carrier) m.next (both.waiting ++ m.shown) (names m.shown (selectors_told last) both.selectors) e.lines) same
-    ∙ ap (λ (n : ℕ). at r (answers r n (react alone whole) both.carrier) (react alone whole).next (both.waiting ++ (react alone whole).shown) (names (react alone whole).shown (selectors_told last) both.selectors) e.lines) sizes
-    ∙ ap (λ (o : Option Selectors). at r (answers r (limit_for alone whole) (react alone whole) both.carrier) (react alone whole).next (both.waiting ++ (react alone whole).shown)
+    ∙ ap (λ (m : Move). at r (answers r (limit_for parted last) m both.carrier) m.next (both.waiting ++ m.shown)
+        (names m.shown (selectors_told last) both.selectors) e.lines) same
+    ∙ ap (λ (n : ℕ). at r (answers r n (react alone whole) both.carrier) (react alone whole).next
+        (both.waiting ++ (react alone whole).shown) (names (react alone whole).shown (selectors_told last) both.selectors) e.lines) sizes
+    ∙ ap (λ (o : Option Selectors). at r (answers r (limit_for alone whole) (react alone whole) both.carrier) (react alone whole).next
+        (both.waiting ++ (react alone whole).shown)
     (names (react alone whole).shown o both.selectors) e.lines) told
     ∙ sym (moves_at r whole both.carrier (after_inputs session (calls_in acts)) both.waiting both.selectors e.lines h)
     ∙ sym (ap (to_session r whole) both.whole)

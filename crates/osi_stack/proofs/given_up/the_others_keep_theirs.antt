@@ -1,11 +1,15 @@
 -- One connection is given up: the others keep all that is theirs, a DR is written in class 2 and the end ends in class
 -- 0, and nothing is pending for the user of that connection.
-use Rattle.std.proofs.Common.{◌≡◌, ◌≢◌, ℕ, Bool, true, false, [], ◌∷◌, ◌++◌, Option, Some, None, is_some, option_map, refl, sym, ap, subst, ◌∙◌, if◌then◌else◌}
+use Rattle.std.proofs.Common.{◌≡◌, ◌≢◌, ℕ, Bool, true, false, [], ◌∷◌, ◌++◌, Option, Some, None, is_some, option_map, refl, sym, ap, subst}
+use Rattle.std.proofs.Common.{◌∙◌, if◌then◌else◌}
 use Rattle.osi_carrier.specs.State.{writes, moves}
 use Rattle.osi_carrier.specs.declared.ends.EndReason.TheVariants.{Closed}
 use Rattle.osi_stack.specs.Disconnecting.{given_up, gives_up, disconnects, LeavesOthers}
-use Rattle.osi_stack.proofs.Vocabulary.{Standing as Link, Class, Zero, open_link, closes, closed_on, closed_with, disconnect, value_at, put_other, closing, carrier_ends, State as Carrier, Rows, Listener, after_input, broken, react, is_ended, shown_at_loss, all_lost, kept_at, waiting_of, waiting_at, Line, End, session_in}
-use Rattle.osi_stack.proofs.given_up.the_invariant_stays.{closed_and_given, disconnect_carrier, disconnect_lasts, disconnect_is, given_here, given_other, session_given}
+use Rattle.osi_stack.proofs.Vocabulary.{Standing as Link, Class, Zero, open_link, closes, closed_on, closed_with, disconnect, value_at}
+use Rattle.osi_stack.proofs.Vocabulary.{put_other, closing, carrier_ends, State as Carrier, Rows, Listener, after_input, broken, react}
+use Rattle.osi_stack.proofs.Vocabulary.{is_ended, shown_at_loss, all_lost, kept_at, waiting_of, waiting_at, Line, End, session_in}
+use Rattle.osi_stack.proofs.given_up.the_invariant_stays.{closed_and_given, disconnect_carrier, disconnect_lasts, disconnect_is, given_here}
+use Rattle.osi_stack.proofs.given_up.the_invariant_stays.{given_other, session_given}
 use Rattle.osi_stack.proofs.carried.what_a_move_leaves.{are_lost}
 use Rattle.osi_stack.proofs.sound.the_invariant_is_kept.{closed_given}
 
@@ -17,7 +21,8 @@ record IsLeft (r : ℕ) (old new : Carrier) : Type 0 where
   tsaps : new.tsaps ≡ old.tsaps
   class : new.class ≡ old.class
 
-left_by : (r peer : ℕ) (class : Option Class) (c : Carrier) → (closes r peer 128 class c).ended ≡ None → IsLeft r c (closes r peer 128 class c)
+left_by : (r peer : ℕ) (class : Option Class) (c : Carrier) → (closes r peer 128 class c).ended ≡ None →
+    IsLeft r c (closes r peer 128 class c)
 left_by r peer (Some Zero) c lasts = cc
 left_by r peer _ c lasts = record { live = λ q ne. put_other q r (closing peer) c.live ne; tsaps = refl; class = refl }
 
@@ -38,14 +43,16 @@ leaves_others r e over =
 
 -- ---- what is written
 
-asks_by : (r peer : ℕ) (class : Option Class) (c : Carrier) → (class ≡ Some Zero → ⊥) → closes r peer 128 class c ≡ writes (disconnect peer r 128 [] ∷ []) (moves r (closing peer) c)
+asks_by : (r peer : ℕ) (class : Option Class) (c : Carrier) → (class ≡ Some Zero → ⊥) →
+    closes r peer 128 class c ≡ writes (disconnect peer r 128 [] ∷ []) (moves r (closing peer) c)
 asks_by r peer (Some Zero) c other = absurd (other refl)
 asks_by r peer _ c other = refl
 
 pub asks_peer : (r peer : ℕ) (link : Link) (e : End) → open_link r e.carrier ≡ Some (peer, link) → (e.carrier.class ≡ Some Zero → ⊥) →
     (disconnects r e).carrier ≡ writes (disconnect peer r 128 [] ∷ []) (moves r (closing peer) e.carrier)
 asks_peer r peer link e here other =
-    disconnect_carrier r e ∙ ap (λ (o : Option (ℕ × Link)). closed_on r 128 o e.carrier) here ∙ asks_by r peer e.carrier.class e.carrier other
+    disconnect_carrier r e ∙ ap (λ (o : Option (ℕ × Link)). closed_on r 128 o e.carrier) here ∙
+        asks_by r peer e.carrier.class e.carrier other
 
 pub ends_in_zero : (r peer : ℕ) (link : Link) (e : End) → open_link r e.carrier ≡ Some (peer, link) → e.carrier.class ≡ Some Zero →
     (disconnects r e).carrier ≡ carrier_ends Closed e.carrier
@@ -79,7 +86,8 @@ none_given r lines = ap waiting_of (given_here r lines) ∙ given_waits (value_a
 
 lost_given : (r : ℕ) (lines : Rows Line) → shown_at_loss (kept_at r (gives_up r lines)) ≡ []
 lost_given r lines =
-    ap (λ (o : Option Line). shown_at_loss (session_in o)) (given_here r lines) ∙ ap shown_at_loss (session_given (value_at r lines)) ∙ unseen (session_in (value_at r lines))
+    ap (λ (o : Option Line). shown_at_loss (session_in o)) (given_here r lines) ∙ ap shown_at_loss (session_given (value_at r lines)) ∙
+        unseen (session_in (value_at r lines))
 
 hushed_by : (r : ℕ) (over : Bool) (e : End) → waiting_at r e.lines ≡ [] → shown_at_loss (kept_at r e.lines) ≡ [] →
     waiting_at r (if over then record e { lines = all_lost e.lines } else e).lines ≡ []
@@ -101,7 +109,9 @@ ended_in : (o : Option Listener) (s : Listener) → option_map (λ s. after_inpu
 ended_in None s is = cc
 ended_in (Some t) s is = let one : after_input t broken ≡ s = cc in ap (λ (x : Listener). is_ended x.state.phase) (sym one) ∙ broken_ended t
 
-over_by : (r : ℕ) (over : Bool) (s : Listener) (e : End) → kept_at r (if over then record e { lines = all_lost e.lines } else e).lines ≡ Some s → (kept_at r e.lines ≡ Some s → is_ended s.state.phase ≡ true) →
+over_by : (r : ℕ) (over : Bool) (s : Listener) (e : End) →
+    kept_at r (if over then record e { lines = all_lost e.lines } else e).lines ≡ Some s →
+    (kept_at r e.lines ≡ Some s → is_ended s.state.phase ≡ true) →
     is_ended s.state.phase ≡ true
 over_by r true s e is ended = let no : None ≡ Some s = sym ((are_lost e.lines).none r) ∙ is in cc
 over_by r false s e is ended = ended is
@@ -110,4 +120,5 @@ pub is_over_then : (r : ℕ) (s : Listener) (e : End) → kept_at r (disconnects
 is_over_then r s e is =
     let c = closed_with r 128 e.carrier in
     over_by r (is_some c.ended) s (closed_and_given r e) is
-    (λ here. ended_in (session_in (value_at r e.lines)) s (sym (session_given (value_at r e.lines)) ∙ ap session_in (sym (given_here r e.lines)) ∙ here))
+    (λ here. ended_in (session_in (value_at r e.lines)) s
+        (sym (session_given (value_at r e.lines)) ∙ ap session_in (sym (given_here r e.lines)) ∙ here))

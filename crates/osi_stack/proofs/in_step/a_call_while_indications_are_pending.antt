@@ -1,6 +1,8 @@
 -- An accepted call of a session does the same if indications are pending as if all had been given.
-use Rattle.std.proofs.Common.{◌≡◌, ℕ, ◌==◌, Bool, true, false, List, [], ◌∷◌, ◌++◌, Option, Some, None, option_map, refl, sym, ap, ◌∙◌, arith}
-use Rattle.osi_stack.proofs.Vocabulary.{append-nil, Rows, value_at, put, Call as SessionCall, Input, Listener, called, Shown, call_error, all_waiting, line_by, by_line, to_session, quieted, hushed, put_back, account_of, Line, End}
+use Rattle.std.proofs.Common.{◌≡◌, ℕ, ◌==◌, Bool, true, false, List, [], ◌∷◌, ◌++◌, Option, Some, None, option_map, refl, sym, ap, ◌∙◌}
+use Rattle.std.proofs.Common.{arith}
+use Rattle.osi_stack.proofs.Vocabulary.{append-nil, Rows, value_at, put, Call as SessionCall, Input, Listener, called, Shown, call_error}
+use Rattle.osi_stack.proofs.Vocabulary.{all_waiting, line_by, by_line, to_session, quieted, hushed, put_back, account_of, Line, End}
 use Rattle.osi_stack.proofs.in_step.the_account_packet_by_packet.{made}
 use Rattle.osi_stack.proofs.in_step.what_is_seen_is_the_same.{call_hushed, hush, quieted_value}
 use Rattle.osi_stack.proofs.carried.what_a_move_leaves.{says_is}
@@ -16,38 +18,47 @@ quieted_twice ((q, line) ∷ lines) = ap (λ (l : Rows Line). (q, hush line) ∷
 abbrev row : ℕ → Line → Rows Line → Rows Line
 row q line lines = (q, line) ∷ lines
 
-put_quieted_by : (r q : ℕ) (x y line : Line) (lines : Rows Line) (b : Bool) → (q == r) ≡ b → hush x ≡ hush y → quieted (put r x lines) ≡ quieted (put r y (quieted lines)) →
+put_quieted_by : (r q : ℕ) (x y line : Line) (lines : Rows Line) (b : Bool) → (q == r) ≡ b → hush x ≡ hush y →
+    quieted (put r x lines) ≡ quieted (put r y (quieted lines)) →
     quieted (put r x ((q, line) ∷ lines)) ≡ quieted (put r y (quieted ((q, line) ∷ lines)))
-put_quieted_by r q x y line lines true e same more = rw e (ap (λ (l : Line). row q l (quieted lines)) same ∙ ap (row q (hush y)) (quieted_twice lines))
+put_quieted_by r q x y line lines true e same more =
+    rw e (ap (λ (l : Line). row q l (quieted lines)) same ∙ ap (row q (hush y)) (quieted_twice lines))
 put_quieted_by r q x y line lines false e same more = rw e (ap (row q (hush line)) more)
 
 put_quieted : (r : ℕ) (x y : Line) (lines : Rows Line) → hush x ≡ hush y → quieted (put r x lines) ≡ quieted (put r y (quieted lines))
 put_quieted r x y [] same = refl
 put_quieted r x y ((q, line) ∷ lines) same = put_quieted_by r q x y line lines (q == r) refl same (put_quieted r x y lines same)
 
-line_hushed : (line : Line) (session : Option Listener) (input : Input) → hush (line_by line session input) ≡ hush (line_by (hush line) session input)
+line_hushed : (line : Line) (session : Option Listener) (input : Input) →
+    hush (line_by line session input) ≡ hush (line_by (hush line) session input)
 line_hushed line None input = refl
 line_hushed line (Some session) input = refl
 
-hushed_by : (r : ℕ) (line : Option Line) (input : Input) (e : End) → hushed (by_line r line input e) ≡ hushed (by_line r (option_map hush line) input (hushed e))
+hushed_by : (r : ℕ) (line : Option Line) (input : Input) (e : End) →
+    hushed (by_line r line input e) ≡ hushed (by_line r (option_map hush line) input (hushed e))
 hushed_by r line input e = grind (arith, quieted_twice, by_line, put_quieted, line_by, hush, line_hushed)
 
 session_hushed : (r : ℕ) (input : Input) (e : End) → hushed (to_session r input e) ≡ hushed (to_session r input (hushed e))
 session_hushed r input e =
-    hushed_by r (value_at r e.lines) input e ∙ ap (λ (o : Option Line). hushed (by_line r o input (hushed e))) (sym (quieted_value r e.lines))
+    hushed_by r (value_at r e.lines) input e ∙ ap (λ (o : Option Line). hushed (by_line r o input (hushed e)))
+        (sym (quieted_value r e.lines))
 
 -- ---- what is pending
 
-waiting_by : (r q : ℕ) (x line y : Line) (lines : Rows Line) (b : Bool) → (q == r) ≡ b → x.waiting ≡ line.waiting → value_at r ((q, y) ∷ lines) ≡ Some line →
-    (value_at r lines ≡ Some line → all_waiting (put r x lines) ≡ all_waiting lines) → all_waiting (put r x ((q, y) ∷ lines)) ≡ all_waiting ((q, y) ∷ lines)
+waiting_by : (r q : ℕ) (x line y : Line) (lines : Rows Line) (b : Bool) → (q == r) ≡ b → x.waiting ≡ line.waiting →
+    value_at r ((q, y) ∷ lines) ≡ Some line →
+    (value_at r lines ≡ Some line → all_waiting (put r x lines) ≡ all_waiting lines) →
+        all_waiting (put r x ((q, y) ∷ lines)) ≡ all_waiting ((q, y) ∷ lines)
 waiting_by r q x line y lines b e same here more = grind arith
 
-waiting_put : (r : ℕ) (x line : Line) (lines : Rows Line) → x.waiting ≡ line.waiting → value_at r lines ≡ Some line → all_waiting (put r x lines) ≡ all_waiting lines
+waiting_put : (r : ℕ) (x line : Line) (lines : Rows Line) → x.waiting ≡ line.waiting → value_at r lines ≡ Some line →
+    all_waiting (put r x lines) ≡ all_waiting lines
 waiting_put r x line [] same here = refl
 waiting_put r x line ((q, y) ∷ lines) same here = waiting_by r q x line y lines (q == r) refl same here (waiting_put r x line lines same)
 
 -- an accepted call indicates nothing
-call_waiting : (r : ℕ) (call : SessionCall) (e : End) → call_error r call e ≡ None → all_waiting (to_session r (called call) e).lines ≡ all_waiting e.lines
+call_waiting : (r : ℕ) (call : SessionCall) (e : End) → call_error r call e ≡ None →
+    all_waiting (to_session r (called call) e).lines ≡ all_waiting e.lines
 call_waiting r call e h =
     let says = says_is r call e h in
     let acts = says.acts in
@@ -62,7 +73,8 @@ none_quieted ((q, line) ∷ lines) = none_quieted lines
 -- ---- its account
 
 pub account_calling : (t : List (ℕ × Shown)) (o : List ℕ) (r : ℕ) (call : SessionCall) (e : End) → call_error r call e ≡ None →
-    account_of t o (to_session r (called call) e) ≡ account_of (t ++ all_waiting e.lines) [] (to_session r (called call) (put_back o (hushed e)))
+    account_of t o (to_session r (called call) e) ≡ account_of (t ++ all_waiting e.lines) []
+        (to_session r (called call) (put_back o (hushed e)))
 account_calling t o r call e h =
     let input = called call in
     let there = to_session r input (hushed e) in

@@ -1,6 +1,10 @@
 -- A connection is requested, whatever is pending: it is the same but for lines of connections that are gone.
-use Rattle.std.proofs.Common.{◌≡◌, ◌≢◌, ℕ, ◌+◌, ◌==◌, Bool, true, false, List, [], ◌∷◌, ◌++◌, is_some, refl, sym, ap, ◌∙◌, option_map, arith}
-use Rattle.osi_stack.proofs.Vocabulary.{eqb-true, eq-eqb, flat_map, beyond, push_here, push_other, asks, AreUpTo, Rows, value_at, Connection, asked, State as Carrier, Listener, Shown, calls_with, connects, shown_of, all_waiting, quieted, hushed, put_back, live_lines, pruned, told_in, carried_in, AreAlike, AreAlikeInLive, Line, End, Holding, line_waits, is_used, used_lines, fresh_line, Connect, tsap_octets, EndCall as Call}
+use Rattle.std.proofs.Common.{◌≡◌, ◌≢◌, ℕ, ◌+◌, ◌==◌, Bool, true, false, List, [], ◌∷◌, ◌++◌, is_some, refl, sym, ap, ◌∙◌, option_map}
+use Rattle.std.proofs.Common.{arith}
+use Rattle.osi_stack.proofs.Vocabulary.{eqb-true, eq-eqb, flat_map, beyond, push_here, push_other, asks, AreUpTo, Rows, value_at}
+use Rattle.osi_stack.proofs.Vocabulary.{Connection, asked, State as Carrier, Listener, Shown, calls_with, connects, shown_of, all_waiting}
+use Rattle.osi_stack.proofs.Vocabulary.{quieted, hushed, put_back, live_lines, pruned, told_in, carried_in, AreAlike, AreAlikeInLive, Line}
+use Rattle.osi_stack.proofs.Vocabulary.{End, Holding, line_waits, is_used, used_lines, fresh_line, Connect, tsap_octets, EndCall as Call}
 use Rattle.osi_stack.proofs.each_line.the_first_that_indicates.{quiet_line}
 use Rattle.osi_stack.proofs.in_step.lines_that_are_gone_do_not_matter.{quieted_live}
 use Rattle.osi_stack.proofs.carried.packets_without_events.{both, or_second}
@@ -11,28 +15,34 @@ use Rattle.osi_stack.proofs.in_step.two_runs_reach_the_same_state.{connects_apar
 
 -- ---- what is pending
 
-waits_by : (live : Rows Connection) (p : ℕ) (y : Line) (rows more : Rows Line) (b : Bool) → is_used live (p, y) ≡ b → all_waiting (used_lines live rows) ≡ all_waiting more →
+waits_by : (live : Rows Connection) (p : ℕ) (y : Line) (rows more : Rows Line) (b : Bool) → is_used live (p, y) ≡ b →
+    all_waiting (used_lines live rows) ≡ all_waiting more →
     all_waiting (used_lines live ((p, y) ∷ rows)) ≡ shown_of p y.waiting ++ all_waiting more
 waits_by live p y rows more true e h =
     ap all_waiting (used_by live (p, y) rows true e) ∙ ap (λ (l : List (ℕ × Shown)). shown_of p y.waiting ++ l) h
 waits_by live p y rows more false e h =
     ap all_waiting (used_by live (p, y) rows false e) ∙ h
-    ∙ sym (ap (λ (w : List Shown). shown_of p w ++ all_waiting more) (quiet_line y (or_second (is_some (value_at p live)) (line_waits y) e)))
+    ∙ sym (ap (λ (w : List Shown). shown_of p w ++ all_waiting more)
+        (quiet_line y (or_second (is_some (value_at p live)) (line_waits y) e)))
 
 -- no pending indication is dropped
-waits_still : (live : Rows Connection) (q : ℕ) (s : Listener) (lines : Rows Line) → all_waiting (used_lines live (joined_lines q s lines)) ≡ all_waiting lines
+waits_still : (live : Rows Connection) (q : ℕ) (s : Listener) (lines : Rows Line) →
+    all_waiting (used_lines live (joined_lines q s lines)) ≡ all_waiting lines
 waits_still live q s [] =
     waits_by live q (fresh_line s) [] [] (is_used live (q, fresh_line s)) refl refl
-waits_still live q s ((p, y) ∷ lines) = waits_by live p y (joined_lines q s lines) lines (is_used live (p, y)) refl (waits_still live q s lines)
+waits_still live q s ((p, y) ∷ lines) =
+    waits_by live p y (joined_lines q s lines) lines (is_used live (p, y)) refl (waits_still live q s lines)
 
 pub waits_asked : (c : Connect) (e : End) → all_waiting (connects c e).lines ≡ all_waiting e.lines
 waits_asked c e =
-    waits_still (asks (option_map tsap_octets c.calling_tsap) (option_map tsap_octets c.called_tsap) e.carrier).live (e.carrier.given + 1) (calls_with c) e.lines
+    waits_still (asks (option_map tsap_octets c.calling_tsap) (option_map tsap_octets c.called_tsap) e.carrier).live (e.carrier.given + 1)
+        (calls_with c) e.lines
 
 -- ---- lines of live connections
 
 -- none of these is dropped
-live_by : (live : Rows Connection) (p : ℕ) (y : Line) (rows : Rows Line) (b c : Bool) → is_used live (p, y) ≡ b → is_some (value_at p live) ≡ c → live_lines live (used_lines live rows) ≡ live_lines live rows →
+live_by : (live : Rows Connection) (p : ℕ) (y : Line) (rows : Rows Line) (b c : Bool) → is_used live (p, y) ≡ b →
+    is_some (value_at p live) ≡ c → live_lines live (used_lines live rows) ≡ live_lines live rows →
     live_lines live (used_lines live ((p, y) ∷ rows)) ≡ live_lines live ((p, y) ∷ rows)
 live_by live p y rows b c e f more = grind arith
 
@@ -48,9 +58,11 @@ joined_quieted q s ((p, y) ∷ lines) = ap (λ (l : Rows Line). (p, record y { w
 abbrev joins_live : Rows Connection → ℕ → Listener → Rows Line → Rows Line
 joins_live live q s lines = live_lines live (used_lines live (joined_lines q s lines))
 
-hushed_lines : (live : Rows Connection) (q : ℕ) (s : Listener) (lines : Rows Line) → quieted (joins_live live q s lines) ≡ joins_live live q s (quieted lines)
+hushed_lines : (live : Rows Connection) (q : ℕ) (s : Listener) (lines : Rows Line) →
+    quieted (joins_live live q s lines) ≡ joins_live live q s (quieted lines)
 hushed_lines live q s lines =
-    ap quieted (live_used live (joined_lines q s lines)) ∙ sym (quieted_live live (joined_lines q s lines)) ∙ ap (live_lines live) (joined_quieted q s lines)
+    ap quieted (live_used live (joined_lines q s lines)) ∙ sym (quieted_live live (joined_lines q s lines)) ∙
+        ap (live_lines live) (joined_quieted q s lines)
     ∙ sym (live_used live (joined_lines q s (quieted lines)))
 
 -- what is pending does not matter to them
@@ -60,7 +72,8 @@ connects_hushed c e =
     ap (λ (l : Rows Line). record here { lines = l }) (hushed_lines here.carrier.live (e.carrier.given + 1) (calls_with c) e.lines)
 
 -- nor are the lines of connections that are gone
-asked_within_by : (r : ℕ) (c : Carrier) (b : Bool) → (r == c.given + 1) ≡ b → is_some (value_at r (c.live ++ (c.given + 1, asked) ∷ [])) ≡ true → reached c r ≡ true
+asked_within_by : (r : ℕ) (c : Carrier) (b : Bool) → (r == c.given + 1) ≡ b →
+    is_some (value_at r (c.live ++ (c.given + 1, asked) ∷ [])) ≡ true → reached c r ≡ true
 asked_within_by r c true e here =
     let same : r ≡ c.given + 1 = eqb-true r (c.given + 1) e in
     reached_new c r (omega arith)
@@ -72,24 +85,34 @@ asked_within : (c : Carrier) → Within (λ r. is_some (value_at r (c.live ++ (c
 asked_within c r here = asked_within_by r c (r == c.given + 1) refl here
 
 pruned_lines : (c : Carrier) (s : Listener) (lines : Rows Line) → AreUpTo c.given c.live → AreUpTo c.given lines →
-    joins_live (c.live ++ (c.given + 1, asked) ∷ []) (c.given + 1) s (live_lines c.live lines) ≡ joins_live (c.live ++ (c.given + 1, asked) ∷ []) (c.given + 1) s lines
+    joins_live (c.live ++ (c.given + 1, asked) ∷ []) (c.given + 1) s (live_lines c.live lines) ≡ joins_live
+        (c.live ++ (c.given + 1, asked) ∷ []) (c.given + 1) s lines
 pruned_lines c s lines up known =
     let q = c.given + 1 in
     let live = c.live ++ (q, asked) ∷ [] in
     let K : ℕ → Bool = λ r. is_some (value_at r live) in
     let new : K q ≡ true = ap is_some (push_here q asked c.live (beyond q c.given c.live up (omega arith))) in
-    let less : only K (live_lines c.live lines) ≡ only K lines = ap (only K) (sym (known_live c lines known)) ∙ only_less K (reached c) (asked_within c) lines in
-    live_used live (joined_lines q s (live_lines c.live lines)) ∙ sym (only_push K q s (live_lines c.live lines) new) ∙ ap (joined_lines q s) less ∙ only_push K q s lines new
+    let less : only K (live_lines c.live lines) ≡ only K lines = ap (only K) (sym (known_live c lines known)) ∙
+        only_less K (reached c) (asked_within c) lines in
+    live_used live (joined_lines q s (live_lines c.live lines)) ∙ sym (only_push K q s (live_lines c.live lines) new) ∙
+        ap (joined_lines q s) less ∙ only_push K q s lines new
     ∙ sym (live_used live (joined_lines q s lines))
 
-pub connects_pruned : (c : Connect) (e : End) → AreUpTo e.carrier.given e.carrier.live → AreUpTo e.carrier.given e.lines → pruned (connects c (pruned e)) ≡ pruned (connects c e)
-connects_pruned c e up known = ap (λ (l : Rows Line). record (connects c e) { lines = l }) (pruned_lines e.carrier (calls_with c) e.lines up known)
+pub connects_pruned : (c : Connect) (e : End) → AreUpTo e.carrier.given e.carrier.live → AreUpTo e.carrier.given e.lines →
+    pruned (connects c (pruned e)) ≡ pruned (connects c e)
+connects_pruned c e up known =
+    ap (λ (l : Rows Line). record (connects c e) { lines = l }) (pruned_lines e.carrier (calls_with c) e.lines up known)
 
 -- ---- two ends that are alike
 
 -- with what was carried put back
-pub connects_back : (o : List ℕ) (c : Connect) (e : End) → put_back o (hushed (pruned (connects c e))) ≡ pruned (connects c (put_back o (hushed e)))
+pub connects_back : (o : List ℕ) (c : Connect) (e : End) →
+    put_back o (hushed (pruned (connects c e))) ≡ pruned (connects c (put_back o (hushed e)))
 connects_back o c e = ap (put_back o) (connects_hushed c e) ∙ ap pruned (sym (connects_apart o c (hushed e)))
 
-pub asked_alike : (c : Connect) (a b : Holding) (xs ys : List Call) → AreAlike a xs b ys → AreAlikeInLive (record a { end = connects c a.end }) xs (record b { end = connects c b.end }) ys
-asked_alike c a b xs ys h = search (connects_back (flat_map carried_in xs) c a.end ∙ ap (λ (e : End). pruned (connects c e)) h.end ∙ sym (connects_back (flat_map carried_in ys) c b.end), ap (λ (l : List (ℕ × Shown)). flat_map told_in xs ++ l) (waits_asked c a.end) ∙ h.told ∙ ap (λ (l : List (ℕ × Shown)). flat_map told_in ys ++ l) (sym (waits_asked c b.end)))
+pub asked_alike : (c : Connect) (a b : Holding) (xs ys : List Call) → AreAlike a xs b ys →
+    AreAlikeInLive (record a { end = connects c a.end }) xs (record b { end = connects c b.end }) ys
+asked_alike c a b xs ys h =
+    search (connects_back (flat_map carried_in xs) c a.end ∙ ap (λ (e : End). pruned (connects c e)) h.end ∙
+    sym (connects_back (flat_map carried_in ys) c b.end), ap (λ (l : List (ℕ × Shown)). flat_map told_in xs ++ l) (waits_asked c a.end) ∙
+    h.told ∙ ap (λ (l : List (ℕ × Shown)). flat_map told_in ys ++ l) (sym (waits_asked c b.end)))

@@ -1,7 +1,12 @@
 -- Two accounts that are the same but for lines of connections that are gone stay so, whatever comes.
-use Rattle.std.proofs.Common.{◌≡◌, ℕ, ◌==◌, Bool, true, false, ◌||◌, List, [], ◌∷◌, ◌++◌, Option, Some, None, is_some, refl, sym, ap, ◌∙◌, if◌then◌else◌, arith}
+use Rattle.std.proofs.Common.{◌≡◌, ℕ, ◌==◌, Bool, true, false, ◌||◌, List, [], ◌∷◌, ◌++◌, Option, Some, None, is_some, refl, sym, ap, ◌∙◌}
+use Rattle.std.proofs.Common.{if◌then◌else◌, arith}
 use Rattle.osi_carrier.specs.Packets as carriers
-use Rattle.osi_stack.proofs.Vocabulary.{eq-eqb, or_right, orderly_same, link_of, AreUpTo, Rows, value_at, Connection, asked, is_open, none_of, implied, Listener, broken, react, is_wait_transport, may_abort, shows_loss, Shown, shown_at_loss, after_packet, with_carrier, AreApart, HasAsked, IsSound, kept_at, all_waiting, quieted, hushed, put_back, live_lines, pruned, Account, account_of, Line, End, IsAttended, line_waits, waits}
+use Rattle.osi_stack.proofs.Vocabulary.{eq-eqb, or_right, orderly_same, link_of, AreUpTo, Rows, value_at, Connection, asked, is_open}
+use Rattle.osi_stack.proofs.Vocabulary.{none_of, implied, Listener, broken, react, is_wait_transport, may_abort, shows_loss, Shown}
+use Rattle.osi_stack.proofs.Vocabulary.{shown_at_loss, after_packet, with_carrier, AreApart, HasAsked, IsSound, kept_at, all_waiting}
+use Rattle.osi_stack.proofs.Vocabulary.{quieted, hushed, put_back, live_lines, pruned, Account, account_of, Line, End, IsAttended}
+use Rattle.osi_stack.proofs.Vocabulary.{line_waits, waits}
 use Rattle.osi_stack.proofs.in_step.the_account_packet_by_packet.{made}
 use Rattle.osi_stack.proofs.in_step.what_is_seen_is_the_same.{quieted_at}
 use Rattle.osi_stack.proofs.opening.who_waits_was_requested.{StillWaits, packet_asked}
@@ -32,7 +37,8 @@ up_quieted : (n : ℕ) (lines : Rows Line) → AreUpTo n (quieted lines) → Are
 up_quieted n [] up = tt
 up_quieted n ((q, y) ∷ lines) up = (up.0, up_quieted n lines up.1)
 
-none_by : (r q : ℕ) (y : Line) (lines : Rows Line) (b : Bool) → (q == r) ≡ b → is_some (value_at r (quieted lines)) ≡ is_some (value_at r lines) →
+none_by : (r q : ℕ) (y : Line) (lines : Rows Line) (b : Bool) → (q == r) ≡ b →
+    is_some (value_at r (quieted lines)) ≡ is_some (value_at r lines) →
     is_some (value_at r (quieted ((q, y) ∷ lines))) ≡ is_some (value_at r ((q, y) ∷ lines))
 none_by r q y lines true e more = rw e refl
 none_by r q y lines false e more = rw e more
@@ -43,11 +49,13 @@ some_quieted r ((q, y) ∷ lines) = none_by r q y lines (q == r) refl (some_quie
 
 pub quieted_apart : (lines : Rows Line) → AreApart lines → AreApart (quieted lines)
 quieted_apart [] apart = tt
-quieted_apart ((q, y) ∷ lines) apart = (none_of (value_at q (quieted lines)) (some_quieted q lines ∙ ap is_some apart.0), quieted_apart lines apart.1)
+quieted_apart ((q, y) ∷ lines) apart =
+    (none_of (value_at q (quieted lines)) (some_quieted q lines ∙ ap is_some apart.0), quieted_apart lines apart.1)
 
 apart_quieted : (lines : Rows Line) → AreApart (quieted lines) → AreApart lines
 apart_quieted [] apart = tt
-apart_quieted ((q, y) ∷ lines) apart = (none_of (value_at q lines) (sym (some_quieted q lines) ∙ ap is_some apart.0), apart_quieted lines apart.1)
+apart_quieted ((q, y) ∷ lines) apart =
+    (none_of (value_at q lines) (sym (some_quieted q lines) ∙ ap is_some apart.0), apart_quieted lines apart.1)
 
 pub fit_hushed : (o : List ℕ) (e : End) → IsFit e → IsFit (put_back o (hushed e))
 fit_hushed o e f = grind (arith, orderly_same, quieted_apart, quieted_up, quieted_at)
@@ -56,7 +64,9 @@ pub fit_back : (o : List ℕ) (e : End) → IsFit (put_back o (hushed e)) → Is
 fit_back o e f = grind (arith, orderly_same, put_back, apart_quieted, up_quieted, quieted_at)
 
 pub fit_packet : SessionLaws → StillWaits → (unit : List ℕ) (e : End) → e.carrier.ended ≡ None → IsFit e → IsFit (after_packet e unit)
-fit_packet laws law unit e lasts f = search (attended_then (with_carrier (carriers.after_packet e.carrier unit) e) (after_packet e unit) (packet_is e unit), packet_sound laws unit e lasts (f.attended lasts) f.sound, packet_asked law unit e lasts (f.sound lasts) f.asks)
+fit_packet laws law unit e lasts f =
+    search (attended_then (with_carrier (carriers.after_packet e.carrier unit) e) (after_packet e unit) (packet_is e unit),
+    packet_sound laws unit e lasts (f.attended lasts) f.sound, packet_asked law unit e lasts (f.sound lasts) f.asks)
 
 -- ---- the session of a connection that is gone indicates nothing when it is lost
 
@@ -72,7 +82,8 @@ link_live : (over : Bool) (o : Option Connection) → o ≡ None → is_some (if
 link_live true o none = refl
 link_live false o none = ap (λ (x : Option Connection). is_some (link_of x)) none
 
-gone_quiet : (e : End) (r : ℕ) (s : Listener) → e.carrier.ended ≡ None → IsFit e → kept_at r e.lines ≡ Some s → value_at r e.carrier.live ≡ None → (b c : Bool) → may_abort s.state.phase ≡ b →
+gone_quiet : (e : End) (r : ℕ) (s : Listener) → e.carrier.ended ≡ None → IsFit e → kept_at r e.lines ≡ Some s →
+    value_at r e.carrier.live ≡ None → (b c : Bool) → may_abort s.state.phase ≡ b →
     shows_loss s.state.phase ≡ c → c ≡ false
 gone_quiet e r s lasts f kept none b false m shows = refl
 gone_quiet e r s lasts f kept none true true m shows =
@@ -80,12 +91,15 @@ gone_quiet e r s lasts f kept none true true m shows =
     both (is_open r e.carrier) open_is (link_live (is_some e.carrier.ended) (value_at r e.carrier.live) none)
 gone_quiet e r s lasts f kept none false true m shows =
     let waits : is_wait_transport s.state.phase ≡ true =
-    or_either (may_abort s.state.phase) (is_wait_transport s.state.phase) (implied shows_loss (λ p. may_abort p || is_wait_transport p) refl s.state.phase shows) m in
+    or_either (may_abort s.state.phase) (is_wait_transport s.state.phase)
+        (implied shows_loss (λ p. may_abort p || is_wait_transport p) refl s.state.phase shows) m in
     let no : None ≡ Some asked = sym none ∙ f.asks lasts r s kept waits in
     cc
 
-pub gone_shows : (e : End) (r : ℕ) (s : Listener) → e.carrier.ended ≡ None → IsFit e → kept_at r e.lines ≡ Some s → value_at r e.carrier.live ≡ None → (react s broken).shown ≡ []
-gone_shows e r s lasts f kept none = quiet_loss s (gone_quiet e r s lasts f kept none (may_abort s.state.phase) (shows_loss s.state.phase) refl refl)
+pub gone_shows : (e : End) (r : ℕ) (s : Listener) → e.carrier.ended ≡ None → IsFit e → kept_at r e.lines ≡ Some s →
+    value_at r e.carrier.live ≡ None → (react s broken).shown ≡ []
+gone_shows e r s lasts f kept none =
+    quiet_loss s (gone_quiet e r s lasts f kept none (may_abort s.state.phase) (shows_loss s.state.phase) refl refl)
 
 -- ---- lines of connections that are gone, if nothing is pending
 
@@ -96,7 +110,8 @@ ShowNothing K lines = (r : ℕ) (s : Listener) → kept_at r lines ≡ Some s �
 pub kept_first : (q : ℕ) (y : Line) (lines : Rows Line) → kept_at q ((q, y) ∷ lines) ≡ y.session
 kept_first q y lines = let e = eq-eqb q q refl in rw e refl
 
-kept_behind : (r q : ℕ) (y : Line) (lines : Rows Line) (s : Listener) (b : Bool) → (q == r) ≡ b → value_at q lines ≡ None → kept_at r lines ≡ Some s → kept_at r ((q, y) ∷ lines) ≡ Some s
+kept_behind : (r q : ℕ) (y : Line) (lines : Rows Line) (s : Listener) (b : Bool) → (q == r) ≡ b → value_at q lines ≡ None →
+    kept_at r lines ≡ Some s → kept_at r ((q, y) ∷ lines) ≡ Some s
 kept_behind r q y lines s b e none is = grind arith
 
 shown_none : (o : Option Listener) → ((s : Listener) → o ≡ Some s → (react s broken).shown ≡ []) → shown_at_loss o ≡ []
@@ -110,19 +125,22 @@ still_lines K ((q, y) ∷ lines) apart quiet shows = (
     waiting = quiet_line y (or_first (line_waits y) (waits lines) quiet);
     lost = shown_none y.session (λ s is. shows q s (kept_first q y lines ∙ is) gone);
   },
-  still_lines K lines apart.1 (or_second (line_waits y) (waits lines) quiet) (λ r s is gone. shows r s (kept_behind r q y lines s (q == r) refl apart.0 is) gone),
+  still_lines K lines apart.1 (or_second (line_waits y) (waits lines) quiet)
+      (λ r s is gone. shows r s (kept_behind r q y lines s (q == r) refl apart.0 is) gone),
 )
 
 pub fit_still : (e : End) → e.carrier.ended ≡ None → IsFit e → waits e.lines ≡ false → AreStill (reached e.carrier) e.lines
 fit_still e lasts f quiet =
-    still_lines (reached e.carrier) e.lines (f.sound lasts).apart quiet (λ r s is gone. gone_shows e r s lasts f is (unreached e.carrier r gone).none)
+    still_lines (reached e.carrier) e.lines (f.sound lasts).apart quiet
+        (λ r s is gone. gone_shows e r s lasts f is (unreached e.carrier r gone).none)
 
 -- ---- accounts
 
 abbrev pub pruned_account : Account → Account
 pruned_account a = record { end = pruned a.end; told = a.told }
 
-quieted_row : (live : Rows Connection) (q : ℕ) (y : Line) (lines : Rows Line) (b : Bool) → is_some (value_at q live) ≡ b → live_lines live (quieted lines) ≡ quieted (live_lines live lines) →
+quieted_row : (live : Rows Connection) (q : ℕ) (y : Line) (lines : Rows Line) (b : Bool) → is_some (value_at q live) ≡ b →
+    live_lines live (quieted lines) ≡ quieted (live_lines live lines) →
     live_lines live (quieted ((q, y) ∷ lines)) ≡ quieted (live_lines live ((q, y) ∷ lines))
 quieted_row live q y lines b e more = grind arith
 
@@ -131,12 +149,16 @@ quieted_live live [] = refl
 quieted_live live ((q, y) ∷ lines) = quieted_row live q y lines (is_some (value_at q live)) refl (quieted_live live lines)
 
 -- what is left of the account of an end
-pub account_view : (t : List (ℕ × Shown)) (o : List ℕ) (e : End) → pruned_account (account_of t o e) ≡ made (put_back o (hushed (pruned e))) (t ++ all_waiting e.lines)
-account_view t o e = ap (λ (l : Rows Line). made (put_back o (record e { lines = l })) (t ++ all_waiting e.lines)) (quieted_live e.carrier.live e.lines)
+pub account_view : (t : List (ℕ × Shown)) (o : List ℕ) (e : End) →
+    pruned_account (account_of t o e) ≡ made (put_back o (hushed (pruned e))) (t ++ all_waiting e.lines)
+account_view t o e = ap (λ (l : Rows Line). made (put_back o (record e { lines = l })) (t ++ all_waiting e.lines))
+    (quieted_live e.carrier.live e.lines)
 
-pub account_alike : (t : List (ℕ × Shown)) (o : List ℕ) (a b : End) → SameInLive a b → pruned_account (account_of t o a) ≡ pruned_account (account_of t o b)
+pub account_alike : (t : List (ℕ × Shown)) (o : List ℕ) (a b : End) → SameInLive a b →
+    pruned_account (account_of t o a) ≡ pruned_account (account_of t o b)
 account_alike t o a b h =
-    account_view t o a ∙ ap (λ (e : End). made (put_back o (hushed e)) (t ++ all_waiting a.lines)) h.end ∙ ap (λ (w : List (ℕ × Shown)). made (put_back o (hushed (pruned b))) (t ++ w)) h.told
+    account_view t o a ∙ ap (λ (e : End). made (put_back o (hushed e)) (t ++ all_waiting a.lines)) h.end ∙
+        ap (λ (w : List (ℕ × Shown)). made (put_back o (hushed (pruned b))) (t ++ w)) h.told
     ∙ sym (account_view t o b)
 
 -- all its indications were given

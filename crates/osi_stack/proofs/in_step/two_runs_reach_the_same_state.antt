@@ -1,6 +1,13 @@
 -- Two runs in step reach the same state, whatever the pieces.
-use Rattle.std.proofs.Common.{◌≡◌, ℕ, ◌+◌, ◌-◌, ◌<◌, ◌^◌, Bool, true, false, List, ◌∷◌, ◌++◌, Option, Some, None, is_some, length, option_map, arith, refl, sym, ap, subst, ◌∙◌, append_assoc, if◌then◌else◌, []}
-use Rattle.osi_stack.proofs.Vocabulary.{append-nil, flat_map-append, flat_map, IsPartial, ArePackets, offset_of, TpktFault, tsap_octets, apart_all, OneCut, user, Rows, asked, State as Carrier, Broken, called, Shown, connects, calls_with, ends, all_waiting, UserCall, user_does, Round, WaitForLive, MayCall, IsCalled, RoundsBy, RoundsAlong, calls_of, AreInStep, connecting, calling, disconnecting, breaking, hushed, put_back, Account, account_of, with_packet, with_packets, CallsAlong, used_in, told_in, carried_in, account_along, AreAlike, Line, End, Holding, joins, waits, Connect, none_of, connects_call, EndCall as Call}
+use Rattle.std.proofs.Common.{◌≡◌, ℕ, ◌+◌, ◌-◌, ◌<◌, ◌^◌, Bool, true, false, List, ◌∷◌, ◌++◌, Option, Some, None, is_some, length}
+use Rattle.std.proofs.Common.{option_map, arith, refl, sym, ap, subst, ◌∙◌, append_assoc, if◌then◌else◌, []}
+use Rattle.osi_stack.proofs.Vocabulary.{append-nil, flat_map-append, flat_map, IsPartial, ArePackets, offset_of, TpktFault, tsap_octets}
+use Rattle.osi_stack.proofs.Vocabulary.{apart_all, OneCut, user, Rows, asked, State as Carrier, Broken, called, Shown, connects, calls_with}
+use Rattle.osi_stack.proofs.Vocabulary.{ends, all_waiting, UserCall, user_does, Round, WaitForLive, MayCall, IsCalled, RoundsBy}
+use Rattle.osi_stack.proofs.Vocabulary.{RoundsAlong, calls_of, AreInStep, connecting, calling, disconnecting, breaking, hushed, put_back}
+use Rattle.osi_stack.proofs.Vocabulary.{Account, account_of, with_packet, with_packets, CallsAlong, used_in, told_in, carried_in}
+use Rattle.osi_stack.proofs.Vocabulary.{account_along, AreAlike, Line, End, Holding, joins, waits, Connect, none_of, connects_call}
+use Rattle.osi_stack.proofs.Vocabulary.{EndCall as Call}
 use Rattle.osi_stack.proofs.in_step.the_account_packet_by_packet.{made, after_more, account_quiet, account_joined, packets_apart}
 use Rattle.osi_stack.proofs.in_step.a_request_while_indications_are_pending.{wait_push, joins_alike}
 use Rattle.osi_stack.proofs.given_up.two_runs_stay_alike.{disconnects_apart}
@@ -17,7 +24,8 @@ use Rattle.osi_stack.proofs.carried.packets_without_events.{never}
 pub record Likeness (May : UserCall → End → Type 0) (Like : Account → Account → Type 0) : Type 0 where
   pub packet : (x y : Account) (unit : List ℕ) → x.end.carrier.ended ≡ None → Like x y → Like (with_packet x unit) (with_packet y unit)
   pub fault : (x y : Account) (fault : TpktFault) → x.end.carrier.ended ≡ None → Like x y → Like (faulted fault x) (faulted fault y)
-  pub call : (t : List (ℕ × Shown)) (o : List ℕ) (a : End) (u : List (ℕ × Shown)) (p : List ℕ) (b : End) (call : UserCall) → a.carrier.ended ≡ None → May call a → May call b →
+  pub call : (t : List (ℕ × Shown)) (o : List ℕ) (a : End) (u : List (ℕ × Shown)) (p : List ℕ) (b : End) (call : UserCall) →
+      a.carrier.ended ≡ None → May call a → May call b →
       Like (account_of t o a) (account_of u p b) → Like (account_of t o (user_does call a)) (account_of u p (user_does call b))
   pub ended : (x y : Account) → Like x y → x.end.carrier.ended ≡ y.end.carrier.ended
   pub turned : (x y : Account) → Like x y → Like y x
@@ -34,19 +42,23 @@ lasts_before units x lasts = by (is_some x.end.carrier.ended) refl
     by false e = none_of x.end.carrier.ended e
     by true e = never (with_packets units x).end (account_over units x e) lasts
 
-pub packets_alike : (May : UserCall → End → Type 0) (Like : Account → Account → Type 0) → Likeness May Like → (units : List (List ℕ)) (x y : Account) →
+pub packets_alike : (May : UserCall → End → Type 0) (Like : Account → Account → Type 0) → Likeness May Like →
+    (units : List (List ℕ)) (x y : Account) →
     (with_packets units x).end.carrier.ended ≡ None → Like x y → Like (with_packets units x) (with_packets units y)
 packets_alike May Like l [] x y lasts like = like
 packets_alike May Like l (unit ∷ units) x y lasts like =
-    packets_alike May Like l units (with_packet x unit) (with_packet y unit) lasts (l.packet x y unit (lasts_before (unit ∷ units) x lasts) like)
+    packets_alike May Like l units (with_packet x unit) (with_packet y unit) lasts
+        (l.packet x y unit (lasts_before (unit ∷ units) x lasts) like)
 
 -- two ends that are alike, after these indications were given and these octets sent
-pub record Same (Like : Account → Account → Type 0) (t : List (ℕ × Shown)) (o : List ℕ) (a : Holding) (u : List (ℕ × Shown)) (p : List ℕ) (b : Holding) : Type 0 where
+pub record Same (Like : Account → Account → Type 0) (t : List (ℕ × Shown)) (o : List ℕ) (a : Holding) (u : List (ℕ × Shown)) (p : List ℕ)
+    (b : Holding) : Type 0 where
   pub octets : a.held.octets ≡ b.held.octets
   pub account : Like (account_of t o a.end) (account_of u p b.end)
 
 -- and whose unfinished packets are at the same offset
-pub record Are (Like : Account → Account → Type 0) (t : List (ℕ × Shown)) (o : List ℕ) (a : Holding) (u : List (ℕ × Shown)) (p : List ℕ) (b : Holding) : Type 0 where
+pub record Are (Like : Account → Account → Type 0) (t : List (ℕ × Shown)) (o : List ℕ) (a : Holding) (u : List (ℕ × Shown)) (p : List ℕ)
+    (b : Holding) : Type 0 where
   pub same : Same Like t o a u p b
   pub partial : IsPartial a.held.octets
   pub offset : a.held.offset ≡ b.held.offset
@@ -68,8 +80,10 @@ pub used_alike : (a b : Holding) (xs ys : List Call) → a.held.octets ≡ b.hel
 used_alike a b xs ys same used = ap (λ l. l ++ flat_map used_in xs) same ∙ ap (λ l. b.held.octets ++ l) used
 
 pub calls_alike : (May : UserCall → End → Type 0) (Like : Account → Account → Type 0) → Likeness May Like → IsPartial [] → OneCut →
-    (t : List (ℕ × Shown)) (o : List ℕ) (a : Holding) (u : List (ℕ × Shown)) (p : List ℕ) (b : Holding) (xs ys : List Call) (c d : Holding) → Are Like t o a u p b →
-    CallsAlong a xs c → CallsAlong b ys d → flat_map used_in xs ≡ flat_map used_in ys → c.end.carrier.ended ≡ None → d.end.carrier.ended ≡ None →
+    (t : List (ℕ × Shown)) (o : List ℕ) (a : Holding) (u : List (ℕ × Shown)) (p : List ℕ) (b : Holding) (xs ys : List Call)
+        (c d : Holding) → Are Like t o a u p b →
+    CallsAlong a xs c → CallsAlong b ys d → flat_map used_in xs ≡ flat_map used_in ys → c.end.carrier.ended ≡ None →
+        d.end.carrier.ended ≡ None →
     Are Like (t ++ flat_map told_in xs) (o ++ flat_map carried_in xs) c (u ++ flat_map told_in ys) (p ++ flat_map carried_in ys) d
 calls_alike May Like l nothing one_cut t o a u p b xs ys c d are h k used lasts still =
     let m = calls_read nothing a xs c h lasts in
@@ -86,7 +100,8 @@ calls_alike May Like l nothing one_cut t o a u p b xs ys c d are h k used lasts 
     record {
       same = record {
         octets = one.1;
-        account = alike_at Like (account_of (t ++ flat_map told_in xs) (o ++ flat_map carried_in xs) c.end) (account_of (u ++ flat_map told_in ys) (p ++ flat_map carried_in ys) d.end)
+        account = alike_at Like (account_of (t ++ flat_map told_in xs) (o ++ flat_map carried_in xs) c.end)
+            (account_of (u ++ flat_map told_in ys) (p ++ flat_map carried_in ys) d.end)
             (with_packets m.packets left) (with_packets m.packets right) here there
             (packets_alike May Like l m.packets left right (ap (λ (x : Account). x.end.carrier.ended) (sym here) ∙ lasts) are.same.account);
       };
@@ -104,7 +119,8 @@ connects_apart o c e =
     ap (λ (x : Carrier). joins (e.carrier.given + 1) (calls_with c) (record e { carrier = x }))
     (apart_all [] o (user (connects_call (option_map tsap_octets c.calling_tsap) (option_map tsap_octets c.called_tsap)) ∷ []) e.carrier)
 
-breaks_apart : (o : List ℕ) (over : Bool) (e : End) → (if over then put_back o e else ends Broken (put_back o e)) ≡ put_back o (if over then e else ends Broken e)
+breaks_apart : (o : List ℕ) (over : Bool) (e : End) →
+    (if over then put_back o e else ends Broken (put_back o e)) ≡ put_back o (if over then e else ends Broken e)
 breaks_apart o true e = refl
 breaks_apart o false e = refl
 
@@ -135,12 +151,14 @@ account_connecting t o c e h =
     ∙ ap (made (put_back o (hushed there))) (sym (append-nil told) ∙ ap (λ (w : List (ℕ × Shown)). told ++ w) (sym j.none))
     ∙ ap (account_of told []) (sym (connects_apart o c (hushed e)))
 
-pub account_called : (t : List (ℕ × Shown)) (o : List ℕ) (call : UserCall) (e : End) → MayCall call e → account_of t o (user_does call e) ≡ called_by call (account_of t o e)
+pub account_called : (t : List (ℕ × Shown)) (o : List ℕ) (call : UserCall) (e : End) → MayCall call e →
+    account_of t o (user_does call e) ≡ called_by call (account_of t o e)
 account_called t o (connecting c) e h = account_connecting t o c e h
 account_called t o (calling r call) e h = account_calling t o r call e h
 account_called t o (disconnecting r) e h =
     ap (account_of t []) (sym (user_apart o (disconnecting r) e)) ∙ ap (called_by (disconnecting r)) (sym (account_still t o e h))
-account_called t o breaking e h = ap (account_of t []) (sym (user_apart o breaking e)) ∙ ap (called_by breaking) (sym (account_still t o e h))
+account_called t o breaking e h = ap (account_of t []) (sym (user_apart o breaking e)) ∙
+    ap (called_by breaking) (sym (account_still t o e h))
 
 -- accounts that are the same
 pub exactly : Likeness MayCall (λ (x y : Account). x ≡ y)
@@ -155,21 +173,27 @@ exactly = record {
 -- ---- rounds
 
 -- the unfinished packet stays as it is
-held_alike : (Like : Account → Account → Type 0) (t : List (ℕ × Shown)) (o : List ℕ) (a : Holding) (u : List (ℕ × Shown)) (p : List ℕ) (b c d : Holding) → Are Like t o a u p b → c.held ≡ a.held → d.held ≡ b.held →
+held_alike : (Like : Account → Account → Type 0) (t : List (ℕ × Shown)) (o : List ℕ) (a : Holding) (u : List (ℕ × Shown)) (p : List ℕ)
+    (b c d : Holding) → Are Like t o a u p b → c.held ≡ a.held → d.held ≡ b.held →
     Like (account_of t o c.end) (account_of u p d.end) → Are Like t o c u p d
 held_alike Like t o a u p b c d are h k account = grind arith
 
-user_alike : (May : UserCall → End → Type 0) (Like : Account → Account → Type 0) → Likeness May Like → (t : List (ℕ × Shown)) (o : List ℕ) (a : Holding) (u : List (ℕ × Shown)) (p : List ℕ) (b : Holding) (call : Option UserCall) (c d : Holding) →
+user_alike : (May : UserCall → End → Type 0) (Like : Account → Account → Type 0) → Likeness May Like →
+    (t : List (ℕ × Shown)) (o : List ℕ) (a : Holding) (u : List (ℕ × Shown)) (p : List ℕ) (b : Holding) (call : Option UserCall)
+    (c d : Holding) →
     Are Like t o a u p b → IsCalled May a call c → IsCalled May b call d → Are Like t o c u p d
 user_alike May Like l t o a u p b call c d are h k = search (arith, held_alike, alike_at, account_of, user_does)
 
-called_lasts : (May : UserCall → End → Type 0) (old : Holding) (call : Option UserCall) (new : Holding) → IsCalled May old call new → old.end.carrier.ended ≡ None
+called_lasts : (May : UserCall → End → Type 0) (old : Holding) (call : Option UserCall) (new : Holding) → IsCalled May old call new →
+    old.end.carrier.ended ≡ None
 called_lasts May old None new h = h.0
 called_lasts May old (Some call) new h = h.0
 
 -- what was given, or sent, before the rounds and in them
-joined : {A : Type 0} (f : Call → List A) (front : List A) (calls rest : List Call) → (front ++ flat_map f calls) ++ flat_map f rest ≡ front ++ flat_map f (calls ++ rest)
-joined f front calls rest = append_assoc front (flat_map f calls) (flat_map f rest) ∙ ap (λ l. front ++ l) (sym (flat_map-append f calls rest))
+joined : {A : Type 0} (f : Call → List A) (front : List A) (calls rest : List Call) →
+    (front ++ flat_map f calls) ++ flat_map f rest ≡ front ++ flat_map f (calls ++ rest)
+joined f front calls rest = append_assoc front (flat_map f calls) (flat_map f rest) ∙
+    ap (λ l. front ++ l) (sym (flat_map-append f calls rest))
 
 -- the account after more calls
 account_behind : (t : List (ℕ × Shown)) (o : List ℕ) (xs more : List Call) (e : End) →
@@ -179,19 +203,27 @@ account_behind t o xs more e =
     ap (λ l. account_of l (o ++ flat_map carried_in (xs ++ more)) e) (sym (joined told_in t xs more))
     ∙ ap (λ l. account_of ((t ++ flat_map told_in xs) ++ flat_map told_in more) l e) (sym (joined carried_in o xs more))
 
-abbrev pub SameAfter : (Account → Account → Type 0) → List (ℕ × Shown) → List ℕ → List Call → Holding → List (ℕ × Shown) → List ℕ → List Call → Holding → Type 0
-SameAfter Like t o xs a u p ys b = Same Like (t ++ flat_map told_in xs) (o ++ flat_map carried_in xs) a (u ++ flat_map told_in ys) (p ++ flat_map carried_in ys) b
+abbrev pub SameAfter : (Account → Account → Type 0) → List (ℕ × Shown) → List ℕ → List Call → Holding → List (ℕ × Shown) → List ℕ →
+    List Call → Holding → Type 0
+SameAfter Like t o xs a u p ys b = Same Like (t ++ flat_map told_in xs) (o ++ flat_map carried_in xs) a (u ++ flat_map told_in ys)
+    (p ++ flat_map carried_in ys) b
 
-abbrev pub AreAfter : (Account → Account → Type 0) → List (ℕ × Shown) → List ℕ → List Call → Holding → List (ℕ × Shown) → List ℕ → List Call → Holding → Type 0
-AreAfter Like t o xs a u p ys b = Are Like (t ++ flat_map told_in xs) (o ++ flat_map carried_in xs) a (u ++ flat_map told_in ys) (p ++ flat_map carried_in ys) b
+abbrev pub AreAfter : (Account → Account → Type 0) → List (ℕ × Shown) → List ℕ → List Call → Holding → List (ℕ × Shown) → List ℕ →
+    List Call → Holding → Type 0
+AreAfter Like t o xs a u p ys b = Are Like (t ++ flat_map told_in xs) (o ++ flat_map carried_in xs) a (u ++ flat_map told_in ys)
+    (p ++ flat_map carried_in ys) b
 
-pub same_joined : (Like : Account → Account → Type 0) (t : List (ℕ × Shown)) (o : List ℕ) (u : List (ℕ × Shown)) (p : List ℕ) (xs ys more rest : List Call) (a b : Holding) →
-    SameAfter Like (t ++ flat_map told_in xs) (o ++ flat_map carried_in xs) more a (u ++ flat_map told_in ys) (p ++ flat_map carried_in ys) rest b →
+pub same_joined : (Like : Account → Account → Type 0) (t : List (ℕ × Shown)) (o : List ℕ) (u : List (ℕ × Shown)) (p : List ℕ)
+    (xs ys more rest : List Call) (a b : Holding) →
+    SameAfter Like (t ++ flat_map told_in xs) (o ++ flat_map carried_in xs) more a (u ++ flat_map told_in ys) (p ++ flat_map carried_in ys)
+        rest b →
     SameAfter Like t o (xs ++ more) a u p (ys ++ rest) b
 same_joined Like t o u p xs ys more rest a b h = grind (arith, alike_at, account_of, flat_map, told_in, carried_in, account_behind)
 
-are_joined : (Like : Account → Account → Type 0) (t : List (ℕ × Shown)) (o : List ℕ) (u : List (ℕ × Shown)) (p : List ℕ) (xs ys more rest : List Call) (a b : Holding) →
-    AreAfter Like (t ++ flat_map told_in xs) (o ++ flat_map carried_in xs) more a (u ++ flat_map told_in ys) (p ++ flat_map carried_in ys) rest b →
+are_joined : (Like : Account → Account → Type 0) (t : List (ℕ × Shown)) (o : List ℕ) (u : List (ℕ × Shown)) (p : List ℕ)
+    (xs ys more rest : List Call) (a b : Holding) →
+    AreAfter Like (t ++ flat_map told_in xs) (o ++ flat_map carried_in xs) more a (u ++ flat_map told_in ys) (p ++ flat_map carried_in ys)
+        rest b →
     AreAfter Like t o (xs ++ more) a u p (ys ++ rest) b
 are_joined Like t o u p xs ys more rest a b h =
     record { same = same_joined Like t o u p xs ys more rest a b h.same; partial = h.partial; offset = h.offset; bound = h.bound }
@@ -199,15 +231,19 @@ are_joined Like t o u p xs ys more rest a b h =
 -- no round
 account_none : (t : List (ℕ × Shown)) (o : List ℕ) (a c : Holding) → c ≡ a → account_of (t ++ []) (o ++ []) c.end ≡ account_of t o a.end
 account_none t o a c h =
-    ap (λ (x : Holding). account_of (t ++ []) (o ++ []) x.end) h ∙ ap (λ l. account_of l (o ++ []) a.end) (append-nil t) ∙ ap (λ l. account_of t l a.end) (append-nil o)
+    ap (λ (x : Holding). account_of (t ++ []) (o ++ []) x.end) h ∙ ap (λ l. account_of l (o ++ []) a.end) (append-nil t) ∙
+        ap (λ l. account_of t l a.end) (append-nil o)
 
-are_behind : (Like : Account → Account → Type 0) (t : List (ℕ × Shown)) (o : List ℕ) (a : Holding) (u : List (ℕ × Shown)) (p : List ℕ) (b c d : Holding) → Are Like t o a u p b → c ≡ a → d ≡ b →
+are_behind : (Like : Account → Account → Type 0) (t : List (ℕ × Shown)) (o : List ℕ) (a : Holding) (u : List (ℕ × Shown)) (p : List ℕ)
+    (b c d : Holding) → Are Like t o a u p b → c ≡ a → d ≡ b →
     Are Like (t ++ []) (o ++ []) c (u ++ []) (p ++ []) d
 are_behind Like t o a u p b c d are h k = grind (arith, alike_at, account_of, account_none)
 
 pub rounds_alike : (May : UserCall → End → Type 0) (Like : Account → Account → Type 0) → Likeness May Like → IsPartial [] → OneCut →
-    (t : List (ℕ × Shown)) (o : List ℕ) (a : Holding) (u : List (ℕ × Shown)) (p : List ℕ) (b : Holding) (xs ys : List Round) (c d : Holding) →
-    Are Like t o a u p b → RoundsBy May a xs c → RoundsBy May b ys d → AreInStep xs ys → AreAfter Like t o (calls_of xs) c u p (calls_of ys) d
+    (t : List (ℕ × Shown)) (o : List ℕ) (a : Holding) (u : List (ℕ × Shown)) (p : List ℕ) (b : Holding) (xs ys : List Round)
+        (c d : Holding) →
+    Are Like t o a u p b → RoundsBy May a xs c → RoundsBy May b ys d → AreInStep xs ys →
+        AreAfter Like t o (calls_of xs) c u p (calls_of ys) d
 rounds_alike May Like l nothing one_cut t o a u p b [] [] c d are h k step = are_behind Like t o a u p b c d are h k
 rounds_alike May Like l nothing one_cut t o a u p b [] (y ∷ ys) c d are h k step = absurd step
 rounds_alike May Like l nothing one_cut t o a u p b (x ∷ xs) [] c d are h k step = absurd step
@@ -218,20 +254,25 @@ rounds_alike May Like l nothing one_cut t o a u p b (x ∷ xs) (y ∷ ys) c d ar
     let o' = o ++ flat_map carried_in x.calls in
     let u' = u ++ flat_map told_in y.calls in
     let p' = p ++ flat_map carried_in y.calls in
-    let met = user_alike May Like l t' o' h.0 u' p' k.0 x.user h.1 k.1 fed h.3 (subst (λ (call : Option UserCall). IsCalled May k.0 call k.1) (sym step.1) k.3) in
+    let met = user_alike May Like l t' o' h.0 u' p' k.0 x.user h.1 k.1 fed h.3
+        (subst (λ (call : Option UserCall). IsCalled May k.0 call k.1) (sym step.1) k.3) in
     are_joined Like t o u p x.calls y.calls (calls_of xs) (calls_of ys) c d
     (rounds_alike May Like l nothing one_cut t' o' h.1 u' p' k.1 xs ys c d met h.4 k.4 step.2)
 
 -- an end is like itself
-pub are_first : (Like : Account → Account → Type 0) (old : Holding) → IsPartial old.held.octets → old.held.offset < 2 ^ 64 → Like (account_of [] [] old.end) (account_of [] [] old.end) → Are Like [] [] old [] [] old
-are_first Like old partial bound like = record { same = record { octets = refl; account = like }; partial = partial; offset = refl; bound = bound }
+pub are_first : (Like : Account → Account → Type 0) (old : Holding) → IsPartial old.held.octets → old.held.offset < 2 ^ 64 →
+    Like (account_of [] [] old.end) (account_of [] [] old.end) → Are Like [] [] old [] [] old
+are_first Like old partial bound like =
+    record { same = record { octets = refl; account = like }; partial = partial; offset = refl; bound = bound }
 
 -- ---- ends that are the same
 
 pub same_alike : (a b : Holding) (xs ys : List Call) → SameAfter (λ (x y : Account). x ≡ y) [] [] xs a [] [] ys b → AreAlike a xs b ys
-same_alike a b xs ys h = record { octets = h.octets; end = ap (λ (x : Account). x.end) h.account; told = ap (λ (x : Account). x.told) h.account }
+same_alike a b xs ys h =
+    record { octets = h.octets; end = ap (λ (x : Account). x.end) h.account; told = ap (λ (x : Account). x.told) h.account }
 
-pub runs_alike : IsPartial [] → OneCut → (old a b : Holding) (xs ys : List Round) → IsPartial old.held.octets → old.held.offset < 2 ^ 64 → RoundsAlong old xs a → RoundsAlong old ys b →
+pub runs_alike : IsPartial [] → OneCut → (old a b : Holding) (xs ys : List Round) → IsPartial old.held.octets → old.held.offset < 2 ^ 64 →
+    RoundsAlong old xs a → RoundsAlong old ys b →
     AreInStep xs ys → AreAlike a (calls_of xs) b (calls_of ys)
 runs_alike nothing one_cut old a b xs ys partial bound h k step =
     let Like : Account → Account → Type 0 = λ (x y : Account). x ≡ y in

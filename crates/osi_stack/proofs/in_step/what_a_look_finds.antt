@@ -1,8 +1,14 @@
 -- What is seen of two ends that are the same except for lines of connections that are gone; and if a break is found.
-use Rattle.std.proofs.Common.{◌≡◌, ℕ, Bool, true, false, not, List, [], ◌∷◌, ◌++◌, length, Option, Some, None, is_some, IsSome, refl, sym, ap, subst, ◌∙◌, arith, if◌then◌else◌}
+use Rattle.std.proofs.Common.{◌≡◌, ℕ, Bool, true, false, not, List, [], ◌∷◌, ◌++◌, length, Option, Some, None, is_some, IsSome, refl, sym}
+use Rattle.std.proofs.Common.{ap, subst, ◌∙◌, arith, if◌then◌else◌}
 use Rattle.osi_session.specs.declared.faults.CallError.TheVariants.{BadState}
 use Rattle.osi_stack.specs.Runs.{Call, told_of}
-use Rattle.osi_stack.proofs.Vocabulary.{flat_map-append, sum_by-cons, flat_map, Held, kept_in, Rows, value_at, Connection, Broken, none_of, Call as SessionCall, Listener, Shown, NoSuchConnection, has_given, awaits_transport, disconnect_error, connect_error, call_error, session_refusal, phase_of, phase_at, breaks, ends, shown_at_loss, all_lost, kept_at, shown_of, all_waiting, quieted, hushed, put_back, live_lines, pruned, Account, account_of, CallsAlong, told_in, carried_in, AreAlikeInLive, LookAlike, IsSettled, Line, End, Holding, session_in, session_at, joined_of, joined_live, joined_in}
+use Rattle.osi_stack.proofs.Vocabulary.{flat_map-append, sum_by-cons, flat_map, Held, kept_in, Rows, value_at, Connection, Broken, none_of}
+use Rattle.osi_stack.proofs.Vocabulary.{Call as SessionCall, Listener, Shown, NoSuchConnection, has_given, awaits_transport}
+use Rattle.osi_stack.proofs.Vocabulary.{disconnect_error, connect_error, call_error, session_refusal, phase_of, phase_at, breaks, ends}
+use Rattle.osi_stack.proofs.Vocabulary.{shown_at_loss, all_lost, kept_at, shown_of, all_waiting, quieted, hushed, put_back, live_lines}
+use Rattle.osi_stack.proofs.Vocabulary.{pruned, Account, account_of, CallsAlong, told_in, carried_in, AreAlikeInLive, LookAlike, IsSettled}
+use Rattle.osi_stack.proofs.Vocabulary.{Line, End, Holding, session_in, session_at, joined_of, joined_live, joined_in}
 use Rattle.osi_stack.proofs.in_step.the_account_packet_by_packet.{after_more, account_joined}
 use Rattle.osi_stack.proofs.in_step.what_is_seen_is_the_same.{quieted_at, call_apart, call_hushed, look_alike}
 use Rattle.osi_stack.proofs.in_step.a_break_while_indications_are_pending.{lost_told}
@@ -25,7 +31,8 @@ session_pruned r e = session_by r e.carrier.live e.lines (is_some (value_at r e.
 -- with all indications given, and what was sent put back
 session_view : (r : ℕ) (o : List ℕ) (e : End) → session_at r (put_back o (hushed (pruned e))) ≡ session_at r e
 session_view r o e =
-    ap (λ (s : Option Listener). if is_some (value_at r e.carrier.live) then s else None) (quieted_at r (live_lines e.carrier.live e.lines)) ∙ session_pruned r e
+    ap (λ (s : Option Listener). if is_some (value_at r e.carrier.live) then s else None)
+        (quieted_at r (live_lines e.carrier.live e.lines)) ∙ session_pruned r e
 
 phase_view : (r : ℕ) (o : List ℕ) (e : End) → phase_at r (put_back o (hushed (pruned e))) ≡ phase_at r e
 phase_view r o e = ap (λ (s : Option Listener). if has_given r e.carrier then Some (phase_of s) else None) (session_view r o e)
@@ -33,16 +40,19 @@ phase_view r o e = ap (λ (s : Option Listener). if has_given r e.carrier then S
 call_view : (r : ℕ) (call : SessionCall) (o : List ℕ) (e : End) → call_error r call (put_back o (hushed (pruned e))) ≡ call_error r call e
 call_view r call o e =
     call_apart o r call (hushed (pruned e)) ∙ call_hushed r call (pruned e)
-    ∙ ap (λ (s : Option Listener). if not (has_given r e.carrier) then Some NoSuchConnection else session_refusal r s call e.carrier) (session_pruned r e)
+    ∙ ap (λ (s : Option Listener). if not (has_given r e.carrier) then Some NoSuchConnection else session_refusal r s call e.carrier)
+        (session_pruned r e)
 
 disconnect_view : (r : ℕ) (o : List ℕ) (e : End) → disconnect_error r (put_back o (hushed (pruned e))) ≡ disconnect_error r e
 disconnect_view r o e =
-    ap (λ (s : Option Listener). if not (has_given r e.carrier) then Some NoSuchConnection else (if awaits_transport s then Some BadState else None)) (session_view r o e)
+    ap (λ (s : Option Listener). if not (has_given r e.carrier) then Some NoSuchConnection else
+        (if awaits_transport s then Some BadState else None)) (session_view r o e)
 
 gone_joined : (live : Rows Connection) (row : ℕ × Line) → is_some (value_at row.0 live) ≡ false → joined_live live row ≡ 0
 gone_joined live row e = ap (λ (b : Bool). if◌then◌else◌ {A = ℕ} b (joined_of row.1.session) 0) e
 
-joined_by : (live : Rows Connection) (q : ℕ) (y : Line) (lines : Rows Line) (b : Bool) → is_some (value_at q live) ≡ b → joined_in live (live_lines live lines) ≡ joined_in live lines →
+joined_by : (live : Rows Connection) (q : ℕ) (y : Line) (lines : Rows Line) (b : Bool) → is_some (value_at q live) ≡ b →
+    joined_in live (live_lines live lines) ≡ joined_in live lines →
     joined_in live (live_lines live ((q, y) ∷ lines)) ≡ joined_in live ((q, y) ∷ lines)
 joined_by live q y lines true e more =
     let one = sum_by-cons (λ row. joined_live live row) (q, y) (live_lines live lines) in
@@ -65,8 +75,10 @@ joined_view e = sym (joined_quiet e.carrier.live (live_lines e.carrier.live e.li
 -- ---- two ends
 
 -- with the same indications for each reference
-looks : (a b : Holding) (xs ys : List Call) → a.held.octets ≡ b.held.octets → put_back (flat_map carried_in xs) (hushed (pruned a.end)) ≡ put_back (flat_map carried_in ys) (hushed (pruned b.end)) →
-    ((r : ℕ) → told_of r (flat_map told_in xs ++ all_waiting a.end.lines) ≡ told_of r (flat_map told_in ys ++ all_waiting b.end.lines)) → LookAlike a xs b ys
+looks : (a b : Holding) (xs ys : List Call) → a.held.octets ≡ b.held.octets →
+    put_back (flat_map carried_in xs) (hushed (pruned a.end)) ≡ put_back (flat_map carried_in ys) (hushed (pruned b.end)) →
+    ((r : ℕ) → told_of r (flat_map told_in xs ++ all_waiting a.end.lines) ≡ told_of r (flat_map told_in ys ++ all_waiting b.end.lines)) →
+        LookAlike a xs b ys
 looks a b xs ys octets same told =
     let o = flat_map carried_in xs in
     let p = flat_map carried_in ys in
@@ -76,7 +88,8 @@ looks a b xs ys octets same told =
       indications = told;
       octets = ap (λ (e : End). e.carrier.outgoing) same;
       ended = ap (λ (e : End). e.carrier.ended) same;
-      kept = kept_same a b (put_back o (hushed (pruned a.end))) (put_back p (hushed (pruned b.end))) (ap length octets) refl (joined_view a.end) refl (joined_view b.end)
+      kept = kept_same a b (put_back o (hushed (pruned a.end))) (put_back p (hushed (pruned b.end))) (ap length octets) refl
+          (joined_view a.end) refl (joined_view b.end)
           (ap (λ (e : End). kept_in e.carrier.live) same) (ap (λ (e : End). joined_in e.carrier.live e.lines) same);
       requests = λ c. ap (connect_error c) same;
       answers = λ r call. sym (call_view r call o a.end) ∙ ap (call_error r call) same ∙ call_view r call p b.end;
@@ -96,20 +109,26 @@ none_live ((q, y) ∷ lines) = none_live lines
 ended_view : (o : List ℕ) (e : End) → put_back o (hushed (pruned (ends Broken e))) ≡ record (put_back o (ends Broken e)) { lines = [] }
 ended_view o e = ap (λ (l : Rows Line). record (put_back o (ends Broken e)) { lines = quieted l }) (none_live (all_lost e.lines))
 
-ended_same : (o p : List ℕ) (a b : End) → put_back o (hushed (pruned a)) ≡ put_back p (hushed (pruned b)) → put_back o (hushed (pruned (ends Broken a))) ≡ put_back p (hushed (pruned (ends Broken b)))
+ended_same : (o p : List ℕ) (a b : End) → put_back o (hushed (pruned a)) ≡ put_back p (hushed (pruned b)) →
+    put_back o (hushed (pruned (ends Broken a))) ≡ put_back p (hushed (pruned (ends Broken b)))
 ended_same o p a b same = ended_view o a ∙ ap (λ (e : End). record (ends Broken e) { lines = [] }) same ∙ sym (ended_view p b)
 
 -- the indications of a session that is lost, if it has none
-lost_none : (e : End) (r : ℕ) (o : Option Listener) → e.carrier.ended ≡ None → IsFit e → kept_at r e.lines ≡ o → value_at r e.carrier.live ≡ None → shown_at_loss o ≡ []
+lost_none : (e : End) (r : ℕ) (o : Option Listener) → e.carrier.ended ≡ None → IsFit e → kept_at r e.lines ≡ o →
+    value_at r e.carrier.live ≡ None → shown_at_loss o ≡ []
 lost_none e r None lasts f is none = refl
 lost_none e r (Some s) lasts f is none = gone_shows e r s lasts f is none
 
 -- that of a live connection
-kept_view : (r : ℕ) (o : List ℕ) (e : End) → is_some (value_at r e.carrier.live) ≡ true → kept_at r (put_back o (hushed (pruned e))).lines ≡ kept_at r e.lines
-kept_view r o e here = quieted_at r (live_lines e.carrier.live e.lines) ∙ ap session_in (only_at (λ q. is_some (value_at q e.carrier.live)) r e.lines here)
+kept_view : (r : ℕ) (o : List ℕ) (e : End) → is_some (value_at r e.carrier.live) ≡ true →
+    kept_at r (put_back o (hushed (pruned e))).lines ≡ kept_at r e.lines
+kept_view r o e here = quieted_at r (live_lines e.carrier.live e.lines) ∙
+    ap session_in (only_at (λ q. is_some (value_at q e.carrier.live)) r e.lines here)
 
-lost_by : (r : ℕ) (o p : List ℕ) (a b : End) (here : Bool) → is_some (value_at r a.carrier.live) ≡ here → put_back o (hushed (pruned a)) ≡ put_back p (hushed (pruned b)) →
-    a.carrier.ended ≡ None → b.carrier.ended ≡ None → IsFit a → IsFit b → shown_at_loss (kept_at r a.lines) ≡ shown_at_loss (kept_at r b.lines)
+lost_by : (r : ℕ) (o p : List ℕ) (a b : End) (here : Bool) → is_some (value_at r a.carrier.live) ≡ here →
+    put_back o (hushed (pruned a)) ≡ put_back p (hushed (pruned b)) →
+    a.carrier.ended ≡ None → b.carrier.ended ≡ None → IsFit a → IsFit b →
+        shown_at_loss (kept_at r a.lines) ≡ shown_at_loss (kept_at r b.lines)
 lost_by r o p a b true e same lasts still f g =
     let there : is_some (value_at r b.carrier.live) ≡ true = ap (λ (x : End). is_some (value_at r x.carrier.live)) (sym same) ∙ e in
     ap shown_at_loss (sym (kept_view r o a e) ∙ ap (λ (x : End). kept_at r x.lines) same ∙ kept_view r p b there)
@@ -121,24 +140,29 @@ lost_by r o p a b false e same lasts still f g =
 pub settled_fit : (e : End) → IsSettled e → IsFit e
 settled_fit e s = record { attended = s.attended; sound = s.sound; asks = s.asks }
 
-broken_told : (a b : Holding) (xs ys : List Call) (r : ℕ) → a.end.carrier.ended ≡ None → b.end.carrier.ended ≡ None → IsFit a.end → IsFit b.end → AreAlikeInLive a xs b ys →
-    told_of r (flat_map told_in xs ++ all_waiting (all_lost a.end.lines)) ≡ told_of r (flat_map told_in ys ++ all_waiting (all_lost b.end.lines))
+broken_told : (a b : Holding) (xs ys : List Call) (r : ℕ) → a.end.carrier.ended ≡ None → b.end.carrier.ended ≡ None → IsFit a.end →
+    IsFit b.end → AreAlikeInLive a xs b ys →
+    told_of r (flat_map told_in xs ++ all_waiting (all_lost a.end.lines)) ≡ told_of r
+        (flat_map told_in ys ++ all_waiting (all_lost b.end.lines))
 broken_told a b xs ys r lasts still f g h =
     lost_told r (flat_map told_in xs) a.end.lines (f.sound lasts).apart
     ∙ ap (λ (l : List (ℕ × Shown)). l ++ shown_of r (shown_at_loss (kept_at r a.end.lines))) (ap (told_of r) h.told)
     ∙ ap (λ (w : List Shown). told_of r (flat_map told_in ys ++ all_waiting b.end.lines) ++ shown_of r w)
-    (lost_by r (flat_map carried_in xs) (flat_map carried_in ys) a.end b.end (is_some (value_at r a.end.carrier.live)) refl h.end lasts still f g)
+    (lost_by r (flat_map carried_in xs) (flat_map carried_in ys) a.end b.end (is_some (value_at r a.end.carrier.live)) refl h.end lasts
+        still f g)
     ∙ sym (lost_told r (flat_map told_in ys) b.end.lines (g.sound still).apart)
 
 abbrev broken_by : Bool → Holding → Holding
 broken_by over h = record h { end = if over then h.end else ends Broken h.end }
 
-breaks_by : (over : Bool) (a b : Holding) (xs ys : List Call) → is_some a.end.carrier.ended ≡ over → IsFit a.end → IsFit b.end → AreAlikeInLive a xs b ys →
+breaks_by : (over : Bool) (a b : Holding) (xs ys : List Call) → is_some a.end.carrier.ended ≡ over → IsFit a.end → IsFit b.end →
+    AreAlikeInLive a xs b ys →
     LookAlike (broken_by over a) xs (broken_by over b) ys
 breaks_by true a b xs ys over f g h = looks_in_live a b xs ys h
 breaks_by false a b xs ys over f g h =
     let same = ap (λ (e : End). is_some e.carrier.ended) h.end in
-    looks (broken_by false a) (broken_by false b) xs ys h.octets (ended_same (flat_map carried_in xs) (flat_map carried_in ys) a.end b.end h.end)
+    looks (broken_by false a) (broken_by false b) xs ys h.octets
+        (ended_same (flat_map carried_in xs) (flat_map carried_in ys) a.end b.end h.end)
     (λ r. broken_told a b xs ys r (none_of a.end.carrier.ended over) (none_of b.end.carrier.ended (sym same ∙ over)) f g h)
 
 -- found whatever is pending
@@ -193,7 +217,8 @@ look_over a c xs zs over h =
       told = ap (λ (x : Account). x.told) (sym same);
     })
 
-pub looks_behind : (a b c d : Holding) (xs ys zs ws : List Call) → IsSome a.end.carrier.ended → LookAlike a xs b ys → CallsAlong a zs c → CallsAlong b ws d →
+pub looks_behind : (a b c d : Holding) (xs ys zs ws : List Call) → IsSome a.end.carrier.ended → LookAlike a xs b ys → CallsAlong a zs c →
+    CallsAlong b ws d →
     LookAlike c (xs ++ zs) d (ys ++ ws)
 looks_behind a b c d xs ys zs ws over look h k =
     look_through c a d (xs ++ zs) xs (ys ++ ws) (look_turned a c xs (xs ++ zs) (look_over a c xs zs over h))

@@ -1,14 +1,18 @@
 -- What happens to an end happens to live connections and to new ones alone: it is the same without the lines of
 -- connections that are gone.
-use Rattle.std.proofs.Common.{◌≡◌, ℕ, ◌<◌, ◌≤◌, Bool, true, false, ◌||◌, nat_lt, List, [], ◌∷◌, ◌++◌, length, Option, None, is_some, refl, sym, ap, subst, ◌∙◌, inl, inr, arith}
+use Rattle.std.proofs.Common.{◌≡◌, ℕ, ◌<◌, ◌≤◌, Bool, true, false, ◌||◌, nat_lt, List, [], ◌∷◌, ◌++◌, length, Option, None, is_some, refl}
+use Rattle.std.proofs.Common.{sym, ap, subst, ◌∙◌, inl, inr, arith}
 use Rattle.osi_carrier.specs.Packets as carriers
-use Rattle.osi_stack.proofs.Vocabulary.{nat_tests, AllByRecursion, or_right, sent_gone, closed_gone, Happening, AreUpTo, IsOrderly, told_of, Rows, value_at, Connection, State as Carrier, EndReason, Input, hears_times, hears_all, with_carrier, after_packet, ends, all_waiting, to_session, live_lines, pruned, Line, End, input_of}
+use Rattle.osi_stack.proofs.Vocabulary.{nat_tests, AllByRecursion, or_right, sent_gone, closed_gone, Happening, AreUpTo, IsOrderly, told_of}
+use Rattle.osi_stack.proofs.Vocabulary.{Rows, value_at, Connection, State as Carrier, EndReason, Input, hears_times, hears_all}
+use Rattle.osi_stack.proofs.Vocabulary.{with_carrier, after_packet, ends, all_waiting, to_session, live_lines, pruned, Line, End, input_of}
 use Rattle.osi_stack.proofs.carried.events_one_after_the_other.{concluded_carrier}
 use Rattle.osi_stack.proofs.carried.packets_without_events.{both, packet_is}
 use Rattle.osi_stack.proofs.opening.connections_that_units_open.{IsOf}
 use Rattle.osi_stack.proofs.each_line.lines_stay_in_order.{packet_along}
 use Rattle.osi_stack.proofs.carried.what_each_step_preserves.{Carries, session_carried, events_heard}
-use Rattle.osi_stack.proofs.in_step.the_other_lines_may_be_dropped.{only, only_end, only_row, only_session, only_packet, only_lost, only_told, AreOf, AreStill, still_session, still_packet, still_lost}
+use Rattle.osi_stack.proofs.in_step.the_other_lines_may_be_dropped.{only, only_end, only_row, only_session, only_packet, only_lost}
+use Rattle.osi_stack.proofs.in_step.the_other_lines_may_be_dropped.{only_told, AreOf, AreStill, still_session, still_packet, still_lost}
 
 -- ---- which connections are reached
 
@@ -59,7 +63,8 @@ gone_times n e q none =
       moves = λ event x none. session_carried (λ c. value_at q c.live ≡ None) (sessions_keep q) (told_of event) (input_of event) x none;
     }) n e none
 
-gone_packet : (e : End) (unit : List ℕ) (q : ℕ) → IsOrderly e.carrier → IsGone e.carrier q → value_at q (after_packet e unit).carrier.live ≡ None
+gone_packet : (e : End) (unit : List ℕ) (q : ℕ) → IsOrderly e.carrier → IsGone e.carrier q →
+    value_at q (after_packet e unit).carrier.live ≡ None
 gone_packet e unit q orderly gone =
     let mid = with_carrier (carriers.after_packet e.carrier unit) e in
     ap (λ (x : End). value_at q x.carrier.live) (packet_is e unit)
@@ -77,15 +82,18 @@ within_by o false none here = both (is_some o) here (ap is_some (none refl))
 -- what is live after a packet, or after what happens to a session
 pub packet_within : (e : End) (unit : List ℕ) → IsOrderly e.carrier → Within (is_live (after_packet e unit).carrier) (reached e.carrier)
 packet_within e unit orderly q here =
-    within_by (value_at q (after_packet e unit).carrier.live) (reached e.carrier q) (λ no. gone_packet e unit q orderly (unreached e.carrier q no)) here
+    within_by (value_at q (after_packet e unit).carrier.live) (reached e.carrier q)
+        (λ no. gone_packet e unit q orderly (unreached e.carrier q no)) here
 
 pub session_within : (r : ℕ) (input : Input) (e : End) → Within (is_live (to_session r input e).carrier) (reached e.carrier)
 session_within r input e q here =
-    within_by (value_at q (to_session r input e).carrier.live) (reached e.carrier q) (λ no. session_carried (λ c. value_at q c.live ≡ None) (sessions_keep q) r input e (unreached e.carrier q no).none) here
+    within_by (value_at q (to_session r input e).carrier.live) (reached e.carrier q)
+        (λ no. session_carried (λ c. value_at q c.live ≡ None) (sessions_keep q) r input e (unreached e.carrier q no).none) here
 
 -- ---- lines of fewer references
 
-less_by : (K L : ℕ → Bool) → Within K L → (q : ℕ) (y : Line) (lines : Rows Line) (b c : Bool) → L q ≡ b → K q ≡ c → only K (only L lines) ≡ only K lines →
+less_by : (K L : ℕ → Bool) → Within K L → (q : ℕ) (y : Line) (lines : Rows Line) (b c : Bool) → L q ≡ b → K q ≡ c →
+    only K (only L lines) ≡ only K lines →
     only K (only L ((q, y) ∷ lines)) ≡ only K ((q, y) ∷ lines)
 less_by K L within q y lines b c e f more = grind arith
 
@@ -93,8 +101,10 @@ pub only_less : (K L : ℕ → Bool) → Within K L → (lines : Rows Line) → 
 only_less K L within [] = refl
 only_less K L within ((q, y) ∷ lines) = less_by K L within q y lines (L q) (K q) refl refl (only_less K L within lines)
 
-same_row : (K L : ℕ → Bool) (q : ℕ) (y : Line) (lines : Rows Line) (b : Bool) → K q ≡ b → L q ≡ b → only K lines ≡ only L lines → only K ((q, y) ∷ lines) ≡ only L ((q, y) ∷ lines)
-same_row K L q y lines true e f more = only_row K q y lines true e ∙ ap (λ (l : Rows Line). (q, y) ∷ l) more ∙ sym (only_row L q y lines true f)
+same_row : (K L : ℕ → Bool) (q : ℕ) (y : Line) (lines : Rows Line) (b : Bool) → K q ≡ b → L q ≡ b → only K lines ≡ only L lines →
+    only K ((q, y) ∷ lines) ≡ only L ((q, y) ∷ lines)
+same_row K L q y lines true e f more = only_row K q y lines true e ∙ ap (λ (l : Rows Line). (q, y) ∷ l) more ∙
+    sym (only_row L q y lines true f)
 same_row K L q y lines false e f more = only_row K q y lines false e ∙ more ∙ sym (only_row L q y lines false f)
 
 reached_known : (c : Carrier) (q : ℕ) → q ≤ c.given → reached c q ≡ is_live c q
@@ -103,7 +113,8 @@ reached_known c q low = grind arith
 -- if no line is new
 pub known_live : (c : Carrier) (lines : Rows Line) → AreUpTo c.given lines → only (reached c) lines ≡ live_lines c.live lines
 known_live c [] up = refl
-known_live c ((q, y) ∷ lines) up = same_row (reached c) (is_live c) q y lines (is_live c q) (reached_known c q up.0) refl (known_live c lines up.1)
+known_live c ((q, y) ∷ lines) up = same_row (reached c) (is_live c) q y lines (is_live c q) (reached_known c q up.0) refl
+    (known_live c lines up.1)
 
 -- ---- an end without the lines of connections that are gone
 
@@ -116,17 +127,21 @@ pub record SameInLive (a b : End) : Type 0 where
   pub told : all_waiting a.lines ≡ all_waiting b.lines
 
 -- what does the same without them
-pub acts_alike : (e new : End) → Within (is_live new.carrier) (reached e.carrier) → AreStill (reached e.carrier) new.lines → SameInLive (only_end (reached e.carrier) new) new
+pub acts_alike : (e new : End) → Within (is_live new.carrier) (reached e.carrier) → AreStill (reached e.carrier) new.lines →
+    SameInLive (only_end (reached e.carrier) new) new
 acts_alike e new within still = record {
   end = ap (λ (l : Rows Line). record new { lines = l }) (only_less (is_live new.carrier) (reached e.carrier) within new.lines);
   told = only_told (reached e.carrier) new.lines still;
 }
 
-pub packet_alike : (e : End) (unit : List ℕ) → IsOrderly e.carrier → e.carrier.events ≡ [] → AreUpTo e.carrier.given e.lines → AreStill (reached e.carrier) e.lines →
+pub packet_alike : (e : End) (unit : List ℕ) → IsOrderly e.carrier → e.carrier.events ≡ [] → AreUpTo e.carrier.given e.lines →
+    AreStill (reached e.carrier) e.lines →
     SameInLive (after_packet (pruned e) unit) (after_packet e unit)
-packet_alike e unit orderly none known still = grind (arith, packet_reaches, after_packet, only_packet, pruned_is, acts_alike, packet_within, still_packet)
+packet_alike e unit orderly none known still =
+    grind (arith, packet_reaches, after_packet, only_packet, pruned_is, acts_alike, packet_within, still_packet)
 
-pub session_alike : (r : ℕ) (input : Input) (e : End) → is_live e.carrier r ≡ true → AreUpTo e.carrier.given e.lines → AreStill (reached e.carrier) e.lines →
+pub session_alike : (r : ℕ) (input : Input) (e : End) → is_live e.carrier r ≡ true → AreUpTo e.carrier.given e.lines →
+    AreStill (reached e.carrier) e.lines →
     SameInLive (to_session r input (pruned e)) (to_session r input e)
 session_alike r input e here known still =
     let reaches = reached_live e.carrier r here in
@@ -134,8 +149,10 @@ session_alike r input e here known still =
     (sym (only_session (reached e.carrier) r input e reaches) ∙ ap (to_session r input) (pruned_is e known))
     (acts_alike e (to_session r input e) (session_within r input e) (still_session (reached e.carrier) r input e reaches still))
 
-pub ends_alike : (reason : EndReason) (e : End) → AreUpTo e.carrier.given e.lines → AreStill (reached e.carrier) e.lines → SameInLive (ends reason (pruned e)) (ends reason e)
+pub ends_alike : (reason : EndReason) (e : End) → AreUpTo e.carrier.given e.lines → AreStill (reached e.carrier) e.lines →
+    SameInLive (ends reason (pruned e)) (ends reason e)
 ends_alike reason e known still =
     subst (λ (x : End). SameInLive x (ends reason e))
-    (ap (λ (l : Rows Line). record (ends reason e) { lines = l }) (sym (only_lost (reached e.carrier) e.lines)) ∙ ap (ends reason) (pruned_is e known))
+    (ap (λ (l : Rows Line). record (ends reason e) { lines = l }) (sym (only_lost (reached e.carrier) e.lines)) ∙
+        ap (ends reason) (pruned_is e known))
     (acts_alike e (ends reason e) (λ q here. cc) (still_lost (reached e.carrier) e.lines still))

@@ -1,6 +1,8 @@
 -- What sessions have joined of unfinished SSDUs: as much for each live connection, whatever is pending.
-use Rattle.std.proofs.Common.{◌≡◌, ◌≢◌, ℕ, ◌+◌, ◌≤◌, ◌<◌, ◌==◌, Bool, true, false, cond, [], ◌∷◌, length, Option, Some, None, is_some, IsSome, refl, ap, subst, arith, if◌then◌else◌}
-use Rattle.osi_stack.proofs.Vocabulary.{sum_by-cons, sum_by, kept_in, RiseFrom, Rows, value_at, without, Connection, without_other, quieted, Line, End, Holding, joined_live, joined_in, kept_octets}
+use Rattle.std.proofs.Common.{◌≡◌, ◌≢◌, ℕ, ◌+◌, ◌≤◌, ◌<◌, ◌==◌, Bool, true, false, cond, [], ◌∷◌, length, Option, Some, None, is_some}
+use Rattle.std.proofs.Common.{IsSome, refl, ap, subst, arith, if◌then◌else◌}
+use Rattle.osi_stack.proofs.Vocabulary.{sum_by-cons, sum_by, kept_in, RiseFrom, Rows, value_at, without, Connection, without_other, quieted}
+use Rattle.osi_stack.proofs.Vocabulary.{Line, End, Holding, joined_live, joined_in, kept_octets}
 
 -- ---- how many lines are of live connections
 
@@ -22,17 +24,20 @@ unlike : (q r : ℕ) → r < q → q ≢ r
 unlike q r above same = let no : r < r = subst (λ m. r < m) same above in absurd (omega arith)
 
 -- lines above a reference do not look at it
-live_apart : (r n : ℕ) (live : Rows Connection) (lines : Rows Line) → r ≤ n → RiseFrom n lines → live_in (without r live) lines ≡ live_in live lines
+live_apart : (r n : ℕ) (live : Rows Connection) (lines : Rows Line) → r ≤ n → RiseFrom n lines →
+    live_in (without r live) lines ≡ live_in live lines
 live_apart r n live [] low rise = refl
 live_apart r n live ((q, line) ∷ lines) low rise =
     let above : n < q = rise.0 in
-    let here : live_one (without r live) (q, line) ≡ live_one live (q, line) = ap (λ (o : Option Connection). cond (is_some o) 1 0) (without_other q r live (unlike q r (omega arith))) in
+    let here : live_one (without r live) (q, line) ≡ live_one live (q, line) =
+        ap (λ (o : Option Connection). cond (is_some o) 1 0) (without_other q r live (unlike q r (omega arith))) in
     let more = live_apart r q live lines (omega arith) rise.1 in
     let one = sum_by-cons (λ row. live_one (without r live) row) (q, line) lines in
     let two = sum_by-cons (λ row. live_one live row) (q, line) lines in
     omega arith
 
-few_by : (r : ℕ) (line : Line) (live : Rows Connection) (lines : Rows Line) (o : Option Connection) → value_at r live ≡ o → RiseFrom r lines →
+few_by : (r : ℕ) (line : Line) (live : Rows Connection) (lines : Rows Line) (o : Option Connection) → value_at r live ≡ o →
+    RiseFrom r lines →
     ((rows : Rows Connection) → live_in rows lines ≤ length rows) → live_in live ((r, line) ∷ lines) ≤ length live
 few_by r line live lines None at rise more =
     let behind = more live in
@@ -67,9 +72,12 @@ joined_quiet live ((r, line) ∷ lines) =
 -- ---- two ends
 
 -- what two ends keep of which this much is the same
-pub kept_same : (a b : Holding) (here there : End) → length a.held.octets ≡ length b.held.octets → kept_in a.end.carrier.live ≡ kept_in here.carrier.live →
-    joined_in a.end.carrier.live a.end.lines ≡ joined_in here.carrier.live here.lines → kept_in b.end.carrier.live ≡ kept_in there.carrier.live →
-    joined_in b.end.carrier.live b.end.lines ≡ joined_in there.carrier.live there.lines → kept_in here.carrier.live ≡ kept_in there.carrier.live →
+pub kept_same : (a b : Holding) (here there : End) → length a.held.octets ≡ length b.held.octets →
+    kept_in a.end.carrier.live ≡ kept_in here.carrier.live →
+    joined_in a.end.carrier.live a.end.lines ≡ joined_in here.carrier.live here.lines →
+        kept_in b.end.carrier.live ≡ kept_in there.carrier.live →
+    joined_in b.end.carrier.live b.end.lines ≡ joined_in there.carrier.live there.lines →
+        kept_in here.carrier.live ≡ kept_in there.carrier.live →
     joined_in here.carrier.live here.lines ≡ joined_in there.carrier.live there.lines → kept_octets a ≡ kept_octets b
 kept_same a b here there held one two three four five six = omega arith
 

@@ -1,15 +1,20 @@
 -- What is seen of two ends with the same account.
-use Rattle.std.proofs.Common.{option_map, ◌≡◌, ℕ, ◌==◌, Bool, true, false, not, List, [], ◌∷◌, length, Option, Some, None, is_some, refl, sym, ap, ◌∙◌, if◌then◌else◌, arith}
+use Rattle.std.proofs.Common.{option_map, ◌≡◌, ℕ, ◌==◌, Bool, true, false, not, List, [], ◌∷◌, length, Option, Some, None, is_some, refl}
+use Rattle.std.proofs.Common.{sym, ap, ◌∙◌, if◌then◌else◌, arith}
 use Rattle.osi_session.specs.declared.faults.CallError.TheVariants.{BadState}
 use Rattle.osi_stack.specs.Runs.{Call, told_of}
-use Rattle.osi_stack.proofs.Vocabulary.{flat_map, kept_in, Rows, value_at, Call as SessionCall, Listener, NoSuchConnection, has_given, awaits_transport, disconnect_error, connect_error, call_error, session_refusal, phase_of, phase_at, quieted, hushed, put_back, carried_in, AreAlike, AreAlikeByReference, LookAlike, Line, End, Holding, session_in, session_at, joined_in}
+use Rattle.osi_stack.proofs.Vocabulary.{flat_map, kept_in, Rows, value_at, Call as SessionCall, Listener, NoSuchConnection, has_given}
+use Rattle.osi_stack.proofs.Vocabulary.{awaits_transport, disconnect_error, connect_error, call_error, session_refusal, phase_of, phase_at}
+use Rattle.osi_stack.proofs.Vocabulary.{quieted, hushed, put_back, carried_in, AreAlike, AreAlikeByReference, LookAlike, Line, End, Holding}
+use Rattle.osi_stack.proofs.Vocabulary.{session_in, session_at, joined_in}
 use Rattle.osi_stack.proofs.in_step.what_is_joined_is_the_same.{joined_quiet, kept_same}
 
 -- a line for which nothing is pending
 abbrev pub hush : Line → Line
 hush line = record line { waiting = [] }
 
-value_by : (r q : ℕ) (line : Line) (lines : Rows Line) (b : Bool) → (q == r) ≡ b → value_at r (quieted lines) ≡ option_map hush (value_at r lines) →
+value_by : (r q : ℕ) (line : Line) (lines : Rows Line) (b : Bool) → (q == r) ≡ b →
+    value_at r (quieted lines) ≡ option_map hush (value_at r lines) →
     value_at r (quieted ((q, line) ∷ lines)) ≡ option_map hush (value_at r ((q, line) ∷ lines))
 value_by r q line lines true e more = rw e refl
 value_by r q line lines false e more = rw e more
@@ -38,14 +43,17 @@ pub call_apart : (o : List ℕ) (r : ℕ) (call : SessionCall) (e : End) → cal
 call_apart o r call e = grind arith
 
 pub call_hushed : (r : ℕ) (call : SessionCall) (e : End) → call_error r call (hushed e) ≡ call_error r call e
-call_hushed r call e = ap (λ (s : Option Listener). if not (has_given r e.carrier) then Some NoSuchConnection else session_refusal r s call e.carrier) (session_hushed r e)
+call_hushed r call e =
+    ap (λ (s : Option Listener). if not (has_given r e.carrier) then Some NoSuchConnection else session_refusal r s call e.carrier)
+    (session_hushed r e)
 
 call_same : (o : List ℕ) (r : ℕ) (call : SessionCall) (e : End) → call_error r call (put_back o (hushed e)) ≡ call_error r call e
 call_same o r call e = call_apart o r call (hushed e) ∙ call_hushed r call e
 
 disconnect_same : (o : List ℕ) (r : ℕ) (e : End) → disconnect_error r (put_back o (hushed e)) ≡ disconnect_error r e
 disconnect_same o r e =
-    ap (λ (s : Option Listener). if not (has_given r e.carrier) then Some NoSuchConnection else (if awaits_transport s then Some BadState else None)) (session_hushed r e)
+    ap (λ (s : Option Listener). if not (has_given r e.carrier) then Some NoSuchConnection else
+        (if awaits_transport s then Some BadState else None)) (session_hushed r e)
 
 -- also if the indications of several references are in another order
 pub look_apart : (a b : Holding) (xs ys : List Call) → AreAlikeByReference a xs b ys → LookAlike a xs b ys
@@ -55,12 +63,16 @@ look_apart a b xs ys h = record {
   indications = h.told;
   octets = ap (λ (e : End). e.carrier.outgoing) h.end;
   ended = ap (λ (e : End). e.carrier.ended) h.end;
-  kept = kept_same a b (put_back (flat_map carried_in xs) (hushed a.end)) (put_back (flat_map carried_in ys) (hushed b.end)) (ap length h.octets) refl
-      (sym (joined_quiet a.end.carrier.live a.end.lines)) refl (sym (joined_quiet b.end.carrier.live b.end.lines)) (ap (λ (e : End). kept_in e.carrier.live) h.end)
+  kept = kept_same a b (put_back (flat_map carried_in xs) (hushed a.end)) (put_back (flat_map carried_in ys) (hushed b.end))
+      (ap length h.octets) refl
+      (sym (joined_quiet a.end.carrier.live a.end.lines)) refl (sym (joined_quiet b.end.carrier.live b.end.lines))
+          (ap (λ (e : End). kept_in e.carrier.live) h.end)
       (ap (λ (e : End). joined_in e.carrier.live e.lines) h.end);
   requests = λ c. ap (connect_error c) h.end;
-  answers = λ r call. sym (call_same (flat_map carried_in xs) r call a.end) ∙ ap (call_error r call) h.end ∙ call_same (flat_map carried_in ys) r call b.end;
-  disconnects = λ r. sym (disconnect_same (flat_map carried_in xs) r a.end) ∙ ap (disconnect_error r) h.end ∙ disconnect_same (flat_map carried_in ys) r b.end;
+  answers = λ r call. sym (call_same (flat_map carried_in xs) r call a.end) ∙ ap (call_error r call) h.end ∙
+      call_same (flat_map carried_in ys) r call b.end;
+  disconnects = λ r. sym (disconnect_same (flat_map carried_in xs) r a.end) ∙ ap (disconnect_error r) h.end ∙
+      disconnect_same (flat_map carried_in ys) r b.end;
 }
 
 pub look_alike : (a b : Holding) (xs ys : List Call) → AreAlike a xs b ys → LookAlike a xs b ys

@@ -1,13 +1,21 @@
 -- The connections that units open: those that were requested, and new ones at a called end. A connection stays requested
 -- until its user is told that it is accepted or refused.
-use Rattle.std.proofs.Common.{◌≡◌, ◌≢◌, ℕ, ◌+◌, ◌<◌, ◌≤◌, ◌==◌, Bool, true, false, List, [], ◌∷◌, ◌++◌, take, Option, Some, None, Result, Ok, Err, is_some, IsSome, refl, sym, ap, subst, ◌∙◌, inl, inr, ◌⊎◌, arith, append_assoc, if◌then◌else◌}
+use Rattle.std.proofs.Common.{◌≡◌, ◌≢◌, ℕ, ◌+◌, ◌<◌, ◌≤◌, ◌==◌, Bool, true, false, List, [], ◌∷◌, ◌++◌, take, Option, Some, None, Result}
+use Rattle.std.proofs.Common.{Ok, Err, is_some, IsSome, refl, sym, ap, subst, ◌∙◌, inl, inr, ◌⊎◌, arith, append_assoc, if◌then◌else◌}
 use Rattle.osi_tpdu.specs.Value.{Connect}
 use Rattle.osi_class.specs.Link.{taken}
 use Rattle.osi_class.specs.Negotiation.{Selection, accept, refuse, selected_by}
 use Rattle.osi_class.specs.declared.faults.LinkFault.{LinkFault}
 use Rattle.osi_carrier.specs.Negotiation.{confirmed}
 use Rattle.osi_carrier.specs.React.{answers, opens, breaks, react}
-use Rattle.osi_stack.proofs.Vocabulary.{eqb-true, eq-eqb, or_left, append-nil, AllByRecursion, Value, request, confirm, disconnect, disconnected, data0, data2, acknowledge, error, Standing, Class, Zero, Two, Happening, tsdu, closed, faulted, RiseFrom, told_of, IsOrderly, denies, is_full, has_peer, answers_request, to_unknown, to_asked, tells_of, taking, leaves, to_linked, to_closing, to_connection, to_reference, before_class, to_only, in_zero, in_two, in_class, react_by, reacts, Rows, value_at, put, without, Connection, asked, linked, closing, State, drops, EndReason, put_here, without_here, beyond, put_other, without_other, put_none, push_other, stays_gone, orderly_unit, react_over, told_opened as opened, told_refused as refused, carrier_ends as ends}
+use Rattle.osi_stack.proofs.Vocabulary.{eqb-true, eq-eqb, or_left, append-nil, AllByRecursion, Value, request, confirm, disconnect}
+use Rattle.osi_stack.proofs.Vocabulary.{disconnected, data0, data2, acknowledge, error, Standing, Class, Zero, Two, Happening, tsdu, closed}
+use Rattle.osi_stack.proofs.Vocabulary.{faulted, RiseFrom, told_of, IsOrderly, denies, is_full, has_peer, answers_request, to_unknown}
+use Rattle.osi_stack.proofs.Vocabulary.{to_asked, tells_of, taking, leaves, to_linked, to_closing, to_connection, to_reference}
+use Rattle.osi_stack.proofs.Vocabulary.{before_class, to_only, in_zero, in_two, in_class, react_by, reacts, Rows, value_at, put, without}
+use Rattle.osi_stack.proofs.Vocabulary.{Connection, asked, linked, closing, State, drops, EndReason, put_here, without_here, beyond}
+use Rattle.osi_stack.proofs.Vocabulary.{put_other, without_other, put_none, push_other, stays_gone, orderly_unit, react_over}
+use Rattle.osi_stack.proofs.Vocabulary.{told_opened as opened, told_refused as refused, carrier_ends as ends}
 use Rattle.osi_stack.proofs.opening.which_requests_are_answered.{answered, answered_front, answered_behind}
 use Rattle.osi_stack.proofs.sound.the_invariant_is_kept.{units_rise, up_at}
 use Rattle.osi_stack.proofs.carried.packets_without_events.{both}
@@ -18,7 +26,8 @@ use Rattle.osi_stack.proofs.carried.packets_without_events.{both}
 abbrev pub AwaitedBefore : Rows Connection → Rows Connection → Type 0
 AwaitedBefore old new = (q : ℕ) → value_at q new ≡ Some asked → value_at q old ≡ Some asked
 
-put_at : (q r : ℕ) (c : Connection) (rows : Rows Connection) (b : Bool) (o : Option Connection) → (q == r) ≡ b → value_at q rows ≡ o → (c ≡ asked → ⊥) →
+put_at : (q r : ℕ) (c : Connection) (rows : Rows Connection) (b : Bool) (o : Option Connection) → (q == r) ≡ b → value_at q rows ≡ o →
+    (c ≡ asked → ⊥) →
     value_at q (put r c rows) ≡ Some asked → value_at q rows ≡ Some asked
 put_at q r c rows false o e is other h =
     let ne : q ≢ r = (λ same. let yes : (q == r) ≡ true = eq-eqb q r same in let no : true ≡ false = sym yes ∙ e in cc) in
@@ -32,18 +41,21 @@ put_at q r c rows true (Some x) e is other h =
 pub awaited_put : (r : ℕ) (c : Connection) (rows : Rows Connection) → (c ≡ asked → ⊥) → AwaitedBefore rows (put r c rows)
 awaited_put r c rows other = λ q h. put_at q r c rows (q == r) (value_at q rows) refl refl other h
 
-without_at : (q r : ℕ) (rows : Rows Connection) (b : Bool) → (q == r) ≡ b → RiseFrom 0 rows → value_at q (without r rows) ≡ Some asked → value_at q rows ≡ Some asked
+without_at : (q r : ℕ) (rows : Rows Connection) (b : Bool) → (q == r) ≡ b → RiseFrom 0 rows → value_at q (without r rows) ≡ Some asked →
+    value_at q rows ≡ Some asked
 without_at q r rows b e rise h = grind (arith, eq-eqb, without_other, asked, without_here, value_at, without, eqb-true)
 
 awaited_without : (r : ℕ) (rows : Rows Connection) → RiseFrom 0 rows → AwaitedBefore rows (without r rows)
 awaited_without r rows rise = λ q h. without_at q r rows (q == r) refl rise h
 
-push_at : (q p n : ℕ) (c y : Connection) (rows : Rows Connection) (b : Bool) → (p == q) ≡ b → (value_at q (rows ++ (n, c) ∷ []) ≡ Some asked → value_at q rows ≡ Some asked) →
+push_at : (q p n : ℕ) (c y : Connection) (rows : Rows Connection) (b : Bool) → (p == q) ≡ b →
+    (value_at q (rows ++ (n, c) ∷ []) ≡ Some asked → value_at q rows ≡ Some asked) →
     value_at q ((p, y) ∷ (rows ++ (n, c) ∷ [])) ≡ Some asked → value_at q ((p, y) ∷ rows) ≡ Some asked
 push_at q p n c y rows true e more h = rw e (rw e at h)
 push_at q p n c y rows false e more h = rw e (more (rw e at h))
 
-last_at : (q n : ℕ) (c : Connection) (b : Bool) → (n == q) ≡ b → (c ≡ asked → ⊥) → value_at q ((n, c) ∷ []) ≡ Some asked → value_at q [] ≡ Some asked
+last_at : (q n : ℕ) (c : Connection) (b : Bool) → (n == q) ≡ b → (c ≡ asked → ⊥) → value_at q ((n, c) ∷ []) ≡ Some asked →
+    value_at q [] ≡ Some asked
 last_at q n c true e other h = let two : Some c ≡ Some asked = rw e at h in let one : c ≡ asked = cc in absurd (other one)
 last_at q n c false e other h = rw e at h
 
@@ -92,7 +104,8 @@ record Unopened (old new : State) (told : List Happening) : Type 0 where
 
 -- one that was requested is so still, or that is answered, while the carrier lasts
 abbrev pub StaysAsked : State → State → List Happening → Type 0
-StaysAsked old new told = (q : ℕ) → value_at q old.live ≡ Some asked → new.ended ≡ None → (value_at q new.live ≡ Some asked) ⊎ (answered q told ≡ true)
+StaysAsked old new told = (q : ℕ) → value_at q old.live ≡ Some asked → new.ended ≡ None →
+    (value_at q new.live ≡ Some asked) ⊎ (answered q told ≡ true)
 
 record Opens (old new : State) : Type 0 where
   told : List Happening
@@ -102,10 +115,12 @@ record Opens (old new : State) : Type 0 where
   awaited : AwaitedBefore old.live new.live
   stays : StaysAsked old new told
 
-silent : (old new : State) → new.events ≡ old.events → new.given ≡ old.given → new.is_caller ≡ old.is_caller → AwaitedBefore old.live new.live → StaysAsked old new [] → Opens old new
+silent : (old new : State) → new.events ≡ old.events → new.given ≡ old.given → new.is_caller ≡ old.is_caller →
+    AwaitedBefore old.live new.live → StaysAsked old new [] → Opens old new
 silent old new same given side awaited stays = grind (arith, append-nil)
 
-telling : (old new : State) (event : Happening) → opened_in (event ∷ []) ≡ [] → IsSome (value_at (told_of event) old.live) → new.events ≡ old.events ++ event ∷ [] → new.given ≡ old.given → new.is_caller ≡ old.is_caller →
+telling : (old new : State) (event : Happening) → opened_in (event ∷ []) ≡ [] → IsSome (value_at (told_of event) old.live) →
+    new.events ≡ old.events ++ event ∷ [] → new.given ≡ old.given → new.is_caller ≡ old.is_caller →
     AwaitedBefore old.live new.live → StaysAsked old new (event ∷ []) → Opens old new
 telling old new event none here same given side awaited stays = grind arith
 
@@ -121,13 +136,16 @@ opens_denies reason peer s = silent s (denies reason peer s) refl refl refl (λ 
 -- ---- a CR
 
 -- a CR is for no connection that is there
-stays_pushed : (c : Connection) (s : State) → IsOrderly s → (q : ℕ) → value_at q s.live ≡ Some asked → value_at q (s.live ++ (s.given + 1, c) ∷ []) ≡ Some asked
+stays_pushed : (c : Connection) (s : State) → IsOrderly s → (q : ℕ) → value_at q s.live ≡ Some asked →
+    value_at q (s.live ++ (s.given + 1, c) ∷ []) ≡ Some asked
 stays_pushed c s o q h = grind (arith, asked, beyond, value_at, push_other)
 
-opens_accepts : (class : Class) (size : Option ℕ) (c : Connect) (s : State) → IsOrderly s → s.is_caller ≡ false → Opens s (answers c (accept class size) None s)
+opens_accepts : (class : Class) (size : Option ℕ) (c : Connect) (s : State) → IsOrderly s → s.is_caller ≡ false →
+    Opens s (answers c (accept class size) None s)
 opens_accepts class size c s o called = grind (arith, opened, awaited_push, linked_not_asked, stays_pushed)
 
-opens_answers : (c : Connect) (selection : Selection) (held : Option Class) (s : State) → IsOrderly s → s.is_caller ≡ false → Opens s (answers c selection held s)
+opens_answers : (c : Connect) (selection : Selection) (held : Option Class) (s : State) → IsOrderly s → s.is_caller ≡ false →
+    Opens s (answers c selection held s)
 opens_answers c (refuse reason) held s o called = opens_denies reason c.source s
 opens_answers c (accept Two size) held s o called = opens_accepts Two size c s o called
 opens_answers c (accept Zero size) None s o called = opens_accepts Zero size c s o called
@@ -145,12 +163,14 @@ opens_request c s o called = answers_by c s (has_peer c.source s.live) (is_full 
 -- ---- a unit for a connection
 
 opens_unknown : (unit : Value) (s : State) → Opens s (to_unknown unit s)
-opens_unknown (disconnect destination source reason user) s = silent s (to_unknown (disconnect destination source reason user) s) refl refl refl (λ q h. h) (λ q h over. inl h)
+opens_unknown (disconnect destination source reason user) s =
+    silent s (to_unknown (disconnect destination source reason user) s) refl refl refl (λ q h. h) (λ q h over. inl h)
 opens_unknown (disconnected destination source) s = opens_none s
 opens_unknown unit s = opens_end _ s
 
 -- the answer for one, by whether it is this one
-stays_by : (q r : ℕ) (event : Happening) (new : Rows Connection) (b : Bool) → (r == q) ≡ b → ((r == q) ≡ true → answered q (event ∷ []) ≡ true) → (q ≢ r → value_at q new ≡ Some asked) →
+stays_by : (q r : ℕ) (event : Happening) (new : Rows Connection) (b : Bool) → (r == q) ≡ b →
+    ((r == q) ≡ true → answered q (event ∷ []) ≡ true) → (q ≢ r → value_at q new ≡ Some asked) →
     (value_at q new ≡ Some asked) ⊎ (answered q (event ∷ []) ≡ true)
 stays_by q r event new true e here other = inr (here e)
 stays_by q r event new false e here other = inl (other (λ same. both (r == q) (eq-eqb r q (sym same)) e))
@@ -161,7 +181,8 @@ opens_confirm r c class s here = grind (arith, opens_end, opened, awaited_put, l
 opens_asked : (r : ℕ) (unit : Value) (s : State) → IsOrderly s → value_at r s.live ≡ Some asked → Opens s (to_asked r unit s)
 opens_asked r (confirm destination c) s o here = opens_confirm r c (confirmed c s.local s.class) s here
 opens_asked r (disconnect destination source reason user) s o here =
-    telling s (to_asked r (disconnect destination source reason user) s) (refused r reason) refl (ap is_some here) refl refl refl (awaited_without r s.live o.rise)
+    telling s (to_asked r (disconnect destination source reason user) s) (refused r reason) refl (ap is_some here) refl refl refl
+        (awaited_without r s.live o.rise)
     (λ q h over. stays_by q r (refused r reason) _ (r == q) refl (or_left (r == q) false) (λ ne. without_other q r s.live ne ∙ h))
 opens_asked r (error destination cause) s o here =
     telling s (to_asked r (error destination cause) s) (refused r 0) refl (ap is_some here) refl refl refl (awaited_without r s.live o.rise)
@@ -176,13 +197,16 @@ record IsThere (r : ℕ) (s : State) : Type 0 where
 there : (r : ℕ) (c : Connection) (s : State) → value_at r s.live ≡ Some c → (c ≡ asked → ⊥) → IsThere r s
 there r c s here other = grind arith
 
-opens_settles : (r : ℕ) (whole : List (List ℕ)) (c : Connection) (s t : State) → IsThere r s → (c ≡ asked → ⊥) → t.given ≡ s.given → t.is_caller ≡ s.is_caller → t.live ≡ put r c s.live →
+opens_settles : (r : ℕ) (whole : List (List ℕ)) (c : Connection) (s t : State) → IsThere r s → (c ≡ asked → ⊥) → t.given ≡ s.given →
+    t.is_caller ≡ s.is_caller → t.live ≡ put r c s.live →
     t.events ≡ s.events → Opens s (tells_of r (take 1 whole) t)
 opens_settles r [] c s t here other given side live events =
-    silent s (tells_of r [] t) (append-nil t.events ∙ events) given side (subst (AwaitedBefore s.live) (sym live) (awaited_put r c s.live other))
+    silent s (tells_of r [] t) (append-nil t.events ∙ events) given side
+        (subst (AwaitedBefore s.live) (sym live) (awaited_put r c s.live other))
     (λ q h over. inl (ap (value_at q) live ∙ put_other q r c s.live (here.apart q h) ∙ h))
 opens_settles r (first ∷ more) c s t here other given side live events =
-    telling s (tells_of r (first ∷ []) t) (tsdu r first) refl here.here (ap (λ l. l ++ tsdu r first ∷ []) events) given side (subst (AwaitedBefore s.live) (sym live) (awaited_put r c s.live other))
+    telling s (tells_of r (first ∷ []) t) (tsdu r first) refl here.here (ap (λ l. l ++ tsdu r first ∷ []) events) given side
+        (subst (AwaitedBefore s.live) (sym live) (awaited_put r c s.live other))
     (λ q h over. inl (ap (value_at q) live ∙ put_other q r c s.live (here.apart q h) ∙ h))
 
 opens_breaks : (r peer : ℕ) (fault : LinkFault) (held : Option Class) (s : State) → IsThere r s → Opens s (breaks r peer fault held s)
@@ -195,22 +219,26 @@ opens_taking r peer (Err fault) s here = opens_breaks r peer fault s.class s her
 opens_leaves : (r peer reason : ℕ) (held : Option Class) (s : State) → IsOrderly s → IsThere r s → Opens s (leaves r peer reason held s)
 opens_leaves r peer reason held s o here = grind (arith, telling, leaves, closed, awaited_without, without_other)
 
-opens_linked : (r peer : ℕ) (link : Standing) (unit : Value) (s : State) → IsOrderly s → IsThere r s → Opens s (to_linked r peer link unit s)
+opens_linked : (r peer : ℕ) (link : Standing) (unit : Value) (s : State) → IsOrderly s → IsThere r s →
+    Opens s (to_linked r peer link unit s)
 opens_linked r peer link (disconnect destination source reason user) s o here = opens_leaves r peer reason s.class s o here
 opens_linked r peer link unit s o here = opens_taking r peer (taken link unit) s here
 
 opens_dropped : (r : ℕ) (s : State) → IsOrderly s → IsThere r s → Opens s (drops r s)
-opens_dropped r s o here = silent s (drops r s) refl refl refl (awaited_without r s.live o.rise) (λ q h over. inl (without_other q r s.live (here.apart q h) ∙ h))
+opens_dropped r s o here =
+    silent s (drops r s) refl refl refl (awaited_without r s.live o.rise) (λ q h over. inl (without_other q r s.live (here.apart q h) ∙ h))
 
 opens_closing : (r : ℕ) (unit : Value) (s : State) → IsOrderly s → IsThere r s → Opens s (to_closing r unit s)
 opens_closing r (disconnected destination source) s o here = opens_dropped r s o here
 opens_closing r (disconnect destination source reason user) s o here = opens_dropped r s o here
 opens_closing r unit s o here = opens_none s
 
-opens_connection : (r : ℕ) (o : Option Connection) (unit : Value) (s : State) → IsOrderly s → value_at r s.live ≡ o → Opens s (to_connection r o unit s)
+opens_connection : (r : ℕ) (o : Option Connection) (unit : Value) (s : State) → IsOrderly s → value_at r s.live ≡ o →
+    Opens s (to_connection r o unit s)
 opens_connection r None unit s o here = opens_unknown unit s
 opens_connection r (Some asked) unit s o here = opens_asked r unit s o here
-opens_connection r (Some (linked peer link)) unit s o here = opens_linked r peer link unit s o (there r (linked peer link) s here (linked_not_asked peer link))
+opens_connection r (Some (linked peer link)) unit s o here =
+    opens_linked r peer link unit s o (there r (linked peer link) s here (linked_not_asked peer link))
 opens_connection r (Some (closing peer)) unit s o here = opens_closing r unit s o (there r (closing peer) s here (closing_not_asked peer))
 
 opens_reference : (r : ℕ) (unit : Value) (s : State) → IsOrderly s → Opens s (to_reference r unit s)
@@ -226,7 +254,8 @@ first_here r x rows = let e = eq-eqb r r refl in rw e refl
 
 only_by : (live : Rows Connection) (unit : Value) (s : State) → IsOrderly s → s.live ≡ live → Opens s (to_only live unit s)
 only_by [] unit s o is = opens_none s
-only_by ((r, connection) ∷ rows) unit s o is = opens_connection r (Some connection) unit s o (ap (value_at r) is ∙ first_here r connection rows)
+only_by ((r, connection) ∷ rows) unit s o is =
+    opens_connection r (Some connection) unit s o (ap (value_at r) is ∙ first_here r connection rows)
 
 opens_zero : (b : Bool) (unit : Value) (s : State) → IsOrderly s → Opens s (in_zero b unit s)
 opens_zero true (request c) s o = opens_end _ s
@@ -337,26 +366,35 @@ pub record OpensAlong (old new : State) : Type 0 where
   pub stays : StaysAsked old new told
   pub lasts : new.ended ≡ None → old.ended ≡ None
 
-caller_by : (old new : State) (told : List Happening) → Unopened old new told ⊎ (Agreed old new told ⊎ Accepted old new told) → old.is_caller ≡ true → AreAwaited old.live (opened_in told)
+caller_by : (old new : State) (told : List Happening) → Unopened old new told ⊎ (Agreed old new told ⊎ Accepted old new told) →
+    old.is_caller ≡ true → AreAwaited old.live (opened_in told)
 caller_by old new told h3 caller = grind arith
 
-called_by : (old new : State) (told : List Happening) → Unopened old new told ⊎ (Agreed old new told ⊎ Accepted old new told) → NoneAwaited old.live →
+called_by : (old new : State) (told : List Happening) → Unopened old new told ⊎ (Agreed old new told ⊎ Accepted old new told) →
+    NoneAwaited old.live →
     Rises old.given (opened_in told) new.given
 called_by old new told h3 none = grind arith
 
-about_by : (old new : State) (told : List Happening) → Unopened old new told ⊎ (Agreed old new told ⊎ Accepted old new told) → AllByRecursion (IsOf old) told
-about_by old new told (inl h) = all_still (λ event. IsSome (value_at (told_of event) old.live)) (IsOf old) told (λ event here. inl here) h.about
+about_by : (old new : State) (told : List Happening) → Unopened old new told ⊎ (Agreed old new told ⊎ Accepted old new told) →
+    AllByRecursion (IsOf old) told
+about_by old new told (inl h) = all_still (λ event. IsSome (value_at (told_of event) old.live)) (IsOf old) told (λ event here. inl here)
+    h.about
 about_by old new told (inr (inl h)) = subst (AllByRecursion (IsOf old)) (sym h.event) (inl (ap is_some h.here), tt)
 about_by old new told (inr (inr h)) = subst (AllByRecursion (IsOf old)) (sym h.event) (inr (omega arith), tt)
 
-given_here : (s : State) → IsOrderly s → (l : List Happening) → AllByRecursion (λ event. IsSome (value_at (told_of event) s.live)) l → AllByRecursion (IsGiven s.given) l
-given_here s o l all = all_still (λ event. IsSome (value_at (told_of event) s.live)) (IsGiven s.given) l (λ event here. up_at (told_of event) s.given s.live o.up_to here) all
+given_here : (s : State) → IsOrderly s → (l : List Happening) → AllByRecursion (λ event. IsSome (value_at (told_of event) s.live)) l →
+    AllByRecursion (IsGiven s.given) l
+given_here s o l all =
+    all_still (λ event. IsSome (value_at (told_of event) s.live)) (IsGiven s.given) l
+    (λ event here. up_at (told_of event) s.given s.live o.up_to here) all
 
-known_by : (old new : State) (told : List Happening) → IsOrderly old → Unopened old new told ⊎ (Agreed old new told ⊎ Accepted old new told) → old.is_caller ≡ true →
+known_by : (old new : State) (told : List Happening) → IsOrderly old →
+    Unopened old new told ⊎ (Agreed old new told ⊎ Accepted old new told) → old.is_caller ≡ true →
     (new.given ≡ old.given) × AllByRecursion (IsGiven old.given) told
 known_by old new told o h4 caller = grind (arith, given_here, up_at, is_some, both)
 
-comes_by : (old new : State) (told : List Happening) → IsOrderly old → Unopened old new told ⊎ (Agreed old new told ⊎ Accepted old new told) → NoneAwaited old.live →
+comes_by : (old new : State) (told : List Happening) → IsOrderly old →
+    Unopened old new told ⊎ (Agreed old new told ⊎ Accepted old new told) → NoneAwaited old.live →
     Comes old.given told new.given
 comes_by old new told o h4 none = grind (arith, comes_quiet, given_here)
 
@@ -383,13 +421,16 @@ along_unit unit s orderly =
       lasts = unit_lasts unit s s.ended refl;
     }
 
-about_join : (old mid : State) (event : Happening) → old.given ≤ mid.given → ((q : ℕ) → q ≤ old.given → value_at q old.live ≡ None → value_at q mid.live ≡ None) → IsOf mid event → IsOf old event
+about_join : (old mid : State) (event : Happening) → old.given ≤ mid.given →
+    ((q : ℕ) → q ≤ old.given → value_at q old.live ≡ None → value_at q mid.live ≡ None) → IsOf mid event → IsOf old event
 about_join old mid event rises gone h5 = grind arith
 
-gone_join : (old mid new : State) → OpensAlong old mid → OpensAlong mid new → (q : ℕ) → q ≤ old.given → value_at q old.live ≡ None → value_at q new.live ≡ None
+gone_join : (old mid new : State) → OpensAlong old mid → OpensAlong mid new → (q : ℕ) → q ≤ old.given → value_at q old.live ≡ None →
+    value_at q new.live ≡ None
 gone_join old mid new a b q up none = let more = a.rises in b.gone q (omega arith) (a.gone q up none)
 
-known_join : (old mid new : State) (a : OpensAlong old mid) (b : OpensAlong mid new) → old.is_caller ≡ true → (new.given ≡ old.given) × AllByRecursion (IsGiven old.given) (a.told ++ b.told)
+known_join : (old mid new : State) (a : OpensAlong old mid) (b : OpensAlong mid new) → old.is_caller ≡ true →
+    (new.given ≡ old.given) × AllByRecursion (IsGiven old.given) (a.told ++ b.told)
 known_join old mid new a b caller = grind (arith, all_join)
 
 stays_join : (old mid new : State) (a : OpensAlong old mid) (b : OpensAlong mid new) → StaysAsked old new (a.told ++ b.told)
@@ -400,14 +441,18 @@ along_join old mid new a b = record {
   told = a.told ++ b.told;
   events = b.events ∙ ap (λ l. l ++ b.told) a.events ∙ append_assoc old.events a.told b.told;
   caller = λ caller. subst (AreAwaited old.live) (sym (opened_join a.told b.told))
-      (awaited_join old.live (opened_in a.told) (opened_in b.told) (a.caller caller) (awaited_from old.live mid.live (opened_in b.told) a.awaited (b.caller (a.side ∙ caller))));
+      (awaited_join old.live (opened_in a.told) (opened_in b.told) (a.caller caller)
+          (awaited_from old.live mid.live (opened_in b.told) a.awaited (b.caller (a.side ∙ caller))));
   called = λ called none. subst (λ (l : List ℕ). Rises old.given l new.given) (sym (opened_join a.told b.told))
-      (rises_join old.given (opened_in a.told) mid.given (opened_in b.told) new.given (a.called called none) (b.called (a.side ∙ called) (λ q h. none q (a.awaited q h))));
+      (rises_join old.given (opened_in a.told) mid.given (opened_in b.told) new.given (a.called called none)
+          (b.called (a.side ∙ called) (λ q h. none q (a.awaited q h))));
   side = b.side ∙ a.side;
   awaited = λ q h. a.awaited q (b.awaited q h);
-  about = all_join (IsOf old) a.told b.told a.about (all_still (IsOf mid) (IsOf old) b.told (λ event. about_join old mid event a.rises a.gone) b.about);
+  about = all_join (IsOf old) a.told b.told a.about
+      (all_still (IsOf mid) (IsOf old) b.told (λ event. about_join old mid event a.rises a.gone) b.about);
   known = λ caller. known_join old mid new a b caller;
-  comes = λ called none. comes_join old.given a.told mid.given b.told new.given (a.comes called none) (b.comes (a.side ∙ called) (λ q h. none q (a.awaited q h)));
+  comes = λ called none. comes_join old.given a.told mid.given b.told new.given (a.comes called none)
+      (b.comes (a.side ∙ called) (λ q h. none q (a.awaited q h)));
   rises = let first = a.rises in let second = b.rises in omega arith;
   gone = gone_join old mid new a b;
   stays = stays_join old mid new a b;
@@ -434,7 +479,8 @@ along_none s = record {
 pub along_units : (units : List Value) (s : State) → IsOrderly s → OpensAlong s (reacts units s)
 along_units [] s orderly = along_none s
 along_units (unit ∷ units) s orderly =
-    along_join s (react unit s) (reacts units (react unit s)) (along_unit unit s orderly) (along_units units (react unit s) (orderly_unit unit s orderly))
+    along_join s (react unit s) (reacts units (react unit s)) (along_unit unit s orderly)
+        (along_units units (react unit s) (orderly_unit unit s orderly))
 
 pub along_end : (old mid : State) (reason : EndReason) → OpensAlong old mid → OpensAlong old (ends reason mid)
 along_end old mid reason a = grind arith

@@ -1,15 +1,21 @@
 -- A live connection that may receive indications has addresses.
-use Rattle.std.proofs.Common.{◌≡◌, ℕ, Bool, true, false, List, [], ◌∷◌, Option, Some, None, IsSome, is_some, refl, sym, ◌∙◌, if◌then◌else◌, arith}
+use Rattle.std.proofs.Common.{◌≡◌, ℕ, Bool, true, false, List, [], ◌∷◌, Option, Some, None, IsSome, is_some, refl, sym, ◌∙◌, if◌then◌else◌}
+use Rattle.std.proofs.Common.{arith}
 use Rattle.osi_session.specs.Causes.{asks_for_connection, is_taken}
 use Rattle.osi_session.specs.Shown.{shows_connect}
-use Rattle.osi_stack.proofs.Vocabulary.{IfSome, tsaps_at, Rows, value_at, TsapIds, known_is, Call, Input, Listener, called, taken, opened, refused, broken, came, react, after_input, shows_loss, addressed, selectors_in, addresses_at, has_given, phase_of, phase_at, IsNamed, AllNamed, line_by, selectors_told, IsSettled, Line, End, session_in, session_at}
+use Rattle.osi_stack.proofs.Vocabulary.{IfSome, tsaps_at, Rows, value_at, TsapIds, known_is, Call, Input, Listener, called, taken, opened}
+use Rattle.osi_stack.proofs.Vocabulary.{refused, broken, came, react, after_input, shows_loss, addressed, selectors_in, addresses_at}
+use Rattle.osi_stack.proofs.Vocabulary.{has_given, phase_of, phase_at, IsNamed, AllNamed, line_by, selectors_told, IsSettled, Line, End}
+use Rattle.osi_stack.proofs.Vocabulary.{session_in, session_at}
 use Rattle.osi_stack.proofs.each_line.what_stays_true_of_each_line.{LinesStay, line_at}
 
 -- the first indication of a user
 pub record ShownFirst : Type 0 where
-  pub first : (s : Listener) (input : Input) → shows_loss s.state.phase ≡ false → shows_loss (after_input s input).state.phase ≡ true → shows_connect (react s input).shown ≡ true
+  pub first : (s : Listener) (input : Input) → shows_loss s.state.phase ≡ false → shows_loss (after_input s input).state.phase ≡ true →
+      shows_connect (react s input).shown ≡ true
   pub taken : (s : Listener) (input : Input) → shows_connect (react s input).shown ≡ true → is_taken input ≡ true
-  pub asked : (s : Listener) (octets : List ℕ) → shows_connect (react s (came octets)).shown ≡ true → asks_for_connection (came octets) ≡ true
+  pub asked : (s : Listener) (octets : List ℕ) → shows_connect (react s (came octets)).shown ≡ true →
+      asks_for_connection (came octets) ≡ true
 
 -- ---- a CN has selectors
 
@@ -25,11 +31,14 @@ untaken law input not s h = absurd (let t : true ≡ false = sym (law.taken s in
 
 -- ---- what happens to a session keeps it
 
-moved_by : {X : Type 0} (law : ShownFirst) (s : Listener) (input : Input) (old told : Option X) (b c : Bool) → shows_connect (react s input).shown ≡ b → shows_loss s.state.phase ≡ c →
-    (b ≡ true → IsSome told) → (c ≡ true → IsSome old) → shows_loss (after_input s input).state.phase ≡ true → IsSome (if b then told else old)
+moved_by : {X : Type 0} (law : ShownFirst) (s : Listener) (input : Input) (old told : Option X) (b c : Bool) →
+    shows_connect (react s input).shown ≡ b → shows_loss s.state.phase ≡ c →
+    (b ≡ true → IsSome told) → (c ≡ true → IsSome old) → shows_loss (after_input s input).state.phase ≡ true →
+        IsSome (if b then told else old)
 moved_by law s input old told b c shows was tells named k = grind arith
 
-line_named : ShownFirst → (input : Input) → TellsThem input → (line : Line) (o : Option Listener) → line.session ≡ o → IsNamed line → IsNamed (line_by line o input)
+line_named : ShownFirst → (input : Input) → TellsThem input → (line : Line) (o : Option Listener) → line.session ≡ o → IsNamed line →
+    IsNamed (line_by line o input)
 line_named law input tells line o is h = search (arith, shows_loss, moved_by, selectors_told, react)
 
 -- a call, and what the carrier tells
@@ -53,13 +62,15 @@ live_known : (live : Bool) (ids : Option TsapIds) (o : Option Line) → is_some 
     Known (if live then session_in o else None) (if live then addressed ids (selectors_in o) else None)
 live_known live ids o same h k = grind arith
 
-given_known : {X : Type 0} (given : Bool) (session : Option Listener) (x : Option X) → Known session x → IfSome (if given then Some (phase_of session) else None) (λ p. shows_loss p ≡ true → IsSome x)
+given_known : {X : Type 0} (given : Bool) (session : Option Listener) (x : Option X) → Known session x →
+    IfSome (if given then Some (phase_of session) else None) (λ p. shows_loss p ≡ true → IsSome x)
 given_known false session x h = tt
 given_known true session x h = h
 
 pub known_at : (r : ℕ) (e : End) → IsSettled e → IfSome (phase_at r e) (λ p. shows_loss p ≡ true → IsSome (addresses_at r e))
 known_at r e s =
     given_known (has_given r e.carrier) (session_at r e) (addresses_at r e)
-    (live_known (is_some (value_at r e.carrier.live)) (tsaps_at r e.carrier) (value_at r e.lines) (known_is r e.carrier s.orderly.named) (named_by r e.lines (value_at r e.lines) refl s.named))
+    (live_known (is_some (value_at r e.carrier.live)) (tsaps_at r e.carrier) (value_at r e.lines) (known_is r e.carrier s.orderly.named)
+        (named_by r e.lines (value_at r e.lines) refl s.named))
 
 -- ---- in memory

@@ -15,8 +15,10 @@ or_more false a b more h = more h
 
 pub answered_front : (r : ℕ) (first later : List Happening) → answered r first ≡ true → answered r (first ++ later) ≡ true
 answered_front r [] later h = cc
-answered_front r (opened q ∷ first) later h = or_more (q == r) (answered r first) (answered r (first ++ later)) (answered_front r first later) h
-answered_front r (refused q reason ∷ first) later h = or_more (q == r) (answered r first) (answered r (first ++ later)) (answered_front r first later) h
+answered_front r (opened q ∷ first) later h =
+    or_more (q == r) (answered r first) (answered r (first ++ later)) (answered_front r first later) h
+answered_front r (refused q reason ∷ first) later h =
+    or_more (q == r) (answered r first) (answered r (first ++ later)) (answered_front r first later) h
 answered_front r (event ∷ first) later h = answered_front r first later h
 
 pub answered_behind : (r : ℕ) (first later : List Happening) → answered r later ≡ true → answered r (first ++ later) ≡ true
@@ -26,5 +28,6 @@ answered_behind r (refused q reason ∷ first) later h = or_right (q == r) (answ
 answered_behind r (event ∷ first) later h = answered_behind r first later h
 
 -- an event of another connection
-pub answered_other : (r : ℕ) (event : Happening) (events : List Happening) → r ≢ told_of event → answered r (event ∷ events) ≡ answered r events
+pub answered_other : (r : ℕ) (event : Happening) (events : List Happening) → r ≢ told_of event →
+    answered r (event ∷ events) ≡ answered r events
 answered_other r event events ne = grind arith

@@ -1,13 +1,21 @@
 -- Each session that waits for its transport connection has one that was requested.
-use Rattle.std.proofs.Common.{◌≡◌, ◌≢◌, ℕ, ◌+◌, ◌==◌, Bool, true, false, ◌||◌, List, ◌∷◌, ◌++◌, length, Option, Some, None, is_some, refl, sym, ap, subst, ◌∙◌, inl, inr, ◌⊎◌, arith, if◌then◌else◌, []}
+use Rattle.std.proofs.Common.{◌≡◌, ◌≢◌, ℕ, ◌+◌, ◌==◌, Bool, true, false, ◌||◌, List, ◌∷◌, ◌++◌, length, Option, Some, None, is_some, refl}
+use Rattle.std.proofs.Common.{sym, ap, subst, ◌∙◌, inl, inr, ◌⊎◌, arith, if◌then◌else◌, []}
 use Rattle.osi_carrier.specs.Happenings as told
 use Rattle.osi_carrier.specs.Packets as carriers
-use Rattle.osi_stack.proofs.Vocabulary.{eqb-true, eq-eqb, Fed, Standing as Link, Class, Zero, Local, beyond, push_here, put_other, push_other, open_link, link_of, sent_on, closes, closed_on, Happening, IsOrderly, told_of, value_at, Connection, asked, closing, State as Carrier, Broken, Call, Input, Listener, called, opened, refused, react, is_wait_transport, awaits, connects, calls_with, breaks, carried, without_first, Feeds, opens, hears, hears_next, hears_times, hears_all, with_events, with_carrier, after_packet, ends, AreApart, HasAsked, Soundness, IsSound, kept_at, to_session, Line, End, Holding, IsAttended, fresh_end, waits, Connect, input_of}
+use Rattle.osi_stack.proofs.Vocabulary.{eqb-true, eq-eqb, Fed, Standing as Link, Class, Zero, Local, beyond, push_here, put_other}
+use Rattle.osi_stack.proofs.Vocabulary.{push_other, open_link, link_of, sent_on, closes, closed_on, Happening, IsOrderly, told_of, value_at}
+use Rattle.osi_stack.proofs.Vocabulary.{Connection, asked, closing, State as Carrier, Broken, Call, Input, Listener, called, opened}
+use Rattle.osi_stack.proofs.Vocabulary.{refused, react, is_wait_transport, awaits, connects, calls_with, breaks, carried, without_first}
+use Rattle.osi_stack.proofs.Vocabulary.{Feeds, opens, hears, hears_next, hears_times, hears_all, with_events, with_carrier, after_packet}
+use Rattle.osi_stack.proofs.Vocabulary.{ends, AreApart, HasAsked, Soundness, IsSound, kept_at, to_session, Line, End, Holding, IsAttended}
+use Rattle.osi_stack.proofs.Vocabulary.{fresh_end, waits, Connect, input_of}
 use Rattle.osi_stack.proofs.opening.which_requests_are_answered.{answered, answered_other, answered_behind}
 use Rattle.osi_stack.proofs.carried.events_one_after_the_other.{concluded_carrier}
 use Rattle.osi_stack.proofs.carried.what_sessions_leave_of_the_carrier.{session_keeps}
 use Rattle.osi_stack.proofs.carried.packets_without_events.{both, packet_is, never}
-use Rattle.osi_stack.proofs.carried.open_connections_stay_open.{SessionLaws, HasMoved, Hearing, session_hears, first_is, rest_is, times_last, hears_apart, used_at, apart_push, joined_lines}
+use Rattle.osi_stack.proofs.carried.open_connections_stay_open.{SessionLaws, HasMoved, Hearing, session_hears, first_is, rest_is}
+use Rattle.osi_stack.proofs.carried.open_connections_stay_open.{times_last, hears_apart, used_at, apart_push, joined_lines}
 use Rattle.osi_stack.proofs.each_session.a_session_is_what_its_inputs_made.{kept_joined}
 use Rattle.osi_stack.proofs.carried.what_a_move_leaves.{kept_first}
 use Rattle.osi_stack.proofs.each_line.lines_stay_in_order.{packet_along}
@@ -17,7 +25,8 @@ use Rattle.osi_stack.proofs.stream.what_feeding_keeps.{feeds_beside, over_beside
 
 -- a session that waits for its transport connection did so before
 abbrev pub StillWaits : Type 0
-StillWaits = (s : Listener) (input : Input) → is_wait_transport (react s input).next.state.phase ≡ true → is_wait_transport s.state.phase ≡ true
+StillWaits = (s : Listener) (input : Input) → is_wait_transport (react s input).next.state.phase ≡ true →
+    is_wait_transport s.state.phase ≡ true
 
 -- ---- what a session does to its carrier
 
@@ -27,23 +36,28 @@ unlinked over o link here e = grind arith
 other_link : (r q : ℕ) (c : Carrier) (link : ℕ × Link) → value_at r c.live ≡ Some asked → open_link q c ≡ Some link → r ≢ q
 other_link r q c link here e = λ same. unlinked (is_some c.ended) (value_at q c.live) link (ap (λ n. value_at n c.live) (sym same) ∙ here) e
 
-asked_sent : (r q : ℕ) (tsdu : List ℕ) (o : Option (ℕ × Link)) (c : Carrier) → open_link q c ≡ o → (c.ended ≡ None → value_at r c.live ≡ Some asked) → (sent_on q tsdu o c).ended ≡ None →
+asked_sent : (r q : ℕ) (tsdu : List ℕ) (o : Option (ℕ × Link)) (c : Carrier) → open_link q c ≡ o →
+    (c.ended ≡ None → value_at r c.live ≡ Some asked) → (sent_on q tsdu o c).ended ≡ None →
     value_at r (sent_on q tsdu o c).live ≡ Some asked
 asked_sent r q tsdu None c e here over = here over
 asked_sent r q tsdu (Some (peer, link)) c e here over = put_other r q _ c.live (other_link r q c (peer, link) (here over) e) ∙ here over
 
-asked_closes : (r q peer : ℕ) (class : Option Class) (c : Carrier) → (c.ended ≡ None → r ≢ q) → (c.ended ≡ None → value_at r c.live ≡ Some asked) → (closes q peer 128 class c).ended ≡ None →
+asked_closes : (r q peer : ℕ) (class : Option Class) (c : Carrier) → (c.ended ≡ None → r ≢ q) →
+    (c.ended ≡ None → value_at r c.live ≡ Some asked) → (closes q peer 128 class c).ended ≡ None →
     value_at r (closes q peer 128 class c).live ≡ Some asked
 asked_closes r q peer (Some Zero) c ne here over = cc
 asked_closes r q peer _ c ne here over = put_other r q (closing peer) c.live (ne over) ∙ here over
 
-pub asked_closed : (r q : ℕ) (o : Option (ℕ × Link)) (c : Carrier) → open_link q c ≡ o → (c.ended ≡ None → value_at r c.live ≡ Some asked) → (closed_on q 128 o c).ended ≡ None →
+pub asked_closed : (r q : ℕ) (o : Option (ℕ × Link)) (c : Carrier) → open_link q c ≡ o → (c.ended ≡ None → value_at r c.live ≡ Some asked) →
+    (closed_on q 128 o c).ended ≡ None →
     value_at r (closed_on q 128 o c).live ≡ Some asked
 asked_closed r q None c e here over = here over
-asked_closed r q (Some (peer, link)) c e here over = asked_closes r q peer c.class c (λ lasts. other_link r q c (peer, link) (here lasts) e) here over
+asked_closed r q (Some (peer, link)) c e here over = asked_closes r q peer c.class c (λ lasts. other_link r q c (peer, link) (here lasts) e)
+    here over
 
 -- one that was requested stays so while the carrier lasts
-asked_session : (r q : ℕ) (input : Input) (e : End) → (to_session q input e).carrier.ended ≡ None → value_at r e.carrier.live ≡ Some asked → value_at r (to_session q input e).carrier.live ≡ Some asked
+asked_session : (r q : ℕ) (input : Input) (e : End) → (to_session q input e).carrier.ended ≡ None → value_at r e.carrier.live ≡ Some asked →
+    value_at r (to_session q input e).carrier.live ≡ Some asked
 asked_session r q input e over here =
     session_carried (λ c. c.ended ≡ None → value_at r c.live ≡ Some asked) (record {
       sends = λ q tsdu c here. asked_sent r q tsdu (open_link q c) c refl here;
@@ -54,39 +68,52 @@ asked_session r q input e over here =
 
 -- a session that waits, whose connection none of the events answers, has one that was requested
 abbrev pub AllAsked : List Happening → End → Type 0
-AllAsked events e = (r : ℕ) (s : Listener) → kept_at r e.lines ≡ Some s → is_wait_transport s.state.phase ≡ true → answered r events ≡ false → value_at r e.carrier.live ≡ Some asked
+AllAsked events e = (r : ℕ) (s : Listener) → kept_at r e.lines ≡ Some s → is_wait_transport s.state.phase ≡ true →
+    answered r events ≡ false → value_at r e.carrier.live ≡ Some asked
 
 -- an event answers no connection of a session that waits after it
 abbrev Unanswered : ℕ → Input → Happening → List Happening → Type 0
-Unanswered q input event rest = (s : Listener) → is_wait_transport (react s input).next.state.phase ≡ true → answered q (event ∷ rest) ≡ answered q rest
+Unanswered q input event rest = (s : Listener) → is_wait_transport (react s input).next.state.phase ≡ true →
+    answered q (event ∷ rest) ≡ answered q rest
 
-moved_asked : StillWaits → (q : ℕ) (input : Input) (event : Happening) (rest : List Happening) (e d : End) → told_of event ≡ q → HasMoved q input e d →
-    ((r : ℕ) → value_at r e.carrier.live ≡ Some asked → value_at r d.carrier.live ≡ Some asked) → Unanswered q input event rest → AllAsked (event ∷ rest) e →
-    (r : ℕ) (s : Listener) (b : Bool) → (r == q) ≡ b → kept_at r d.lines ≡ Some s → is_wait_transport s.state.phase ≡ true → answered r rest ≡ false → value_at r d.carrier.live ≡ Some asked
+moved_asked : StillWaits → (q : ℕ) (input : Input) (event : Happening) (rest : List Happening) (e d : End) → told_of event ≡ q →
+    HasMoved q input e d →
+    ((r : ℕ) → value_at r e.carrier.live ≡ Some asked → value_at r d.carrier.live ≡ Some asked) → Unanswered q input event rest →
+        AllAsked (event ∷ rest) e →
+    (r : ℕ) (s : Listener) (b : Bool) → (r == q) ≡ b → kept_at r d.lines ≡ Some s → is_wait_transport s.state.phase ≡ true →
+        answered r rest ≡ false → value_at r d.carrier.live ≡ Some asked
 moved_asked law q input event rest e d of m stays quiet all r s true at is n h =
     let same = eqb-true r q at in
     let both_are : Some (react m.session input).next ≡ Some s = sym m.is ∙ ap (λ k. kept_at k d.lines) (sym same) ∙ is in
     let one : (react m.session input).next ≡ s = cc in
     let waits = ap (λ (x : Listener). is_wait_transport x.state.phase) one ∙ n in
-    stays r (ap (λ k. value_at k e.carrier.live) same ∙ all q m.session m.was (law m.session input waits) (quiet m.session waits ∙ ap (λ k. answered k rest) (sym same) ∙ h))
+    stays r (ap (λ k. value_at k e.carrier.live) same ∙
+        all q m.session m.was (law m.session input waits) (quiet m.session waits ∙ ap (λ k. answered k rest) (sym same) ∙ h))
 moved_asked law q input event rest e d of m stays quiet all r s false at is n h =
     let ne : r ≢ q = (λ same. both (r == q) (eq-eqb r q same) at) in
     stays r (all r s (sym (m.others r ne) ∙ is) n (answered_other r event rest (λ same. ne (same ∙ of)) ∙ h))
 
-rested_asked : (q : ℕ) (event : Happening) (rest : List Happening) (e : End) → told_of event ≡ q → kept_at q e.lines ≡ None → AllAsked (event ∷ rest) e →
-    (r : ℕ) (s : Listener) (b : Bool) → (r == q) ≡ b → kept_at r e.lines ≡ Some s → is_wait_transport s.state.phase ≡ true → answered r rest ≡ false → value_at r e.carrier.live ≡ Some asked
+rested_asked : (q : ℕ) (event : Happening) (rest : List Happening) (e : End) → told_of event ≡ q → kept_at q e.lines ≡ None →
+    AllAsked (event ∷ rest) e →
+    (r : ℕ) (s : Listener) (b : Bool) → (r == q) ≡ b → kept_at r e.lines ≡ Some s → is_wait_transport s.state.phase ≡ true →
+        answered r rest ≡ false → value_at r e.carrier.live ≡ Some asked
 rested_asked q event rest e of none all r s b at is n h = grind arith
 
-heard_asked : StillWaits → (q : ℕ) (input : Input) (event : Happening) (rest : List Happening) (e d : End) → told_of event ≡ q → Hearing q input e d →
-    ((r : ℕ) → value_at r e.carrier.live ≡ Some asked → value_at r d.carrier.live ≡ Some asked) → Unanswered q input event rest → AllAsked (event ∷ rest) e → AllAsked rest d
-heard_asked law q input event rest e d of (inl m) stays quiet all = λ r s. moved_asked law q input event rest e d of m stays quiet all r s (r == q) refl
+heard_asked : StillWaits → (q : ℕ) (input : Input) (event : Happening) (rest : List Happening) (e d : End) → told_of event ≡ q →
+    Hearing q input e d →
+    ((r : ℕ) → value_at r e.carrier.live ≡ Some asked → value_at r d.carrier.live ≡ Some asked) → Unanswered q input event rest →
+        AllAsked (event ∷ rest) e → AllAsked rest d
+heard_asked law q input event rest e d of (inl m) stays quiet all =
+    λ r s. moved_asked law q input event rest e d of m stays quiet all r s (r == q) refl
 heard_asked law q input event rest e d of (inr m) stays quiet all =
     subst (λ (x : End). AllAsked rest x) (sym m.same) (λ r s. rested_asked q event rest e of m.none all r s (r == q) refl)
 
-session_asked : StillWaits → (q : ℕ) (input : Input) (event : Happening) (rest : List Happening) (e : End) → told_of event ≡ q → (to_session q input e).carrier.ended ≡ None →
+session_asked : StillWaits → (q : ℕ) (input : Input) (event : Happening) (rest : List Happening) (e : End) → told_of event ≡ q →
+    (to_session q input e).carrier.ended ≡ None →
     Unanswered q input event rest → AllAsked (event ∷ rest) e → AllAsked rest (to_session q input e)
 session_asked law q input event rest e of over quiet all =
-    heard_asked law q input event rest e (to_session q input e) of (session_hears q input e) (λ r here. asked_session r q input e over here) quiet all
+    heard_asked law q input event rest e (to_session q input e) of (session_hears q input e) (λ r here. asked_session r q input e over here)
+        quiet all
 
 -- ---- one event
 
@@ -98,59 +125,75 @@ refused_waits : (s : Listener) (reason : ℕ) → is_wait_transport (react s (re
 unfolding react
 refused_waits s reason = grind arith
 
-joined_asked : (q : ℕ) (rest : List Happening) (e : End) → AreApart e.lines → value_at q e.lines ≡ None → AllAsked (told.opened q ∷ rest) e → AllAsked rest (opens q None e)
+joined_asked : (q : ℕ) (rest : List Happening) (e : End) → AreApart e.lines → value_at q e.lines ≡ None →
+    AllAsked (told.opened q ∷ rest) e → AllAsked rest (opens q None e)
 joined_asked q rest e apart none all =
-    λ r s is n h. elim (kept_joined q r awaits s e.carrier.live e.lines (q == r) refl none (used_at r e.carrier.live (joined_lines q awaits e.lines) (apart_push q _ e.lines none apart)) is) [
+    λ r s is n h. elim
+        (kept_joined q r awaits s e.carrier.live e.lines (q == r) refl none
+        (used_at r e.carrier.live (joined_lines q awaits e.lines) (apart_push q _ e.lines none apart)) is) [
       | inl new ↦ (let no : false ≡ true = ap (λ (x : Listener). is_wait_transport x.state.phase) (sym new.1) ∙ n in cc)
       | inr old ↦ all r s old.1 n (answered_other r (told.opened q) rest (λ same. old.0 (sym same)) ∙ h)
     ]
 
-opens_asked : StillWaits → (q : ℕ) (rest : List Happening) (e : End) (o : Option Line) → value_at q e.lines ≡ o → AreApart e.lines → (opens q o e).carrier.ended ≡ None →
+opens_asked : StillWaits → (q : ℕ) (rest : List Happening) (e : End) (o : Option Line) → value_at q e.lines ≡ o → AreApart e.lines →
+    (opens q o e).carrier.ended ≡ None →
     AllAsked (told.opened q ∷ rest) e → AllAsked rest (opens q o e)
 opens_asked law q rest e None at apart over all = joined_asked q rest e apart at all
 opens_asked law q rest e (Some line) at apart over all =
-    session_asked law q opened (told.opened q) rest e refl over (λ s n. both (is_wait_transport (react s opened).next.state.phase) n (opened_waits s)) all
+    session_asked law q opened (told.opened q) rest e refl over
+        (λ s n. both (is_wait_transport (react s opened).next.state.phase) n (opened_waits s)) all
 
-hears_asked : StillWaits → (event : Happening) (rest : List Happening) (e : End) → AreApart e.lines → (hears event e).carrier.ended ≡ None → AllAsked (event ∷ rest) e → AllAsked rest (hears event e)
+hears_asked : StillWaits → (event : Happening) (rest : List Happening) (e : End) → AreApart e.lines → (hears event e).carrier.ended ≡ None →
+    AllAsked (event ∷ rest) e → AllAsked rest (hears event e)
 hears_asked law (told.opened q) rest e apart over all = opens_asked law q rest e (value_at q e.lines) refl apart over all
 hears_asked law (told.refused q reason) rest e apart over all =
-    session_asked law q (refused reason) (told.refused q reason) rest e refl over (λ s n. both (is_wait_transport (react s (refused reason)).next.state.phase) n (refused_waits s reason)) all
+    session_asked law q (refused reason) (told.refused q reason) rest e refl over
+        (λ s n. both (is_wait_transport (react s (refused reason)).next.state.phase) n (refused_waits s reason)) all
 hears_asked law event rest e apart over all = session_asked law (told_of event) (input_of event) event rest e refl over (λ s n. refl) all
 
 -- ---- all events
 
-times_asked : StillWaits → (l : List Happening) (e : End) → e.carrier.events ≡ l → AreApart e.lines → (hears_times (length l) e).carrier.ended ≡ None → AllAsked l e → AllAsked [] (hears_times (length l) e)
+times_asked : StillWaits → (l : List Happening) (e : End) → e.carrier.events ≡ l → AreApart e.lines →
+    (hears_times (length l) e).carrier.ended ≡ None → AllAsked l e → AllAsked [] (hears_times (length l) e)
 times_asked law [] e h apart over all = all
 times_asked law (event ∷ rest) e h apart over all =
     let here = with_events rest e in
     let is = first_is event rest e h in
-    let lasts : (hears event here).carrier.ended ≡ None = ap (λ (x : End). x.carrier.ended) (sym is) ∙ times_last (length rest) (hears_next e) over in
-    let next : AllAsked rest (hears_next e) = subst (λ (x : End). AllAsked rest x) (sym is) (hears_asked law event rest here apart lasts all) in
+    let lasts : (hears event here).carrier.ended ≡ None = ap (λ (x : End). x.carrier.ended) (sym is) ∙
+        times_last (length rest) (hears_next e) over in
+    let next : AllAsked rest (hears_next e) =
+        subst (λ (x : End). AllAsked rest x) (sym is) (hears_asked law event rest here apart lasts all) in
     let still : AreApart (hears_next e).lines = subst (λ (x : End). AreApart x.lines) (sym is) (hears_apart event here apart) in
     times_asked law rest (hears_next e) (rest_is event rest e h) still over next
 
 -- ---- a packet
 
-packet_told : (packet : List ℕ) (e : End) → IsOrderly e.carrier → e.carrier.ended ≡ None → (carriers.after_packet e.carrier packet).ended ≡ None → HasAsked e →
+packet_told : (packet : List ℕ) (e : End) → IsOrderly e.carrier → e.carrier.ended ≡ None →
+    (carriers.after_packet e.carrier packet).ended ≡ None → HasAsked e →
     AllAsked (carriers.after_packet e.carrier packet).events (with_carrier (carriers.after_packet e.carrier packet) e)
 packet_told packet e o lasts over has =
     let along = packet_along packet e.carrier o in
     λ r s is n h. elim (along.stays r (has lasts r s is n) over) [
       | inl here ↦ here
-      | inr told ↦ both (answered r (carriers.after_packet e.carrier packet).events) (ap (answered r) along.events ∙ answered_behind r e.carrier.events along.told told) h
+      | inr told ↦ both (answered r (carriers.after_packet e.carrier packet).events)
+          (ap (answered r) along.events ∙ answered_behind r e.carrier.events along.told told) h
     ]
 
-pub packet_asked : StillWaits → (packet : List ℕ) (e : End) → e.carrier.ended ≡ None → Soundness e → HasAsked e → HasAsked (after_packet e packet)
+pub packet_asked : StillWaits → (packet : List ℕ) (e : End) → e.carrier.ended ≡ None → Soundness e → HasAsked e →
+    HasAsked (after_packet e packet)
 packet_asked law packet e lasts sound has over =
     let c = carriers.after_packet e.carrier packet in
     let mid = with_carrier c e in
     let heard = hears_all mid in
     let is = packet_is e packet in
-    let heard_lasts : heard.carrier.ended ≡ None = sym (ap (λ (x : Carrier). x.ended) (concluded_carrier heard)) ∙ ap (λ (x : End). x.carrier.ended) (sym is) ∙ over in
+    let heard_lasts : heard.carrier.ended ≡ None = sym (ap (λ (x : Carrier). x.ended) (concluded_carrier heard)) ∙
+        ap (λ (x : End). x.carrier.ended) (sym is) ∙ over in
     let told_lasts : c.ended ≡ None = times_last (length c.events) mid heard_lasts in
-    let all : AllAsked [] heard = times_asked law c.events mid refl sound.apart heard_lasts (packet_told packet e sound.orderly lasts told_lasts has) in
+    let all : AllAsked [] heard =
+        times_asked law c.events mid refl sound.apart heard_lasts (packet_told packet e sound.orderly lasts told_lasts has) in
     let same : heard ≡ after_packet e packet = sym (concludes_lasting heard.carrier.ended heard heard_lasts) ∙ sym is in
-    subst (λ (x : End). (r : ℕ) (s : Listener) → kept_at r x.lines ≡ Some s → is_wait_transport s.state.phase ≡ true → value_at r x.carrier.live ≡ Some asked) same (λ r s is n. all r s is n refl)
+    subst (λ (x : End). (r : ℕ) (s : Listener) → kept_at r x.lines ≡ Some s → is_wait_transport s.state.phase ≡ true →
+        value_at r x.carrier.live ≡ Some asked) same (λ r s is n. all r s is n refl)
 
 -- ---- calls
 
@@ -161,7 +204,8 @@ pub call_asked : StillWaits → (r : ℕ) (call : Call) (e : End) → HasAsked e
 call_asked law r call e has over =
     let lasts = (session_keeps r (called call) e).lasts over in
     let all : AllAsked (told.tsdu r [] ∷ []) e = (λ q s is n h. has lasts q s is n) in
-    let after : AllAsked [] (to_session r (called call) e) = session_asked law r (called call) (told.tsdu r []) [] e refl over (λ s n. refl) all in
+    let after : AllAsked [] (to_session r (called call) e) =
+        session_asked law r (called call) (told.tsdu r []) [] e refl over (λ s n. refl) all in
     λ q s is n. after q s is n refl
 
 pub connect_asked : (c : Connect) (e : End) → IsSound e → HasAsked e → HasAsked (connects c e)
@@ -171,7 +215,9 @@ connect_asked c e sound has over =
     let live = e.carrier.live ++ (q, asked) ∷ [] in
     let none : value_at q e.lines ≡ None = beyond q e.carrier.given e.lines s.known (omega arith) in
     let free : value_at q e.carrier.live ≡ None = beyond q e.carrier.given e.carrier.live s.orderly.up_to (omega arith) in
-    λ r t is n. elim (kept_joined q r (calls_with c) t live e.lines (q == r) refl none (used_at r live (joined_lines q (calls_with c) e.lines) (apart_push q _ e.lines none s.apart)) is) [
+    λ r t is n. elim
+        (kept_joined q r (calls_with c) t live e.lines (q == r) refl none
+        (used_at r live (joined_lines q (calls_with c) e.lines) (apart_push q _ e.lines none s.apart)) is) [
       | inl new ↦ subst (λ k. value_at k live ≡ Some asked) new.0 (push_here q asked e.carrier.live free)
       | inr old ↦ push_other r q asked e.carrier.live (λ same. old.0 (sym same)) ∙ has over r t old.1 n
     ]
@@ -190,7 +236,9 @@ breaks_asked e has = broken_end HasAsked (λ x h. over_asked (ends Broken x) ref
 
 -- ---- feeding
 
-pub feeds_asked : SessionLaws → StillWaits → (old new : Holding) (piece : List ℕ) (fed : Fed) → Feeds old piece fed new → IsAttended old.end → IsSound old.end → HasAsked old.end → HasAsked new.end
+pub feeds_asked : SessionLaws → StillWaits → (old new : Holding) (piece : List ℕ) (fed : Fed) → Feeds old piece fed new →
+    IsAttended old.end → IsSound old.end → HasAsked old.end → HasAsked new.end
 feeds_asked laws law old new piece fed h attended sound has =
-    feeds_beside IsHale HasAsked (hale_kept laws) (over_beside IsHale HasAsked (λ packet e lasts hale has. packet_asked law packet e lasts (hale.1 lasts) has) over_asked)
+    feeds_beside IsHale HasAsked (hale_kept laws)
+        (over_beside IsHale HasAsked (λ packet e lasts hale has. packet_asked law packet e lasts (hale.1 lasts) has) over_asked)
     old new piece fed h (attended, sound) has

@@ -1,22 +1,38 @@
 -- The invariant of every end between any two calls is kept.
-use Rattle.std.proofs.Common.{◌≡◌, ℕ, ◌≤◌, ◌<◌, Bool, true, false, ◌||◌, not, List, ◌∷◌, length, drop, Option, Some, None, Result, Ok, Err, arith, is_some, IsSome, option_map, refl, sym, ap, subst, ◌∙◌, inl, inr, ◌⊎◌, if◌then◌else◌, []}
+use Rattle.std.proofs.Common.{◌≡◌, ℕ, ◌≤◌, ◌<◌, Bool, true, false, ◌||◌, not, List, ◌∷◌, length, drop, Option, Some, None, Result, Ok, Err}
+use Rattle.std.proofs.Common.{arith, is_some, IsSome, option_map, refl, sym, ap, subst, ◌∙◌, inl, inr, ◌⊎◌, if◌then◌else◌, []}
 use Rattle.osi_carrier.specs.Packets as carriers
 use Rattle.osi_session.specs.Units.{is_profile}
 use Rattle.osi_stack.specs.declared.connecting.ConnectError.TheVariants.{NotSelected}
 use Rattle.osi_session.specs.declared.faults.CallError.TheVariants as error
-use Rattle.osi_stack.proofs.Vocabulary.{OnOk, OnErr, IfErr, IfSome, tsap_octets, units_of, Value, TpduFault, Local, Units, said_by_units, Fed, may_connect, IsOrderly, reacts, Rows, value_at, Connection, State as Carrier, EndReason, Broken, NoMemory, orderly_fresh, orderly_units, orderly_packet, orderly_asks, orderly_end, orderly_ended, orderly_same, Call, HasSerial, Input, Listener, called, taken, react, after_inputs, HasProfile, Opening, unit_bits, OpenError, ConnectError, awaiting, asking, HasNumbersInWords, CallError, connects, connect_error, terms_error, after_open, opening_of, calls_with, breaks, carried, without_first, has_given, call_error, table_error, session_refusal, session_error, Refuses, by_rule, stops, Goes, Feeds, hears_all, hears_times, with_events, with_carrier, attends, after_packet, starves, Starves, to_session, Line, End, Holding, IsAttended, fresh_end, session_in, session_at, waits, CameAbout, IsProfiled, IsNamed, OfSessions, IsSettled, Connect, IsSound}
+use Rattle.osi_stack.proofs.Vocabulary.{OnOk, OnErr, IfErr, IfSome, tsap_octets, units_of, Value, TpduFault, Local, Units, said_by_units}
+use Rattle.osi_stack.proofs.Vocabulary.{Fed, may_connect, IsOrderly, reacts, Rows, value_at, Connection, State as Carrier, EndReason}
+use Rattle.osi_stack.proofs.Vocabulary.{Broken, NoMemory, orderly_fresh, orderly_units, orderly_packet, orderly_asks, orderly_end}
+use Rattle.osi_stack.proofs.Vocabulary.{orderly_ended, orderly_same, Call, HasSerial, Input, Listener, called, taken, react, after_inputs}
+use Rattle.osi_stack.proofs.Vocabulary.{HasProfile, Opening, unit_bits, OpenError, ConnectError, awaiting, asking, HasNumbersInWords}
+use Rattle.osi_stack.proofs.Vocabulary.{CallError, connects, connect_error, terms_error, after_open, opening_of, calls_with, breaks}
+use Rattle.osi_stack.proofs.Vocabulary.{carried, without_first, has_given, call_error, table_error, session_refusal, session_error, Refuses}
+use Rattle.osi_stack.proofs.Vocabulary.{by_rule, stops, Goes, Feeds, hears_all, hears_times, with_events, with_carrier, attends}
+use Rattle.osi_stack.proofs.Vocabulary.{after_packet, starves, Starves, to_session, Line, End, Holding, IsAttended, fresh_end, session_in}
+use Rattle.osi_stack.proofs.Vocabulary.{session_at, waits, CameAbout, IsProfiled, IsNamed, OfSessions, IsSettled, Connect, IsSound}
 use Rattle.osi_stack.proofs.called.the_result_is_that_of_the_table.{Below, answered_is}
-use Rattle.osi_stack.proofs.opening.who_waits_was_requested.{StillWaits, fresh_asked, connect_asked, call_asked, feeds_asked, first_asked, carried_asked, breaks_asked}
+use Rattle.osi_stack.proofs.opening.who_waits_was_requested.{StillWaits, fresh_asked, connect_asked, call_asked, feeds_asked, first_asked}
+use Rattle.osi_stack.proofs.opening.who_waits_was_requested.{carried_asked, breaks_asked}
 use Rattle.osi_stack.proofs.carried.all_events_are_handled.{session_attended, connect_attended, breaks_attended, feeds_attended}
-use Rattle.osi_stack.proofs.each_line.what_stays_true_of_each_session.{at_line, session_all, connect_all, call_came, feeds_all, told_all, breaks_all, came_asking, came_true, profile_true}
+use Rattle.osi_stack.proofs.each_line.what_stays_true_of_each_session.{at_line, session_all, connect_all, call_came, feeds_all, told_all}
+use Rattle.osi_stack.proofs.each_line.what_stays_true_of_each_session.{breaks_all, came_asking, came_true, profile_true}
 use Rattle.osi_stack.proofs.carried.events_one_after_the_other.{concluded_carrier}
-use Rattle.osi_stack.proofs.carried.no_session_is_left_after_the_end.{lasting_gone, connect_gone, call_gone, first_gone, breaks_gone, feeds_gone}
+use Rattle.osi_stack.proofs.carried.no_session_is_left_after_the_end.{lasting_gone, connect_gone, call_gone, first_gone, breaks_gone}
+use Rattle.osi_stack.proofs.carried.no_session_is_left_after_the_end.{feeds_gone}
 use Rattle.osi_stack.proofs.opening.live_connections_have_addresses.{ShownFirst, call_named, named_stays}
 use Rattle.osi_stack.proofs.carried.packets_without_events.{both, or_first, or_second, packet_is}
 use Rattle.osi_stack.proofs.carried.open_connections_stay_open.{SessionLaws}
 use Rattle.osi_stack.proofs.each_line.what_stays_true_of_each_line.{session_lines, feeds_lines, connect_lines, told_lines, breaks_lines}
-use Rattle.osi_stack.proofs.each_line.lines_stay_in_order.{fresh_ordered, connect_ordered, call_ordered, feeds_ordered, first_ordered, carried_ordered, breaks_ordered}
-use Rattle.osi_stack.proofs.sound.the_invariant_is_kept.{Fits, times_fits, up_more, units_rise, packet_rises, open_none, fresh_sound, connect_sound, call_sound, feeds_sound, first_sound, carried_sound, breaks_sound, session_leaves, hale_kept, IsHale}
+use Rattle.osi_stack.proofs.each_line.lines_stay_in_order.{fresh_ordered, connect_ordered, call_ordered, feeds_ordered, first_ordered}
+use Rattle.osi_stack.proofs.each_line.lines_stay_in_order.{carried_ordered, breaks_ordered}
+use Rattle.osi_stack.proofs.sound.the_invariant_is_kept.{Fits, times_fits, up_more, units_rise, packet_rises, open_none, fresh_sound}
+use Rattle.osi_stack.proofs.sound.the_invariant_is_kept.{connect_sound, call_sound, feeds_sound, first_sound, carried_sound, breaks_sound}
+use Rattle.osi_stack.proofs.sound.the_invariant_is_kept.{session_leaves, hale_kept, IsHale}
 use Rattle.osi_stack.proofs.carried.what_each_step_preserves.{broken_end}
 use Rattle.osi_stack.proofs.stream.what_feeding_keeps.{IsKeptBeside, feeds_beside}
 
@@ -27,7 +43,8 @@ session_orderly r input e h = (session_leaves r input e h).0
 
 pub connect_orderly : (c : Connect) (e : End) → connect_error c e ≡ None → IsOrderly e.carrier → IsOrderly (connects c e).carrier
 connect_orderly c e allowed h =
-    orderly_asks (option_map tsap_octets c.calling_tsap) (option_map tsap_octets c.called_tsap) e.carrier (open_none (may_connect e.carrier) (terms_error c) allowed) h
+    orderly_asks (option_map tsap_octets c.calling_tsap) (option_map tsap_octets c.called_tsap) e.carrier
+        (open_none (may_connect e.carrier) (terms_error c) allowed) h
 
 pub breaks_orderly : (e : End) → IsOrderly e.carrier → IsOrderly (breaks e).carrier
 breaks_orderly e h = broken_end (λ x. IsOrderly x.carrier) (λ x h. orderly_end Broken x.carrier h) e h
@@ -74,11 +91,13 @@ starves_orderly e h = orderly_ended NoMemory e.carrier h
 
 starved_orderly : (e new : End) (packet : List ℕ) → Starves e packet new → Fits e → IsOrderly new.carrier
 starved_orderly e new packet (inl h) f =
-    subst (λ (x : End). IsOrderly x.carrier) (sym h.2) (attends_orderly (with_carrier h.0 e) (grown_fits e h.0 (grows_out h.1.0 e.carrier h.0 h.1.2 f.orderly) f))
+    subst (λ (x : End). IsOrderly x.carrier) (sym h.2)
+        (attends_orderly (with_carrier h.0 e) (grown_fits e h.0 (grows_out h.1.0 e.carrier h.0 h.1.2 f.orderly) f))
 starved_orderly e new packet (inr h) f =
     let mid = hears_times h.2.heard (with_carrier h.0 e) in
     let fits = times_fits h.2.heard (with_carrier h.0 e) (grown_fits e h.0 (grows_by (units_of packet) e.carrier h.0 h.1 f.orderly) f) in
-    subst (λ (x : End). IsOrderly x.carrier) (sym h.2.starved) (starves_orderly (with_events h.2.more mid) (orderly_same mid.carrier mid.carrier.outgoing h.2.more fits.orderly))
+    subst (λ (x : End). IsOrderly x.carrier) (sym h.2.starved)
+        (starves_orderly (with_events h.2.more mid) (orderly_same mid.carrier mid.carrier.outgoing h.2.more fits.orderly))
 
 -- ---- feeding
 
@@ -89,7 +108,8 @@ orderly_kept = record {
   starved = λ packet e new lasts h hale o. starved_orderly e new packet h (fits_of e lasts hale.1);
 }
 
-pub feeds_orderly : SessionLaws → (old new : Holding) (piece : List ℕ) (fed : Fed) → Feeds old piece fed new → IsAttended old.end → IsSound old.end → IsOrderly old.end.carrier →
+pub feeds_orderly : SessionLaws → (old new : Holding) (piece : List ℕ) (fed : Fed) → Feeds old piece fed new → IsAttended old.end →
+    IsSound old.end → IsOrderly old.end.carrier →
     IsOrderly new.end.carrier
 feeds_orderly laws old new piece fed h attended sound orderly =
     feeds_beside IsHale (λ e. IsOrderly e.carrier) (hale_kept laws) orderly_kept old new piece fed h (attended, sound) orderly
@@ -124,7 +144,8 @@ terms_none (Some e) error h = cc
 
 asks_profile : Profiles → (c : Connect) (e : End) → connect_error c e ≡ None → IsProfiled (calls_with c)
 asks_profile profiles c e allowed =
-    profiles.caller (opening_of c) (units_of_terms (is_profile (unit_bits c.requirements)) _ (terms_none (may_connect e.carrier) (terms_error c) allowed))
+    profiles.caller (opening_of c)
+        (units_of_terms (is_profile (unit_bits c.requirements)) _ (terms_none (may_connect e.carrier) (terms_error c) allowed))
 
 pub connect_settled : Profiles → (c : Connect) (e : End) → connect_error c e ≡ None → IsSettled e → IsSettled (connects c e)
 connect_settled profiles c e allowed s = record {
@@ -139,7 +160,9 @@ connect_settled profiles c e allowed s = record {
   gone = connect_gone c e allowed;
 }
 
-pub call_settled : Profiles → ShownFirst → SessionLaws → StillWaits → ((s : Listener) (call : Call) → (react s (called call)).closes ≡ false) → (r : ℕ) (call : Call) (e : End) → HasSerial call → IsSettled e → IsSettled (to_session r (called call) e)
+pub call_settled : Profiles → ShownFirst → SessionLaws → StillWaits →
+    ((s : Listener) (call : Call) → (react s (called call)).closes ≡ false) → (r : ℕ) (call : Call) (e : End) → HasSerial call →
+    IsSettled e → IsSettled (to_session r (called call) e)
 call_settled profiles shown laws waits still r call e serial s = record {
   attended = session_attended r (called call) e s.attended;
   orderly = session_orderly r (called call) e s.orderly;
@@ -152,7 +175,8 @@ call_settled profiles shown laws waits still r call e serial s = record {
   gone = call_gone still r call e s.gone;
 }
 
-pub feeds_settled : Steps → (old new : Holding) (piece : List ℕ) (fed : Fed) → Feeds old piece fed new → IsSettled old.end → IsSettled new.end
+pub feeds_settled : Steps → (old new : Holding) (piece : List ℕ) (fed : Fed) → Feeds old piece fed new → IsSettled old.end →
+    IsSettled new.end
 feeds_settled steps old new piece fed h s = record {
   attended = feeds_attended old new piece fed h s.attended;
   orderly = feeds_orderly steps.laws old new piece fed h s.attended s.sound s.orderly;
@@ -186,17 +210,21 @@ breaks_settled e s = record {
 
 -- ---- one session
 
-pub profiled_at : (r : ℕ) (s : Listener) (lines : Rows Line) (o : Option Line) → value_at r lines ≡ o → session_in o ≡ Some s → OfSessions IsProfiled lines → HasProfile s.state
+pub profiled_at : (r : ℕ) (s : Listener) (lines : Rows Line) (o : Option Line) → value_at r lines ≡ o → session_in o ≡ Some s →
+    OfSessions IsProfiled lines → HasProfile s.state
 profiled_at r s lines None at is all = cc
-profiled_at r s lines (Some line) at is all = subst (λ (o : Option Listener). IfSome o IsProfiled) is (at_line IsProfiled r line lines all at)
+profiled_at r s lines (Some line) at is all =
+    subst (λ (o : Option Listener). IfSome o IsProfiled) is (at_line IsProfiled r line lines all at)
 
 -- ---- after the end
 
 -- no connection is live
 pub none_at : (r : ℕ) (e : End) → IsOrderly e.carrier → IsSome e.carrier.ended → session_at r e ≡ None
-none_at r e o over = ap (λ (live : Rows Connection). if is_some (value_at r live) then session_in (value_at r e.lines) else None) (o.over over)
+none_at r e o over = ap (λ (live : Rows Connection). if is_some (value_at r live) then session_in (value_at r e.lines) else None)
+    (o.over over)
 
-table_by : Below → (r : ℕ) (call : Call) (e : End) (o : Option EndReason) → e.carrier.ended ≡ o → HasSerial call → IsSettled e → call_error r call e ≡ table_error r call e
+table_by : Below → (r : ℕ) (call : Call) (e : End) (o : Option EndReason) → e.carrier.ended ≡ o → HasSerial call → IsSettled e →
+    call_error r call e ≡ table_error r call e
 table_by law r call e o is serial s = grind (arith, answered_is, none_at, is_some, not, has_given, session_refusal, session_error)
 
 pub table_is : Below → (r : ℕ) (call : Call) (e : End) → HasSerial call → IsSettled e → call_error r call e ≡ table_error r call e
@@ -208,21 +236,26 @@ over_is r call e s over = grind arith
 
 -- ---- for the calls of a stack
 
-pub settled_by : {A F : Type 0} (result : Result A F) (old new next : Holding) → OnOk result (new ≡ next) → OnErr result (new ≡ old) → IsSettled old.end → IsSettled next.end →
+pub settled_by : {A F : Type 0} (result : Result A F) (old new next : Holding) → OnOk result (new ≡ next) → OnErr result (new ≡ old) →
+    IsSettled old.end → IsSettled next.end →
     IsSettled new.end
 settled_by (Ok x) old new next ok err was is = subst (λ (h : Holding). IsSettled h.end) (sym ok) is
 settled_by (Err e) old new next ok err was is = subst (λ (h : Holding). IsSettled h.end) (sym err) was
 
-pub settled_connect : {A F : Type 0} (result : Result A F) (c : Connect) (old new : Holding) → (connect_error c old.end ≡ None → IsSettled old.end → IsSettled (connects c old.end)) → OnOk result (new ≡ record old { end = connects c old.end }) →
+pub settled_connect : {A F : Type 0} (result : Result A F) (c : Connect) (old new : Holding) →
+    (connect_error c old.end ≡ None → IsSettled old.end → IsSettled (connects c old.end)) →
+    OnOk result (new ≡ record old { end = connects c old.end }) →
     OnOk result (connect_error c old.end ≡ None) → OnErr result (new ≡ old) → IsSettled old.end → IsSettled new.end
 settled_connect (Ok x) c old new settles ok allowed err was = subst (λ (h : Holding). IsSettled h.end) (sym ok) (settles allowed was)
 settled_connect (Err e) c old new settles ok allowed err was = subst (λ (h : Holding). IsSettled h.end) (sym err) was
 
-pub answered_by_table : {A : Type 0} (result : Result A CallError) (first all : Option CallError) → all ≡ first → IfErr result (λ e. Refuses e first all) →
+pub answered_by_table : {A : Type 0} (result : Result A CallError) (first all : Option CallError) → all ≡ first →
+    IfErr result (λ e. Refuses e first all) →
     IfErr result (λ e. by_rule e ≡ first)
 answered_by_table result first all same h = grind arith
 
 -- what is read is fed
-pub feeds_of : (old new : Holding) (piece : List ℕ) (used : ℕ) → stops old.end ≡ false → Goes old piece used new → used ≤ length piece → (0 < length piece → 0 < used) →
+pub feeds_of : (old new : Holding) (piece : List ℕ) (used : ℕ) → stops old.end ≡ false → Goes old piece used new → used ≤ length piece →
+    (0 < length piece → 0 < used) →
     Feeds old piece (record { used = used; whole = waits new.end.lines }) new
 feeds_of old new piece used quiet goes bound progress = grind (arith, both, is_some, or_first, waits, or_second)

@@ -1,14 +1,27 @@
 -- The invariant of every end is kept, whatever is called and fed.
-use Rattle.std.proofs.Common.{◌≡◌, ◌≢◌, ℕ, ◌+◌, ◌==◌, ◌<◌, ◌≤◌, Bool, true, false, ◌||◌, List, ◌∷◌, ◌++◌, length, nat_le, Option, Some, None, is_some, IsSome, option_map, Result, Ok, Err, refl, sym, ap, subst, ◌∙◌, inl, inr, ◌⊎◌, arith, if◌then◌else◌, []}
+use Rattle.std.proofs.Common.{◌≡◌, ◌≢◌, ℕ, ◌+◌, ◌==◌, ◌<◌, ◌≤◌, Bool, true, false, ◌||◌, List, ◌∷◌, ◌++◌, length, nat_le, Option, Some}
+use Rattle.std.proofs.Common.{None, is_some, IsSome, option_map, Result, Ok, Err, refl, sym, ap, subst, ◌∙◌, inl, inr, ◌⊎◌, arith}
+use Rattle.std.proofs.Common.{if◌then◌else◌, []}
 use Rattle.osi_carrier.specs.Happenings as told
 use Rattle.osi_carrier.specs.Packets as carriers
 use Rattle.osi_carrier.specs.React.{react as carrier_react}
-use Rattle.osi_stack.proofs.Vocabulary.{eqb-true, eq-eqb, nat_tests, units_of, Value, TpduFault, Standing as Link, open_link, may_connect, asks, sent_on, closes, closed_on, Happening, AreUpTo, IsOrderly, connection_of, told_of, reacts, Rows, value_at, Connection, State as Carrier, is_open, open_after, EndReason, OpenError, beyond, push_here, put_up, push_other, How, effect, orderly_packet, orderly_asks, orderly_sent, orderly_closed, orderly_same, packet_opens, asks_opens, Call, Input, Listener, called, opened, awaits, connects, connect_error, after_open, terms_error, calls_with, breaks, carried, without_first, Feeds, Connect, ConnectError, tsap_octets, Fed, Local, Broken, hears_times, hears_all, with_carrier, after_packet, ends, all_lost, needs_link, AreApart, HasLinks, Soundness, IsSound, kept_at, line_by, by_line, to_session, Line, End, Holding, IsAttended, fresh_end, session_in, used_lines, joins, fresh_line, input_of}
+use Rattle.osi_stack.proofs.Vocabulary.{eqb-true, eq-eqb, nat_tests, units_of, Value, TpduFault, Standing as Link, open_link, may_connect}
+use Rattle.osi_stack.proofs.Vocabulary.{asks, sent_on, closes, closed_on, Happening, AreUpTo, IsOrderly, connection_of, told_of, reacts}
+use Rattle.osi_stack.proofs.Vocabulary.{Rows, value_at, Connection, State as Carrier, is_open, open_after, EndReason, OpenError, beyond}
+use Rattle.osi_stack.proofs.Vocabulary.{push_here, put_up, push_other, How, effect, orderly_packet, orderly_asks, orderly_sent}
+use Rattle.osi_stack.proofs.Vocabulary.{orderly_closed, orderly_same, packet_opens, asks_opens, Call, Input, Listener, called, opened}
+use Rattle.osi_stack.proofs.Vocabulary.{awaits, connects, connect_error, after_open, terms_error, calls_with, breaks, carried}
+use Rattle.osi_stack.proofs.Vocabulary.{without_first, Feeds, Connect, ConnectError, tsap_octets, Fed, Local, Broken, hears_times}
+use Rattle.osi_stack.proofs.Vocabulary.{hears_all, with_carrier, after_packet, ends, all_lost, needs_link, AreApart, HasLinks, Soundness}
+use Rattle.osi_stack.proofs.Vocabulary.{IsSound, kept_at, line_by, by_line, to_session, Line, End, Holding, IsAttended, fresh_end}
+use Rattle.osi_stack.proofs.Vocabulary.{session_in, used_lines, joins, fresh_line, input_of}
 use Rattle.osi_stack.proofs.carried.events_one_after_the_other.{concluded_carrier}
 use Rattle.osi_stack.proofs.carried.what_a_move_leaves.{kept_first, used_keep, first_keep}
 use Rattle.osi_stack.proofs.carried.what_sessions_leave_of_the_carrier.{session_keeps}
 use Rattle.osi_stack.proofs.carried.packets_without_events.{both, packet_is, never}
-use Rattle.osi_stack.proofs.carried.open_connections_stay_open.{SessionLaws, IsLinked, AllLinked, times_linked, times_apart, times_last, apart_joins, session_linked, session_hears, session_apart, used_at, Stays, apart_push, mono, joined_lines}
+use Rattle.osi_stack.proofs.carried.open_connections_stay_open.{SessionLaws, IsLinked, AllLinked, times_linked, times_apart, times_last}
+use Rattle.osi_stack.proofs.carried.open_connections_stay_open.{apart_joins, session_linked, session_hears, session_apart, used_at, Stays}
+use Rattle.osi_stack.proofs.carried.open_connections_stay_open.{apart_push, mono, joined_lines}
 use Rattle.osi_stack.proofs.carried.what_each_step_preserves.{Carries, session_carried, events_heard}
 use Rattle.osi_stack.proofs.stream.what_feeding_keeps.{IsKept, feeds_kept, over_beside, both_kept}
 use Rattle.osi_stack.proofs.stream.what_was_written_is_read.{attended_kept}
@@ -51,7 +64,8 @@ or_none true h = refl
 or_none false h = cc
 
 -- a new line is kept only if its connection is live
-up_joined : (n r : ℕ) (s : Listener) (live : Rows Connection) (lines : Rows Line) → AreUpTo n live → AreUpTo n lines → AreUpTo n (used_lines live (joined_lines r s lines))
+up_joined : (n r : ℕ) (s : Listener) (live : Rows Connection) (lines : Rows Line) → AreUpTo n live → AreUpTo n lines →
+    AreUpTo n (used_lines live (joined_lines r s lines))
 up_joined n r s live [] up known =
     used_keep (AreUpTo n) live (r, fresh_line s) [] tt (λ used. (up_at r n live up (or_none (is_some (value_at r live)) used), tt))
 up_joined n r s live ((p, y) ∷ lines) up known =
@@ -79,8 +93,10 @@ sessions_fit g = record {
   closes = λ r c p. (orderly_closed r 128 c p.0, closed_given r 128 (open_link r c) c ∙ p.1);
 }
 
-pub session_leaves : (r : ℕ) (input : Input) (e : End) → IsOrderly e.carrier → IsOrderly (to_session r input e).carrier × ((to_session r input e).carrier.given ≡ e.carrier.given)
-session_leaves r input e h = session_carried (λ c. IsOrderly c × (c.given ≡ e.carrier.given)) (sessions_fit e.carrier.given) r input e (h, refl)
+pub session_leaves : (r : ℕ) (input : Input) (e : End) → IsOrderly e.carrier →
+    IsOrderly (to_session r input e).carrier × ((to_session r input e).carrier.given ≡ e.carrier.given)
+session_leaves r input e h = session_carried (λ c. IsOrderly c × (c.given ≡ e.carrier.given)) (sessions_fit e.carrier.given) r input e
+    (h, refl)
 
 line_up : (n r : ℕ) (input : Input) (e : End) (o : Option Line) → AreUpTo n e.lines → AreUpTo n (by_line r o input e).lines
 line_up n r input e None up = up
@@ -92,14 +108,16 @@ session_up n r input e up = line_up n r input e (value_at r e.lines) up
 pub session_fits : (r : ℕ) (input : Input) (e : End) → Fits e → Fits (to_session r input e)
 session_fits r input e f =
     let l = session_leaves r input e f.orderly in
-    record { orderly = l.0; known = subst (λ n. AreUpTo n (to_session r input e).lines) (sym l.1) (session_up e.carrier.given r input e f.known) }
+    record { orderly = l.0; known = subst (λ n. AreUpTo n (to_session r input e).lines) (sym l.1)
+        (session_up e.carrier.given r input e f.known) }
 
 pub joins_fits : (r : ℕ) (s : Listener) (e : End) → Fits e → Fits (joins r s e)
 joins_fits r s e f = record { orderly = f.orderly; known = up_joined e.carrier.given r s e.carrier.live e.lines f.orderly.up_to f.known }
 
 pub times_fits : (n : ℕ) (e : End) → Fits e → Fits (hears_times n e)
 times_fits n e f =
-    events_heard Fits (λ events x f. record { orderly = orderly_same x.carrier x.carrier.outgoing events f.orderly; known = f.known }) (record {
+    events_heard Fits (λ events x f. record { orderly = orderly_same x.carrier x.carrier.outgoing events f.orderly; known = f.known })
+        (record {
       begins = λ r x none f. joins_fits r awaits x f;
       moves = λ event x f. session_fits (told_of event) (input_of event) x f;
     }) n e f
@@ -116,7 +134,8 @@ linked_links e l over r s is n = (l over r).needed s is n refl
 -- ---- a packet
 
 -- the events of its carrier are still to be handled
-packet_linked : (e : End) (packet : List ℕ) → IsOrderly e.carrier → e.carrier.events ≡ [] → AllLinked [] e → (carriers.after_packet e.carrier packet).ended ≡ None →
+packet_linked : (e : End) (packet : List ℕ) → IsOrderly e.carrier → e.carrier.events ≡ [] → AllLinked [] e →
+    (carriers.after_packet e.carrier packet).ended ≡ None →
     AllLinked (carriers.after_packet e.carrier packet).events (with_carrier (carriers.after_packet e.carrier packet) e)
 packet_linked e packet orderly none l over =
     λ r. (
@@ -135,17 +154,23 @@ pub concludes_lasting : (o : Option EndReason) (e : End) → o ≡ None → (if 
 concludes_lasting None e h = refl
 concludes_lasting (Some reason) e h = cc
 
-pub packet_sound : SessionLaws → (packet : List ℕ) (e : End) → e.carrier.ended ≡ None → e.carrier.events ≡ [] → IsSound e → IsSound (after_packet e packet)
+pub packet_sound : SessionLaws → (packet : List ℕ) (e : End) → e.carrier.ended ≡ None → e.carrier.events ≡ [] → IsSound e →
+    IsSound (after_packet e packet)
 packet_sound laws packet e lasts none sound over =
     let s = sound lasts in
     let c = carriers.after_packet e.carrier packet in
     let mid = with_carrier c e in
     let heard = hears_all mid in
     let is = packet_is e packet in
-    let heard_lasts : heard.carrier.ended ≡ None = sym (ap (λ (x : Carrier). x.ended) (concluded_carrier heard)) ∙ ap (λ (x : End). x.carrier.ended) (sym is) ∙ over in
+    let heard_lasts : heard.carrier.ended ≡ None = sym (ap (λ (x : Carrier). x.ended) (concluded_carrier heard)) ∙
+        ap (λ (x : End). x.carrier.ended) (sym is) ∙ over in
     let told_lasts : c.ended ≡ None = times_last (length c.events) mid heard_lasts in
-    let all : AllLinked [] heard = times_linked laws c.events mid refl s.apart heard_lasts (packet_linked e packet s.orderly none (links_linked e s.links lasts) told_lasts) in
-    let f = times_fits (length c.events) mid (record { orderly = orderly_packet packet e.carrier s.orderly; known = up_more e.carrier.given c.given e.lines (packet_rises packet e.carrier) s.known }) in
+    let all : AllLinked [] heard =
+        times_linked laws c.events mid refl s.apart heard_lasts
+        (packet_linked e packet s.orderly none (links_linked e s.links lasts) told_lasts) in
+    let f = times_fits (length c.events) mid
+        (record { orderly = orderly_packet packet e.carrier s.orderly;
+        known = up_more e.carrier.given c.given e.lines (packet_rises packet e.carrier) s.known }) in
     let same : heard ≡ after_packet e packet = sym (concludes_lasting heard.carrier.ended heard heard_lasts) ∙ sym is in
     subst Soundness same (record {
       orderly = f.orderly;
@@ -169,7 +194,8 @@ call_sound laws r call e sound over =
     let f = session_fits r (called call) e (record { orderly = s.orderly; known = s.known }) in
     let l = links_linked e s.links lasts in
     let before : AllLinked (told.refused r 0 ∷ []) e = (λ q. record { needed = (l q).needed; fresh = (l q).fresh }) in
-    let all = session_linked laws r (called call) (told.refused r 0) [] e (to_session r (called call) e) refl (session_hears r (called call) e) over
+    let all = session_linked laws r (called call) (told.refused r 0) [] e (to_session r (called call) e) refl
+        (session_hears r (called call) e) over
     (λ t is n h. (l r).needed t is (laws.linked t (called call) (called_not_opened call) n) h) before in
     search (session_apart r (called call) e s.apart, linked_links (to_session r (called call) e) (λ x. all))
 
@@ -178,7 +204,8 @@ open_none None error h = refl
 open_none (Some e) error h = cc
 
 -- a caller's session waits for its connection
-asked_linked : (q : ℕ) (s : Listener) (e : End) (c : Carrier) → value_at q e.lines ≡ None → AreApart e.lines → needs_link s.state.phase ≡ false → AllLinked [] e →
+asked_linked : (q : ℕ) (s : Listener) (e : End) (c : Carrier) → value_at q e.lines ≡ None → AreApart e.lines →
+    needs_link s.state.phase ≡ false → AllLinked [] e →
     ((r : ℕ) → is_open r c ≡ is_open r e.carrier) → (r : ℕ) (b : Bool) → (r == q) ≡ b → Stays r c.live (joined_lines q s e.lines) →
     IsLinked r (kept_at r (used_lines c.live (joined_lines q s e.lines))) [] c
 asked_linked q s e c none apart unneeded l same r true at (inl is) =
@@ -186,14 +213,17 @@ asked_linked q s e c none apart unneeded l same r true at (inl is) =
     let kept : kept_at r (used_lines c.live (joined_lines q s e.lines)) ≡ Some s =
     ap session_in (is ∙ ap (λ n. value_at n (joined_lines q s e.lines)) here ∙ push_here q (fresh_line s) e.lines none) in
     subst (λ (o : Option Listener). IsLinked r o [] c) (sym kept) (record {
-      needed = λ t is n h. (let one : s ≡ t = cc in both (needs_link s.state.phase) (ap (λ (x : Listener). needs_link x.state.phase) one ∙ n) unneeded);
+      needed = λ t is n h.
+          (let one : s ≡ t = cc in both (needs_link s.state.phase) (ap (λ (x : Listener). needs_link x.state.phase) one ∙ n) unneeded);
       fresh = inl (λ h. cc);
     })
 asked_linked q s e c none apart unneeded l same r b at (inr gone) =
-    subst (λ (o : Option Listener). IsLinked r o [] c) (sym (ap session_in gone.0)) (record { needed = λ t is n h. cc; fresh = inl (λ h. cc) })
+    subst (λ (o : Option Listener). IsLinked r o [] c) (sym (ap session_in gone.0))
+        (record { needed = λ t is n h. cc; fresh = inl (λ h. cc) })
 asked_linked q s e c none apart unneeded l same r false at (inl is) =
     let ne : r ≢ q = (λ here. both (r == q) (eq-eqb r q here) at) in
-    let kept : kept_at r (used_lines c.live (joined_lines q s e.lines)) ≡ kept_at r e.lines = ap session_in (is ∙ push_other r q _ e.lines ne) in
+    let kept : kept_at r (used_lines c.live (joined_lines q s e.lines)) ≡ kept_at r e.lines =
+        ap session_in (is ∙ push_other r q _ e.lines ne) in
     subst (λ (o : Option Listener). IsLinked r o [] c) (sym kept) (record {
       needed = λ t is n h. same r ∙ (l r).needed t is n h;
       fresh = inl (λ h. cc);
@@ -210,9 +240,13 @@ connect_sound c e allowed sound over =
     let q = e.carrier.given + 1 in
     let none = beyond q e.carrier.given e.lines s.known (omega arith) in
     let apart = apart_joins q (calls_with c) (record e { carrier = asked }) none s.apart in
-    let l = asked_linked q (calls_with c) e asked none s.apart refl (links_linked e s.links over) (λ r. asks_opens calling to e.carrier r s.orderly) in
-    let stays = (λ (r : ℕ). used_at r asked.live (joined_lines q (calls_with c) e.lines) (apart_push q (fresh_line (calls_with c)) e.lines none s.apart)) in
-    search ((joins_fits q (calls_with c) (record e { carrier = asked }) (record { orderly = orderly; known = up_more e.carrier.given q e.lines (omega arith) s.known })).known, linked_links (connects c e) (λ x r. l r (r == q) refl (stays r)))
+    let l = asked_linked q (calls_with c) e asked none s.apart refl (links_linked e s.links over)
+        (λ r. asks_opens calling to e.carrier r s.orderly) in
+    let stays = (λ (r : ℕ). used_at r asked.live (joined_lines q (calls_with c) e.lines)
+        (apart_push q (fresh_line (calls_with c)) e.lines none s.apart)) in
+    search ((joins_fits q (calls_with c) (record e { carrier = asked })
+        (record { orderly = orderly; known = up_more e.carrier.given q e.lines (omega arith) s.known })).known,
+        linked_links (connects c e) (λ x r. l r (r == q) refl (stays r)))
 
 -- ---- indications and octets that go
 
@@ -223,7 +257,8 @@ first_up n ((r, line) ∷ lines) up = first_keep (AreUpTo n) r line lines (up.0,
 first_gone_by : (q r : ℕ) (line : Line) (lines : Rows Line) (b : Bool) → (r == q) ≡ b → value_at q ((r, line) ∷ lines) ≡ None →
     (value_at q lines ≡ None → value_at q (without_first lines) ≡ None) → value_at q (without_first ((r, line) ∷ lines)) ≡ None
 first_gone_by q r line lines true e none more = let there : Some line ≡ None = rw e at none in cc
-first_gone_by q r line lines false e none more = first_keep (λ l. value_at q l ≡ None) r line lines (rw e (more (rw e at none))) (λ left. rw e (rw e at none))
+first_gone_by q r line lines false e none more =
+    first_keep (λ l. value_at q l ≡ None) r line lines (rw e (more (rw e at none))) (λ left. rw e (rw e at none))
 
 first_gone : (q : ℕ) (lines : Rows Line) → value_at q lines ≡ None → value_at q (without_first lines) ≡ None
 first_gone q [] none = refl
@@ -231,7 +266,8 @@ first_gone q ((r, line) ∷ lines) none = first_gone_by q r line lines (r == q) 
 
 first_apart : (lines : Rows Line) → AreApart lines → AreApart (without_first lines)
 first_apart [] apart = tt
-first_apart ((r, line) ∷ lines) apart = first_keep AreApart r line lines (first_gone r lines apart.0, first_apart lines apart.1) (λ left. apart)
+first_apart ((r, line) ∷ lines) apart = first_keep AreApart r line lines (first_gone r lines apart.0, first_apart lines apart.1)
+    (λ left. apart)
 
 pub first_sound : (e : End) → IsSound e → IsSound (record e { lines = without_first e.lines })
 first_sound e sound over = grind (arith, first_apart, first_up, kept_first)
@@ -256,7 +292,10 @@ abbrev pub IsHale : End → Type 0
 IsHale e = IsAttended e × IsSound e
 
 pub hale_kept : SessionLaws → IsKept IsHale
-hale_kept laws = both_kept IsAttended IsSound attended_kept (over_beside IsAttended IsSound (λ packet e lasts attended. packet_sound laws packet e lasts (attended lasts)) over_sound)
+hale_kept laws =
+    both_kept IsAttended IsSound attended_kept
+    (over_beside IsAttended IsSound (λ packet e lasts attended. packet_sound laws packet e lasts (attended lasts)) over_sound)
 
-pub feeds_sound : SessionLaws → (old new : Holding) (piece : List ℕ) (fed : Fed) → Feeds old piece fed new → IsAttended old.end → IsSound old.end → IsSound new.end
+pub feeds_sound : SessionLaws → (old new : Holding) (piece : List ℕ) (fed : Fed) → Feeds old piece fed new → IsAttended old.end →
+    IsSound old.end → IsSound new.end
 feeds_sound laws old new piece fed h attended sound = (feeds_kept IsHale (hale_kept laws) old new piece fed h (attended, sound)).1

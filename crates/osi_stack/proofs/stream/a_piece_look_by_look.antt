@@ -1,13 +1,20 @@
 -- A piece of the stream, read by looks that each take packets up to one that causes an event.
-use Rattle.std.proofs.Common.{◌≡◌, ℕ, zero, suc, ◌+◌, ◌-◌, ◌<◌, ◌≤◌, ◌||◌, ◌==◌, not, true, false, Bool, List, [], ◌∷◌, ◌++◌, length, take, drop, Option, Some, None, Result, is_some, refl, sym, ap, subst, ◌∙◌, inl, inr, ◌⊎◌, arith, length-append, length-drop, append_assoc, if◌then◌else◌}
+use Rattle.std.proofs.Common.{◌≡◌, ℕ, zero, suc, ◌+◌, ◌-◌, ◌<◌, ◌≤◌, ◌||◌, ◌==◌, not, true, false, Bool, List, [], ◌∷◌, ◌++◌, length, take}
+use Rattle.std.proofs.Common.{drop, Option, Some, None, Result, is_some, refl, sym, ap, subst, ◌∙◌, inl, inr, ◌⊎◌, arith, length-append}
+use Rattle.std.proofs.Common.{length-drop, append_assoc, if◌then◌else◌}
 use Rattle.std.proofs.Math.Seq.{drop-append_seam}
 use Rattle.osi_carrier.specs.Packets as carriers
 use Rattle.osi_carrier.specs.State as states
 use Rattle.osi_stack.specs.Feeding.{Refuses}
-use Rattle.osi_stack.proofs.Vocabulary.{append-nil, take-append-drop, take_at, or_right, or_left, IsPartial, IsFaultOf, ArePackets, offset_of, TpktFault, Value, TpduFault, packets_more, packets_leave, Carrying, HasToHold, is_spoilt, ActsBy, Rows, State as Carrier, Tpkt, EndReason, Fault, NoMemory, stops, uses_all, TakesPackets, RunsDry, StopsBehind, FindsNoRoom, FindsNoMemory, Goes, Fetches, attends, with_carrier, ends, hears_all, RunsOut, Starves, Line, End, Holding, IsAttended, waits}
+use Rattle.osi_stack.proofs.Vocabulary.{append-nil, take-append-drop, take_at, or_right, or_left, IsPartial, IsFaultOf, ArePackets}
+use Rattle.osi_stack.proofs.Vocabulary.{offset_of, TpktFault, Value, TpduFault, packets_more, packets_leave, Carrying, HasToHold, is_spoilt}
+use Rattle.osi_stack.proofs.Vocabulary.{ActsBy, Rows, State as Carrier, Tpkt, EndReason, Fault, NoMemory, stops, uses_all, TakesPackets}
+use Rattle.osi_stack.proofs.Vocabulary.{RunsDry, StopsBehind, FindsNoRoom, FindsNoMemory, Goes, Fetches, attends, with_carrier, ends}
+use Rattle.osi_stack.proofs.Vocabulary.{hears_all, RunsOut, Starves, Line, End, Holding, IsAttended, waits}
 use Rattle.osi_stack.proofs.carried.events_one_after_the_other.{never_starved, concluded_carrier, all_keep_by}
 use Rattle.osi_stack.proofs.stream.the_room_for_a_packet.{room_stays, less_room, packet_faultless, first_part}
-use Rattle.osi_stack.proofs.carried.packets_without_events.{both, or_second, IsQuiet, quiet_is, quiet_attends, quiet_stops, lift_dry, last_is, takes_append, packets_append, packets_part, lift_last}
+use Rattle.osi_stack.proofs.carried.packets_without_events.{both, or_second, IsQuiet, quiet_is, quiet_attends, quiet_stops, lift_dry}
+use Rattle.osi_stack.proofs.carried.packets_without_events.{last_is, takes_append, packets_append, packets_part, lift_last}
 
 -- ---- the progress of reading a piece
 
@@ -20,7 +27,8 @@ pub record IsRead (old : Holding) (piece : List ℕ) (now : Holding) (rest : Lis
   pub taken : TakesPackets old.end units now.end
   pub quiet : stops now.end ≡ false
   pub attended : IsAttended now.end
-  pub offset : (n : ℕ) → offset_of (now.held.offset + n) ≡ offset_of (old.held.offset + ((length (old.held.octets ++ front) - length now.held.octets) + n))
+  pub offset : (n : ℕ) →
+      offset_of (now.held.offset + n) ≡ offset_of (old.held.offset + ((length (old.held.octets ++ front) - length now.held.octets) + n))
   pub room : old.held.room ≤ now.held.room
   pub first : (front ≡ []) ⊎ (now.held.octets ≡ [])
 
@@ -35,7 +43,8 @@ read_first old piece quiet attended =
       taken = refl;
       quiet = quiet;
       attended = attended;
-      offset = λ n. (let same : (length (old.held.octets ++ []) - length old.held.octets) + n ≡ n = omega arith in ap (λ k. offset_of (old.held.offset + k)) (sym same));
+      offset = λ n. (let same : (length (old.held.octets ++ []) - length old.held.octets) + n ≡ n = omega arith in
+          ap (λ k. offset_of (old.held.offset + k)) (sym same));
       room = omega arith;
       first = inl refl;
     }
@@ -54,7 +63,8 @@ ended_attends c d lines reason h q = grind arith
 
 attends_spoilt : (e new : End) → new ≡ attends e → is_spoilt new.carrier.ended ≡ is_spoilt e.carrier.ended
 attends_spoilt e new h =
-    ap (λ (x : End). is_spoilt x.carrier.ended) h ∙ ap (λ (c : Carrier). is_spoilt c.ended) (concluded_carrier (hears_all e)) ∙ all_keep_by (length e.carrier.events) e
+    ap (λ (x : End). is_spoilt x.carrier.ended) h ∙ ap (λ (c : Carrier). is_spoilt c.ended) (concluded_carrier (hears_all e)) ∙
+        all_keep_by (length e.carrier.events) e
 
 acts_is : (old new : Carrier) (packet : List ℕ) → new ≡ carriers.after_packet old packet → carriers.Acts old packet new
 unfolding carriers.after_packet
@@ -76,7 +86,8 @@ looked piece front rest within cut =
     let parts : piece ≡ (front ++ take within rest) ++ drop within rest =
     cut ∙ ap (λ l. front ++ l) (sym (take-append-drop within rest)) ∙ sym (append_assoc front (take within rest) (drop within rest)) in
     let sizes = ap length parts ∙ length-append (front ++ take within rest) (drop within rest) in
-    let seen = ap (take (length (front ++ take within rest))) parts ∙ take_at (front ++ take within rest) (drop within rest) (length (front ++ take within rest)) refl in
+    let seen = ap (take (length (front ++ take within rest))) parts ∙ take_at (front ++ take within rest) (drop within rest)
+        (length (front ++ take within rest)) refl in
     let behind = ap (drop (length (front ++ take within rest))) parts ∙ drop-append_seam (front ++ take within rest) (drop within rest) in
     grind arith
 
@@ -88,8 +99,10 @@ more_packets old piece now rest more read =
     (packets_more read.units (old.held.octets ++ read.front) now.held.octets more read.packets)
 
 -- the offset, if this many octets are left
-place_of_rest : (old : Holding) (piece : List ℕ) (now : Holding) (rest more : List ℕ) (left : ℕ) (read : IsRead old piece now rest) → left ≤ length (now.held.octets ++ more) →
-    offset_of (now.held.offset + (length (now.held.octets ++ more) - left)) ≡ offset_of (old.held.offset + (length (old.held.octets ++ (read.front ++ more)) - left))
+place_of_rest : (old : Holding) (piece : List ℕ) (now : Holding) (rest more : List ℕ) (left : ℕ) (read : IsRead old piece now rest) →
+    left ≤ length (now.held.octets ++ more) →
+    offset_of (now.held.offset + (length (now.held.octets ++ more) - left)) ≡ offset_of
+        (old.held.offset + (length (old.held.octets ++ (read.front ++ more)) - left))
 place_of_rest old piece now rest more left read within = grind (arith, packets_leave, length-append, length, offset_of)
 
 -- ---- one look
@@ -124,8 +137,10 @@ record IsFinal (old : Holding) (piece rest : List ℕ) (used : ℕ) (new : Holdi
 abbrev Look : Holding → List ℕ → List ℕ → ℕ → Holding → Type 0
 Look old piece rest used new = (IsDry old piece rest used new ⊎ IsBehind old piece rest used new) ⊎ IsFinal old piece rest used new
 
-dry_is : (old : Holding) (piece : List ℕ) (now : Holding) (rest : List ℕ) (fed : ℕ) (told : Carrying) (new : Holding) (read : IsRead old piece now rest) →
-    carriers.RunsDry (record { state = now.end.carrier; held = now.held }) rest fed told → new.held ≡ told.held → new.end ≡ with_carrier told.state now.end →
+dry_is : (old : Holding) (piece : List ℕ) (now : Holding) (rest : List ℕ) (fed : ℕ) (told : Carrying) (new : Holding)
+    (read : IsRead old piece now rest) →
+    carriers.RunsDry (record { state = now.end.carrier; held = now.held }) rest fed told → new.held ≡ told.held →
+        new.end ≡ with_carrier told.state now.end →
     RunsDry old piece (length piece) new
 dry_is old piece now rest fed told new read g held is =
     let none = or_second (is_some now.end.carrier.ended) (waits now.end.lines) read.quiet in
@@ -137,10 +152,12 @@ dry_is old piece now rest fed told new read g held is =
       all = refl;
       packets = subst (λ h. ArePackets (read.units ++ g.units) (old.held.octets ++ piece) h) (ap (λ h. h.octets) (sym held))
           (subst (λ l. ArePackets (read.units ++ g.units) (old.held.octets ++ l) told.held.octets) (sym read.cut)
-          (packets_append read.units g.units (old.held.octets ++ (read.front ++ rest)) (now.held.octets ++ rest) told.held.octets whole g.packets));
+          (packets_append read.units g.units (old.held.octets ++ (read.front ++ rest)) (now.held.octets ++ rest) told.held.octets whole
+              g.packets));
       partial = subst (λ h. IsPartial h) (ap (λ h. h.octets) (sym held)) g.partial;
       taken = subst (λ (x : End). TakesPackets old.end (read.units ++ g.units) x) (sym is)
-          (takes_append old.end now.end there read.units g.units read.taken (lift_dry now.end.lines now.end.carrier told.state g.units none g.taken g.quiet));
+          (takes_append old.end now.end there read.units g.units read.taken
+              (lift_dry now.end.lines now.end.carrier told.state g.units none g.taken g.quiet));
       quiet = ap stops is ∙ quiet_stops there (quiet_is told.state g.quiet).lasts none;
       offset = ap (λ h. h.offset) held ∙ g.offset ∙ place_of_rest old piece now rest rest (length told.held.octets) read left
           ∙ ap (λ l. offset_of (old.held.offset + (length (old.held.octets ++ l) - length told.held.octets))) (sym read.cut)
@@ -148,8 +165,10 @@ dry_is old piece now rest fed told new read g held is =
       room = room_stays old.held.room now.held.room told.held new.held read.room g.room held;
     }
 
-behind_is : (old : Holding) (piece : List ℕ) (now : Holding) (rest : List ℕ) (used fed : ℕ) (told : Carrying) (new : Holding) (read : IsRead old piece now rest) →
-    carriers.StopsBehind (record { state = now.end.carrier; held = now.held }) rest fed told → new.held ≡ told.held → new.end ≡ attends (with_carrier told.state now.end) →
+behind_is : (old : Holding) (piece : List ℕ) (now : Holding) (rest : List ℕ) (used fed : ℕ) (told : Carrying) (new : Holding)
+    (read : IsRead old piece now rest) →
+    carriers.StopsBehind (record { state = now.end.carrier; held = now.held }) rest fed told → new.held ≡ told.held →
+        new.end ≡ attends (with_carrier told.state now.end) →
     used ≡ fed → IsBehind old piece rest used new
 behind_is old piece now rest used fed told new read g held is same =
     let none = or_second (is_some now.end.carrier.ended) (waits now.end.lines) read.quiet in
@@ -164,40 +183,48 @@ behind_is old piece now rest used fed told new read g held is same =
       front = read.front ++ take g.within rest;
       units = read.units ++ g.units;
       bound = g.bound;
-      uses = same ∙ g.uses ∙ ap (λ (s : Bool). if s then length rest else g.within) (sym (attends_spoilt (with_carrier told.state now.end) new.end is));
+      uses = same ∙ g.uses ∙ ap (λ (s : Bool). if s then length rest else g.within)
+          (sym (attends_spoilt (with_carrier told.state now.end) new.end is));
       cut = look.cut;
       seen = look.seen;
       at_most = look.bound;
-      packets = packets_append read.units g.units (old.held.octets ++ (read.front ++ take g.within rest)) (now.held.octets ++ take g.within rest) []
+      packets = packets_append read.units g.units (old.held.octets ++ (read.front ++ take g.within rest))
+          (now.held.octets ++ take g.within rest) []
           (more_packets old piece now rest (take g.within rest) read) g.packets;
       taken = takes_append old.end now.end new.end read.units g.units read.taken
-          (lift_last now.end.lines now.end.carrier told.state g.units new.end none g.taken (quiet_end now.end read.quiet read.attended) g.stopped is);
+          (lift_last now.end.lines now.end.carrier told.state g.units new.end none g.taken (quiet_end now.end read.quiet read.attended)
+              g.stopped is);
       held = ap (λ h. h.octets) held ∙ g.held;
       offset = λ n. (
           let here = ap (λ h. h.offset) held ∙ g.offset in
           let far = read.offset (length (now.held.octets ++ take g.within rest) + n) in
           let sum : (length (old.held.octets ++ read.front) - length now.held.octets) + (length (now.held.octets ++ take g.within rest) + n)
           ≡ length (old.held.octets ++ (read.front ++ take g.within rest)) + n = omega arith in
-          let moved : offset_of (new.held.offset + n) ≡ offset_of (now.held.offset + (length (now.held.octets ++ take g.within rest) + n)) = omega arith in
+          let moved : offset_of (new.held.offset + n) ≡ offset_of (now.held.offset + (length (now.held.octets ++ take g.within rest) + n)) =
+              omega arith in
           moved ∙ far ∙ ap (λ k. offset_of (old.held.offset + k)) sum
           );
       place = (
           let sum : (length (old.held.octets ++ read.front) - length now.held.octets) + length (now.held.octets ++ take g.within rest)
           ≡ length (old.held.octets ++ (read.front ++ take g.within rest)) = omega arith in
-          ap (λ h. h.offset) held ∙ g.offset ∙ read.offset (length (now.held.octets ++ take g.within rest)) ∙ ap (λ k. offset_of (old.held.offset + k)) sum
+          ap (λ h. h.offset) held ∙ g.offset ∙ read.offset (length (now.held.octets ++ take g.within rest)) ∙
+              ap (λ k. offset_of (old.held.offset + k)) sum
           );
       room = room_stays old.held.room now.held.room told.held new.held read.room g.room held;
     }
 
 -- memory ran out for the effect of the last packet
-stopped_is : (old : Holding) (piece : List ℕ) (now : Holding) (rest : List ℕ) (fed : ℕ) (told : Carrying) (new : Holding) (read : IsRead old piece now rest) →
-    carriers.StopsBehind (record { state = now.end.carrier; held = now.held }) rest fed told → RunsOut (with_carrier told.state now.end) new.end → new.held ≡ told.held →
+stopped_is : (old : Holding) (piece : List ℕ) (now : Holding) (rest : List ℕ) (fed : ℕ) (told : Carrying) (new : Holding)
+    (read : IsRead old piece now rest) →
+    carriers.StopsBehind (record { state = now.end.carrier; held = now.held }) rest fed told →
+        RunsOut (with_carrier told.state now.end) new.end → new.held ≡ told.held →
     FindsNoMemory old piece (length piece) new
 stopped_is old piece now rest fed told new read g out held =
     let none = or_second (is_some now.end.carrier.ended) (waits now.end.lines) read.quiet in
     let look = looked piece read.front rest g.within read.cut in
     let l = last_is now.end.carrier told.state g.units g.taken (quiet_end now.end read.quiet read.attended) g.stopped in
-    let parts = packets_part l.first (l.last ∷ []) (now.held.octets ++ take g.within rest) [] (subst (λ us. ArePackets us (now.held.octets ++ take g.within rest) []) l.all g.packets) in
+    let parts = packets_part l.first (l.last ∷ []) (now.held.octets ++ take g.within rest) []
+        (subst (λ us. ArePackets us (now.held.octets ++ take g.within rest) []) l.all g.packets) in
     let before = with_carrier l.before now.end in
     record {
       within = length (read.front ++ take g.within rest);
@@ -207,17 +234,21 @@ stopped_is old piece now rest fed told new read g out held =
       all = refl;
       bound = look.bound;
       packets = subst (λ k. ArePackets (read.units ++ l.first) (old.held.octets ++ k) parts.between) (sym look.seen)
-          (packets_append read.units l.first (old.held.octets ++ (read.front ++ take g.within rest)) (now.held.octets ++ take g.within rest) parts.between
+          (packets_append read.units l.first (old.held.octets ++ (read.front ++ take g.within rest)) (now.held.octets ++ take g.within rest)
+              parts.between
           (more_packets old piece now rest (take g.within rest) read) parts.front);
-      taken = takes_append old.end now.end before read.units l.first read.taken (lift_dry now.end.lines now.end.carrier l.before l.first none l.taken l.quiet);
+      taken = takes_append old.end now.end before read.units l.first read.taken
+          (lift_dry now.end.lines now.end.carrier l.before l.first none l.taken l.quiet);
       quiet = quiet_stops before (quiet_is l.before l.quiet).lasts none;
       how = inr (l.last, parts.back, inr (told.state, acts_is l.before told.state l.last l.acts, out));
       held = ap (λ h. h.octets) held ∙ g.held;
       faultless = packet_faultless l.last parts.between (drop (length (read.front ++ take g.within rest)) piece) parts.back;
     }
 
-refuses_is : (old : Holding) (piece : List ℕ) (now : Holding) (rest : List ℕ) (fed : ℕ) (told : Carrying) (new : Holding) (read : IsRead old piece now rest) →
-    carriers.Refuses (record { state = now.end.carrier; held = now.held }) rest fed told → new.held ≡ told.held → new.end ≡ attends (with_carrier told.state now.end) →
+refuses_is : (old : Holding) (piece : List ℕ) (now : Holding) (rest : List ℕ) (fed : ℕ) (told : Carrying) (new : Holding)
+    (read : IsRead old piece now rest) →
+    carriers.Refuses (record { state = now.end.carrier; held = now.held }) rest fed told → new.held ≡ told.held →
+        new.end ≡ attends (with_carrier told.state now.end) →
     Refuses old piece (length piece) new
 refuses_is old piece now rest fed told new read g held is =
     let none = or_second (is_some now.end.carrier.ended) (waits now.end.lines) read.quiet in
@@ -235,29 +266,38 @@ refuses_is old piece now rest fed told new read g held is =
       cut = (
         r,
         subst (λ l. ArePackets (read.units ++ g.units) (old.held.octets ++ l) r) (sym read.cut)
-            (packets_append read.units g.units (old.held.octets ++ (read.front ++ rest)) (now.held.octets ++ rest) r (more_packets old piece now rest rest read) g.cut.1),
+            (packets_append read.units g.units (old.held.octets ++ (read.front ++ rest)) (now.held.octets ++ rest) r
+                (more_packets old piece now rest rest read) g.cut.1),
         subst (λ n. IsFaultOf n r g.fault) place g.cut.2,
       );
-      taken = takes_append old.end now.end before read.units g.units read.taken (lift_dry now.end.lines now.end.carrier g.before g.units none g.taken g.quiet);
+      taken = takes_append old.end now.end before read.units g.units read.taken
+          (lift_dry now.end.lines now.end.carrier g.before g.units none g.taken g.quiet);
       quiet = quiet_stops before q.lasts none;
       ended = is ∙ ended_attends g.before told.state now.end.lines (Fault (Tpkt g.fault)) g.ended q;
       held = ap (λ h. h.octets) held ∙ g.held;
     }
 
 -- there was no room, or memory ran out for the effect of the next packet
-abbrev HowStarved : (old : Holding) (piece : List ℕ) (now : Holding) (rest : List ℕ) (fed : ℕ) (told : Carrying) (new : Holding) (read : IsRead old piece now rest) →
+abbrev HowStarved : (old : Holding) (piece : List ℕ) (now : Holding) (rest : List ℕ) (fed : ℕ) (told : Carrying) (new : Holding)
+    (read : IsRead old piece now rest) →
     carriers.FindsNoMemory (record { state = now.end.carrier; held = now.held }) rest fed told → Type 0
 HowStarved old piece now rest fed told new read g =
     FindsNoRoom old piece (length (read.front ++ take g.within rest)) g.rest (with_carrier g.before now.end) new.end
     ⊎ ((packet : List ℕ) × ArePackets (packet ∷ []) g.rest [] × Starves (with_carrier g.before now.end) packet new.end)
 
-no_room : (old : Holding) (piece : List ℕ) (now : Holding) (rest : List ℕ) (fed : ℕ) (told : Carrying) (new : Holding) (read : IsRead old piece now rest) →
+no_room : (old : Holding) (piece : List ℕ) (now : Holding) (rest : List ℕ) (fed : ℕ) (told : Carrying) (new : Holding)
+    (read : IsRead old piece now rest) →
     (g : carriers.FindsNoMemory (record { state = now.end.carrier; held = now.held }) rest fed told) →
-    carriers.FindsNoRoom (record { state = now.end.carrier; held = now.held }) rest g.within g.rest g.before told.state → new.end ≡ ends NoMemory (with_carrier g.before now.end) →
+    carriers.FindsNoRoom (record { state = now.end.carrier; held = now.held }) rest g.within g.rest g.before told.state →
+        new.end ≡ ends NoMemory (with_carrier g.before now.end) →
     FindsNoRoom old piece (length (read.front ++ take g.within rest)) g.rest (with_carrier g.before now.end) new.end
-no_room old piece now rest fed told new read g none ended = search (first_part g.units read.front now.held.octets g.within rest g.rest read.first none.first g.packets, subst (HasToHold old.held.room g.rest) (sym (looked piece read.front rest g.within read.cut).behind) (less_room now.held.room old.held.room g.rest (drop g.within rest) read.room none.holds))
+no_room old piece now rest fed told new read g none ended =
+    search (first_part g.units read.front now.held.octets g.within rest g.rest read.first none.first g.packets,
+    subst (HasToHold old.held.room g.rest) (sym (looked piece read.front rest g.within read.cut).behind)
+    (less_room now.held.room old.held.room g.rest (drop g.within rest) read.room none.holds))
 
-starved_with : (old : Holding) (piece : List ℕ) (now : Holding) (rest : List ℕ) (fed : ℕ) (told : Carrying) (new : Holding) (read : IsRead old piece now rest) →
+starved_with : (old : Holding) (piece : List ℕ) (now : Holding) (rest : List ℕ) (fed : ℕ) (told : Carrying) (new : Holding)
+    (read : IsRead old piece now rest) →
     (g : carriers.FindsNoMemory (record { state = now.end.carrier; held = now.held }) rest fed told) → new.held ≡ told.held →
     HowStarved old piece now rest fed told new read g → FindsNoMemory old piece (length piece) new
 starved_with old piece now rest fed told new read g held how =
@@ -272,23 +312,29 @@ starved_with old piece now rest fed told new read g held how =
       all = refl;
       bound = look.bound;
       packets = subst (λ k. ArePackets (read.units ++ g.units) (old.held.octets ++ k) g.rest) (sym look.seen)
-          (packets_append read.units g.units (old.held.octets ++ (read.front ++ take g.within rest)) (now.held.octets ++ take g.within rest) g.rest
+          (packets_append read.units g.units (old.held.octets ++ (read.front ++ take g.within rest)) (now.held.octets ++ take g.within rest)
+              g.rest
           (more_packets old piece now rest (take g.within rest) read) g.packets);
-      taken = takes_append old.end now.end before read.units g.units read.taken (lift_dry now.end.lines now.end.carrier g.before g.units none g.taken g.quiet);
+      taken = takes_append old.end now.end before read.units g.units read.taken
+          (lift_dry now.end.lines now.end.carrier g.before g.units none g.taken g.quiet);
       quiet = quiet_stops before (quiet_is g.before g.quiet).lasts none;
       how = how;
       held = ap (λ h. h.octets) held ∙ g.held;
       faultless = subst (λ l. (at : ℕ) (fault : TpktFault) → IsFaultOf at (g.rest ++ l) fault → ⊥) (sym look.behind) g.faultless;
     }
 
-starved_how : (old : Holding) (piece : List ℕ) (now : Holding) (rest : List ℕ) (fed : ℕ) (told : Carrying) (new : Holding) (read : IsRead old piece now rest) →
+starved_how : (old : Holding) (piece : List ℕ) (now : Holding) (rest : List ℕ) (fed : ℕ) (told : Carrying) (new : Holding)
+    (read : IsRead old piece now rest) →
     (g : carriers.FindsNoMemory (record { state = now.end.carrier; held = now.held }) rest fed told) →
-    ((new.end ≡ attends (with_carrier told.state now.end)) ⊎ RunsOut (with_carrier told.state now.end) new.end) → HowStarved old piece now rest fed told new read g
+    ((new.end ≡ attends (with_carrier told.state now.end)) ⊎ RunsOut (with_carrier told.state now.end) new.end) →
+        HowStarved old piece now rest fed told new read g
 starved_how old piece now rest fed told new read g heard =
     let q = quiet_is g.before g.quiet in
     elim (g.how) [
       | inl over ↦ elim heard [
-        | inl is ↦ inl (no_room old piece now rest fed told new read g over (is ∙ ended_attends g.before told.state now.end.lines NoMemory over.ended q))
+        | inl is ↦ inl
+            (no_room old piece now rest fed told new read g over
+            (is ∙ ended_attends g.before told.state now.end.lines NoMemory over.ended q))
         | inr out ↦ never_starved (with_carrier told.state now.end) new.end (ap (λ (c : Carrier). c.events) over.ended ∙ q.events) out
       ]
       | inr starved ↦ elim heard [
@@ -297,28 +343,42 @@ starved_how old piece now rest fed told new read g heard =
       ]
     ]
 
-looks : (old : Holding) (piece : List ℕ) (now : Holding) (rest : List ℕ) (used : ℕ) (new : Holding) → IsRead old piece now rest → Fetches now rest used new → Look old piece rest used new
+looks : (old : Holding) (piece : List ℕ) (now : Holding) (rest : List ℕ) (used : ℕ) (new : Holding) → IsRead old piece now rest →
+    Fetches now rest used new → Look old piece rest used new
 looks old piece now rest used new read fetch =
     let there = with_carrier fetch.told.state now.end in
     elim (fetch.feeds.goes (quiet_end now.end read.quiet read.attended)) [
       | inl (inl g) ↦ (
           let q = quiet_is fetch.told.state g.quiet in
           elim (fetch.heard) [
-            | inl h ↦ inl (inl (record { all = h.1 ∙ g.all; runs = dry_is old piece now rest fetch.fed.used fetch.told new read g fetch.held (h.0 ∙ quiet_attends there q) }))
+            | inl h ↦ inl
+                (inl (record { all = h.1 ∙ g.all; runs = dry_is old piece now rest fetch.fed.used fetch.told new read g fetch.held
+                (h.0 ∙ quiet_attends there q) }))
             | inr h ↦ never_starved there new.end q.events h.0
           ]
           )
       | inl (inr g) ↦ elim (fetch.heard) [
         | inl h ↦ inl (inr (behind_is old piece now rest used fetch.fed.used fetch.told new read g fetch.held h.0 h.1))
-        | inr h ↦ inr (record { all = h.1; goes = inr (inr (stopped_is old piece now rest fetch.fed.used fetch.told new read g h.0 fetch.held)) })
+        | inr h ↦ inr
+            (record { all = h.1; goes = inr (inr (stopped_is old piece now rest fetch.fed.used fetch.told new read g h.0 fetch.held)) })
       ]
       | inr (inl g) ↦ elim (fetch.heard) [
-        | inl h ↦ inr (record { all = h.1 ∙ g.all; goes = inr (inl (refuses_is old piece now rest fetch.fed.used fetch.told new read g fetch.held h.0)) })
+        | inl h ↦ inr
+            (record { all = h.1 ∙ g.all;
+            goes = inr (inl (refuses_is old piece now rest fetch.fed.used fetch.told new read g fetch.held h.0)) })
         | inr h ↦ never_starved there new.end (ap (λ (c : Carrier). c.events) g.ended ∙ (quiet_is g.before g.quiet).events) h.0
       ]
       | inr (inr g) ↦ elim (fetch.heard) [
-        | inl h ↦ inr (record { all = h.1 ∙ g.all; goes = inr (inr (starved_with old piece now rest fetch.fed.used fetch.told new read g fetch.held (starved_how old piece now rest fetch.fed.used fetch.told new read g (inl h.0)))) })
-        | inr h ↦ inr (record { all = h.1; goes = inr (inr (starved_with old piece now rest fetch.fed.used fetch.told new read g fetch.held (starved_how old piece now rest fetch.fed.used fetch.told new read g (inr h.0)))) })
+        | inl h ↦ inr
+            (record { all = h.1 ∙ g.all;
+            goes = inr (inr
+            (starved_with old piece now rest fetch.fed.used fetch.told new read g fetch.held
+            (starved_how old piece now rest fetch.fed.used fetch.told new read g (inl h.0)))) })
+        | inr h ↦ inr
+            (record { all = h.1;
+            goes = inr (inr
+            (starved_with old piece now rest fetch.fed.used fetch.told new read g fetch.held
+            (starved_how old piece now rest fetch.fed.used fetch.told new read g (inr h.0)))) })
       ]
     ]
 
@@ -333,22 +393,28 @@ spoilt_ended None e = refl
 spoilt_ended (Some reason) e = cc
 
 -- how much is used if an indication is pending
-uses_waiting : (b w : Bool) (piece front rest : List ℕ) (used within : ℕ) → w ≡ true → piece ≡ front ++ drop within rest → within ≤ length rest →
-    used ≡ (if b then length rest else within) → length piece - length (drop used rest) ≡ (if b || not w then length piece else length front)
+uses_waiting : (b w : Bool) (piece front rest : List ℕ) (used within : ℕ) → w ≡ true → piece ≡ front ++ drop within rest →
+    within ≤ length rest →
+    used ≡ (if b then length rest else within) →
+        length piece - length (drop used rest) ≡ (if b || not w then length piece else length front)
 uses_waiting b w piece front rest used within w2 cut bound uses = grind (arith, all_used, length, length-append, drop)
 
 uses_ended : (b w : Bool) (all within : ℕ) → w ≡ false → all ≡ (if b || not w then all else within)
 uses_ended b w all within e = grind arith
 
-behind_stops : (old : Holding) (piece rest : List ℕ) (used uses : ℕ) (new : Holding) (b : IsBehind old piece rest used new) → stops new.end ≡ true →
+behind_stops : (old : Holding) (piece rest : List ℕ) (used uses : ℕ) (new : Holding) (b : IsBehind old piece rest used new) →
+    stops new.end ≡ true →
     uses ≡ (if uses_all new.end then length piece else length b.front) → StopsBehind old piece uses new
 behind_stops old piece rest used uses new b stopped e = grind arith
 
-pub read_waits : (old : Holding) (piece : List ℕ) (now : Holding) (rest : List ℕ) (used : ℕ) (new : Holding) → IsRead old piece now rest → Fetches now rest used new →
+pub read_waits : (old : Holding) (piece : List ℕ) (now : Holding) (rest : List ℕ) (used : ℕ) (new : Holding) → IsRead old piece now rest →
+    Fetches now rest used new →
     waits new.end.lines ≡ true → Goes old piece (length piece - length (drop used rest)) new
 read_waits old piece now rest used new read fetch waiting = elim (looks old piece now rest used new read fetch) [
   | inl (inl dry) ↦ both (waits new.end.lines) waiting (or_second (is_some new.end.carrier.ended) (waits new.end.lines) dry.runs.quiet)
-  | inl (inr b) ↦ inl (inr (behind_stops old piece rest used (length piece - length (drop used rest)) new b (or_right (is_some new.end.carrier.ended) (waits new.end.lines) waiting)
+  | inl (inr b) ↦ inl
+      (inr (behind_stops old piece rest used (length piece - length (drop used rest)) new b
+      (or_right (is_some new.end.carrier.ended) (waits new.end.lines) waiting)
       (uses_waiting (is_spoilt new.end.carrier.ended) (waits new.end.lines) piece b.front rest used b.within waiting b.cut b.bound b.uses)))
   | inr f ↦ (
       let none = all_used rest used f.all in
@@ -357,11 +423,13 @@ read_waits old piece now rest used new read fetch waiting = elim (looks old piec
       )
 ]
 
-pub read_ended : (old : Holding) (piece : List ℕ) (now : Holding) (rest : List ℕ) (used : ℕ) (new : Holding) → IsRead old piece now rest → Fetches now rest used new →
+pub read_ended : (old : Holding) (piece : List ℕ) (now : Holding) (rest : List ℕ) (used : ℕ) (new : Holding) → IsRead old piece now rest →
+    Fetches now rest used new →
     waits new.end.lines ≡ false → is_some new.end.carrier.ended ≡ true → Goes old piece (length piece) new
 read_ended old piece now rest used new read fetch none over = elim (looks old piece now rest used new read fetch) [
   | inl (inl dry) ↦ inl (inl dry.runs)
-  | inl (inr b) ↦ inl (inr (behind_stops old piece rest used (length piece) new b (or_left (is_some new.end.carrier.ended) (waits new.end.lines) over)
+  | inl (inr b) ↦ inl
+      (inr (behind_stops old piece rest used (length piece) new b (or_left (is_some new.end.carrier.ended) (waits new.end.lines) over)
       (uses_ended (is_spoilt new.end.carrier.ended) (waits new.end.lines) (length piece) (length b.front) none)))
   | inr f ↦ f.goes
 ]
@@ -371,7 +439,8 @@ uses_on : (b : Bool) (used all within : ℕ) → b ≡ false → used ≡ (if b 
 uses_on false used all within e h = h
 uses_on true used all within e h = cc
 
-abbrev behind_on : (old : Holding) (piece rest : List ℕ) (used : ℕ) (new : Holding) → waits new.end.lines ≡ false → is_some new.end.carrier.ended ≡ false → IsAttended new.end →
+abbrev behind_on : (old : Holding) (piece rest : List ℕ) (used : ℕ) (new : Holding) → waits new.end.lines ≡ false →
+    is_some new.end.carrier.ended ≡ false → IsAttended new.end →
     IsBehind old piece rest used new → IsRead old piece new (drop used rest)
 behind_on old piece rest used new none lasts attended b =
     let on = uses_on (is_spoilt new.end.carrier.ended) used (length rest) b.within (spoilt_ended new.end.carrier.ended lasts) b.uses in
@@ -385,15 +454,18 @@ behind_on old piece rest used new none lasts attended b =
       quiet = quiet_stops new.end lasts none;
       attended = attended;
       offset = λ n. (
-          let same : length (old.held.octets ++ b.front) + n ≡ (length (old.held.octets ++ b.front) - length new.held.octets) + n = omega arith in
+          let same : length (old.held.octets ++ b.front) + n ≡ (length (old.held.octets ++ b.front) - length new.held.octets) + n =
+              omega arith in
           b.offset n ∙ ap (λ k. offset_of (old.held.offset + k)) same
           );
       room = b.room;
       first = inr b.held;
     }
 
-pub read_on : (old : Holding) (piece : List ℕ) (now : Holding) (rest : List ℕ) (used : ℕ) (new : Holding) → IsRead old piece now rest → Fetches now rest used new →
-    waits new.end.lines ≡ false → is_some new.end.carrier.ended ≡ false → 0 < length (drop used rest) → IsRead old piece new (drop used rest)
+pub read_on : (old : Holding) (piece : List ℕ) (now : Holding) (rest : List ℕ) (used : ℕ) (new : Holding) → IsRead old piece now rest →
+    Fetches now rest used new →
+    waits new.end.lines ≡ false → is_some new.end.carrier.ended ≡ false → 0 < length (drop used rest) →
+        IsRead old piece new (drop used rest)
 read_on old piece now rest used new read fetch none lasts some = elim (looks old piece now rest used new read fetch) [
   | inl (inl dry) ↦ (let no = all_used rest used dry.all in absurd (omega arith))
   | inl (inr b) ↦ behind_on old piece rest used new none lasts fetch.attended b
@@ -401,7 +473,8 @@ read_on old piece now rest used new read fetch none lasts some = elim (looks old
 ]
 
 -- all was read
-end_of_read : (old : Holding) (piece : List ℕ) (new : Holding) (rest : List ℕ) → IsPartial [] → new.held.octets ≡ [] → length rest ≡ 0 → (read : IsRead old piece new rest) →
+end_of_read : (old : Holding) (piece : List ℕ) (new : Holding) (rest : List ℕ) → IsPartial [] → new.held.octets ≡ [] → length rest ≡ 0 →
+    (read : IsRead old piece new rest) →
     new.held.offset ≡ offset_of (old.held.offset + length (old.held.octets ++ read.front)) → RunsDry old piece (length piece) new
 end_of_read old piece new [] nothing held e read place =
     let all : piece ≡ read.front = read.cut ∙ append-nil read.front in
@@ -414,11 +487,14 @@ end_of_read old piece new [] nothing held e read place =
     grind arith
 end_of_read old piece new (x ∷ rest) nothing held e read place = absurd (omega arith)
 
-pub read_dry : (old : Holding) (piece : List ℕ) (now : Holding) (rest : List ℕ) (used : ℕ) (new : Holding) → IsPartial [] → IsRead old piece now rest → Fetches now rest used new →
+pub read_dry : (old : Holding) (piece : List ℕ) (now : Holding) (rest : List ℕ) (used : ℕ) (new : Holding) → IsPartial [] →
+    IsRead old piece now rest → Fetches now rest used new →
     waits new.end.lines ≡ false → is_some new.end.carrier.ended ≡ false → length (drop used rest) ≡ 0 → Goes old piece (length piece) new
 read_dry old piece now rest used new nothing read fetch none lasts e = elim (looks old piece now rest used new read fetch) [
   | inl (inl dry) ↦ inl (inl dry.runs)
-  | inl (inr b) ↦ inl (inl (end_of_read old piece new (drop used rest) nothing b.held e (behind_on old piece rest used new none lasts fetch.attended b) b.place))
+  | inl (inr b) ↦ inl
+      (inl (end_of_read old piece new (drop used rest) nothing b.held e (behind_on old piece rest used new none lasts fetch.attended b)
+      b.place))
   | inr f ↦ f.goes
 ]
 

@@ -1,17 +1,24 @@
 -- Over every run of calls an end is what the packets of the octets used make of it.
-use Rattle.std.proofs.Common.{◌≡◌, ℕ, ◌+◌, ◌-◌, ◌<◌, ◌^◌, ◌||◌, Bool, true, List, ◌∷◌, ◌++◌, length, take, Option, None, is_some, refl, sym, ap, subst, ◌∙◌, inl, inr, arith, append_assoc, length-append, []}
-use Rattle.osi_stack.proofs.Vocabulary.{append-nil, take_all, flat_map, IsPartial, ArePackets, offset_of, Fed, OneCut, packets_joined, packets_leave, Shown, RunsDry, StopsBehind, FindsNoMemory, Goes, Feeds, Account, account_of, with_packets, Calls, CallsAlong, used_in, told_in, carried_in, account_along, Reads, AreAlike, feeding, telling, carrying, End, Holding, waits, EndCall as Call}
-use Rattle.osi_stack.proofs.in_step.the_account_packet_by_packet.{after_more, account_told, account_joined, packets_apart, with_joined, packets_done}
+use Rattle.std.proofs.Common.{◌≡◌, ℕ, ◌+◌, ◌-◌, ◌<◌, ◌^◌, ◌||◌, Bool, true, List, ◌∷◌, ◌++◌, length, take, Option, None, is_some, refl, sym}
+use Rattle.std.proofs.Common.{ap, subst, ◌∙◌, inl, inr, arith, append_assoc, length-append, []}
+use Rattle.osi_stack.proofs.Vocabulary.{append-nil, take_all, flat_map, IsPartial, ArePackets, offset_of, Fed, OneCut, packets_joined}
+use Rattle.osi_stack.proofs.Vocabulary.{packets_leave, Shown, RunsDry, StopsBehind, FindsNoMemory, Goes, Feeds, Account, account_of}
+use Rattle.osi_stack.proofs.Vocabulary.{with_packets, Calls, CallsAlong, used_in, told_in, carried_in, account_along, Reads, AreAlike}
+use Rattle.osi_stack.proofs.Vocabulary.{feeding, telling, carrying, End, Holding, waits, EndCall as Call}
+use Rattle.osi_stack.proofs.in_step.the_account_packet_by_packet.{after_more, account_told, account_joined, packets_apart, with_joined}
+use Rattle.osi_stack.proofs.in_step.the_account_packet_by_packet.{packets_done}
 use Rattle.osi_stack.proofs.stream.what_was_written_is_read.{uses_within}
 use Rattle.osi_stack.proofs.stream.what_feeding_keeps.{starved_ended}
 use Rattle.osi_stack.proofs.carried.packets_without_events.{never}
 
 -- ---- an end stays
 
-pub call_lasts : (old : Holding) (call : Call) (new : Holding) → Calls old call new → new.end.carrier.ended ≡ None → old.end.carrier.ended ≡ None
+pub call_lasts : (old : Holding) (call : Call) (new : Holding) → Calls old call new → new.end.carrier.ended ≡ None →
+    old.end.carrier.ended ≡ None
 call_lasts old call new h lasts = grind arith
 
-calls_last : (old : Holding) (calls : List Call) (new : Holding) → CallsAlong old calls new → new.end.carrier.ended ≡ None → old.end.carrier.ended ≡ None
+calls_last : (old : Holding) (calls : List Call) (new : Holding) → CallsAlong old calls new → new.end.carrier.ended ≡ None →
+    old.end.carrier.ended ≡ None
 calls_last old [] new h lasts = ap (λ (x : Holding). x.end.carrier.ended) (sym h) ∙ lasts
 calls_last old (call ∷ calls) new h lasts = call_lasts old call h.0 h.1 (calls_last h.0 calls new h.2 lasts)
 
@@ -23,14 +30,17 @@ pub record ReadsOne (old : Holding) (call : Call) (new : Holding) : Type 0 where
   pub cut : ArePackets packets (old.held.octets ++ used_in call) new.held.octets
   pub account : account_of (told_in call) (carried_in call) new.end ≡ with_packets packets (account_of [] [] old.end)
   pub partial : IsPartial old.held.octets → IsPartial new.held.octets
-  pub offset : old.held.offset < 2 ^ 64 → new.held.offset ≡ offset_of (old.held.offset + (length (old.held.octets ++ used_in call) - length new.held.octets))
+  pub offset : old.held.offset < 2 ^ 64 →
+      new.held.offset ≡ offset_of (old.held.offset + (length (old.held.octets ++ used_in call) - length new.held.octets))
 
 -- nothing was used, and the octets held are the same
-pub reads_still : (old : Holding) (call : Call) (new : Holding) → used_in call ≡ [] → new.held ≡ old.held → account_of (told_in call) (carried_in call) new.end ≡ account_of [] [] old.end →
+pub reads_still : (old : Holding) (call : Call) (new : Holding) → used_in call ≡ [] → new.held ≡ old.held →
+    account_of (told_in call) (carried_in call) new.end ≡ account_of [] [] old.end →
     ReadsOne old call new
 reads_still old call new nothing held account = grind (arith, length, length-append, used_in, append-nil)
 
-unfoldable pub reads_dry : (old : Holding) (piece : List ℕ) (fed : Fed) (new : Holding) → RunsDry old piece fed.used new → ReadsOne old (feeding piece fed) new
+unfoldable pub reads_dry : (old : Holding) (piece : List ℕ) (fed : Fed) (new : Holding) → RunsDry old piece fed.used new →
+    ReadsOne old (feeding piece fed) new
 reads_dry old piece fed new dry =
     let whole : take fed.used piece ≡ piece = let all = dry.all in take_all fed.used piece (omega arith) in
     record {
@@ -38,10 +48,12 @@ reads_dry old piece fed new dry =
       cut = subst (λ l. ArePackets dry.units (old.held.octets ++ l) new.held.octets) (sym whole) dry.packets;
       account = packets_done dry.units old.end new.end dry.taken;
       partial = λ partial. dry.partial;
-      offset = λ bound. dry.offset ∙ ap (λ l. offset_of (old.held.offset + (length (old.held.octets ++ l) - length new.held.octets))) (sym whole);
+      offset = λ bound. dry.offset ∙ ap (λ l. offset_of (old.held.offset + (length (old.held.octets ++ l) - length new.held.octets)))
+          (sym whole);
     }
 
-unfoldable pub reads_stopped : IsPartial [] → (old : Holding) (piece : List ℕ) (fed : Fed) (new : Holding) → StopsBehind old piece fed.used new → new.end.carrier.ended ≡ None →
+unfoldable pub reads_stopped : IsPartial [] → (old : Holding) (piece : List ℕ) (fed : Fed) (new : Holding) →
+    StopsBehind old piece fed.used new → new.end.carrier.ended ≡ None →
     ReadsOne old (feeding piece fed) new
 reads_stopped nothing old piece fed new stop lasts =
     let used : fed.used ≡ stop.within = uses_within new.end (length piece) stop.within fed.used stop.stopped lasts stop.uses in
@@ -57,28 +69,35 @@ reads_stopped nothing old piece fed new stop lasts =
     }
 
 -- if memory ran out the end has ended
-pub none_ended : (old : Holding) (piece : List ℕ) (used : ℕ) (new : Holding) → FindsNoMemory old piece used new → is_some new.end.carrier.ended ≡ true
+pub none_ended : (old : Holding) (piece : List ℕ) (used : ℕ) (new : Holding) → FindsNoMemory old piece used new →
+    is_some new.end.carrier.ended ≡ true
 none_ended old piece used new h = elim (h.how) [
   | inl none ↦ ap (λ (x : End). is_some x.carrier.ended) none.ended
   | inr p ↦ starved_ended h.before new.end p.0 p.2
 ]
 
-reads_goes : IsPartial [] → (old : Holding) (piece : List ℕ) (fed : Fed) (new : Holding) → Goes old piece fed.used new → new.end.carrier.ended ≡ None →
+reads_goes : IsPartial [] → (old : Holding) (piece : List ℕ) (fed : Fed) (new : Holding) → Goes old piece fed.used new →
+    new.end.carrier.ended ≡ None →
     ReadsOne old (feeding piece fed) new
 reads_goes nothing old piece fed new (inl (inl dry)) lasts = reads_dry old piece fed new dry
 reads_goes nothing old piece fed new (inl (inr stop)) lasts = reads_stopped nothing old piece fed new stop lasts
-reads_goes nothing old piece fed new (inr (inl refused)) lasts = never new.end (ap (λ (x : End). is_some x.carrier.ended) refused.ended) lasts
+reads_goes nothing old piece fed new (inr (inl refused)) lasts =
+    never new.end (ap (λ (x : End). is_some x.carrier.ended) refused.ended) lasts
 reads_goes nothing old piece fed new (inr (inr starved)) lasts = never new.end (none_ended old piece fed.used new starved) lasts
 
-reads_feed : IsPartial [] → (old : Holding) (piece : List ℕ) (fed : Fed) (new : Holding) (waiting : Bool) → waits old.end.lines ≡ waiting → old.end.carrier.ended ≡ None →
+reads_feed : IsPartial [] → (old : Holding) (piece : List ℕ) (fed : Fed) (new : Holding) (waiting : Bool) → waits old.end.lines ≡ waiting →
+    old.end.carrier.ended ≡ None →
     Feeds old piece fed new → new.end.carrier.ended ≡ None → ReadsOne old (feeding piece fed) new
-reads_feed nothing old piece fed new waiting e quiet h lasts = search (arith, reads_still, feeding, take, account_of, reads_goes, is_some, waits)
+reads_feed nothing old piece fed new waiting e quiet h lasts =
+    search (arith, reads_still, feeding, take, account_of, reads_goes, is_some, waits)
 
 reads_told : (old : Holding) (shown : Option (ℕ × Shown)) (new : Holding) → Calls old (telling shown) new → ReadsOne old (telling shown) new
 reads_told old shown new h =
-    reads_still old (telling shown) new refl (ap (λ (x : Holding). x.held) h.1) (ap (λ (x : Holding). account_of (told_in (telling shown)) [] x.end) h.1 ∙ account_told shown old.end h.0)
+    reads_still old (telling shown) new refl (ap (λ (x : Holding). x.held) h.1)
+        (ap (λ (x : Holding). account_of (told_in (telling shown)) [] x.end) h.1 ∙ account_told shown old.end h.0)
 
-pub reads_one : IsPartial [] → (old : Holding) (call : Call) (new : Holding) → Calls old call new → new.end.carrier.ended ≡ None → ReadsOne old call new
+pub reads_one : IsPartial [] → (old : Holding) (call : Call) (new : Holding) → Calls old call new → new.end.carrier.ended ≡ None →
+    ReadsOne old call new
 reads_one nothing old (feeding piece fed) new h lasts =
     reads_feed nothing old piece fed new (waits old.end.lines) refl (call_lasts old (feeding piece fed) new h lasts) h lasts
 reads_one nothing old (telling shown) new h lasts = reads_told old shown new h
@@ -88,14 +107,17 @@ reads_one nothing old (carrying octets) new h lasts =
 -- ---- calls one after the other
 
 -- what was given and sent before them, and then by them
-pub account_more : (call : Call) (calls : List Call) (us vs : List (List ℕ)) (old mid new : End) → account_of (told_in call) (carried_in call) mid ≡ with_packets us (account_of [] [] old) →
-    account_along calls new ≡ with_packets vs (account_of [] [] mid) → account_along (call ∷ calls) new ≡ with_packets (us ++ vs) (account_of [] [] old)
+pub account_more : (call : Call) (calls : List Call) (us vs : List (List ℕ)) (old mid new : End) →
+    account_of (told_in call) (carried_in call) mid ≡ with_packets us (account_of [] [] old) →
+    account_along calls new ≡ with_packets vs (account_of [] [] mid) →
+        account_along (call ∷ calls) new ≡ with_packets (us ++ vs) (account_of [] [] old)
 account_more call calls us vs old mid new one more =
     account_joined (told_in call) (flat_map told_in calls) (carried_in call) (flat_map carried_in calls) new
     ∙ ap (after_more (told_in call) (carried_in call)) more ∙ sym (packets_apart (told_in call) (carried_in call) vs (account_of [] [] mid))
     ∙ ap (with_packets vs) one ∙ sym (with_joined us vs (account_of [] [] old))
 
-reads_more : (old : Holding) (call : Call) (mid : Holding) (calls : List Call) (new : Holding) → ReadsOne old call mid → Reads mid calls new → Reads old (call ∷ calls) new
+reads_more : (old : Holding) (call : Call) (mid : Holding) (calls : List Call) (new : Holding) → ReadsOne old call mid →
+    Reads mid calls new → Reads old (call ∷ calls) new
 reads_more old call mid calls new one more =
     let used = flat_map used_in calls in
     record {
@@ -119,23 +141,29 @@ reads_more old call mid calls new one more =
 reads_none : (old new : Holding) → new ≡ old → Reads old [] new
 reads_none old new same = grind (arith, length, length-append, append-nil, account_of)
 
-pub calls_read : IsPartial [] → (old : Holding) (calls : List Call) (new : Holding) → CallsAlong old calls new → new.end.carrier.ended ≡ None → Reads old calls new
+pub calls_read : IsPartial [] → (old : Holding) (calls : List Call) (new : Holding) → CallsAlong old calls new →
+    new.end.carrier.ended ≡ None → Reads old calls new
 calls_read nothing old [] new h lasts = reads_none old new h
 calls_read nothing old (call ∷ calls) new h lasts =
-    reads_more old call h.0 calls new (reads_one nothing old call h.0 h.1 (calls_last h.0 calls new h.2 lasts)) (calls_read nothing h.0 calls new h.2 lasts)
+    reads_more old call h.0 calls new (reads_one nothing old call h.0 h.1 (calls_last h.0 calls new h.2 lasts))
+        (calls_read nothing h.0 calls new h.2 lasts)
 
 -- ---- the pieces do not matter
 
 pub pieces_alike : IsPartial [] → OneCut → (old a b : Holding) (xs ys : List Call) → IsPartial old.held.octets → old.held.offset < 2 ^ 64 →
-    CallsAlong old xs a → CallsAlong old ys b → flat_map used_in xs ≡ flat_map used_in ys → a.end.carrier.ended ≡ None → b.end.carrier.ended ≡ None →
+    CallsAlong old xs a → CallsAlong old ys b → flat_map used_in xs ≡ flat_map used_in ys → a.end.carrier.ended ≡ None →
+        b.end.carrier.ended ≡ None →
     AreAlike a xs b ys × (a.held.offset ≡ b.held.offset)
 pieces_alike nothing one_cut old a b xs ys partial bound h k used lasts still =
     let m = calls_read nothing old xs a h lasts in
     let n = calls_read nothing old ys b k still in
-    let one = one_cut (old.held.octets ++ flat_map used_in xs) a.held.octets b.held.octets m.packets n.packets (m.partial partial) (n.partial partial) m.cut
+    let one = one_cut (old.held.octets ++ flat_map used_in xs) a.held.octets b.held.octets m.packets n.packets (m.partial partial)
+        (n.partial partial) m.cut
     (subst (λ l. ArePackets n.packets (old.held.octets ++ l) b.held.octets) (sym used) n.cut) in
-    let same : account_along xs a.end ≡ account_along ys b.end = m.account ∙ ap (λ us. with_packets us (account_of [] [] old.end)) one.0 ∙ sym n.account in (
+    let same : account_along xs a.end ≡ account_along ys b.end = m.account ∙ ap (λ us. with_packets us (account_of [] [] old.end)) one.0 ∙
+        sym n.account in (
       record { octets = one.1; end = ap (λ (x : Account). x.end) same; told = ap (λ (x : Account). x.told) same },
       m.offset bound ∙ ap (λ l. offset_of (old.held.offset + (length (old.held.octets ++ l) - length a.held.octets))) used
-          ∙ ap (λ l. offset_of (old.held.offset + (length (old.held.octets ++ flat_map used_in ys) - length l))) one.1 ∙ sym (n.offset bound),
+          ∙ ap (λ l. offset_of (old.held.offset + (length (old.held.octets ++ flat_map used_in ys) - length l))) one.1 ∙
+              sym (n.offset bound),
     )

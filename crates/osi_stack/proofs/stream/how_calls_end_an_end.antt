@@ -1,12 +1,20 @@
 -- How a list of calls ends an end for which there is memory: after a packet, or at a fault of the stream. Two lists
 -- with the same octets end it alike.
-use Rattle.std.proofs.Common.{◌≡◌, ℕ, ◌+◌, ◌-◌, ◌<◌, ◌^◌, ◌||◌, Bool, true, false, List, ◌∷◌, ◌++◌, length, take, Option, Some, None, is_some, refl, sym, ap, subst, ◌∙◌, ◌⊎◌, inl, inr, arith, append_assoc, length-append, []}
+use Rattle.std.proofs.Common.{◌≡◌, ℕ, ◌+◌, ◌-◌, ◌<◌, ◌^◌, ◌||◌, Bool, true, false, List, ◌∷◌, ◌++◌, length, take, Option, Some, None}
+use Rattle.std.proofs.Common.{is_some, refl, sym, ap, subst, ◌∙◌, ◌⊎◌, inl, inr, arith, append_assoc, length-append, []}
 use Rattle.osi_tpkt.proofs.a_prefix_of_a_packet.{one_fault}
 use Rattle.osi_carrier.proofs.stream.how_calls_end_a_carrier.{Compared, compare, init_front, no_further, at_same, offsets_join}
 use Rattle.osi_stack.specs.Feeding.{Refuses}
-use Rattle.osi_stack.proofs.Vocabulary.{append-nil, take_all, flat_map, Held, IsPartial, IsFaultOf, ArePackets, offset_of, Fed, TpktFault, PacketLaws, fault_behind, front_used, packets_joined, packets_leave, Tpkt, Fault, Shown, stops, uses_all, TakesPackets, RunsDry, StopsBehind, Feeds, after_packet, ends, all_lost, all_waiting, hushed, put_back, Account, account_of, with_packets, Calls, HasRoom, CallsAlong, CallsInRoom, used_in, told_in, carried_in, account_along, AreAlike, feeding, telling, carrying, End, Holding, waits, none_of, EndCall as Call}
-use Rattle.osi_stack.proofs.in_step.the_account_packet_by_packet.{made, after_more, account_quiet, account_told, account_joined, account_packet, packets_apart, packets_done, with_joined}
-use Rattle.osi_stack.proofs.stream.all_pieces_last_alike.{Lasts, account_over, in_front, packets_within, no_packets_end, no_fault_ends, reads_lasts}
+use Rattle.osi_stack.proofs.Vocabulary.{append-nil, take_all, flat_map, Held, IsPartial, IsFaultOf, ArePackets, offset_of, Fed, TpktFault}
+use Rattle.osi_stack.proofs.Vocabulary.{PacketLaws, fault_behind, front_used, packets_joined, packets_leave, Tpkt, Fault, Shown, stops}
+use Rattle.osi_stack.proofs.Vocabulary.{uses_all, TakesPackets, RunsDry, StopsBehind, Feeds, after_packet, ends, all_lost, all_waiting}
+use Rattle.osi_stack.proofs.Vocabulary.{hushed, put_back, Account, account_of, with_packets, Calls, HasRoom, CallsAlong, CallsInRoom}
+use Rattle.osi_stack.proofs.Vocabulary.{used_in, told_in, carried_in, account_along, AreAlike, feeding, telling, carrying, End, Holding}
+use Rattle.osi_stack.proofs.Vocabulary.{waits, none_of, EndCall as Call}
+use Rattle.osi_stack.proofs.in_step.the_account_packet_by_packet.{made, after_more, account_quiet, account_told, account_joined}
+use Rattle.osi_stack.proofs.in_step.the_account_packet_by_packet.{account_packet, packets_apart, packets_done, with_joined}
+use Rattle.osi_stack.proofs.stream.all_pieces_last_alike.{Lasts, account_over, in_front, packets_within, no_packets_end, no_fault_ends}
+use Rattle.osi_stack.proofs.stream.all_pieces_last_alike.{reads_lasts}
 use Rattle.osi_stack.proofs.carried.packets_without_events.{both, or_first, or_second, never}
 use Rattle.osi_stack.proofs.stream.an_end_is_what_its_packets_make.{ReadsOne, reads_one}
 
@@ -42,50 +50,66 @@ Ending old at s final = InPacket old s final ⊎ InFault old at s final
 with_parts : (us vs more : List (List ℕ)) (old : Account) → us ≡ vs ++ more → with_packets us old ≡ with_packets more (with_packets vs old)
 with_parts us vs more old all = ap (λ l. with_packets l old) all ∙ with_joined vs more old
 
-over_front : (us vs more : List (List ℕ)) (old : Account) → us ≡ vs ++ more → is_some (with_packets vs old).end.carrier.ended ≡ true → is_some (with_packets us old).end.carrier.ended ≡ true
-over_front us vs more old all over = ap (λ (a : Account). is_some a.end.carrier.ended) (with_parts us vs more old all) ∙ account_over more (with_packets vs old) over
+over_front : (us vs more : List (List ℕ)) (old : Account) → us ≡ vs ++ more → is_some (with_packets vs old).end.carrier.ended ≡ true →
+    is_some (with_packets us old).end.carrier.ended ≡ true
+over_front us vs more old all over = ap (λ (a : Account). is_some a.end.carrier.ended) (with_parts us vs more old all) ∙
+    account_over more (with_packets vs old) over
 
 -- ---- they end alike
 
-same_packet : (old : Account) (s : List ℕ) (f g : Account) (a : InPacket old s f) (b : InPacket old s g) (more : List (List ℕ)) → a.before ++ a.last ∷ [] ≡ (b.before ++ b.last ∷ []) ++ more → f ≡ g
+same_packet : (old : Account) (s : List ℕ) (f g : Account) (a : InPacket old s f) (b : InPacket old s g) (more : List (List ℕ)) →
+    a.before ++ a.last ∷ [] ≡ (b.before ++ b.last ∷ []) ++ more → f ≡ g
 same_packet old s f g a b [] e = a.account ∙ ap (λ l. with_packets l old) (e ∙ append-nil (b.before ++ b.last ∷ [])) ∙ sym b.account
 same_packet old s f g a b (m ∷ ms) e =
     let front = init_front a.before (b.before ++ b.last ∷ []) ms a.last m e in
     never (with_packets a.before old).end (over_front a.before (b.before ++ b.last ∷ []) front.0 old front.1 b.over) a.lasts
 
-both_packets : (old : Account) (s : List ℕ) (f g : Account) (a : InPacket old s f) (b : InPacket old s g) → Compared (a.before ++ a.last ∷ []) (b.before ++ b.last ∷ []) b.rest a.rest → f ≡ g
+both_packets : (old : Account) (s : List ℕ) (f g : Account) (a : InPacket old s f) (b : InPacket old s g) →
+    Compared (a.before ++ a.last ∷ []) (b.before ++ b.last ∷ []) b.rest a.rest → f ≡ g
 both_packets old s f g a b (inl x) = same_packet old s f g a b x.more x.all
 both_packets old s f g a b (inr x) = sym (same_packet old s g f b a x.more x.all)
 
-packet_fault_by : {B : Type 0} (old : Account) (at : ℕ) (s : List ℕ) (f g : Account) (a : InPacket old s f) (b : InFault old at s g) (more : List (List ℕ)) → a.before ++ a.last ∷ [] ≡ b.before ++ more →
+packet_fault_by : {B : Type 0} (old : Account) (at : ℕ) (s : List ℕ) (f g : Account) (a : InPacket old s f) (b : InFault old at s g)
+    (more : List (List ℕ)) → a.before ++ a.last ∷ [] ≡ b.before ++ more →
     ArePackets more b.rest a.rest → B
 packet_fault_by old at s f g a b [] e h =
-    never (with_packets b.before old).end (ap (λ l. is_some (with_packets l old).end.carrier.ended) (sym (e ∙ append-nil b.before)) ∙ a.over) b.lasts
+    never (with_packets b.before old).end (ap (λ l. is_some (with_packets l old).end.carrier.ended) (sym (e ∙ append-nil b.before)) ∙
+        a.over) b.lasts
 packet_fault_by old at s f g a b (m ∷ ms) e h = absurd (no_further _ ms m b.rest a.rest b.fault b.is h)
 
-packet_fault : {B : Type 0} (old : Account) (at : ℕ) (s : List ℕ) (f g : Account) (a : InPacket old s f) (b : InFault old at s g) → Compared (a.before ++ a.last ∷ []) b.before b.rest a.rest → B
+packet_fault : {B : Type 0} (old : Account) (at : ℕ) (s : List ℕ) (f g : Account) (a : InPacket old s f) (b : InFault old at s g) →
+    Compared (a.before ++ a.last ∷ []) b.before b.rest a.rest → B
 packet_fault old at s f g a b (inl x) = packet_fault_by old at s f g a b x.more x.all x.packets
-packet_fault old at s f g a b (inr x) = never (with_packets b.before old).end (over_front b.before (a.before ++ a.last ∷ []) x.more old x.all a.over) b.lasts
+packet_fault old at s f g a b (inr x) =
+    never (with_packets b.before old).end (over_front b.before (a.before ++ a.last ∷ []) x.more old x.all a.over) b.lasts
 
-same_fault : (old : Account) (at : ℕ) (s : List ℕ) (f g : Account) (a : InFault old at s f) (b : InFault old at s g) (more : List (List ℕ)) → a.before ≡ b.before ++ more → ArePackets more b.rest a.rest → f ≡ g
+same_fault : (old : Account) (at : ℕ) (s : List ℕ) (f g : Account) (a : InFault old at s f) (b : InFault old at s g)
+    (more : List (List ℕ)) → a.before ≡ b.before ++ more → ArePackets more b.rest a.rest → f ≡ g
 same_fault old at s f g a b [] e rests =
     let fault : a.fault ≡ b.fault = one_fault (offset_of (at + (length s - length b.rest))) b.rest a.fault b.fault
     (subst (λ l. IsFaultOf (offset_of (at + (length s - length l))) l a.fault) (sym rests) a.is) b.is in
-    a.account ∙ ap (λ l. faulted a.fault (with_packets l old)) (e ∙ append-nil b.before) ∙ ap (λ x. faulted x (with_packets b.before old)) fault ∙ sym b.account
+    a.account ∙ ap (λ l. faulted a.fault (with_packets l old)) (e ∙ append-nil b.before) ∙
+        ap (λ x. faulted x (with_packets b.before old)) fault ∙ sym b.account
 same_fault old at s f g a b (m ∷ ms) e h = absurd (no_further _ ms m b.rest a.rest b.fault b.is h)
 
-both_faults : (old : Account) (at : ℕ) (s : List ℕ) (f g : Account) (a : InFault old at s f) (b : InFault old at s g) → Compared a.before b.before b.rest a.rest → f ≡ g
+both_faults : (old : Account) (at : ℕ) (s : List ℕ) (f g : Account) (a : InFault old at s f) (b : InFault old at s g) →
+    Compared a.before b.before b.rest a.rest → f ≡ g
 both_faults old at s f g a b (inl x) = same_fault old at s f g a b x.more x.all x.packets
 both_faults old at s f g a b (inr x) = sym (same_fault old at s g f b a x.more x.all x.packets)
 
 pub end_alike : PacketLaws → (old : Account) (at : ℕ) (s : List ℕ) (f g : Account) → Ending old at s f → Ending old at s g → f ≡ g
-end_alike laws old at s f g (inl a) (inl b) = both_packets old s f g a b (compare laws (a.before ++ a.last ∷ []) (b.before ++ b.last ∷ []) s a.rest b.rest a.packets b.packets)
-end_alike laws old at s f g (inl a) (inr b) = packet_fault old at s f g a b (compare laws (a.before ++ a.last ∷ []) b.before s a.rest b.rest a.packets b.packets)
-end_alike laws old at s f g (inr a) (inl b) = packet_fault old at s g f b a (compare laws (b.before ++ b.last ∷ []) a.before s b.rest a.rest b.packets a.packets)
-end_alike laws old at s f g (inr a) (inr b) = both_faults old at s f g a b (compare laws a.before b.before s a.rest b.rest a.packets b.packets)
+end_alike laws old at s f g (inl a) (inl b) =
+    both_packets old s f g a b (compare laws (a.before ++ a.last ∷ []) (b.before ++ b.last ∷ []) s a.rest b.rest a.packets b.packets)
+end_alike laws old at s f g (inl a) (inr b) =
+    packet_fault old at s f g a b (compare laws (a.before ++ a.last ∷ []) b.before s a.rest b.rest a.packets b.packets)
+end_alike laws old at s f g (inr a) (inl b) =
+    packet_fault old at s g f b a (compare laws (b.before ++ b.last ∷ []) a.before s b.rest a.rest b.packets a.packets)
+end_alike laws old at s f g (inr a) (inr b) =
+    both_faults old at s f g a b (compare laws a.before b.before s a.rest b.rest a.packets b.packets)
 
 -- octets that end it are none that do not
-pub ending_lasts : PacketLaws → (old : Holding) (s : List ℕ) (final : Account) → Lasts old s → Ending (account_of [] [] old.end) old.held.offset s final → ⊥
+pub ending_lasts : PacketLaws → (old : Holding) (s : List ℕ) (final : Account) → Lasts old s →
+    Ending (account_of [] [] old.end) old.held.offset s final → ⊥
 ending_lasts laws old s final lasts (inl a) = no_packets_end laws old s (a.before ++ a.last ∷ []) a.rest lasts a.packets a.over
 ending_lasts laws old s final lasts (inr a) = no_fault_ends laws old s a.before a.rest _ a.fault lasts a.packets a.is
 
@@ -105,7 +129,8 @@ record TakesLast (old : End) (units : List (List ℕ)) : Type 0 where
 pub stops_not : (e : End) → stops e ≡ false → e.carrier.ended ≡ None
 stops_not e quiet = none_of e.carrier.ended (or_first (is_some e.carrier.ended) (waits e.lines) quiet)
 
-takes_last : (units : List (List ℕ)) (old new : End) → TakesPackets old units new → stops old ≡ false → stops new ≡ true → TakesLast old units
+takes_last : (units : List (List ℕ)) (old new : End) → TakesPackets old units new → stops old ≡ false → stops new ≡ true →
+    TakesLast old units
 takes_last [] old new h quiet stopped = both (stops old) (ap stops (sym h) ∙ stopped) quiet
 takes_last (u ∷ []) old new h quiet stopped = record { before = []; last = u; all = refl; lasts = stops_not old quiet }
 takes_last (u ∷ v ∷ us) old new h quiet stopped =
@@ -117,11 +142,13 @@ takes_last (u ∷ v ∷ us) old new h quiet stopped =
       lasts = ap (λ (a : Account). (with_packets more.before a).end.carrier.ended) (account_packet old u quiet) ∙ more.lasts;
     }
 
-ends_stops : (old : Holding) (piece : List ℕ) (fed : Fed) (new : Holding) (later : List ℕ) → stops old.end ≡ false → StopsBehind old piece fed.used new → is_some new.end.carrier.ended ≡ true →
+ends_stops : (old : Holding) (piece : List ℕ) (fed : Fed) (new : Holding) (later : List ℕ) → stops old.end ≡ false →
+    StopsBehind old piece fed.used new → is_some new.end.carrier.ended ≡ true →
     Outcome old (old.held.octets ++ (take fed.used piece ++ later)) (account_of [] [] new.end) new.held.octets
 ends_stops old piece fed new later quiet stop over =
     let front = front_used (uses_all new.end) piece fed.used stop.within stop.bound stop.uses in
-    let packets = packets_within stop.units old.held.octets (take fed.used piece) (take stop.within piece) front.0 later [] front.1 stop.packets in
+    let packets = packets_within stop.units old.held.octets (take fed.used piece) (take stop.within piece) front.0 later [] front.1
+        stop.packets in
     let t = takes_last stop.units old.end new.end stop.taken quiet stop.stopped in
     let done = packets_done stop.units old.end new.end stop.taken ∙ ap (λ l. with_packets l (account_of [] [] old.end)) t.all in
     record {
@@ -138,14 +165,16 @@ ends_stops old piece fed new later quiet stop over =
     }
 
 -- the account of an end that a fault of the stream ended
-refused_account : (e new : End) (fault : TpktFault) → stops e ≡ false → new ≡ ends (Fault (Tpkt fault)) e → account_of [] [] new ≡ faulted fault (account_of [] [] e)
+refused_account : (e new : End) (fault : TpktFault) → stops e ≡ false → new ≡ ends (Fault (Tpkt fault)) e →
+    account_of [] [] new ≡ faulted fault (account_of [] [] e)
 refused_account e new fault quiet ended =
     ap (account_of [] []) ended ∙ ap (faulted fault) (sym (account_quiet e (or_second (is_some e.carrier.ended) (waits e.lines) quiet)))
 
 ends_refuses : (old : Holding) (piece : List ℕ) (fed : Fed) (new : Holding) (later : List ℕ) → Refuses old piece fed.used new →
     Outcome old (old.held.octets ++ (take fed.used piece ++ later)) (account_of [] [] new.end) new.held.octets
 ends_refuses old piece fed new later refused =
-    let whole : take fed.used piece ≡ piece ++ [] = let all = refused.all in take_all fed.used piece (omega arith) ∙ sym (append-nil piece) in
+    let whole : take fed.used piece ≡ piece ++ [] = let all = refused.all in take_all fed.used piece (omega arith) ∙
+        sym (append-nil piece) in
     let s = old.held.octets ++ piece in
     let r = refused.cut.0 in
     let same = in_front old.held.octets (take fed.used piece) piece [] later whole in
@@ -166,20 +195,24 @@ ends_refuses old piece fed new later refused =
     }
 
 ends_goes : (old : Holding) (piece : List ℕ) (fed : Fed) (new : Holding) (later : List ℕ) → stops old.end ≡ false →
-    (RunsDry old piece fed.used new ⊎ StopsBehind old piece fed.used new) ⊎ Refuses old piece fed.used new → is_some new.end.carrier.ended ≡ true →
+    (RunsDry old piece fed.used new ⊎ StopsBehind old piece fed.used new) ⊎ Refuses old piece fed.used new →
+        is_some new.end.carrier.ended ≡ true →
     Outcome old (old.held.octets ++ (take fed.used piece ++ later)) (account_of [] [] new.end) new.held.octets
 ends_goes old piece fed new later quiet (inl (inl dry)) over = never new.end over (stops_not new.end dry.quiet)
 ends_goes old piece fed new later quiet (inl (inr stop)) over = ends_stops old piece fed new later quiet stop over
 ends_goes old piece fed new later quiet (inr refused) over = ends_refuses old piece fed new later refused
 
-ends_feed : (old : Holding) (piece : List ℕ) (fed : Fed) (new : Holding) (later : List ℕ) (waiting : Bool) → waits old.end.lines ≡ waiting → old.end.carrier.ended ≡ None →
+ends_feed : (old : Holding) (piece : List ℕ) (fed : Fed) (new : Holding) (later : List ℕ) (waiting : Bool) → waits old.end.lines ≡ waiting →
+    old.end.carrier.ended ≡ None →
     Feeds old piece fed new → HasRoom old (feeding piece fed) new → is_some new.end.carrier.ended ≡ true →
     Outcome old (old.held.octets ++ (take fed.used piece ++ later)) (account_of [] [] new.end) new.held.octets
 ends_feed old piece fed new later waiting e quiet h room over = search (arith, never, stops, is_some, waits, ends_goes)
 
-ends_one : (old : Holding) (call : Call) (new : Holding) (later : List ℕ) → old.end.carrier.ended ≡ None → Calls old call new → HasRoom old call new → is_some new.end.carrier.ended ≡ true →
+ends_one : (old : Holding) (call : Call) (new : Holding) (later : List ℕ) → old.end.carrier.ended ≡ None → Calls old call new →
+    HasRoom old call new → is_some new.end.carrier.ended ≡ true →
     Outcome old (old.held.octets ++ (used_in call ++ later)) (account_of (told_in call) (carried_in call) new.end) new.held.octets
-ends_one old (feeding piece fed) new later quiet h room over = ends_feed old piece fed new later (waits old.end.lines) refl quiet h room over
+ends_one old (feeding piece fed) new later quiet h room over =
+    ends_feed old piece fed new later (waits old.end.lines) refl quiet h room over
 ends_one old (telling shown) new later quiet h room over = never new.end over (ap (λ (x : Holding). x.end.carrier.ended) h.1 ∙ quiet)
 ends_one old (carrying octets) new later quiet h room over = never new.end over (ap (λ (x : Holding). x.end.carrier.ended) (sym h) ∙ quiet)
 
@@ -189,10 +222,12 @@ pub record Stays (old : Holding) (told : List (ℕ × Shown)) (carried : List �
   pub account : account_of told carried new.end ≡ account_of [] [] old.end
   pub held : new.held ≡ old.held
 
-stays_one : (old : Holding) (call : Call) (new : Holding) → is_some old.end.carrier.ended ≡ true → Calls old call new → Stays old (told_in call) (carried_in call) new
+stays_one : (old : Holding) (call : Call) (new : Holding) → is_some old.end.carrier.ended ≡ true → Calls old call new →
+    Stays old (told_in call) (carried_in call) new
 stays_one old call new over h = grind (arith, feeding, account_of, telling, told_in, account_told, carrying)
 
-pub stays_along : (old : Holding) (calls : List Call) (new : Holding) → is_some old.end.carrier.ended ≡ true → CallsAlong old calls new → Stays old (flat_map told_in calls) (flat_map carried_in calls) new
+pub stays_along : (old : Holding) (calls : List Call) (new : Holding) → is_some old.end.carrier.ended ≡ true → CallsAlong old calls new →
+    Stays old (flat_map told_in calls) (flat_map carried_in calls) new
 stays_along old [] new over h = record { account = ap (λ (x : Holding). account_of [] [] x.end) h; held = ap (λ (x : Holding). x.held) h }
 stays_along old (call ∷ calls) new over h =
     let one = stays_one old call h.0 over h.1 in
@@ -211,17 +246,22 @@ in_room old (call ∷ calls) new h = (h.0, h.1, in_room h.0 calls new h.3)
 
 -- what packets did after the call
 behind_call : (told : List (ℕ × Shown)) (carried : List ℕ) (vs more us : List (List ℕ)) (old mid : End) → us ≡ vs ++ more →
-    account_of told carried mid ≡ with_packets vs (account_of [] [] old) → with_packets us (account_of [] [] old) ≡ after_more told carried (with_packets more (account_of [] [] mid))
+    account_of told carried mid ≡ with_packets vs (account_of [] [] old) →
+        with_packets us (account_of [] [] old) ≡ after_more told carried (with_packets more (account_of [] [] mid))
 behind_call told carried vs more us old mid all e =
-    with_parts us vs more (account_of [] [] old) all ∙ ap (with_packets more) (sym e) ∙ packets_apart told carried more (account_of [] [] mid)
+    with_parts us vs more (account_of [] [] old) all ∙ ap (with_packets more) (sym e) ∙
+        packets_apart told carried more (account_of [] [] mid)
 
 -- a fault ends it so whatever was reported and carried before
-faulted_apart : (told : List (ℕ × Shown)) (carried : List ℕ) (fault : TpktFault) (a : Account) → faulted fault (after_more told carried a) ≡ after_more told carried (faulted fault a)
+faulted_apart : (told : List (ℕ × Shown)) (carried : List ℕ) (fault : TpktFault) (a : Account) →
+    faulted fault (after_more told carried a) ≡ after_more told carried (faulted fault a)
 faulted_apart told carried fault a =
     ap (made (put_back carried (hushed (ends (Fault (Tpkt fault)) a.end)))) (append_assoc told a.told (all_waiting (all_lost a.end.lines)))
 
-ending_more : (old mid : Holding) (call : Call) (t : List ℕ) (final : Account) → old.held.offset < 2 ^ 64 → ReadsOne old call mid → Ending (account_of [] [] mid.end) mid.held.offset (mid.held.octets ++ t) final →
-    Ending (account_of [] [] old.end) old.held.offset (old.held.octets ++ (used_in call ++ t)) (after_more (told_in call) (carried_in call) final)
+ending_more : (old mid : Holding) (call : Call) (t : List ℕ) (final : Account) → old.held.offset < 2 ^ 64 → ReadsOne old call mid →
+    Ending (account_of [] [] mid.end) mid.held.offset (mid.held.octets ++ t) final →
+    Ending (account_of [] [] old.end) old.held.offset (old.held.octets ++ (used_in call ++ t))
+        (after_more (told_in call) (carried_in call) final)
 ending_more old mid call t final bound one (inl a) =
     let vs = one.packets in
     let us = a.before ++ a.last ∷ [] in
@@ -247,9 +287,11 @@ ending_more old mid call t final bound one (inr a) =
     let leaves = packets_leave a.before (mid.held.octets ++ t) a.rest a.packets in
     let m = length-append mid.held.octets t in
     let n = length-append s t in
-    let at : offset_of (mid.held.offset + (length (mid.held.octets ++ t) - length a.rest)) ≡ offset_of (old.held.offset + (length (s ++ t) - length a.rest)) =
+    let at : offset_of (mid.held.offset + (length (mid.held.octets ++ t) - length a.rest)) ≡ offset_of
+        (old.held.offset + (length (s ++ t) - length a.rest)) =
     ap (λ k. offset_of (mid.held.offset + (k - length a.rest))) m
-    ∙ offsets_join old.held.offset mid.held.offset (length s) (length mid.held.octets) (length t) (length a.rest) (one.offset bound) (omega arith) (omega arith)
+    ∙ offsets_join old.held.offset mid.held.offset (length s) (length mid.held.octets) (length t) (length a.rest) (one.offset bound)
+        (omega arith) (omega arith)
     ∙ ap (λ k. offset_of (old.held.offset + (k - length a.rest))) (sym n) in
     inr (record {
       before = vs ++ a.before;
@@ -257,24 +299,30 @@ ending_more old mid call t final bound one (inr a) =
       fault = a.fault;
       packets = subst (λ l. ArePackets (vs ++ a.before) l a.rest) (append_assoc old.held.octets (used_in call) t)
           (packets_joined vs a.before s mid.held.octets t a.rest one.cut a.packets);
-      is = subst (λ l. IsFaultOf (offset_of (old.held.offset + (length l - length a.rest))) a.rest a.fault) (append_assoc old.held.octets (used_in call) t)
+      is = subst (λ l. IsFaultOf (offset_of (old.held.offset + (length l - length a.rest))) a.rest a.fault)
+          (append_assoc old.held.octets (used_in call) t)
           (subst (λ n. IsFaultOf n a.rest a.fault) at a.is);
       lasts = ap (λ (x : Account). x.end.carrier.ended) all ∙ a.lasts;
       account = ap (after_more (told_in call) (carried_in call)) a.account
-          ∙ sym (faulted_apart (told_in call) (carried_in call) a.fault (with_packets a.before (account_of [] [] mid.end))) ∙ ap (faulted a.fault) (sym all);
+          ∙ sym (faulted_apart (told_in call) (carried_in call) a.fault (with_packets a.before (account_of [] [] mid.end))) ∙
+              ap (faulted a.fault) (sym all);
     })
 
-outcome_by : IsPartial [] → (old : Holding) (call : Call) (mid : Holding) (calls : List Call) (new : Holding) (over : Bool) → is_some mid.end.carrier.ended ≡ over → old.end.carrier.ended ≡ None →
+outcome_by : IsPartial [] → (old : Holding) (call : Call) (mid : Holding) (calls : List Call) (new : Holding) (over : Bool) →
+    is_some mid.end.carrier.ended ≡ over → old.end.carrier.ended ≡ None →
     old.held.offset < 2 ^ 64 → Calls old call mid → HasRoom old call mid → CallsInRoom mid calls new →
-    (mid.end.carrier.ended ≡ None → mid.held.offset < 2 ^ 64 → Outcome mid (mid.held.octets ++ flat_map used_in calls) (account_along calls new.end) new.held.octets) →
+    (mid.end.carrier.ended ≡ None → mid.held.offset < 2 ^ 64 →
+        Outcome mid (mid.held.octets ++ flat_map used_in calls) (account_along calls new.end) new.held.octets) →
     Outcome old (old.held.octets ++ (used_in call ++ flat_map used_in calls)) (account_along (call ∷ calls) new.end) new.held.octets
 outcome_by nothing old call mid calls new true e quiet bound h room rest on =
     let still = stays_along mid calls new e (in_room mid calls new rest) in
     let one = ends_one old call mid (flat_map used_in calls) quiet h room e in
     let same : account_along (call ∷ calls) new.end ≡ account_of (told_in call) (carried_in call) mid.end =
-    account_joined (told_in call) (flat_map told_in calls) (carried_in call) (flat_map carried_in calls) new.end ∙ ap (after_more (told_in call) (carried_in call)) still.account in
+    account_joined (told_in call) (flat_map told_in calls) (carried_in call) (flat_map carried_in calls) new.end ∙
+        ap (after_more (told_in call) (carried_in call)) still.account in
     record {
-      how = subst (λ (a : Account). Ending (account_of [] [] old.end) old.held.offset (old.held.octets ++ (used_in call ++ flat_map used_in calls)) a) (sym same) one.how;
+      how = subst (λ (a : Account). Ending (account_of [] [] old.end) old.held.offset
+          (old.held.octets ++ (used_in call ++ flat_map used_in calls)) a) (sym same) one.how;
       nothing = ap (λ (x : Held). x.octets) still.held ∙ one.nothing;
     }
 outcome_by nothing old call mid calls new false e quiet bound h room rest on =
@@ -283,13 +331,15 @@ outcome_by nothing old call mid calls new false e quiet bound h room rest on =
     let small = one.offset bound in
     let more = on alive (omega arith) in
     record {
-      how = subst (λ (a : Account). Ending (account_of [] [] old.end) old.held.offset (old.held.octets ++ (used_in call ++ flat_map used_in calls)) a)
+      how = subst (λ (a : Account). Ending (account_of [] [] old.end) old.held.offset
+          (old.held.octets ++ (used_in call ++ flat_map used_in calls)) a)
           (sym (account_joined (told_in call) (flat_map told_in calls) (carried_in call) (flat_map carried_in calls) new.end))
           (ending_more old mid call (flat_map used_in calls) (account_along calls new.end) bound one more.how);
       nothing = more.nothing;
     }
 
-pub outcome_along : IsPartial [] → (old : Holding) (calls : List Call) (new : Holding) → old.end.carrier.ended ≡ None → old.held.offset < 2 ^ 64 → CallsInRoom old calls new → is_some new.end.carrier.ended ≡ true →
+pub outcome_along : IsPartial [] → (old : Holding) (calls : List Call) (new : Holding) → old.end.carrier.ended ≡ None →
+    old.held.offset < 2 ^ 64 → CallsInRoom old calls new → is_some new.end.carrier.ended ≡ true →
     Outcome old (old.held.octets ++ flat_map used_in calls) (account_along calls new.end) new.held.octets
 outcome_along nothing old [] new quiet bound h over = never new.end over (ap (λ (x : Holding). x.end.carrier.ended) h ∙ quiet)
 outcome_along nothing old (call ∷ calls) new quiet bound h over =
@@ -298,7 +348,8 @@ outcome_along nothing old (call ∷ calls) new quiet bound h over =
 
 -- ---- what was reported and carried before
 
-pub ending_apart : (told : List (ℕ × Shown)) (carried : List ℕ) (old : Account) (at : ℕ) (s : List ℕ) (final : Account) → Ending old at s final →
+pub ending_apart : (told : List (ℕ × Shown)) (carried : List ℕ) (old : Account) (at : ℕ) (s : List ℕ) (final : Account) →
+    Ending old at s final →
     Ending (after_more told carried old) at s (after_more told carried final)
 ending_apart told carried old at s final (inl a) = inl (record {
   before = a.before;
@@ -316,7 +367,8 @@ ending_apart told carried old at s final (inr a) = inr (record {
   packets = a.packets;
   is = a.is;
   lasts = ap (λ (x : Account). x.end.carrier.ended) (packets_apart told carried a.before old) ∙ a.lasts;
-  account = ap (after_more told carried) a.account ∙ sym (faulted_apart told carried a.fault (with_packets a.before old)) ∙ ap (faulted a.fault) (sym (packets_apart told carried a.before old));
+  account = ap (after_more told carried) a.account ∙ sym (faulted_apart told carried a.fault (with_packets a.before old)) ∙
+      ap (faulted a.fault) (sym (packets_apart told carried a.before old));
 })
 
 -- ---- two lists of calls
@@ -325,21 +377,27 @@ some_of : {A : Type 0} (o : Option A) → (o ≡ None → ⊥) → is_some o ≡
 some_of None h = absurd (h refl)
 some_of (Some x) h = refl
 
-alike_by : PacketLaws → IsPartial [] → (old a b : Holding) (xs ys : List Call) (over : Bool) → is_some b.end.carrier.ended ≡ over → IsPartial old.held.octets → old.held.offset < 2 ^ 64 →
+alike_by : PacketLaws → IsPartial [] → (old a b : Holding) (xs ys : List Call) (over : Bool) → is_some b.end.carrier.ended ≡ over →
+    IsPartial old.held.octets → old.held.offset < 2 ^ 64 →
     CallsInRoom old ys b → flat_map used_in xs ≡ flat_map used_in ys → old.end.carrier.ended ≡ None →
     Outcome old (old.held.octets ++ flat_map used_in xs) (account_along xs a.end) a.held.octets →
     AreAlike a xs b ys × (a.held.octets ≡ [])
 alike_by laws nothing old a b xs ys false e partial bound k used quiet m =
     let lasts = reads_lasts nothing old ys b partial (in_room old ys b k) (none_of b.end.carrier.ended e) in
-    absurd (ending_lasts laws old (old.held.octets ++ flat_map used_in xs) (account_along xs a.end) (subst (λ l. Lasts old (old.held.octets ++ l)) (sym used) lasts) m.how)
+    absurd (ending_lasts laws old (old.held.octets ++ flat_map used_in xs) (account_along xs a.end)
+        (subst (λ l. Lasts old (old.held.octets ++ l)) (sym used) lasts) m.how)
 alike_by laws nothing old a b xs ys true e partial bound k used quiet m =
     let n = outcome_along nothing old ys b quiet bound k e in
     let same : account_along xs a.end ≡ account_along ys b.end =
-    end_alike laws (account_of [] [] old.end) old.held.offset (old.held.octets ++ flat_map used_in xs) (account_along xs a.end) (account_along ys b.end)
-    m.how (subst (λ l. Ending (account_of [] [] old.end) old.held.offset (old.held.octets ++ l) (account_along ys b.end)) (sym used) n.how) in
-    (record { octets = m.nothing ∙ sym n.nothing; end = ap (λ (x : Account). x.end) same; told = ap (λ (x : Account). x.told) same }, m.nothing)
+    end_alike laws (account_of [] [] old.end) old.held.offset (old.held.octets ++ flat_map used_in xs) (account_along xs a.end)
+        (account_along ys b.end)
+    m.how (subst (λ l. Ending (account_of [] [] old.end) old.held.offset (old.held.octets ++ l) (account_along ys b.end)) (sym used) n.how)
+        in
+    (record { octets = m.nothing ∙ sym n.nothing; end = ap (λ (x : Account). x.end) same; told = ap (λ (x : Account). x.told) same },
+        m.nothing)
 
-pub pieces_end : PacketLaws → IsPartial [] → (old a b : Holding) (xs ys : List Call) → IsPartial old.held.octets → old.held.offset < 2 ^ 64 → old.end.carrier.ended ≡ None →
+pub pieces_end : PacketLaws → IsPartial [] → (old a b : Holding) (xs ys : List Call) → IsPartial old.held.octets →
+    old.held.offset < 2 ^ 64 → old.end.carrier.ended ≡ None →
     CallsInRoom old xs a → CallsInRoom old ys b → flat_map used_in xs ≡ flat_map used_in ys → (a.end.carrier.ended ≡ None → ⊥) →
     AreAlike a xs b ys × (a.held.octets ≡ [])
 pieces_end laws nothing old a b xs ys partial bound quiet h k used ended =

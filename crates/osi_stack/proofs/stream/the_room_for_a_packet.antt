@@ -1,8 +1,10 @@
 -- The room for the octets of a packet, and what happens if it is too small.
-use Rattle.std.proofs.Common.{◌≡◌, ℕ, ◌≤◌, List, [], ◌∷◌, ◌++◌, length, take, sym, ap, subst, ◌∙◌, inl, inr, ◌⊎◌, arith, length-append, append_assoc}
+use Rattle.std.proofs.Common.{◌≡◌, ℕ, ◌≤◌, List, [], ◌∷◌, ◌++◌, length, take, sym, ap, subst, ◌∙◌, inl, inr, ◌⊎◌, arith, length-append}
+use Rattle.std.proofs.Common.{append_assoc}
 use Rattle.osi_tpkt.proofs.a_stream_is_cut_in_one_way.{fault_no_packet}
 use Rattle.osi_carrier.proofs.written.a_tsdu_part_after_part.{empty_list}
-use Rattle.osi_stack.proofs.Vocabulary.{Held, IsFaultOf, ArePackets, TpktFault, packets_leave, HasToHold, NoMemory, FindsNoMemory, ends, Starves, Holding}
+use Rattle.osi_stack.proofs.Vocabulary.{Held, IsFaultOf, ArePackets, TpktFault, packets_leave, HasToHold, NoMemory, FindsNoMemory, ends}
+use Rattle.osi_stack.proofs.Vocabulary.{Starves, Holding}
 
 -- the room stays over one more look
 pub room_stays : (old now : ℕ) (told new : Held) → old ≤ now → now ≤ told.room → new ≡ told → old ≤ new.room
@@ -17,11 +19,13 @@ pub packet_faultless : (u s more : List ℕ) → ArePackets (u ∷ []) s [] → 
 packet_faultless u s more p at fault bad =
     fault_no_packet at (s ++ more) fault bad u p.0 (p.1 ++ more) p.2 (ap (λ l. l ++ more) p.3 ∙ append_assoc p.0 p.1 more)
 
-none_left : (units : List (List ℕ)) (held : List ℕ) (within : ℕ) (rest left : List ℕ) → held ≡ [] → within ≡ 0 → ArePackets units (held ++ take within rest) left → left ≡ []
+none_left : (units : List (List ℕ)) (held : List ℕ) (within : ℕ) (rest left : List ℕ) → held ≡ [] → within ≡ 0 →
+    ArePackets units (held ++ take within rest) left → left ≡ []
 none_left units held within rest left nothing none packets = grind (arith, packets_leave, take, length-append, length, empty_list)
 
 -- nothing was looked at so far, or nothing of a packet is held
-pub first_part : (units : List (List ℕ)) (front held : List ℕ) (within : ℕ) (rest left : List ℕ) → (front ≡ []) ⊎ (held ≡ []) → (within ≡ 0) ⊎ (left ≡ []) →
+pub first_part : (units : List (List ℕ)) (front held : List ℕ) (within : ℕ) (rest left : List ℕ) → (front ≡ []) ⊎ (held ≡ []) →
+    (within ≡ 0) ⊎ (left ≡ []) →
     ArePackets units (held ++ take within rest) left → (length (front ++ take within rest) ≡ 0) ⊎ (left ≡ [])
 first_part units front held within rest left at_first h7 packets = grind (arith, length, take, none_left)
 

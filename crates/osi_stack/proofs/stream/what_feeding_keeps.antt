@@ -1,6 +1,8 @@
 -- What each packet and the end of the carrier keep, feeding keeps.
-use Rattle.std.proofs.Common.{◌≡◌, ℕ, ◌||◌, Bool, true, List, ◌∷◌, Option, None, is_some, refl, sym, subst, ◌∙◌, inl, inr, ◌⊎◌, if◌then◌else◌, [], arith}
-use Rattle.osi_stack.proofs.Vocabulary.{ArePackets, Fed, EndReason, Broken, NoMemory, breaks, TakesPackets, Goes, Feeds, after_packet, ends, hears_times, with_carrier, with_events, Starves, End, Holding, waits}
+use Rattle.std.proofs.Common.{◌≡◌, ℕ, ◌||◌, Bool, true, List, ◌∷◌, Option, None, is_some, refl, sym, subst, ◌∙◌, inl, inr, ◌⊎◌}
+use Rattle.std.proofs.Common.{if◌then◌else◌, [], arith}
+use Rattle.osi_stack.proofs.Vocabulary.{ArePackets, Fed, EndReason, Broken, NoMemory, breaks, TakesPackets, Goes, Feeds, after_packet, ends}
+use Rattle.osi_stack.proofs.Vocabulary.{hears_times, with_carrier, with_events, Starves, End, Holding, waits}
 use Rattle.osi_stack.proofs.stream.the_room_for_a_packet.{found_how}
 use Rattle.osi_stack.proofs.carried.events_one_after_the_other.{starved_over}
 use Rattle.osi_stack.proofs.carried.packets_without_events.{lasting_of}
@@ -27,19 +29,24 @@ none_found : (P : End → Type 0) → IsKept P → (e new : End) (rest : List �
 none_found P law e new rest lasts (inl is) p = subst P (sym is) (law.over NoMemory e p)
 none_found P law e new rest lasts (inr h) p = law.starved h.0 e new lasts h.2 p
 
-goes_kept : (P : End → Type 0) → IsKept P → (old new : Holding) (piece : List ℕ) (used : ℕ) → Goes old piece used new → P old.end → P new.end
+goes_kept : (P : End → Type 0) → IsKept P → (old new : Holding) (piece : List ℕ) (used : ℕ) → Goes old piece used new → P old.end →
+    P new.end
 goes_kept P law old new piece used (inl (inl h)) p = packets_kept P law h.units old.end new.end h.taken p
 goes_kept P law old new piece used (inl (inr h)) p = packets_kept P law h.units old.end new.end h.taken p
-goes_kept P law old new piece used (inr (inl h)) p = subst P (sym h.ended) (law.over _ h.before (packets_kept P law h.units old.end h.before h.taken p))
+goes_kept P law old new piece used (inr (inl h)) p =
+    subst P (sym h.ended) (law.over _ h.before (packets_kept P law h.units old.end h.before h.taken p))
 goes_kept P law old new piece used (inr (inr h)) p =
-    none_found P law h.before new.end h.rest (lasting_of h.before.carrier.ended (waits h.before.lines) h.quiet) (found_how old piece used new h)
+    none_found P law h.before new.end h.rest (lasting_of h.before.carrier.ended (waits h.before.lines) h.quiet)
+        (found_how old piece used new h)
     (packets_kept P law h.units old.end h.before h.taken p)
 
-feeds_by : (P : End → Type 0) → IsKept P → (old new : Holding) (piece : List ℕ) (fed : Fed) (o : Option EndReason) (b : Bool) → old.end.carrier.ended ≡ o →
+feeds_by : (P : End → Type 0) → IsKept P → (old new : Holding) (piece : List ℕ) (fed : Fed) (o : Option EndReason) (b : Bool) →
+    old.end.carrier.ended ≡ o →
     waits old.end.lines ≡ b → Feeds old piece fed new → P old.end → P new.end
 feeds_by P law old new piece fed o b is waiting h p = search (arith, is_some, goes_kept, waits)
 
-pub feeds_kept : (P : End → Type 0) → IsKept P → (old new : Holding) (piece : List ℕ) (fed : Fed) → Feeds old piece fed new → P old.end → P new.end
+pub feeds_kept : (P : End → Type 0) → IsKept P → (old new : Holding) (piece : List ℕ) (fed : Fed) → Feeds old piece fed new → P old.end →
+    P new.end
 feeds_kept P law old new piece fed h p = feeds_by P law old new piece fed old.end.carrier.ended (waits old.end.lines) refl refl h p
 
 pub breaks_kept : (P : End → Type 0) → IsKept P → (e : End) → P e → P (breaks e)
@@ -70,5 +77,6 @@ both_kept P Q law beside = record {
   starved = λ packet e new lasts h p. (law.starved packet e new lasts h p.0, beside.starved packet e new lasts h p.0 p.1);
 }
 
-pub feeds_beside : (P Q : End → Type 0) → IsKept P → IsKeptBeside P Q → (old new : Holding) (piece : List ℕ) (fed : Fed) → Feeds old piece fed new → P old.end → Q old.end → Q new.end
+pub feeds_beside : (P Q : End → Type 0) → IsKept P → IsKeptBeside P Q → (old new : Holding) (piece : List ℕ) (fed : Fed) →
+    Feeds old piece fed new → P old.end → Q old.end → Q new.end
 feeds_beside P Q law beside old new piece fed h p q = (feeds_kept (λ e. P e × Q e) (both_kept P Q law beside) old new piece fed h (p, q)).1

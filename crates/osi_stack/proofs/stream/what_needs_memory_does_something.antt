@@ -4,7 +4,8 @@ use Rattle.osi_carrier.proofs.written.what_needs_memory_does_something.{written_
 use Rattle.osi_carrier.specs.Growth.{grows}
 use Rattle.osi_session.specs.declared.faults.CallError.{CallError}
 use Rattle.osi_session.specs.declared.faults.CallError.TheVariants.{OutOfMemory}
-use Rattle.osi_stack.proofs.Vocabulary.{disconnect, Standing, Class, Zero, placed, closes, closed_on, closed_with, close_error, open_link, Rows, value_at, place_of, State as Carrier, Input, session_needs, Line, session_in}
+use Rattle.osi_stack.proofs.Vocabulary.{disconnect, Standing, Class, Zero, placed, closes, closed_on, closed_with, close_error, open_link}
+use Rattle.osi_stack.proofs.Vocabulary.{Rows, value_at, place_of, State as Carrier, Input, session_needs, Line, session_in}
 use Rattle.osi_stack.proofs.each_line.the_line_of_a_reference.{session_here}
 
 -- ---- a DR
@@ -13,21 +14,26 @@ closing_in : (r peer : ℕ) (c : Carrier) (class : Option Class) → (class ≡ 
 closing_in r peer c (Some Zero) other = absurd (other refl)
 closing_in r peer c _ other = written_grows c _ (disconnect peer r 128 [] ∷ []) (omega arith) refl
 
-closing_on : (r : ℕ) (c : Carrier) (o : Option (ℕ × Standing)) → close_error o ≡ None → (c.class ≡ Some Zero → ⊥) → grows c (closed_on r 128 o c) ≡ true
+closing_on : (r : ℕ) (c : Carrier) (o : Option (ℕ × Standing)) → close_error o ≡ None → (c.class ≡ Some Zero → ⊥) →
+    grows c (closed_on r 128 o c) ≡ true
 closing_on r c None e other = cc
 closing_on r c (Some (peer, link)) e other = closing_in r peer c c.class other
 
 -- a connection that is closed, but not in class 0
-pub closing_needs : (r : ℕ) (c : Carrier) → close_error (open_link r c) ≡ None → (c.class ≡ Some Zero → ⊥) → grows c (closed_with r 128 c) ≡ true
+pub closing_needs : (r : ℕ) (c : Carrier) → close_error (open_link r c) ≡ None → (c.class ≡ Some Zero → ⊥) →
+    grows c (closed_with r 128 c) ≡ true
 closing_needs r c e other = closing_on r c (open_link r c) e other
 
 -- if memory is needed, and there is no other error
-pub wants_memory : {A : Type 0} (result : Result A CallError) (grown : Bool) → OnErr result (grown ≡ true) → result ≡ Err OutOfMemory → grown ≡ true
+pub wants_memory : {A : Type 0} (result : Result A CallError) (grown : Bool) → OnErr result (grown ≡ true) → result ≡ Err OutOfMemory →
+    grown ≡ true
 wants_memory (Ok x) grown h is = cc
 wants_memory (Err e) grown h is = h
 
 -- ---- at a place
 
-pub needs_at : {A E : Type 0} (result : Result A E) (r : ℕ) (rows : Rows Line) (i : ℕ) (row : ℕ × Line) (input : Input) (c : Carrier) → place_of r rows ≡ Some i → row ≡ get_or rows i row →
-    OnErr result (session_needs row.0 row.1.session input c ≡ true) → OnErr result (session_needs r (session_in (value_at r rows)) input c ≡ true)
+pub needs_at : {A E : Type 0} (result : Result A E) (r : ℕ) (rows : Rows Line) (i : ℕ) (row : ℕ × Line) (input : Input) (c : Carrier) →
+    place_of r rows ≡ Some i → row ≡ get_or rows i row →
+    OnErr result (session_needs row.0 row.1.session input c ≡ true) →
+        OnErr result (session_needs r (session_in (value_at r rows)) input c ≡ true)
 needs_at result r rows i row input c e here h = grind (arith, placed, session_needs, session_in, value_at, session_here)

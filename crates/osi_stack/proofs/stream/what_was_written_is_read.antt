@@ -1,13 +1,19 @@
 -- Octets that the other end wrote are read as the units that it wrote.
-use Rattle.std.proofs.Common.{◌≡◌, ℕ, ◌+◌, ◌-◌, ◌≤◌, Bool, true, false, ◌||◌, is_some, List, ◌∷◌, ◌++◌, length, map, take, drop, Option, None, Result, Ok, refl, sym, ap, subst, ◌∙◌, inl, inr, ◌⊎◌, arith, if◌then◌else◌, []}
+use Rattle.std.proofs.Common.{◌≡◌, ℕ, ◌+◌, ◌-◌, ◌≤◌, Bool, true, false, ◌||◌, is_some, List, ◌∷◌, ◌++◌, length, map, take, drop, Option}
+use Rattle.std.proofs.Common.{None, Result, Ok, refl, sym, ap, subst, ◌∙◌, inl, inr, ◌⊎◌, arith, if◌then◌else◌, []}
 use Rattle.osi_tpdu.specs.Writing.{written}
 use Rattle.osi_carrier.specs.Coming.{IsSendable, AreComing}
 use Rattle.osi_carrier.specs.Packets as carriers
 use Rattle.osi_carrier.specs.React.{react}
 use Rattle.osi_carrier.specs.State as states
-use Rattle.osi_carrier.proofs.stream.what_was_written_is_read.{unit_read, packet_reacts, Fronts, units_front, fault_free, alone_starved, starved_unit, reads_part}
+use Rattle.osi_carrier.proofs.stream.what_was_written_is_read.{unit_read, packet_reacts, Fronts, units_front, fault_free, alone_starved}
+use Rattle.osi_carrier.proofs.stream.what_was_written_is_read.{starved_unit, reads_part}
 use Rattle.osi_stack.specs.Feeding.{Refuses}
-use Rattle.osi_stack.proofs.Vocabulary.{AllByRecursion, length-take-le, take-take, ArePackets, offset_of, Fed, Value, TpduFault, Happening, State as Carrier, EndReason, NoMemory, after_unit, carries_out, TakesUnits, IsUnheard, TakesSome, stops, uses_all, TakesPackets, RunsDry, StopsBehind, FindsNoMemory, Goes, Feeds, attends, after_packet, with_carrier, with_events, hears_all, hears_times, hears_first, hears_next, ends, RunsOut, Starves, End, Holding, IsAttended, waits}
+use Rattle.osi_stack.proofs.Vocabulary.{AllByRecursion, length-take-le, take-take, ArePackets, offset_of, Fed, Value, TpduFault, Happening}
+use Rattle.osi_stack.proofs.Vocabulary.{State as Carrier, EndReason, NoMemory, after_unit, carries_out, TakesUnits, IsUnheard, TakesSome}
+use Rattle.osi_stack.proofs.Vocabulary.{stops, uses_all, TakesPackets, RunsDry, StopsBehind, FindsNoMemory, Goes, Feeds, attends}
+use Rattle.osi_stack.proofs.Vocabulary.{after_packet, with_carrier, with_events, hears_all, hears_times, hears_first, hears_next, ends}
+use Rattle.osi_stack.proofs.Vocabulary.{RunsOut, Starves, End, Holding, IsAttended, waits}
 use Rattle.osi_stack.proofs.carried.events_one_after_the_other.{never_starved, concluded_attended}
 use Rattle.osi_stack.proofs.carried.what_sessions_leave_of_the_carrier.{hears_keep}
 use Rattle.osi_stack.proofs.carried.packets_without_events.{packet_is, lasting_of, never}
@@ -27,7 +33,8 @@ units_taken [] s t all h = h
 units_taken (u ∷ us) s t all h =
     (h.0, units_taken us (after_unit s u) t all.1 (subst (λ (x : End). TakesPackets x (map written us) t) (packet_is_unit s u all.0) h.1))
 
-front_taken : (s t : End) (units : List (List ℕ)) (coming : List Value) (r behind : List ℕ) (f : Fronts units coming r behind) → TakesPackets s units t → TakesUnits s f.done t
+front_taken : (s t : End) (units : List (List ℕ)) (coming : List Value) (r behind : List ℕ) (f : Fronts units coming r behind) →
+    TakesPackets s units t → TakesUnits s f.done t
 front_taken s t units coming r behind f h = units_taken f.done s t f.sendable (subst (λ (l : List (List ℕ)). TakesPackets s l t) f.are h)
 
 -- ---- handled events stay handled along packets
@@ -38,12 +45,15 @@ no_events e quiet attended = attended (lasting_of e.carrier.ended (waits e.lines
 -- ---- a unit for which memory ran out
 
 -- memory ran out in the carrier: the unit did nothing
-ended_quiet : (e : End) (c : Carrier) → e.carrier.events ≡ [] → c ≡ states.ends NoMemory e.carrier → attends (with_carrier c e) ≡ ends NoMemory e
+ended_quiet : (e : End) (c : Carrier) → e.carrier.events ≡ [] → c ≡ states.ends NoMemory e.carrier →
+    attends (with_carrier c e) ≡ ends NoMemory e
 ended_quiet e c none is = grind arith
 
-acted_unit : (old : Carrier) (new : Carrier) (unit : Value) → IsSendable unit → carriers.Acts old (written unit) new → (new ≡ react unit old) ⊎ (new ≡ states.ends NoMemory old)
+acted_unit : (old : Carrier) (new : Carrier) (unit : Value) → IsSendable unit → carriers.Acts old (written unit) new →
+    (new ≡ react unit old) ⊎ (new ≡ states.ends NoMemory old)
 acted_unit old new unit sendable h =
-    let acts : carriers.ActsBy (Ok (unit ∷ [])) old new = subst (λ (r : Result (List Value) TpduFault). carriers.ActsBy r old new) (unit_read unit sendable) h in
+    let acts : carriers.ActsBy (Ok (unit ∷ [])) old new =
+        subst (λ (r : Result (List Value) TpduFault). carriers.ActsBy r old new) (unit_read unit sendable) h in
     elim acts [
       | inl is ↦ inl is
       | inr out ↦ inr (alone_starved old new unit out.done out.more out.next out.all out.ended)
@@ -52,17 +62,22 @@ acted_unit old new unit sendable h =
 abbrev Starved : End → List Value → End → Type 0
 Starved e left new = (new ≡ ends NoMemory e) ⊎ IsUnheard e left new
 
-unit_starved : (e new : End) (unit : Value) (rest : List Value) → IsSendable unit → e.carrier.events ≡ [] → Starves e (written unit) new → Starved e (unit ∷ rest) new
-unit_starved e new unit rest sendable none (inl h) = inl (h.2 ∙ ended_quiet e h.0 none (starved_unit e.carrier h.0 (written unit) unit sendable refl h.1))
+unit_starved : (e new : End) (unit : Value) (rest : List Value) → IsSendable unit → e.carrier.events ≡ [] → Starves e (written unit) new →
+    Starved e (unit ∷ rest) new
+unit_starved e new unit rest sendable none (inl h) =
+    inl (h.2 ∙ ended_quiet e h.0 none (starved_unit e.carrier h.0 (written unit) unit sendable refl h.1))
 unit_starved e new unit rest sendable none (inr h) = elim (acted_unit e.carrier h.0 unit sendable h.1) [
-  | inl is ↦ inr (record { unit = unit; rest = rest; first = refl; starved = subst (λ (c : Carrier). RunsOut (with_carrier c e) new) is h.2 })
+  | inl is ↦ inr
+      (record { unit = unit; rest = rest; first = refl; starved = subst (λ (c : Carrier). RunsOut (with_carrier c e) new) is h.2 })
   | inr is ↦ never_starved (with_carrier h.0 e) new (ap (λ (c : Carrier). c.events) is ∙ none) h.2
 ]
 
 -- the packet for which memory ran out is the next unit in flight
-packet_starved : (e new : End) (packet : List ℕ) (coming : List Value) (r t : List ℕ) → e.carrier.events ≡ [] → (f : Fronts (packet ∷ []) coming r t) → Starves e packet new → Starved e coming new
+packet_starved : (e new : End) (packet : List ℕ) (coming : List Value) (r t : List ℕ) → e.carrier.events ≡ [] →
+    (f : Fronts (packet ∷ []) coming r t) → Starves e packet new → Starved e coming new
 packet_starved e new packet coming r t none f h =
-    elim f.done as (λ (l : List Value). packet ∷ [] ≡ map written l → coming ≡ l ++ f.left → AllByRecursion IsSendable l → Starved e coming new) [
+    elim f.done as (λ (l : List Value). packet ∷ [] ≡ map written l → coming ≡ l ++ f.left → AllByRecursion IsSendable l →
+        Starved e coming new) [
       | [] ↦ λ is parts all. cc
       | u ∷ us ↦ λ is parts all.
           let same : packet ≡ written u = cc in
@@ -80,7 +95,8 @@ starved_over e left new h3 lasts = grind arith
 all_heard : (l : List Happening) (e : End) → e.carrier.events ≡ l → (hears_times (length l) e).carrier.events ≡ []
 all_heard [] e h = h
 all_heard (x ∷ xs) e h =
-    let next : (hears_next e).carrier.events ≡ xs = ap (λ (k : List Happening). (hears_first k e).carrier.events) h ∙ (hears_keep x (with_events xs e)).events in
+    let next : (hears_next e).carrier.events ≡ xs = ap (λ (k : List Happening). (hears_first k e).carrier.events) h ∙
+        (hears_keep x (with_events xs e)).events in
     all_heard xs (hears_next e) next
 
 pub attended_then : (e new : End) → new ≡ attends e → IsAttended new
@@ -88,11 +104,14 @@ attended_then e new h = concluded_attended (hears_all e) new h (all_heard e.carr
 
 pub attended_kept : IsKept IsAttended
 attended_kept =
-    over_kept IsAttended (λ packet e lasts attended. attended_then (with_carrier (carriers.after_packet e.carrier packet) e) (after_packet e packet) (packet_is e packet)) (λ e over lasts. never e over lasts)
+    over_kept IsAttended
+        (λ packet e lasts attended. attended_then (with_carrier (carriers.after_packet e.carrier packet) e) (after_packet e packet)
+        (packet_is e packet)) (λ e over lasts. never e over lasts)
 
 -- ---- feeding
 
-runs_dry : (old new : Holding) (outgoing : List ℕ) (coming : List Value) (k used : ℕ) → k ≤ length outgoing → AreComing old.held.octets outgoing coming →
+runs_dry : (old new : Holding) (outgoing : List ℕ) (coming : List Value) (k used : ℕ) → k ≤ length outgoing →
+    AreComing old.held.octets outgoing coming →
     RunsDry old (take k outgoing) used new → TakesSome old outgoing coming used new
 runs_dry old new outgoing coming k used less c h =
     let f = reads_part old.held.octets outgoing coming k h.units new.held.octets c h.packets in
@@ -108,10 +127,12 @@ runs_dry old new outgoing coming k used less c h =
     }
 
 -- if the end has not ended, an indication is pending
-pub uses_within : (e : End) (all within used : ℕ) → stops e ≡ true → e.carrier.ended ≡ None → used ≡ (if uses_all e then all else within) → used ≡ within
+pub uses_within : (e : End) (all within used : ℕ) → stops e ≡ true → e.carrier.ended ≡ None → used ≡ (if uses_all e then all else within) →
+    used ≡ within
 uses_within e all within used stopped lasts uses = cc
 
-stops_behind : (old new : Holding) (outgoing : List ℕ) (coming : List Value) (k used : ℕ) → k ≤ length outgoing → AreComing old.held.octets outgoing coming →
+stops_behind : (old new : Holding) (outgoing : List ℕ) (coming : List Value) (k used : ℕ) → k ≤ length outgoing →
+    AreComing old.held.octets outgoing coming →
     StopsBehind old (take k outgoing) used new → TakesSome old outgoing coming used new
 stops_behind old new outgoing coming k used less c h =
     let n = h.within in
@@ -127,16 +148,19 @@ stops_behind old new outgoing coming k used less c h =
       how = inl refl;
       coming_then = λ lasts.
           let all : used ≡ n = uses_within new.end (length (take k outgoing)) n used h.stopped lasts h.uses in
-          subst (λ m. AreComing new.held.octets (drop m outgoing) f.left) (sym all) (subst (λ l. AreComing l (drop n outgoing) f.left) (sym h.held) f.rest);
+          subst (λ m. AreComing new.held.octets (drop m outgoing) f.left) (sym all)
+              (subst (λ l. AreComing l (drop n outgoing) f.left) (sym h.held) f.rest);
     }
 
 refuses_none : (old new : Holding) (outgoing : List ℕ) (coming : List Value) (k used : ℕ) → AreComing old.held.octets outgoing coming →
     Refuses old (take k outgoing) used new → ⊥
 refuses_none old new outgoing coming k used c h =
     let f = reads_part old.held.octets outgoing coming k h.units h.cut.0 c h.cut.1 in
-    fault_free (offset_of (old.held.offset + (length (old.held.octets ++ take k outgoing) - length h.cut.0))) h.cut.0 (drop k outgoing) h.fault f.left f.rest h.cut.2
+    fault_free (offset_of (old.held.offset + (length (old.held.octets ++ take k outgoing) - length h.cut.0))) h.cut.0 (drop k outgoing)
+        h.fault f.left f.rest h.cut.2
 
-finds_none : (old new : Holding) (outgoing : List ℕ) (coming : List Value) (k used : ℕ) → k ≤ length outgoing → AreComing old.held.octets outgoing coming → IsAttended old.end →
+finds_none : (old new : Holding) (outgoing : List ℕ) (coming : List Value) (k used : ℕ) → k ≤ length outgoing →
+    AreComing old.held.octets outgoing coming → IsAttended old.end →
     FindsNoMemory old (take k outgoing) used new → TakesSome old outgoing coming used new
 finds_none old new outgoing coming k used less c attended h =
     let n = h.within in
@@ -160,15 +184,18 @@ finds_none old new outgoing coming k used less c attended h =
       coming_then = λ lasts. starved_over h.before f.left new.end starved lasts;
     }
 
-goes_some : (old new : Holding) (outgoing : List ℕ) (coming : List Value) (k used : ℕ) → k ≤ length outgoing → AreComing old.held.octets outgoing coming → IsAttended old.end →
+goes_some : (old new : Holding) (outgoing : List ℕ) (coming : List Value) (k used : ℕ) → k ≤ length outgoing →
+    AreComing old.held.octets outgoing coming → IsAttended old.end →
     Goes old (take k outgoing) used new → TakesSome old outgoing coming used new
 goes_some old new outgoing coming k used less c attended (inl (inl h)) = runs_dry old new outgoing coming k used less c h
 goes_some old new outgoing coming k used less c attended (inl (inr h)) = stops_behind old new outgoing coming k used less c h
 goes_some old new outgoing coming k used less c attended (inr (inl h)) = absurd (refuses_none old new outgoing coming k used c h)
 goes_some old new outgoing coming k used less c attended (inr (inr h)) = finds_none old new outgoing coming k used less c attended h
 
-feeds_by : (old new : Holding) (outgoing : List ℕ) (coming : List Value) (k : ℕ) (fed : Fed) (wait : Bool) → k ≤ length outgoing → AreComing old.held.octets outgoing coming →
-    IsAttended old.end → old.end.carrier.ended ≡ None → waits old.end.lines ≡ wait → Feeds old (take k outgoing) fed new → TakesSome old outgoing coming fed.used new
+feeds_by : (old new : Holding) (outgoing : List ℕ) (coming : List Value) (k : ℕ) (fed : Fed) (wait : Bool) → k ≤ length outgoing →
+    AreComing old.held.octets outgoing coming →
+    IsAttended old.end → old.end.carrier.ended ≡ None → waits old.end.lines ≡ wait → Feeds old (take k outgoing) fed new →
+        TakesSome old outgoing coming fed.used new
 feeds_by old new outgoing coming k fed true less c attended lasts wait h =
     let none = h.waiting lasts wait in
     record {
@@ -186,9 +213,11 @@ feeds_by old new outgoing coming k fed false less c attended lasts wait h =
     goes_some old new outgoing coming k fed.used less c attended
     (h.goes (ap (λ (o : Option EndReason). is_some o || waits old.end.lines) lasts ∙ wait))
 
-pub feeds_some : (old new : Holding) (outgoing : List ℕ) (coming : List Value) (k : ℕ) (fed : Fed) → k ≤ length outgoing → AreComing old.held.octets outgoing coming →
+pub feeds_some : (old new : Holding) (outgoing : List ℕ) (coming : List Value) (k : ℕ) (fed : Fed) → k ≤ length outgoing →
+    AreComing old.held.octets outgoing coming →
     IsAttended old.end → old.end.carrier.ended ≡ None → Feeds old (take k outgoing) fed new → TakesSome old outgoing coming fed.used new
-feeds_some old new outgoing coming k fed less c attended lasts h = feeds_by old new outgoing coming k fed (waits old.end.lines) less c attended lasts refl h
+feeds_some old new outgoing coming k fed less c attended lasts h =
+    feeds_by old new outgoing coming k fed (waits old.end.lines) less c attended lasts refl h
 
 pub attended_unit : (e : End) (unit : Value) → IsAttended (after_unit e unit)
 attended_unit e unit = attended_then (carries_out unit e) (after_unit e unit) refl

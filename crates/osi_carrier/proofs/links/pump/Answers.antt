@@ -15,7 +15,8 @@ units-preserved c =
     let e = c.all_is_given.ensures.some now then (given c.in-Some.unit) room gives in
     let took = c.in-Ok.ensures.spare in
     let less = pumping_room c.args.peer now then (given c.in-Some.unit) e in (
-      pumping_next c.args.peer first now then c.args.out.now.items c.units.out.items c.put_given.new.out.items (given c.in-Some.unit) c.units.invariant.0
+      pumping_next c.args.peer first now then c.args.out.now.items c.units.out.items c.put_given.new.out.items (given c.in-Some.unit)
+          c.units.invariant.0
           e c.in-Ok.ensures.ok,
       λ enough. (let before = c.units.invariant.1 enough in omega arith),
     )
@@ -29,13 +30,15 @@ returns-in_default-put_given c =
     let room : 0 < now.ends.limit = omega arith in
     let gives = subst (λ r. Gives r (next now) now then) c.in-Some.is c.next_out.follows.holds-at-none in
     let e = c.all_is_given.ensures.some now then (given c.in-Some.unit) room gives in
-    let short = pumping_short c.args.peer first now then (given c.in-Some.unit) c.args.out.now.spare c.units.out.spare e c.units.invariant.1 c.in_default-put_given.ensures.full in
+    let short = pumping_short c.args.peer first now then (given c.in-Some.unit) c.args.out.now.spare c.units.out.spare e c.units.invariant.1
+        c.in_default-put_given.ensures.full in
     record {
       link = tt;
       ok = tt;
       pumped = tt;
       err = c.truncate.ensures.items ∙ ap (λ (n : ℕ). take n c.put_given.new.out.items) c.len-before.ensures.value
-          ∙ pumping_full c.args.peer first now c.args.out.now.items c.units.out.items c.put_given.new.out.items c.units.invariant.0 c.in_default-put_given.ensures.err;
+          ∙ pumping_full c.args.peer first now c.args.out.now.items c.units.out.items c.put_given.new.out.items c.units.invariant.0
+              c.in_default-put_given.ensures.err;
       needs = some_written (written_by c.args.peer first) c.args.out.now.spare (λ enough. omega arith);
       enough = λ enough. absurd (omega arith);
     }

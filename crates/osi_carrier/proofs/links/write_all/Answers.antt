@@ -1,7 +1,8 @@
 use Rattle.std.proofs.Common.{◌∙◌, ◌+◌, List, ℕ, drop, map, ap, sym, subst, arith}
 use Rattle.std.proofs.Math.Seq.{drop-length}
 use Rattle.osi_carrier.proofs.Vocabulary.{any_standing, one_by_one, drop_all, written_for, packets}
-use Rattle.osi_carrier.proofs.written.tsdus_are_written_straight.{IsWriting, writing_first, writing_next, writing_last, rest_from, first_room}
+use Rattle.osi_carrier.proofs.written.tsdus_are_written_straight.{IsWriting, writing_first, writing_next, writing_last, rest_from}
+use Rattle.osi_carrier.proofs.written.tsdus_are_written_straight.{first_room}
 use Rattle.osi_carrier.proofs.links.write_all.Goals as goal
 
 pub tsdus-init : goal.tsdus-init

@@ -1,6 +1,7 @@
 use Rattle.std.proofs.Common.{◌≡◌, ◌<◌, ◌≤◌, ◌+◌, ℕ, List, [], ◌∷◌, ◌++◌, length, drop, sym, ap, subst, ◌∙◌, arith}
 use Rattle.osi_carrier.proofs.Vocabulary.{eqb-true, eqb-false, any_standing, first_in, octets_of, Given, unit_of, packets, with_tsdu}
-use Rattle.osi_carrier.proofs.written.a_tsdu_part_after_part.{Goes, parting_first, parting_then, parting_last, parting_all, part_goes, part_room, empty_list}
+use Rattle.osi_carrier.proofs.written.a_tsdu_part_after_part.{Goes, parting_first, parting_then, parting_last, parting_all, part_goes}
+use Rattle.osi_carrier.proofs.written.a_tsdu_part_after_part.{part_room, empty_list}
 use Rattle.osi_carrier.proofs.written.a_part_in_its_data_unit.{first_cut}
 use Rattle.osi_carrier.proofs.links.write_headed.Goals as goal
 
@@ -17,11 +18,13 @@ unreachable-requires-in_default-put_part c =
     let value = c.limit.ensures.value in
     let least = c.in-Some.ensures.at_least in
     let short = c.requires.short in
-    let cut = first_cut c.in-Some.slot limit c.min-carried.result c.args.head.now c.args.body.now c.split_at.result.0.now c.split_at.result.1.now c.is_empty-end.result (omega arith) (omega (arith, c.min-carried.ensures))
+    let cut = first_cut c.in-Some.slot limit c.min-carried.result c.args.head.now c.args.body.now c.split_at.result.0.now
+        c.split_at.result.1.now c.is_empty-end.result (omega arith) (omega (arith, c.min-carried.ensures))
     c.split_at.ensures.front c.split_at.ensures.back c.is_empty-end.ensures in
     let unit = first_in c.in-Some.slot limit tsdu in
     let size = ap (λ (u : Given). length (packets (unit_of c.args.peer u ∷ []))) cut.unit in
-    let room = part_room c.args.peer (any_standing c.args.link.now) (any_standing c.give_slot.new.self) tsdu unit (omega arith) (c.in-Some.ensures.given tsdu) in
+    let room = part_room c.args.peer (any_standing c.args.link.now) (any_standing c.give_slot.new.self) tsdu unit (omega arith)
+        (c.in-Some.ensures.given tsdu) in
     let enough = c.requires.room in
     let full = c.in_default-put_part.ensures.full in
     omega arith
@@ -35,16 +38,20 @@ returns-then-end c =
     let value = c.limit.ensures.value in
     let least = c.in-Some.ensures.at_least in
     let short = c.requires.short in
-    let cut = first_cut c.in-Some.slot limit c.min-carried.result c.args.head.now c.args.body.now c.split_at.result.0.now c.split_at.result.1.now c.is_empty-end.result (omega arith) (omega (arith, c.min-carried.ensures))
+    let cut = first_cut c.in-Some.slot limit c.min-carried.result c.args.head.now c.args.body.now c.split_at.result.0.now
+        c.split_at.result.1.now c.is_empty-end.result (omega arith) (omega (arith, c.min-carried.ensures))
     c.split_at.ensures.front c.split_at.ensures.back c.is_empty-end.ensures in
     let unit = first_in c.in-Some.slot limit tsdu in
     let put = c.in-Ok.ensures.ok ∙ ap (λ (u : Given). c.args.out.now.items ++ packets (unit_of c.args.peer u ∷ [])) cut.unit in
     let goes : Goes (any_standing c.args.link.now) tsdu c.args.kept.items =
-    record { quiet = c.requires.quiet; alone = (part_goes (any_standing c.args.link.now) tsdu c.requires.quiet c.requires.some).alone; left = c.requires.kept } in
+    record { quiet = c.requires.quiet; alone = (part_goes (any_standing c.args.link.now) tsdu c.requires.quiet c.requires.some).alone;
+        left = c.requires.kept } in
     let nothing = eqb-true (length c.split_at.result.1.now) 0 (sym c.is_empty-end.ensures ∙ c.if-end.true) in
     let none : drop (octets_of unit) tsdu ≡ [] = cut.left ∙ empty_list c.split_at.result.1.now nothing in
-    let start = parting_first c.args.peer (any_standing c.args.link.now) tsdu c.args.kept.items c.args.out.now.items c.args.out.now.spare goes c.requires.room in
-    let all = parting_last c.args.peer first (any_standing c.args.link.now) then c.args.out.now.items tsdu c.args.kept.items c.args.out.now.items c.put_part.new.out.items unit c.args.out.now.spare
+    let start = parting_first c.args.peer (any_standing c.args.link.now) tsdu c.args.kept.items c.args.out.now.items c.args.out.now.spare
+        goes c.requires.room in
+    let all = parting_last c.args.peer first (any_standing c.args.link.now) then
+        c.args.out.now.items tsdu c.args.kept.items c.args.out.now.items c.put_part.new.out.items unit c.args.out.now.spare
     start (omega arith) (c.in-Some.ensures.given tsdu) put none in
     record { link = all.link; written = all.written; pumped = (c.in-Some.ensures.given tsdu).last }
 
@@ -57,16 +64,22 @@ write_parts-requires-clause-quiet c =
     let value = c.limit.ensures.value in
     let least = c.in-Some.ensures.at_least in
     let short = c.requires.short in
-    let cut = first_cut c.in-Some.slot limit c.min-carried.result c.args.head.now c.args.body.now c.split_at.result.0.now c.split_at.result.1.now c.is_empty-end.result (omega arith) (omega (arith, c.min-carried.ensures))
+    let cut = first_cut c.in-Some.slot limit c.min-carried.result c.args.head.now c.args.body.now c.split_at.result.0.now
+        c.split_at.result.1.now c.is_empty-end.result (omega arith) (omega (arith, c.min-carried.ensures))
     c.split_at.ensures.front c.split_at.ensures.back c.is_empty-end.ensures in
     let unit = first_in c.in-Some.slot limit tsdu in
     let put = c.in-Ok.ensures.ok ∙ ap (λ (u : Given). c.args.out.now.items ++ packets (unit_of c.args.peer u ∷ [])) cut.unit in
     let goes : Goes (any_standing c.args.link.now) tsdu c.args.kept.items =
-    record { quiet = c.requires.quiet; alone = (part_goes (any_standing c.args.link.now) tsdu c.requires.quiet c.requires.some).alone; left = c.requires.kept } in
+    record { quiet = c.requires.quiet; alone = (part_goes (any_standing c.args.link.now) tsdu c.requires.quiet c.requires.some).alone;
+        left = c.requires.kept } in
     let took : c.args.out.now.spare ≤ c.put_part.new.out.spare + length (packets (unit_of c.args.peer unit ∷ [])) =
-    subst (λ (u : Given). c.args.out.now.spare ≤ c.put_part.new.out.spare + length (packets (unit_of c.args.peer u ∷ []))) cut.unit c.in-Ok.ensures.spare in
-    let something : length c.split_at.result.1.now ≡ 0 → ⊥ = eqb-false (length c.split_at.result.1.now) 0 (sym c.is_empty-end.ensures ∙ c.if-end.false) in
-    let parting = parting_then c.args.peer (any_standing c.args.link.now) then tsdu c.split_at.result.1.now c.args.kept.items c.args.out.now.items c.put_part.new.out.items unit c.args.out.now.spare c.put_part.new.out.spare
+    subst (λ (u : Given). c.args.out.now.spare ≤ c.put_part.new.out.spare + length (packets (unit_of c.args.peer u ∷ []))) cut.unit
+        c.in-Ok.ensures.spare in
+    let something : length c.split_at.result.1.now ≡ 0 →
+        ⊥ = eqb-false (length c.split_at.result.1.now) 0 (sym c.is_empty-end.ensures ∙ c.if-end.false) in
+    let parting = parting_then c.args.peer (any_standing c.args.link.now) then
+        tsdu c.split_at.result.1.now c.args.kept.items c.args.out.now.items c.put_part.new.out.items unit c.args.out.now.spare
+        c.put_part.new.out.spare
     goes c.requires.room (omega arith) (c.in-Some.ensures.given tsdu) c.in-Some.ensures.alone cut.left put took (omega arith) in
     parting.goes.quiet
 
@@ -79,16 +92,22 @@ write_parts-requires-clause-alone c =
     let value = c.limit.ensures.value in
     let least = c.in-Some.ensures.at_least in
     let short = c.requires.short in
-    let cut = first_cut c.in-Some.slot limit c.min-carried.result c.args.head.now c.args.body.now c.split_at.result.0.now c.split_at.result.1.now c.is_empty-end.result (omega arith) (omega (arith, c.min-carried.ensures))
+    let cut = first_cut c.in-Some.slot limit c.min-carried.result c.args.head.now c.args.body.now c.split_at.result.0.now
+        c.split_at.result.1.now c.is_empty-end.result (omega arith) (omega (arith, c.min-carried.ensures))
     c.split_at.ensures.front c.split_at.ensures.back c.is_empty-end.ensures in
     let unit = first_in c.in-Some.slot limit tsdu in
     let put = c.in-Ok.ensures.ok ∙ ap (λ (u : Given). c.args.out.now.items ++ packets (unit_of c.args.peer u ∷ [])) cut.unit in
     let goes : Goes (any_standing c.args.link.now) tsdu c.args.kept.items =
-    record { quiet = c.requires.quiet; alone = (part_goes (any_standing c.args.link.now) tsdu c.requires.quiet c.requires.some).alone; left = c.requires.kept } in
+    record { quiet = c.requires.quiet; alone = (part_goes (any_standing c.args.link.now) tsdu c.requires.quiet c.requires.some).alone;
+        left = c.requires.kept } in
     let took : c.args.out.now.spare ≤ c.put_part.new.out.spare + length (packets (unit_of c.args.peer unit ∷ [])) =
-    subst (λ (u : Given). c.args.out.now.spare ≤ c.put_part.new.out.spare + length (packets (unit_of c.args.peer u ∷ []))) cut.unit c.in-Ok.ensures.spare in
-    let something : length c.split_at.result.1.now ≡ 0 → ⊥ = eqb-false (length c.split_at.result.1.now) 0 (sym c.is_empty-end.ensures ∙ c.if-end.false) in
-    let parting = parting_then c.args.peer (any_standing c.args.link.now) then tsdu c.split_at.result.1.now c.args.kept.items c.args.out.now.items c.put_part.new.out.items unit c.args.out.now.spare c.put_part.new.out.spare
+    subst (λ (u : Given). c.args.out.now.spare ≤ c.put_part.new.out.spare + length (packets (unit_of c.args.peer u ∷ []))) cut.unit
+        c.in-Ok.ensures.spare in
+    let something : length c.split_at.result.1.now ≡ 0 →
+        ⊥ = eqb-false (length c.split_at.result.1.now) 0 (sym c.is_empty-end.ensures ∙ c.if-end.false) in
+    let parting = parting_then c.args.peer (any_standing c.args.link.now) then
+        tsdu c.split_at.result.1.now c.args.kept.items c.args.out.now.items c.put_part.new.out.items unit c.args.out.now.spare
+        c.put_part.new.out.spare
     goes c.requires.room (omega arith) (c.in-Some.ensures.given tsdu) c.in-Some.ensures.alone cut.left put took (omega arith) in
     parting.goes.alone
 
@@ -101,16 +120,22 @@ write_parts-requires-clause-kept c =
     let value = c.limit.ensures.value in
     let least = c.in-Some.ensures.at_least in
     let short = c.requires.short in
-    let cut = first_cut c.in-Some.slot limit c.min-carried.result c.args.head.now c.args.body.now c.split_at.result.0.now c.split_at.result.1.now c.is_empty-end.result (omega arith) (omega (arith, c.min-carried.ensures))
+    let cut = first_cut c.in-Some.slot limit c.min-carried.result c.args.head.now c.args.body.now c.split_at.result.0.now
+        c.split_at.result.1.now c.is_empty-end.result (omega arith) (omega (arith, c.min-carried.ensures))
     c.split_at.ensures.front c.split_at.ensures.back c.is_empty-end.ensures in
     let unit = first_in c.in-Some.slot limit tsdu in
     let put = c.in-Ok.ensures.ok ∙ ap (λ (u : Given). c.args.out.now.items ++ packets (unit_of c.args.peer u ∷ [])) cut.unit in
     let goes : Goes (any_standing c.args.link.now) tsdu c.args.kept.items =
-    record { quiet = c.requires.quiet; alone = (part_goes (any_standing c.args.link.now) tsdu c.requires.quiet c.requires.some).alone; left = c.requires.kept } in
+    record { quiet = c.requires.quiet; alone = (part_goes (any_standing c.args.link.now) tsdu c.requires.quiet c.requires.some).alone;
+        left = c.requires.kept } in
     let took : c.args.out.now.spare ≤ c.put_part.new.out.spare + length (packets (unit_of c.args.peer unit ∷ [])) =
-    subst (λ (u : Given). c.args.out.now.spare ≤ c.put_part.new.out.spare + length (packets (unit_of c.args.peer u ∷ []))) cut.unit c.in-Ok.ensures.spare in
-    let something : length c.split_at.result.1.now ≡ 0 → ⊥ = eqb-false (length c.split_at.result.1.now) 0 (sym c.is_empty-end.ensures ∙ c.if-end.false) in
-    let parting = parting_then c.args.peer (any_standing c.args.link.now) then tsdu c.split_at.result.1.now c.args.kept.items c.args.out.now.items c.put_part.new.out.items unit c.args.out.now.spare c.put_part.new.out.spare
+    subst (λ (u : Given). c.args.out.now.spare ≤ c.put_part.new.out.spare + length (packets (unit_of c.args.peer u ∷ []))) cut.unit
+        c.in-Ok.ensures.spare in
+    let something : length c.split_at.result.1.now ≡ 0 →
+        ⊥ = eqb-false (length c.split_at.result.1.now) 0 (sym c.is_empty-end.ensures ∙ c.if-end.false) in
+    let parting = parting_then c.args.peer (any_standing c.args.link.now) then
+        tsdu c.split_at.result.1.now c.args.kept.items c.args.out.now.items c.put_part.new.out.items unit c.args.out.now.spare
+        c.put_part.new.out.spare
     goes c.requires.room (omega arith) (c.in-Some.ensures.given tsdu) c.in-Some.ensures.alone cut.left put took (omega arith) in
     parting.goes.left
 
@@ -123,16 +148,22 @@ write_parts-requires-clause-room c =
     let value = c.limit.ensures.value in
     let least = c.in-Some.ensures.at_least in
     let short = c.requires.short in
-    let cut = first_cut c.in-Some.slot limit c.min-carried.result c.args.head.now c.args.body.now c.split_at.result.0.now c.split_at.result.1.now c.is_empty-end.result (omega arith) (omega (arith, c.min-carried.ensures))
+    let cut = first_cut c.in-Some.slot limit c.min-carried.result c.args.head.now c.args.body.now c.split_at.result.0.now
+        c.split_at.result.1.now c.is_empty-end.result (omega arith) (omega (arith, c.min-carried.ensures))
     c.split_at.ensures.front c.split_at.ensures.back c.is_empty-end.ensures in
     let unit = first_in c.in-Some.slot limit tsdu in
     let put = c.in-Ok.ensures.ok ∙ ap (λ (u : Given). c.args.out.now.items ++ packets (unit_of c.args.peer u ∷ [])) cut.unit in
     let goes : Goes (any_standing c.args.link.now) tsdu c.args.kept.items =
-    record { quiet = c.requires.quiet; alone = (part_goes (any_standing c.args.link.now) tsdu c.requires.quiet c.requires.some).alone; left = c.requires.kept } in
+    record { quiet = c.requires.quiet; alone = (part_goes (any_standing c.args.link.now) tsdu c.requires.quiet c.requires.some).alone;
+        left = c.requires.kept } in
     let took : c.args.out.now.spare ≤ c.put_part.new.out.spare + length (packets (unit_of c.args.peer unit ∷ [])) =
-    subst (λ (u : Given). c.args.out.now.spare ≤ c.put_part.new.out.spare + length (packets (unit_of c.args.peer u ∷ []))) cut.unit c.in-Ok.ensures.spare in
-    let something : length c.split_at.result.1.now ≡ 0 → ⊥ = eqb-false (length c.split_at.result.1.now) 0 (sym c.is_empty-end.ensures ∙ c.if-end.false) in
-    let parting = parting_then c.args.peer (any_standing c.args.link.now) then tsdu c.split_at.result.1.now c.args.kept.items c.args.out.now.items c.put_part.new.out.items unit c.args.out.now.spare c.put_part.new.out.spare
+    subst (λ (u : Given). c.args.out.now.spare ≤ c.put_part.new.out.spare + length (packets (unit_of c.args.peer u ∷ []))) cut.unit
+        c.in-Ok.ensures.spare in
+    let something : length c.split_at.result.1.now ≡ 0 →
+        ⊥ = eqb-false (length c.split_at.result.1.now) 0 (sym c.is_empty-end.ensures ∙ c.if-end.false) in
+    let parting = parting_then c.args.peer (any_standing c.args.link.now) then
+        tsdu c.split_at.result.1.now c.args.kept.items c.args.out.now.items c.put_part.new.out.items unit c.args.out.now.spare
+        c.put_part.new.out.spare
     goes c.requires.room (omega arith) (c.in-Some.ensures.given tsdu) c.in-Some.ensures.alone cut.left put took (omega arith) in
     parting.room
 
@@ -145,17 +176,24 @@ returns c =
     let value = c.limit.ensures.value in
     let least = c.in-Some.ensures.at_least in
     let short = c.requires.short in
-    let cut = first_cut c.in-Some.slot limit c.min-carried.result c.args.head.now c.args.body.now c.split_at.result.0.now c.split_at.result.1.now c.is_empty-end.result (omega arith) (omega (arith, c.min-carried.ensures))
+    let cut = first_cut c.in-Some.slot limit c.min-carried.result c.args.head.now c.args.body.now c.split_at.result.0.now
+        c.split_at.result.1.now c.is_empty-end.result (omega arith) (omega (arith, c.min-carried.ensures))
     c.split_at.ensures.front c.split_at.ensures.back c.is_empty-end.ensures in
     let unit = first_in c.in-Some.slot limit tsdu in
     let put = c.in-Ok.ensures.ok ∙ ap (λ (u : Given). c.args.out.now.items ++ packets (unit_of c.args.peer u ∷ [])) cut.unit in
     let goes : Goes (any_standing c.args.link.now) tsdu c.args.kept.items =
-    record { quiet = c.requires.quiet; alone = (part_goes (any_standing c.args.link.now) tsdu c.requires.quiet c.requires.some).alone; left = c.requires.kept } in
+    record { quiet = c.requires.quiet; alone = (part_goes (any_standing c.args.link.now) tsdu c.requires.quiet c.requires.some).alone;
+        left = c.requires.kept } in
     let took : c.args.out.now.spare ≤ c.put_part.new.out.spare + length (packets (unit_of c.args.peer unit ∷ [])) =
-    subst (λ (u : Given). c.args.out.now.spare ≤ c.put_part.new.out.spare + length (packets (unit_of c.args.peer u ∷ []))) cut.unit c.in-Ok.ensures.spare in
-    let something : length c.split_at.result.1.now ≡ 0 → ⊥ = eqb-false (length c.split_at.result.1.now) 0 (sym c.is_empty-end.ensures ∙ c.if-end.false) in
-    let parting = parting_then c.args.peer (any_standing c.args.link.now) then tsdu c.split_at.result.1.now c.args.kept.items c.args.out.now.items c.put_part.new.out.items unit c.args.out.now.spare c.put_part.new.out.spare
+    subst (λ (u : Given). c.args.out.now.spare ≤ c.put_part.new.out.spare + length (packets (unit_of c.args.peer u ∷ []))) cut.unit
+        c.in-Ok.ensures.spare in
+    let something : length c.split_at.result.1.now ≡ 0 →
+        ⊥ = eqb-false (length c.split_at.result.1.now) 0 (sym c.is_empty-end.ensures ∙ c.if-end.false) in
+    let parting = parting_then c.args.peer (any_standing c.args.link.now) then
+        tsdu c.split_at.result.1.now c.args.kept.items c.args.out.now.items c.put_part.new.out.items unit c.args.out.now.spare
+        c.put_part.new.out.spare
     goes c.requires.room (omega arith) (c.in-Some.ensures.given tsdu) c.in-Some.ensures.alone cut.left put took (omega arith) in
-    let all = parting_all c.args.peer first then (any_standing c.write_parts.new.link) c.args.out.now.items c.split_at.result.1.now c.args.kept.items c.put_part.new.out.items c.write_parts.new.out.items c.put_part.new.out.spare
+    let all = parting_all c.args.peer first then (any_standing c.write_parts.new.link) c.args.out.now.items c.split_at.result.1.now
+        c.args.kept.items c.put_part.new.out.items c.write_parts.new.out.items c.put_part.new.out.spare
     parting c.write_parts.ensures.link c.write_parts.ensures.written in
     record { link = all.link; written = all.written; pumped = c.write_parts.ensures.pumped }

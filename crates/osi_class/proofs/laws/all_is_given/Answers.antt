@@ -1,4 +1,5 @@
-use Rattle.osi_class.proofs.giving.a_link_gives_finitely_many_units.{drained_none, drained_some, drained_ends, drained_moves, drained_leaves}
+use Rattle.osi_class.proofs.giving.a_link_gives_finitely_many_units.{drained_none, drained_some, drained_ends, drained_moves}
+use Rattle.osi_class.proofs.giving.a_link_gives_finitely_many_units.{drained_leaves}
 use Rattle.osi_class.proofs.laws.all_is_given.Goals as goal
 
 pub returns-clause-none : goal.returns-clause-none

@@ -5,7 +5,9 @@ use Rattle.std.proofs.Common.{map}
 use Rattle.osi_honest.proofs.laws.what_a_session_said_is_explained.Goals as goal
 
 pub returns-clause-called : goal.returns-clause-called
-returns-clause-called c = λ took said closed l h. c.an_honest_session_is_explained.ensures.called took (map told_of said) (is_sent awaits took said closed l h)
+returns-clause-called c = λ took said closed l h. c.an_honest_session_is_explained.ensures.called took (map told_of said)
+    (is_sent awaits took said closed l h)
 
 pub returns-clause-caller : goal.returns-clause-caller
-returns-clause-caller c = λ o took said closed l fits h. c.an_honest_session_is_explained.ensures.caller o took (map told_of said) fits (is_sent (opens o) took said closed l h)
+returns-clause-caller c = λ o took said closed l fits h. c.an_honest_session_is_explained.ensures.caller o took (map told_of said) fits
+    (is_sent (opens o) took said closed l h)

@@ -7,4 +7,6 @@ pub returns-clause-begins : goal.returns-clause-begins
 returns-clause-begins c = λ local. record { lasts = refl; is_called = refl; class = refl; live = refl; told = refl; lines = refl }
 
 pub returns-clause-turn : goal.returns-clause-turn
-returns-clause-turn c = turn_waits (all_proper (record { room = c.few_octets_fit.ensures; digits = c.serial_digits.ensures }) c.what_closes_sends_nothing.ensures.octets)
+returns-clause-turn c =
+    turn_waits (all_proper (record { room = c.few_octets_fit.ensures; digits = c.serial_digits.ensures })
+    c.what_closes_sends_nothing.ensures.octets)

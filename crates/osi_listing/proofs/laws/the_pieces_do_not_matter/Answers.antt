@@ -5,4 +5,5 @@ pub returns-clause-pieces : goal.returns-clause-pieces
 returns-clause-pieces c = λ old new pieces before after h. fed_all old new pieces before after h
 
 pub returns-clause-lines : goal.returns-clause-lines
-returns-clause-lines c = λ octets lines others counts other h k. one_so_far c.a_stream_has_one_cut.ensures.cut octets lines others counts other h k
+returns-clause-lines c = λ octets lines others counts other h k. one_so_far c.a_stream_has_one_cut.ensures.cut octets lines others counts
+    other h k

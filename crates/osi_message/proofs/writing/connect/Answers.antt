@@ -5,7 +5,10 @@ use Rattle.osi_message.proofs.writing.connect.Goals as goal
 
 pub returns-clause-units : goal.returns-clause-units
 unfolding unit_of
-returns-clause-units c = c.connect.ensures.units ∙ ap (unit_with Connect) (connect_known c.args.serial c.args.wishes c.args.requirements c.args.calling c.args.called c.args.sizes c.args.user_data)
+returns-clause-units c =
+    c.connect.ensures.units ∙
+    ap (unit_with Connect)
+    (connect_known c.args.serial c.args.wishes c.args.requirements c.args.calling c.args.called c.args.sizes c.args.user_data)
 
 pub returns-clause-fits : goal.returns-clause-fits
 returns-clause-fits c = λ few. c.connect.ensures.fits (omega arith)

@@ -5,7 +5,8 @@ use Rattle.osi_message.proofs.writing.refuse.Goals as goal
 
 pub returns-clause-units : goal.returns-clause-units
 unfolding unit_of
-returns-clause-units c = c.refuse.ensures.units ∙ ap (unit_with Refuse) (refuse_known (record { code = c.args.reason; data_octets = c.args.user_data }))
+returns-clause-units c =
+    c.refuse.ensures.units ∙ ap (unit_with Refuse) (refuse_known (record { code = c.args.reason; data_octets = c.args.user_data }))
 
 pub returns-clause-fits : goal.returns-clause-fits
 returns-clause-fits c = λ few. c.refuse.ensures.fits (omega arith)

@@ -18,14 +18,16 @@ returns-in_err-later-clause-refused c =
     let some : 1 ≤ length c.units.rest.now = search rules in
     let room : 1 ≤ c.units.room = omega (arith, c.if-room-eq0.false) in
     let e = err_from_is_err_and c.from_residual.result c.from_residual.ensures.1 in
-    rw (e.1, e.2) (c.units.invariant.leads.refused _ (behind_bad c.units.room c.units.at c.units.rest.now _ room some c.in_err-later.ensures.value))
+    rw (e.1, e.2)
+        (c.units.invariant.leads.refused _ (behind_bad c.units.room c.units.at c.units.rest.now _ room some c.in_err-later.ensures.value))
 
 pub units-preserved : goal.units-preserved
 units-preserved c =
     let some : 1 ≤ length c.units.rest.now = search rules in
     let room : 1 ≤ c.units.room = omega (arith, c.if-room-eq0.false) in
     record {
-      leads = leads_next c.args.room c.args.at c.args.octets.now c.units.room c.units.at c.units.rest.now (later_of c.in_ok-later.later) c.units.invariant.leads room some
+      leads = leads_next c.args.room c.args.at c.args.octets.now c.units.room c.units.at c.units.rest.now (later_of c.in_ok-later.later)
+          c.units.invariant.leads room some
           c.in_ok-later.ensures.value (unit_formed c.in_ok-later.later.unit);
       within = omega (arith, c.units.invariant.within, c.in_ok-later.ensures.whole);
     }

@@ -15,24 +15,31 @@ units-init c =
     }
 
 pub unit_len-counted-requires : goal.unit_len-counted-requires
-unit_len-counted-requires c = (counts_next (units_behind c.units.behind) c.units.len (said_by c.in-Some.unit) (units_behind c.next.new.self) (units_behind c.args.behind) c.in-Some.ensures.steps c.units.invariant.so_far).fits
+unit_len-counted-requires c =
+    (counts_next (units_behind c.units.behind) c.units.len (said_by c.in-Some.unit) (units_behind c.next.new.self)
+    (units_behind c.args.behind) c.in-Some.ensures.steps c.units.invariant.so_far).fits
 
 pub keep_length-requires-clause-within : goal.keep_length-requires-clause-within
-keep_length-requires-clause-within c = keeping_within c.units.lengths c.units.count (units_behind c.units.behind) (units_behind c.next.new.self) (units_behind c.args.behind) (said_by c.in-Some.unit) c.in-Some.ensures.steps c.units.invariant.kept
+keep_length-requires-clause-within c =
+    keeping_within c.units.lengths c.units.count (units_behind c.units.behind) (units_behind c.next.new.self) (units_behind c.args.behind)
+    (said_by c.in-Some.unit) c.in-Some.ensures.steps c.units.invariant.kept
 
 pub keep_length-requires-clause-small : goal.keep_length-requires-clause-small
 keep_length-requires-clause-small c =
-    let n = counts_next (units_behind c.units.behind) c.units.len (said_by c.in-Some.unit) (units_behind c.next.new.self) (units_behind c.args.behind) c.in-Some.ensures.steps c.units.invariant.so_far in
+    let n = counts_next (units_behind c.units.behind) c.units.len (said_by c.in-Some.unit) (units_behind c.next.new.self)
+        (units_behind c.args.behind) c.in-Some.ensures.steps c.units.invariant.so_far in
     omega (arith, n.fits, c.unit_len-counted.ensures.body)
 
 pub overflow_add-count : goal.overflow_add-count
 overflow_add-count c =
-    let w = keeping_within c.units.lengths c.units.count (units_behind c.units.behind) (units_behind c.next.new.self) (units_behind c.args.behind) (said_by c.in-Some.unit) c.in-Some.ensures.steps c.units.invariant.kept in
+    let w = keeping_within c.units.lengths c.units.count (units_behind c.units.behind) (units_behind c.next.new.self)
+        (units_behind c.args.behind) (said_by c.in-Some.unit) c.in-Some.ensures.steps c.units.invariant.kept in
     omega (arith, w, c.units.invariant.kept.size)
 
 pub overflow_add-len : goal.overflow_add-len
 overflow_add-len c =
-    let n = counts_next (units_behind c.units.behind) c.units.len (said_by c.in-Some.unit) (units_behind c.next.new.self) (units_behind c.args.behind) c.in-Some.ensures.steps c.units.invariant.so_far in
+    let n = counts_next (units_behind c.units.behind) c.units.len (said_by c.in-Some.unit) (units_behind c.next.new.self)
+        (units_behind c.args.behind) c.in-Some.ensures.steps c.units.invariant.so_far in
     omega (arith, n.small, c.unit_len-counted.ensures.short)
 
 pub units-preserved : goal.units-preserved
@@ -44,15 +51,20 @@ units-preserved c =
     let short = c.unit_len-counted.ensures.short in
     let is = c.unit_len-counted.ensures.value in
     let info = ap length c.information.ensures in
-    let same : c.units.len + (c.unit_len-counted.result.whole + length c.information.result.now) ≡ c.units.len + (length (unit_octets u) + length u.information) = omega arith in
+    let same : c.units.len + (c.unit_len-counted.result.whole + length c.information.result.now) ≡ c.units.len +
+        (length (unit_octets u) + length u.information) = omega arith in
     record {
       so_far = subst (λ (k : ℕ). IsCountingUnits others k all) (sym same) (n.next (omega arith));
       small = omega (arith, n.small, short);
-      kept = keeping_next c.units.lengths c.keep_length.new.lengths c.units.count c.unit_len-counted.result.body (units_behind c.units.behind) others all u c.in-Some.ensures.steps c.unit_len-counted.ensures.body c.keep_length.ensures c.units.invariant.kept;
+      kept = keeping_next c.units.lengths c.keep_length.new.lengths c.units.count c.unit_len-counted.result.body
+          (units_behind c.units.behind) others all u c.in-Some.ensures.steps c.unit_len-counted.ensures.body c.keep_length.ensures
+          c.units.invariant.kept;
     }
 
 pub returns-clause-value : goal.returns-clause-value
-returns-clause-value c = counting_end (units_behind c.units.behind) c.units.len (units_behind c.args.behind) c.in_default.ensures.steps.0 c.units.invariant.so_far
+returns-clause-value c = counting_end (units_behind c.units.behind) c.units.len (units_behind c.args.behind) c.in_default.ensures.steps.0
+    c.units.invariant.so_far
 
 pub returns-clause-lengths : goal.returns-clause-lengths
-returns-clause-lengths c = keeping_end c.units.lengths c.units.count (units_behind c.units.behind) (units_behind c.args.behind) c.in_default.ensures.steps.0 c.units.invariant.kept
+returns-clause-lengths c = keeping_end c.units.lengths c.units.count (units_behind c.units.behind) (units_behind c.args.behind)
+    c.in_default.ensures.steps.0 c.units.invariant.kept

@@ -13,10 +13,12 @@ returns-clause-all c =
     omega (arith, n, c.unit_len-counted.ensures.value, c.count_behind-others.ensures.value)
 
 pub returns-clause-behind : goal.returns-clause-behind
-returns-clause-behind c = subst (λ (us : Units). AreLengths c.count_behind-others.new.lengths us) c.others.ensures c.count_behind-others.ensures.lengths
+returns-clause-behind c = subst (λ (us : Units). AreLengths c.count_behind-others.new.lengths us) c.others.ensures
+    c.count_behind-others.ensures.lengths
 
 pub returns-clause-kind : goal.returns-clause-kind
 returns-clause-kind c = c.unit_len-counted.ensures.kind ∙ ap (λ u. u.kind) c.first.ensures
 
 pub returns-clause-groups : goal.returns-clause-groups
-returns-clause-groups c = subst (λ (u : Contents). AreHeld c.unit_len-counted.result.groups u.known) c.first.ensures c.unit_len-counted.ensures.groups
+returns-clause-groups c = subst (λ (u : Contents). AreHeld c.unit_len-counted.result.groups u.known) c.first.ensures
+    c.unit_len-counted.ensures.groups

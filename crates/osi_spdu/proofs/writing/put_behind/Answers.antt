@@ -7,10 +7,13 @@ use Rattle.osi_spdu.proofs.form.units_are_written_in_order.{one_octets, one_len,
 use Rattle.osi_spdu.proofs.writing.put_behind.Goals as goal
 
 pub none-groups-requires : goal.none-groups-requires
-none-groups-requires c = ap category_of c.kind.ensures ∙ next_two (units_behind c.args.behind.now) [] (said_by c.in-Some.unit.now) c.in-Some.ensures (behind_formed c.args.behind.now).behind
+none-groups-requires c = ap category_of c.kind.ensures ∙ next_two (units_behind c.args.behind.now) [] (said_by c.in-Some.unit.now)
+    c.in-Some.ensures (behind_formed c.args.behind.now).behind
 
 pub kept_length-requires : goal.kept_length-requires
-kept_length-requires c = (next_length c.args.lengths.now 0 (units_behind c.args.behind.now) [] (said_by c.in-Some.unit.now) c.in-Some.ensures c.requires.lengths).within
+kept_length-requires c =
+    (next_length c.args.lengths.now 0 (units_behind c.args.behind.now) [] (said_by c.in-Some.unit.now) c.in-Some.ensures
+    c.requires.lengths).within
 
 pub put_unit-requires-clause-small : goal.put_unit-requires-clause-small
 put_unit-requires-clause-small c = one_fits (units_behind c.args.behind.now) (said_by c.in-Some.unit.now) c.in-Some.ensures c.requires.small
@@ -20,7 +23,9 @@ put_unit-requires-clause-groups c = c.none-groups.ensures.value (said_by c.in-So
 
 pub put_unit-requires-clause-body : goal.put_unit-requires-clause-body
 put_unit-requires-clause-body c =
-    c.kept_length.ensures ∙ (next_length c.args.lengths.now 0 (units_behind c.args.behind.now) [] (said_by c.in-Some.unit.now) c.in-Some.ensures c.requires.lengths).is
+    c.kept_length.ensures ∙
+        (next_length c.args.lengths.now 0 (units_behind c.args.behind.now) [] (said_by c.in-Some.unit.now) c.in-Some.ensures
+        c.requires.lengths).is
 
 pub put_unit-requires-clause-room : goal.put_unit-requires-clause-room
 put_unit-requires-clause-room c =

@@ -3,4 +3,5 @@ use Rattle.osi_spdu.proofs.form.parameters_are_written_in_order.{IsPutting}
 use Rattle.osi_spdu.proofs.writing.put_body.Given as goal
 
 abbrev pub invariant-codes : goal.invariant-codes
-invariant-codes l = IsPutting (λ x. parameter_octets l.groups.kind (known_of l.params) x (known_of l.params x)) l.codes l.code-index l.out.items l.out.spare l.fn.out.items l.fn.out.spare
+invariant-codes l = IsPutting (λ x. parameter_octets l.groups.kind (known_of l.params) x (known_of l.params x)) l.codes l.code-index
+    l.out.items l.out.spare l.fn.out.items l.fn.out.spare

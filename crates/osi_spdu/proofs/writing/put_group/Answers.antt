@@ -15,13 +15,15 @@ pub put_unit-requires-clause-kind : goal.put_unit-requires-clause-kind
 put_unit-requires-clause-kind c = c.requires.kind ∙ ap (λ u. u.kind) (sym c.first.ensures)
 
 pub put_unit-requires-clause-groups : goal.put_unit-requires-clause-groups
-put_unit-requires-clause-groups c = subst (λ (u : Contents). AreHeld c.args.lengths.now.first.groups u.known) (sym c.first.ensures) c.requires.groups
+put_unit-requires-clause-groups c = subst (λ (u : Contents). AreHeld c.args.lengths.now.first.groups u.known) (sym c.first.ensures)
+    c.requires.groups
 
 pub put_unit-requires-clause-body : goal.put_unit-requires-clause-body
 put_unit-requires-clause-body c = c.requires.first ∙ ap body_length (sym c.first.ensures)
 
 pub put_behind-requires-clause-lengths : goal.put_behind-requires-clause-lengths
-put_behind-requires-clause-lengths c = subst (λ (us : Units). AreLengths c.args.lengths.now.behind us) (sym c.others.ensures) c.requires.behind
+put_behind-requires-clause-lengths c = subst (λ (us : Units). AreLengths c.args.lengths.now.behind us) (sym c.others.ensures)
+    c.requires.behind
 
 pub put_behind-requires-clause-room : goal.put_behind-requires-clause-room
 put_behind-requires-clause-room c =
@@ -48,5 +50,6 @@ returns-clause-items c =
     let first : unit_octets (said_by c.first.result.now) ≡ unit_octets u = ap unit_octets c.first.ensures in
     let behind : tsdu_octets (units_behind c.others.result.now) ≡ rest = ap tsdu_octets c.others.ensures in
     c.put_behind.ensures.items ∙ ap (λ (t : List ℕ). c.put_unit.new.out.items ++ t) behind
-    ∙ ap (λ (t : List ℕ). t ++ rest) (c.put_unit.ensures.items ∙ ap (λ (t : List ℕ). before ++ t) first) ∙ append_assoc before (unit_octets u) rest
+    ∙ ap (λ (t : List ℕ). t ++ rest) (c.put_unit.ensures.items ∙ ap (λ (t : List ℕ). before ++ t) first) ∙
+        append_assoc before (unit_octets u) rest
     ∙ ap (λ (t : List ℕ). before ++ t) (sym (first_octets u (units_behind g.behind) (group_plain g)))

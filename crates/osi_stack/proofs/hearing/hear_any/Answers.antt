@@ -10,7 +10,8 @@ returns-clause-carrier c =
     let closes : c.in_ok-first.field-0.closes ≡ move.closes = search rules in
     c.in_ok-answer-2.ensures.ok
     ∙ ap (λ (x : Carrier). record c.args.carrier.now { state = x })
-    (answer_heard c.args.session.now c.args.told.now c.args.reference c.in_ok-first.field-0.reply c.in_ok-first.field-0.closes move c.args.carrier.now.state reply closes)
+    (answer_heard c.args.session.now c.args.told.now c.args.reference c.in_ok-first.field-0.reply c.in_ok-first.field-0.closes move
+        c.args.carrier.now.state reply closes)
 
 pub returns-in_default-clause-carrier : goal.returns-in_default-clause-carrier
 returns-in_default-clause-carrier c =
@@ -19,4 +20,5 @@ returns-in_default-clause-carrier c =
     let closes : c.in_ok-first.field-0.closes ≡ move.closes = search rules in
     c.in_ok-answer.ensures.ok
     ∙ ap (λ (x : Carrier). record c.args.carrier.now { state = x })
-    (answer_heard c.args.session.now c.args.told.now c.args.reference c.in_ok-first.field-0.reply c.in_ok-first.field-0.closes move c.args.carrier.now.state reply closes)
+    (answer_heard c.args.session.now c.args.told.now c.args.reference c.in_ok-first.field-0.reply c.in_ok-first.field-0.closes move
+        c.args.carrier.now.state reply closes)

@@ -1,6 +1,7 @@
 use Rattle.std.proofs.Common.{None, sym, ap, ◌∙◌}
 use Rattle.osi_stack.proofs.Vocabulary.{opened, refused, broken, react, told_input, in_one}
-use Rattle.osi_stack.proofs.each_session.what_happens_beside_calls_and_tsdus.{opened_is_unseen, refused_is_quiet, broken_is_quiet, quiet_takes, takes_if}
+use Rattle.osi_stack.proofs.each_session.what_happens_beside_calls_and_tsdus.{opened_is_unseen, refused_is_quiet, broken_is_quiet}
+use Rattle.osi_stack.proofs.each_session.what_happens_beside_calls_and_tsdus.{quiet_takes, takes_if}
 use Rattle.std.proofs.Common.{option_map}
 use Rattle.osi_stack.proofs.hearing.listen.Goals as goal
 
@@ -17,7 +18,8 @@ returns-in-Refused c =
     let s = c.args.session.now in
     let quiet = refused_is_quiet s c.in-Refused.reason in
     takes_if _ s (refused c.in-Refused.reason) (told_input c.args.told.now) s c.refused.new.self (ap told_input c.in-Refused.is)
-    (quiet_takes _ c.refused.result (react s (refused c.in-Refused.reason)) s c.refused.new.self c.quiet-in-Refused.ensures.first c.quiet-in-Refused.ensures.more
+    (quiet_takes _ c.refused.result (react s (refused c.in-Refused.reason)) s c.refused.new.self c.quiet-in-Refused.ensures.first
+        c.quiet-in-Refused.ensures.more
     (c.quiet-in-Refused.ensures.reply ∙ ap (option_map in_one) (sym quiet.reply)) (c.quiet-in-Refused.ensures.closes ∙ sym quiet.closes)
     c.refused.ensures.state c.refused.ensures.shown)
 

@@ -2,7 +2,8 @@ use Rattle.std.proofs.Common.{subst}
 use Rattle.osi_stack.specs.Links.{IsSound}
 use Rattle.osi_stack.proofs.stream.what_was_written_is_read.{packet_is_unit}
 use Rattle.osi_stack.proofs.given_up.the_invariant_stays.{disconnect_sound}
-use Rattle.osi_stack.proofs.sound.the_invariant_is_kept.{packet_sound, fresh_sound, connect_sound, call_sound, feeds_sound, first_sound, carried_sound, breaks_sound}
+use Rattle.osi_stack.proofs.sound.the_invariant_is_kept.{packet_sound, fresh_sound, connect_sound, call_sound, feeds_sound, first_sound}
+use Rattle.osi_stack.proofs.sound.the_invariant_is_kept.{carried_sound, breaks_sound}
 use Rattle.osi_stack.proofs.each_session.what_the_tables_say.{session_laws, unopened}
 use Rattle.osi_stack.proofs.laws.a_session_that_is_called_has_a_connection.Goals as goal
 
@@ -23,5 +24,6 @@ returns c =
       carried = carried_sound;
       disconnected = disconnect_sound;
       broken = breaks_sound;
-      heard = λ e unit sendable lasts attended sound. subst IsSound (packet_is_unit e unit sendable) (packet_sound laws _ e lasts (attended lasts) sound);
+      heard = λ e unit sendable lasts attended sound. subst IsSound (packet_is_unit e unit sendable)
+          (packet_sound laws _ e lasts (attended lasts) sound);
     }

@@ -4,7 +4,8 @@ use Rattle.osi_session.specs.Listening.{broken}
 use Rattle.osi_stack.proofs.given_up.who_waits_was_still_requested.{disconnect_settled}
 use Rattle.osi_stack.proofs.opening.live_connections_have_addresses.{ShownFirst, known_at}
 use Rattle.osi_stack.proofs.carried.open_connections_stay_open.{SessionLaws}
-use Rattle.osi_stack.proofs.sound.the_invariant_between_calls.{Profiles, fresh_settled, connect_settled, call_settled, feeds_settled, first_settled, carried_settled, breaks_settled, none_at, profiled_at}
+use Rattle.osi_stack.proofs.sound.the_invariant_between_calls.{Profiles, fresh_settled, connect_settled, call_settled, feeds_settled}
+use Rattle.osi_stack.proofs.sound.the_invariant_between_calls.{first_settled, carried_settled, breaks_settled, none_at, profiled_at}
 use Rattle.osi_stack.proofs.each_session.what_the_tables_say.{session_laws, unopened}
 use Rattle.osi_stack.proofs.laws.an_end_is_settled_between_calls.Goals as goal
 
@@ -30,7 +31,9 @@ returns c =
       begins = fresh_settled;
       connects = connect_settled profiles;
       called = call_settled profiles shown laws c.where_a_call_is_accepted.ensures.begun c.what_closes_sends_nothing.ensures.call;
-      fed = feeds_settled (record { laws = laws; profiles = profiles; waits = c.where_a_call_is_accepted.ensures.begun; units = c.what_happens_has_numbers.ensures.units; shown = shown });
+      fed = feeds_settled
+          (record { laws = laws; profiles = profiles; waits = c.where_a_call_is_accepted.ensures.begun;
+          units = c.what_happens_has_numbers.ensures.units; shown = shown });
       shown = first_settled;
       carried = carried_settled;
       disconnected = disconnect_settled (λ s h. c.units_are_a_profile.ensures.kept s (broken ∷ []) h);

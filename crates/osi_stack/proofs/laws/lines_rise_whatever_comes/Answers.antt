@@ -1,7 +1,8 @@
 use Rattle.osi_session.specs.Listening.{called}
 use Rattle.osi_stack.proofs.given_up.the_invariant_stays.{disconnect_ordered}
 use Rattle.osi_stack.proofs.carried.open_connections_stay_open.{SessionLaws}
-use Rattle.osi_stack.proofs.each_line.lines_stay_in_order.{fresh_ordered, connect_ordered, call_ordered, feeds_ordered, first_ordered, carried_ordered, breaks_ordered}
+use Rattle.osi_stack.proofs.each_line.lines_stay_in_order.{fresh_ordered, connect_ordered, call_ordered, feeds_ordered, first_ordered}
+use Rattle.osi_stack.proofs.each_line.lines_stay_in_order.{carried_ordered, breaks_ordered}
 use Rattle.osi_stack.proofs.each_session.what_the_tables_say.{session_laws, unopened}
 use Rattle.osi_stack.proofs.laws.lines_rise_whatever_comes.Goals as goal
 

@@ -19,7 +19,8 @@ pub parameters-preserved : goal.parameters-preserved
 parameters-preserved c =
     let some : 1 ≤ length c.parameters.rest.now = search rules in
     record {
-      reads = Reads-more _ _ _ _ _ _ c.parameters.invariant.reads some c.in_ok-code.ensures.gives c.in_ok-add_parameter.ensures (omega (arith, c.in_ok-code.ensures.lengths));
+      reads = Reads-more _ _ _ _ _ _ c.parameters.invariant.reads some c.in_ok-code.ensures.gives c.in_ok-add_parameter.ensures
+          (omega (arith, c.in_ok-code.ensures.lengths));
       room = omega (arith, c.in_ok-code.ensures.lengths);
     }
 

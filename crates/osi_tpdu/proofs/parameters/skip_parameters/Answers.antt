@@ -13,7 +13,8 @@ pub parameters-preserved : goal.parameters-preserved
 parameters-preserved c =
     let some : 1 ≤ length c.parameters.rest.now = search rules in
     record {
-      skips = Skips-more _ _ _ _ c.parameters.invariant.skips some c.in_ok-value.ensures.gives (omega (arith, c.in_ok-value.ensures.lengths));
+      skips = Skips-more _ _ _ _ c.parameters.invariant.skips some c.in_ok-value.ensures.gives
+          (omega (arith, c.in_ok-value.ensures.lengths));
       room = omega (arith, c.in_ok-value.ensures.lengths);
     }
 

@@ -5,4 +5,5 @@ use Rattle.osi_carrier.proofs.selectors.Names.at.Goals as goal
 pub returns : goal.returns
 returns c =
     ap Some c.tsaps.ensures
-    ∙ sym (here_is c.args.reference c.args.self.now c.self.inside.rows.items c.args.place c.index.result.now c.requires c.index.ensures c.self.view_is)
+    ∙ sym (here_is c.args.reference c.args.self.now c.self.inside.rows.items c.args.place c.index.result.now c.requires c.index.ensures
+        c.self.view_is)

@@ -6,5 +6,6 @@ pub returns-clause-fed : goal.returns-clause-fed
 returns-clause-fed c = record {
   counted = refl;
   few = lit< tt;
-  stands = nothing_fed c.new-work.result c.new-work.ensures.cutter c.new-work.ensures.streams c.new-work.ensures.counts c.new-work.ensures.offset;
+  stands = nothing_fed c.new-work.result c.new-work.ensures.cutter c.new-work.ensures.streams c.new-work.ensures.counts
+      c.new-work.ensures.offset;
 }

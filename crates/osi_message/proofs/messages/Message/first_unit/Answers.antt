@@ -1,9 +1,11 @@
 use Rattle.std.proofs.Common.{◌≡◌, ◌∙◌, ap, false, subst, refl, arith}
-use Rattle.osi_message.proofs.Vocabulary.{NotFinished, Finish, Disconnect, Abort, AbortAccept, unit_with, unit_of, user_data_of, is_second, Message, meant_by}
+use Rattle.osi_message.proofs.Vocabulary.{NotFinished, Finish, Disconnect, Abort, AbortAccept, unit_with, unit_of, user_data_of, is_second}
+use Rattle.osi_message.proofs.Vocabulary.{Message, meant_by}
 use Rattle.osi_message.proofs.a_unit_is_made_of_its_meaning.{none_known, data_known, abort_known}
 use Rattle.osi_message.specs.declared.messages.Message.TheVariants as message
 use Rattle.osi_message.proofs.messages.Message.first_unit.Goals as goal
-use Rattle.osi_message.proofs.messages.Message.first_unit.Goals.{in-Connect, in-Accept, in-Refuse, in-Give, in-Please, in-Finish, in-Disconnect, in-NotFinished, in-Abort, in-AbortAccept}
+use Rattle.osi_message.proofs.messages.Message.first_unit.Goals.{in-Connect, in-Accept, in-Refuse, in-Give, in-Please, in-Finish}
+use Rattle.osi_message.proofs.messages.Message.first_unit.Goals.{in-Disconnect, in-NotFinished, in-Abort, in-AbortAccept}
 
 pub unreachable-requires : goal.unreachable-requires
 unfolding is_second
@@ -34,9 +36,12 @@ returns-clause-units c = elim c.match-self.branch [
   | in-Give w ↦ rw (w.result-is, w.in-Give.is) (w.give.ensures.units)
   | in-Please w ↦ rw (w.result-is, w.in-Please.is) (w.please.ensures.units)
   | in-Finish w ↦ rw (w.result-is, w.in-Finish.is) (w.finish.ensures.units ∙ ap (unit_with Finish) (data_known w.in-Finish.user_data))
-  | in-Disconnect w ↦ rw (w.result-is, w.in-Disconnect.is) (w.disconnect.ensures.units ∙ ap (unit_with Disconnect) (data_known w.in-Disconnect.user_data))
-  | in-NotFinished w ↦ rw (w.result-is, w.in-NotFinished.is) (w.not_finished.ensures.units ∙ ap (unit_with NotFinished) (data_known w.in-NotFinished.user_data))
-  | in-Abort w ↦ rw (w.result-is, w.in-Abort.is) (w.abort.ensures.units ∙ ap (unit_with Abort) (abort_known w.in-Abort.transport_disconnect w.in-Abort.user_data))
+  | in-Disconnect w ↦ rw (w.result-is, w.in-Disconnect.is)
+      (w.disconnect.ensures.units ∙ ap (unit_with Disconnect) (data_known w.in-Disconnect.user_data))
+  | in-NotFinished w ↦ rw (w.result-is, w.in-NotFinished.is)
+      (w.not_finished.ensures.units ∙ ap (unit_with NotFinished) (data_known w.in-NotFinished.user_data))
+  | in-Abort w ↦ rw (w.result-is, w.in-Abort.is)
+      (w.abort.ensures.units ∙ ap (unit_with Abort) (abort_known w.in-Abort.transport_disconnect w.in-Abort.user_data))
   | in-AbortAccept w ↦ rw (w.result-is, w.in-AbortAccept.is) (w.abort_accept.ensures.units ∙ ap (unit_with AbortAccept) none_known)
 ]
 

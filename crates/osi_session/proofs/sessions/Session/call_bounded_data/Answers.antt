@@ -6,9 +6,12 @@ use Rattle.osi_session.proofs.sessions.Session.call_bounded_data.Goals as goal
 
 pub returns-in-Ok : goal.returns-in-Ok
 returns-in-Ok c =
-    let a = accepts (size_of c.size_limit.result) _ c.args.self.now (Data c.args.user_data.now) (record { next = c.self.inside.state; sent = DT c.args.user_data.now }) c.size_limit.ensures c.self.view_is c.self.invariant.0 tt c.in_ok-allow_data.ensures.ok in
+    let a = accepts (size_of c.size_limit.result) _ c.args.self.now (Data c.args.user_data.now)
+        (record { next = c.self.inside.state; sent = DT c.args.user_data.now }) c.size_limit.ensures c.self.view_is c.self.invariant.0 tt
+        c.in_ok-allow_data.ensures.ok in
     record {
-      state = rests_by _ c.args.self.now (Data c.args.user_data.now) (DT c.args.user_data.now) c.self.view_is c.self.invariant.3 c.in_ok-allow_data.ensures.ok;
+      state = rests_by _ c.args.self.now (Data c.args.user_data.now) (DT c.args.user_data.now) c.self.view_is c.self.invariant.3
+          c.in_ok-allow_data.ensures.ok;
       sent = c.in-Ok.ensures ∙ a.sends;
       accepted = a.passes;
       sendable = a.sendable;
@@ -16,4 +19,7 @@ returns-in-Ok c =
     }
 
 pub returns-in-Err-clause-refused : goal.returns-in-Err-clause-refused
-returns-in-Err-clause-refused c = (accepts (size_of c.size_limit.result) _ c.args.self.now (Data c.args.user_data.now) (record { next = c.self.inside.state; sent = DT c.args.user_data.now }) c.size_limit.ensures c.self.view_is c.self.invariant.0 tt c.in_ok-allow_data.ensures.ok).passes
+returns-in-Err-clause-refused c =
+    (accepts (size_of c.size_limit.result) _ c.args.self.now (Data c.args.user_data.now)
+    (record { next = c.self.inside.state; sent = DT c.args.user_data.now }) c.size_limit.ensures c.self.view_is c.self.invariant.0 tt
+    c.in_ok-allow_data.ensures.ok).passes

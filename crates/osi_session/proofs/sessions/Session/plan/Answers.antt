@@ -14,11 +14,14 @@ within-requires c = sent_short c.self.inside.state (called_by c.args.request) (s
 pub returns-in-Ok : goal.returns-in-Ok
 returns-in-Ok c =
     let x = step_of c.in_ok-step.step in
-    let a = accepts (size_of c.size_limit.result) _ c.args.self.now (called_by c.args.request) x c.size_limit.ensures c.self.view_is c.self.invariant.0 (request_small c.args.request) c.in_ok-step.ensures in
+    let a = accepts (size_of c.size_limit.result) _ c.args.self.now (called_by c.args.request) x c.size_limit.ensures c.self.view_is
+        c.self.invariant.0 (request_small c.args.request) c.in_ok-step.ensures in
     record {
       state = sym a.leaves;
       sent = c.in-Ok.ensures ∙ a.sends;
-      planned = plan_of (called_by c.args.request) (record { was = c.self.inside.state; next = c.in_ok-step.step.next; sent = c.in-Ok.sent }) x c.in_ok-step.ensures refl (c.in-Ok.ensures ∙ ap (λ (n : ℕ). tsdus_of n x.sent) c.size_limit.ensures);
+      planned = plan_of (called_by c.args.request)
+          (record { was = c.self.inside.state; next = c.in_ok-step.step.next; sent = c.in-Ok.sent }) x c.in_ok-step.ensures refl
+          (c.in-Ok.ensures ∙ ap (λ (n : ℕ). tsdus_of n x.sent) c.size_limit.ensures);
       was = ap (λ (s : Listener). s.state) c.self.view_is;
       accepted = a.passes;
       sendable = a.sendable;
@@ -26,7 +29,9 @@ returns-in-Ok c =
     }
 
 pub returns-in-Err-clause-refused : goal.returns-in-Err-clause-refused
-returns-in-Err-clause-refused c = (accepts (size_of c.size_limit.result) _ c.args.self.now (called_by c.args.request) (step_of c.in_ok-step.step) c.size_limit.ensures c.self.view_is c.self.invariant.0 (request_small c.args.request) c.in_ok-step.ensures).passes
+returns-in-Err-clause-refused c =
+    (accepts (size_of c.size_limit.result) _ c.args.self.now (called_by c.args.request) (step_of c.in_ok-step.step) c.size_limit.ensures
+    c.self.view_is c.self.invariant.0 (request_small c.args.request) c.in_ok-step.ensures).passes
 
 pub invariant_of-result : goal.invariant_of-result
 invariant_of-result c = (

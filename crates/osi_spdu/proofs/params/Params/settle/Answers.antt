@@ -8,4 +8,6 @@ returns-clause-value c = settled_known c.args.self.now _ refl c.tokens_alone-sel
 
 pub returns-clause-settled : goal.returns-clause-settled
 unfolding is_settled
-returns-clause-settled c = and_from _ _ c.tokens_alone-self.ensures.alone (ap has_octets c.some_octets-self.ensures.same ∙ some_there (option_map (λ s. s.now) c.args.self.now.user_data))
+returns-clause-settled c =
+    and_from _ _ c.tokens_alone-self.ensures.alone
+    (ap has_octets c.some_octets-self.ensures.same ∙ some_there (option_map (λ s. s.now) c.args.self.now.user_data))

@@ -5,9 +5,11 @@ use Rattle.osi_spdu.proofs.basics.digits_of_numbers.{IsReading, pow_small, readi
 use Rattle.osi_spdu.proofs.serials.Serial.read.Goals as goal
 
 pub digits-preserved : goal.digits-preserved
-digits-preserved c = reading_step c.args.digits.now c.digits.digit-index c.digits.number _ (omega arith) refl (omega arith) (omega arith) c.digits.invariant
+digits-preserved c = reading_step c.args.digits.now c.digits.digit-index c.digits.number _ (omega arith) refl (omega arith) (omega arith)
+    c.digits.invariant
 
-new_is : (o : Option Serial) (n : ℕ) → MatchOption o (999999 < n) (λ s. (s.number ≡ n) × (n ≤ 999999)) → n ≤ 999999 → option_map (λ s. s.number) o ≡ Some n
+new_is : (o : Option Serial) (n : ℕ) → MatchOption o (999999 < n) (λ s. (s.number ≡ n) × (n ≤ 999999)) → n ≤ 999999 →
+    option_map (λ s. s.number) o ≡ Some n
 new_is None n h le = absurd (omega arith)
 new_is (Some s) n h le = ap {B = Option ℕ} (λ x. Some x) h.0
 

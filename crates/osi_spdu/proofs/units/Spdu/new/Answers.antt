@@ -7,7 +7,8 @@ pub invariant_of-result-clause-formed : goal.invariant_of-result-clause-formed
 invariant_of-result-clause-formed c = subst (λ (k : Known). is_formed c.args.kind k ≡ true) (sym c.settle.ensures.value) c.requires
 
 pub returns-clause-value : goal.returns-clause-value
-returns-clause-value c = λ i. (let unit : Contents = record { kind = c.args.kind; known = c.settle.ensures.value i; information = [] } in unit)
+returns-clause-value c =
+    λ i. (let unit : Contents = record { kind = c.args.kind; known = c.settle.ensures.value i; information = [] } in unit)
 
 pub returns-clause-fits : goal.returns-clause-fits
 returns-clause-fits c =

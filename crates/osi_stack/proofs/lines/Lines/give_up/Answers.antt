@@ -16,10 +16,12 @@ returns c =
     let row = c.index_mut.result.now in
     let some : place_of c.args.reference c.args.self.now ≡ Some c.in-Some.place = sym c.find.ensures ∙ c.in-Some.is in
     let here = c.index_mut.ensures.value ∙ ap (λ (l : Rows Line). get_or l c.in-Some.place row) c.self.view_is in
-    given_rows c.args.reference c.args.self.now c.self.inside.rows.items c.in-Some.place row c.give_up.new.self some here c.self.view_is c.give_up.ensures
+    given_rows c.args.reference c.args.self.now c.self.inside.rows.items c.in-Some.place row c.give_up.new.self some here c.self.view_is
+        c.give_up.ensures
 
 pub invariant_of-self : goal.invariant_of-self
 invariant_of-self c = (
   c.count_waiting-self-inside.ensures ∙ ap how_many_wait c.as_slice.ensures.value,
-  λ e. set_rise 0 c.self.inside.rows.items c.in-Some.place c.index_mut.result.now c.give_up.new.self c.index_mut.ensures.value (ap (λ (x : ℕ × Line). x.0) c.give_up.ensures) (c.self.invariant.1 e),
+  λ e. set_rise 0 c.self.inside.rows.items c.in-Some.place c.index_mut.result.now c.give_up.new.self c.index_mut.ensures.value
+      (ap (λ (x : ℕ × Line). x.0) c.give_up.ensures) (c.self.invariant.1 e),
 )
