@@ -16,7 +16,7 @@ all_entries units ending = packet_entries 0 [] units ++ ending_entry ending ∷ 
 
 pub one_listing : ((s : List ℕ) (us vs : List (List ℕ)) (e f : Ending) → Cuts s us e → Cuts s vs f → (us ≡ vs) × (e ≡ f)) →
     (octets lines others : List ℕ) (status other : ℕ) → IsListing octets lines status → IsListing octets others other →
-        (lines ≡ others) × (status ≡ other)
+    (lines ≡ others) × (status ≡ other)
 unfolding all_entries
 one_listing one octets lines others status other h k =
     let cut = one octets h.units k.units h.ending k.ending h.cut k.cut in
@@ -27,7 +27,7 @@ one_listing one octets lines others status other h k =
 
 pub one_so_far : ((s : List ℕ) (us vs : List (List ℕ)) (e f : Ending) → Cuts s us e → Cuts s vs f → (us ≡ vs) × (e ≡ f)) →
     (octets lines others : List ℕ) (counts other : Counts) → IsListedSoFar octets lines counts → IsListedSoFar octets others other →
-        (lines ≡ others) × (counts ≡ other)
+    (lines ≡ others) × (counts ≡ other)
 one_so_far one octets lines others counts other h k =
     let cut = one octets h.units k.units h.ending k.ending h.cut k.cut in
     let same : entries_so_far h.units h.ending ≡ entries_so_far k.units k.ending = ap₂ entries_so_far cut.0 cut.1 in
@@ -36,9 +36,12 @@ one_so_far one octets lines others counts other h k =
 -- ---- pieces, one after the other
 
 fed_none : (lister : Lister) (before : List ℕ) → Feeds lister [] before before lister
-fed_none lister before = λ octets lines h.
-    ([], sym (append-nil before), subst (λ o. IsFed lister o (lines ++ [])) (sym (append-nil octets))
-        (subst (λ l. IsFed lister octets l) (sym (append-nil lines)) h))
+fed_none lister before = λ octets lines h. (
+  [],
+  sym (append-nil before),
+  subst (λ o. IsFed lister o (lines ++ [])) (sym (append-nil octets))
+      (subst (λ l. IsFed lister octets l) (sym (append-nil lines)) h),
+)
 
 fed_both : (old mid new : Lister) (piece more before text after : List ℕ) → Feeds old piece before text mid →
     Feeds mid more text after new →

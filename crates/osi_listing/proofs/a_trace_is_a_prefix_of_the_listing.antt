@@ -67,11 +67,11 @@ kept k Lines old new octets piece fetched text before lines slice after room str
     let gained : slice ≡ went.0 = same ∙ went.1 ∙ ap (λ (b : List ℕ). b ++ went.0) none in
     subst (λ (given : List ℕ). IsFed new (octets ++ piece) given)
     (append_assoc fetched text went.0 ∙ ap (λ (m : List ℕ). fetched ++ (text ++ m)) (sym gained) ∙
-        ap (λ (a : List ℕ). fetched ++ a) (sym keeps.0)) went.2
+    ap (λ (a : List ℕ). fetched ++ a) (sym keeps.0)) went.2
 kept k Counters old new octets piece fetched text before lines slice after room streams e none same keeps feeds h = absurd keeps
 kept k Nothing old new octets piece fetched text before lines slice after room streams e none same keeps feeds h =
     subst (λ (a : List ℕ). IsListedInPart (octets ++ piece) (fetched ++ a)) (sym keeps.0)
-        (stops_lines k old octets piece (fetched ++ text) e h)
+    (stops_lines k old octets piece (fetched ++ text) e h)
 
 -- a trace that counted, after a piece
 pub counted_on : (k last : Keeping) (old new : Lister) (octets piece given before lines : List ℕ) (streams : ℕ) → k ≡ Counters →

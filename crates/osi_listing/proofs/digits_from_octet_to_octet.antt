@@ -19,7 +19,7 @@ has_lines (c ∷ text) = let e = has_lines text in more_lines (is_line_feed c) c
 -- an octet that does not end a line is added to the first line
 pub goes_on : (c : ℕ) (text : List ℕ) → is_line_feed c ≡ false →
     (line : List ℕ) × (lines : List (List ℕ)) × (slice_split is_line_feed text ≡ line ∷ lines) ×
-        (slice_split is_line_feed (c ∷ text) ≡ (c ∷ line) ∷ lines)
+    (slice_split is_line_feed (c ∷ text) ≡ (c ∷ line) ∷ lines)
 goes_on c text h =
     let e = has_lines text in
     (e.0, e.1, e.2, slice_split-cons_no is_line_feed c text h ∙ ap (onto_first c) e.2)

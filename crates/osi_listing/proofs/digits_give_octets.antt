@@ -24,7 +24,7 @@ nothing_more None = refl
 -- two digits, and the octets after them
 two_digits : (a b i : ℕ) (high low : Option ℕ) (rest : Result (List ℕ) FromHexError) →
     octets_in ((digit_or_error a i high >>= (λ h. digit_or_error b (i + 1) low >>= (λ l. Ok (h * 16 + l))))
-        >>= (λ byte. rest >>= (λ bytes. Ok (byte ∷ bytes))))
+    >>= (λ byte. rest >>= (λ bytes. Ok (byte ∷ bytes))))
     ≡ if_digit high (λ h. if_digit low (λ l. after_octets ((h * 16 + l) ∷ []) (octets_in rest)))
 two_digits a b i None low rest = refl
 two_digits a b i (Some h) None rest = refl
@@ -38,7 +38,7 @@ pairs_give i (a ∷ []) = sym (nothing_more (hex_digit_value a))
 pairs_give i (a ∷ b ∷ rest) =
     two_digits a b i (hex_digit_value a) (hex_digit_value b) (decode_pairs (i + 2) rest)
     ∙ ap (λ o. if_digit (hex_digit_value a) (λ h. if_digit (hex_digit_value b) (λ l. after_octets ((h * 16 + l) ∷ []) o)))
-        (pairs_give (i + 2) rest)
+    (pairs_give (i + 2) rest)
 
 -- an odd number of digits gives nothing
 odd_gives : (s : List ℕ) (r : Result (List ℕ) FromHexError) → decode_pairs 0 s ≡ r → length s % 2 ≡ 1 → octets_in r ≡ None
@@ -126,13 +126,13 @@ two_read a b high low rest h k = digit_read false a high None (b ∷ rest) h ref
 pub front_read : (text : List ℕ) (high low : ℕ) → 2 ≤ length text → hex_digit_value (slice_index text 0) ≡ Some high →
     hex_digit_value (slice_index text 1) ≡ Some low →
     octets_from (digits_of text) None ≡ after_octets ((high * 16 + low) ∷ [])
-        (octets_from (digits_of (take (length text - 2) (drop 2 text))) None)
+    (octets_from (digits_of (take (length text - 2) (drop 2 text))) None)
 front_read [] high low two h k = absurd (omega arith)
 front_read (a ∷ []) high low two h k = absurd (omega arith)
 front_read (a ∷ b ∷ rest) high low two h k =
     two_read a b high low rest h k
     ∙ ap (λ r. after_octets ((high * 16 + low) ∷ []) (octets_from (digits_of r) None))
-        (sym (take_all (length (a ∷ b ∷ rest) - 2) rest (omega arith)))
+    (sym (take_all (length (a ∷ b ∷ rest) - 2) rest (omega arith)))
 
 -- ---- the end of a text
 

@@ -26,7 +26,7 @@ filter-push f (q ∷ parts) p = step (f q) (f p) q (filter f (parts ++ p ∷ [])
 -- one more part adds to its own stream, and to no other
 pub join_of-push : (stream : Option ℕ) (parts : List Part) (p : Part) →
     join_of stream (parts ++ p ∷ []) ≡ cond (is_same_stream stream p.stream) (joined (join_of stream parts) p.end p.octets)
-        (join_of stream parts)
+    (join_of stream parts)
 unfolding join_of
 join_of-push stream parts p =
     let f : Part → Bool = λ q. is_same_stream stream q.stream in
@@ -65,7 +65,7 @@ chosen_two others d destination earlier end octets h (inr other) =
 pub took_two : (first : Join) (others changed : ℕ → Join) (destination : ℕ) (earlier : List Part) (end : Bool) (octets : List ℕ) →
     ((d : ℕ) → changed d ≡ cond (d == destination) (joined (others destination) end octets) (others d)) →
     AreJoins first others earlier →
-        AreJoins first changed (earlier ++ record { stream = Some destination; end = end; octets = octets } ∷ [])
+    AreJoins first changed (earlier ++ record { stream = Some destination; end = end; octets = octets } ∷ [])
 took_two first others changed destination earlier end octets e h = record {
   zero = h.zero ∙ sym (join_of-push None earlier (record { stream = Some destination; end = end; octets = octets }));
   two = λ d. e d ∙ chosen_two others d destination earlier end octets h.two (eqb_tells d destination)

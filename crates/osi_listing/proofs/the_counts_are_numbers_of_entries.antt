@@ -103,9 +103,9 @@ same_counts c d e f g h k = λ i. record { packets = e i; units = f i; tsdus = g
 pub counted_is : (es : List Entry) → counted none es ≡ counts_of es
 counted_is es =
     same_counts (counted none es) (counts_of es) (from_none (λ c. c.packets) is_packet packets_counted es refl)
-        (from_none (λ c. c.units) is_unit units_counted es refl)
+    (from_none (λ c. c.units) is_unit units_counted es refl)
     (from_none (λ c. c.tsdus) is_tsdu tsdus_counted es refl)
-        (from_none (λ c. c.session_units) is_session_unit session_units_counted es refl)
+    (from_none (λ c. c.session_units) is_session_unit session_units_counted es refl)
     (from_none (λ c. c.refused) is_refused refused_counted es refl)
 
 -- ---- whether something was refused

@@ -81,7 +81,7 @@ lists_next old text more was then now unit left others all e line told so_far = 
   said = so_far.said ++ unit ∷ [];
   says = subst (λ es. Says old more was now es) (sym (map-push so_far.said unit))
       (says_both old text more was then now (map SessionUnit so_far.said) (SessionUnit unit ∷ []) so_far.says
-          (says_one text more then now (SessionUnit unit) line told));
+      (says_one text more then now (SessionUnit unit) line told));
   whole = append_assoc so_far.said (unit ∷ []) others ∙ ap (λ (us : Units). so_far.said ++ us) (sym e) ∙ so_far.whole;
 }
 
@@ -89,7 +89,7 @@ pub lists_end : (old text : List ℕ) (was now : Counts) (left all : Units) → 
     Says old text was now (map SessionUnit all)
 lists_end old text was now left all e so_far =
     subst (λ us. Says old text was now (map SessionUnit us))
-        (sym (append-nil so_far.said) ∙ ap (λ (us : Units). so_far.said ++ us) (sym e) ∙ so_far.whole) so_far.says
+    (sym (append-nil so_far.said) ∙ ap (λ (us : Units). so_far.said ++ us) (sym e) ∙ so_far.whole) so_far.says
 
 -- a TSDU, and its session units or their fault
 pub says_tsdu : {A E : Type 0} (r : Result A E) (old mid new octets : List ℕ) (was then now : Counts) (read : Result Units SpduFault)
@@ -131,7 +131,7 @@ then_more (Err x) old mid new was then now entry before entries line told h = tt
 pub then_brought : {A E : Type 0} (r : Result A E) (old mid new : List ℕ) (was then now : Counts) (v : Value) (before : Streams)
     (brought : List Entry) →
     mid ≡ old ++ line_of (TransportUnit v) → then ≡ one_more was (TransportUnit v) →
-        ((e : List Part) → Holds before e → brought ≡ part_entries e (part_of v)) →
+    ((e : List Part) → Holds before e → brought ≡ part_entries e (part_of v)) →
     OnOk r (Says mid new then now brought) →
     OnOk r ((e : List Part) → Holds before e → Says old new was now (TransportUnit v ∷ part_entries e (part_of v)))
 then_brought (Ok x) old mid new was then now v before brought line told same h = λ e k.
@@ -178,7 +178,7 @@ pub advanced_says : (old new : List ℕ) (was now : Counts) (streams : Streams) 
     Advanced old new was now streams left earlier all → Says old new was now (unit_entries earlier all)
 advanced_says old new was now streams left earlier all none a =
     subst (λ es. Says old new was now es) (sym (append-nil a.said) ∙ ap (λ vs. a.said ++ unit_entries a.parts vs) (sym none) ∙ a.entries)
-        a.says
+    a.says
 
 pub advanced_holds : (old new : List ℕ) (was now : Counts) (streams : Streams) (left : List Value) (earlier : List Part)
     (all : List Value) → left ≡ [] →

@@ -63,7 +63,7 @@ listed_longer streams counts offset stream lines rest more h =
 said_so_far : (lines last : List ℕ) (was now : Counts) (units : List (List ℕ)) (ending : List Entry) →
     Says [] lines none was (packet_entries 0 [] units) →
     Says lines last was now ending → (last ≡ flat_map line_of (packet_entries 0 [] units ++ ending)) ×
-        (now ≡ counts_of (packet_entries 0 [] units ++ ending))
+    (now ≡ counts_of (packet_entries 0 [] units ++ ending))
 said_so_far lines last was now units ending h k =
     let both = says_both [] lines last none was now (packet_entries 0 [] units) ending h k in
     (both.text, both.told ∙ counted_is (packet_entries 0 [] units ++ ending))
@@ -87,12 +87,12 @@ stands_so_far stage.Lost work octets lines h = absurd h
 Gained : Work → List ℕ → Option TpktFault → Work → List ℕ → List ℕ → List ℕ → Type 0
 Gained old before fault new after stream lines =
     (more : List ℕ) × (left : List ℕ) × (after ≡ before ++ more) × Listed new.streams new.counts new.offset stream (lines ++ more) left ×
-        Leaves new.cutter left fault
+    Leaves new.cutter left fault
 
 gained : (old new : Work) (before after piece : List ℕ) (fault : Option TpktFault) →
     (IsGoing old.cutter → Goes old before piece fault new after) →
     (octets lines : List ℕ) → length (octets ++ piece) < 2 ^ 64 → StandsAt stage.Going old octets lines →
-        Gained old before fault new after (octets ++ piece) lines
+    Gained old before fault new after (octets ++ piece) lines
 unfolding Gained
 gained old new before after piece fault goes octets lines few h =
     let went = goes h.2.0 in
@@ -115,7 +115,7 @@ on_none s old new before after piece is goes octets lines few h =
 pub on_fault : {A E : Type 0} (r : Result A E) (s : Stage) (old new : Work) (before mid after piece : List ℕ) (f g : TpktFault)
     (counts : Counts) → s ≡ stage.Going →
     (IsGoing old.cutter → Goes old before piece (Some f) new mid) →
-        ((start : ℕ) (octets : List ℕ) → IsFaultOf start octets f → IsFaultOf new.offset octets g) →
+    ((start : ℕ) (octets : List ℕ) → IsFaultOf start octets f → IsFaultOf new.offset octets g) →
     counts ≡ record new.counts { refused = capped (new.counts.refused + 1) } → OnOk r (after ≡ mid ++ fault_line g) →
     OnOk r ((octets lines : List ℕ) → length (octets ++ piece) < 2 ^ 64 → StandsAt s old octets lines →
     (more : List ℕ) × (after ≡ before ++ more) × StandsAt stage.Faulty (record new { counts = counts }) (octets ++ piece) (lines ++ more))
@@ -164,7 +164,7 @@ ends_longer stream rest more f h =
     let b = length-append rest more in
     let same : length stream - length rest ≡ length (stream ++ more) - length (rest ++ more) = omega arith in
     subst (λ n. IsFaultOf (offset_of (0 + n)) (rest ++ more) f) same
-        (fault_longer (offset_of (0 + (length stream - length rest))) rest more f h)
+    (fault_longer (offset_of (0 + (length stream - length rest))) rest more f h)
 
 pub on_behind : (s : Stage) (work : Work) (before piece : List ℕ) → s ≡ stage.Faulty → (octets lines : List ℕ) →
     StandsAt s work octets lines →
@@ -174,15 +174,18 @@ on_behind s work before piece is octets lines h =
     let so_far = was.0 in
     let end = subst (λ e. EndsAt (offset_of (0 + (length octets - length so_far.cut.0))) so_far.cut.0 e) was.2 so_far.cut.2 in
     let same : entries_so_far so_far.units so_far.ending ≡ entries_so_far so_far.units (Faulty was.1) =
-        ap (entries_so_far so_far.units) was.2 in (
+    ap (entries_so_far so_far.units) was.2 in (
       [],
       sym (append-nil before),
       subst (λ (t : Stage). StandsAt t work (octets ++ piece) (lines ++ [])) (sym is) (
         record {
           units = so_far.units;
           ending = Faulty was.1;
-          cut = (so_far.cut.0 ++ piece, packets_longer so_far.units octets so_far.cut.0 piece so_far.cut.1,
-              ends_longer octets so_far.cut.0 piece was.1 end);
+          cut = (
+            so_far.cut.0 ++ piece,
+            packets_longer so_far.units octets so_far.cut.0 piece so_far.cut.1,
+            ends_longer octets so_far.cut.0 piece was.1 end,
+          );
           text = append-nil lines ∙ so_far.text ∙ ap (flat_map line_of) same;
           told = so_far.told ∙ ap counts_of same;
         },
@@ -195,7 +198,7 @@ on_behind s work before piece is octets lines h =
 pub feeds_by : (old new : Lister) (piece before after : List ℕ) → new.octets ≡ old.octets + length piece → new.octets < 2 ^ 64 →
     ((octets lines : List ℕ) → length (octets ++ piece) < 2 ^ 64 → StandsAt old.stage old.work octets lines →
     (more : List ℕ) × (after ≡ before ++ more) × StandsAt new.stage new.work (octets ++ piece) (lines ++ more)) →
-        Feeds old piece before after new
+    Feeds old piece before after new
 feeds_by old new piece before after count few h = λ octets lines fed.
     let size = length-append octets piece in
     let came = fed.counted in
@@ -207,7 +210,7 @@ pub feeds_on : {A E : Type 0} (r : Result A E) (old new : Lister) (piece before 
     new.octets < 2 ^ 64 →
     OnOk r ((octets lines : List ℕ) → length (octets ++ piece) < 2 ^ 64 → StandsAt old.stage old.work octets lines →
     (more : List ℕ) × (after ≡ before ++ more) × StandsAt new.stage new.work (octets ++ piece) (lines ++ more)) →
-        OnOk r (Feeds old piece before after new)
+    OnOk r (Feeds old piece before after new)
 feeds_on (Ok x) old new piece before after count few h = feeds_by old new piece before after count few h
 feeds_on (Err x) old new piece before after count few h = tt
 
@@ -216,7 +219,7 @@ feeds_on (Err x) old new piece before after count few h = tt
 listing_of : (octets lines : List ℕ) (counts : Counts) (so_far : IsListedSoFar octets lines counts) (last : List ℕ) (status : ℕ) →
     last ≡ flat_map line_of (packet_entries 0 [] so_far.units ++ ending_entry so_far.ending ∷ []) →
     list_any is_refused (packet_entries 0 [] so_far.units ++ ending_entry so_far.ending ∷ []) ≡ list_any is_refused
-        (entries_so_far so_far.units so_far.ending) →
+    (entries_so_far so_far.units so_far.ending) →
     status ≡ (if counts.refused == 0 then 0 else 1) → IsListing octets last status
 listing_of octets lines counts so_far last status text same answered = record {
   units = so_far.units;
@@ -258,7 +261,7 @@ finish_going s work octets lines before after left status is h count text answer
 pub finish_faulty : (s : Stage) (work : Work) (octets lines before : List ℕ) (status : ℕ) → s ≡ stage.Faulty →
     StandsAt s work octets lines →
     status ≡ (if work.counts.refused == 0 then 0 else 1) →
-        (last : List ℕ) × (before ≡ before ++ last) × IsListing octets (lines ++ last) status
+    (last : List ℕ) × (before ≡ before ++ last) × IsListing octets (lines ++ last) status
 finish_faulty s work octets lines before status is h answered =
     let was = subst (λ (t : Stage). StandsAt t work octets lines) is h in
     let so_far = was.0 in

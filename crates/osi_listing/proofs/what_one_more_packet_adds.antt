@@ -30,7 +30,7 @@ all_parts-push : (us : List (List ℕ)) (u : List ℕ) → all_parts (us ++ u �
 all_parts-push [] u = append-nil (read_parts (units_of u))
 all_parts-push (v ∷ us) u =
     ap (λ x. read_parts (units_of v) ++ x) (all_parts-push us u) ∙
-        sym (append_assoc (read_parts (units_of v)) (all_parts us) (read_parts (units_of u)))
+    sym (append_assoc (read_parts (units_of v)) (all_parts us) (read_parts (units_of u)))
 
 pub packets_total : (us : List (List ℕ)) (s r : List ℕ) → ArePackets us s r → length s ≡ total_length us + length r
 packets_total [] s r h = let e = ap length h in omega arith
@@ -57,7 +57,7 @@ packet_entries-push : (at : ℕ) (earlier : List Part) (us : List (List ℕ)) (u
 packet_entries-push at earlier [] u =
     let same : at ≡ at + 0 = omega arith in
     append-nil (entries_of at earlier u) ∙ ap (λ n. entries_of n earlier u) same ∙
-        ap (λ ps. entries_of (at + 0) ps u) (sym (append-nil earlier))
+    ap (λ ps. entries_of (at + 0) ps u) (sym (append-nil earlier))
 packet_entries-push at earlier (v ∷ us) u =
     let parts : List Part = read_parts (units_of v) in
     let same : at + packet_length v + total_length us ≡ at + (packet_length v + total_length us) = omega arith in
@@ -65,7 +65,7 @@ packet_entries-push at earlier (v ∷ us) u =
     ∙ sym (append_assoc (entries_of at earlier v) (packet_entries (at + packet_length v) (earlier ++ parts) us)
     (entries_of (at + packet_length v + total_length us) ((earlier ++ parts) ++ all_parts us) u))
     ∙ ap (λ n. (entries_of at earlier v ++ packet_entries (at + packet_length v) (earlier ++ parts) us) ++
-        entries_of n ((earlier ++ parts) ++ all_parts us) u) same
+    entries_of n ((earlier ++ parts) ++ all_parts us) u) same
     ∙ ap (λ ps. (entries_of at earlier v ++ packet_entries (at + packet_length v) (earlier ++ parts) us)
     ++ entries_of (at + (packet_length v + total_length us)) ps u) (append_assoc earlier parts (all_parts us))
 
@@ -118,7 +118,7 @@ moves_packet old new before after rest left u b p parted says holds place = reco
           packets = packets_more h.units stream rest u b left h.packets p parted;
           says = subst (λ es. Says [] (lines ++ more) none new.counts es) entries
               (says_both [] lines (lines ++ more) none old.counts new.counts (packet_entries 0 [] h.units) (entries_of old.offset parts u)
-                  h.says
+              h.says
               (record { text = refl; told = said.told }));
           holds = subst (λ ps. Holds new.streams ps) (sym (all_parts-push h.units u)) (holds parts h.holds);
           place = next_place (length stream) (length rest) (length left) (packet_length u) old.offset new.offset few (omega arith)
@@ -148,7 +148,7 @@ held_partial false used old new piece e part gains going = holds_all old new pie
 
 pub held_whole : (whole : Bool) (used : ℕ) (octets piece : List ℕ) → whole ≡ true →
     MatchBool whole (IsOnePacket (octets ++ take used piece)) (IsPartial (octets ++ take used piece) × (used ≡ length piece)) →
-        IsOnePacket (octets ++ take used piece)
+    IsOnePacket (octets ++ take used piece)
 held_whole true used octets piece e part = part
 held_whole false used octets piece e part = cc
 
@@ -179,7 +179,7 @@ fault_left old new piece f g same known h =
 pub joined_again : (new held piece : List ℕ) (used : ℕ) → new ≡ held ++ take used piece → new ++ drop used piece ≡ held ++ piece
 joined_again new held piece used e =
     ap (λ o. o ++ drop used piece) e ∙ append_assoc held (take used piece) (drop used piece) ∙
-        ap (λ p. held ++ p) (take-append-drop used piece)
+    ap (λ p. held ++ p) (take-append-drop used piece)
 
 pub parted_at : (n used : ℕ) (rest left : List ℕ) → used ≡ n + 4 → left ≡ drop used rest → rest ≡ take (4 + n) rest ++ left
 parted_at n used rest left e back =
@@ -194,7 +194,10 @@ only_held old new before after rest same text =
 pub then_holds : {E : Type 0} (r : Result (Option TpktFault) E) (old mid last new : Work) (a b c piece rest left : List ℕ) →
     Moves old a (old.cutter.octets ++ piece) mid b rest → Moves mid b rest last c left → OnOk r (OnlyHolds last new) →
     IfOk r (λ f. Leaves new.cutter left f) → IfOk r (λ f. Goes old a piece f new c)
-then_holds (Ok f) old mid last new a b c piece rest left one two same leaves =
-    (left, moves_both old mid new a b c (old.cutter.octets ++ piece) rest left one
-        (moves_both mid last new b c c rest left left two (moves_none last new c left same)), leaves)
+then_holds (Ok f) old mid last new a b c piece rest left one two same leaves = (
+  left,
+  moves_both old mid new a b c (old.cutter.octets ++ piece) rest left one
+      (moves_both mid last new b c c rest left left two (moves_none last new c left same)),
+  leaves,
+)
 then_holds (Err e) old mid last new a b c piece rest left one two same leaves = tt

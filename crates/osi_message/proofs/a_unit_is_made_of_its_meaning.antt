@@ -29,25 +29,43 @@ selector_octets selector = option_map (λ s. s.octets.now) selector
 
 pub connect_known : (serial : Option Serial) (setting : TokenSetting) (requirements : Requirements) (calling called : Option Selector)
     (sizes : TsduMaximumSize) (octets : Bor (List ℕ)) →
-    known_of (record no_params { connect_accept_item = true; protocol_options = Some 1; version = Some 2; initial_number = serial;
-        token_setting = Some setting; user_requirements = Some requirements; tsdu_maximum_size = written_sizes sizes; calling_selector =
-        calling; called_selector = called; user_data = Some octets }) ≡ with_data octets.now
-        (put_some CallingSelector (selector_octets calling)
-        (put_some CalledSelector (selector_octets called) (terms (serial_number serial) setting (unit_bits requirements) sizes)))
+    known_of (record no_params {
+      connect_accept_item = true;
+      protocol_options = Some 1;
+      version = Some 2;
+      initial_number = serial;
+      token_setting = Some setting;
+      user_requirements = Some requirements;
+      tsdu_maximum_size = written_sizes sizes;
+      calling_selector =
+          calling;
+      called_selector = called;
+      user_data = Some octets;
+    }) ≡ with_data octets.now
+    (put_some CallingSelector (selector_octets calling)
+    (put_some CalledSelector (selector_octets called) (terms (serial_number serial) setting (unit_bits requirements) sizes)))
 unfolding known_of slots_of cells_of place_of number_of
 connect_known serial setting requirements calling called sizes octets = grind (arith, same_serial)
 
 pub accept_known : (serial : Option Serial) (setting : TokenSetting) (requirements : Requirements) (sizes : TsduMaximumSize)
     (octets : Bor (List ℕ)) →
-    known_of (record no_params { connect_accept_item = true; protocol_options = Some 1; version = Some 2; initial_number = serial;
-        token_setting = Some setting; user_requirements = Some requirements; tsdu_maximum_size = written_sizes sizes; user_data =
-        Some octets }) ≡ with_data octets.now (terms (serial_number serial) setting (unit_bits requirements) sizes)
+    known_of (record no_params {
+      connect_accept_item = true;
+      protocol_options = Some 1;
+      version = Some 2;
+      initial_number = serial;
+      token_setting = Some setting;
+      user_requirements = Some requirements;
+      tsdu_maximum_size = written_sizes sizes;
+      user_data =
+          Some octets;
+    }) ≡ with_data octets.now (terms (serial_number serial) setting (unit_bits requirements) sizes)
 unfolding known_of slots_of cells_of place_of number_of
 accept_known serial setting requirements sizes octets = grind (arith, same_serial)
 
 pub refuse_known : (why : Reason) →
     known_of (record no_params { transport_disconnect = Some 1; reason = Some why }) ≡ put TransportDisconnect (1 ∷ [])
-        (put code.Reason (why.code ∷ why.data_octets.now) nothing)
+    (put code.Reason (why.code ∷ why.data_octets.now) nothing)
 unfolding known_of slots_of cells_of place_of number_of
 refuse_known why = grind arith
 
@@ -58,13 +76,13 @@ data_known octets = grind arith
 
 pub abort_known : (bits : ℕ) (octets : Bor (List ℕ)) →
     known_of (record no_params { transport_disconnect = Some bits; user_data = Some octets }) ≡ with_data octets.now
-        (put TransportDisconnect (bits ∷ []) nothing)
+    (put TransportDisconnect (bits ∷ []) nothing)
 unfolding known_of slots_of cells_of place_of number_of
 abort_known bits octets = grind arith
 
 pub please_known : (tokens : TokenSet) (octets : Bor (List ℕ)) →
     known_of (record no_params { token_item = Some tokens; user_data = Some octets }) ≡ with_data octets.now
-        (put TokenItem (bit_and (bits_of tokens) 85 ∷ []) nothing)
+    (put TokenItem (bit_and (bits_of tokens) 85 ∷ []) nothing)
 unfolding known_of slots_of cells_of place_of number_of
 please_known tokens octets = grind arith
 
@@ -84,20 +102,20 @@ number_known n octets = grind arith
 
 pub open_known : (n : Serial) (octets : Bor (List ℕ)) →
     known_of (record no_params { sync_type = Some Open; number = Some n; user_data = Some octets }) ≡ with_data octets.now
-        (put SyncType (1 ∷ []) (numbered n.number))
+    (put SyncType (1 ∷ []) (numbered n.number))
 unfolding known_of slots_of cells_of place_of number_of
 open_known n octets = grind arith
 
 pub restart_known : (setting : TokenSetting) (kind : ResyncType) (n : Serial) (octets : Bor (List ℕ)) →
     known_of (record no_params { token_setting = Some setting; resync_type = Some kind; number = Some n; user_data = Some octets }) ≡
-        with_data octets.now
-        (put code.TokenSetting (setting_octets setting) (put code.ResyncType (resync_octet kind ∷ []) (numbered n.number)))
+    with_data octets.now
+    (put code.TokenSetting (setting_octets setting) (put code.ResyncType (resync_octet kind ∷ []) (numbered n.number)))
 unfolding known_of slots_of cells_of place_of number_of
 restart_known setting kind n octets = grind arith
 
 pub restart_ack_known : (setting : TokenSetting) (n : Serial) (octets : Bor (List ℕ)) →
     known_of (record no_params { token_setting = Some setting; number = Some n; user_data = Some octets }) ≡ with_data octets.now
-        (put code.TokenSetting (setting_octets setting) (numbered n.number))
+    (put code.TokenSetting (setting_octets setting) (numbered n.number))
 unfolding known_of slots_of cells_of place_of number_of
 restart_ack_known setting n octets = grind arith
 

@@ -66,7 +66,7 @@ pub rest_step : (size : ℕ) (o : List ℕ) → 0 < size → size < length o →
     rest_parts size o ≡ part Middle (take size o) ∷ rest_parts size (drop size o)
 rest_step size o some long =
     ap later_parts (step size o some long) ∙ middle_of (take size o) (all_pieces size (drop size o))
-        (some_piece (length (drop size o)) size (drop size o))
+    (some_piece (length (drop size o)) size (drop size o))
 
 pub rest_end : (size : ℕ) (o : List ℕ) → length o ≤ size → rest_parts size o ≡ part Last o ∷ []
 rest_end size o short = ap later_parts (end_of (length o) size o short)

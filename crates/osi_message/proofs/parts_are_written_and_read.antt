@@ -62,5 +62,5 @@ part_said room again place octets =
     let units = behind_tokens (part_unit place octets) in
     let read : tsdu_at (part_octets place octets) ≡ Ok units =
     ap tsdu_at (sym (part_written place octets)) ∙
-        again units (part_behind place octets) (no_tokens_fit room, (part_fits room place octets, tt)) in
+    again units (part_behind place octets) (no_tokens_fit room, (part_fits room place octets, tt)) in
     ap said_if_read read ∙ ap {B = Result Words SpduFault} Ok (part_units_say place octets)

@@ -87,10 +87,10 @@ pub are_parts : (limit : ℕ) (octets : List ℕ) → is_size limit ≡ true →
 are_parts limit octets size h =
     let w : is_whole limit octets ≡ false = not_true (is_whole limit octets) h in
     subst AreParts
-        (sym (words_parted limit octets h ∙ parts_begin (limit - 7) octets (some_octets limit octets size w)
-        (more_octets limit octets size w)))
+    (sym (words_parted limit octets h ∙ parts_begin (limit - 7) octets (some_octets limit octets size w)
+    (more_octets limit octets size w)))
     (are_later (all_pieces (limit - 7) (drop (limit - 7) octets))
-        (some_piece (length (drop (limit - 7) octets)) (limit - 7) (drop (limit - 7) octets)))
+    (some_piece (length (drop (limit - 7) octets)) (limit - 7) (drop (limit - 7) octets)))
 
 -- ---- the octets of all parts together
 
@@ -180,7 +180,7 @@ full_put limit tsdu (t ∷ tsdus) e some h = (e, h)
 
 full_if : (b : Bool) (size : ℕ) (o : List ℕ) (os : List (List ℕ)) → (b ≡ true → length o ≤ size) → (b ≡ false → size ≤ length o) → IsCons os
     → AreFull (7 + size) (octets_of (later_parts os)) →
-        AreFull (7 + size) (octets_of (later_parts (if b then o ∷ [] else take size o ∷ os)))
+    AreFull (7 + size) (octets_of (later_parts (if b then o ∷ [] else take size o ∷ os)))
 full_if true size o os short long c h = let n = short refl in omega (arith, n)
 full_if false size o os short long c h =
     let n = long refl in let t = length-take size o in
@@ -192,7 +192,7 @@ later_full zero size o some few = omega (arith, few)
 later_full (suc fuel) size o some few =
     let d = length-drop size o in
     full_if (nat_le (length o) size) size o (pieces fuel size (drop size o)) (λ h. leb-true (length o) size h)
-        (λ h. let l = leb-false (length o) size h in omega (arith, l))
+    (λ h. let l = leb-false (length o) size h in omega (arith, l))
     (some_piece fuel size (drop size o)) (later_full fuel size (drop size o) some (omega (arith, few, d, some)))
 
 parts_full : (size : ℕ) (o : List ℕ) → 0 < size → size < length o → AreFull (7 + size) (octets_of (parts_of (all_pieces size o)))
@@ -205,8 +205,8 @@ parts_full size o some long =
 one_full : (limit : ℕ) (octets : List ℕ) → 0 < limit → is_whole limit octets ≡ true → AreFull limit (in_one (DT octets))
 one_full limit octets some h =
     let short : 4 + length octets ≤ limit =
-        leb-true (4 + length octets) limit
-        (size_if (limit == 0) (nat_le (4 + length octets) limit) h (ne_eqb limit 0 (λ e. omega (arith, e, some)))) in
+    leb-true (4 + length octets) limit
+    (size_if (limit == 0) (nat_le (4 + length octets) limit) h (ne_eqb limit 0 (λ e. omega (arith, e, some)))) in
     let w = ap length (data_written octets) in
     omega (arith, short, w)
 
@@ -266,7 +266,7 @@ pieces_are : (fuel size : ℕ) (o : List ℕ) → IsOctets o → AllByRecursion 
 pieces_are zero size o h = (h, tt)
 pieces_are (suc fuel) size o h =
     pieces_if (nat_le (length o) size) o (take size o) (pieces fuel size (drop size o)) h (octets_take size o h)
-        (pieces_are fuel size (drop size o) (octets_drop size o h))
+    (pieces_are fuel size (drop size o) (octets_drop size o h))
 
 later_octets : (os : List (List ℕ)) → AllByRecursion IsOctets os → AllByRecursion IsOctets (octets_of (later_parts os))
 later_octets [] h = tt
@@ -287,5 +287,5 @@ pub sent_octets : (limit : ℕ) (m : Meaning) → IsInOctets m → IsOctets (wri
 unfolding words_sent
 sent_octets limit (DT octets) h k =
     octets_if (is_whole limit octets) (DT octets) (parts_of (all_pieces (limit - 7) octets)) k
-        (parts_octets (all_pieces (limit - 7) octets) (pieces_are (length octets) (limit - 7) octets h))
+    (parts_octets (all_pieces (limit - 7) octets) (pieces_are (length octets) (limit - 7) octets h))
 sent_octets limit _ h k = (k, tt)

@@ -24,20 +24,34 @@ some_there x h = ne_eqb (x % 10 + 48) 48 (λ e. omega arith)
 pub digits_1 : (n : ℕ) → n < 10 → digits_of n ≡ (n % 10 + 48) ∷ []
 unfolding digits_of significant
 digits_1 n to =
-    rw (none_there (n / 100000) (omega arith), none_there (n / 10000) (omega arith), none_there (n / 1000) (omega arith),
-    none_there (n / 100) (omega arith), none_there (n / 10) (omega arith)) refl
+    rw (
+      none_there (n / 100000) (omega arith),
+      none_there (n / 10000) (omega arith),
+      none_there (n / 1000) (omega arith),
+      none_there (n / 100) (omega arith),
+      none_there (n / 10) (omega arith),
+    ) refl
 
 pub digits_2 : (n : ℕ) → 10 ≤ n → n < 100 → digits_of n ≡ (n / 10 % 10 + 48) ∷ (n % 10 + 48) ∷ []
 unfolding digits_of significant
 digits_2 n from to =
-    rw (none_there (n / 100000) (omega arith), none_there (n / 10000) (omega arith), none_there (n / 1000) (omega arith),
-    none_there (n / 100) (omega arith), some_there (n / 10) (omega arith)) refl
+    rw (
+      none_there (n / 100000) (omega arith),
+      none_there (n / 10000) (omega arith),
+      none_there (n / 1000) (omega arith),
+      none_there (n / 100) (omega arith),
+      some_there (n / 10) (omega arith),
+    ) refl
 
 pub digits_3 : (n : ℕ) → 100 ≤ n → n < 1000 → digits_of n ≡ (n / 100 % 10 + 48) ∷ (n / 10 % 10 + 48) ∷ (n % 10 + 48) ∷ []
 unfolding digits_of significant
 digits_3 n from to =
-    rw (none_there (n / 100000) (omega arith), none_there (n / 10000) (omega arith), none_there (n / 1000) (omega arith),
-    some_there (n / 100) (omega arith)) refl
+    rw (
+      none_there (n / 100000) (omega arith),
+      none_there (n / 10000) (omega arith),
+      none_there (n / 1000) (omega arith),
+      some_there (n / 100) (omega arith),
+    ) refl
 
 pub digits_4 : (n : ℕ) → 1000 ≤ n → n < 10000 → digits_of n ≡ (n / 1000 % 10 + 48) ∷ (n / 100 % 10 + 48) ∷ (n / 10 % 10 + 48) ∷
     (n % 10 + 48) ∷ []

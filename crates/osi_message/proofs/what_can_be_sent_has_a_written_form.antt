@@ -57,7 +57,7 @@ with_one slot value known good x u is = with_some slot (Some value) known (one_g
 
 data_values : (b : Bool) (c : Code) (octets v : List ℕ) (known : Known) → is_same c UserData ≡ b
     → (known c ≡ Some v → canonical c v ≡ Some v) →
-        cond b (some_octets (cond b (Some octets) (known c))) (cond b (Some octets) (known c)) ≡ Some v → canonical c v ≡ Some v
+    cond b (some_octets (cond b (Some octets) (known c))) (cond b (Some octets) (known c)) ≡ Some v → canonical c v ≡ Some v
 unfolding canonical
 data_values true c octets v known s is e = subst (λ (d : Code). canonical d v ≡ Some v) (sym (same_true c UserData s)) refl
 data_values false c octets v known s is e = is e
@@ -155,7 +155,7 @@ connect_good : HaveDigits →
     (requirements : ℕ) (serial : Option ℕ) (wishes : TokenSetting) (calling called : Option (List ℕ)) (sizes : TsduMaximumSize)
     (octets : List ℕ)
     → IsSmall serial → IsAddress calling → IsAddress called →
-        IsCanonical (connect_unit requirements serial wishes calling called sizes octets).known
+    IsCanonical (connect_unit requirements serial wishes calling called sizes octets).known
 unfolding number_of
 connect_good digits requirements serial wishes calling called sizes octets small from to =
     with_user_data octets _
@@ -171,7 +171,7 @@ refuse_good : (reason : ℕ) (octets : List ℕ) → IsCanonical (put TransportD
 unfolding canonical number_of
 refuse_good reason octets =
     with_one TransportDisconnect (1 ∷ []) _ refl refl refl
-        (with_one Reason (reason ∷ octets) nothing (reason_good reason octets) refl refl no_value)
+    (with_one Reason (reason ∷ octets) nothing (reason_good reason octets) refl refl no_value)
 
 abort_good : (bits : ℕ) → IsCanonical (put TransportDisconnect (bits ∷ []) nothing)
 unfolding canonical number_of

@@ -32,7 +32,7 @@ item_is : (code : ℕ) (value : List ℕ) → code < 256 → length value < 6553
 item_is code value small few h =
     octets_cons code (length_octets (nat_lt 254 (length value)) (length value) ++ value) small
     (octets_append (length_octets (nat_lt 254 (length value)) (length value)) value
-        (length_part (nat_lt 254 (length value)) (length value) refl few) h)
+    (length_part (nat_lt 254 (length value)) (length value) refl few) h)
 
 item_longer : (code : ℕ) (value : List ℕ) → length value ≤ length (written_item code value)
 item_longer code value = let e = length-append (length_octets (nat_lt 254 (length value)) (length value)) value in omega arith
@@ -170,8 +170,8 @@ digits_are n =
     let four = behind_is (n / 1000) ((n / 100 % 10 + 48) ∷ (n / 10 % 10 + 48) ∷ (n % 10 + 48) ∷ []) three in
     let five = behind_is (n / 10000) ((n / 1000 % 10 + 48) ∷ (n / 100 % 10 + 48) ∷ (n / 10 % 10 + 48) ∷ (n % 10 + 48) ∷ []) four in
     significant_are (six_digits n)
-        (behind_is (n / 100000) ((n / 10000 % 10 + 48) ∷ (n / 1000 % 10 + 48) ∷ (n / 100 % 10 + 48) ∷ (n / 10 % 10 + 48) ∷ (n % 10 + 48) ∷
-        []) five)
+    (behind_is (n / 100000) ((n / 10000 % 10 + 48) ∷ (n / 1000 % 10 + 48) ∷ (n / 100 % 10 + 48) ∷ (n / 10 % 10 + 48) ∷ (n % 10 + 48) ∷
+    []) five)
 
 serial_is : (serial : Option ℕ) → IfSome (option_map digits_of serial) IsOctets
 serial_is None = tt
@@ -233,13 +233,13 @@ unit_known : (m : Meaning) → IsInOctets m → AreKnown (unit_of m).known
 unfolding unit_of
 unit_known (CN version_2 requirements serial wishes calling called sizes octets) h =
     data_known octets _ h.5
-        (some_known CallingSelector calling _ h.1
-        (some_known CalledSelector called _ h.2 (terms_known serial wishes requirements sizes h.0 h.3 h.4)))
+    (some_known CallingSelector calling _ h.1
+    (some_known CalledSelector called _ h.2 (terms_known serial wishes requirements sizes h.0 h.3 h.4)))
 unit_known (AC version_2 requirements serial sides sizes octets) h =
     data_known octets _ h.3 (terms_known serial sides requirements sizes h.0 h.1 h.2)
 unit_known (RF reason octets) h =
     one_known TransportDisconnect (1 ∷ []) _ (octet_is 1 (omega arith))
-        (one_known Reason (reason ∷ octets) nothing (octets_cons reason octets h.0 h.1) none_known)
+    (one_known Reason (reason ∷ octets) nothing (octets_cons reason octets h.0 h.1) none_known)
 unit_known (GT tokens) h = tokens_known tokens
 unit_known (PT tokens octets) h = data_known octets _ h (tokens_known tokens)
 unit_known (MIP confirm n octets) h = data_known octets _ h (sync_known confirm _ (numbered_known n))

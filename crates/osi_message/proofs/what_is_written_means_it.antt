@@ -36,7 +36,7 @@ connect_again : HaveDigits →
     (requirements : ℕ) (serial : Option ℕ) (wishes : TokenSetting) (calling called : Option (List ℕ)) (sizes : TsduMaximumSize)
     (octets : List ℕ)
     → IsSmall serial → meaning (connect_unit requirements serial wishes calling called sizes octets) ≡ CN true requirements serial wishes
-        calling called sizes octets
+    calling called sizes octets
 unfolding meaning number_of
 connect_again digits requirements serial wishes calling called sizes octets small =
     let r = two_again requirements in let n = serial_again digits serial small in
@@ -79,7 +79,7 @@ meaning_again digits _ v small = refl
 said_with_place : (b : Bool) (m : Meaning) → meaning (unit_of m) ≡ m
     → word (unit_of m) ≡ says (meaning (unit_of m))
     → said_by_units (if b then behind_tokens (unit_of m) else alone_units (unit_of m)) ≡ map says
-        (if b then behind (GT no_token) m else alone m)
+    (if b then behind (GT no_token) m else alone m)
 unfolding word meaning number_of
 said_with_place true m e w = ap (λ (u : Word). says (GT no_token) ∷ u ∷ []) (w ∙ ap says e)
 said_with_place false m e w = ap (λ (u : Word). u ∷ []) (w ∙ ap says e)

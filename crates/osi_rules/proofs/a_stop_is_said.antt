@@ -79,7 +79,7 @@ to_one : (d : Direction) (p : ℕ) (c : Connection) (v : Value) (s : State) → 
 to_one d p c v s e =
     let f = found_on d s c v in
     then_says d (reach_of (class_for d s.course) f) (course_after d c v (is_applied f) s.course) s.course e
-        (keeps d c v (is_applied f) s.course e)
+    (keeps d c v (is_applied f) s.course e)
 
 at_one : (d : Direction) (v : Value) (s : State) (p : ℕ) (c : Option Connection) → IsSaid d s (at_found d v s p c)
 at_one d v s p None e = to_unnamed d v s e

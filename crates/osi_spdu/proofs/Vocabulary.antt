@@ -31,8 +31,20 @@ pub use Rattle.osi_spdu.specs.Params.{count_of, filled, has_octets, lent_len, no
 unfoldable pub use Rattle.osi_spdu.specs.Params.{cells_of, is_settled, known_of, place_of, slots_of}
 pub use Rattle.osi_spdu.specs.Reading.{Gives, Measured, Next, Placed, Taking, code_among, contents_of, continued, counted_at, crowded}
 pub use Rattle.osi_spdu.specs.Reading.{ended, judged, member_taken, next_if, parameter_taken, params_of, placed_kind, takes_rest, ◌>>=◌}
-unfoldable pub use Rattle.osi_spdu.specs.Reading.{all_there, behind_at, in_group, in_unit, long_at, measured_at, next_at, parameter_at,
-    params_at, stored, tsdu_at, unit_at}
+unfoldable pub use Rattle.osi_spdu.specs.Reading.{
+  all_there,
+  behind_at,
+  in_group,
+  in_unit,
+  long_at,
+  measured_at,
+  next_at,
+  parameter_at,
+  params_at,
+  stored,
+  tsdu_at,
+  unit_at,
+}
 pub use Rattle.osi_spdu.specs.Spelling.{AreBehind, AreUnits, EndsTsdu, GroupOf, HasInformation, HasLength, IsAll, IsPart, KnownOf}
 pub use Rattle.osi_spdu.specs.Spelling.{MayFollow, MemberOf, ParameterOf, Part, Sole, Spells, SpellsUnit, item_octets, length_octets, only}
 pub use Rattle.osi_spdu.specs.Spelling.{part_octets}
@@ -46,8 +58,16 @@ unfoldable pub use Rattle.osi_spdu.specs.Values.{canonical, canonical_in, decima
 pub use Rattle.osi_spdu.specs.Writing.{IsCanonical, IsFormedTsdu, IsFormedUnit, TsduFits, UnitFits, among, is_enclosed, is_informed}
 pub use Rattle.osi_spdu.specs.Writing.{is_zero, may_be_there, member_octets, members_octets, parameter_octets, value_len, value_octets}
 pub use Rattle.osi_spdu.specs.Writing.{written_item}
-unfoldable pub use Rattle.osi_spdu.specs.Writing.{body_octets, free_len, group_octets, is_formed, is_joined, tsdu_octets, unit_octets,
-    written_code}
+unfoldable pub use Rattle.osi_spdu.specs.Writing.{
+  body_octets,
+  free_len,
+  group_octets,
+  is_formed,
+  is_joined,
+  tsdu_octets,
+  unit_octets,
+  written_code,
+}
 pub use Rattle.osi_spdu.specs.declared.behind.Behind.{Behind}
 pub use Rattle.osi_spdu.specs.declared.codes.Code.{Code}
 pub use Rattle.osi_spdu.specs.declared.codes.Code.TheVariants.{AdditionalReference, CalledReference, CalledSelector, CallingReference}

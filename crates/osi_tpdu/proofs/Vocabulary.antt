@@ -17,9 +17,29 @@ pub use Rattle.osi_tpdu.specs.Faults.{StandsBefore, Transfer, code_of, place_of}
 pub use Rattle.osi_tpdu.specs.Packet.{AreLeads, AreUnits, Follows, IsFirstFault}
 unfoldable pub use Rattle.osi_tpdu.specs.Packet.{units_at, units_of}
 pub use Rattle.osi_tpdu.specs.Reading.{all_skipped_at, known_at, no_parameters, reference_at, used_by, ◌>>=◌}
-unfoldable pub use Rattle.osi_tpdu.specs.Reading.{acknowledge_of, confirm_of, connect_of, disconnect_of, disconnected_of, error_of,
-    header_at, is_lead_code, parameter_at, parameters_at, request_of, skipped_at, transfer_of, unit_at, value_of, with_additional,
-    with_alternative, with_called, with_calling, with_parameter, with_size}
+unfoldable pub use Rattle.osi_tpdu.specs.Reading.{
+  acknowledge_of,
+  confirm_of,
+  connect_of,
+  disconnect_of,
+  disconnected_of,
+  error_of,
+  header_at,
+  is_lead_code,
+  parameter_at,
+  parameters_at,
+  request_of,
+  skipped_at,
+  transfer_of,
+  unit_at,
+  value_of,
+  with_additional,
+  with_alternative,
+  with_called,
+  with_calling,
+  with_parameter,
+  with_size,
+}
 unfoldable pub use Rattle.osi_tpdu.specs.Rest.{can_be_read, rest_at}
 pub use Rattle.osi_tpdu.specs.Spelling.{IsHeader, Item, Means, Spells, below_bit, connect_part, item_octets, single, two, values_of}
 pub use Rattle.osi_tpdu.specs.Value.{AreParameters, Connect, HasFieldsInRange, IsConnect, IsReference, Parameters, Value, acknowledge}

@@ -122,7 +122,7 @@ connect_found at half header user c code octets behind e =
     let e5 : o5 ≡ 16 * (o5 / 16) + o5 % 16 = omega arith in
     let made = content header p user in
     let pieces : o0 ∷ two (reference_at 1 header) ++ two (reference_at 3 header) ++
-        (o5 ∷ drop 6 header) ≡ connect_part (16 * half) (reference_at 1 header) made ++ flat_map item_octets f.0 =
+    (o5 ∷ drop 6 header) ≡ connect_part (16 * half) (reference_at 1 header) made ++ flat_map item_octets f.0 =
     λ i. e0 i ∷ two (reference_at 1 header) ++ two (reference_at 3 header) ++ (e5 i ∷ f.1 i) in
     subst (λ (c' : Connect). ConnectRead (16 * half) header user c') (ok_is made c b.2) (record {
       items = f.0;
@@ -204,7 +204,7 @@ data2_found header behind code len octets back =
     let e3 = bit_above o3 (octets 3) in
     let none = drop_all 4 header (omega arith) in
     let pieces : get_or header 0 0 ∷ two (reference_at 1 header) ++ (o3 ∷ drop 4 header) ≡ 0xF0 ∷ [] ++ two (reference_at 1 header) ++
-        (below_bit (leb 128 o3) (o3 % 128) ∷ []) =
+    (below_bit (leb 128 o3) (o3 % 128) ∷ []) =
     λ i. code i ∷ two (reference_at 1 header) ++ (e3 i ∷ none i) in
     record {
       fields = front_four header octets (omega arith) ∙ pieces;
@@ -236,7 +236,7 @@ acknowledge_found at header behind code v octets back e =
     let e3 = bit_above o3 (octets 3) in
     let none = drop_all 4 header (omega arith) in
     let pieces : o0 ∷ two (reference_at 1 header) ++ (o3 ∷ drop 4 header) ≡ (0x60 + o0 % 16) ∷ [] ++ two (reference_at 1 header) ++
-        (below_bit (leb 128 o3) (o3 % 128) ∷ []) =
+    (below_bit (leb 128 o3) (o3 % 128) ∷ []) =
     λ i. e0 i ∷ two (reference_at 1 header) ++ (e3 i ∷ none i) in
     subst (λ (w : Value). IsRead w header behind) (ok_is made v a.1) (record {
       fields = (leb 128 o3, front_four header octets (omega arith) ∙ pieces);
@@ -252,7 +252,7 @@ error_found at header behind code v octets back e =
     let b = bind_ok (all_skipped_at (at + 5) (drop 4 header)) (λ skipped. Ok made) v a.1 in
     let f = skipped_found (at + 5) (drop 4 header) (octets_drop 4 header octets) b.1 in
     let pieces : get_or header 0 0 ∷ two (reference_at 1 header) ++ (get_or header 3 0 ∷ drop 4 header) ≡ 0x70 ∷ [] ++
-        two (reference_at 1 header) ++ (get_or header 3 0 ∷ []) ++ flat_map item_octets f.0 =
+    two (reference_at 1 header) ++ (get_or header 3 0 ∷ []) ++ flat_map item_octets f.0 =
     λ i. code i ∷ two (reference_at 1 header) ++ (get_or header 3 0 ∷ f.1 i) in
     subst (λ (w : Value). IsRead w header behind) (ok_is made v b.2) (record {
       fields = (f.0, front_four header octets (ltb-false _ _ a.0) ∙ pieces);
@@ -303,8 +303,14 @@ connect_only at code destination c items fits means even =
     let class : (16 * c.class + c.options) / 16 ≡ c.class = omega (arith, fits.options) in
     let options : (16 * c.class + c.options) % 16 ≡ c.options = omega (arith, fits.options) in
     rw (long, known)
-        (λ i. Ok (record { credit = credit i; source = source i; class = class i; options = options i; parameters = c.parameters;
-        user = c.user }))
+    (λ i. Ok (record {
+      credit = credit i;
+      source = source i;
+      class = class i;
+      options = options i;
+      parameters = c.parameters;
+      user = c.user;
+    }))
 
 request_only : (at : ℕ) (header behind : List ℕ) (destination : ℕ) (c : Connect) (items : List Item) →
     header ≡ connect_part 0xE0 destination c ++ flat_map item_octets items → IsConnect c → Means c.parameters items
@@ -326,7 +332,7 @@ confirm_only at header behind destination c items header_is fits means user =
 
 disconnect_only : (at : ℕ) (destination source reason : ℕ) (user : List ℕ) (items : List Item)
     → value_of at (0x80 ∷ [] ++ two destination ++ two source ++ (reason ∷ []) ++ flat_map item_octets items) user ≡ Ok
-        (disconnect destination source reason user)
+    (disconnect destination source reason user)
 unfolding value_of disconnect_of
 disconnect_only at destination source reason user items = grind (arith, le-ltb, two_again, skipped_only)
 
@@ -351,7 +357,7 @@ data2_only at destination number end user lt =
 
 acknowledge_only : (at credit destination number : ℕ) (ignored : Bool) (behind : List ℕ) → credit < 16 → number < 128
     → value_of at ((0x60 + credit) ∷ [] ++ two destination ++ (below_bit ignored number ∷ [])) behind ≡ Ok
-        (acknowledge credit destination number)
+    (acknowledge credit destination number)
 unfolding value_of acknowledge_of
 acknowledge_only at credit destination number ignored behind fits lt =
     let code : (0x60 + credit) / 16 ≡ 6 = omega arith in
@@ -371,17 +377,17 @@ value_only at (request c) header behind f r user = request_only at header behind
 value_only at (confirm destination c) header behind f r user = confirm_only at header behind destination c f.0 f.2 r.1 f.1 user
 value_only at (disconnect destination source reason user) header behind f r e =
     ap (λ (h : List ℕ). value_of at h behind) f.1 ∙
-        ap (λ (u : List ℕ). value_of at (0x80 ∷ [] ++ two destination ++ two source ++ (reason ∷ []) ++ flat_map item_octets f.0) u)
-        (sym e) ∙ disconnect_only at destination source reason user f.0
+    ap (λ (u : List ℕ). value_of at (0x80 ∷ [] ++ two destination ++ two source ++ (reason ∷ []) ++ flat_map item_octets f.0) u)
+    (sym e) ∙ disconnect_only at destination source reason user f.0
 value_only at (disconnected destination source) header behind f r e = ap (λ (h : List ℕ). value_of at h behind) f ∙
     disconnected_only at destination source behind
 value_only at (data0 end user) header behind f r e =
     ap (λ (h : List ℕ). value_of at h behind) f.2 ∙ ap (λ (u : List ℕ). value_of at (0xF0 ∷ below_bit end f.0 ∷ []) u) (sym e) ∙
-        data0_only at f.0 end user f.1
+    data0_only at f.0 end user f.1
 value_only at (data2 destination number end user) header behind f r e =
     ap (λ (h : List ℕ). value_of at h behind) f ∙
-        ap (λ (u : List ℕ). value_of at (0xF0 ∷ [] ++ two destination ++ (below_bit end number ∷ [])) u) (sym e) ∙
-        data2_only at destination number end user r.1
+    ap (λ (u : List ℕ). value_of at (0xF0 ∷ [] ++ two destination ++ (below_bit end number ∷ [])) u) (sym e) ∙
+    data2_only at destination number end user r.1
 value_only at (acknowledge credit destination number) header behind f r e =
     ap (λ (h : List ℕ). value_of at h behind) f.1 ∙ acknowledge_only at credit destination number f.0 behind r.0 r.2
 value_only at (error destination cause) header behind f r e = ap (λ (h : List ℕ). value_of at h behind) f.1 ∙
@@ -450,7 +456,7 @@ only_with : (at : ℕ) (v : Value) (x y : List ℕ) (may : Bool) → may_be_foll
 only_with at v x y true may s f =
     let none = lead_user v may in
     let front : x ≡ length s.header ∷ s.header = s.whole ∙ ap (λ (u : List ℕ). length s.header ∷ s.header ++ u) none ∙
-        ap (λ (h : List ℕ). length s.header ∷ h) (append-nil s.header) in
+    ap (λ (h : List ℕ). length s.header ∷ h) (append-nil s.header) in
     let user : user_data v ≡ cond (may_be_followed v) [] y = rw may none in
     let read = read_again at v s.header y s.fields s.in_range s.counted user in
     let n-is : cond (may_be_followed v) (1 + length s.header) (length (length s.header ∷ s.header ++ y)) ≡ length x =

@@ -16,7 +16,7 @@ data0_only : (last : ℕ) (user : List ℕ) → units_of (2 ∷ 240 ∷ last ∷
 unfolding unit_at value_of transfer_of
 data0_only last user =
     let header : header_at 0 (2 ∷ 240 ∷ last ∷ user) ≡ Ok (240 ∷ last ∷ [], user) =
-        header_again 0 (240 ∷ last ∷ []) user (omega arith) (omega arith) in
+    header_again 0 (240 ∷ last ∷ []) user (omega arith) (omega arith) in
     only_unit (data0 (leb 128 last) user) (2 ∷ 240 ∷ last ∷ user) (rw header refl)
 
 data2_only : (high low last : ℕ) (user : List ℕ) →
@@ -25,7 +25,7 @@ unfolding unit_at value_of transfer_of
 data2_only high low last user =
     let front = 240 ∷ high ∷ low ∷ last ∷ [] in
     let header : header_at 0 (4 ∷ 240 ∷ high ∷ low ∷ last ∷ user) ≡ Ok (front, user) =
-        header_again 0 front user (omega arith) (omega arith) in
+    header_again 0 front user (omega arith) (omega arith) in
     only_unit (data2 (256 * high + low) (last % 128) (leb 128 last) user) (4 ∷ 240 ∷ high ∷ low ∷ last ∷ user) (rw header refl)
 
 ack_only : (first high low last : ℕ) → first / 16 ≡ 6 →
@@ -70,7 +70,7 @@ data2_read (x ∷ y ∷ high ∷ []) long a b = absurd (omega arith)
 data2_read (x ∷ y ∷ high ∷ low ∷ []) long a b = absurd (omega arith)
 data2_read (x ∷ y ∷ high ∷ low ∷ last ∷ user) long a b =
     ap (λ n. units_of (n ∷ y ∷ high ∷ low ∷ last ∷ user)) a ∙ ap (λ n. units_of (4 ∷ n ∷ high ∷ low ∷ last ∷ user)) b ∙
-        data2_only high low last user
+    data2_only high low last user
     ∙ ap (λ u. Ok (data2 (256 * high + low) (last % 128) (leb 128 last) u ∷ [])) (behind 5 (x ∷ y ∷ high ∷ low ∷ last ∷ user))
 
 pub ack_read : (packet : List ℕ) → length packet ≡ 5 → get_or packet 0 0 ≡ 4 → get_or packet 1 0 / 16 ≡ 6 →
@@ -110,7 +110,7 @@ pub data2_again : (destination number : ℕ) (end : Bool) (user : List ℕ) → 
     units_of (written (data2 destination number end user)) ≡ Ok (data2 destination number end user ∷ [])
 data2_again destination number end user d n octets =
     units_only (written (data2 destination number end user)) (data2 destination number end user ∷ [])
-        (data2_spelled destination number end user d n octets)
+    (data2_spelled destination number end user d n octets)
 
 pub ack_spelled : (credit destination number : ℕ) → credit < 16 → destination < 65536 → number < 128 →
     Spells (acknowledge credit destination number) (written (acknowledge credit destination number))

@@ -167,9 +167,12 @@ parameter_found at s x octets e =
     let whole : s ≡ item_octets (item made.0 made.1) ++ made.2 =
     parts ∙ ap (λ (k : ℕ). get_or s 0 0 ∷ k ∷ (take n (drop 2 s) ++ drop n (drop 2 s))) (sym len) in
     subst (λ (y : Piece). (s ≡ item_octets (item y.0 y.1) ++ y.2) × IsOctets y.1 × IsOctets y.2 × (length y.2 < length s))
-        (ok_is made x a.1)
-    (whole, octets_take n (drop 2 s) (octets_drop 2 s octets), octets_drop n (drop 2 s) (octets_drop 2 s octets),
-        omega (arith, length-drop n (drop 2 s), length-drop 2 s))
+    (ok_is made x a.1) (
+      whole,
+      octets_take n (drop 2 s) (octets_drop 2 s octets),
+      octets_drop n (drop 2 s) (octets_drop 2 s octets),
+      omega (arith, length-drop n (drop 2 s), length-drop 2 s),
+    )
 
 -- what the octets hold
 pub record Found (p : Parameters) (s : List ℕ) (m : Parameters) : Type 0 where
@@ -207,10 +210,18 @@ pub known_found : (at : ℕ) (s : List ℕ) (m : Parameters) → IsOctets s → 
     → (items : List Item) × (s ≡ flat_map item_octets items) × Means m items × AreParameters m
 known_found at s m octets e =
     let none : AreParameters no_parameters = record { size = tt; calling = tt; called = tt; additional = tt; alternative = tt } in
-    let f = parameters_found (length s) at no_parameters s m (omega arith) octets none e in
-    (f.items, f.spelled,
-        record { size = f.adds Size; calling = f.adds Calling; called = f.adds Called; additional = f.adds Additional;
-        alternative = f.adds Alternative }, f.fits)
+    let f = parameters_found (length s) at no_parameters s m (omega arith) octets none e in (
+      f.items,
+      f.spelled,
+      record {
+        size = f.adds Size;
+        calling = f.adds Calling;
+        called = f.adds Called;
+        additional = f.adds Additional;
+        alternative = f.adds Alternative;
+      },
+      f.fits,
+    )
 
 skipped_found_with : (n at : ℕ) (s : List ℕ) → length s ≤ n → IsOctets s → skipped_at n at s ≡ Ok tt →
     (items : List Item) × (s ≡ flat_map item_octets items)
@@ -268,8 +279,13 @@ same_parameters p m a =
     let same = λ (k : Parameter). Gains-same (code_of k) (slot k p) (slot k m) (a k) in
     let size = single-injective p.size m.size (same Size) in
     let additional = single-injective p.additional m.additional (same Additional) in
-    λ i. record { size = size i; calling = same Calling i; called = same Called i; additional = additional i;
-        alternative = same Alternative i }
+    λ i. record {
+      size = size i;
+      calling = same Calling i;
+      called = same Called i;
+      additional = additional i;
+      alternative = same Alternative i;
+    }
 
 -- items after one with another code
 Gains-past : (code : ℕ) (i : Item) (items : List Item) (o new : Option (List ℕ)) → eqb i.code code ≡ false → Gains code o (i ∷ items) new →

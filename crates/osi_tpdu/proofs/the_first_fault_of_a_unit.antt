@@ -29,7 +29,7 @@ abbrev kind_named : ℕ → Option Kind
 kind_named code =
     cond (eqb (code / 16) 0xE) (Some Request) (cond (eqb (code / 16) 0xD) (Some Confirm) (cond (eqb (code / 16) 0x6) (Some Acknowledge)
     (cond (eqb code 0x80) (Some Disconnect)
-        (cond (eqb code 0xC0) (Some Disconnected) (cond (eqb code 0xF0) (Some Transfer) (cond (eqb code 0x70) (Some Report) None))))))
+    (cond (eqb code 0xC0) (Some Disconnected) (cond (eqb code 0xF0) (Some Transfer) (cond (eqb code 0x70) (Some Report) None))))))
 
 named_kind : (kind : Kind) (code : ℕ) → HasCode kind code → kind_named code ≡ Some kind
 named_kind Request code h = (let half : code / 16 ≡ 14 = omega (arith, h.1, h.2) in rw half refl)
@@ -106,11 +106,11 @@ parameters_only at b fixed s kind r u counts behind =
             let headers : x ++ t ≡ fixed ++ s = same_header b (x ++ t) p.3.behind (fixed ++ s) u.behind p.3.there u.there in
             let kinds : p.0 ≡ kind = same_unit (λ k o. p.0 ≡ k) p.0 kind b (x ++ t) (fixed ++ s) p.3 u refl in
             let len : length x ≡ length fixed =
-                behind_one kind (length x) (length fixed) (subst (λ (k : Kind). HasParametersBehind k (length x)) kinds p.4) behind in
+            behind_one kind (length x) (length fixed) (subst (λ (k : Kind). HasParametersBehind k (length x)) kinds p.4) behind in
             let there : HasParameterFault kind (at + (1 + length x)) t f =
-                subst (λ (k : Kind). HasParameterFault k (at + (1 + length x)) t f) kinds p.5 in
+            subst (λ (k : Kind). HasParameterFault k (at + (1 + length x)) t f) kinds p.5 in
             let moved : HasParameterFault kind (at + (1 + length fixed)) t f =
-                subst (λ (n : ℕ). HasParameterFault kind (at + (1 + n)) t f) len there in
+            subst (λ (n : ℕ). HasParameterFault kind (at + (1 + n)) t f) len there in
             subst (λ (o : List ℕ). HasParameterFault kind (at + (1 + length fixed)) o f) (same_front x fixed t s len headers) moved
       ]
     ])
@@ -123,7 +123,7 @@ behind_judged at n b header kind r long u counts behind j =
     let parts : header ≡ take n header ++ drop n header = sym (take-append-drop n header) in
     let len : length (take n header) ≡ n = length-take-le n header long in
     parameters_only at b (take n header) (drop n header) kind r (subst (λ (o : List ℕ). BeginsUnit kind b o) parts u)
-        (subst (λ (o : List ℕ). MayCount kind (length o)) parts counts)
+    (subst (λ (o : List ℕ). MayCount kind (length o)) parts counts)
     (subst (λ (k : ℕ). HasParametersBehind kind k) (sym len) behind)
     (subst (λ (k : ℕ). Judges (HasParameterFault kind (at + (1 + k)) (drop n header)) r) (sym len) j)
 
@@ -152,7 +152,7 @@ connect_judged : (at : ℕ) (b header user : List ℕ) (kind : Kind) → IsOctet
 unfolding connect_of
 connect_judged at b header user kind octets u looks counts long behind =
     judges_cond (HasFault at b) (ltb (length header) 6) (Err (BadLi at)) _
-        (λ e. li_first at b (inr (kind, header, u, λ c. too_short (length header) 6 e (long c))))
+    (λ e. li_first at b (inr (kind, header, u, λ c. too_short (length header) 6 e (long c))))
     (λ e.
     let le : 6 ≤ length header = ltb-false (length header) 6 e in
     let j = parameters_judged kind (at + 7) (drop 6 header) looks (octets_drop 6 header octets) in
@@ -172,19 +172,19 @@ confirm_judged : (at : ℕ) (b header user : List ℕ) → IsOctets header → B
 unfolding confirm_of
 confirm_judged at b header user octets u =
     judges_map (HasFault at b) (connect_of at header user) (confirm (reference_at 1 header))
-        (connect_judged at b header user Confirm octets u tt (λ le. le) (λ le. le) refl)
+    (connect_judged at b header user Confirm octets u tt (λ le. le) (λ le. le) refl)
 
 disconnect_judged : (at : ℕ) (b header user : List ℕ) → IsOctets header → BeginsUnit Disconnect b header →
     Judges (HasFault at b) (disconnect_of at header user)
 unfolding disconnect_of
 disconnect_judged at b header user octets u =
     judges_cond (HasFault at b) (ltb (length header) 6) (Err (BadLi at)) _
-        (λ e. li_first at b (inr (Disconnect, header, u, too_short (length header) 6 e)))
+    (λ e. li_first at b (inr (Disconnect, header, u, too_short (length header) 6 e)))
     (λ e.
     let le : 6 ≤ length header = ltb-false (length header) 6 e in
     let j = skips_judged Disconnect (at + 7) (drop 6 header) (λ no. no) (octets_drop 6 header octets) in
     judges_map (HasFault at b) (all_skipped_at (at + 7) (drop 6 header))
-        (λ skipped. disconnect (reference_at 1 header) (reference_at 3 header) (get_or header 5 0) user)
+    (λ skipped. disconnect (reference_at 1 header) (reference_at 3 header) (get_or header 5 0) user)
     (behind_judged at 6 b header Disconnect (all_skipped_at (at + 7) (drop 6 header)) le u le refl
     (offset_moved Disconnect (at + 7) (at + (1 + 6)) (drop 6 header) (all_skipped_at (at + 7) (drop 6 header)) (omega arith) j)))
 
@@ -192,7 +192,7 @@ error_judged : (at : ℕ) (b header : List ℕ) → IsOctets header → BeginsUn
 unfolding error_of
 error_judged at b header octets u =
     judges_cond (HasFault at b) (ltb (length header) 4) (Err (BadLi at)) _
-        (λ e. li_first at b (inr (Report, header, u, too_short (length header) 4 e)))
+    (λ e. li_first at b (inr (Report, header, u, too_short (length header) 4 e)))
     (λ e.
     let le : 4 ≤ length header = ltb-false (length header) 4 e in
     let j = skips_judged Report (at + 5) (drop 4 header) (λ no. no) (octets_drop 4 header octets) in
@@ -205,15 +205,15 @@ unfolding disconnected_of
 disconnected_judged at b header u =
     judges_cond (HasFault at b) (eqb (length header) 5) (Ok (disconnected (reference_at 1 header) (reference_at 3 header))) (Err (BadLi at))
     (λ e. plain_fine at b header Disconnected u (eqb-true (length header) 5 e) (λ n no. no))
-        (λ e. li_first at b (inr (Disconnected, header, u, eqb-false (length header) 5 e)))
+    (λ e. li_first at b (inr (Disconnected, header, u, eqb-false (length header) 5 e)))
 
 acknowledge_judged : (at : ℕ) (b header : List ℕ) → BeginsUnit Acknowledge b header → Judges (HasFault at b) (acknowledge_of at header)
 unfolding acknowledge_of
 acknowledge_judged at b header u =
     judges_cond (HasFault at b) (eqb (length header) 4)
-        (Ok (acknowledge (get_or header 0 0 % 16) (reference_at 1 header) (get_or header 3 0 % 128))) (Err (BadLi at))
+    (Ok (acknowledge (get_or header 0 0 % 16) (reference_at 1 header) (get_or header 3 0 % 128))) (Err (BadLi at))
     (λ e. plain_fine at b header Acknowledge u (eqb-true (length header) 4 e) (λ n no. no))
-        (λ e. li_first at b (inr (Acknowledge, header, u, eqb-false (length header) 4 e)))
+    (λ e. li_first at b (inr (Acknowledge, header, u, eqb-false (length header) 4 e)))
 
 neither : (n : ℕ) → eqb n 2 ≡ false → eqb n 4 ≡ false → (n ≡ 2) ⊎ (n ≡ 4) → ⊥
 neither n a b h = grind (arith, eqb-false)
@@ -222,11 +222,11 @@ transfer_judged : (at : ℕ) (b header user : List ℕ) → BeginsUnit Transfer 
 unfolding transfer_of
 transfer_judged at b header user u =
     judges_cond (HasFault at b) (eqb (length header) 2) (Ok (data0 (leb 128 (get_or header 1 0)) user)) _
-        (λ e. plain_fine at b header Transfer u (inl (eqb-true (length header) 2 e)) (λ n no. no))
+    (λ e. plain_fine at b header Transfer u (inl (eqb-true (length header) 2 e)) (λ n no. no))
     (λ e. judges_cond (HasFault at b) (eqb (length header) 4)
-        (Ok (data2 (reference_at 1 header) (get_or header 3 0 % 128) (leb 128 (get_or header 3 0)) user)) (Err (BadLi at))
+    (Ok (data2 (reference_at 1 header) (get_or header 3 0 % 128) (leb 128 (get_or header 3 0)) user)) (Err (BadLi at))
     (λ d. plain_fine at b header Transfer u (inr (eqb-true (length header) 4 d)) (λ n no. no))
-        (λ d. li_first at b (inr (Transfer, header, u, neither (length header) e d))))
+    (λ d. li_first at b (inr (Transfer, header, u, neither (length header) e d))))
 
 -- ---- any code
 
@@ -245,7 +245,7 @@ code_first : (at : ℕ) (b header behind : List ℕ) → HasHeader b header behi
     IsFirst (HasFault at b) (UnknownCode (at + 1))
 code_first at b header behind there unknown =
     let none = λ (kind : Kind) (h : List ℕ) (u : BeginsUnit kind b h). unknown kind
-        (subst (λ (o : List ℕ). HasCode kind (get_or o 0 0)) (same_header b h u.behind header behind u.there there) u.code) in
+    (subst (λ (o : List ℕ). HasCode kind (get_or o 0 0)) (same_header b h u.behind header behind u.there there) u.code) in
     record {
       there = inr (inl (refl, (header, behind, there, unknown)));
       first = λ f h. elim h [
@@ -273,23 +273,23 @@ value_judged at b header behind octets there =
     let P : TpduFault → Type 0 = HasFault at b in
     let code = get_or header 0 0 in
     let begins = λ (kind : Kind) (h : HasCode kind code).
-        (let u : BeginsUnit kind b header = record { behind = behind; there = there; code = h } in u) in
+    (let u : BeginsUnit kind b header = record { behind = behind; there = there; code = h } in u) in
     judges_cond P (eqb (code / 16) 0xE) (request_of at header behind) _
     (λ e. request_judged at b header behind octets
-        (begins Request (code % 16, low_half code, half_is code 14 (eqb-true (code / 16) 0xE e))))
+    (begins Request (code % 16, low_half code, half_is code 14 (eqb-true (code / 16) 0xE e))))
     (λ nE. judges_cond P (eqb (code / 16) 0xD) (confirm_of at header behind) _
     (λ e. confirm_judged at b header behind octets
-        (begins Confirm (code % 16, low_half code, half_is code 13 (eqb-true (code / 16) 0xD e))))
+    (begins Confirm (code % 16, low_half code, half_is code 13 (eqb-true (code / 16) 0xD e))))
     (λ nD. judges_cond P (eqb (code / 16) 0x6) (acknowledge_of at header) _
     (λ e. acknowledge_judged at b header (begins Acknowledge (code % 16, low_half code, half_is code 6 (eqb-true (code / 16) 0x6 e))))
     (λ n6. judges_cond P (eqb code 0x80) (disconnect_of at header behind) _
-        (λ e. disconnect_judged at b header behind octets (begins Disconnect (eqb-true code 0x80 e)))
+    (λ e. disconnect_judged at b header behind octets (begins Disconnect (eqb-true code 0x80 e)))
     (λ n80. judges_cond P (eqb code 0xC0) (disconnected_of at header) _
-        (λ e. disconnected_judged at b header (begins Disconnected (eqb-true code 0xC0 e)))
+    (λ e. disconnected_judged at b header (begins Disconnected (eqb-true code 0xC0 e)))
     (λ nC0. judges_cond P (eqb code 0xF0) (transfer_of at header behind) _
-        (λ e. transfer_judged at b header behind (begins Transfer (eqb-true code 0xF0 e)))
+    (λ e. transfer_judged at b header behind (begins Transfer (eqb-true code 0xF0 e)))
     (λ nF0. judges_cond P (eqb code 0x70) (error_of at header) (Err (UnknownCode (at + 1)))
-        (λ e. error_judged at b header octets (begins Report (eqb-true code 0x70 e)))
+    (λ e. error_judged at b header octets (begins Report (eqb-true code 0x70 e)))
     (λ n70. code_first at b header behind there (λ kind. unnamed kind code nE nD n6 n80 nC0 nF0 n70))))))))
 
 -- ---- whole units
@@ -312,7 +312,7 @@ unit_judged at b octets =
     let whole : IsOctets (length x.0 ∷ x.0 ++ x.1) = subst (λ (s : List ℕ). IsOctets s) found.0 octets in
     let inner = octets_left x.0 x.1 (IsOctets-rest (length x.0) (x.0 ++ x.1) whole) in
     judges_map (HasFault at b) (value_of at x.0 x.1) (λ v. (v, cond (may_be_followed v) (1 + length x.0) (length b)))
-        (value_judged at b x.0 x.1 inner there))
+    (value_judged at b x.0 x.1 inner there))
 
 abbrev Read : Type 0
 Read = Result (Value × ℕ) TpduFault

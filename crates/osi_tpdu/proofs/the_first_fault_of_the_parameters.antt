@@ -63,14 +63,14 @@ pub record SameItem (i j : Item) (x y : List ℕ) : Type 0 where
 pub same_item : (i j : Item) (x y : List ℕ) → item_octets i ++ x ≡ item_octets j ++ y → SameItem i j x y
 same_item i j x y e =
     let same = ok_is (i.code, i.value, x) (j.code, j.value, y) (sym (parameter_again 0 i x) ∙ ap (parameter_at 0) e ∙ parameter_again 0 j y)
-        in
+    in
     record { code = ap (λ (t : Taken). t.0) same; value = ap (λ (t : Taken). t.1) same; behind = ap (λ (t : Taken). t.2) same }
 
 abbrev named : ℕ → Option Parameter
 named code =
     cond (eqb code 0xC0) (Some Size)
-        (cond (eqb code 0xC1) (Some Calling)
-        (cond (eqb code 0xC2) (Some Called) (cond (eqb code 0xC6) (Some Additional) (cond (eqb code 0xC7) (Some Alternative) None))))
+    (cond (eqb code 0xC1) (Some Calling)
+    (cond (eqb code 0xC2) (Some Called) (cond (eqb code 0xC6) (Some Additional) (cond (eqb code 0xC7) (Some Alternative) None))))
 
 named_again : (k : Parameter) → named (code_of k) ≡ Some k
 named_again Size = refl
@@ -112,7 +112,7 @@ not_twice : (kind : Kind) (before : List Item) (k : Parameter) (value s : List �
     length (values_of (code_of k) before) ≡ 0 → IsRepeated kind before s → ⊥
 not_twice kind before k value s b once h =
     let none : length (values_of (code_of h.0) before) ≡ 0 =
-        same_front (λ q v. length (values_of (code_of q) before) ≡ 0) kind k h.0 value h.1 s b h.2 once in
+    same_front (λ q v. length (values_of (code_of q) before) ≡ 0) kind k h.0 value h.1 s b h.2 once in
     omega (arith, none, h.3)
 
 not_bad : (kind : Kind) (k : Parameter) (value s : List ℕ) → BeginsWith kind k value s → MayHold k value → HasBadValue kind s → ⊥
@@ -195,15 +195,15 @@ size_judged kind at before value s p b adds =
     let P : TpduFault → Type 0 = HasItemFault kind at before s in
     let n = get_or value 0 0 in
     judges_cond P (not (eqb (length value) 1)) (Err (BadParameterLength at)) _
-        (λ e. too_long kind at before Size value s b (not_one (length value) e))
+    (λ e. too_long kind at before Size value s b (not_one (length value) e))
     (λ e. judges_cond P (is_some p.size) (Err (DuplicateParameter at)) _
-        (λ d. twice kind at before Size value s b (one_of (length value) e)
-        (full (single p.size) (values_of 0xC0 before) (adds Size) (single_there p.size ∙ d)))
+    (λ d. twice kind at before Size value s b (one_of (length value) e)
+    (full (single p.size) (values_of 0xC0 before) (adds Size) (single_there p.size ∙ d)))
     (λ d. judges_cond P (leb 7 n && leb n 13) (Ok (record p { size = Some n })) (Err (BadParameterValue at))
     (λ h. fine kind at before Size value s b (one_of (length value) e)
-        (empty (single p.size) (values_of 0xC0 before) (adds Size) (single_there p.size ∙ d)) (in_bounds n h))
+    (empty (single p.size) (values_of 0xC0 before) (adds Size) (single_there p.size ∙ d)) (in_bounds n h))
     (λ h. bad_value kind at before Size value s b (one_of (length value) e)
-        (empty (single p.size) (values_of 0xC0 before) (adds Size) (single_there p.size ∙ d)) (out_of_range n h))))
+    (empty (single p.size) (values_of 0xC0 before) (adds Size) (single_there p.size ∙ d)) (out_of_range n h))))
 
 above_32 : (n : ℕ) → ltb 32 n ≡ true → n ≤ 32 → ⊥
 above_32 n e le = omega (arith, ltb-true)
@@ -214,11 +214,11 @@ unfolding with_calling
 calling_judged kind at before value s p b adds =
     let P : TpduFault → Type 0 = HasItemFault kind at before s in
     judges_cond P (ltb 32 (length value)) (Err (BadParameterLength at)) _
-        (λ e. too_long kind at before Calling value s b (above_32 (length value) e))
+    (λ e. too_long kind at before Calling value s b (above_32 (length value) e))
     (λ e. judges_cond P (is_some p.calling) (Err (DuplicateParameter at)) (Ok (record p { calling = Some value }))
     (λ d. twice kind at before Calling value s b (ltb-false 32 (length value) e) (full p.calling (values_of 0xC1 before) (adds Calling) d))
     (λ d. fine kind at before Calling value s b (ltb-false 32 (length value) e) (empty p.calling (values_of 0xC1 before) (adds Calling) d)
-        tt))
+    tt))
 
 called_judged : (kind : Kind) (at : ℕ) (before : List Item) (value s : List ℕ) (p : Parameters) → BeginsWith kind Called value s →
     Adds no_parameters before p → Judges (HasItemFault kind at before s) (with_called at value p)
@@ -226,7 +226,7 @@ unfolding with_called
 called_judged kind at before value s p b adds =
     let P : TpduFault → Type 0 = HasItemFault kind at before s in
     judges_cond P (ltb 32 (length value)) (Err (BadParameterLength at)) _
-        (λ e. too_long kind at before Called value s b (above_32 (length value) e))
+    (λ e. too_long kind at before Called value s b (above_32 (length value) e))
     (λ e. judges_cond P (is_some p.called) (Err (DuplicateParameter at)) (Ok (record p { called = Some value }))
     (λ d. twice kind at before Called value s b (ltb-false 32 (length value) e) (full p.called (values_of 0xC2 before) (adds Called) d))
     (λ d. fine kind at before Called value s b (ltb-false 32 (length value) e) (empty p.called (values_of 0xC2 before) (adds Called) d) tt))
@@ -238,12 +238,12 @@ unfolding with_additional
 additional_judged kind at before value s p b adds =
     let P : TpduFault → Type 0 = HasItemFault kind at before s in
     judges_cond P (not (eqb (length value) 1)) (Err (BadParameterLength at)) _
-        (λ e. too_long kind at before Additional value s b (not_one (length value) e))
+    (λ e. too_long kind at before Additional value s b (not_one (length value) e))
     (λ e. judges_cond P (is_some p.additional) (Err (DuplicateParameter at)) (Ok (record p { additional = Some (get_or value 0 0) }))
     (λ d. twice kind at before Additional value s b (one_of (length value) e)
-        (full (single p.additional) (values_of 0xC6 before) (adds Additional) (single_there p.additional ∙ d)))
+    (full (single p.additional) (values_of 0xC6 before) (adds Additional) (single_there p.additional ∙ d)))
     (λ d. fine kind at before Additional value s b (one_of (length value) e)
-        (empty (single p.additional) (values_of 0xC6 before) (adds Additional) (single_there p.additional ∙ d)) tt))
+    (empty (single p.additional) (values_of 0xC6 before) (adds Additional) (single_there p.additional ∙ d)) tt))
 
 alternative_judged : (kind : Kind) (at : ℕ) (before : List Item) (value s : List ℕ) (p : Parameters) → BeginsWith kind Alternative value s →
     Adds no_parameters before p
@@ -278,21 +278,21 @@ unfolding with_parameter
 with_judged kind at code before value rest s p looks whole adds =
     let P : TpduFault → Type 0 = HasItemFault kind at before s in
     let begins = λ (k : Parameter) (e : code ≡ code_of k).
-        (let b : BeginsWith kind k value
-        s = record { looks = looks; rest = rest; whole = whole ∙ ap (λ (c : ℕ). item_octets (item c value) ++ rest) e } in b) in
+    (let b : BeginsWith kind k value
+    s = record { looks = looks; rest = rest; whole = whole ∙ ap (λ (c : ℕ). item_octets (item c value) ++ rest) e } in b) in
     judges_cond P (eqb code 0xC0) (with_size at value p) _
-        (λ e. size_judged kind at before value s p (begins Size (eqb-true code 0xC0 e)) adds)
+    (λ e. size_judged kind at before value s p (begins Size (eqb-true code 0xC0 e)) adds)
     (λ n0. judges_cond P (eqb code 0xC1) (with_calling at value p) _
-        (λ e. calling_judged kind at before value s p (begins Calling (eqb-true code 0xC1 e)) adds)
+    (λ e. calling_judged kind at before value s p (begins Calling (eqb-true code 0xC1 e)) adds)
     (λ n1. judges_cond P (eqb code 0xC2) (with_called at value p) _
-        (λ e. called_judged kind at before value s p (begins Called (eqb-true code 0xC2 e)) adds)
+    (λ e. called_judged kind at before value s p (begins Called (eqb-true code 0xC2 e)) adds)
     (λ n2. judges_cond P (eqb code 0xC6) (with_additional at value p) _
-        (λ e. additional_judged kind at before value s p (begins Additional (eqb-true code 0xC6 e)) adds)
+    (λ e. additional_judged kind at before value s p (begins Additional (eqb-true code 0xC6 e)) adds)
     (λ n6. judges_cond P (eqb code 0xC7) (with_alternative at value p) (Ok p)
-        (λ e. alternative_judged kind at before value s p (begins Alternative (eqb-true code 0xC7 e)) adds)
+    (λ e. alternative_judged kind at before value s p (begins Alternative (eqb-true code 0xC7 e)) adds)
     (λ n7. ignored kind at code before value rest s whole
-        (λ k v b. eqb-false code (code_of k) (other_code code n0 n1 n2 n6 n7 k)
-        (same_item (item code value) (item (code_of k) v) rest b.rest (sym whole ∙ b.whole)).code))))))
+    (λ k v b. eqb-false code (code_of k) (other_code code n0 n1 n2 n6 n7 k)
+    (same_item (item code value) (item (code_of k) v) rest b.rest (sym whole ∙ b.whole)).code))))))
 
 -- ---- items after others
 
@@ -328,16 +328,16 @@ later kind at before i s t f e h = record {
 here_or_later : (kind : Kind) (at : ℕ) (before : List Item) (i : Item) (s t : List ℕ) (f : TpduFault) (items : List Item) (rest : List ℕ) →
     s ≡ item_octets i ++ t → s ≡ flat_map item_octets items ++ rest → 1 ≤ length rest
     → HasItemFault kind (at + length (flat_map item_octets items)) (before ++ items) rest f →
-        HasItemFault kind at before s f ⊎ HasLater kind (at + (2 + length i.value)) (before ++ i ∷ []) t f
+    HasItemFault kind at before s f ⊎ HasLater kind (at + (2 + length i.value)) (before ++ i ∷ []) t f
 here_or_later kind at before i s t f [] rest e whole some bad =
     inl (subst (λ (o : List ℕ). HasItemFault kind at before o f) (sym whole)
-        (moved kind (at + 0) at (before ++ []) before rest f (add-zero at) (append-nil before) bad))
+    (moved kind (at + 0) at (before ++ []) before rest f (add-zero at) (append-nil before) bad))
 here_or_later kind at before i s t f (j ∷ items) rest e whole some bad =
     let same = same_item i j t (flat_map item_octets items ++ rest)
-        (sym e ∙ whole ∙ append_assoc (item_octets j) (flat_map item_octets items) rest) in
+    (sym e ∙ whole ∙ append_assoc (item_octets j) (flat_map item_octets items) rest) in
     let is : j ≡ i = λ k. record { code = sym same.code k; value = sym same.value k } in
     let lists : before ++ j ∷ items ≡ (before ++ i ∷ []) ++ items = ap (λ (x : Item). before ++ x ∷ items) is ∙
-        sym (append_assoc before (i ∷ []) items) in
+    sym (append_assoc before (i ∷ []) items) in
     let offset : at + length (flat_map item_octets (j ∷ items)) ≡ at + (2 + length i.value) + length (flat_map item_octets items) =
     omega (arith, length-append j.value (flat_map item_octets items), ap length same.value) in
     inr (record {
@@ -373,7 +373,7 @@ item_passed : {A : Type 0} (kind : Kind) (at : ℕ) (before : List Item) (i : It
     → Judges (HasLater kind (at + (2 + length i.value)) (before ++ i ∷ []) t) r → Judges (HasLater kind at before s) r
 item_passed kind at before i s t r e none =
     judges_same (HasLater kind (at + (2 + length i.value)) (before ++ i ∷ []) t) (HasLater kind at before s) r
-        (λ f h. later kind at before i s t f e h)
+    (λ f h. later kind at before i s t f e h)
     (λ f h. elim (here_or_later kind at before i s t f h.items h.rest e h.whole h.some h.bad) [
       | inl now ↦ absurd (none f now)
       | inr after ↦ after
@@ -389,7 +389,7 @@ parameter_none at s f e i rest whole = grind (arith, parameter_again)
 cut_by : (kind : Kind) (at : ℕ) (before : List Item) (s : List ℕ) (f : TpduFault) (items : List Item) (rest : List ℕ) → HasNoItem s →
     s ≡ flat_map item_octets items ++ rest
     → HasItemFault kind (at + length (flat_map item_octets items)) (before ++ items) rest f →
-        (f ≡ BadParameterLength at) ⊎ StandsBefore (BadParameterLength at) f
+    (f ≡ BadParameterLength at) ⊎ StandsBefore (BadParameterLength at) f
 cut_by kind at before s f [] rest none whole bad =
     length_first kind at before rest f (moved kind (at + 0) at (before ++ []) before rest f (add-zero at) (append-nil before) bad)
 cut_by kind at before s f (j ∷ items) rest none whole bad =
@@ -420,7 +420,7 @@ known_judged (suc n) at kind before (o ∷ s) p looks enough octets fits adds =
     let judged = with_judged kind at x.0 before x.1 x.2 (o ∷ s) p looks one.0 adds in
     judges_bind P (with_parameter at x.0 x.1 p) _
     (λ f bad. item_first kind at before i (o ∷ s) x.2 f one.0
-        (judges_err (HasItemFault kind at before (o ∷ s)) (with_parameter at x.0 x.1 p) f bad judged))
+    (judges_err (HasItemFault kind at before (o ∷ s)) (with_parameter at x.0 x.1 p) f bad judged))
     (λ more good.
     let added = with_found at x.0 x.1 p more fits one.1 good in
     let joined = Adds-then no_parameters p more before (i ∷ []) adds added.0 in
@@ -454,7 +454,7 @@ pub parameters_judged : (kind : Kind) (at : ℕ) (s : List ℕ) → LooksAtParam
 parameters_judged kind at s looks octets =
     let none : AreParameters no_parameters = record { size = tt; calling = tt; called = tt; additional = tt; alternative = tt } in
     from_start kind at s (known_at at s)
-        (known_judged (length s) at kind [] s no_parameters looks (omega arith) octets none (Adds-none no_parameters))
+    (known_judged (length s) at kind [] s no_parameters looks (omega arith) octets none (Adds-none no_parameters))
 
 pub skips_judged : (kind : Kind) (at : ℕ) (s : List ℕ) → (LooksAtParameters kind → ⊥) → IsOctets s →
     Judges (HasParameterFault kind at s) (all_skipped_at at s)

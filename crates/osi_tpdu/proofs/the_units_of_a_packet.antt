@@ -97,7 +97,7 @@ units_at_only (suc n) at (v ∷ w ∷ vs) b le us =
     let least' = spelling_least v x us.4 in
     let len = length-append x y in
     let read : unit_at at b ≡ Ok (v, length x) =
-        ap (unit_at at) us.3 ∙ unit_spelled at v x y us.4 (follows_lead v y us.0 (may_be_followed v) refl) in
+    ap (unit_at at) us.3 ∙ unit_spelled at v x y us.4 (follows_lead v y us.0 (may_be_followed v) refl) in
     let more : eqb (length x) (length b) ≡ false = ne_eqb _ _ (λ e. omega (arith, ap length us.3)) in
     let behind : drop (length x) b ≡ y = ap (drop (length x)) us.3 ∙ drop_at x y (length x) refl in
     let others = units_at_only n (at + length x) (w ∷ vs) y (omega (arith, ap length us.3)) us.5 in
@@ -111,7 +111,7 @@ units_only b vs us = units_at_only (suc (length b)) 0 vs b (omega arith) us
 
 enough_by : (n m at : ℕ) (b : List ℕ) (first : Result (Value × ℕ) TpduFault) → unit_at at b ≡ first → length b < suc n → length b < suc m
     → ((k : ℕ) → 1 ≤ k → k ≤ length b → units_at n (at + k) (drop k b) ≡ units_at m (at + k) (drop k b)) →
-        units_at (suc n) at b ≡ units_at (suc m) at b
+    units_at (suc n) at b ≡ units_at (suc m) at b
 unfolding units_at
 enough_by n m at b (Err f) e ln lm same = rw e refl
 enough_by n m at b (Ok x) e ln lm same = grind (arith, unit_takes)
@@ -228,9 +228,9 @@ first_left at rest x some can read =
           let there = some_left (at + x.1) (drop x.1 rest) (omega arith) in
           let same = units_enough (suc (length (drop x.1 rest))) (length rest) (at + x.1) (drop x.1 rest) (omega arith) (omega arith) in
           let whole : units_at (suc (length rest)) at rest ≡ with_first x.0
-              (units_at (suc (length (drop x.1 rest))) (at + x.1) (drop x.1 rest)) = rw (read, not_all, same) refl in
+          (units_at (suc (length (drop x.1 rest))) (at + x.1) (drop x.1 rest)) = rw (read, not_all, same) refl in
           let others = others_left x.0 (units_at (suc (length (drop x.1 rest))) (at + x.1) (drop x.1 rest))
-              (ap is_ok_read (sym whole) ∙ sym here.0 ∙ can) in
+          (ap is_ok_read (sym whole) ∙ sym here.0 ∙ can) in
           record {
             readable = there.0 ∙ others.0;
             given = here.1 ∙ ap left_of whole ∙ others.1 ∙ ap (λ (vs : List Value). x.0 ∷ vs) (sym there.1);
@@ -364,7 +364,7 @@ stop_by n at b f (Ok x) e enough octets bad later =
           let lead = lead_by_rest v (drop k b) (may_be_followed v) refl left s.0.followed in
           let more : length (drop k b) < n = omega (arith, length-drop k b, s.1) in
           stops_later at k v b f s.0.spelled (omega arith) lead
-              (later (at + k) (drop k b) more (octets_drop k b octets) (others_bad v (units_at n (at + k) (drop k b)) f t.1))
+          (later (at + k) (drop k b) more (octets_drop k b octets) (others_bad v (units_at n (at + k) (drop k b)) f t.1))
     ]
 
 units_at_stop : (n at : ℕ) (b : List ℕ) (f : TpduFault) → length b < n → IsOctets b → units_at n at b ≡ Err f → Stops at b f
@@ -395,7 +395,7 @@ units_at_bad zero at leads front rest f enough are some bad = absurd (omega arit
 units_at_bad (suc n) at [] front rest f enough are some bad =
     let here : unit_at at (front ++ rest) ≡ Err f =
     ap (λ (t : List ℕ). unit_at at (t ++ rest)) are ∙
-        ap (λ (k : ℕ). unit_at k rest) (sym (add-zero at) ∙ ap (λ (t : List ℕ). at + length t) (sym are)) ∙ bad in
+    ap (λ (k : ℕ). unit_at k rest) (sym (add-zero at) ∙ ap (λ (t : List ℕ). at + length t) (sym are)) ∙ bad in
     rw here refl
 units_at_bad (suc n) at (v ∷ leads) front rest f enough are some bad =
     let x = are.1 in
@@ -407,7 +407,7 @@ units_at_bad (suc n) at (v ∷ leads) front rest f enough are some bad =
     let parts' = length-append y rest in
     let left : 1 ≤ length rest = some (omega arith) in
     let read : unit_at at (front ++ rest) ≡ Ok (v, length x) =
-        ap (unit_at at) whole ∙ unit_spelled at v x (y ++ rest) are.4 (follows_lead v (y ++ rest) are.0 (may_be_followed v) refl) in
+    ap (unit_at at) whole ∙ unit_spelled at v x (y ++ rest) are.4 (follows_lead v (y ++ rest) are.0 (may_be_followed v) refl) in
     let more : eqb (length x) (length (front ++ rest)) ≡ false = ne_eqb _ _ (λ e. omega arith) in
     let behind : drop (length x) (front ++ rest) ≡ y ++ rest = ap (drop (length x)) whole ∙ drop_at x (y ++ rest) (length x) refl in
     let offset : at + length x + length y ≡ at + length front = omega (arith, ap length are.3, length-append x y) in
@@ -420,9 +420,9 @@ unfolding units_of
 fault_only b f octets first =
     let behind : IsOctets first.rest = octets_right first.front first.rest (subst (λ (t : List ℕ). IsOctets t) first.whole octets) in
     let some : 1 ≤ length (first.front ++ first.rest) → 1 ≤ length first.rest =
-        λ h. first.some (subst (λ (t : List ℕ). 1 ≤ length t) (sym first.whole) h) in
+    λ h. first.some (subst (λ (t : List ℕ). 1 ≤ length t) (sym first.whole) h) in
     let bad : unit_at (0 + length first.front) first.rest ≡ Err f = ap (λ (k : ℕ). unit_at k first.rest) (zero-add (length first.front)) ∙
-        unit_fault_only (length first.front) first.rest f behind first.bad in
+    unit_fault_only (length first.front) first.rest f behind first.bad in
     let there = units_at_bad (suc (length (first.front ++ first.rest))) 0 first.leads first.front first.rest f (omega arith) first.are_leads
-        some bad in
+    some bad in
     ap (λ (t : List ℕ). units_at (suc (length t)) 0 t) first.whole ∙ there

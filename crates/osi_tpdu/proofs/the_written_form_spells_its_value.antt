@@ -37,13 +37,13 @@ kept code other o = cond (eqb other code) (option_to_list o) []
 
 written_values : (p : Parameters) (code : ℕ) → values_of code (written_items p)
     ≡ kept code 0xC0 (single p.size) ++
-        (kept code 0xC1 p.calling ++ (kept code 0xC2 p.called ++ (kept code 0xC6 (single p.additional) ++ kept code 0xC7 p.alternative)))
+    (kept code 0xC1 p.calling ++ (kept code 0xC2 p.called ++ (kept code 0xC6 (single p.additional) ++ kept code 0xC7 p.alternative)))
 written_values p code =
     let is = λ (other : ℕ) (o : Option (List ℕ)). kept_by code other o (eqb other code) refl in
     values_of-five code (items_of 0xC0 (single p.size)) (items_of 0xC1 p.calling) (items_of 0xC2 p.called)
-        (items_of 0xC6 (single p.additional)) (items_of 0xC7 p.alternative)
+    (items_of 0xC6 (single p.additional)) (items_of 0xC7 p.alternative)
     ∙ joined _ _ _ _ _ _ _ _ _ _ (is 0xC0 (single p.size)) (is 0xC1 p.calling) (is 0xC2 p.called) (is 0xC6 (single p.additional))
-        (is 0xC7 p.alternative)
+    (is 0xC7 p.alternative)
 
 pub written_means : (p : Parameters) → Means p (written_items p)
 written_means p = record {
@@ -94,8 +94,8 @@ written_len_is : (p : Parameters) →
     length (flat_map item_octets (written_items p)) ≡ length (flat_map item_octets (items_of 0xC0 (single p.size))) +
     (length (flat_map item_octets (items_of 0xC1 p.calling))
     + (length (flat_map item_octets (items_of 0xC2 p.called)) +
-        (length (flat_map item_octets (items_of 0xC6 (single p.additional))) + length
-        (flat_map item_octets (items_of 0xC7 p.alternative)))))
+    (length (flat_map item_octets (items_of 0xC6 (single p.additional))) + length
+    (flat_map item_octets (items_of 0xC7 p.alternative)))))
 written_len_is p = grind (arith, flat_map-five, length-append)
 
 parameters_are : (p : Parameters) → AreParameters p → length (flat_map item_octets (written_items p)) ≤ 254 →
@@ -113,10 +113,10 @@ parameters_are p fits short =
     let fd = flat_map item_octets (items_of 0xC6 (single p.additional)) in
     let fe = flat_map item_octets (items_of 0xC7 p.alternative) in
     let all = octets_append fa (fb ++ (fc ++ (fd ++ fe))) a
-        (octets_append fb (fc ++ (fd ++ fe)) b (octets_append fc (fd ++ fe) c (octets_append fd fe d e))) in
+    (octets_append fb (fc ++ (fd ++ fe)) b (octets_append fc (fd ++ fe) c (octets_append fd fe d e))) in
     subst (λ (l : List ℕ). IsOctets l)
-        (sym (flat_map-five (items_of 0xC0 (single p.size)) (items_of 0xC1 p.calling) (items_of 0xC2 p.called)
-        (items_of 0xC6 (single p.additional)) (items_of 0xC7 p.alternative))) all
+    (sym (flat_map-five (items_of 0xC0 (single p.size)) (items_of 0xC1 p.calling) (items_of 0xC2 p.called)
+    (items_of 0xC6 (single p.additional)) (items_of 0xC7 p.alternative))) all
 
 two_are : (n : ℕ) (s : List ℕ) → IsReference n → IsOctets s → IsOctets (n / 256 ∷ n % 256 ∷ s)
 two_are n s lt h = IsOctets-cons (n / 256) (n % 256 ∷ s) (omega arith) (IsOctets-cons (n % 256) s (omega arith) h)
@@ -149,22 +149,22 @@ header_is (disconnect destination source reason user) r short =
 header_is (disconnected destination source) r short =
     let second = source / 256 ∷ source % 256 ∷ [] in
     IsOctets-cons 0xC0 (destination / 256 ∷ destination % 256 ∷ second) (omega arith)
-        (two_are destination second r.0 (two_are source [] r.1 octets_nil))
+    (two_are destination second r.0 (two_are source [] r.1 octets_nil))
 header_is (data0 end user) r short =
     IsOctets-cons 0xF0 (below_bit end 0 ∷ []) (omega arith)
     (IsOctets-cons (below_bit end 0) [] (below_bit_is end 0 (omega arith)) octets_nil)
 header_is (data2 destination number end user) r short =
     let last = below_bit end number ∷ [] in
     IsOctets-cons 0xF0 (destination / 256 ∷ destination % 256 ∷ last) (omega arith)
-        (two_are destination last r.0 (IsOctets-cons (below_bit end number) [] (below_bit_is end number r.1) octets_nil))
+    (two_are destination last r.0 (IsOctets-cons (below_bit end number) [] (below_bit_is end number r.1) octets_nil))
 header_is (acknowledge credit destination number) r short =
     let last = number ∷ [] in
     IsOctets-cons (0x60 + credit) (destination / 256 ∷ destination % 256 ∷ last) (omega (arith, r.0))
-        (two_are destination last r.1 (IsOctets-cons number [] (omega (arith, r.2)) octets_nil))
+    (two_are destination last r.1 (IsOctets-cons number [] (omega (arith, r.2)) octets_nil))
 header_is (error destination cause) r short =
     let last = cause ∷ [] in
     IsOctets-cons 0x70 (destination / 256 ∷ destination % 256 ∷ last) (omega arith)
-        (two_are destination last r.0 (IsOctets-cons cause [] r.1 octets_nil))
+    (two_are destination last r.0 (IsOctets-cons cause [] r.1 octets_nil))
 
 user_is : (v : Value) → HasFieldsInRange v → IsOctets (user_data v)
 user_is (request c) r = r.user
@@ -224,7 +224,7 @@ one_code code v =
         weigh (eqb k 0xC0) v + (weigh (eqb k 0xC1) v + (weigh (eqb k 0xC2) v + (weigh (eqb k 0xC6) v + weigh (eqb k 0xC7) v))) ≤ 2 + length
         v
         → weigh (eqb code 0xC0)
-            v + (weigh (eqb code 0xC1) v + (weigh (eqb code 0xC2) v + (weigh (eqb code 0xC6) v + weigh (eqb code 0xC7) v))) ≤ 2 + length v
+        v + (weigh (eqb code 0xC1) v + (weigh (eqb code 0xC2) v + (weigh (eqb code 0xC6) v + weigh (eqb code 0xC7) v))) ≤ 2 + length v
     at_code k e h =
         subst (λ (j : ℕ). weigh (eqb j 0xC0)
         v + (weigh (eqb j 0xC1) v + (weigh (eqb j 0xC2) v + (weigh (eqb j 0xC6) v + weigh (eqb j 0xC7) v))) ≤ 2 + length v) (sym e) h

@@ -14,7 +14,7 @@ Item = ℕ × List ℕ × List ℕ
 Reads-with : (n at : ℕ) (p : Parameters) (rest : List ℕ) (whole : Result Parameters TpduFault) (item : Item) (more : Parameters) →
     1 ≤ length rest → length rest ≤ n → parameters_at n at p rest ≡ whole
     → parameter_at at rest ≡ Ok item → with_parameter at item.0 item.1 p ≡ Ok more → length item.2 < length rest →
-        Reads (at + (2 + length item.1)) more item.2 whole
+    Reads (at + (2 + length item.1)) more item.2 whole
 unfolding parameters_at
 Reads-with n at p [] whole item more some enough same took added shorter = absurd (omega arith)
 Reads-with zero at p (o ∷ rest) whole item more some enough same took added shorter = absurd (omega arith)
@@ -24,7 +24,7 @@ Reads-with (suc n) at p (o ∷ rest) whole item more some enough same took added
 pub Reads-more : (at : ℕ) (p : Parameters) (rest : List ℕ) (whole : Result Parameters TpduFault) (item : Item) (more : Parameters) →
     Reads at p rest whole → 1 ≤ length rest
     → parameter_at at rest ≡ Ok item → with_parameter at item.0 item.1 p ≡ Ok more → length item.2 < length rest →
-        Reads (at + (2 + length item.1)) more item.2 whole
+    Reads (at + (2 + length item.1)) more item.2 whole
 Reads-more at p rest whole item more r some took added shorter =
     Reads-with r.fuel at p rest whole item more some r.enough r.same took added shorter
 

@@ -47,8 +47,21 @@ lead_code : (at : ℕ) (header behind : List ℕ) (v : Value) → value_of at he
     may_be_followed v ≡ is_lead_code (get_or header 0 0)
 unfolding value_of is_lead_code
 lead_code at header behind v e =
-    grind (arith, get_or, chosen, eqb-true, request_leads, no_lead, confirm_leads, acknowledge_leads, disconnect_leads, disconnected_leads,
-    transfer_leads, when_ok, error_leads)
+    grind (
+      arith,
+      get_or,
+      chosen,
+      eqb-true,
+      request_leads,
+      no_lead,
+      confirm_leads,
+      acknowledge_leads,
+      disconnect_leads,
+      disconnected_leads,
+      transfer_leads,
+      when_ok,
+      error_leads,
+    )
 
 -- the first unit by its header and its fields, and the number of octets it takes
 pub first_read : (at : ℕ) (b : List ℕ) (x : List ℕ × List ℕ) (v : Value) → header_at at b ≡ Ok x → value_of at x.0 x.1 ≡ Ok v →

@@ -97,8 +97,11 @@ long_partial r f g h =
       at_least = λ _. omega arith;
       within = λ _. omega arith;
     } in
-    record { more = replicate n 0; some = omega arith;
-        completes = (drop 4 (r ++ replicate n 0), full_packet (r ++ replicate n 0) front (omega arith, omega arith)) }
+    record {
+      more = replicate n 0;
+      some = omega arith;
+      completes = (drop 4 (r ++ replicate n 0), full_packet (r ++ replicate n 0) front (omega arith, omega arith));
+    }
 
 -- fewer than four: first the header is completed
 pub completed_partial : (r header : List ℕ) → IsPartial (r ++ header) → IsPartial r
@@ -108,9 +111,14 @@ completed_partial r header p = grind (arith, length-append, append_assoc)
 header_partial : (b c d : ℕ) → b < 256 → c < 256 → d < 256 → 7 ≤ 256 * c + d → IsPartial (3 ∷ b ∷ c ∷ d ∷ [])
 header_partial b c d hb hc hd h =
     long_partial (3 ∷ b ∷ c ∷ d ∷ [])
-    (record { octets = octets_cons 3 (b ∷ c ∷ d ∷ []) (omega arith)
-        (octets_cons b (c ∷ d ∷ []) hb (octets_cons c (d ∷ []) hc (octets_cons d [] hd octets_nil))); version = λ _. refl; at_least =
-        λ _. h; within = λ _. omega arith })
+    (record {
+      octets = octets_cons 3 (b ∷ c ∷ d ∷ []) (omega arith)
+          (octets_cons b (c ∷ d ∷ []) hb (octets_cons c (d ∷ []) hc (octets_cons d [] hd octets_nil)));
+      version = λ _. refl;
+      at_least =
+          λ _. h;
+      within = λ _. omega arith;
+    })
     (λ _. omega arith) (omega arith)
 
 pub short_partial : (r : List ℕ) → IsFront r → IsUnfinished r → IsPartial r
@@ -271,7 +279,7 @@ pub part_whole : (r : Result Fed HeaderFault) (held piece : List ℕ) → IsFron
     IfOk r (λ fed. MatchBool fed.whole (length held + fed.used ≡ stated_length (held ++ piece))
     ((length held + length piece < stated_length (held ++ piece)) × (fed.used ≡ length piece))) →
     IfOk r (λ fed. MatchBool fed.whole (IsFull (held ++ take fed.used piece))
-        (IsUnfinished (held ++ take fed.used piece) × (fed.used ≡ length piece)))
+    (IsUnfinished (held ++ take fed.used piece) × (fed.used ≡ length piece)))
 part_whole (Err e) held piece front long least used part = tt
 part_whole (Ok fed) held piece front long least used part =
     whole_part fed.whole held piece fed.used least used part
@@ -297,7 +305,7 @@ belonging_some octets piece fed partial h whole = elim (cases_lt 0 fed.used) [
       let same : octets ++ take fed.used piece ≡ octets = ap (λ n. octets ++ take n piece) no_more ∙ append-nil octets in
       absurd (partial_not_whole octets partial (subst IsOnePacket same
       (whole_where (IsOnePacket (octets ++ take fed.used piece)) (IsPartial (octets ++ take fed.used piece) × (fed.used ≡ length piece))
-          fed.whole whole h.whole)))
+      fed.whole whole h.whole)))
 ]
 
 -- of two lists of octets, the first of which has the version

@@ -94,8 +94,12 @@ front_of : (s : List ℕ) → IsOctets s → Front s
 front_of [] octets =
     inr (inr (inr
     (short_partial []
-    (record { octets = octets; version = λ h. absurd (omega arith); at_least = λ h. absurd (omega arith);
-    within = λ h. absurd (omega arith) }) (λ h. absurd (omega arith)))))
+    (record {
+      octets = octets;
+      version = λ h. absurd (omega arith);
+      at_least = λ h. absurd (omega arith);
+      within = λ h. absurd (omega arith);
+    }) (λ h. absurd (omega arith)))))
 front_of (a ∷ s) octets = elim (cases_eq a 3) [
   | inr other ↦ inr (inl (omega arith, other))
   | inl version ↦ elim (cases_lt (length (a ∷ s)) 4) [

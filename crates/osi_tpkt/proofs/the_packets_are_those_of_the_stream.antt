@@ -66,7 +66,7 @@ taken start made us old new piece fed unfaulted h t k =
     let s : List ℕ = start.octets ++ stream_of made in
     let more : List ℕ = take fed.used piece in
     let stream : start.octets ++ stream_of (made ++ Feed piece (Ok fed) ∷ []) ≡ s ++ more =
-        used-push start.octets made (Feed piece (Ok fed)) in
+    used-push start.octets made (Feed piece (Ok fed)) in
     let octets : new.octets ≡ old.octets ++ more = ap (λ (h : Held). h.octets) t.1.octets in
     let fault : new.fault ≡ None = ap (λ (h : Held). h.fault) t.1.octets ∙ unfaulted in
     let offset : new.offset ≡ old.offset = ap (λ (h : Held). h.offset) t.1.octets in
@@ -106,7 +106,7 @@ refused start made us old new piece g partial fault same k =
 -- a piece that was fed while no packet was ready and no fault was returned
 fed : (start : Held) (made : List CutterCall) (us : List (List ℕ)) (old new : Held) (piece : List ℕ) (result : Result Fed TpktFault) →
     old.fault ≡ None → IsPartial old.octets → Feeds old piece result new → TakesPiece old piece result new →
-        CutterReadsOn start made us old →
+    CutterReadsOn start made us old →
     CutterReadsOn start (made ++ Feed piece result ∷ []) us new
 fed start made us old new piece (Ok f) unfaulted partial h t k = taken start made us old new piece f unfaulted h t k
 fed start made us old new piece (Err (BadVersion at)) unfaulted partial h t k =
@@ -162,7 +162,7 @@ stepping start made us old (Feed piece result) given new h k =
 stepping start made us old Advance given new h k = elim h.1 [
   | inl packet ↦
       subst (λ x. CutterReadsOn start (made ++ Advance ∷ []) (us ++ x) new) (sym packet.2)
-          (dropped start made us old new packet.0 packet.1 h.0 k)
+      (dropped start made us old new packet.0 packet.1 h.0 k)
   | inr partial ↦
       subst (λ x. CutterReadsOn start (made ++ Advance ∷ []) x new) (sym (ap (λ x. us ++ x) partial.1 ∙ append-nil us))
       (unchanged start made us old new Advance refl (h.0.partial partial.0) k)
@@ -173,7 +173,7 @@ running : (start : Held) (calls made : List CutterCall) (us units : List (List �
 running start [] made us units old new h k =
     subst (λ x. CutterReadsOn start x (us ++ units) new) (sym (append-nil made))
     (subst (λ x. CutterReadsOn start made x new) (sym (ap (λ x. us ++ x) h.0 ∙ append-nil us))
-        (subst (λ x. CutterReadsOn start made us x) (sym h.1) k))
+    (subst (λ x. CutterReadsOn start made us x) (sym h.1) k))
 running start (call ∷ calls) made us units old new h k =
     let step = stepping start made us old call h.1 h.0 h.3 k in
     let rest = running start calls (made ++ call ∷ []) (us ++ h.1) h.2 h.0 new h.4 step in

@@ -139,13 +139,12 @@ gathered offset held used before after fault old mid new part count put stays un
 pub taken_whole : (offset used before after : ℕ) (octets piece items : List ℕ) (progress : Progress) (now : Held) → progress ≡ Awaited →
     IsKept offset octets progress →
     holding offset (fault_of offset progress) octets before ≡ now → used ≤ length piece → IsFront (take used piece) →
-        IsFull (take used piece) →
+    IsFull (take used piece) →
     take used items ≡ take used piece → after ≡ before →
     TakesPiece now piece (Ok (record { used = used; whole = true })) (holding offset None (take used items) after)
 taken_whole offset used before after octets piece items progress now is kept same within front full put room =
     let none : octets ≡ [] = awaiting offset octets progress is kept in
-    subst (λ (h : Held). TakesPiece h piece (Ok (record { used = used; whole = true })) (holding offset None (take used items) after)) same
-        (
+    subst (λ h. TakesPiece h piece (Ok (record { used = used; whole = true })) (holding offset None (take used items) after)) same (
       surveyed [] octets piece (record { used = used; whole = true }) (sym none) within front full,
       record {
         octets = ap (λ x. holding offset None x after) put ∙ ap (λ l. holding offset None (l ++ take used piece) after) (sym none)
@@ -159,7 +158,7 @@ taken_whole offset used before after octets piece items progress now is kept sam
 pub passed : (offset sum room used : ℕ) (octets piece : List ℕ) (progress : Progress) (now : Held) → progress ≡ Awaited →
     IsKept offset octets progress → used ≤ length piece →
     IsFront (take used piece) → IsFull (take used piece) → sum ≡ offset_of (offset + used) →
-        holding offset (fault_of offset progress) octets room ≡ now →
+    holding offset (fault_of offset progress) octets room ≡ now →
     Passes now (take (used - 4) (drop 4 piece)) piece (holding sum (fault_of sum progress) octets room)
 passed offset sum room used octets piece progress now is fits within front full end same =
     grind (arith, front_packet, length-take-le, holding, awaiting)
@@ -169,17 +168,19 @@ pub passed_sound : (offset sum room : ℕ) (octets : List ℕ) (progress : Progr
     IsHolding (holding sum (fault_of sum progress) octets room)
 passed_sound offset sum room octets progress is kept fits =
     subst (λ f. IsHolding (holding sum f octets room)) (sym (ap (fault_of sum) is))
-        (begins sum room octets (awaiting offset octets progress is kept) fits)
+    (begins sum room octets (awaiting offset octets progress is kept) fits)
 
 passing_feeds : (old new : Held) (unit piece : List ℕ) → Passes old unit piece new →
     Feeds old piece (Ok (record { used = 4 + length unit; whole = true })) (record old { octets = take (4 + length unit) piece })
 passing_feeds old new unit piece p =
     taken_feeds old piece (Ok (record { used = 4 + length unit; whole = true })) (record old { octets = take (4 + length unit) piece })
-        p.faultless
+    p.faultless
     (subst IsPartial (sym p.empty) empty_partial) (
       record { within = p.within; whole = (unit, subst (λ l. IsPacket unit (l ++ take (4 + length unit) piece)) (sym p.empty) p.packet) },
-      record { octets = ap (λ l. holding old.offset old.fault (l ++ take (4 + length unit) piece) old.room) (sym p.empty);
-          room = omega arith },
+      record {
+        octets = ap (λ l. holding old.offset old.fault (l ++ take (4 + length unit) piece) old.room) (sym p.empty);
+        room = omega arith;
+      },
     )
 
 passing_advances : (old new : Held) (unit piece : List ℕ) → Passes old unit piece new →

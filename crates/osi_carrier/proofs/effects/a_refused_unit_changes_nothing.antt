@@ -35,7 +35,10 @@ pub told : (event : Event) (events more now : List Event) → more ≡ events �
 told event events more now same h = ap (map happening) (h ∙ ap (λ l. l ++ event ∷ []) same) ∙ map-append happening events (event ∷ [])
 
 pub breaks_two : (r peer : ℕ) (fault : LinkFault) (s t : State) → s.class ≡ Some Two →
-    t ≡ record s { live = put r (closing peer) s.live; outgoing = s.outgoing ++ packets (disconnect peer r 133 [] ∷ []);
-        events = s.events ++ faulted r fault ∷ [] } →
+    t ≡ record s {
+      live = put r (closing peer) s.live;
+      outgoing = s.outgoing ++ packets (disconnect peer r 133 [] ∷ []);
+      events = s.events ++ faulted r fault ∷ [];
+    } →
     t ≡ breaks r peer fault s.class s
 breaks_two r peer fault s t class h = h ∙ sym (ap (λ k. breaks r peer fault k s) class)

@@ -94,7 +94,7 @@ has_room n given b d e f h = grind (arith, nat_tests)
 
 answers_by : (c : Connect) (s : State) (in_use full : Bool) → (full ≡ false → (length s.live < 64) × (s.given < 65535)) →
     Effect (s.given + 1) s
-        (if in_use then denies 131 c.source s else (if full then denies 1 c.source s else answers c (selected_by c s.local) s.class s))
+    (if in_use then denies 131 c.source s else (if full then denies 1 c.source s else answers c (selected_by c s.local) s.class s))
 answers_by c s true full room = effect_denies (s.given + 1) 131 c.source s
 answers_by c s false true room = effect_denies (s.given + 1) 1 c.source s
 answers_by c s false false room = effect_answers c (selected_by c s.local) s.class s (room refl).0 (room refl).1
@@ -262,7 +262,7 @@ none_over o e h = grind arith
 how_orderly : (r : ℕ) (old new : State) → IsOrderly old → is_some old.ended ≡ false → How r old new → AreNamed new → IsOrderly new
 how_orderly r old new h lasts (inl kept) names =
     orderly_of new
-        (subst (λ n. AreOrderly n new.live) (sym kept.given) (touched_orderly old.given r old.live new.live (rows_of old h) kept.live))
+    (subst (λ n. AreOrderly n new.live) (sym kept.given) (touched_orderly old.given r old.live new.live (rows_of old h) kept.live))
     (let g = h.given in let e = kept.given in omega arith)
     (λ some. none_over old.ended lasts (subst IsSome kept.ended some)) names
 how_orderly r old new h lasts (inr (inl joined)) names =
@@ -316,7 +316,7 @@ or_none first other h = grind arith
 
 free_by : (s : State) (caller over : Bool) → is_some s.ended ≡ over →
     (if not caller then Some NotCaller else (if over then Some Ended else or_else (class_error s.class s.live) (room_error s))) ≡ None →
-        MayJoin s
+    MayJoin s
 free_by s caller over e h = grind (arith, room_free, length, nat_le, or_none)
 
 pub free_of : (s : State) → may_connect s ≡ None → MayJoin s
@@ -333,7 +333,7 @@ put_over : (r : ℕ) (c : Connection) (s t : State) → t.given ≡ s.given → 
     IsOrderly s → IsOrderly t
 put_over r c s t given ended live names h =
     orderly_of t (subst (λ n. AreOrderly n t.live) (sym given)
-        (touched_orderly s.given r s.live t.live (rows_of s h) (inr (inl (c, live)))))
+    (touched_orderly s.given r s.live t.live (rows_of s h) (inr (inl (c, live)))))
     (let g = h.given in omega arith)
     (λ some. live ∙ ap (put r c) (h.over (subst IsSome ended some)))
     (named s t names h.named)

@@ -56,7 +56,7 @@ along_over start now after all left more unit h e acts over =
 pub along_starved : (start now tried after : State) (all left more : List Value) (unit : Value) → IsAlong start all now left →
     left ≡ unit ∷ more →
     ends NoMemory tried ≡ ends NoMemory now → grows now (in_class now.class unit now) ≡ true → after ≡ ends NoMemory tried →
-        Act start all after
+    Act start all after
 along_starved start now tried after all left more unit h e nothing needs ended = grind (arith, react_quiet)
 
 pub none_of : {A : Type 0} (o : Option A) → is_some o ≡ false → o ≡ None

@@ -39,13 +39,13 @@ module _ (e : List Happening) (o : List ℕ) where
   apart_answers c (accept class size) held s =
       apart_both (opened (s.given + 1)) (confirm c.source (acceptance class size c s.local (s.given + 1)) ∷ [])
       (joins (s.given + 1) (linked c.source (opened_link class size s.local c.credit)) (tsaps_of c)
-          (record s { class = Some class; given = s.given + 1 }))
+      (record s { class = Some class; given = s.given + 1 }))
 
   apart_request_by : (c : Connect) (s : State) (in_use full : Bool) →
       (if in_use then denies 131 c.source (put_back e o s)
       else (if full then denies 1 c.source (put_back e o s) else answers c (selected_by c s.local) s.class (put_back e o s)))
       ≡ put_back e o
-          (if in_use then denies 131 c.source s else (if full then denies 1 c.source s else answers c (selected_by c s.local) s.class s))
+      (if in_use then denies 131 c.source s else (if full then denies 1 c.source s else answers c (selected_by c s.local) s.class s))
   apart_request_by c s true full = apart_writes (disconnect c.source 0 131 [] ∷ []) s
   apart_request_by c s false true = apart_writes (disconnect c.source 0 1 [] ∷ []) s
   apart_request_by c s false false = apart_answers c (selected_by c s.local) s.class s
@@ -64,8 +64,8 @@ module _ (e : List Happening) (o : List ℕ) where
   apart_opens r c None s = refl
   apart_opens r c (Some class) s =
       apart_tells (opened r)
-          (moves r (linked c.source (opened_link class (agreed_size c.parameters.size s.local) s.local c.credit))
-          (record s { class = Some class }))
+      (moves r (linked c.source (opened_link class (agreed_size c.parameters.size s.local) s.local c.credit))
+      (record s { class = Some class }))
 
   apart_asked : (r : ℕ) (unit : Value) (s : State) → to_asked r unit (put_back e o s) ≡ put_back e o (to_asked r unit s)
   apart_asked r (confirm destination c) s = apart_opens r c (confirmed c s.local s.class) s
@@ -197,7 +197,7 @@ module _ (e : List Happening) (o : List ℕ) where
   apart_user : (call : UserCall) (s : State) → user_does call (put_back e o s) ≡ put_back e o (user_does call s)
   apart_user (connects calling called) s =
       apart_writes (request (proposal s.local s.class calling called (s.given + 1)) ∷ [])
-          (joins (s.given + 1) asked (record { calling = calling; called = called }) (record s { given = s.given + 1 }))
+      (joins (s.given + 1) asked (record { calling = calling; called = called }) (record s { given = s.given + 1 }))
   apart_user (sends r octets) s = apart_sent r octets (open_link r s) s
   apart_user (sends_all r tsdus) s = apart_sent_all r tsdus s
   apart_user (closing_call r reason) s = apart_closed r reason (open_link r s) s

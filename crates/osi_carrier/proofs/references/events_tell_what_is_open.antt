@@ -85,7 +85,7 @@ opens_told r q b old new e events is = grind (arith, or_true, or_false)
 -- it is open no more
 leaves_told : (r q : ℕ) (b : Bool) (old new : State) (event : Happening) → (q == r) ≡ b → new.events ≡ old.events ++ event ∷ [] →
     ((was : Bool) → open_after r was (event ∷ []) ≡ (was && not (q == r))) →
-        open_in r new.live ≡ (if b then false else open_in r old.live) → Told r old new
+    open_in r new.live ≡ (if b then false else open_in r old.live) → Told r old new
 leaves_told r q b old new event e events means is = grind (arith, and_false, and_true)
 
 -- a connection that was not open, or stays open: no event is reported of it
@@ -265,7 +265,7 @@ units_told : (r : ℕ) (units : List Value) (s : State) → IsOrderly s → (rea
 units_told r [] s o h = still_told r s
 units_told r (unit ∷ units) s o h =
     told_joined r s (react unit s) (reacts units (react unit s))
-        (react_told r unit s o (units_last units (react unit s) (is_some (react unit s).ended) refl h))
+    (react_told r unit s o (units_last units (react unit s) (is_some (react unit s).ended) refl h))
     (units_told r units (react unit s) (orderly_unit unit s o) h)
 
 acts_told : (r : ℕ) (units : Result (List Value) TpduFault) (s : State) → IsOrderly s → (acts_by units s).ended ≡ None →

@@ -37,7 +37,7 @@ place_here key r rows i d h within here =
     let at : position_or_len (λ row. key row == r) rows ≡ i =
     position_or_len_is (λ row. key row == r) rows i d (omega arith)
     (λ k less. other_by (key (get_or rows k d)) r (key (get_or rows k d) == r) refl
-        (let lower = before_at key 0 rows i k d h within less in omega arith))
+    (let lower = before_at key 0 rows i k d h within less in omega arith))
     (λ inside. eq-eqb (key (get_or rows i d)) r here) in
     grind (arith, common_steps)
 
@@ -83,7 +83,7 @@ sought_by key r rows d (Ok i) rise within equal = sym (place_here key r rows i d
 sought_by key r rows d (Err i) rise within parted =
     let split = parted (comparisons_rise key r rows d rise) in
     sym (nowhere key r rows i d within (λ k less. ranked _ r _ (sym (split.0 k d (omega arith) less)))
-        (λ k from inside. ranked _ r _ (sym (split.1 k d from inside))))
+    (λ k from inside. ranked _ r _ (sym (split.1 k d from inside))))
 
 -- what a search by halves answers is the place of a key
 pub sought : {X : Type 0} (key : X → ℕ) (r : ℕ) (rows : List X) (answer : Result ℕ ℕ) → RiseBy key 0 rows →

@@ -78,7 +78,7 @@ packets_done (unit ∷ units) old new h = packets_done units (after_packet old u
 reads_still : (old : Carrying) (call : Call) (new : Carrying) (acts : List Act) → flat_map call_in acts ≡ called_in call →
     flat_map packet_in acts ≡ [] →
     used_in call ≡ [] → new.held ≡ old.held → put_back (told_in call) (carried_in call) new.state ≡ all_done acts old.state →
-        ReadsOne old call new
+    ReadsOne old call new
 reads_still old call new acts called none nothing held state = grind (arith, length, length-append, append-nil)
 
 reads_dry : (old : Carrying) (piece : List ℕ) (fed : Fed) (new : Carrying) → RunsDry old piece fed.used new →
@@ -108,7 +108,7 @@ reads_feed : IsPartial [] → (old : Carrying) (piece : List ℕ) (fed : Fed) (n
 reads_feed nothing old piece fed new true e quiet h lasts =
     let still = h.waiting quiet e in
     reads_still old (feeding piece fed) new [] refl refl (ap (λ n. take n piece) still.0) (ap (λ (x : Carrying). x.held) still.1)
-        (ap (λ (x : Carrying). x.state) still.1)
+    (ap (λ (x : Carrying). x.state) still.1)
 reads_feed nothing old piece fed new false e quiet h lasts =
     reads_goes nothing old piece fed new (h.goes (ap (λ (o : Option EndReason). is_some o || waits old.state) quiet ∙ e)) lasts
 
@@ -141,16 +141,16 @@ reads_more : (old : Carrying) (call : Call) (mid : Carrying) (calls : List Call)
 reads_more old call mid calls new one more =
     let used = flat_map used_in calls in
     let assoc : (old.held.octets ++ used_in call) ++ used ≡ old.held.octets ++ (used_in call ++ used) =
-        append_assoc old.held.octets (used_in call) used in
+    append_assoc old.held.octets (used_in call) used in
     record {
       acts = one.acts ++ more.acts;
       called = flat_map-append call_in one.acts more.acts ∙ ap (λ l. l ++ flat_map call_in more.acts) one.called ∙
           ap (λ l. called_in call ++ l) more.called;
       packets = subst (λ l. ArePackets (flat_map packet_in (one.acts ++ more.acts)) l new.held.octets) assoc
           (subst (λ us. ArePackets us ((old.held.octets ++ used_in call) ++ used) new.held.octets)
-              (sym (flat_map-append packet_in one.acts more.acts))
+          (sym (flat_map-append packet_in one.acts more.acts))
           (packets_joined (flat_map packet_in one.acts) (flat_map packet_in more.acts) (old.held.octets ++ used_in call) mid.held.octets
-              used new.held.octets one.packets more.packets));
+          used new.held.octets one.packets more.packets));
       state = back_joined (told_in call) (flat_map told_in calls) (carried_in call) (flat_map carried_in calls) new.state
           ∙ ap (put_back (told_in call) (carried_in call)) more.state ∙ sym (apart_all (told_in call) (carried_in call) more.acts mid.state)
           ∙ ap (all_done more.acts) one.state ∙ sym (all_joined one.acts more.acts old.state);
@@ -175,7 +175,7 @@ pub calls_read : IsPartial [] → (old : Carrying) (calls : List Call) (new : Ca
 calls_read nothing old [] new h lasts = reads_none old new h
 calls_read nothing old (call ∷ calls) new h lasts =
     reads_more old call h.0 calls new (reads_one nothing old call h.0 h.1 (calls_last h.0 calls new h.2 lasts))
-        (calls_read nothing h.0 calls new h.2 lasts)
+    (calls_read nothing h.0 calls new h.2 lasts)
 
 -- ---- the pieces do not matter
 
@@ -190,21 +190,21 @@ only_packets (user call ∷ acts) none = absurd cc
 
 pub pieces_alike : IsPartial [] → OneCut → (old a b : Carrying) (xs ys : List Call) → IsPartial old.held.octets → old.held.offset < 2 ^ 64 →
     CallsAlong old xs a → CallsAlong old ys b → flat_map called_in xs ≡ [] → flat_map called_in ys ≡ [] →
-        flat_map used_in xs ≡ flat_map used_in ys →
+    flat_map used_in xs ≡ flat_map used_in ys →
     a.state.ended ≡ None → b.state.ended ≡ None → AreAlike a xs b ys
 pieces_alike nothing one_cut old a b xs ys partial bound h k none nor used lasts still =
     let m = calls_read nothing old xs a h lasts in
     let n = calls_read nothing old ys b k still in
     let one = one_cut (old.held.octets ++ flat_map used_in xs) a.held.octets b.held.octets (flat_map packet_in m.acts)
-        (flat_map packet_in n.acts)
+    (flat_map packet_in n.acts)
     (m.partial partial) (n.partial partial) m.packets
     (subst (λ l. ArePackets (flat_map packet_in n.acts) (old.held.octets ++ l) b.held.octets) (sym used) n.packets) in
     let acts : m.acts ≡ n.acts = only_packets m.acts (m.called ∙ none) ∙ ap (map packet) one.0 ∙
-        sym (only_packets n.acts (n.called ∙ nor)) in
+    sym (only_packets n.acts (n.called ∙ nor)) in
     record {
       octets = one.1;
       offset = m.offset bound ∙ ap (λ l. offset_of (old.held.offset + (length (old.held.octets ++ l) - length a.held.octets))) used
           ∙ ap (λ l. offset_of (old.held.offset + (length (old.held.octets ++ flat_map used_in ys) - length l))) one.1 ∙
-              sym (n.offset bound);
+          sym (n.offset bound);
       state = m.state ∙ ap (λ l. all_done l old.state) acts ∙ sym n.state;
     }

@@ -97,7 +97,7 @@ behind : (old : Carrying) (piece : List ℕ) (now : Carrying) (rest : List ℕ) 
     Behind old piece now rest used new acts.packet read
 behind old piece now rest used new read acts =
     let assoc : (old.held.octets ++ read.front) ++ take used rest ≡ old.held.octets ++ (read.front ++ take used rest) =
-        append_assoc old.held.octets read.front (take used rest) in
+    append_assoc old.held.octets read.front (take used rest) in
     let left = packets_leave read.units (old.held.octets ++ read.front) now.held.octets read.packets in
     let joined = length-append (old.held.octets ++ read.front) (take used rest) in
     let same = ap length assoc in
@@ -119,7 +119,7 @@ read_next old piece now rest used new read acts quiet =
     let b = behind old piece now rest used new read acts in
     let same : new.state ≡ after_packet now.state acts.packet =
     elim (acts_cases now.state new.state acts.packet acts.acted)
-        [ inl h ↦ h | inr h ↦ (let over : stops new.state ≡ true = ap stops h.2.ended in cc) ] in
+    [ inl h ↦ h | inr h ↦ (let over : stops new.state ≡ true = ap stops h.2.ended in cc) ] in
     let none = ap length acts.held in
     let far = b.offset in
     let before = read.room in
@@ -145,9 +145,11 @@ read_next old piece now rest used new read acts quiet =
 looked : (piece front rest : List ℕ) (used : ℕ) → piece ≡ (front ++ take used rest) ++ drop used rest →
     (take (length (front ++ take used rest)) piece ≡ front ++ take used rest) × (length (front ++ take used rest) ≤ length piece)
 looked piece front rest used cut =
-    let sizes = ap length cut ∙ length-append (front ++ take used rest) (drop used rest) in
-    (ap (take (length (front ++ take used rest))) cut ∙
-        take_at (front ++ take used rest) (drop used rest) (length (front ++ take used rest)) refl, omega arith)
+    let sizes = ap length cut ∙ length-append (front ++ take used rest) (drop used rest) in (
+      ap (take (length (front ++ take used rest))) cut ∙
+          take_at (front ++ take used rest) (drop used rest) (length (front ++ take used rest)) refl,
+      omega arith,
+    )
 
 stopped_by : (old : Carrying) (piece : List ℕ) (now : Carrying) (rest : List ℕ) (used uses : ℕ) (new : Carrying)
     (read : IsRead old piece now rest) (acts : PacketActs now rest used new) →
@@ -182,12 +184,12 @@ stopped_by old piece now rest used uses new read acts same stopped e =
 pub read_stops : (old : Carrying) (piece : List ℕ) (now : Carrying) (rest : List ℕ) (used : ℕ) (new : Carrying) →
     IsRead old piece now rest →
     PacketActs now rest used new → stops new.state ≡ true → is_spoilt new.state.ended ≡ false →
-        Goes old piece (length piece - length (drop used rest)) new
+    Goes old piece (length piece - length (drop used rest)) new
 read_stops old piece now rest used new read acts stopped sound =
     let b = behind old piece now rest used new read acts in
     let same : new.state ≡ after_packet now.state acts.packet =
     elim (acts_cases now.state new.state acts.packet acts.acted)
-        [ inl h ↦ h | inr h ↦ (let over : is_spoilt new.state.ended ≡ true = ap (λ (s : State). is_spoilt s.ended) h.2.ended in cc) ] in
+    [ inl h ↦ h | inr h ↦ (let over : is_spoilt new.state.ended ≡ true = ap (λ (s : State). is_spoilt s.ended) h.2.ended in cc) ] in
     let sizes = ap length b.cut ∙ length-append (read.front ++ take used rest) (drop used rest) in
     let uses : length piece - length (drop used rest) ≡ length (read.front ++ take used rest) = omega arith in
     inl (inr (stopped_by old piece now rest used (length piece - length (drop used rest)) new read acts same stopped (rw sound uses)))
@@ -219,7 +221,7 @@ starved_by old piece now rest used new read acts starves =
     let b = behind old piece now rest used new read acts in
     let seen = looked piece read.front rest used b.cut in
     let assoc : (old.held.octets ++ read.front) ++ take used rest ≡ old.held.octets ++ (read.front ++ take used rest) =
-        append_assoc old.held.octets read.front (take used rest) in
+    append_assoc old.held.octets read.front (take used rest) in
     record {
       within = length (read.front ++ take used rest);
       units = read.units;
@@ -232,8 +234,11 @@ starved_by old piece now rest used new read acts starves =
           (packets_more read.units (old.held.octets ++ read.front) now.held.octets (take used rest) read.packets);
       taken = read.taken;
       quiet = read.quiet;
-      how = inr (acts.packet,
-          (now.held.octets ++ take used rest, [], acts.whole, sym (append-nil (now.held.octets ++ take used rest)), refl), starves);
+      how = inr (
+        acts.packet,
+        (now.held.octets ++ take used rest, [], acts.whole, sym (append-nil (now.held.octets ++ take used rest)), refl),
+        starves,
+      );
       held = acts.held;
       faultless = packet_faultless acts.packet (now.held.octets ++ take used rest) (drop (length (read.front ++ take used rest)) piece)
           acts.whole;
@@ -268,7 +273,7 @@ whole_offset old piece now rest read =
     let b = length-append old.held.octets piece in
     let c = length-append now.held.octets rest in
     let same : length (old.held.octets ++ piece) - length (now.held.octets ++ rest) ≡ length (old.held.octets ++ read.front) - length
-        now.held.octets = omega arith in
+    now.held.octets = omega arith in
     before ∙ ap (λ n. offset_of (old.held.offset + n)) (sym same)
 
 pub read_part : (old : Carrying) (piece : List ℕ) (now : Carrying) (rest : List ℕ) (new : Carrying) → IsRead old piece now rest →
@@ -315,7 +320,7 @@ over_by old piece now rest new read held (inl fault) =
 over_by old piece now rest new read held (inr none) =
     let sizes = ap length read.cut ∙ length-append read.front rest in
     let seen : take (length read.front) piece ≡ read.front = ap (take (length read.front)) read.cut ∙
-        take_at read.front rest (length read.front) refl in
+    take_at read.front rest (length read.front) refl in
     let behind : drop (length read.front) piece ≡ rest = ap (drop (length read.front)) read.cut ∙ drop-append_seam read.front rest in
     inr (inr (record {
       within = length read.front;

@@ -130,9 +130,9 @@ over_goes laws old piece fed new later lasts (inl (inr stop)) over =
     (subst (λ l. ArePackets lasts.units l lasts.rest) same lasts.packets) stop.packets in
     let done = packets_done stop.units old.state new.state stop.taken in
     let gone = packets_over parted.more (all_done (map packet stop.units) old.state) (ap (λ (x : State). is_some x.ended) (sym done) ∙ over)
-        in
+    in
     never (all_done (map packet parted.more) (all_done (map packet stop.units) old.state)) gone
-        (parted_lasts old lasts.units stop.units parted.more parted.all lasts.lasts)
+    (parted_lasts old lasts.units stop.units parted.more parted.all lasts.lasts)
 over_goes laws old piece fed new later lasts (inr (inl refused)) over =
     let whole : take fed.used piece ≡ piece = let all = refused.all in take_all fed.used piece (omega arith) in
     let same : old.held.octets ++ (take fed.used piece ++ later) ≡ (old.held.octets ++ piece) ++ later =
@@ -146,7 +146,7 @@ over_goes laws old piece fed new later lasts (inr (inr starved)) over =
 over_feed : PacketLaws → (old : Carrying) (piece : List ℕ) (fed : Fed) (new : Carrying) (later : List ℕ) (waiting : Bool) →
     waits old.state ≡ waiting → old.state.ended ≡ None →
     Lasts old (old.held.octets ++ (take fed.used piece ++ later)) → Feeds old piece fed new → is_some new.state.ended ≡ true →
-        new.state.ended ≡ Some NoMemory
+    new.state.ended ≡ Some NoMemory
 over_feed laws old piece fed new later true e quiet lasts h over =
     never new.state over (ap (λ (x : Carrying). x.state.ended) (h.waiting quiet e).1 ∙ quiet)
 over_feed laws old piece fed new later false e quiet lasts h over =
@@ -154,7 +154,7 @@ over_feed laws old piece fed new later false e quiet lasts h over =
 
 over_one : PacketLaws → (old : Carrying) (call : Call) (new : Carrying) (later : List ℕ) → called_in call ≡ [] → old.state.ended ≡ None →
     Lasts old (old.held.octets ++ (used_in call ++ later)) → Calls old call new → is_some new.state.ended ≡ true →
-        new.state.ended ≡ Some NoMemory
+    new.state.ended ≡ Some NoMemory
 over_one laws old (feeding piece fed) new later none quiet lasts h over =
     over_feed laws old piece fed new later (waits old.state) refl quiet lasts h over
 over_one laws old (telling event) new later none quiet lasts h over =
@@ -171,12 +171,12 @@ lasts_on laws old call new later none one lasts =
     let acts : one.acts ≡ map packet vs = only_packets one.acts (one.called ∙ none) in
     let parted = parts laws lasts.units vs (old.held.octets ++ used_in call) new.held.octets later lasts.rest lasts.partial
     (subst (λ l. ArePackets lasts.units l lasts.rest) (sym (append_assoc old.held.octets (used_in call) later)) lasts.packets) one.packets
-        in
+    in
     let state : put_back (told_in call) (carried_in call) new.state ≡ all_done (map packet vs) old.state =
-        one.state ∙ ap (λ l. all_done l old.state) acts in
+    one.state ∙ ap (λ l. all_done l old.state) acts in
     let behind = parted_lasts old lasts.units vs parted.more parted.all lasts.lasts in
     search (ap (λ (s : State). s.ended) (sym (apart_all (told_in call) (carried_in call) (map packet parted.more) new.state) ∙
-        ap (all_done (map packet parted.more)) state) ∙ behind)
+    ap (all_done (map packet parted.more)) state) ∙ behind)
 
 abbrev LastsOrStarves : Carrying → Type 0
 LastsOrStarves new = (new.state.ended ≡ None) ⊎ (new.state.ended ≡ Some NoMemory)
@@ -204,7 +204,7 @@ lasts_along laws nothing old (call ∷ calls) new none quiet h lasts =
 pub pieces_last : PacketLaws → IsPartial [] → (old a b : Carrying) (xs ys : List Call) → IsPartial old.held.octets →
     old.state.ended ≡ None →
     CallsAlong old xs a → CallsAlong old ys b → flat_map called_in xs ≡ [] → flat_map called_in ys ≡ [] →
-        flat_map used_in xs ≡ flat_map used_in ys →
+    flat_map used_in xs ≡ flat_map used_in ys →
     a.state.ended ≡ None → LastsOrStarves b
 pieces_last laws nothing old a b xs ys partial quiet h k none nor used lasts =
     let m = calls_read nothing old xs a h lasts in

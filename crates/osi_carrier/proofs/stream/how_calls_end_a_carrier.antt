@@ -180,7 +180,7 @@ ends_goes old piece fed new later (inl (inr stop)) over full =
         rest = front.0 ++ later;
         packets = subst (λ l. ArePackets (t.before ++ t.last ∷ []) l (front.0 ++ later)) (sym same)
             (subst (λ us. ArePackets us (s ++ (front.0 ++ later)) (front.0 ++ later)) t.all
-                (packets_more stop.units s [] (front.0 ++ later) stop.packets));
+            (packets_more stop.units s [] (front.0 ++ later) stop.packets));
         lasts = t.lasts;
         over = ap (λ (x : State). is_some x.ended) (sym done) ∙ over;
         state = done;
@@ -275,7 +275,7 @@ ending_more old mid call t final none bound one (inl a) =
     let vs = flat_map packet_in one.acts in
     let us = a.before ++ a.last ∷ [] in
     let state : put_back (told_in call) (carried_in call) mid.state ≡ after vs old.state =
-        one.state ∙ ap (λ l. all_done l old.state) (only_packets one.acts (one.called ∙ none)) in
+    one.state ∙ ap (λ l. all_done l old.state) (only_packets one.acts (one.called ∙ none)) in
     let parts : (vs ++ a.before) ++ a.last ∷ [] ≡ vs ++ us = append_assoc vs a.before (a.last ∷ []) in
     let first = behind_call (told_in call) (carried_in call) vs a.before (vs ++ a.before) old.state mid.state refl state in
     let all = behind_call (told_in call) (carried_in call) vs us ((vs ++ a.before) ++ a.last ∷ []) old.state mid.state parts state in
@@ -294,17 +294,17 @@ ending_more old mid call t final none bound one (inr a) =
     let vs = flat_map packet_in one.acts in
     let s = old.held.octets ++ used_in call in
     let state : put_back (told_in call) (carried_in call) mid.state ≡ after vs old.state =
-        one.state ∙ ap (λ l. all_done l old.state) (only_packets one.acts (one.called ∙ none)) in
+    one.state ∙ ap (λ l. all_done l old.state) (only_packets one.acts (one.called ∙ none)) in
     let all = behind_call (told_in call) (carried_in call) vs a.before (vs ++ a.before) old.state mid.state refl state in
     let left = packets_leave vs s mid.held.octets one.packets in
     let leaves = packets_leave a.before (mid.held.octets ++ t) a.rest a.packets in
     let m = length-append mid.held.octets t in
     let n = length-append s t in
     let at : offset_of (mid.held.offset + (length (mid.held.octets ++ t) - length a.rest)) ≡ offset_of
-        (old.held.offset + (length (s ++ t) - length a.rest)) =
+    (old.held.offset + (length (s ++ t) - length a.rest)) =
     ap (λ k. offset_of (mid.held.offset + (k - length a.rest))) m
     ∙ offsets_join old.held.offset mid.held.offset (length s) (length mid.held.octets) (length t) (length a.rest) (one.offset bound)
-        (omega arith) (omega arith)
+    (omega arith) (omega arith)
     ∙ ap (λ k. offset_of (old.held.offset + (k - length a.rest))) (sym n) in
     inr (record {
       before = vs ++ a.before;
@@ -323,18 +323,18 @@ outcome_by : IsPartial [] → (old : Carrying) (call : Call) (mid : Carrying) (c
     is_some mid.state.ended ≡ over → called_in call ≡ [] → flat_map called_in calls ≡ [] → old.state.ended ≡ None →
     old.held.offset < 2 ^ 64 → Calls old call mid → CallsAlong mid calls new → (new.state.ended ≡ Some NoMemory → ⊥) →
     (mid.state.ended ≡ None → mid.held.offset < 2 ^ 64 →
-        Outcome mid (mid.held.octets ++ flat_map used_in calls) (put_back (flat_map told_in calls) (flat_map carried_in calls) new.state)
-        new.held.octets) →
+    Outcome mid (mid.held.octets ++ flat_map used_in calls) (put_back (flat_map told_in calls) (flat_map carried_in calls) new.state)
+    new.held.octets) →
     Outcome old (old.held.octets ++ (used_in call ++ flat_map used_in calls))
-        (put_back (told_in call ++ flat_map told_in calls) (carried_in call ++ flat_map carried_in calls) new.state) new.held.octets
+    (put_back (told_in call ++ flat_map told_in calls) (carried_in call ++ flat_map carried_in calls) new.state) new.held.octets
 outcome_by nothing old call mid calls new true e none nor quiet bound h rest full on =
     let still = stays_along mid calls new nor e rest in
     let one = ends_one old call mid (flat_map used_in calls) none quiet h e
-        (λ starved. full (over_calls mid calls new nor e rest ∙ starved)) in
+    (λ starved. full (over_calls mid calls new nor e rest ∙ starved)) in
     let same : put_back (told_in call ++ flat_map told_in calls) (carried_in call ++ flat_map carried_in calls) new.state ≡ put_back
-        (told_in call) (carried_in call) mid.state =
+    (told_in call) (carried_in call) mid.state =
     back_joined (told_in call) (flat_map told_in calls) (carried_in call) (flat_map carried_in calls) new.state ∙
-        ap (put_back (told_in call) (carried_in call)) still.state in
+    ap (put_back (told_in call) (carried_in call)) still.state in
     record {
       how = subst (λ (s : State). Ending old.state old.held.offset (old.held.octets ++ (used_in call ++ flat_map used_in calls)) s)
           (sym same) one.how;
@@ -349,15 +349,15 @@ outcome_by nothing old call mid calls new false e none nor quiet bound h rest fu
       how = subst (λ (s : State). Ending old.state old.held.offset (old.held.octets ++ (used_in call ++ flat_map used_in calls)) s)
           (sym (back_joined (told_in call) (flat_map told_in calls) (carried_in call) (flat_map carried_in calls) new.state))
           (ending_more old mid call (flat_map used_in calls) (put_back (flat_map told_in calls) (flat_map carried_in calls) new.state) none
-              bound one more.how);
+          bound one more.how);
       nothing = more.nothing;
     }
 
 outcome_along : IsPartial [] → (old : Carrying) (calls : List Call) (new : Carrying) → flat_map called_in calls ≡ [] →
     old.state.ended ≡ None → old.held.offset < 2 ^ 64 → CallsAlong old calls new → is_some new.state.ended ≡ true →
     (new.state.ended ≡ Some NoMemory → ⊥) →
-        Outcome old (old.held.octets ++ flat_map used_in calls) (put_back (flat_map told_in calls) (flat_map carried_in calls) new.state)
-        new.held.octets
+    Outcome old (old.held.octets ++ flat_map used_in calls) (put_back (flat_map told_in calls) (flat_map carried_in calls) new.state)
+    new.held.octets
 outcome_along nothing old [] new none quiet bound h over full = never new.state over (ap (λ (x : Carrying). x.state.ended) h ∙ quiet)
 outcome_along nothing old (call ∷ calls) new none quiet bound h over full =
     let parted = none_first (called_in call) (flat_map called_in calls) none in
@@ -376,7 +376,7 @@ ends_too s h h_ full = grind arith
 alike_by : PacketLaws → IsPartial [] → (old a b : Carrying) (xs ys : List Call) (over : Bool) → is_some b.state.ended ≡ over →
     IsPartial old.held.octets → old.held.offset < 2 ^ 64 → old.state.ended ≡ None →
     CallsAlong old xs a → CallsAlong old ys b → flat_map called_in xs ≡ [] → flat_map called_in ys ≡ [] →
-        flat_map used_in xs ≡ flat_map used_in ys →
+    flat_map used_in xs ≡ flat_map used_in ys →
     (a.state.ended ≡ None → ⊥) → (a.state.ended ≡ Some NoMemory → ⊥) → (b.state.ended ≡ Some NoMemory → ⊥) → EndAlike a xs b ys
 alike_by laws nothing old a b xs ys false e partial bound quiet h k none nor used ended full full_too =
     ends_too a.state (pieces_last laws nothing old b a ys xs partial quiet k h nor none (sym used) (none_of b.state.ended e)) ended full
@@ -390,13 +390,13 @@ alike_by laws nothing old a b xs ys true e partial bound quiet h k none nor used
           (put_back (flat_map told_in xs) (flat_map carried_in xs) a.state)
           (put_back (flat_map told_in ys) (flat_map carried_in ys) b.state)
           m.how (subst (λ l. Ending old.state old.held.offset (old.held.octets ++ l)
-              (put_back (flat_map told_in ys) (flat_map carried_in ys) b.state)) (sym used) n.how);
+          (put_back (flat_map told_in ys) (flat_map carried_in ys) b.state)) (sym used) n.how);
     }
 
 pub pieces_end : PacketLaws → IsPartial [] → (old a b : Carrying) (xs ys : List Call) → IsPartial old.held.octets →
     old.held.offset < 2 ^ 64 → old.state.ended ≡ None →
     CallsAlong old xs a → CallsAlong old ys b → flat_map called_in xs ≡ [] → flat_map called_in ys ≡ [] →
-        flat_map used_in xs ≡ flat_map used_in ys →
+    flat_map used_in xs ≡ flat_map used_in ys →
     (a.state.ended ≡ None → ⊥) → (a.state.ended ≡ Some NoMemory → ⊥) → (b.state.ended ≡ Some NoMemory → ⊥) → EndAlike a xs b ys
 pieces_end laws nothing old a b xs ys partial bound quiet h k none nor used ended full full_too =
     alike_by laws nothing old a b xs ys (is_some b.state.ended) refl partial bound quiet h k none nor used ended full full_too

@@ -52,7 +52,7 @@ has_to_hold proper room held octets partial some parted fed belongs more = recor
   some = some_belongs proper held octets fed.used fed.whole partial some belongs.whole;
   parted = λ none. parted_belongs octets fed.used fed.whole (parted none)
       (subst (λ h. MatchBool fed.whole (IsOnePacket (h ++ take fed.used octets))
-          (IsPartial (h ++ take fed.used octets) × (fed.used ≡ length octets))) none belongs.whole);
+      (IsPartial (h ++ take fed.used octets) × (fed.used ≡ length octets))) none belongs.whole);
   more = more;
 }
 
@@ -78,14 +78,14 @@ pub fetched_packet : Proper → IsPartial [] → (old new : Carrying) (octets : 
     TakesPiece old.held octets (Ok fed) held →
     IsPacket packet held.octets → (fed.whole ≡ true → 0 < fed.used) → Acts old.state packet new.state →
     new.held ≡ record { offset = offset_of (held.offset + length held.octets); octets = []; fault = None; room = held.room } →
-        IsHolding new.held →
+    IsHolding new.held →
     PacketActs old octets fed.used new
 fetched_packet proper nothing old new octets fed held packet taken stands progress acted advanced holding =
     let belongs = taken.0 in
     let gains = taken.1 in
     let joined : held.octets ≡ old.held.octets ++ take fed.used octets = ap (λ (h : Held). h.octets) gains.octets in
     let whole = second_out fed.whole (IsOnePacket (old.held.octets ++ take fed.used octets))
-        (IsPartial (old.held.octets ++ take fed.used octets) × (fed.used ≡ length octets))
+    (IsPartial (old.held.octets ++ take fed.used octets) × (fed.used ≡ length octets))
     belongs.whole (λ part. proper (old.held.octets ++ take fed.used octets) part.0 (packet, subst (IsPacket packet) joined stands)) in
     record {
       packet = packet;
@@ -94,8 +94,11 @@ fetched_packet proper nothing old new octets fed held packet taken stands progre
       whole = subst (IsPacket packet) joined stands;
       acted = acted;
       held = ap (λ (h : Held). h.octets) advanced;
-      reading = record { holding = holding; partial = subst IsPartial (sym (ap (λ (h : Held). h.octets) advanced)) nothing;
-          fault = ap (λ (h : Held). h.fault) advanced };
+      reading = record {
+        holding = holding;
+        partial = subst IsPartial (sym (ap (λ (h : Held). h.octets) advanced)) nothing;
+        fault = ap (λ (h : Held). h.fault) advanced;
+      };
       offset = ap (λ (h : Held). h.offset) advanced ∙
           ap (λ n. offset_of (n + length held.octets)) (ap (λ (h : Held). h.offset) gains.octets)
           ∙ ap (λ l. offset_of (old.held.offset + length l)) joined;

@@ -66,7 +66,7 @@ units_front (u ∷ us) (v ∷ vs) s r t all h e =
     let same : h.0 ++ (h.1 ++ t) ≡ packet_of (written v) ++ packets vs = sym (append_assoc h.0 h.1 t) ∙ ap (λ l. l ++ t) (sym h.3) ∙ e in
     let one = one_packet u (written v) h.0 (packet_of (written v)) (h.1 ++ t) (packets vs) h.2 packet same in
     let behind : h.1 ++ t ≡ packets vs =
-        append_cancel_left (packet_of (written v)) (h.1 ++ t) (packets vs) (ap (λ l. l ++ (h.1 ++ t)) (sym one.0) ∙ same) in
+    append_cancel_left (packet_of (written v)) (h.1 ++ t) (packets vs) (ap (λ l. l ++ (h.1 ++ t)) (sym one.0) ∙ same) in
     let more = units_front us vs h.1 r t all.1 h.4 behind in
     record {
       done = v ∷ more.done;

@@ -38,10 +38,10 @@ first_cut slot limit n head body part rest end few is first behind last =
     let short : length rest ≡ length body - n = ap length behind ∙ length-drop n body in
     let ends = last ∙ ends_by limit (length (head ++ body)) (length rest) (leb (length (head ++ body)) limit) refl (omega arith) in
     let unit = ap (λ (b : Bool). part_under (number_in slot) b (head ++ part)) ends ∙
-        ap (part_under (number_in slot) (leb (length (head ++ body)) limit)) (sym octets) in
+    ap (part_under (number_in slot) (leb (length (head ++ body)) limit)) (sym octets) in
     let carries =
-        part_octets (number_in slot) (leb (length (head ++ body)) limit) (take (min limit (length (head ++ body))) (head ++ body)) ∙
-        ap length octets in
+    part_octets (number_in slot) (leb (length (head ++ body)) limit) (take (min limit (length (head ++ body))) (head ++ body)) ∙
+    ap length octets in
     let long = length-append head part in
     let part_long : length part ≡ n = ap length first ∙ length-take-le n body (omega arith) in
     record {

@@ -24,7 +24,7 @@ pub record IsParting (peer : ℕ) (first : Standing) (before : List ℕ) (link :
 
 pub parting_first : (peer : ℕ) (link : Standing) (tsdu kept before : List ℕ) (spare : ℕ) → Goes link tsdu kept →
     length (packets (written_by peer (with_tsdu link tsdu))) ≤ spare →
-        IsParting peer (with_tsdu link tsdu) before link tsdu kept before spare
+    IsParting peer (with_tsdu link tsdu) before link tsdu kept before spare
 parting_first peer link tsdu kept before spare goes room =
     record { goes = goes; pumping = pumping_first peer (with_tsdu link tsdu) before; room = room }
 
@@ -41,7 +41,7 @@ nothing_by : (link : Standing) (rest : List ℕ) (o : Option (Given × Standing)
 nothing_by link rest None quiet never e = e
 nothing_by link rest (Some p) quiet never e =
     absurd (never
-        (goes_at_once link rest quiet (λ (none : next (with_tsdu link rest) ≡ None). (let no : Some p ≡ None = sym e ∙ none in cc))))
+    (goes_at_once link rest quiet (λ (none : next (with_tsdu link rest) ≡ None). (let no : Some p ≡ None = sym e ∙ none in cc))))
 
 pub nothing_goes : (link : Standing) (rest : List ℕ) → next link ≡ None → (GoesAtOnce link → ⊥) → next (with_tsdu link rest) ≡ None
 nothing_goes link rest quiet never = nothing_by link rest (next (with_tsdu link rest)) quiet never refl
@@ -54,8 +54,10 @@ left_behind head body rest octets n is e = e ∙ sym (drop-append-add head body 
 -- what the link gives then, from the part on
 pub parts_from : (link new : Standing) (rest : List ℕ) (unit : Given) → 0 < link.ends.limit → GivesPart unit rest link new →
     drained (with_tsdu link rest)
-    ≡ record { units = unit ∷ (drained (with_rest new (drop (octets_of unit) rest))).units;
-        link = (drained (with_rest new (drop (octets_of unit) rest))).link }
+    ≡ record {
+      units = unit ∷ (drained (with_rest new (drop (octets_of unit) rest))).units;
+      link = (drained (with_rest new (drop (octets_of unit) rest))).link;
+    }
 parts_from link new rest unit room part = drained_some (with_tsdu link rest) (with_rest new (drop (octets_of unit) rest)) unit room
     part.gives
 
@@ -64,7 +66,7 @@ pub part_room : (peer : ℕ) (link new : Standing) (rest : List ℕ) (unit : Giv
     length (packets (unit_of peer unit ∷ [])) ≤ length (packets (written_by peer (with_tsdu link rest)))
 part_room peer link new rest unit room part =
     let all = pumping_room peer (with_tsdu link rest) (with_rest new (drop (octets_of unit) rest)) unit
-        (parts_from link new rest unit room part) in
+    (parts_from link new rest unit room part) in
     omega arith
 
 pub empty_list : (l : List ℕ) → length l ≡ 0 → l ≡ []
@@ -132,7 +134,7 @@ pub record IsKept (peer : ℕ) (first : Standing) (before : List ℕ) (now : Sta
 
 pub parting_kept : (peer : ℕ) (first link now : Standing) (before rest kept octets : List ℕ) (spare : ℕ) →
     IsParting peer first before link rest kept octets spare → (GoesAtOnce link → ⊥) → now ≡ with_tsdu link kept →
-        IsKept peer first before now octets
+    IsKept peer first before now octets
 parting_kept peer first link now before rest kept octets spare h never is =
     let then = with_tsdu link rest in
     let none = nothing_goes link rest h.goes.quiet never in
@@ -140,8 +142,11 @@ parting_kept peer first link now before rest kept octets spare h never is =
     let all : kept ≡ rest = h.goes.left ∙ ap (λ (d : Drained). drop (octets_in d.units) rest) end in
     let same : now ≡ then = is ∙ ap (with_tsdu link) all in
     record {
-      whole = record { link = same ∙ pumping_link peer first then before octets h.pumping end; written = pumping_octets peer first then
-          before octets h.pumping end };
+      whole = record {
+        link = same ∙ pumping_link peer first then before octets h.pumping end;
+        written = pumping_octets peer first then
+            before octets h.pumping end;
+      };
       quiet = ap next same ∙ none;
     }
 
@@ -149,21 +154,21 @@ parting_kept peer first link now before rest kept octets spare h never is =
 pub parting_then : (peer : ℕ) (link new : Standing) (tsdu rest kept before after : List ℕ) (unit : Given) (spare left : ℕ) →
     Goes link tsdu kept →
     length (packets (written_by peer (with_tsdu link tsdu))) ≤ spare → 0 < link.ends.limit → GivesPart unit tsdu link new →
-        new.ends.unsent ≡ [] →
+    new.ends.unsent ≡ [] →
     drop (octets_of unit) tsdu ≡ rest → after ≡ before ++ packets (unit_of peer unit ∷ []) →
-        spare ≤ left + length (packets (unit_of peer unit ∷ [])) →
+    spare ≤ left + length (packets (unit_of peer unit ∷ [])) →
     0 < length rest → IsParting peer (with_tsdu link tsdu) before new rest kept after left
 parting_then peer link new tsdu rest kept before after unit spare left goes room limit part alone behind put took some =
     subst (λ (r : List ℕ). IsParting peer (with_tsdu link tsdu) before new r kept after left) behind
     (parting_next peer (with_tsdu link tsdu) link new before tsdu kept before after unit spare left
-        (parting_first peer link tsdu kept before spare goes room) limit
+    (parting_first peer link tsdu kept before spare goes room) limit
     part alone put took (subst (λ (r : List ℕ). 0 < length r) (sym behind) some))
 
 -- and then all others
 pub parting_all : (peer : ℕ) (first link last : Standing) (before rest kept octets after : List ℕ) (spare : ℕ) →
     IsParting peer first before link rest kept octets spare →
     last ≡ pumped (with_tsdu link rest) → after ≡ octets ++ packets (written_by peer (with_tsdu link rest)) →
-        IsWhole peer first before last after
+    IsWhole peer first before last after
 parting_all peer first link last before rest kept octets after spare h e put =
     let others = packets (written_by peer (with_tsdu link rest)) in
     record {

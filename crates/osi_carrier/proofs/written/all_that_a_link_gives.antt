@@ -22,7 +22,7 @@ pumping_first peer first before = record { more = []; is = sym (append-nil befor
 pub pumping_next : (peer : ℕ) (first now next : Standing) (before octets after : List ℕ) (unit : Given) →
     IsPumping peer first before now octets →
     drained now ≡ record { units = unit ∷ (drained next).units; link = (drained next).link } →
-        after ≡ octets ++ packets (unit_of peer unit ∷ []) →
+    after ≡ octets ++ packets (unit_of peer unit ∷ []) →
     IsPumping peer first before next after
 pumping_next peer first now next before octets after unit h e put =
     let one = packets (unit_of peer unit ∷ []) in
@@ -64,7 +64,7 @@ pumping_room peer now next unit e =
 pub pumping_short : (peer : ℕ) (first now then : Standing) (unit : Given) (room left : ℕ) →
     drained now ≡ record { units = unit ∷ (drained then).units; link = (drained then).link } →
     (length (packets (written_by peer first)) ≤ room → length (packets (written_by peer now)) ≤ left) →
-        left < length (packets (unit_of peer unit ∷ [])) → room < length (packets (written_by peer first))
+    left < length (packets (unit_of peer unit ∷ [])) → room < length (packets (written_by peer first))
 pumping_short peer first now then unit room left e more full =
     let less = pumping_room peer now then unit e in
     elim (cases_lt room (length (packets (written_by peer first)))) [

@@ -27,7 +27,7 @@ written_least unit =
 pub given_size : (peer : ℕ) (given : Given) → length (packets (unit_of peer given ∷ [])) ≡ 4 + header_octets given + octets_of given
 given_size peer (part0 end octets) =
     let one : length (packets (data0 end octets ∷ [])) ≡ length (packet_of (written (data0 end octets))) =
-        ap length (one_packet_of (data0 end octets)) in
+    ap length (one_packet_of (data0 end octets)) in
     omega arith
 given_size peer (part2 number end octets) =
     let unit = data2 peer number end octets in

@@ -22,7 +22,7 @@ pub error_of_items : {V : Type 0} (items : V → List ℕ) (vs : List V) (b : Bo
     lengths_error (map items vs) ≡ (if b then Some TooLong else None)
 error_of_items items vs b e =
     ap (λ (c : Bool). if◌then◌else◌ {A = Option SendError} c (Some TooLong) None)
-        (sym (any_of_items items (λ tsdu. nat_lt 1048576 (length tsdu)) vs) ∙ e)
+    (sym (any_of_items items (λ tsdu. nat_lt 1048576 (length tsdu)) vs) ∙ e)
 
 pub no_items : {V : Type 0} (items : V → List ℕ) (vs : List V) → length vs ≡ 0 → map items vs ≡ []
 no_items items [] h = refl

@@ -31,12 +31,12 @@ part_grows : (peer : ℕ) (s : Standing) (flow : Option Flow) (end : Bool) (octe
 unfolding link_grows
 part_grows peer s flow true octets needs =
     or_right _ _ (or_left _ _
-        (lt-ltb 0 (length (take 1 (s.ends.joining.whole ++ (s.ends.joining.begun ++ octets) ∷ [])))
-        (whole_some s.ends.joining.whole (s.ends.joining.begun ++ octets))))
+    (lt-ltb 0 (length (take 1 (s.ends.joining.whole ++ (s.ends.joining.begun ++ octets) ∷ [])))
+    (whole_some s.ends.joining.whole (s.ends.joining.begun ++ octets))))
 part_grows peer s flow false octets needs =
     let t : Standing = record { ends = record s.ends { joining = with_part s.ends.joining false octets }; flow = flow } in
     let kept : (pumped (handed_out t)).ends.joining.begun ≡ s.ends.joining.begun ++ octets =
-        ap (λ (j : Joining). j.begun) (drained_leaves (handed_out t)).1 in
+    ap (λ (j : Joining). j.begun) (drained_leaves (handed_out t)).1 in
     let some = ltb-true 0 (length octets) needs in
     let size = ap length kept ∙ length-append s.ends.joining.begun octets in
     or_right _ _ (or_right _ _ (lt-ltb (length s.ends.joining.begun) (length (pumped (handed_out t)).ends.joining.begun) (omega arith)))
@@ -55,7 +55,7 @@ taken_by_grows peer s (Some f) (data0 end octets) needs = tt
 taken_by_grows peer s None (data2 d number end octets) needs = tt
 taken_by_grows peer s (Some f) (data2 d number end octets) needs =
     choose_ok (Grown peer s) (is_awaited f.receiver number) (with_joined s.ends (Some (taken_flow f)) (joined s.ends.joining end octets))
-        (Err OutOfSequence)
+    (Err OutOfSequence)
     (λ _. joined_grows peer s (Some (taken_flow f)) end octets (nat_lt longest_tsdu (length s.ends.joining.begun + length octets)) needs)
     (λ _. tt)
 taken_by_grows peer s flow unit needs = cc
@@ -79,7 +79,7 @@ want_taken r f needs t old new e g h = cc
 handed_is : (o : Option (List ℕ)) (old new : Standing) → Hands o old new → new ≡ handed_out old
 handed_is None old new h =
     h.1 ∙ ap (λ (w : List (List ℕ)). record old { ends = record old.ends { joining = record old.ends.joining { whole = w } } })
-        (h.0 ∙ sym (ap (drop 1) h.0))
+    (h.0 ∙ sym (ap (drop 1) h.0))
 handed_is (Some octets) old new h = sym (ap handed_out h)
 
 given_grows : (peer : ℕ) (s t : Standing) → nat_lt 0 (length (written_by peer (handed_out t))) ≡ true → Grown peer s t
@@ -189,7 +189,7 @@ put_kept r x y ((q, z) ∷ rows) h = put_kept_by r q z x y rows (q == r) refl (p
 abbrev LinkGrows : ℕ → Standing → Result Standing LinkFault → Type 0
 LinkGrows peer old t =
     (0 < length (units_after peer t)) ⊎
-        ((0 < length (whole_after t)) ⊎ (length old.ends.joining.begun < length (link_after old t).ends.joining.begun))
+    ((0 < length (whole_after t)) ⊎ (length old.ends.joining.begun < length (link_after old t).ends.joining.begun))
 
 link_cases : (peer : ℕ) (old : Standing) (t : Result Standing LinkFault) → link_grows peer old t ≡ true → LinkGrows peer old t
 unfolding link_grows
@@ -222,7 +222,7 @@ pub taking_grows : (r peer : ℕ) (s : State) (t : Result Standing LinkFault) �
     link_grows peer (link_in (value_at r s.live)) t ≡ true → grows s (taking r peer t s) ≡ true
 taking_grows r peer s t stands h =
     taking_by r peer s (link_in (value_at r s.live)) t (open_is (value_at r s.live) peer stands)
-        (link_cases peer (link_in (value_at r s.live)) t h)
+    (link_cases peer (link_in (value_at r s.live)) t h)
 
 -- a TSDU that became complete is reported
 pub took_grows : (r peer : ℕ) (s : State) (t : Result Standing LinkFault) (whole : List ℕ) → IsOk t → whole ∷ [] ≡ whole_after t →

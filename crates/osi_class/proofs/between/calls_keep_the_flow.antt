@@ -21,7 +21,7 @@ FlowMoves (give_out (part0 end octets)) f g = ⊥
 FlowMoves (give_out (part2 number end octets)) f g = (0 < f.sender.credit) × (number ≡ f.sender.next) × (g ≡ sent_flow f)
 FlowMoves (give_out (ack number credit)) f g =
     (0 < f.receiver.waiting) × (number ≡ ack_number f.receiver) × (credit ≡ f.receiver.window) ×
-        (g ≡ record f { receiver = after_acked f.receiver })
+    (g ≡ record f { receiver = after_acked f.receiver })
 FlowMoves (take_in (data2 destination number end octets)) f g = (is_awaited f.receiver number ≡ true) × (g ≡ taken_flow f)
 FlowMoves (take_in (acknowledge credit destination number)) f g =
     (acknowledged f.sender number credit ≡ Ok g.sender) × (g ≡ record f { sender = g.sender })
@@ -51,7 +51,7 @@ next_reaches e f =
 
 joined_reaches : (e : Ends) (f : Flow) (destination number : ℕ) (end : Bool) (octets : List ℕ) → is_awaited f.receiver number ≡ true →
     (r : Result Joining LinkFault) →
-        IfOk (with_joined e (Some (taken_flow f)) r) (Reaches (take_in (data2 destination number end octets)) f)
+    IfOk (with_joined e (Some (taken_flow f)) r) (Reaches (take_in (data2 destination number end octets)) f)
 joined_reaches e f destination number end octets awaited (Err fault) = tt
 joined_reaches e f destination number end octets awaited (Ok joining) = (taken_flow f, refl, (awaited, refl))
 

@@ -66,7 +66,7 @@ pub not_too_long : (p : LinkPair) (end : Bool) (octets : List ℕ) (rest : List 
 not_too_long p end octets rest whole all first =
     let j = p.right.ends.joining in
     let here : pending p ≡ (end, octets) ∷ (rest ++ uncut p.left.ends.unsent) =
-        ap (λ (x : List Part). x ++ uncut p.left.ends.unsent) first in
+    ap (λ (x : List Part). x ++ uncut p.left.ends.unsent) first in
     let ends = subst (λ (x : List Part). End j.begun x) here (pending_end p whole) in
     let Shorts : List Part → Type 0 = λ x. AllByRecursion IsShortTsdu (tsdus_after j.begun x) in
     let under : AllByRecursion IsShortTsdu (j.whole ++ tsdus_after j.begun (pending p)) =

@@ -65,7 +65,7 @@ ack_written d known h waiting =
     let same : length (d.acks ++ (ack_number r, r.window) ∷ []) + (r.waiting - 1) ≡ unknown d = omega arith in
     let number : ack_number r ≡ (known + 1 + length d.acks) % 128 =
     ap (λ (n : ℕ). steps_before n (r.waiting - 1))
-        (h.expected ∙ ap (λ (n : ℕ). n % 128) (let m : known + unknown d ≡ known + 1 + length d.acks + (r.waiting - 1) = omega arith in m))
+    (h.expected ∙ ap (λ (n : ℕ). n % 128) (let m : known + unknown d ≡ known + 1 + length d.acks + (r.waiting - 1) = omega arith in m))
     ∙ earlier_number (known + 1 + length d.acks) (r.waiting - 1) (omega arith) in
     record {
       units = h.units ∙ ap (λ (n : ℕ). numbers (known + n) (length d.units)) (sym same);

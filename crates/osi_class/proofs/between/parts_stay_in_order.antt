@@ -47,8 +47,8 @@ pub give_cuts : (limit : ℕ) (unsent : List (List ℕ)) → IfSome (give limit 
 give_cuts limit [] = tt
 give_cuts limit (tsdu ∷ more) =
     elim (nat_lt limit (length tsdu)) as
-        (λ b. IfSome (if b then Some ((false, take limit tsdu), drop limit tsdu ∷ more) else Some ((true, tsdu), more))
-        (Cuts (tsdu ∷ more))) [
+    (λ b. IfSome (if b then Some ((false, take limit tsdu), drop limit tsdu ∷ more) else Some ((true, tsdu), more))
+    (Cuts (tsdu ∷ more))) [
       | true ↦ λ later begun. ap (λ t. t ∷ tsdus_after [] (uncut (more ++ later)))
           (append_assoc begun (take limit tsdu) (drop limit tsdu) ∙ ap (λ t. begun ++ t) (take-append-drop limit tsdu))
       | false ↦ λ later begun. refl
@@ -69,5 +69,5 @@ JoinsPart j end octets k = (later : List Part) → made j ((end, octets) ∷ lat
 pub joined_makes : (j : Joining) (end : Bool) (octets : List ℕ) → IfOk (joined j end octets) (JoinsPart j end octets)
 joined_makes j end octets =
     choose_ok (JoinsPart j end octets) (nat_lt longest_tsdu (length j.begun + length octets)) (Err TsduTooLong)
-        (Ok (with_part j end octets))
+    (Ok (with_part j end octets))
     (λ _. tt) (λ _ later. with_part_makes j end octets later)

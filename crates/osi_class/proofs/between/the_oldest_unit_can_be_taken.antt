@@ -44,7 +44,7 @@ oldest_in_class_0 p (part0 end octets) rest destination a whole short e =
     let ends = p.right.ends in
     let fits = first_fits p end octets rest whole short (ap (λ (us : List Given). parts_under_way us) e) in
     oldest p (part0 end octets) rest destination
-        (record { ends = record ends { joining = with_part ends.joining end octets }; flow = None }) e
+    (record { ends = record ends { joining = with_part ends.joining end octets }; flow = None }) e
     (ap (λ (f : Option Flow). taken_by ends f (data0 end octets)) a.right
     ∙ ap (λ (r : Result Joining LinkFault). with_joined ends None r) fits)
 oldest_in_class_0 p (part2 number end octets) rest destination a whole short e =
@@ -62,12 +62,12 @@ oldest_in_class_2 p units back (part2 number end octets) rest destination a b wh
     let r = a.right_flow in
     let fits = first_fits p end octets rest whole short (ap (λ (us : List Given). parts_under_way us) e) in
     let awaited = unit_is_awaited (direction a.left_flow p r) a.known number (flat_map unit_numbers rest) a.in_step
-        (ap (λ (us : List Given). flat_map unit_numbers us) e) in
+    (ap (λ (us : List Given). flat_map unit_numbers us) e) in
     oldest p (part2 number end octets) rest destination
-        (record { ends = record ends { joining = with_part ends.joining end octets }; flow = Some (taken_flow r) }) e
+    (record { ends = record ends { joining = with_part ends.joining end octets }; flow = Some (taken_flow r) }) e
     (ap (λ (f : Option Flow). taken_by ends f (data2 destination number end octets)) a.have.right
     ∙ ap (λ (t : Bool). if◌then◌else◌ {A = Result Standing LinkFault} t
-        (with_joined ends (Some (taken_flow r)) (joined ends.joining end octets)) (Err OutOfSequence)) awaited
+    (with_joined ends (Some (taken_flow r)) (joined ends.joining end octets)) (Err OutOfSequence)) awaited
     ∙ ap (λ (k : Result Joining LinkFault). with_joined ends (Some (taken_flow r)) k) fits)
 oldest_in_class_2 p units back (ack number credit) rest destination a b whole short e =
     let ends = p.right.ends in

@@ -42,9 +42,9 @@ turn_keeps (at_left move) old new m later =
     ∙ flat_map-append given_parts old.rightward (given_by move)
     ∙ ap (λ (qs : List Part). ps ++ qs) (given_by_parts move) in
     let same : MakeTheSame (ps ++ (part_out move ++ uncut (new.left.ends.unsent ++ later)))
-        (ps ++ uncut (old.left.ends.unsent ++ (tsdu_in move ++ later))) =
+    (ps ++ uncut (old.left.ends.unsent ++ (tsdu_in move ++ later))) =
     same_behind_all ps (part_out move ++ uncut (new.left.ends.unsent ++ later)) (uncut (old.left.ends.unsent ++ (tsdu_in move ++ later)))
-        sends in
+    sends in
     sym (ap (λ (ts : List (List ℕ)). joining.whole ++ ts) (same joining.begun))
     ∙ ap (λ (qs : List Part). made joining qs)
     (sym (append_assoc ps (part_out move) (uncut (new.left.ends.unsent ++ later)))
@@ -52,14 +52,14 @@ turn_keeps (at_left move) old new m later =
     ∙ ap (λ (s : Standing). made s.ends.joining (parts_under_way new.rightward ++ uncut (new.left.ends.unsent ++ later))) (sym m.right)
 turn_keeps (at_right move) old new m later =
     let takes = (move_keeps move old.right new.right m.moves).takes.same
-        (parts_under_way new.rightward ++ uncut (old.left.ends.unsent ++ later)) in
+    (parts_under_way new.rightward ++ uncut (old.left.ends.unsent ++ later)) in
     let come = come_parts move old.rightward new.rightward m.comes in
     let tail = uncut (old.left.ends.unsent ++ later) in
     ap (λ (qs : List Part). made old.right.ends.joining (qs ++ tail)) come
     ∙ ap (λ (qs : List Part). made old.right.ends.joining qs) (append_assoc (part_in move) (parts_under_way new.rightward) tail)
     ∙ takes
     ∙ ap (λ (s : Standing). tsdu_out move ++ made new.right.ends.joining (parts_under_way new.rightward ++ uncut (s.ends.unsent ++ later)))
-        (sym m.right)
+    (sym m.right)
 
 pub turns_keep : (old new : LinkPair) (turns : List Turn) (later : List (List ℕ)) → TurnsAlong old turns new →
     under_way_before old (flat_map left_in turns ++ later) ≡ flat_map right_out turns ++ under_way_before new later

@@ -31,7 +31,7 @@ unsent_in_class_2 p units some a rightward leftward left right =
     let at_left_end = none_at p.left l a.have.left left in
     let all_open : l.sender.credit ≡ r.receiver.window = nothing_under_way (direction l p r) a.known a.in_step
     (ap (λ (us : List Given). flat_map unit_numbers us) rightward) (ap (λ (us : List Given). flat_map ack_numbers us) leftward)
-        at_right_end.0 in
+    at_right_end.0 in
     let window = a.window in
     elim at_left_end.1 [
       | inl none ↦ none
@@ -117,7 +117,7 @@ none_out (move ∷ moves) = none_out moves
 pub early_whole : (left right new : Standing) (moves : List Move) → IsFresh left → IsFresh right → AllByRecursion OnlySends moves →
     MovesAlong right moves new →
     HasWholeTsdus (awaiting_pair left new (flat_map given_by moves)) ×
-        HasWholeTsdus (swapped (awaiting_pair left new (flat_map given_by moves)))
+    HasWholeTsdus (swapped (awaiting_pair left new (flat_map given_by moves)))
 early_whole left right new moves a b sends run =
     let old = opened_pair left right in
     let after = awaiting_pair left new (flat_map given_by moves) in

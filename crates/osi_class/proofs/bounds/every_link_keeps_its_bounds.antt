@@ -59,7 +59,7 @@ joined_short : (j : Joining) (end : Bool) (octets : List ℕ) →
     IfOk (joined j end octets) (λ (k : Joining). length k.begun ≤ longest_tsdu)
 joined_short j end octets =
     choose_ok (λ (k : Joining). length k.begun ≤ longest_tsdu) (nat_lt longest_tsdu (length j.begun + length octets)) (Err TsduTooLong)
-        (Ok (with_part j end octets))
+    (Ok (with_part j end octets))
     (λ _. tt)
     (λ b. part_safe j end octets (ltb-false longest_tsdu (length j.begun + length octets) b))
 
@@ -82,7 +82,7 @@ acknowledged_sound s number credit below most =
     let left = steps_before s.next number in
     choose_ok IsSoundSender (nat_lt s.unacknowledged left) (Err OutOfSequence)
     (if nat_lt credit (s.credit + left) then Err CreditReduced else
-        Ok (record { next = s.next; unacknowledged = left; credit = credit - left }))
+    Ok (record { next = s.next; unacknowledged = left; credit = credit - left }))
     (λ _. tt)
     (λ _. choose_ok IsSoundSender (nat_lt credit (s.credit + left)) (Err CreditReduced)
     (Ok (record { next = s.next; unacknowledged = left; credit = credit - left }))
@@ -125,7 +125,7 @@ taken_safe e (Some f) (data2 destination number end octets) begun sound range =
     choose_ok (Safe e (Some f)) (is_awaited f.receiver number)
     (with_joined e (Some (taken_flow f)) (joined e.joining end octets)) (Err OutOfSequence)
     (λ b. joined_safe e (Some f) (Some (taken_flow f)) (taken_sound f sound (awaited_open f number b)) refl (joined e.joining end octets)
-        (joined_short e.joining end octets))
+    (joined_short e.joining end octets))
     (λ _. tt)
 taken_safe e (Some f) (acknowledge credit destination number) begun sound range =
     sender_safe e f begun sound (acknowledged f.sender number credit) (acknowledged_sound f.sender number credit sound.next range.0)

@@ -95,9 +95,9 @@ pub move_keeps : (move : Move) (old new : Standing) → Moves move old new →
 move_keeps (hand_in tsdu) old new e =
     let P : Standing → Type 0 = λ s. Keeps old.ends s.ends [] (tsdu ∷ []) [] [] in
     subst P (sym e) (record {
-      sends = record
-          { same = λ later begun. ap (λ (u : List (List ℕ)). tsdus_after begun (uncut u)) (append_assoc old.ends.unsent (tsdu ∷ []) later)
-          };
+      sends = record {
+        same = λ later begun. ap (λ (u : List (List ℕ)). tsdus_after begun (uncut u)) (append_assoc old.ends.unsent (tsdu ∷ []) later);
+      };
       takes = record { same = λ later. refl };
     })
 move_keeps (give_out unit) old new e = at_some (NextKeeps old.ends) (next old) (unit, new) (next_keeps old.ends old.flow) e
@@ -118,11 +118,11 @@ sends_run old new (move ∷ moves) (mid, first, rest) later begun =
     let one = (move_keeps move old mid first).sends.same (tsdus_in moves ++ later) begun in
     let more = sends_run mid new moves rest later in
     let left = ap (λ (ps : List Part). tsdus_after begun ps)
-        (append_assoc (part_out move) (parts_out moves) (uncut (new.ends.unsent ++ later))) in
+    (append_assoc (part_out move) (parts_out moves) (uncut (new.ends.unsent ++ later))) in
     let behind = same_behind_all (part_out move) (parts_out moves ++ uncut (new.ends.unsent ++ later))
-        (uncut (mid.ends.unsent ++ (tsdus_in moves ++ later))) more begun in
+    (uncut (mid.ends.unsent ++ (tsdus_in moves ++ later))) more begun in
     let right = ap (λ (ts : List (List ℕ)). tsdus_after begun (uncut (old.ends.unsent ++ ts)))
-        (append_assoc (tsdu_in move) (tsdus_in moves) later) in
+    (append_assoc (tsdu_in move) (tsdus_in moves) later) in
     left ∙ behind ∙ one ∙ sym right
 
 pub takes_run : (old new : Standing) (moves : List Move) (later : List Part) → MovesAlong old moves new →

@@ -112,7 +112,7 @@ within_moves : (n : ℕ) (s : Standing) → MovesAlong s (map give_out (drained_
 within_moves zero s = refl
 within_moves (suc n) s =
     elim (next s) as (λ o. next s ≡ o →
-        MovesAlong s (map give_out (drained_by o s (drained_within n)).units) (drained_by o s (drained_within n)).link) [
+    MovesAlong s (map give_out (drained_by o s (drained_within n)).units) (drained_by o s (drained_within n)).link) [
       | None ↦ λ e. refl
       | Some p ↦ λ e. (p.1, e, within_moves n p.1)
     ] refl
@@ -127,7 +127,7 @@ within_leaves zero s = (refl, refl, refl)
 within_leaves (suc n) s =
     elim (next s) as (λ o. next s ≡ o → ((drained_by o s (drained_within n)).link.ends.limit ≡ s.ends.limit) ×
     ((drained_by o s (drained_within n)).link.ends.joining ≡ s.ends.joining) ×
-        (is_some (drained_by o s (drained_within n)).link.flow ≡ is_some s.flow)) [
+    (is_some (drained_by o s (drained_within n)).link.flow ≡ is_some s.flow)) [
       | None ↦ λ e. (refl, refl, refl)
       | Some p ↦ λ e. let one = giving_leaves s p.1 p.0 e in
           let more = within_leaves n p.1 in

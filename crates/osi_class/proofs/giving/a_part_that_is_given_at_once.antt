@@ -25,7 +25,7 @@ given_first number s t end n = Some (part_under number end (take n t), with_rest
 
 part_first : (e : Ends) (flow : Option Flow) (number : Option ℕ) (t : List ℕ) (end : Bool) (n : ℕ) → leb (length t) e.limit ≡ end →
     n ≡ min e.limit (length t) →
-        given_part (record e { unsent = t ∷ [] }) flow number (give e.limit (t ∷ [])) ≡ given_first number (nothing_unsent e flow) t end n
+    given_part (record e { unsent = t ∷ [] }) flow number (give e.limit (t ∷ [])) ≡ given_first number (nothing_unsent e flow) t end n
 part_first e flow number t true n all is =
     let short = leb-true (length t) e.limit all in
     let choose = λ (b : Bool). given_part (record e { unsent = t ∷ [] }) flow number (first_of e.limit t b) in
@@ -42,14 +42,14 @@ part_first e flow number t false n some is =
     let most : n ≡ e.limit = omega arith in
     ap choose (lt-ltb e.limit (length t) longer)
     ∙ sym (ap first most ∙ ap left (length-take-le e.limit t (omega arith)) ∙
-        ap standing (some_rest (nothing_unsent e flow) (drop e.limit t) (omega arith)))
+    ap standing (some_rest (nothing_unsent e flow) (drop e.limit t) (omega arith)))
 
 pub part_of_class_0 : (e : Ends) (t : List ℕ) (n : ℕ) → n ≡ min e.limit (length t) → e.unsent ≡ [] →
     GivesPart (part0 (leb (length t) e.limit) (take n t)) t (zero_standing e) (zero_standing e)
 part_of_class_0 e t n is alone =
     let unit = part0 (leb (length t) e.limit) (take n t) in
     let P : List (List ℕ) →
-        Type 0 = λ u. GivesPart unit t (zero_standing (record e { unsent = u })) (zero_standing (record e { unsent = u })) in
+    Type 0 = λ u. GivesPart unit t (zero_standing (record e { unsent = u })) (zero_standing (record e { unsent = u })) in
     let none : P [] = record {
       gives = part_first e None None t (leb (length t) e.limit) n refl is;
       last = (class_0 (record e { unsent = [] })).1 refl;
@@ -63,12 +63,14 @@ pub part_of_class_2 : (e : Ends) (f : Flow) (t : List ℕ) (n : ℕ) → n ≡ m
 part_of_class_2 e f t n is alone quiet credit =
     let unit = part2 f.sender.next (leb (length t) e.limit) (take n t) in
     let P : List (List ℕ) →
-        Type 0 = λ u. GivesPart unit t (two_standing (record e { unsent = u }) f) (two_standing (record e { unsent = u }) (sent_flow f)) in
+    Type 0 = λ u. GivesPart unit t (two_standing (record e { unsent = u }) f) (two_standing (record e { unsent = u }) (sent_flow f)) in
     let given : Option (Given × Standing) =
-        given_part (record e { unsent = t ∷ [] }) (Some (sent_flow f)) (Some f.sender.next) (give e.limit (t ∷ [])) in
+    given_part (record e { unsent = t ∷ [] }) (Some (sent_flow f)) (Some f.sender.next) (give e.limit (t ∷ [])) in
     let acked : Option (Given × Standing) =
-    Some (ack (ack_number f.receiver) f.receiver.window,
-        two_standing (record e { unsent = t ∷ [] }) (record f { receiver = after_acked f.receiver })) in
+    Some (
+      ack (ack_number f.receiver) f.receiver.window,
+      two_standing (record e { unsent = t ∷ [] }) (record f { receiver = after_acked f.receiver }),
+    ) in
     let parts = λ (c : Bool). if c then given else None in
     let all = λ (w : Bool). if w then acked else parts (nat_lt 0 f.sender.credit) in
     let waits : f.receiver.waiting ≤ 0 = ltb-false 0 f.receiver.waiting quiet in

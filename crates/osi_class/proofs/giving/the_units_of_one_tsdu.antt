@@ -82,14 +82,14 @@ no_tsdus limit j a u c w x =
 
 two_counts : (limit : ℕ) → 0 < limit → (n a u c w x : ℕ) (t : List ℕ) (j : Joining) → length t + 1 ≤ n →
     Counts (drained_within n (two_with limit j t (two_flow a u c w x))).units (min (parts_needed limit (length t)) c)
-        (min (length t) (c * limit))
+    (min (length t) (c * limit))
 two_counts limit room zero a u c w x t j small = absurd (omega arith)
 two_counts limit room (suc n) a u c w x t j small =
     let e : Ends = record { limit = limit; unsent = t ∷ []; joining = j } in
     let f : Flow = two_flow a u c w x in
     elim (nat_lt 0 c) as (λ k. nat_lt 0 c ≡ k →
     Counts (drained_by (if k then given_part e (Some (sent_flow f)) (Some a) (give limit (t ∷ [])) else None) (two_standing e f)
-        (drained_within n)).units
+    (drained_within n)).units
     (min (parts_needed limit (length t)) c) (min (length t) (c * limit))) [
       | true ↦ λ k. let some : 0 < c = ltb-true 0 c k in
           let more_room = more_credit c limit some in
@@ -97,7 +97,7 @@ two_counts limit room (suc n) a u c w x t j small =
           elim (nat_lt limit (length t)) as (λ b. nat_lt limit (length t) ≡ b →
           Counts (drained_by (given_part e (Some (sent_flow f)) (Some a)
           (if b then Some ((false, take limit t), drop limit t ∷ []) else Some ((true, t), []))) (two_standing e f)
-              (drained_within n)).units
+          (drained_within n)).units
           (min (parts_needed limit (length t)) c) (min (length t) (c * limit))) [
             | true ↦ λ b. let longer : limit < length t = ltb-true limit (length t) b in
                 let shorter = length-drop limit t in
@@ -110,7 +110,7 @@ two_counts limit room (suc n) a u c w x t j small =
                 (omega (arith, count, first), omega (arith, all, octets, more_room))
             | false ↦ λ b. let short : length t ≤ limit = ltb-false limit (length t) b in
                 let none = within_none n (two_standing (record { limit = limit; unsent = []; joining = j }) (sent_flow f))
-                    (no_tsdus limit j ((a + 1) % 128) (u + 1) (c - 1) w x) in
+                (no_tsdus limit j ((a + 1) % 128) (u + 1) (c - 1) w x) in
                 let count = one_part limit (length t) room short in
                 let units = ap (λ d. length d.units) none in
                 let octets = ap (λ d. octets_in d.units) none in
@@ -131,34 +131,34 @@ pub room_of_class_0 : (e : Ends) (t : List ℕ) → 0 < e.limit → next (zero_s
 unfolding drained
 room_of_class_0 e t room none =
     let P : List (List ℕ) → Type 0 = λ u. Counts (drained (zero_standing (record e { unsent = u }))).units (parts_needed e.limit (length t))
-        (length t) in
+    (length t) in
     subst P (sym (alone e.unsent t ((class_0 e).0 none))) (zero_counts e.limit room (length t + 1 + 0 + 0) t e.joining (omega arith))
 
 two_room : (e : Ends) (f : Flow) (t : List ℕ) → 0 < e.limit → f.receiver.waiting ≡ 0 → e.unsent ≡ [] →
     Counts (drained (with_tsdu (two_standing e f) t)).units (min (parts_needed e.limit (length t)) f.sender.credit)
-        (min (length t) (f.sender.credit * e.limit))
+    (min (length t) (f.sender.credit * e.limit))
 unfolding drained
 two_room e f t room waiting unsent =
     let s = f.sender in
     let r = f.receiver in
     let P : List (List ℕ) → ℕ →
-        Type 0 = λ u w. Counts (drained (two_standing (record e { unsent = u }) (record f { receiver = record r { waiting = w } }))).units
+    Type 0 = λ u w. Counts (drained (two_standing (record e { unsent = u }) (record f { receiver = record r { waiting = w } }))).units
     (min (parts_needed e.limit (length t)) s.credit) (min (length t) (s.credit * e.limit)) in
     let one : P (t ∷ []) 0 = two_counts e.limit room (length t + 1 + 0 + 0) s.next s.unacknowledged s.credit r.window r.expected t e.joining
-        (omega arith) in
+    (omega arith) in
     let two : P (t ∷ []) r.waiting = subst (λ (w : ℕ). P (t ∷ []) w) (sym waiting) one in
     subst (λ (u : List (List ℕ)). P u r.waiting) (sym (alone e.unsent t unsent)) two
 
 pub room_of_class_2 : (e : Ends) (f : Flow) (t : List ℕ) → 0 < e.limit → next (two_standing e f) ≡ None →
     Counts (drained (with_tsdu (two_standing e f) t)).units (min (parts_needed e.limit (length t)) f.sender.credit)
-        (min (length t) (f.sender.credit * e.limit))
+    (min (length t) (f.sender.credit * e.limit))
 room_of_class_2 e f t room none =
     let both = (class_2 e f).0 none in
     elim both.1 [
       | inl unsent ↦ two_room e f t room both.0 unsent
       | inr closed ↦
           let still = drained_none (with_tsdu (two_standing e f) t)
-              ((class_2 (with_tsdu (two_standing e f) t).ends f).1 (both.0, inr closed)) in
+          ((class_2 (with_tsdu (two_standing e f) t).ends f).1 (both.0, inr closed)) in
           let units = ap (λ d. length d.units) still in
           let octets = ap (λ d. octets_in d.units) still in
           let product : f.sender.credit * e.limit ≡ 0 = ap (λ (m : ℕ). m * e.limit) closed ∙ (let z : 0 * e.limit ≡ 0 = omega arith in z) in

@@ -55,13 +55,15 @@ next_behind e (Some f) t unit s h = by (nat_lt 0 f.receiver.waiting) (nat_lt 0 f
         (if◌then◌else◌ {A = Next} a
         (Some (ack (ack_number f.receiver) f.receiver.window, two_standing e (record f { receiver = after_acked f.receiver })))
         (if◌then◌else◌ {A = Next} c (given_part e (Some (sent_flow f)) (Some f.sender.next) (give e.limit e.unsent)) None)) ≡ Some
-            (unit, s) →
+        (unit, s) →
         (if◌then◌else◌ {A = Next} a
-            (Some (ack (ack_number f.receiver) f.receiver.window,
-            two_standing (record e { unsent = e.unsent ++ t ∷ [] }) (record f { receiver = after_acked f.receiver })))
+        (Some (
+          ack (ack_number f.receiver) f.receiver.window,
+          two_standing (record e { unsent = e.unsent ++ t ∷ [] }) (record f { receiver = after_acked f.receiver }),
+        ))
         (if◌then◌else◌ {A = Next} c
-            (given_part (record e { unsent = e.unsent ++ t ∷ [] }) (Some (sent_flow f)) (Some f.sender.next)
-            (give e.limit (e.unsent ++ t ∷ []))) None)) ≡ Some (unit, with_tsdu s t)
+        (given_part (record e { unsent = e.unsent ++ t ∷ [] }) (Some (sent_flow f)) (Some f.sender.next)
+        (give e.limit (e.unsent ++ t ∷ []))) None)) ≡ Some (unit, with_tsdu s t)
     by true c k = ap (behind_next t) k
     by false true k = given_behind e (Some (sent_flow f)) (Some f.sender.next) t e.unsent unit s k
     by false false k = absurd (cc)
@@ -124,7 +126,7 @@ many_behind s (t ∷ ts) room =
     ∙ ap (then_all ts) (one_behind (left_to_give s) s t room (omega arith))
     ∙ ap (λ (us : List Given). record { units = us; link = one_by_one (drained s).link (t ∷ ts) })
     (append_assoc (all_given s) (all_given (with_tsdu (drained s).link t))
-        (given_one_by_one (drained (with_tsdu (drained s).link t)).link ts))
+    (given_one_by_one (drained (with_tsdu (drained s).link t)).link ts))
 
 pub many_at_once : (s : Standing) (ts : List (List ℕ)) → 0 < s.ends.limit → next s ≡ None →
     drained (with_tsdus s ts) ≡ record { units = given_one_by_one s ts; link = one_by_one s ts }

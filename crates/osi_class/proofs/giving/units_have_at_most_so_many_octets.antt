@@ -16,7 +16,7 @@ one_more n headers = omega arith
 -- one part less
 less_parts : (headers limit : ℕ) (tsdu : List ℕ) (more : List (List ℕ)) →
     octets_in_parts headers limit (tsdu ∷ more) ≡ length tsdu + parts_needed limit (length tsdu) * headers + octets_in_parts headers limit
-        more
+    more
 less_parts headers limit tsdu more = sum_by-cons (λ (t : List ℕ). length t + parts_needed limit (length t) * headers) tsdu more
 
 -- the next part, with its headers, and what is left after it make up what was left
@@ -43,14 +43,14 @@ whole_parts headers limit t more room short =
     let before = less_parts headers limit t more in
     let count : parts_needed limit (length t) ≡ 1 = one_part limit (length t) room short in
     let headed : parts_needed limit (length t) * headers ≡ headers = ap (λ (n : ℕ). n * headers) count ∙
-        (let one : 1 * headers ≡ headers = omega arith in one) in
+    (let one : 1 * headers ≡ headers = omega arith in one) in
     (omega (arith, before, headed), short)
 
 give_parts : (headers limit : ℕ) → 0 < limit → (unsent : List (List ℕ)) → IfSome (give limit unsent) (Parts headers limit unsent)
 give_parts headers limit room [] = tt
 give_parts headers limit room (t ∷ more) =
     choose_some (Parts headers limit (t ∷ more)) (nat_lt limit (length t)) (Some ((false, take limit t), drop limit t ∷ more))
-        (Some ((true, t), more))
+    (Some ((true, t), more))
     (λ b. cut_parts headers limit t more room (ltb-true limit (length t) b))
     (λ b. whole_parts headers limit t more room (ltb-false limit (length t) b))
 
@@ -74,7 +74,7 @@ two_within : (headers : ℕ) (e : Ends) (f : Flow) (o : Option (Part × List (Li
 two_within headers e f None parts some = tt
 two_within headers e f (Some ((end, octets), rest)) parts some =
     part_within (f.receiver.waiting * headers) (length octets) headers e.limit (octets_in_parts headers e.limit rest)
-        (octets_in_parts headers e.limit e.unsent)
+    (octets_in_parts headers e.limit e.unsent)
     f.sender.credit parts.0 parts.1 some
 
 ack_within : (waiting headers more : ℕ) → 0 < waiting → 0 + headers + ((waiting - 1) * headers + more) ≤ waiting * headers + more
@@ -117,7 +117,7 @@ within_take headers (suc n) s room =
           let same = (giving_leaves s p.1 p.0 e).limit in
           let more = within_take headers n p.1 (omega arith) in
           unit_more headers (octets_in (drained_within n p.1).units) (length (drained_within n p.1).units) (octets_of p.0)
-              (most_given headers p.1)
+          (most_given headers p.1)
           (most_given headers s) more step
     ] refl
 
@@ -129,7 +129,7 @@ all_take headers s room = within_take headers (left_to_give s) s room
 -- one TSDU and those before it take no more than all
 some_at : {V : Type 0} (items : V → List ℕ) (headers limit i : ℕ) (vs : List V) (d : V) → i < length vs →
     octets_in_parts headers limit
-        (map items (take i vs)) + (length (items (get_or vs i d)) + parts_needed limit (length (items (get_or vs i d))) * headers)
+    (map items (take i vs)) + (length (items (get_or vs i d)) + parts_needed limit (length (items (get_or vs i d))) * headers)
     ≤ octets_in_parts headers limit (map items vs)
 some_at items headers limit i [] d within = absurd (omega arith)
 some_at items headers limit zero (v ∷ vs) d within = let all = less_parts headers limit (items v) (map items vs) in omega (arith, all)
@@ -138,7 +138,7 @@ some_at items headers limit (suc i) (v ∷ vs) d within = omega (arith, less_par
 pub some_of_all : {V : Type 0} (items : V → List ℕ) (headers limit i octets : ℕ) (vs : List V) (v : V) → i < length vs → v ≡ get_or vs i v →
     octets ≡ length (items v) →
     octets_in_parts headers limit (map items (take i vs)) + (octets + parts_needed limit octets * headers) ≤ octets_in_parts headers limit
-        (map items vs)
+    (map items vs)
 some_of_all items headers limit i octets vs v within is size =
     let P : ℕ → Type 0 = λ n. octets_in_parts headers limit (map items (take i vs)) + (n + parts_needed limit n * headers)
     ≤ octets_in_parts headers limit (map items vs) in

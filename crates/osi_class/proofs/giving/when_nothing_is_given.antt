@@ -53,13 +53,14 @@ class_2 e f =
     let w = nat_lt 0 f.receiver.waiting in
     let c = nat_lt 0 f.sender.credit in
     let a : Given × Standing =
-        (ack (ack_number f.receiver) f.receiver.window, two_standing e (record f { receiver = after_acked f.receiver })) in
+    (ack (ack_number f.receiver) f.receiver.window, two_standing e (record f { receiver = after_acked f.receiver })) in
     let o = given_part e (Some (sent_flow f)) (Some f.sender.next) (give e.limit e.unsent) in
     let parts = part_none e (Some (sent_flow f)) (Some f.sender.next) in (
       λ h. let both = none_chosen w c a o h in
-          let none : f.receiver.waiting ≤ 0 = ltb-false 0 f.receiver.waiting both.0 in
-          (closed f.receiver.waiting none,
-              elim both.1 [ inl k ↦ inr (closed f.sender.credit (ltb-false 0 f.sender.credit k)) | inr k ↦ inl (parts.0 k) ]),
+          let none : f.receiver.waiting ≤ 0 = ltb-false 0 f.receiver.waiting both.0 in (
+            closed f.receiver.waiting none,
+            elim both.1 [ inl k ↦ inr (closed f.sender.credit (ltb-false 0 f.sender.credit k)) | inr k ↦ inl (parts.0 k) ],
+          ),
       λ h. choose_none w c a o (le-ltb 0 f.receiver.waiting (at_most f.receiver.waiting h.0))
           (elim h.1 [ inl k ↦ inr (parts.1 k) | inr k ↦ inl (le-ltb 0 f.sender.credit (at_most f.sender.credit k)) ]),
     )

@@ -121,7 +121,7 @@ words_go P gone f a t (v ∷ vs) p r =
               subst (λ (x : Hearing). P x.next.state) (sym whole) m.0,
               subst (λ (x : Hearing). Shifted f x (respond_words (shifted f t) (v ∷ vs))) (sym whole)
                   (subst (λ (x : Hearing). Shifted f (heard_then h (respond_words h.next vs)) x) (sym ahead)
-                      (both_shifted f h (respond_words h.next vs) k (respond_words (shifted f h.next) vs) s.1 m.1)),
+                  (both_shifted f h (respond_words h.next vs) k (respond_words (shifted f h.next) vs) s.1 m.1)),
             )
           ])
     ]
@@ -164,7 +164,7 @@ shifted_count f h k c s e r =
     let closes : k.closes ≡ c.closes = s.closes ∙ ap (λ (x : Count). x.closes) e in
     let state : k.next.state ≡ f c.state = ap (λ (x : Taker). x.state) next ∙ ap (λ (x : Count). f x.state) e in
     let joined : option_map length k.next.joined ≡ c.joined = ap (λ (x : Taker). option_map length x.joined) next ∙
-        ap (λ (x : Count). x.joined) e in
+    ap (λ (x : Count). x.joined) e in
     λ i. record { state = state i; joined = joined i; reply = reply i; closes = closes i }
 
 -- both take one TSDU, or the word is gone

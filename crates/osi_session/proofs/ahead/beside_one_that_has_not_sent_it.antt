@@ -74,7 +74,7 @@ said_part : (s y : Seen) (place : Place) (o : List ℕ) (n : ℕ) → CanSay s (
     IsReady s.state × (y ≡ leaves same_state (sent_by place o) s)
 said_part s y place o n h =
     let a = if_this (not (limit_of s.state == 0) && (stands_in_place s.sent place && may_send s.state (unwrap_or s.sent 0 + length o))) _ y
-        (within s y (part place o) n h).1 in
+    (within s y (part place o) n h).1 in
     let b = and_parts (not (limit_of s.state == 0)) _ a.0 in
     let c = and_parts (stands_in_place s.sent place) _ b.1 in
     ((and_parts (is_ready s.state.phase) _ c.1).0, a.1)

@@ -103,7 +103,7 @@ confirming_becomes s AA h x = h
 past_confirming_ends : (s : State) (u : Meaning) → past_confirming s.phase ≡ true → past_confirming (respond_unit s u).next.phase ≡ true
 past_confirming_ends s u h =
     unit_cases (λ n. past_confirming n.phase ≡ true) s u
-        (record { same = h; ended = λ a. refl; bad = λ a e. refl; good = λ a e x m. confirming_becomes s u h x })
+    (record { same = h; ended = λ a. refl; bad = λ a e. refl; good = λ a e x m. confirming_becomes s u h x })
 
 stays_from : (s : State) (u : Meaning) → from_ready s.phase ≡ true → is_expected s.phase u ≡ true → from_ready (becomes s u).phase ≡ true
 stays_from s (CN v n m w from to z o) h x = absurd (neither (is_wait_cn s.phase) x (excluded from_ready is_wait_cn refl s.phase h))
@@ -139,8 +139,10 @@ part_step : (t : Taker) (v : Word) → IsReady t.state → (respond_word t v).re
     Goes IsReady past_ready same_state (respond_word t v) (respond_word (shifted same_state t) v)
 part_step t v p r = elim (cases_Bool (past_ready (respond_word t v).next.state.phase)) [
   | inl y ↦ inl y
-  | inr n ↦ inr (still_ready (respond_word t v).next.state.phase (word_stays t v (implied is_ready from_ready refl t.state.phase p)) n,
-      record { next = refl; quiet = r; closes = refl })
+  | inr n ↦ inr (
+    still_ready (respond_word t v).next.state.phase (word_stays t v (implied is_ready from_ready refl t.state.phase p)) n,
+    record { next = refl; quiet = r; closes = refl },
+  )
 ]
 
 pub part_ahead : IsAheadBy IsReady past_ready same_state
@@ -174,7 +176,7 @@ passed_by false false true n (Some e) h = absurd (cc)
 pub passes : (t : Taker) (v : Word) → word_verdict t v ≡ fine → Passes t v
 passes t v h =
     let a = passed_by (is_over t.state.phase) (drops t.state (as_message v)) (is_expected t.state.phase (as_message v)) (si (as_message v))
-        (first_fault (si (as_message v)) (word_conditions t v)) h in
+    (first_fault (si (as_message v)) (word_conditions t v)) h in
     record { lives = a.0; acts = a.1; expected = a.2; met = all_met (si (as_message v)) (word_conditions t v) a.3 }
 
 no_fault : (n : ℕ) (cs : List Condition) → AllMet cs → first_fault n cs ≡ None
@@ -209,7 +211,7 @@ pub quietly : (t : Taker) (v : Word) → is_over t.state.phase ≡ false → (re
     (word_verdict t v ≡ dropped) ⊎ (word_verdict t v ≡ fine)
 quietly t v o r =
     quiet_verdict (word_verdict t v) (is_over t.state.phase) (drops t.state (as_message v)) (is_expected t.state.phase (as_message v))
-        (si (as_message v))
+    (si (as_message v))
     (first_fault (si (as_message v)) (word_conditions t v)) refl o (quiet_good t v r)
 
 -- ---- both continue, by what each does
@@ -221,7 +223,7 @@ goes_as P gone f h k i l d e g = subst (λ (x : Hearing). Goes P gone f x k) (sy
 fine_goes : (P : State → Type 0) (gone : Phase → Bool) (f : State → State) (t : Taker) (v : Word) → word_verdict t v ≡ fine →
     word_verdict (shifted f t) v ≡ fine
     → Goes P gone f (enacted_word t v fine) (enacted_word (shifted f t) v fine) →
-        Goes P gone f (respond_word t v) (respond_word (shifted f t) v)
+    Goes P gone f (respond_word t v) (respond_word (shifted f t) v)
 fine_goes P gone f t v h k g = goes_as P gone f _ _ _ _ (word_at t v fine h) (word_at (shifted f t) v fine k) g
 
 fine_gone : (P : State → Type 0) (gone : Phase → Bool) (f : State → State) (t : Taker) (v : Word) → word_verdict t v ≡ fine →
@@ -243,9 +245,9 @@ dropped_goes : (P : State → Type 0) (gone : Phase → Bool) (g : Numbers → N
     → Goes P gone (renumbered g) (respond_word t v) (respond_word (shifted (renumbered g) t) v)
 dropped_goes P gone g t v p h =
     let a = dropped_by (is_over t.state.phase) (drops t.state (as_message v)) (is_expected t.state.phase (as_message v)) (si (as_message v))
-        (first_fault (si (as_message v)) (word_conditions t v)) h in
+    (first_fault (si (as_message v)) (word_conditions t v)) h in
     goes_as P gone (renumbered g) _ _ _ _ (word_at t v dropped h)
-        (word_at (shifted (renumbered g) t) v dropped (is_dropped (shifted (renumbered g) t) v a.0 a.1))
+    (word_at (shifted (renumbered g) t) v dropped (is_dropped (shifted (renumbered g) t) v a.0 a.1))
     (inr (p, record { next = refl; quiet = refl; closes = refl }))
 
 -- ---- a minor point
@@ -290,15 +292,20 @@ taken_conf : (s : State) (j : Option (List ℕ)) (n : ℕ) (o : List ℕ) → is
 unfolding point_sent
 taken_conf s j n o r p =
     let a = acknowledges s.numbers.answers (is_major_asked s.phase) s.numbers.confirmed n s.numbers.next
-        (excluded is_ready is_major_asked refl s.phase r) p.met.1.0 in (
+    (excluded is_ready is_major_asked refl s.phase r) p.met.1.0 in (
       a.0,
       record {
         lives = p.lives;
         acts = p.acts;
         expected = p.expected;
-        met = (p.met.0,
-            (acks s.numbers.answers (is_major_asked s.phase) s.numbers.confirmed n s.numbers.next a.0
-            (excluded is_ready is_major_asked refl s.phase r) a.1 a.2, p.met.1.1));
+        met = (
+          p.met.0,
+          (
+            acks s.numbers.answers (is_major_asked s.phase) s.numbers.confirmed n s.numbers.next a.0
+                (excluded is_ready is_major_asked refl s.phase r) a.1 a.2,
+            p.met.1.1,
+          ),
+        );
       },
     )
   where
@@ -331,7 +338,7 @@ point_good t (says (DT o)) p h r =
     fine_goes MayPoint past_ready with_point t _ h h (inr (p, record { next = refl; quiet = refl; closes = refl }))
 point_good t (says (GT k)) p h r =
     fine_goes MayPoint past_ready with_point t _ h h
-        (inr (record { ready = p.ready; minor = still_held t.state.held k p.minor }, record { next = refl; quiet = refl; closes = refl }))
+    (inr (record { ready = p.ready; minor = still_held t.state.held k p.minor }, record { next = refl; quiet = refl; closes = refl }))
 point_good t (says (PT k o)) p h r =
     fine_goes MayPoint past_ready with_point t _ h h (inr (p, record { next = refl; quiet = refl; closes = refl }))
 point_good t (says (MIP c n o)) p h r =
@@ -339,9 +346,15 @@ point_good t (says (MIP c n o)) p h r =
 point_good t (says (MIA n o)) p h r =
     let q = taken_conf t.state t.joined n o p.ready (passes t (says (MIA n o)) h) in
     fine_goes MayPoint past_ready with_point t _ h (passing (shifted with_point t) (says (MIA n o)) q.1)
-    (inr (record { ready = p.ready; minor = p.minor },
-        record { next = (let e = numbers_alike t.state.numbers n q.0 in
-        λ i. record { state = record t.state { numbers = e i }; joined = kept_in t.state.phase t.joined }); quiet = refl; closes = refl }))
+    (inr (
+      record { ready = p.ready; minor = p.minor },
+      record {
+        next = (let e = numbers_alike t.state.numbers n q.0 in
+            λ i. record { state = record t.state { numbers = e i }; joined = kept_in t.state.phase t.joined });
+        quiet = refl;
+        closes = refl;
+      },
+    ))
 point_good t (says (MAP n o)) p h r = fine_gone MayPoint past_ready with_point t _ h refl
 point_good t (says (FN o)) p h r = fine_gone MayPoint past_ready with_point t _ h refl
 point_good t (says (RS k n w o)) p h r =
@@ -434,9 +447,15 @@ conf_good m t (says (PT k o)) p h r =
     fine_goes MayConfirm past_confirming (with_conf m) t _ h h (inr (p, record { next = refl; quiet = refl; closes = refl }))
 conf_good m t (says (MIP c n o)) p h r =
     fine_goes MayConfirm past_confirming (with_conf m) t _ h (same_point m t.state t.joined c n o h)
-    (inr (record { phase = p.phase; answers = answers_on t.state.numbers },
-        record { next = (let e = points_alike t.state.numbers m p.answers in
-        λ i. record { state = record t.state { numbers = e i }; joined = kept_in t.state.phase t.joined }); quiet = refl; closes = refl }))
+    (inr (
+      record { phase = p.phase; answers = answers_on t.state.numbers },
+      record {
+        next = (let e = points_alike t.state.numbers m p.answers in
+            λ i. record { state = record t.state { numbers = e i }; joined = kept_in t.state.phase t.joined });
+        quiet = refl;
+        closes = refl;
+      },
+    ))
 conf_good m t (says (MIA n o)) p h r = absurd (no_ack t.state.numbers.answers _ p.answers (passes t (says (MIA n o)) h).met.1.0)
 conf_good m t (says (MAP n o)) p h r = fine_gone MayConfirm past_confirming (with_conf m) t _ h refl
 conf_good m t (says (FN o)) p h r =

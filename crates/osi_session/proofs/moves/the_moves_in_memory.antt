@@ -28,7 +28,7 @@ stays l k = λ i. record { state = l.state; waiting = l.waiting; joined = sym k 
 
 pub stays_in : (s next : State) (w : Option Meaning) (j : Option (List ℕ)) → kept_in next.phase j ≡ j →
     (let l : Listener = record { state = s; waiting = w; joined = j } in let n : Listener = record { state = next; waiting = w; joined = j }
-        in n ≡ in_state l next)
+    in n ≡ in_state l next)
 stays_in s next w j k = λ i. record { state = next; waiting = w; joined = sym k i }
 
 -- what a TSDU takes, by the move that it is
@@ -123,11 +123,11 @@ room_by want l s w j k view same room =
 pub leaves_by : (want : Taker → Hearing) (l : Listener) (s : State) (w : Option Meaning) (j k : Option (List ℕ)) (r : Reactions) →
     (let v : Listener = record { state = s; waiting = w; joined = j } in v ≡ l) → k ≡ j
     → hearing_of_all k r ≡ want (record { state = s; joined = k }) → IsSound s → kept_in s.phase j ≡ j →
-        length (joined_octets j) ≤ 1048572 → (Holds l → Leaves l (want (taker_of l)))
+    length (joined_octets j) ≤ 1048572 → (Holds l → Leaves l (want (taker_of l)))
     → Leaves l (hearing_of_all l.joined r)
 leaves_by want l s w j k r view same heard sound kept few leaves =
     leaves_as l (hearing_of_all l.joined r) (want (taker_of l)) (heard_by want l s w j k r view same heard)
-        (leaves (holds l s w j view sound kept few))
+    (leaves (holds l s w j view sound kept few))
 
 pub value_of : (want : Taker → Hearing) (l : Listener) (s : State) (j : Option (List ℕ)) (h : Hearing) → s ≡ l.state → j ≡ l.joined
     → want (record { state = s; joined = j }) ≡ h → want (taker_of l) ≡ h
@@ -137,7 +137,7 @@ pub of_place : (P : Taker → Type 0) (l : Listener) (s : State) (j : Option (Li
     P (record { state = s; joined = j }) → P (taker_of l)
 of_place P l s j e f h =
     subst (λ (k : Option (List ℕ)). P (record { state = l.state; joined = k })) f
-        (subst (λ (x : State). P (record { state = x; joined = j })) e h)
+    (subst (λ (x : State). P (record { state = x; joined = j })) e h)
 
 -- ---- a part
 
@@ -159,42 +159,52 @@ joins_early : (r : Option Indication) (s : State) (w : Option Meaning) (j k m : 
     h ≡ quietly s (Some (joined_octets j ++ o))
     → k ≡ Some (joined_octets j ++ o) → shown_list r ≡ [] → m ≡ k
     → (let l : Listener = record { state = s; waiting = w; joined = j } in
-        let n : Listener = record { state = s; waiting = w; joined = m } in moved l h ≡ record (rests n) { shown = shown_list r })
+    let n : Listener = record { state = s; waiting = w; joined = m } in moved l h ≡ record (rests n) { shown = shown_list r })
 joins_early r s w j k m h o e f shown n =
     let l : Listener = record { state = s; waiting = w; joined = j } in
     let g : m ≡ Some (joined_octets j ++ o) = n ∙ f in
     ap (moved l) e ∙
-        (λ i. record { next = record { state = s; waiting = w; joined = sym g i }; shown = sym shown i; reply = None; closes = false;
-        error = None })
+    (λ i. record {
+      next = record { state = s; waiting = w; joined = sym g i };
+      shown = sym shown i;
+      reply = None;
+      closes = false;
+      error = None;
+    })
 
 joins_last : (r : Option Indication) (s : State) (w : Option Meaning) (j k m : Option (List ℕ)) (h : Hearing) (o : List ℕ) →
     h ≡ showing s (joined_octets j ++ o)
     → k ≡ Some (joined_octets j ++ o) → shown_list r ≡ (if is_some k then Data (joined_octets k) ∷ [] else []) → m ≡ None
     → (let l : Listener = record { state = s; waiting = w; joined = j } in
-        let n : Listener = record { state = s; waiting = w; joined = m } in moved l h ≡ record (rests n) { shown = shown_list r })
+    let n : Listener = record { state = s; waiting = w; joined = m } in moved l h ≡ record (rests n) { shown = shown_list r })
 joins_last r s w j k m h o e f shown n =
     let l : Listener = record { state = s; waiting = w; joined = j } in
     let g : shown_list r ≡ Data (joined_octets j ++ o) ∷ [] =
-        shown ∙ ap (λ (y : Option (List ℕ)). if is_some y then Data (joined_octets y) ∷ [] else []) f in
+    shown ∙ ap (λ (y : Option (List ℕ)). if is_some y then Data (joined_octets y) ∷ [] else []) f in
     ap (moved l) e ∙
-        (λ i. record { next = record { state = s; waiting = w; joined = sym n i }; shown = sym g i; reply = None; closes = false;
-        error = None })
+    (λ i. record {
+      next = record { state = s; waiting = w; joined = sym n i };
+      shown = sym g i;
+      reply = None;
+      closes = false;
+      error = None;
+    })
 
 joins_placed : (place : Place) (r : Option Indication) (s : State) (w : Option Meaning) (j k m : Option (List ℕ)) (o : List ℕ)
     → (let u : Taker = record { state = s; joined = j } in word_verdict u (part place o) ≡ fine) → k ≡ Some (joined_octets j ++ o)
     → shown_list r ≡ (if is_last place && is_some k then Data (joined_octets k) ∷ [] else []) →
-        m ≡ (if◌then◌else◌ {A = Option (List ℕ)} (is_last place) None k)
+    m ≡ (if◌then◌else◌ {A = Option (List ℕ)} (is_last place) None k)
     → (let l : Listener = record { state = s; waiting = w; joined = j } in let n : Listener = record { state = s; waiting = w; joined = m }
-        in
+    in
     moved l (respond_word (taker_of l) (part place o)) ≡ record (rests n) { shown = shown_list r })
 joins_placed First r s w j k m o e f shown n =
     let u : Taker = record { state = s; joined = j } in
     joins_early r s w j k m (respond_word u (part First o)) o
-        (first_is u o e ∙ early s (Some (joined_octets j ++ o)) (fine_holds u First o e)) f shown n
+    (first_is u o e ∙ early s (Some (joined_octets j ++ o)) (fine_holds u First o e)) f shown n
 joins_placed Middle r s w j k m o e f shown n =
     let u : Taker = record { state = s; joined = j } in
     joins_early r s w j k m (respond_word u (part Middle o)) o
-        (middle_is u o e ∙ early s (Some (joined_octets j ++ o)) (fine_holds u Middle o e)) f shown n
+    (middle_is u o e ∙ early s (Some (joined_octets j ++ o)) (fine_holds u Middle o e)) f shown n
 joins_placed Last r s w j k m o e f shown n =
     let u : Taker = record { state = s; joined = j } in
     joins_last r s w j k m (respond_word u (part Last o)) o (last_is u o e ∙ last s (joined_octets j ++ o)) f shown n
@@ -208,18 +218,18 @@ meets_shown (Some i) move old new e = e
 pub part_joins : {E : Type 0} (place : Place) (e : Expected) (r : Option Indication) (l : Listener) (s : State) (w : Option Meaning)
     (j k m : Option (List ℕ)) (o : List ℕ)
     → (let v : Listener = record { state = s; waiting = w; joined = j } in v ≡ l) → word_verdict (taker_of l) (part place o) ≡ fine →
-        k ≡ Some (joined_octets j ++ o)
+    k ≡ Some (joined_octets j ++ o)
     → shown_list r ≡ (if is_last place && is_some k then Data (joined_octets k) ∷ [] else []) →
-        m ≡ (if◌then◌else◌ {A = Option (List ℕ)} (is_last place) None k)
+    m ≡ (if◌then◌else◌ {A = Option (List ℕ)} (is_last place) None k)
     → e ≡ met_by r
     → (let x : Result Expected E = Ok e in let n : Listener = record { state = s; waiting = w; joined = m } in
-        Tries x (moved l (respond_word (taker_of l) (part place o))) l n)
+    Tries x (moved l (respond_word (taker_of l) (part place o))) l n)
 part_joins {E = E} place e r l s w j k m o view fit f shown n met =
     let x : Listener = record { state = s; waiting = w; joined = m } in
     let move : moved l (respond_word (taker_of l) (part place o)) ≡ record (rests x) { shown = shown_list r } =
     subst (λ (y : Listener). moved y (respond_word (taker_of y) (part place o)) ≡ record (rests x) { shown = shown_list r }) view
     (joins_placed place r s w j k m o (subst (λ (y : Listener). word_verdict (taker_of y) (part place o) ≡ fine) (sym view) fit) f shown n)
-        in
+    in
     record {
       taken = subst (λ (y : Expected). Meets y (moved l (respond_word (taker_of l) (part place o))) l x) (sym met)
           (meets_shown r _ l x move);
@@ -239,9 +249,9 @@ part_room t Last o e h = subst (λ (x : Hearing). takes_room t.joined x ≡ true
 -- an allocation failure changes nothing
 pub part_refused : {E : Type 0} (e : E) (place : Place) (l : Listener) (s : State) (w : Option Meaning) (j k : Option (List ℕ)) (o : List ℕ)
     → (let v : Listener = record { state = s; waiting = w; joined = j } in v ≡ l) → word_verdict (taker_of l) (part place o) ≡ fine →
-        k ≡ j → 0 < length o
+    k ≡ j → 0 < length o
     → (let r : Result Expected E = Err e in let n : Listener = record { state = s; waiting = w; joined = k } in
-        Tries r (moved l (respond_word (taker_of l) (part place o))) l n)
+    Tries r (moved l (respond_word (taker_of l) (part place o))) l n)
 part_refused e place l s w j k o view fit same h =
     let n : Listener = record { state = s; waiting = w; joined = k } in
     let p : n ≡ record { state = s; waiting = w; joined = j } = λ i. record { state = s; waiting = w; joined = same i } in
@@ -257,4 +267,4 @@ pub came_plain : (l : Listener) (tsdu : List ℕ) (p : PlainUnit) → said_at ts
     → moved l (respond_word (taker_of l) (plain_word p)) ≡ react l (came tsdu)
 came_plain l tsdu p said =
     sym (came_is l (said_at tsdu) (respond_word (taker_of l) (plain_word p))
-        (ap (respond_came (taker_of l)) said ∙ word_behind (taker_of l) (plain_word p)))
+    (ap (respond_came (taker_of l)) said ∙ word_behind (taker_of l) (plain_word p)))

@@ -223,7 +223,7 @@ pub whole_ends : (s : whole.Standing) (input : whole.Input) → (whole.react s i
 whole_ends s input h =
     let same = moves_as_whole s input in
     subst (λ (m : Move). is_ended m.next.state.phase ≡ true) same
-        (input_ends (listening s) (in_words input) (ap (λ (m : Move). m.closes) same ∙ h))
+    (input_ends (listening s) (in_words input) (ap (λ (m : Move). m.closes) same ∙ h))
 
 came_silent : (s : Listener) (read : Result Words SpduFault) → ((words : Words) → read ≡ Ok words → closes_alone words ≡ true)
     → (react s (came_as read)).closes ≡ true → (react s (came_as read)).reply ≡ None

@@ -116,7 +116,7 @@ restart_held false s x t e = kept s t
 becomes_held : (s : State) (u : Meaning) (t : Token) → HeldBy (unit_gives s u t) s t (becomes s u).held
 becomes_held s (CN version_2 requirements serial wishes from to sizes octets) t = opened_held (is_acceptable version_2 requirements sizes) s
     (record s { phase = Answering; units = functional_units requirements; wishes = wishes; proposed = unwrap_or serial 0; sizes = sizes })
-        (without_tokens Ended s) t refl refl
+    (without_tokens Ended s) t refl refl
 becomes_held s (AC version_2 requirements serial sides sizes octets) t =
     let units = both_units s.units (functional_units requirements) in
     to_one s units (stated units sides) t
@@ -171,7 +171,7 @@ either_holds false x y t p q h k = k
 pub unit_holds_it : (s : State) (u : Meaning) (t : Token) → has (becomes s u).held t ≡ unit_holds s u t
 unit_holds_it s (CN version_2 requirements serial wishes from to sizes octets) t = either_holds (is_acceptable version_2 requirements sizes)
     (record s { phase = Answering; units = functional_units requirements; wishes = wishes; proposed = unwrap_or serial 0; sizes = sizes })
-        (without_tokens Ended s) t _ _ refl (no_token_has t)
+    (without_tokens Ended s) t _ _ refl (no_token_has t)
 unit_holds_it s (AC version_2 requirements serial sides sizes octets) t =
     let units = both_units s.units (functional_units requirements) in asker_has units (stated units sides) t
 unit_holds_it s (RF reason octets) t = no_token_has t

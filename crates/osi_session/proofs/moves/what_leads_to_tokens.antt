@@ -47,7 +47,7 @@ after_opens s _ p = same _ s.phase
 call_opened : (s : Listener) (c : Call) → OpenedBy (call_opens c) s.state.phase (after_input s (called c)).state.phase
 call_opened s c = call_cases (λ next. OpenedBy (call_opens c) s.state.phase next.phase) s c (same _ s.state.phase)
     (λ x e. let q = passed s.state c x e in subst (λ (y : Step). OpenedBy (call_opens c) s.state.phase y.next.phase) (sym q.gives)
-        (after_opens s.state c q.phase))
+    (after_opens s.state c q.phase))
 
 becomes_opens : (s : State) (u : Meaning) → is_expected s.phase u ≡ true → OpenedBy (unit_opens u) s.phase (becomes s u).phase
 becomes_opens s (CN version_2 requirements serial wishes from to sizes octets) p =
@@ -82,7 +82,7 @@ weaker a b p q f h k = or_left a b (f h k)
 word_opened : (t : Taker) (w : Word) → OpenedBy (unit_opens (as_message w)) t.state.phase (respond_word t w).next.state.phase
 word_opened t w = word_keeps (λ next. OpenedBy (unit_opens (as_message w)) t.state.phase next.phase) t w
     (λ u a. subst (λ cause. OpenedBy cause t.state.phase (respond_unit t.state u).next.phase) (acts_alike unit_opens (λ a b. refl) w u a)
-        (unit_opened t.state u))
+    (unit_opened t.state u))
     (λ o h k. absurd (cc)) (same _ t.state.phase)
 
 either_opened : (cause b : Bool) (p : Phase) (x y : Hearing) → OpenedBy cause p x.next.state.phase → OpenedBy cause p y.next.state.phase →

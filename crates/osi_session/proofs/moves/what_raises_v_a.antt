@@ -164,7 +164,7 @@ input_rises : (s : Listener) (input : Input) → renews input ≡ false → HasN
     Rises s.state.numbers (after_input s input).state.numbers
 input_rises s (called c) r small h = call_cases (λ next. Rises s.state.numbers next.numbers) s c (same s.state.numbers)
     (λ x e. let q = passed s.state c x e in subst (λ (y : Step). Rises s.state.numbers y.next.numbers) (sym q.gives)
-        (after_rises s.state c r q.needed h))
+    (after_rises s.state c r q.needed h))
 input_rises s (taken words) r small h =
     taken_cases (λ next. Rises s.state.numbers next.numbers) s words
     (all_rises (taker_of s) (acting_words words) r (all_acting IsNumberedWord words small) h)

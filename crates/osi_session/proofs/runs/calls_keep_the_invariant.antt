@@ -110,8 +110,14 @@ after_sound s (MajorConfirm octets) small p t h = holding_phase Ready (record s 
     (excluded is_major_due is_restart_due refl s.phase p) h)
 after_sound s (Restart n wishes octets) small p t h = restart_moved s n _ t.1.0 h
 after_sound s (RestartConfirm sides octets) small p t h =
-    record { ordered = h.ordered; first = h.first; major = λ k. absurd (cc); restart = λ k. absurd (cc); tokens = λ k. absurd (cc);
-        sizes = h.sizes }
+    record {
+      ordered = h.ordered;
+      first = h.first;
+      major = λ k. absurd (cc);
+      restart = λ k. absurd (cc);
+      tokens = λ k. absurd (cc);
+      sizes = h.sizes;
+    }
 after_sound s (Release octets) small p t h = holding_phase Releasing s refl refl refl h
 after_sound s (ReleaseRefuse octets) small p t h = holding_phase Ready s refl refl refl h
 after_sound s (Abort octets) small p t h = bare Aborting s refl refl h

@@ -45,7 +45,7 @@ connects b x y i h0 h1 h2 o h3 h4 = grind (arith, ends)
 good_in : (s : State) (u : Meaning) → is_expected WaitCn u ≡ true → Begins (good s u)
 good_in s (CN version_2 requirements serial wishes from to sizes octets) h =
     connects (is_acceptable version_2 requirements sizes) _ _ _ refl refl refl
-        (good s (CN version_2 requirements serial wishes from to sizes octets)) refl refl
+    (good s (CN version_2 requirements serial wishes from to sizes octets)) refl refl
 good_in s (AB bits octets) h = ends (good s (AB bits octets)) refl
 good_in s _ h = absurd (cc)
 
@@ -93,12 +93,12 @@ Shows h = shows_loss h.next.state.phase ≡ true → shows_connect h.shown ≡ t
 
 then_shows : (t : Taker) (w : Word) (ws : Words) → Begins (outcome_in (respond_word t w)) → Which (respond_word t w).next.state.phase
     → (is_wait_cn (respond_word t w).next.state.phase ≡ true → Shows (respond_words (respond_word t w).next ws)) →
-        Shows (heard_then (respond_word t w) (respond_words (respond_word t w).next ws))
+    Shows (heard_then (respond_word t w) (respond_words (respond_word t w).next ws))
 then_shows t w ws one (inl wait) more k =
     ap (λ (l : List Shown). shows_connect (l ++ (respond_words (respond_word t w).next ws).shown)) (one.waits wait) ∙ more wait k
 then_shows t w ws one (inr (inl gone)) more k =
     absurd (let v = excluded is_over shows_loss refl (respond_words (respond_word t w).next ws).next.state.phase
-        (stays_over (respond_word t w).next ws gone) in cc)
+    (stays_over (respond_word t w).next ws gone) in cc)
 then_shows t w ws one (inr (inr loss)) more k = first_connect (respond_word t w).shown (respond_words (respond_word t w).next ws).shown
     (one.shows loss)
 
@@ -112,7 +112,7 @@ words_show t [] h k = absurd (let e = excluded is_wait_cn shows_loss refl t.stat
 words_show t (w ∷ ws) h k =
     let one = word_begins t w h in
     either_shows (is_faulty (word_verdict t w)) (respond_word t w)
-        (heard_then (respond_word t w) (respond_words (respond_word t w).next ws)) one.shows
+    (heard_then (respond_word t w) (respond_words (respond_word t w).next ws)) one.shows
     (then_shows t w ws one (which (respond_word t w).next.state.phase) (λ e. words_show (respond_word t w).next ws e)) k
 
 -- ---- inputs
@@ -132,12 +132,12 @@ waiting_shows : (l : Listener) (input : Input) → is_wait_cn l.state.phase ≡ 
     shows_connect (react l input).shown ≡ true
 waiting_shows l (called c) w k =
     absurd (let h = call_cases Hidden l c (hidden l w)
-        (λ x e. absurd (let a = accepted_callable l.state c x e in let b = excluded is_wait_cn may_abort refl l.state.phase w in cc)) in cc)
+    (λ x e. absurd (let a = accepted_callable l.state c x e in let b = excluded is_wait_cn may_abort refl l.state.phase w in cc)) in cc)
 waiting_shows l (taken words) w k = taken_shows l words w k
 waiting_shows l (unread fault) w k = absurd (let h = fault_cases Hidden l fault (hidden l w) (λ o. refl) in cc)
 waiting_shows l opened w k =
     absurd (let h = opened_cases Hidden l (λ t. absurd (let e = excluded is_wait_cn is_wait_transport refl l.state.phase w in cc))
-        (hidden l w) in cc)
+    (hidden l w) in cc)
 waiting_shows l (refused reason) w k = absurd (let h = refused_cases Hidden l reason (λ t. refl) (hidden l w) in cc)
 waiting_shows l broken w k = absurd (let h = broken_cases Hidden l refl in cc)
 

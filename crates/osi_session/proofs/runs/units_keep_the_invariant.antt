@@ -122,8 +122,14 @@ becomes_sound s (MAA n octets) small p t h = holding_phase Ready (record s { num
 becomes_sound s (RS kind n wishes octets) small p t h =
     chosen (stands s n) _ _ (restart_moved s n wishes (leb-true s.base n (and_parts _ _ t.1.0).0) small h) h
 becomes_sound s (RA n sides octets) small p t h =
-    record { ordered = h.ordered; first = h.first; major = λ k. absurd (cc); restart = λ k. absurd (cc); tokens = λ k. absurd (cc);
-        sizes = h.sizes }
+    record {
+      ordered = h.ordered;
+      first = h.first;
+      major = λ k. absurd (cc);
+      restart = λ k. absurd (cc);
+      tokens = λ k. absurd (cc);
+      sizes = h.sizes;
+    }
 becomes_sound s (FN octets) small p t h = holding_phase ReleaseDue s refl refl refl h
 becomes_sound s (NF octets) small p t h = holding_phase Ready s refl refl refl h
 becomes_sound s AA small p t h = h

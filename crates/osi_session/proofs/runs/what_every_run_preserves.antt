@@ -56,7 +56,7 @@ pub whole_sound : (s : whole.Standing) (inputs : List whole.Input) → AllByRecu
     IsSound (whole.after_inputs s inputs).state
 whole_sound s inputs has h =
     subst (λ (l : Listener). IsSound l.state) (run_as_whole s inputs)
-        (inputs_sound (listening s) (map in_words inputs) (all_in_numbers inputs has) h)
+    (inputs_sound (listening s) (map in_words inputs) (all_in_numbers inputs has) h)
 
 pub awaiting_fresh : IsFresh awaiting
 awaiting_fresh = record { phase = refl; held = refl; base = refl; numbers = refl; first = omega arith; sizes = refl }

@@ -83,13 +83,13 @@ accepting_left : (units : FunctionalUnits) (s : State) (version_2 : Bool) (seria
     → accepting_in units s version_2 serial sides sizes octets ≡ Some n → IsSound s → IsSound n
 accepting_left units s version_2 serial sides sizes octets n small e h =
     let a = is_left
-        (is_answering s.phase &&
-        (fits_user_data octets && ((version_2 && (has_data units && are_sizes sizes)) && answers_wishes units s.wishes sides))) _ n e in
+    (is_answering s.phase &&
+    (fits_user_data octets && ((version_2 && (has_data units && are_sizes sizes)) && answers_wishes units s.wishes sides))) _ n e in
     let p = and_parts (fits_user_data octets) _ (and_parts (is_answering s.phase) _ a.0).1 in
     let q = and_parts (version_2 && (has_data units && are_sizes sizes)) _ p.1 in
     let r = and_parts (has_data units) (are_sizes sizes) (and_parts version_2 _ q.0).1 in
     subst IsSound a.1
-        (opened _ _ _ _ s (base_small (has_points units) serial s.proposed small h.first) (smaller_are s.sizes sizes h.sizes r.1) h)
+    (opened _ _ _ _ s (base_small (has_points units) serial s.proposed small h.first) (smaller_are s.sizes sizes h.sizes r.1) h)
 
 pub said_sound : (s : State) (m : Meaning) (n : State) → IsNumbered m → said_message s m ≡ Some n → IsSound s → IsSound n
 said_sound s (CN version_2 requirements serial wishes from to sizes octets) n small e h =

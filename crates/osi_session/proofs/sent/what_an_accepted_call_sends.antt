@@ -14,7 +14,7 @@ limit_is : (s : State) → IsSound s → is_size (limit_of s) ≡ true
 limit_is s sound =
     let p = and_parts (is_size s.sizes.from_asker) (is_size s.sizes.from_answerer) sound.sizes in
     one_of (is_settled s.phase) (if s.is_caller then s.sizes.from_asker else s.sizes.from_answerer) 0
-        (one_of s.is_caller s.sizes.from_asker s.sizes.from_answerer p.0 p.1) refl
+    (one_of s.is_caller s.sizes.from_asker s.sizes.from_answerer p.0 p.1) refl
 
 pub limit_sized : (s : State) (n : ℕ) → n ≡ limit_of s → IsSound s → is_size n ≡ true
 limit_sized s n e sound = subst (λ (m : ℕ). is_size m ≡ true) (sym e) (limit_is s sound)
@@ -45,10 +45,10 @@ data_alone alone s octets x h w =
 
 pub data_full : ((limit : ℕ) (octets : List ℕ) → is_size limit ≡ true → 0 < limit → AreFull limit (tsdus_of limit (DT octets)))
     → (s : State) (octets : List ℕ) (x : Step) → IsSound s → allowed s (Data octets) ≡ Ok x → 0 < limit_of s →
-        AreFull (limit_of s) (tsdus_of (limit_of s) x.sent)
+    AreFull (limit_of s) (tsdus_of (limit_of s) x.sent)
 data_full full s octets x sound h some =
     subst (λ (m : Meaning). AreFull (limit_of s) (tsdus_of (limit_of s) m)) (sym (data_sent s octets x h))
-        (full (limit_of s) octets (limit_is s sound) some)
+    (full (limit_of s) octets (limit_is s sound) some)
 
 abbrev AreShort : List (List ℕ) → Type 0
 AreShort tsdus = AllByRecursion (λ (t : List ℕ). length t ≤ 1048576) tsdus
@@ -58,4 +58,4 @@ pub data_short : ((limit : ℕ) (octets : List ℕ) → is_size limit ≡ true �
 data_short short s octets x sound h =
     let q = passed s (Data octets) x h in
     subst (λ (m : Meaning). AreShort (tsdus_of (limit_of s) m)) (sym (data_sent s octets x h))
-        (short (limit_of s) octets (limit_is s sound) (leb-true (length octets) 1048572 q.size))
+    (short (limit_of s) octets (limit_is s sound) (leb-true (length octets) 1048572 q.size))

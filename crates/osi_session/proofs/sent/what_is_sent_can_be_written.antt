@@ -159,7 +159,7 @@ all_answered t [] = tt
 all_answered t (w ∷ ws) =
     either_answered (is_faulty (word_verdict t w)) _ _ (word_replies t w)
     (first_sendable (respond_word t w).reply (respond_words (respond_word t w).next ws).reply (word_replies t w)
-        (all_answered (respond_word t w).next ws))
+    (all_answered (respond_word t w).next ws))
 
 -- what the words of a TSDU are answered by can be sent
 pub words_answer : (t : Taker) (words : Words) (m : Meaning) → (respond_tsdu t words).reply ≡ Some m → IsSendable m

@@ -57,7 +57,7 @@ as_enacted P s u v e h = subst P (enacts s u ∙ ap (enacted s u) e) h
 good_does : (P : Outcome → Type 0) (t : Taker) (w : Word) → WordDoes P t.state w → is_over t.state.phase ≡ false →
     drops t.state (as_message w) ≡ false
     → is_expected t.state.phase (as_message w) ≡ true → first_fault (si (as_message w)) (conditions t.state (as_message w)) ≡ None →
-        P (good_word t w)
+    P (good_word t w)
 good_does P t (says u) h o d x f = as_enacted P t.state u fine (fine_verdict t.state u o d x f) (h.acts u refl)
 good_does P t (part First octets) h o d x f = h.rests
 good_does P t (part Middle octets) h o d x f = h.rests
@@ -83,7 +83,7 @@ word_does P t w h = elim (cases_Bool (is_over t.state.phase)) [
     judged_does : (P : Outcome → Type 0) (t : Taker) (w : Word) → WordDoes P t.state w → is_over t.state.phase ≡ false →
         drops t.state (as_message w) ≡ false
         → is_expected t.state.phase (as_message w) ≡ true → (f : Option UnitFault) →
-            first_fault (si (as_message w)) (word_conditions t w) ≡ f → P (outcome_in (respond_word t w))
+        first_fault (si (as_message w)) (word_conditions t w) ≡ f → P (outcome_in (respond_word t w))
     judged_does P t w h o d x None e =
         subst (λ (r : Hearing). P (outcome_in r)) (sym (word_at t w fine (rw (o, d, x, e) refl)))
         (good_does P t w h o d x (front_passes (si (as_message w)) (conditions t.state (as_message w)) (enclosure_conditions t.joined w) e))
@@ -104,7 +104,7 @@ either_next P false x y h k = k
 -- what each word keeps is kept by words that follow one another
 pub all_keep : (P : State → Type 0) (Q : Word → Type 0) (t : Taker) (ws : Words)
     → ((r : Taker) (w : Word) → Q w → P r.state → P (respond_word r w).next.state) → AllByRecursion Q ws → P t.state →
-        P (respond_words t ws).next.state
+    P (respond_words t ws).next.state
 unfolding respond_words
 all_keep P Q t [] k q h = h
 all_keep P Q t (w ∷ ws) k q h =
@@ -132,7 +132,7 @@ all_acting Q (w ∷ ws) h = either_words Q (list_any is_restart_word ws) ws (ws 
 -- and by a TSDU
 pub tsdu_keeps : (P : State → Type 0) (Q : Word → Type 0) (t : Taker) (words : Words)
     → ((r : Taker) (w : Word) → Q w → P r.state → P (respond_word r w).next.state) → AllByRecursion Q words → P t.state →
-        P (respond_tsdu t words).next.state
+    P (respond_tsdu t words).next.state
 tsdu_keeps P Q t words k q h = all_keep P Q t (acting_words words) k (all_acting Q words q) h
 
 pub any_tsdu_keeps : (P : State → Type 0) (t : Taker) (words : Words)

@@ -30,7 +30,7 @@ kept_gone p joined h = rw h refl
 
 either_twice : (b : Bool) (joined : Option (List ℕ)) →
     (if◌then◌else◌ {A = Option (List ℕ)} b None (if◌then◌else◌ {A = Option (List ℕ)} b None joined)) ≡
-        (if◌then◌else◌ {A = Option (List ℕ)} b None joined)
+    (if◌then◌else◌ {A = Option (List ℕ)} b None joined)
 either_twice true joined = refl
 either_twice false joined = refl
 
@@ -46,7 +46,7 @@ passes_true n (c ∷ cs) f = ap (λ r. if c.0 then r else Some (c.1 n)) (passes_
 pub plain_verdict : (s : State) (u : Meaning) → word_verdict (record { state = s; joined = None }) (says u) ≡ verdict s u
 plain_verdict s u =
     ap (λ f. if is_over s.phase then over else if drops s u then dropped else if not (is_expected s.phase u) then
-        faulty (Unexpected (si u)) else by_fault f)
+    faulty (Unexpected (si u)) else by_fault f)
     (passes_true (si u) (conditions s u) BadEnclosure)
 
 plain_enacted : (s : State) (u : Meaning) (v : Verdict) →
@@ -80,13 +80,13 @@ plain_words s [] = sym (heard_none (nothing s))
 plain_words s (u ∷ us) =
     ap (λ (v : Verdict). if is_faulty v then respond_word (record { state = s; joined = None }) (says u)
     else heard_then (respond_word (record { state = s; joined = None }) (says u))
-        (respond_words (respond_word (record { state = s; joined = None }) (says u)).next (map says us))) (plain_verdict s u)
+    (respond_words (respond_word (record { state = s; joined = None }) (says u)).next (map says us))) (plain_verdict s u)
     ∙ ap (λ (t : Taker). if is_faulty (verdict s u) then respond_word (record { state = s; joined = None }) (says u)
     else heard_then (respond_word (record { state = s; joined = None }) (says u)) (respond_words t (map says us))) (plain_next s u)
     ∙ ap (λ (h : Hearing). if is_faulty (verdict s u) then respond_word (record { state = s; joined = None }) (says u)
     else heard_then (respond_word (record { state = s; joined = None }) (says u)) h) (plain_words (respond_unit s u).next us)
     ∙ ap (λ (h : Hearing). if is_faulty (verdict s u) then h else heard_then h (heard None (respond_all (respond_unit s u).next us)))
-        (plain_word s u)
+    (plain_word s u)
     ∙ by (is_faulty (verdict s u))
   where
     by : (b : Bool) →
@@ -128,15 +128,25 @@ answer_joins : (l : Listener) (a : Answer) → kept_in l.state.phase l.joined �
     answered l a ≡ joins l.joined (whole.answered (standing_of l) a)
 answer_joins l (Ok x) k = refl
 answer_joins l (Err e) k =
-    λ i. record { next = record { state = l.state; waiting = l.waiting; joined = sym k i }; shown = []; reply = None; closes = false;
-    error = Some e }
+    λ i. record {
+      next = record { state = l.state; waiting = l.waiting; joined = sym k i };
+      shown = [];
+      reply = None;
+      closes = false;
+      error = Some e;
+    }
 
 either_joins : (l : Listener) (b : Bool) (m : Move) (n : whole.Move) → kept_in l.state.phase l.joined ≡ l.joined → m ≡ joins l.joined n →
     (if b then m else rests l) ≡ joins l.joined (if b then n else whole.rests (standing_of l))
 either_joins l true m n k h = h
 either_joins l false m n k h =
-    λ i. record { next = record { state = l.state; waiting = l.waiting; joined = sym k i }; shown = []; reply = None; closes = false;
-    error = None }
+    λ i. record {
+      next = record { state = l.state; waiting = l.waiting; joined = sym k i };
+      shown = [];
+      reply = None;
+      closes = false;
+      error = None;
+    }
 
 -- all but the words of a TSDU do to a session what they do over whole messages, and keep what the phase keeps
 pub others : (l : Listener) (input : whole.Input) → kept_in l.state.phase l.joined ≡ l.joined → is_apart input ≡ true →
@@ -148,8 +158,13 @@ messages_move : (s : whole.Standing) (said : Said) →
     react (listening s) (taken (map says said)) ≡ joins None (whole.react s (whole.taken said))
 unfolding react whole.react
 messages_move s said =
-    ap (λ (h : Hearing). let m : Move = record { next = record { state = h.next.state; waiting = s.waiting; joined = h.next.joined };
-        shown = h.shown; reply = h.reply; closes = h.closes; error = None } in m)
+    ap (λ (h : Hearing). let m : Move = record {
+      next = record { state = h.next.state; waiting = s.waiting; joined = h.next.joined };
+      shown = h.shown;
+      reply = h.reply;
+      closes = h.closes;
+      error = None;
+    } in m)
     (plain_tsdu s.state said)
 
 -- and if nothing is joined, so do messages
@@ -177,14 +192,16 @@ run_as_whole s (input ∷ inputs) =
 -- ---- a TSDU of one word
 
 enacted_kept : (t : Taker) (w : Word) (v : Verdict) →
-    record { state = (enacted_word t w v).next.state;
-        joined = kept_in (enacted_word t w v).next.state.phase (enacted_word t w v).next.joined } ≡ (enacted_word t w v).next
+    record {
+      state = (enacted_word t w v).next.state;
+      joined = kept_in (enacted_word t w v).next.state.phase (enacted_word t w v).next.joined;
+    } ≡ (enacted_word t w v).next
 enacted_kept t w v = grind (arith, kept_twice)
 
 -- what a word leaves is kept
 pub word_kept : (t : Taker) (w : Word) →
     record { state = (respond_word t w).next.state; joined = kept_in (respond_word t w).next.state.phase (respond_word t w).next.joined } ≡
-        (respond_word t w).next
+    (respond_word t w).next
 unfolding respond_word
 word_kept t w = enacted_kept t w (word_verdict t w)
 
@@ -224,7 +241,7 @@ two_words t w = by (is_faulty (word_verdict t w))
         respond_words (respond_word t w).next (says (GT no_token) ∷ []) ≡ heard (respond_word t w).next.joined
         (nothing (respond_word t w).next.state) →
         (if b then respond_word t w else heard_then (respond_word t w) (respond_words (respond_word t w).next (says (GT no_token) ∷ []))) ≡
-            respond_word t w
+        respond_word t w
     by true h = refl
     by false h = ap (heard_then (respond_word t w)) h ∙ then_quiet (respond_word t w) _ (word_kept t w)
 

@@ -49,7 +49,7 @@ point_is_shown s n r u d m k = point_in s n s.phase refl r u d m k
 ack_in : (s : State) (n : ℕ) (p : Phase) → s.phase ≡ p → is_ready p ≡ true → s.units.minor ≡ true → s.numbers.answers ≡ false →
     nat_le s.numbers.confirmed n ≡ true
     → nat_lt n s.numbers.next ≡ true →
-        respond_unit s (MIA n []) ≡ shows (record s { numbers = minor_confirmed n s.numbers }) (MinorConfirmed n [])
+    respond_unit s (MIA n []) ≡ shows (record s { numbers = minor_confirmed n s.numbers }) (MinorConfirmed n [])
 unfolding respond_unit take_expected
 ack_in s n Ready e r u a k l = rw (e, u, a, k, l) refl
 ack_in s n _ e r u a k l = absurd (cc)
@@ -58,7 +58,7 @@ ack_in s n _ e r u a k l = absurd (cc)
 pub ack_is_shown : (s : State) (n : ℕ) → is_ready s.phase ≡ true → s.units.minor ≡ true → s.numbers.answers ≡ false →
     nat_le s.numbers.confirmed n ≡ true
     → nat_lt n s.numbers.next ≡ true →
-        respond_unit s (MIA n []) ≡ shows (record s { numbers = minor_confirmed n s.numbers }) (MinorConfirmed n [])
+    respond_unit s (MIA n []) ≡ shows (record s { numbers = minor_confirmed n s.numbers }) (MinorConfirmed n [])
 ack_is_shown s n r u a k l = ack_in s n s.phase refl r u a k l
 
 -- if nothing is joined
@@ -70,7 +70,7 @@ word_comes s u v i h = plain_word s u ∙ ap (heard None) h
 pub unit_comes : (s : State) (u : Meaning) (v : Numbers) (i : Shown) (read : Result Words SpduFault) →
     read ≡ Ok (says (GT no_token) ∷ says u ∷ [])
     → respond_unit s u ≡ shows (record s { numbers = v }) i →
-        respond_came (record { state = s; joined = None }) read ≡ heard None (shows (record s { numbers = v }) i)
+    respond_came (record { state = s; joined = None }) read ≡ heard None (shows (record s { numbers = v }) i)
 unit_comes s u v i read e h =
     let t : Taker = record { state = s; joined = None } in
     ap (respond_came t) e ∙ word_behind t (says u) ∙ word_comes s u v i h
@@ -90,13 +90,13 @@ point_moves : (s : State) (w : Option Meaning) (j : Option (List ℕ)) (b : Bool
     (read : Result Words SpduFault) → b ≡ is_some j
     → (b ≡ false) × (respond_came (record { state = s; joined = None }) read ≡ heard None (shows (record s { numbers = v }) (shown_by i)))
     → (let l : Listener = record { state = s; waiting = w; joined = j } in react l (came_as read) ≡ only_shows (in_numbers l v)
-        (shown_by i))
+    (shown_by i))
 point_moves s w j b v i read n h =
     let l : Listener = record { state = s; waiting = w; joined = j } in
     let x : State = record s { numbers = v } in
     let g : kept_in x.phase None ≡ j = kept_none x.phase ∙ sym (none_joined j b n h.0) in
     came_is l read (heard None (shows x (shown_by i))) (comes_to s j b v i read n h) ∙
-        (λ k. only_shows (record { state = x; waiting = w; joined = g k }) (shown_by i))
+    (λ k. only_shows (record { state = x; waiting = w; joined = g k }) (shown_by i))
 
 pub point_shows : (l : Listener) (s : State) (w : Option Meaning) (j : Option (List ℕ)) (b : Bool) (v : Numbers) (i : Indication)
     (read : Result Words SpduFault)
@@ -105,7 +105,7 @@ pub point_shows : (l : Listener) (s : State) (w : Option Meaning) (j : Option (L
     → react l (came_as read) ≡ only_shows (record { state = record s { numbers = v }; waiting = w; joined = j }) (shown_by i)
 point_shows l s w j b v i read view n h =
     subst (λ (x : Listener). react x (came_as read) ≡ only_shows (record { state = record s { numbers = v }; waiting = w; joined = j })
-        (shown_by i)) view
+    (shown_by i)) view
     (point_moves s w j b v i read n h)
 
 -- the same of a word alone
@@ -114,7 +114,7 @@ pub word_shows : (l : Listener) (s : State) (w : Option Meaning) (j : Option (Li
     → (let y : Listener = record { state = s; waiting = w; joined = j } in y ≡ l) → b ≡ is_some j
     → (b ≡ false) × (respond_word (record { state = s; joined = None }) word ≡ heard None (shows (record s { numbers = v }) (shown_by i)))
     → moved l (respond_word (taker_of l) word) ≡ only_shows (record { state = record s { numbers = v }; waiting = w; joined = j })
-        (shown_by i)
+    (shown_by i)
 word_shows l s w j b v i word view n h =
     let read : Result Words SpduFault = Ok (says (GT no_token) ∷ word ∷ []) in
     sym (came_is l read (respond_word (taker_of l) word) (word_behind (taker_of l) word))
@@ -204,7 +204,7 @@ point_may l p confirm octets n h =
 
 pub point_accepted : (l : Listener) (p : SentPoint) (confirm : Bool) (octets : List ℕ) → may_advance l.state p ≡ true
     → nat_le (length octets) most_user_data ≡ true →
-        fits_limit l.state (call_for p confirm octets) (sends l.state (call_for p confirm octets)) ≡ true
+    fits_limit l.state (call_for p confirm octets) (sends l.state (call_for p confirm octets)) ≡ true
     → (react l (called (call_for p confirm octets))).error ≡ None
 point_accepted l p confirm octets m size limit =
     let c : Call = call_for p confirm octets in
@@ -239,22 +239,22 @@ pub advance_sound : (s : State) (p : SentPoint) (v : Numbers) →
 advance_sound s p v h sound =
     let a = and_parts _ _ (some_after (may_advance s p) v _ h).0 in
     subst IsSound (sym (goes_on_to s p v h))
-        (after_sound s (call_for p true []) (point_serial p true []) a.0 (held_all _ (and_parts _ _ a.1).1) sound)
+    (after_sound s (call_for p true []) (point_serial p true []) a.0 (held_all _ (and_parts _ _ a.1).1) sound)
 
 pub advance_leaves : (l : Listener) (s : State) (w : Option Meaning) (j : Option (List ℕ)) (p : SentPoint) (v : Numbers)
     → (let y : Listener = record { state = s; waiting = w; joined = j } in y ≡ l) → kept_in s.phase j ≡ j
     → Some v ≡ (if may_advance s p then Some (after s (call_for p true [])).numbers else None)
     → (may_advance l.state p ≡ true) ×
-        (let y : Listener = record { state = record s { numbers = v }; waiting = w; joined = j } in y ≡ advanced l p)
+    (let y : Listener = record { state = record s { numbers = v }; waiting = w; joined = j } in y ≡ advanced l p)
 advance_leaves l s w j p v view kept h =
     let here : Listener = record { state = s; waiting = w; joined = j } in
     subst (λ (y : Listener). (may_advance y.state p ≡ true) ×
-        (let z : Listener = record { state = record s { numbers = v }; waiting = w; joined = j } in z ≡ advanced y p)) view
+    (let z : Listener = record { state = record s { numbers = v }; waiting = w; joined = j } in z ≡ advanced y p)) view
     ((some_after (may_advance s p) v _ h).0, stays_in s (record s { numbers = v }) w j kept ∙ ap (in_state here) (goes_on_to s p v h))
 
 planned_here : (l : Listener) (p : PlannedPoint) (confirm : Bool) (octets : List ℕ) (x : Step) → has_next l.state p.point ≡ true
     → allowed l.state (call_for p.point confirm octets) ≡ Ok x → IsSound l.state → p.sent ≡ tsdus_of (limit_of l.state) x.sent →
-        PlansPoint l (call_for p.point confirm octets) p
+    PlansPoint l (call_for p.point confirm octets) p
 planned_here l p confirm octets x n h sound sent =
     let c : Call = call_for p.point confirm octets in record {
       state = point_steps l p.point confirm octets (call_passes l c x h);
@@ -268,7 +268,7 @@ pub point_planned : (l : Listener) (s : State) (w : Option Meaning) (j : Option 
     (octets : List ℕ) (x : Step)
     → (let y : Listener = record { state = s; waiting = w; joined = j } in y ≡ l) → has_next s p.point ≡ true
     → allowed s (call_for p.point confirm octets) ≡ Ok x → IsSound s → p.sent ≡ tsdus_of (limit_of s) x.sent →
-        PlansPoint l (call_for p.point confirm octets) p
+    PlansPoint l (call_for p.point confirm octets) p
 point_planned l s w j p confirm octets x view n h sound sent =
     subst (λ (y : Listener). PlansPoint y (call_for p.point confirm octets) p) view
     (planned_here (record { state = s; waiting = w; joined = j }) p confirm octets x n h sound sent)

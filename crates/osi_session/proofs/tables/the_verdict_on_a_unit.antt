@@ -132,7 +132,7 @@ choice false s x y o p h k = k
 -- a token item acts after the unit after it, and in front of an RS it does not act
 pub item_and_unit : (s : State) (item u : Meaning) → is_token_item item ≡ true →
     respond s (behind item u) ≡ (if is_resynchronize u then respond_unit s u else
-        and_then (respond_unit s u) (respond_unit (respond_unit s u).next item))
+    and_then (respond_unit s u) (respond_unit (respond_unit s u).next item))
 unfolding acting
 item_and_unit s item u t = choice (is_resynchronize u) s (u ∷ []) (u ∷ item ∷ []) _ _ (one s u) (two s u item t)
 

@@ -34,9 +34,11 @@ equal_stands s n r e =
 
 pub of_equal : (c o : State) → AreCrossed c o → c.numbers.next ≡ o.numbers.next →
     (stands o c.numbers.next ≡ true) × (stands c o.numbers.next ≡ false)
-of_equal c o x e =
-    (equal_stands o c.numbers.next x.other_asked.phase e ∙ ap not x.is_other, equal_stands c o.numbers.next x.asked.phase (sym e) ∙
-        ap not x.is_caller)
+of_equal c o x e = (
+  equal_stands o c.numbers.next x.other_asked.phase e ∙ ap not x.is_other,
+  equal_stands c o.numbers.next x.asked.phase (sym e) ∙
+      ap not x.is_caller,
+)
 
 pub of_lower : (a b : State) → HasAsked a → HasAsked b → a.numbers.next < b.numbers.next →
     (stands b a.numbers.next ≡ true) × (stands a b.numbers.next ≡ false)
@@ -119,7 +121,7 @@ agreed c o wishes asked octets others x = elim (cases_order c.numbers.next o.num
 -- the one has a restart to answer, and the other awaits the answer
 pub one_answers : (c o : State) (wishes asked : TokenSetting) (octets others : List ℕ) → AreCrossed c o →
     ((is_restart_due (after_restart c o.numbers.next asked others).phase ≡ true) ×
-        (is_restarting (after_restart o c.numbers.next wishes octets).phase ≡ true))
+    (is_restarting (after_restart o c.numbers.next wishes octets).phase ≡ true))
     ⊎ ((is_restarting (after_restart c o.numbers.next asked others).phase ≡ true) ×
-        (is_restart_due (after_restart o c.numbers.next wishes octets).phase ≡ true))
+    (is_restart_due (after_restart o c.numbers.next wishes octets).phase ≡ true))
 one_answers c o wishes asked octets others h0 = grind (arith, cases_order, of_equal, yields_next, stands_next, of_lower)

@@ -29,7 +29,7 @@ refused_version s requirements serial wishes from to sizes octets h =
 units_at : (s : State) (requirements : ℕ) (serial : Option ℕ) (wishes : TokenSetting) (from to : Option (List ℕ)) (sizes : TsduMaximumSize)
     (octets : List ℕ) (p : Phase) → s.phase ≡ p
     → is_wait_cn p ≡ true → has_data (functional_units requirements) ≡ false →
-        (respond_unit s (CN true requirements serial wishes from to sizes octets)).reply ≡ Some (RF 134 [])
+    (respond_unit s (CN true requirements serial wishes from to sizes octets)).reply ≡ Some (RF 134 [])
 unfolding respond_unit take_expected
 units_at s requirements serial wishes from to sizes octets WaitCn e h d = rw (e, d) refl
 units_at s requirements serial wishes from to sizes octets _ e h d = absurd (cc)
@@ -38,7 +38,7 @@ units_at s requirements serial wishes from to sizes octets _ e h d = absurd (cc)
 pub refused_units : (s : State) (requirements : ℕ) (serial : Option ℕ) (wishes : TokenSetting) (from to : Option (List ℕ))
     (sizes : TsduMaximumSize) (octets : List ℕ)
     → is_wait_cn s.phase ≡ true → has_data (functional_units requirements) ≡ false →
-        (respond_unit s (CN true requirements serial wishes from to sizes octets)).reply ≡ Some (RF 134 [])
+    (respond_unit s (CN true requirements serial wishes from to sizes octets)).reply ≡ Some (RF 134 [])
 refused_units s requirements serial wishes from to sizes octets h d =
     units_at s requirements serial wishes from to sizes octets s.phase refl h d
 

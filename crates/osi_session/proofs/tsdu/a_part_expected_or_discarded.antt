@@ -17,7 +17,7 @@ pub record Expects (s : State) : Type 0 where
 -- a part in its place, with few enough octets, is good
 pub part_fine : (s : State) (joined : Option (List ℕ)) (place : Place) (o : List ℕ) → Expects s → is_in_place joined place ≡ true
     → nat_le (length (joined_octets joined ++ o)) most_data ≡ true →
-        word_verdict (record { state = s; joined = joined }) (part place o) ≡ fine
+    word_verdict (record { state = s; joined = joined }) (part place o) ≡ fine
 part_fine s joined place o e placed short =
     let v = excluded takes_data is_over refl s.phase e.phase in let r = excluded takes_data is_restarting refl s.phase e.phase in
     let x = e.phase in let t = e.token in rw (v, r, x, t, placed, short) refl
@@ -34,7 +34,7 @@ when_expected o x h h0 = grind arith
 
 at_phase : (s : State) (o : List ℕ) → is_over s.phase ≡ false → is_restarting s.phase ≡ false →
     verdict s (DT o) ≡ (if not (takes_data s.phase) then faulty (Unexpected (si (DT o))) else
-        by_fault (if not s.held.data_token then None else Some (TokenHeld (si (DT o)))))
+    by_fault (if not s.held.data_token then None else Some (TokenHeld (si (DT o)))))
 at_phase s o v r = rw (v, r) refl
 
 -- if the whole data is no fault, and is not discarded, it is expected

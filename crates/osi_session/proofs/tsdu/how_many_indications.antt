@@ -60,7 +60,7 @@ all_show t [] = omega arith
 all_show t (w ∷ ws) =
     let one = word_shows t w in
     let both = both_show (respond_word t w).shown (respond_words (respond_word t w).next ws).shown (length ws) one
-        (all_show (respond_word t w).next ws) in
+    (all_show (respond_word t w).next ws) in
     either_heard (is_faulty (word_verdict t w)) (length (w ∷ ws)) _ _ (omega arith) (omega arith)
 
 either_long : (b : Bool) (n : ℕ) (x y : Words) → length x ≤ n → length y ≤ n → length (if b then x else y) ≤ n
@@ -72,7 +72,7 @@ unfolding acting_words
 acting_len [] = omega arith
 acting_len (first ∷ words) =
     either_long (list_any is_restart_word words) (length (first ∷ words)) _ _ (omega arith)
-        (omega (arith, length-append words (first ∷ [])))
+    (omega (arith, length-append words (first ∷ [])))
 
 -- and a TSDU at most one for each word
 pub words_show : (t : Taker) (words : Words) → length (respond_tsdu t words).shown ≤ length words

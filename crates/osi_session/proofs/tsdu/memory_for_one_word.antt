@@ -59,13 +59,13 @@ pub takes_behind : (j : Option (List ℕ)) (a b : Hearing) → (quiet a ≡ true
     takes_room a.next.joined b ≡ true → takes_room j (heard_then a b) ≡ true
 takes_behind j a b g h = by_takes (quiet (heard_then a b)) (size j) (size b.next.joined)
     (λ q. let p = quiet_both a b q in let x = takes_by (quiet b) (size a.next.joined) (size b.next.joined) h p.1 in let y = g p.0 in
-        omega arith)
+    omega arith)
 
 -- ---- a good unit that shows and sends nothing changes nothing
 
 connect_quiet : (v d : Bool) (s a b : State) (i : Shown) (r t : Meaning) →
     (is_nil (if v && d then i ∷ [] else []) && is_none (if not v then Some r else (if not d then Some t else None))) ≡ true →
-        (if v && d then a else b) ≡ s
+    (if v && d then a else b) ≡ s
 connect_quiet v d s a b i r t h0 = grind arith
 
 restart_quiet : (b : Bool) (s a : State) (i : Shown) → (is_nil (if b then i ∷ [] else []) && true) ≡ true → (if b then a else s) ≡ s
@@ -131,7 +131,7 @@ live_grows : (t : Taker) (w : Word) (v : Verdict) → InPhase t → is_over t.st
     Grows t.joined (respond_word t w)
 live_grows t w over k o e =
     let b = over_by (is_over t.state.phase) (drops t.state (as_message w)) (is_expected t.state.phase (as_message w))
-        (Unexpected (si (as_message w)))
+    (Unexpected (si (as_message w)))
     (first_fault (si (as_message w)) (word_conditions t w)) e in λ q. absurd (cc)
 live_grows t w dropped k o e = subst (Grows t.joined) (sym (word_at t w dropped e)) (λ q. kept_size t.state t.state t.joined k refl)
 live_grows t w (faulty fault) k o e = subst (Grows t.joined) (sym (word_at t w (faulty fault) e)) (λ q. absurd (loud_or t.state fault q))
@@ -158,8 +158,8 @@ words_grow t (w ∷ ws) k =
     either_grows (is_faulty (word_verdict t w)) t.joined (respond_word t w)
     (heard_then (respond_word t w) (respond_words (respond_word t w).next ws))
     (word_grows t w k)
-        (both_grow t.joined (respond_word t w) (respond_words (respond_word t w).next ws) (word_grows t w k)
-        (words_grow (respond_word t w).next ws (word_in_phase t w)))
+    (both_grow t.joined (respond_word t w) (respond_words (respond_word t w).next ws) (word_grows t w k)
+    (words_grow (respond_word t w).next ws (word_in_phase t w)))
 
 either_takes : (c : Bool) (j : Option (List ℕ)) (a b : Hearing) → takes_room j a ≡ true → takes_room j b ≡ true →
     takes_room j (if c then a else b) ≡ true
@@ -173,7 +173,7 @@ word_takes t w ws h =
     either_takes (is_faulty (word_verdict t w)) t.joined (respond_word t w)
     (heard_then (respond_word t w) (respond_words (respond_word t w).next ws))
     h (takes_then t.joined (respond_word t w) (respond_words (respond_word t w).next ws) h
-        (words_grow (respond_word t w).next ws (word_in_phase t w)))
+    (words_grow (respond_word t w).next ws (word_in_phase t w)))
 
 -- ---- so far
 

@@ -42,7 +42,7 @@ verdict_same : (s : State) (j k : Option (List ℕ)) (u : Meaning) → is_none j
     word_verdict (taker_with s j) (says u) ≡ word_verdict (taker_with s k) (says u)
 verdict_same s j k u e =
     ap (λ (b : Bool). if is_over s.phase then over else if drops s u then dropped else if not (is_expected s.phase u) then
-        faulty (Unexpected (si u))
+    faulty (Unexpected (si u))
     else by_fault (first_fault (si u) (conditions s u ++ (b || not (begins_anew u), BadEnclosure) ∷ []))) e
 
 pub message_counts : (s : State) (n : Option ℕ) (k : Option (List ℕ)) (u : Meaning) (o : Outcome) (c : Count) → k ≡ no_octets n
@@ -101,7 +101,7 @@ verdict_at : (s : State) (j k : Option (List ℕ)) (place : Place) (o : List ℕ
 verdict_at s j k place o e =
     part_verdict (taker_with s j) place o
     ∙ ap (λ (p : Bool). part_by (si (DT o)) (is_over s.phase) (is_restarting s.phase) (takes_data s.phase) s.held.data_token p (fits j o))
-        (place_same j k place e)
+    (place_same j k place e)
 
 len_of : (j : Option (List ℕ)) (n : Option ℕ) (o : List ℕ) → option_map length j ≡ n →
     length (joined_octets j ++ o) ≡ unwrap_or n 0 + length o
@@ -127,10 +127,10 @@ pub dropped_counts : (s : State) (n : Option ℕ) (k : Option (List ℕ)) (place
 dropped_counts s n k place o c e h d = λ j f.
     let same = none_same j n f ∙ ap is_none (sym e) in
     let told = dropped_by (si (DT o)) (is_over s.phase) (is_restarting s.phase) (takes_data s.phase) s.held.data_token (is_in_place k place)
-        (fits j o) (fits k o)
+    (fits j o) (fits k o)
     (h ∙ ap told_of (verdict_at s k k place o refl)) in
     ap counted (part_dropped (taker_with s j) place o (told ∙ ap told_of (sym (verdict_at s j k place o same)))) ∙
-        heard_so_many j n (nothing s) f ∙ sym d
+    heard_so_many j n (nothing s) f ∙ sym d
 
 pub bad_counts : (s : State) (n : Option ℕ) (k : Option (List ℕ)) (place : Place) (o : List ℕ) (fault : UnitFault) (c : Count) →
     k ≡ no_octets n
@@ -139,10 +139,10 @@ bad_counts s n k place o fault c e h d = λ j f.
     let same = none_same j n f ∙ ap is_none (sym e) in
     let less : fits k o ≡ false → fits j o ≡ false = λ x. shorter j n o f (ap (λ (y : Option (List ℕ)). fits y o) (sym e) ∙ x) in
     let told = bad_by (si (DT o)) (is_over s.phase) (is_restarting s.phase) (takes_data s.phase) s.held.data_token (is_in_place k place)
-        (fits j o) (fits k o) fault less
+    (fits j o) (fits k o) fault less
     (h ∙ ap told_of (verdict_at s k k place o refl)) in
     ap counted (part_bad (taker_with s j) place o fault (told ∙ ap told_of (sym (verdict_at s j k place o same)))) ∙
-        heard_so_many j n (bad s fault) f ∙ sym d
+    heard_so_many j n (bad s fault) f ∙ sym d
 
 -- too much is joined
 pub long_counts : (s : State) (n : Option ℕ) (k : Option (List ℕ)) (place : Place) (o : List ℕ) (c : Count) → k ≡ no_octets n
@@ -152,7 +152,7 @@ long_counts s n k place o c e h l d = λ j f.
     let same = none_same j n f ∙ ap is_none (sym e) in
     let long : fits j o ≡ false = rw (len_of j n o f) (above (unwrap_or n 0 + length o) l) in
     let told = long_by (si (DT o)) (is_over s.phase) (is_restarting s.phase) (takes_data s.phase) s.held.data_token (is_in_place k place)
-        (fits j o) (fits k o) long
+    (fits j o) (fits k o) long
     (h ∙ ap told_of (verdict_at s k k place o refl)) in
     ap counted (part_bad (taker_with s j) place o (DataTooLong (si (DT o))) (told ∙ ap told_of (sym (verdict_at s j k place o same))))
     ∙ heard_so_many j n (bad s (DataTooLong (si (DT o)))) f ∙ sym d
@@ -164,7 +164,7 @@ long_counts s n k place o c e h l d = λ j f.
 left_of : (s : State) (j : Option (List ℕ)) (n : Option ℕ) (place : Place) (o : List ℕ) (total : ℕ) → option_map length j ≡ n →
     word_verdict (taker_with s j) (part place o) ≡ fine
     → total ≡ unwrap_or n 0 + length o →
-        counted (respond_word (taker_with s j) (part place o)) ≡ count_by (if is_last place then None else Some total) (nothing s)
+    counted (respond_word (taker_with s j) (part place o)) ≡ count_by (if is_last place then None else Some total) (nothing s)
 left_of s j n First o total f v t = ap counted (first_is (taker_with s j) o v) ∙ heard_so_many (Some (joined_octets j ++ o)) (Some total)
     (nothing s) (ap Some (len_of j n o f ∙ sym t))
 left_of s j n Middle o total f v t = ap counted (middle_is (taker_with s j) o v) ∙ heard_so_many (Some (joined_octets j ++ o)) (Some total)
@@ -173,13 +173,13 @@ left_of s j n Last o total f v t = ap counted (last_is (taker_with s j) o v) ∙
 
 pub good_counts : (s : State) (n : Option ℕ) (k : Option (List ℕ)) (place : Place) (o : List ℕ) (total : ℕ) (c : Count) → k ≡ no_octets n
     → is.Good ≡ told_of (word_verdict (taker_with s k) (part place o)) → unwrap_or n 0 + length o ≤ most_data →
-        total ≡ unwrap_or n 0 + length o
+    total ≡ unwrap_or n 0 + length o
     → c ≡ count_by (if is_last place then None else Some total) (nothing s) → Counts s n (part place o) c
 good_counts s n k place o total c e h l t d = λ j f.
     let same = none_same j n f ∙ ap is_none (sym e) in
     let short : fits j o ≡ true = rw (len_of j n o f) (le-leb (unwrap_or n 0 + length o) most_data l) in
     let told = fine_by (si (DT o)) (is_over s.phase) (is_restarting s.phase) (takes_data s.phase) s.held.data_token (is_in_place k place)
-        (fits j o) (fits k o) short
+    (fits j o) (fits k o) short
     (h ∙ ap told_of (verdict_at s k k place o refl)) in
     left_of s j n place o total f (verdict_at s j k place o same ∙ told) t ∙ sym d
 
@@ -231,7 +231,7 @@ pub walks_turn : (s : State) (n : Option ℕ) (words : Words) (c : Count) (resta
     → us ≡ v ∷ units → u ≡ v → WalksAll s n words c restarts item (u ∷ units)
 walks_turn s n words c restarts item u v us units w e i =
     subst (λ (x : Word). WalksAll s n words c restarts item (x ∷ units)) (sym i)
-        (subst (λ (xs : Words). WalksAll s n words c restarts item xs) e w)
+    (subst (λ (xs : Words). WalksAll s n words c restarts item xs) e w)
 
 abbrev pub Tells : Count → Word → Bool → Type 0
 Tells c w b = (h : Hearing) → counted h ≡ c → b ≡ is_faulty (word_verdict h.next w)
@@ -259,7 +259,7 @@ pub walks_stop : (s : State) (n : Option ℕ) (words : Words) (c next : Count) (
 walks_stop s n words c next restarts b item u us w t g l = λ j f.
     let x = w j f in
     ap counted (sym (stops (respond_tsdu (taker_with s j) words) x.heard restarts item u us x.leads (sym (t x.heard x.counts) ∙ g))) ∙
-        l x.heard x.counts
+    l x.heard x.counts
 
 -- no word is left
 pub walks_restarted : (s : State) (n : Option ℕ) (words : Words) (c : Count) (restarts : Bool) (item : Word) (us : Words) →
@@ -268,7 +268,7 @@ pub walks_restarted : (s : State) (n : Option ℕ) (words : Words) (c : Count) (
 walks_restarted s n words c restarts item us w e r = λ j f.
     let x = w j f in
     let leads = subst (λ (y : Bool). Leads (respond_tsdu (taker_with s j) words) x.heard y item []) r
-        (subst (λ (xs : Words). Leads (respond_tsdu (taker_with s j) words) x.heard restarts item xs) e x.leads) in
+    (subst (λ (xs : Words). Leads (respond_tsdu (taker_with s j) words) x.heard restarts item xs) e x.leads) in
     ap counted (sym (ends_restarted (respond_tsdu (taker_with s j) words) x.heard item leads)) ∙ x.counts
 
 pub walks_item : (s : State) (n : Option ℕ) (words : Words) (c next : Count) (restarts : Bool) (item : Word) (us : Words) →
@@ -277,7 +277,7 @@ pub walks_item : (s : State) (n : Option ℕ) (words : Words) (c next : Count) (
 walks_item s n words c next restarts item us w e r l = λ j f.
     let x = w j f in
     let leads = subst (λ (y : Bool). Leads (respond_tsdu (taker_with s j) words) x.heard y item []) r
-        (subst (λ (xs : Words). Leads (respond_tsdu (taker_with s j) words) x.heard restarts item xs) e x.leads) in
+    (subst (λ (xs : Words). Leads (respond_tsdu (taker_with s j) words) x.heard restarts item xs) e x.leads) in
     ap counted (sym (ends_with_item (respond_tsdu (taker_with s j) words) x.heard item leads)) ∙ l x.heard x.counts
 
 -- ---- a TSDU

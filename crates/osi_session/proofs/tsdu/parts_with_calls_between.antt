@@ -94,7 +94,7 @@ alike_is : (s : State) (waiting : Option Meaning) (joined : Option (List ℕ)) (
 alike_is s waiting joined c answer e =
     subst (λ (m : Move). AreAlike m (react (at s waiting None) (called c))) (sym (call_is (at s waiting joined) c answer e))
     (subst (AreAlike (answered (at s waiting joined) answer)) (sym (call_is (at s waiting None) c answer e))
-        (call_alike s waiting joined answer))
+    (call_alike s waiting joined answer))
 
 leaves_stands : (s : State) (joined begun : Option (List ℕ)) → joined ≡ begun → Leaves s → Stands s (kept_in s.phase joined) begun
 leaves_stands s joined begun e h = elim h [
@@ -135,10 +135,10 @@ call_step s waiting joined begun c (Err f) e st = record {
 
 part_moves : (s : State) (waiting : Option Meaning) (joined : Option (List ℕ)) (place : Place) (o : List ℕ) →
     react (at s waiting joined) (part_comes place o) ≡ moved (at s waiting joined)
-        (respond_word (record { state = s; joined = joined }) (part place o))
+    (respond_word (record { state = s; joined = joined }) (part place o))
 part_moves s waiting joined place o =
     taken_is (at s waiting joined) (says (GT no_token) ∷ part place o ∷ [])
-        (respond_word (record { state = s; joined = joined }) (part place o))
+    (respond_word (record { state = s; joined = joined }) (part place o))
     (word_behind (record { state = s; joined = joined }) (part place o))
 
 part_rests : (s : State) (waiting : Option Meaning) (joined now : Option (List ℕ)) (place : Place) (o : List ℕ) →
@@ -157,7 +157,7 @@ discarded_step : (s : State) (waiting : Option Meaning) (joined : Option (List �
     PartStep s waiting joined place o begun
 discarded_step s waiting joined place o begun d e =
     subst (λ (k : Option (List ℕ)). PartStep s waiting k place o begun) (sym e)
-        (record { now = None; is = part_rests s waiting None None place o (discarded_is s place o d); stands = inr (d, refl) })
+    (record { now = None; is = part_rests s waiting None None place o (discarded_is s place o d); stands = inr (d, refl) })
 
 first_step : (s : State) (waiting : Option Meaning) (joined : Option (List ℕ)) (o : List ℕ) → length o ≤ most_data → Stands s joined None →
     PartStep s waiting joined First o (Some o)
@@ -171,8 +171,11 @@ middle_step : (s : State) (waiting : Option Meaning) (joined : Option (List ℕ)
     Stands s joined (Some b) → PartStep s waiting joined Middle o (Some (b ++ o))
 middle_step s waiting joined b o short st = elim st [
   | inl a ↦ subst (λ (k : Option (List ℕ)). PartStep s waiting k Middle o (Some (b ++ o))) (sym a.1)
-      (record { now = Some (b ++ o); is = part_rests s waiting (Some b) (Some (b ++ o)) Middle o (middle_is s b o short a.0.expects);
-          stands = inl (a.0, refl) })
+      (record {
+        now = Some (b ++ o);
+        is = part_rests s waiting (Some b) (Some (b ++ o)) Middle o (middle_is s b o short a.0.expects);
+        stands = inl (a.0, refl);
+      })
   | inr d ↦ discarded_step s waiting joined Middle o (Some (b ++ o)) d.0 d.1
 ]
 
@@ -189,7 +192,7 @@ whole_moves s waiting o = taken_is (at s waiting None) (words_of (DT o)) (respon
 last_word : (s : State) (joined : Option (List ℕ)) (front last : List ℕ) → Stands s joined (Some front) →
     length (front ++ last) ≤ most_data →
     respond_word (record { state = s; joined = joined }) (part Last last) ≡ respond_word (record { state = s; joined = None })
-        (says (DT (front ++ last)))
+    (says (DT (front ++ last)))
 last_word s joined front last h0 h1 = grind (arith, last_joined, expects, last_discarded)
 
 last_moves : (s : State) (waiting : Option Meaning) (joined : Option (List ℕ)) (front last : List ℕ) → Stands s joined (Some front) →
@@ -253,7 +256,7 @@ pub parts_do_as_whole : (l : Listener) (acts : List Act) (front last : List ℕ)
     IsNoFault l.state (front ++ last) →
     length (front ++ last) ≤ most_data → AreParts None acts front →
     react (after_inputs l (map act_in_words acts)) (part_comes Last last) ≡ react (after_inputs l (calls_in acts))
-        (taken (words_of (DT (front ++ last))))
+    (taken (words_of (DT (front ++ last))))
 parts_do_as_whole l acts front last e f fit short h =
     subst (λ (k : Option (List ℕ)). Same acts front last (at l.state l.waiting k)) (sym e)
     (runs l.state l.waiting None None acts front last (starts l.state (front ++ last) fit f) h short)
@@ -275,9 +278,9 @@ acts_in_words read (calls c ∷ acts) = ap (λ (is : List Input). called c ∷ i
 pub octets_do_as_whole : ReadAsParts → (l : Listener) (acts : List Act) (front last : List ℕ) →
     said_at (written (DT (front ++ last))) ≡ Ok (words_of (DT (front ++ last))) →
     l.joined ≡ None → HasProfile l.state → IsNoFault l.state (front ++ last) → length (front ++ last) ≤ most_data →
-        AreParts None acts front →
+    AreParts None acts front →
     react (after_inputs l (map act_in_octets acts)) (came (part_octets Last last)) ≡ react (after_inputs l (calls_in acts))
-        (came (written (DT (front ++ last))))
+    (came (written (DT (front ++ last))))
 octets_do_as_whole read l acts front last whole e f fit short h =
     ap (λ (is : List Input). react (after_inputs l is) (came (part_octets Last last))) (acts_in_words read acts)
     ∙ ap (react (after_inputs l (map act_in_words acts))) (came_in_words read Last last)
@@ -308,18 +311,18 @@ silent_run read s waiting joined begun (calls c ∷ acts) front st h short =
       (refl, k.alike),
       subst (λ (l : Listener). AreSilent l (after_input (at s waiting None) (called c)) acts) (sym k.is)
           (subst (λ (m : Listener). AreSilent (at k.state waiting k.now) m acts) (sym k.whole)
-              (silent_run read k.state waiting k.now begun acts front k.stands h short)),
+          (silent_run read k.state waiting k.now begun acts front k.stands h short)),
     )
 silent_run read s waiting joined None (comes First o ∷ acts) front st h short =
     let g = grows acts o front h in
     let k = first_step s waiting joined o (omega arith) st in
     quiet_part read (at s waiting joined) (at s waiting None) (at s waiting k.now) First o acts k.is
-        (silent_run read s waiting k.now (Some o) acts front k.stands h short)
+    (silent_run read s waiting k.now (Some o) acts front k.stands h short)
 silent_run read s waiting joined (Some b) (comes Middle o ∷ acts) front st h short =
     let g = grows acts (b ++ o) front h in
     let k = middle_step s waiting joined b o (omega arith) st in
     quiet_part read (at s waiting joined) (at s waiting None) (at s waiting k.now) Middle o acts k.is
-        (silent_run read s waiting k.now (Some (b ++ o)) acts front k.stands h short)
+    (silent_run read s waiting k.now (Some (b ++ o)) acts front k.stands h short)
 silent_run read s waiting joined None (comes Middle o ∷ acts) front st h short = absurd h
 silent_run read s waiting joined None (comes Last o ∷ acts) front st h short = absurd h
 silent_run read s waiting joined (Some b) (comes First o ∷ acts) front st h short = absurd h

@@ -125,9 +125,9 @@ all_answer t [] = silent _ refl
 all_answer t (w ∷ ws) =
     let next = (respond_word t w).next in
     either_heard (is_faulty (word_verdict t w)) (respond_word t w) (heard_then (respond_word t w) (respond_words next ws))
-        (word_answers t w)
+    (word_answers t w)
     (then_answers (outcome_in (respond_word t w)) (outcome_in (respond_words next ws)) (word_answers t w) (stays_over next ws)
-        (all_answer next ws))
+    (all_answer next ws))
 
 fault_answers : (s : State) (fault : SpduFault) → Answers (respond_fault s fault)
 unfolding respond_fault
@@ -184,7 +184,7 @@ all_still t (w ∷ ws) o h =
     let next = (respond_word t w).next in
     ap (λ b. outcome_in (if b then respond_word t w else heard_then (respond_word t w) (respond_words next ws))) (over_no_fault t w o)
     ∙ ap (and_then (outcome_in (respond_word t w))) (all_still next ws (subst (λ (x : State). is_over x.phase ≡ true) (sym same) o) q.1 ∙
-        ap nothing same)
+    ap nothing same)
     ∙ ap (λ (x : Outcome). and_then x (nothing t.state)) e
 
 words_still : (t : Taker) (words : Words) → is_over t.state.phase ≡ true → list_any may_close_word words ≡ false →
@@ -250,7 +250,7 @@ pub ended_accepting : (s : Listener) (octets : List ℕ) (m : Meaning) → is_en
     (react s (came octets)).reply ≡ Some m → m ≡ AA
 ended_accepting s octets m e h =
     read_over AcceptsAbort s (said_at octets) (implied is_ended is_over refl s.state.phase e) (octets_alone octets) (λ u k. absurd (cc))
-        (λ u. unit_accepts s.state u e)
+    (λ u. unit_accepts s.state u e)
     m (sym (reply_read s (said_at octets)) ∙ h)
 
 -- ---- in which phases the transport connection is closed
@@ -291,7 +291,7 @@ unit_awaited s u =
     either_awaited s (is_ended s.phase) _ _ (λ e. ended_awaited s u) (λ e.
     either_awaited s (drops s u) _ _ (λ d. left_open s _ refl) (λ d.
     either_awaited s (not (is_expected s.phase u)) _ _ (λ x. left_open s _ refl)
-        (λ x. expected_awaited s u (not_false (is_expected s.phase u) x)))))
+    (λ x. expected_awaited s u (not_false (is_expected s.phase u) x)))))
 
 word_awaited : (t : Taker) (w : Word) → Awaited t.state (outcome_in (respond_word t w))
 word_awaited t w =

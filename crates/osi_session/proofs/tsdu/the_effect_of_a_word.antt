@@ -120,7 +120,7 @@ pub early_takes : (s : State) (joined : Option (List ℕ)) (octets : List ℕ) �
     takes_room joined (heard (Some (joined_octets joined ++ octets)) (nothing s)) ≡ true
 early_takes s joined octets m h =
     ap (λ (k : Option (List ℕ)). nat_lt (length (joined_octets joined)) (length (joined_octets k)))
-        (kept_held s.phase (Some (joined_octets joined ++ octets)) m)
+    (kept_held s.phase (Some (joined_octets joined ++ octets)) m)
     ∙ longer (joined_octets joined) octets h
 
 -- ---- a bad word is one that is answered by AB
@@ -136,7 +136,7 @@ word_told t w h b e k = k ∙ ap (λ (x : Hearing). replies_abort x.reply) (sym 
 pub told_as : (s : State) (j k : Option (List ℕ)) (w : Word) (h : Heard) (b : Bool) → j ≡ k →
     (let t : Taker = record { state = s; joined = j } in respond_word t w ≡ hearing_of j h.joined (outcome_of h.reaction))
     → b ≡ replies_abort (outcome_of h.reaction).reply →
-        (let t : Taker = record { state = s; joined = k } in b ≡ is_faulty (word_verdict t w))
+    (let t : Taker = record { state = s; joined = k } in b ≡ is_faulty (word_verdict t w))
 told_as s j k w h b e f g =
     subst (λ (x : Option (List ℕ)). let t : Taker = record { state = s; joined = x } in b ≡ is_faulty (word_verdict t w)) e
     (let t : Taker = record { state = s; joined = j } in word_told t w (hearing_of j h.joined (outcome_of h.reaction)) b f g)

@@ -23,7 +23,7 @@ pub plain_verdict : (t : Taker) (u : Meaning) → (is_none t.joined || not (begi
     word_verdict t (says u) ≡ verdict t.state u
 plain_verdict t u h =
     ap (λ f. if is_over t.state.phase then over else if drops t.state u then dropped else if not (is_expected t.state.phase u) then
-        faulty (Unexpected (si u)) else by_fault f)
+    faulty (Unexpected (si u)) else by_fault f)
     (passes_true (si u) (conditions t.state u) (is_none t.joined || not (begins_anew u)) BadEnclosure h)
 
 -- ---- a part
@@ -38,7 +38,7 @@ part_by n v r e h p s = grind arith
 pub part_verdict : (t : Taker) (place : Place) (octets : List ℕ) → word_verdict t (part place octets) ≡
     (if is_over t.state.phase || is_restarting t.state.phase then (if is_over t.state.phase then over else dropped)
     else if not (takes_data t.state.phase) then faulty (Unexpected (si (DT octets))) else if t.state.held.data_token then
-        faulty (TokenHeld (si (DT octets)))
+    faulty (TokenHeld (si (DT octets)))
     else if not (is_in_place t.joined place) then faulty (BadEnclosure (si (DT octets)))
     else if not (nat_le (length (joined_octets t.joined ++ octets)) most_data) then faulty (DataTooLong (si (DT octets))) else fine)
 part_verdict t place octets = part_by (si (DT octets)) (is_over t.state.phase) (is_restarting t.state.phase) (takes_data t.state.phase)
@@ -49,7 +49,7 @@ part_verdict t place octets = part_by (si (DT octets)) (is_over t.state.phase) (
 
 ends_false : (n : ℕ) (cs : List Condition) (b : Bool) (f : ℕ → UnitFault) → b ≡ false →
     by_fault (first_fault n (cs ++ (b, f) ∷ [])) ≡ (if is_faulty (by_fault (first_fault n cs)) then by_fault (first_fault n cs) else
-        faulty (f n))
+    faulty (f n))
 ends_false n [] b f h = rw h refl
 ends_false n (c ∷ cs) b f h = by c.0 (ends_false n cs b f h)
   where
@@ -58,7 +58,7 @@ ends_false n (c ∷ cs) b f h = by c.0 (ends_false n cs b f h)
         faulty (f n))
         → by_fault (if x then first_fault n (cs ++ (b, f) ∷ []) else Some (c.1 n))
         ≡ (if is_faulty (by_fault (if x then first_fault n cs else Some (c.1 n))) then
-            by_fault (if x then first_fault n cs else Some (c.1 n)) else faulty (f n))
+        by_fault (if x then first_fault n cs else Some (c.1 n)) else faulty (f n))
     by true k = k
     by false k = refl
 
@@ -71,18 +71,18 @@ misplaced_by v d e f g p q h0 = grind arith
 -- its own fault comes first
 pub misplaced_verdict : (t : Taker) (u : Meaning) → (is_none t.joined || not (begins_anew u)) ≡ false →
     word_verdict t (says u) ≡ (if (is_over t.state.phase || drops t.state u) || is_faulty (verdict t.state u) then verdict t.state u else
-        faulty (BadEnclosure (si u)))
+    faulty (BadEnclosure (si u)))
 misplaced_verdict t u h = misplaced_by (is_over t.state.phase) (drops t.state u) (is_expected t.state.phase u) (Unexpected (si u))
     (BadEnclosure (si u))
     (by_fault (first_fault (si u) (conditions t.state u))) _
-        (ends_false (si u) (conditions t.state u) (is_none t.joined || not (begins_anew u)) BadEnclosure h)
+    (ends_false (si u) (conditions t.state u) (is_none t.joined || not (begins_anew u)) BadEnclosure h)
 
 pub misplaced_stays : (s : State) (u : Meaning) (o : Outcome) (d b : Bool) (f : UnitFault) → respond_unit s u ≡ o →
     b ≡ replies_abort o.reply → (d || b) ≡ true →
     enacted s u (if d || is_faulty (verdict s u) then verdict s u else faulty f) ≡ o
 misplaced_stays s u o d b f h k w =
     ap (λ (x : Bool). enacted s u (if x then verdict s u else faulty f)) (ap (λ (x : Bool). d || x) (sym (told_bad s u o b h k)) ∙ w) ∙
-        sym (enacts s u) ∙ h
+    sym (enacts s u) ∙ h
 
 pub misplaced_turns : (s : State) (u : Meaning) (o : Outcome) (d b : Bool) (f : UnitFault) → respond_unit s u ≡ o →
     b ≡ replies_abort o.reply → (d || b) ≡ false →
@@ -113,7 +113,7 @@ chosen_some false k j h = (refl, cc)
 
 pub reacts_plain : {E : Type 0} (r : Result Reaction E) (t : Taker) (u : Meaning) (o : Option Kind) → Reacts r (respond_unit t.state u)
     → o ≡ None → o ≡ (if is_none t.joined || not (begins_anew u) then None else Some (kind_of u)) →
-        Reacts r (enacted t.state u (word_verdict t (says u)))
+    Reacts r (enacted t.state u (word_verdict t (says u)))
 reacts_plain r t u o k n h =
     let p = chosen_none (is_none t.joined || not (begins_anew u)) (kind_of u) (sym n ∙ h) in
     subst (λ (x : Outcome). Reacts r x) (enacts t.state u ∙ ap (enacted t.state u) (sym (plain_verdict t u p))) k
@@ -124,8 +124,8 @@ misplaced_as s u k = if (is_over s.phase || drops s u) || is_faulty (verdict s u
 pub reacts_misplaced : {E : Type 0} (r : Result Reaction E) (t : Taker) (u : Meaning) (o : Option Kind) (j : Kind) →
     Reacts r (enacted t.state u (misplaced_as t.state u j))
     → o ≡ Some j → o ≡ (if is_none t.joined || not (begins_anew u) then None else Some (kind_of u)) →
-        Reacts r (enacted t.state u (word_verdict t (says u)))
+    Reacts r (enacted t.state u (word_verdict t (says u)))
 reacts_misplaced r t u o j k n h =
     let p = chosen_some (is_none t.joined || not (begins_anew u)) (kind_of u) j (sym n ∙ h) in
     subst (λ (x : Outcome). Reacts r x) (ap (λ (i : Kind). enacted t.state u (misplaced_as t.state u i)) p.1 ∙
-        ap (enacted t.state u) (sym (misplaced_verdict t u p.0))) k
+    ap (enacted t.state u) (sym (misplaced_verdict t u p.0))) k

@@ -47,7 +47,7 @@ after_keeps s _ m = refl
 
 by_phase : (holds gone : Bool) (joined begun : Option (List ℕ)) → (holds || gone) ≡ true → joined ≡ begun →
     ((if◌then◌else◌ {A = Option (List ℕ)} (not holds) None joined) ≡ begun) ⊎
-        (((if◌then◌else◌ {A = Option (List ℕ)} (not holds) None joined) ≡ None) × (gone ≡ true))
+    (((if◌then◌else◌ {A = Option (List ℕ)} (not holds) None joined) ≡ None) × (gone ≡ true))
 by_phase true gone joined begun h e = inl e
 by_phase false gone joined begun h e = inr (refl, h)
 
@@ -93,8 +93,12 @@ expected_keeps s joined e = kept_some s.phase joined (excluded takes_data drops_
 
 abbrev pub Joins : State → Option (List ℕ) → Word → Option (List ℕ) → Type 0
 Joins s joined w now =
-    respond_word (record { state = s; joined = joined }) w ≡ record { next = record { state = s; joined = now }; shown = []; reply = None;
-    closes = false }
+    respond_word (record { state = s; joined = joined }) w ≡ record {
+      next = record { state = s; joined = now };
+      shown = [];
+      reply = None;
+      closes = false;
+    }
 
 pub discarded_is : (s : State) (place : Place) (o : List ℕ) → discards s.phase ≡ true → Joins s None (part place o) None
 discarded_is s place o d = part_discarded s place o d ∙ unseen s None (kept_none s.phase)
@@ -107,7 +111,7 @@ first_is s o short e =
 pub middle_is : (s : State) (b o : List ℕ) → length (b ++ o) ≤ most_data → Expects s → Joins s (Some b) (part Middle o) (Some (b ++ o))
 middle_is s b o short e =
     word_at (record { state = s; joined = Some b }) (part Middle o) fine
-        (part_fine s (Some b) Middle o e refl (le-leb (length (b ++ o)) most_data short))
+    (part_fine s (Some b) Middle o e refl (le-leb (length (b ++ o)) most_data short))
     ∙ unseen s (Some (b ++ o)) (expected_keeps s (Some (b ++ o)) e)
 
 discarded : (s : State) (place : Place) (o : List ℕ) (begun : Option (List ℕ)) → discards s.phase ≡ true →
@@ -117,10 +121,10 @@ discarded s place o begun d = record { now = None; is = discarded_is s place o d
 -- the last part does what the whole data does
 pub last_joined : (s : State) (front last : List ℕ) → length (front ++ last) ≤ most_data → Expects s →
     respond_word (record { state = s; joined = Some front }) (part Last last) ≡ respond_word (record { state = s; joined = None })
-        (says (DT (front ++ last)))
+    (says (DT (front ++ last)))
 last_joined s front last short e =
     word_at (record { state = s; joined = Some front }) (part Last last) fine
-        (part_fine s (Some front) Last last e refl (le-leb (length (front ++ last)) most_data short))
+    (part_fine s (Some front) Last last e refl (le-leb (length (front ++ last)) most_data short))
     ∙ sym (word_at (record { state = s; joined = None }) (says (DT (front ++ last))) fine (data_fine s (front ++ last) e))
 
 pub first_arrives : (s : State) (joined : Option (List ℕ)) (o all : List ℕ) → length o ≤ most_data → IsKeptIn s.phase joined →
@@ -149,14 +153,14 @@ DoesWhole s front last joined =
 
 pub last_discarded : (s : State) (front last : List ℕ) → discards s.phase ≡ true →
     respond_word (record { state = s; joined = None }) (part Last last) ≡ respond_word (record { state = s; joined = None })
-        (says (DT (front ++ last)))
+    (says (DT (front ++ last)))
 last_discarded s front last d = part_discarded s Last last d ∙ sym (data_discarded s (front ++ last) d)
 
 pub last_arrives : (s : State) (joined : Option (List ℕ)) (front last : List ℕ) → length (front ++ last) ≤ most_data →
     IsKeptIn s.phase joined → IsNoFault s (front ++ last) →
     IsJoinedAs s joined (Some front) →
     respond_word (record { state = s; joined = joined }) (part Last last) ≡ respond_word (record { state = s; joined = None })
-        (says (DT (front ++ last)))
+    (says (DT (front ++ last)))
 last_arrives s joined front last short kept fit j = elim (which_way s joined (Some front) (front ++ last) kept fit j) [
   | inl d ↦ subst (DoesWhole s front last) (sym d.1) (last_discarded s front last d.0)
   | inr e ↦ subst (DoesWhole s front last) (sym e.1) (last_joined s front last short e.0)

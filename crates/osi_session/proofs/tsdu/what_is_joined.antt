@@ -74,7 +74,7 @@ part_short t place octets e =
     leb-true (length (joined_octets t.joined ++ octets)) most_data
     (second (is_in_place t.joined place) (nat_le (length (joined_octets t.joined ++ octets)) most_data)
     (back_passes (si (DT octets)) (conditions t.state (DT octets)) (enclosure_conditions t.joined (part place octets))
-        (all_pass t (part place octets) e)))
+    (all_pass t (part place octets) e)))
   where
     second : (a b : Bool) → first_fault (si (DT octets)) ((a, BadEnclosure) ∷ (b, DataTooLong) ∷ []) ≡ None → b ≡ true
     second true true h = refl

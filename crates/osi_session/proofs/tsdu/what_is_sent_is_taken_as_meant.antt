@@ -25,4 +25,4 @@ pub part_taken : (s : Listener) (place : Place) (octets : List ℕ) →
 part_taken s place octets said =
     ap (λ (r : Result Words SpduFault). react s (came_as r)) said
     ∙ taken_is s (says (GT no_token) ∷ part place octets ∷ []) (respond_word (taker_of s) (part place octets))
-        (word_behind (taker_of s) (part place octets))
+    (word_behind (taker_of s) (part place octets))

@@ -140,7 +140,7 @@ walks_turn want j r restarts item u v us units w e i =
 pub walks_on : (want : Hearing) (j : Option (List ℕ)) (r next : Reactions) (restarts now : Bool) (item u : Word) (us : Words) →
     Walks want j r restarts item (u ∷ us)
     → is_faulty (word_verdict (hearing_of_all j r).next u) ≡ false →
-        hearing_of_all j next ≡ heard_then (hearing_of_all j r) (respond_word (hearing_of_all j r).next u)
+    hearing_of_all j next ≡ heard_then (hearing_of_all j r) (respond_word (hearing_of_all j r).next u)
     → (next.first ≡ None → next.more.items ≡ []) → now ≡ (restarts || is_restart_word u) → Walks want j next now item us
 walks_on want j r next restarts now item u us w good e ordered n = record {
   leads = subst (λ (b : Bool). Leads want (hearing_of_all j next) b item us) (sym n)
@@ -156,7 +156,7 @@ pub walks_end : (want : Hearing) (j : Option (List ℕ)) (r : Reactions) (restar
     → us ≡ [] → restarts ≡ b → Leads want (hearing_of_all j r) b item []
 walks_end want j r restarts b item us w e h =
     subst (λ (x : Bool). Leads want (hearing_of_all j r) x item []) h
-        (subst (λ (xs : Words). Leads want (hearing_of_all j r) restarts item xs) e w.leads)
+    (subst (λ (xs : Words). Leads want (hearing_of_all j r) restarts item xs) e w.leads)
 
 pub on_err : {A E P : Type 0} (r : Result A E) → P → OnErr r P
 on_err (Ok x) p = tt

@@ -21,8 +21,8 @@ unfolding every_set tokens_with
 set_is f h t =
     bool_is (λ d. f (tokens_with t.data_token t.minor t.major d)) (bool_is (λ c. every_bool (λ d. f (tokens_with t.data_token t.minor c d)))
     (bool_is (λ b. every_bool (λ c. every_bool (λ d. f (tokens_with t.data_token b c d))))
-        (bool_is (λ a. every_bool (λ b. every_bool (λ c. every_bool (λ d. f (tokens_with a b c d))))) h t.data_token) t.minor) t.major)
-        t.release
+    (bool_is (λ a. every_bool (λ b. every_bool (λ c. every_bool (λ d. f (tokens_with a b c d))))) h t.data_token) t.minor) t.major)
+    t.release
 
 apart : Tokens → Tokens → Bool
 apart a b = not (is_disjoint a b) || (bit_and (token_octet a) (token_octet b) == 0)

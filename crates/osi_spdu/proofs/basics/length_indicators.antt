@@ -85,6 +85,6 @@ counted_again at used value rest = grind (arith, le-ltb, length-append, take_at,
 
 pub measured_again : (at : ℕ) (long : Bool) (value rest : List ℕ) → HasLength long (length value)
     → measured_at at (length_octets long (length value) ++ value ++ rest) ≡ Ok
-        (record { used = indicator_len long; value = value; rest = rest })
+    (record { used = indicator_len long; value = value; rest = rest })
 unfolding measured_at long_at
 measured_again at long value rest h0 = grind (arith, ne_eqb, counted_again)

@@ -126,7 +126,7 @@ fault_later : (means : ℕ → List ℕ → Known → Type 0) (failing : Failing
 fault_later means failing at before mid p octets rest f whole is joins level =
     let front = part_octets p ++ level.front in
     let offset : at + length (part_octets p) + length level.front ≡ at + length front =
-        omega (arith, length-append (part_octets p) level.front) in
+    omega (arith, length-append (part_octets p) level.front) in
     record {
       front = front;
       rest = level.rest;
@@ -155,16 +155,16 @@ Later taking means failing n f = (at : ℕ) (known : Known) (octets : List ℕ) 
 taken_bad : (taking : Taking) (means : ℕ → List ℕ → Known → Type 0) (failing : Failing) → Follows taking means → Fails taking failing →
     (n at : ℕ) (before : Known) (code : ℕ) (octets : List ℕ) (f : SpduFault)
     → length octets ≤ n → IsOctets (code ∷ octets) → (m : Measured) → measured_at at octets ≡ Ok m → (r : Result Known SpduFault) →
-        taking at (at + (1 + m.used)) code m.value before ≡ r
+    taking at (at + (1 + m.used)) code m.value before ≡ r
     → (r >>= λ k. params_at taking n (at + (1 + m.used + length m.value)) k m.rest) ≡ Err f → Later taking means failing n f →
-        Level means failing at before (code ∷ octets) f
+    Level means failing at before (code ∷ octets) f
 taken_bad taking means failing follows fails n at before code octets f le fits m q (Err g) t e later =
     let is = counted_is at octets m (octets-tail code octets fits) q in
     let same : g ≡ f = fault_is Known g f e in
     let bad = fails.fails at (at + (1 + m.used)) code m.value before f is.is.value_octets
-        (t ∙ ap (λ (x : SpduFault). failed {A = Known} x) same) in
+    (t ∙ ap (λ (x : SpduFault). failed {A = Known} x) same) in
     let bad' : failing at (at + (1 + indicator_len is.is.long)) code m.value before f =
-        subst (λ (u : ℕ). failing at (at + (1 + u)) code m.value before f) is.used bad in
+    subst (λ (u : ℕ). failing at (at + (1 + u)) code m.value before f) is.used bad in
     fault_here means failing at before (code ∷ octets) f (inr (is.is.long, m.value, m.rest, (is.is.counted, is.is.parts), bad'))
 taken_bad taking means failing follows fails n at before code octets f le fits m q (Ok mid) t e later =
     let is = counted_is at octets m (octets-tail code octets fits) q in
@@ -177,21 +177,21 @@ taken_bad taking means failing follows fails n at before code octets f le fits m
     let shorter : length m.rest ≤ n = omega (arith, is.is.shorter) in
     let level = later (at + (1 + m.used + length m.value)) mid m.rest shorter is.is.rest_octets e in
     fault_later means failing at before mid p (code ∷ octets) m.rest f (ap (λ (t : List ℕ). code ∷ t) is.is.parts)
-        (byte, is.is.counted, one.1) one.2
+    (byte, is.is.counted, one.1) one.2
     (subst (λ (k : ℕ). Level means failing k mid m.rest f) offset level)
 
 item_bad : (taking : Taking) (means : ℕ → List ℕ → Known → Type 0) (failing : Failing) → Follows taking means → Fails taking failing →
     (n at : ℕ) (before : Known) (code : ℕ) (octets : List ℕ) (f : SpduFault)
     → length octets ≤ n → IsOctets (code ∷ octets) → (r : Result Measured SpduFault) → measured_at at octets ≡ r
     → (r >>= λ m. taking at (at + (1 + m.used)) code m.value before >>= λ k. params_at taking n (at + (1 + m.used + length m.value)) k
-        m.rest) ≡ Err f
+    m.rest) ≡ Err f
     → Later taking means failing n f → Level means failing at before (code ∷ octets) f
 item_bad taking means failing follows fails n at before code octets f le fits (Err g) q e later =
     fault_here means failing at before (code ∷ octets) f
-        (inl (no_value at octets g q, sym (fault_is Known g f e) ∙ measured_bad at octets g q))
+    (inl (no_value at octets g q, sym (fault_is Known g f e) ∙ measured_bad at octets g q))
 item_bad taking means failing follows fails n at before code octets f le fits (Ok m) q e later =
     taken_bad taking means failing follows fails n at before code octets f le fits m q (taking at (at + (1 + m.used)) code m.value before)
-        refl e later
+    refl e later
 
 level_found : (taking : Taking) (means : ℕ → List ℕ → Known → Type 0) (failing : Failing) → Follows taking means → Fails taking failing →
     (n at : ℕ) (before : Known) (octets : List ℕ) (f : SpduFault)
@@ -212,19 +212,19 @@ octets_of_parts parts = flat_map part_octets parts
 level_bad : (taking : Taking) (means : ℕ → List ℕ → Known → Type 0) (failing : Failing) → Follows taking means → Fails taking failing →
     (n at : ℕ) (before after : Known) (parts : List Part) (rest : List ℕ) (f : SpduFault)
     → length (octets_of_parts parts ++ rest) ≤ n → IsOctets rest → AllByRecursion (IsPart means) parts →
-        ((c : Code) → Sole (before c ∷ map (λ p. p.gives c) parts) (after c))
+    ((c : Code) → Sole (before c ∷ map (λ p. p.gives c) parts) (after c))
     → IsItemFault failing (at + length (octets_of_parts parts)) rest after f →
-        params_at taking n at before (octets_of_parts parts ++ rest) ≡ Err f
+    params_at taking n at before (octets_of_parts parts ++ rest) ≡ Err f
 unfolding params_at
 level_bad taking means failing follows fails n at before after [] [] f le fits each once bad = absurd bad
 level_bad taking means failing follows fails zero at before after [] (code ∷ octets) f le fits each once bad = absurd (omega arith)
 level_bad taking means failing follows fails (suc n) at before after [] (code ∷ octets) f le fits each once bad =
     let same : after ≡ before = λ i c. (sole_same (before c) (after c) (once c)) i in
     let next = λ (m : Measured).
-        (taking at (at + (1 + m.used)) code m.value before >>= λ k. params_at taking n (at + (1 + m.used + length m.value)) k m.rest) in
+    (taking at (at + (1 + m.used)) code m.value before >>= λ k. params_at taking n (at + (1 + m.used + length m.value)) k m.rest) in
     let here : IsItemFault failing at (code ∷ octets) before f =
     subst (λ (k : ℕ). IsItemFault failing k (code ∷ octets) before f) (add-zero at)
-        (subst (λ (k : Known). IsItemFault failing (at + 0) (code ∷ octets) k f) same bad) in
+    (subst (λ (k : Known). IsItemFault failing (at + 0) (code ∷ octets) k f) same bad) in
     elim here [
       | inl q ↦ bind_bad (measured_at at octets) next f
           (value_of_no at octets (measured_at at octets) refl (octets-tail code octets fits) q.0 ∙
@@ -237,10 +237,10 @@ level_bad taking means failing follows fails (suc n) at before after [] (code �
           let read : measured_at at octets ≡ Ok made = ap (measured_at at) q.3.1 ∙ measured_again at long value rest q.3.0 in
           let is = measured_ok at octets made (octets-tail code octets fits) read in
           let at_value : failing at (at + (1 + lengths.indicator_len long)) code value before f =
-              subst (λ (u : ℕ). failing at (at + (1 + u)) code value before f) (sym (same_len long)) q.4 in
+          subst (λ (u : ℕ). failing at (at + (1 + u)) code value before f) (sym (same_len long)) q.4 in
           bind_of (measured_at at octets) next made (Err f) read
           (bind_bad (taking at (at + (1 + lengths.indicator_len long)) code value before)
-              (λ k. params_at taking n (at + (1 + lengths.indicator_len long + length value)) k rest) f
+          (λ k. params_at taking n (at + (1 + lengths.indicator_len long + length value)) k rest) f
           (fails.back at (at + (1 + lengths.indicator_len long)) code value before f is.value_octets at_value))
     ]
 level_bad taking means failing follows fails zero at before after (p ∷ parts) rest f le fits each once bad = absurd (omega arith)
@@ -260,13 +260,13 @@ level_bad taking means failing follows fails (suc n) at before after (p ∷ part
     let count = ap length assoc in
     let later = level_bad taking means failing follows fails n behind mid after parts rest f (omega arith) fits each.1
     (λ c. sole_step (p.gives c) (before c) (mid c) (map (λ q. q.gives c) parts) (after c) (joins c) (once c))
-        (subst (λ (k : ℕ). IsItemFault failing k rest after f) offset bad) in
+    (subst (λ (k : ℕ). IsItemFault failing k rest after f) offset bad) in
     let tail = length_octets p.long (length p.value) ++ p.value ++ others in
     let made : Measured = record { used = used; value = p.value; rest = others } in
     ap (params_at taking (suc n) at before) assoc
     ∙ bind_of (measured_at at tail)
-        (λ m. taking at (at + (1 + m.used)) p.code m.value before >>= λ k. params_at taking n (at + (1 + m.used + length m.value)) k m.rest)
-        made (Err f)
+    (λ m. taking at (at + (1 + m.used)) p.code m.value before >>= λ k. params_at taking n (at + (1 + m.used + length m.value)) k m.rest)
+    made (Err f)
     (measured_again at p.long p.value others each.0.1)
     (bind_of (taking at (at + (1 + used)) p.code p.value before) (λ k. params_at taking n behind k others) mid (Err f) one later)
 
@@ -278,11 +278,11 @@ level_only taking means failing follows fails at before octets f fits level =
     let rest = level.rest in
     let whole : octets ≡ octets_of_parts parts ++ rest = level.whole ∙ ap (λ (t : List ℕ). t ++ rest) level.fills.whole in
     let behind : IsOctets rest = subst IsOctets (drop_at (octets_of_parts parts) rest (length (octets_of_parts parts)) refl)
-        (octets-drop (length (octets_of_parts parts)) (octets_of_parts parts ++ rest) (subst IsOctets whole fits)) in
+    (octets-drop (length (octets_of_parts parts)) (octets_of_parts parts ++ rest) (subst IsOctets whole fits)) in
     let bad = subst (λ (t : List ℕ). IsItemFault failing (at + length t) rest level.known f) level.fills.whole level.bad in
     subst (λ (o : List ℕ). params_at taking (length o) at before o ≡ Err f) (sym whole)
     (level_bad taking means failing follows fails (length (octets_of_parts parts ++ rest)) at before level.known parts rest f (omega arith)
-        behind level.fills.each level.fills.once bad)
+    behind level.fills.each level.fills.once bad)
 
 -- ---- within a group
 
@@ -310,19 +310,19 @@ stored_free : (kind : Kind) (at : ℕ) (c : Code) (value : List ℕ) (known more
 unfolding stored
 stored_free kind at c value known more e =
     is_none_of (known (slot_of c))
-        (guard_ok (is_some (known (slot_of c))) (DuplicateParameter (number_of c) at) more (judged at c known (canonical_in kind c value))
-        e).0
+    (guard_ok (is_some (known (slot_of c))) (DuplicateParameter (number_of c) at) more (judged at c known (canonical_in kind c value))
+    e).0
 
 abbrev InUnit : Kind → ℕ → ℕ → Code → List ℕ → Known → SpduFault → Type 0
 InUnit kind at body c value known f =
     IsValueFault kind at c value known f
     ⊎ ((is_group c ≡ true) × (known (slot_of c) ≡ None) × IsLevelFault (MeansInGroup kind (members_of kind c))
-        (FailsInGroup kind (members_of kind c)) body (put (slot_of c) [] known) value f)
+    (FailsInGroup kind (members_of kind c)) body (put (slot_of c) [] known) value f)
 
 opened_bad : (kind : Kind) (at body : ℕ) (c : Code) (value : List ℕ) (known : Known) (f : SpduFault) → IsOctets value →
     (r : Result Known SpduFault) → stored kind at c value known ≡ r
     → (r >>= λ mid. cond (is_group c) (params_of (in_group kind (members_of kind c)) body mid value) (Ok mid)) ≡ Err f →
-        InUnit kind at body c value known f
+    InUnit kind at body c value known f
 opened_bad kind at body c value known f fits (Err g) s e = inl (stored_bad kind at c value known f (s ∙ e))
 opened_bad kind at body c value known f fits (Ok mid) s e =
     let members = members_of kind c in
@@ -330,18 +330,22 @@ opened_bad kind at body c value known f fits (Ok mid) s e =
       | inl q ↦
           let free = stored_free kind at c value known mid s in
           let same : mid ≡ put (slot_of c) [] known =
-              ok_is mid (put (slot_of c) [] known) (sym s ∙ stored_group kind at c value known q.0 free) in
+          ok_is mid (put (slot_of c) [] known) (sym s ∙ stored_group kind at c value known q.0 free) in
           let level = level_found (in_group kind members) (MeansInGroup kind members) (FailsInGroup kind members)
-              (group_follows kind members) (group_fails kind members) (length value) body mid value f (omega arith) fits q.1 in
-          inr (q.0, free, subst (λ (k : Known). IsLevelFault (MeansInGroup kind members) (FailsInGroup kind members) body k value f) same
-              level)
+          (group_follows kind members) (group_fails kind members) (length value) body mid value f (omega arith) fits q.1 in
+          inr (
+            q.0,
+            free,
+            subst (λ (k : Known). IsLevelFault (MeansInGroup kind members) (FailsInGroup kind members) body k value f) same
+                level,
+          )
       | inr q ↦ absurd (never Known mid f q.1)
     ]
 
 opened_fails : (kind : Kind) (at body : ℕ) (c : Code) (value : List ℕ) (known : Known) (f : SpduFault) → IsOctets value →
     InUnit kind at body c value known f
     → (stored kind at c value known >>= λ mid. cond (is_group c) (params_of (in_group kind (members_of kind c)) body mid value) (Ok mid)) ≡
-        Err f
+    Err f
 opened_fails kind at body c value known f fits h =
     let members = members_of kind c in
     let next = λ (mid : Known). cond (is_group c) (params_of (in_group kind members) body mid value) (Ok mid) in
@@ -349,10 +353,10 @@ opened_fails kind at body c value known f fits h =
       | inl q ↦ bind_bad (stored kind at c value known) next f (stored_fails kind at c value known f q)
       | inr q ↦
           let read = level_only (in_group kind members) (MeansInGroup kind members) (FailsInGroup kind members) (group_follows kind members)
-              (group_fails kind members) body (put (slot_of c) [] known) value f fits q.2 in
+          (group_fails kind members) body (put (slot_of c) [] known) value f fits q.2 in
           bind_of (stored kind at c value known) next (put (slot_of c) [] known) (Err f) (stored_group kind at c value known q.0 q.1)
           (ap (λ (b : Bool). cond b (params_of (in_group kind members) body (put (slot_of c) [] known) value)
-              (Ok (put (slot_of c) [] known))) q.0 ∙ read)
+          (Ok (put (slot_of c) [] known))) q.0 ∙ read)
     ]
 
 parameter_bad : (kind : Kind) (at body : ℕ) (value : List ℕ) (known : Known) (o : Option Code) (f : SpduFault) → IsOctets value →

@@ -102,7 +102,7 @@ fault_behind_one : (room at : ℕ) (octets : List ℕ) (p : Placed) (f : SpduFau
 fault_behind_one room at octets p f fits e is plain later =
     let front = is.front ++ later.front in
     let offset : p.end + length later.front ≡ at + length front =
-        omega (arith, ends_at true at octets p fits e is.front is.parts, length-append is.front later.front) in
+    omega (arith, ends_at true at octets p fits e is.front is.parts, length-append is.front later.front) in
     record {
       units = contents_of p [] ∷ later.units;
       front = front;
@@ -119,12 +119,12 @@ fault_behind_one room at octets p f fits e is plain later =
 behind_case : (room at si : ℕ) (octets : List ℕ) (f : SpduFault) → IsOctets (si ∷ octets) →
     (next_at at (si ∷ octets) >>= λ n. goes_on room n) ≡ Err f
     → ((at' : ℕ) (o : List ℕ) → IsOctets o → behind_at room at' o ≡ Err f → IsFaultBehind room at' o f) → (r : Result Placed SpduFault) →
-        unit_at true at (si ∷ octets) ≡ r → IsFaultBehind (suc room) at (si ∷ octets) f
+    unit_at true at (si ∷ octets) ≡ r → IsFaultBehind (suc room) at (si ∷ octets) f
 behind_case room at si octets f fits e later (Err g) q =
     let same : g ≡ f =
-        fault_is Units g f (sym (bind_bad (next_at at (si ∷ octets)) (λ n. goes_on room n) g (bad_next at (si ∷ octets) g q)) ∙ e) in
+    fault_is Units g f (sym (bind_bad (next_at at (si ∷ octets)) (λ n. goes_on room n) g (bad_next at (si ∷ octets) g q)) ∙ e) in
     fault_at_once (suc room) at (si ∷ octets) f (omega arith)
-        (inr (omega arith, unit_fault_found true at (si ∷ octets) f fits (q ∙ ap (λ (x : SpduFault). failed {A = Placed} x) same)))
+    (inr (omega arith, unit_fault_found true at (si ∷ octets) f fits (q ∙ ap (λ (x : SpduFault). failed {A = Placed} x) same)))
 behind_case room at si octets f fits e later (Ok p) q =
     let is = unit_found true at (si ∷ octets) p fits q in
     elim (cases_Bool (takes_rest p.kind)) [
@@ -132,14 +132,14 @@ behind_case room at si octets f fits e later (Ok p) q =
           let n : Next = record { unit = contents_of p p.rest; end = p.end + length p.rest; rest = [] } in
           let one : (next_at at (si ∷ octets) >>= λ x. goes_on room x) ≡ Ok (n.unit ∷ []) =
           bind_of (next_at at (si ∷ octets)) (λ x. goes_on room x) n (Ok (n.unit ∷ [])) (data_next at (si ∷ octets) p q t)
-              (ap (with_first n) (nothing_behind room (p.end + length p.rest))) in
+          (ap (with_first n) (nothing_behind room (p.end + length p.rest))) in
           absurd (never Units (n.unit ∷ []) f (sym one ∙ e))
       | inr t ↦
           let n : Next = record { unit = contents_of p []; end = p.end; rest = p.rest } in
           let one : (next_at at (si ∷ octets) >>= λ x. goes_on room x) ≡ goes_on room n =
-              bind_of (next_at at (si ∷ octets)) (λ x. goes_on room x) n (goes_on room n) (plain_next at (si ∷ octets) p q t) refl in
+          bind_of (next_at at (si ∷ octets)) (λ x. goes_on room x) n (goes_on room n) (plain_next at (si ∷ octets) p q t) refl in
           fault_behind_one room at (si ∷ octets) p f fits q is t
-              (later p.end p.rest is.rest_octets (others_bad n (behind_at room p.end p.rest) f (sym one ∙ e)))
+          (later p.end p.rest is.rest_octets (others_bad n (behind_at room p.end p.rest) f (sym one ∙ e)))
     ]
 
 behind_found : (room at : ℕ) (octets : List ℕ) (f : SpduFault) → IsOctets octets → behind_at room at octets ≡ Err f →
@@ -157,7 +157,7 @@ after_found Zero p front f fits ends not_two e =
     let behind = λ (us : Units). read (contents_of p [] ∷ us) in
     subst (λ (k : ℕ). IsFaultBehind 16 k p.rest f) ends
     (behind_found 16 p.end p.rest f fits
-        (others_bad (let n : Next = record { unit = contents_of p []; end = p.end; rest = p.rest } in n) (behind_at 16 p.end p.rest) f e))
+    (others_bad (let n : Next = record { unit = contents_of p []; end = p.end; rest = p.rest } in n) (behind_at 16 p.end p.rest) f e))
 after_found One p front f fits ends not_two e = ended_found p.end (length front) p.rest (contents_of p []) f ends e
 after_found Two p front f fits ends not_two e = absurd (not_two refl)
 
@@ -168,8 +168,15 @@ tsdu_case octets f fits (Err g) q e =
 tsdu_case octets f fits (Ok p) q e =
     let is = unit_found false 0 octets p fits q in
     let ends : p.end ≡ length is.front = omega (arith, ends_at false 0 octets p fits q is.front is.parts) in
-    inr (contents_of p [], is.front, p.rest, is.parts, is.spelled [], refl,
-        after_found (category_of p.kind) p is.front f is.rest_octets ends (not_second (category_of p.kind) is.stands) e)
+    inr (
+      contents_of p [],
+      is.front,
+      p.rest,
+      is.parts,
+      is.spelled [],
+      refl,
+      after_found (category_of p.kind) p is.front f is.rest_octets ends (not_second (category_of p.kind) is.stands) e,
+    )
 
 pub first_fault_found : (octets : List ℕ) (f : SpduFault) → IsOctets octets → tsdu_at octets ≡ Err f → IsFirstFault octets f
 unfolding tsdu_at
@@ -187,7 +194,7 @@ behind_only : (room at : ℕ) (units : Units) (front rest : List ℕ) (f : SpduF
     → IsOctets (front ++ rest) → Bad (length units) room (at + length front) rest f → behind_at room at (front ++ rest) ≡ Err f
 behind_only room at [] front rest f s are plain few some fits bad =
     let here : Bad 0 room at rest f =
-        subst (λ (k : ℕ). Bad 0 room k rest f) (add-zero at) (subst (λ (t : List ℕ). Bad 0 room (at + length t) rest f) s bad) in
+    subst (λ (k : ℕ). Bad 0 room k rest f) (add-zero at) (subst (λ (t : List ℕ). Bad 0 room (at + length t) rest f) s bad) in
     ap (λ (t : List ℕ). behind_at room at (t ++ rest)) s ∙ behind_now room at rest f some (behind_octets front rest fits) here
 behind_only zero at (unit ∷ units) front rest f s are plain few some fits bad = absurd (omega (arith, few))
 behind_only (suc room) at (unit ∷ units) front rest f s are plain few some fits bad =
@@ -203,11 +210,11 @@ behind_only (suc room) at (unit ∷ units) front rest f s are plain few some fit
     let offset : at + length front ≡ u.0 + length theirs = omega (arith, ap length whole, length-append mine theirs) in
     let n : Next = record { unit = contents_of p []; end = u.0; rest = theirs ++ rest } in
     let later = behind_only room u.0 units theirs rest f s.5 are.2 plain.1 (omega (arith, few)) some
-        (behind_octets mine (theirs ++ rest) fits')
+    (behind_octets mine (theirs ++ rest) fits')
     (bad_less (length units) room (at + length front) (u.0 + length theirs) rest f offset bad) in
     ap (behind_at (suc room) at) octets ∙ behind_cons room at mine (theirs ++ rest) unit s.3
     ∙ bind_of (next_at at (mine ++ (theirs ++ rest))) (λ x. goes_on room x) n (Err f)
-        (plain_next at (mine ++ (theirs ++ rest)) p u.1 plain.0)
+    (plain_next at (mine ++ (theirs ++ rest)) p u.1 plain.0)
     (bind_bad (behind_at room u.0 (theirs ++ rest)) (λ us. Ok (n.unit ∷ us)) f later)
 
 after_stands : (category : Category) (at : ℕ) (rest : List ℕ) (f : SpduFault) → IsFaultAfter category at rest f →
@@ -223,7 +230,7 @@ after_only Zero p front f fits ends h =
     let octets = later.whole in
     bind_bad (behind_at 16 p.end p.rest) (λ us. Ok (contents_of p [] ∷ us)) f
     (ap (behind_at 16 p.end) octets ∙ behind_only 16 p.end later.units later.front later.rest f later.are_units later.behind later.plain
-        later.few later.some (subst IsOctets octets fits) later.bad)
+    later.few later.some (subst IsOctets octets fits) later.bad)
 after_only One p front f fits ends h = ended_only p.end (length front) p.rest (contents_of p []) f ends h
 after_only Two p front f fits ends h = absurd h
 
@@ -243,5 +250,5 @@ first_fault_only octets f fits h =
           let ends : u.0 ≡ length front = omega (arith, ends_at false 0 (front ++ rest) p fits' u.1 front refl) in
           let goes : unit_at false 0 octets ≡ Ok p = ap (unit_at false 0) q.3 ∙ u.1 in
           bind_of (unit_at false 0 octets) (λ x. continued (category_of x.kind) x) p (Err f) goes
-              (after_only (category_of unit.kind) p front f (behind_octets front rest fits') ends q.6)
+          (after_only (category_of unit.kind) p front f (behind_octets front rest fits') ends q.6)
     ]

@@ -42,13 +42,18 @@ value_found kind at octets m f fits q (Err g) t e =
     let is = counted_is at octets m fits q in
     let same : g ≡ f = fault_is Placed g f e in
     let level = unit_level_found kind (at + (1 + m.used)) m.value f is.is.value_octets
-        (t ∙ ap (λ (x : SpduFault). failed {A = Known} x) same) in
-    inr (is.is.long, m.value, m.rest, (is.is.counted, is.is.parts),
-        inl (subst (λ (u : ℕ). IsLevelFault (MeansInUnit kind) (FailsInUnit kind) (at + (1 + u)) nothing m.value f) is.used level))
+    (t ∙ ap (λ (x : SpduFault). failed {A = Known} x) same) in
+    inr (
+      is.is.long,
+      m.value,
+      m.rest,
+      (is.is.counted, is.is.parts),
+      inl (subst (λ (u : ℕ). IsLevelFault (MeansInUnit kind) (FailsInUnit kind) (at + (1 + u)) nothing m.value f) is.used level),
+    )
 value_found kind at octets m f fits q (Ok raw) t e =
     let is = counted_is at octets m fits q in
     let r = params_found (in_unit kind) (MeansInUnit kind) (unit_follows kind) (length m.value) (at + (1 + m.used)) nothing raw m.value
-        (omega arith) is.is.value_octets t in
+    (omega arith) is.is.value_octets t in
     let spelled : Spells (MeansInUnit kind) raw m.value = record { parts = r.parts; whole = r.whole; each = r.each; once = r.once } in
     let missing = missing_found at (required_of kind) raw f (required_found kind at m raw f (all_there at (required_of kind) raw) refl e) in
     inr (is.is.long, m.value, m.rest, (is.is.counted, is.is.parts), inr (raw, spelled, missing))
@@ -88,18 +93,18 @@ body_only kind at octets f fits h =
           bind_of (measured_at at octets) (λ m. value_in kind at m) made (Err f) read (elim q.4 [
             | inl level ↦
                 let here = subst (λ (u : ℕ). IsLevelFault (MeansInUnit kind) (FailsInUnit kind) (at + (1 + u)) nothing value f)
-                    (sym (same_len long)) level in
+                (sym (same_len long)) level in
                 bind_bad (params_of (in_unit kind) (at + (1 + used)) nothing value) (λ raw. required_in kind at made raw) f
-                    (unit_level_only kind (at + (1 + used)) value f is.value_octets here)
+                (unit_level_only kind (at + (1 + used)) value f is.value_octets here)
             | inr w ↦
                 let s = w.1 in
                 let params : params_of (in_unit kind) (at + (1 + used)) nothing value ≡ Ok w.0 =
                 subst (λ (b : List ℕ). params_of (in_unit kind) (at + (1 + used)) nothing b ≡ Ok w.0) (sym s.whole)
                 (params_only (in_unit kind) (MeansInUnit kind) (unit_follows kind) (length (flat_map part_octets s.parts)) (at + (1 + used))
-                    nothing w.0 s.parts (omega arith) s.each s.once) in
+                nothing w.0 s.parts (omega arith) s.each s.once) in
                 bind_of (params_of (in_unit kind) (at + (1 + used)) nothing value) (λ raw. required_in kind at made raw) w.0 (Err f) params
                 (bind_bad (all_there at (required_of kind) w.0) (λ whole. Ok (placed kind at made whole)) f
-                    (missing_only at (required_of kind) w.0 f w.2))
+                (missing_only at (required_of kind) w.0 f w.2))
           ])
     ]
 

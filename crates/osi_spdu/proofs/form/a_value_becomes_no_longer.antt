@@ -44,33 +44,33 @@ unfolding digits_of
 few_digits n zero low high h = absurd (omega arith)
 few_digits n (suc zero) low high h =
     drop_zero (n / 100000 % 10 + 48) (n / 10000 % 10 + 48) ((n / 1000 % 10 + 48) ∷ (n / 100 % 10 + 48) ∷ (n / 10 % 10 + 48) ∷
-        (n % 10 + 48) ∷ []) 1 (omega arith)
+    (n % 10 + 48) ∷ []) 1 (omega arith)
     (drop_zero (n / 10000 % 10 + 48) (n / 1000 % 10 + 48) ((n / 100 % 10 + 48) ∷ (n / 10 % 10 + 48) ∷ (n % 10 + 48) ∷ []) 1 (omega arith)
     (drop_zero (n / 1000 % 10 + 48) (n / 100 % 10 + 48) ((n / 10 % 10 + 48) ∷ (n % 10 + 48) ∷ []) 1 (omega arith)
     (drop_zero (n / 100 % 10 + 48) (n / 10 % 10 + 48) ((n % 10 + 48) ∷ []) 1 (omega arith)
     (drop_zero (n / 10 % 10 + 48) (n % 10 + 48) [] 1 (omega arith) (significant_len ((n % 10 + 48) ∷ []))))))
 few_digits n (suc (suc zero)) low high h =
     drop_zero (n / 100000 % 10 + 48) (n / 10000 % 10 + 48) ((n / 1000 % 10 + 48) ∷ (n / 100 % 10 + 48) ∷ (n / 10 % 10 + 48) ∷
-        (n % 10 + 48) ∷ []) 2 (omega arith)
+    (n % 10 + 48) ∷ []) 2 (omega arith)
     (drop_zero (n / 10000 % 10 + 48) (n / 1000 % 10 + 48) ((n / 100 % 10 + 48) ∷ (n / 10 % 10 + 48) ∷ (n % 10 + 48) ∷ []) 2 (omega arith)
     (drop_zero (n / 1000 % 10 + 48) (n / 100 % 10 + 48) ((n / 10 % 10 + 48) ∷ (n % 10 + 48) ∷ []) 2 (omega arith)
     (drop_zero (n / 100 % 10 + 48) (n / 10 % 10 + 48) ((n % 10 + 48) ∷ []) 2 (omega arith)
-        (significant_len ((n / 10 % 10 + 48) ∷ (n % 10 + 48) ∷ [])))))
+    (significant_len ((n / 10 % 10 + 48) ∷ (n % 10 + 48) ∷ [])))))
 few_digits n (suc (suc (suc zero))) low high h =
     drop_zero (n / 100000 % 10 + 48) (n / 10000 % 10 + 48) ((n / 1000 % 10 + 48) ∷ (n / 100 % 10 + 48) ∷ (n / 10 % 10 + 48) ∷
-        (n % 10 + 48) ∷ []) 3 (omega arith)
+    (n % 10 + 48) ∷ []) 3 (omega arith)
     (drop_zero (n / 10000 % 10 + 48) (n / 1000 % 10 + 48) ((n / 100 % 10 + 48) ∷ (n / 10 % 10 + 48) ∷ (n % 10 + 48) ∷ []) 3 (omega arith)
     (drop_zero (n / 1000 % 10 + 48) (n / 100 % 10 + 48) ((n / 10 % 10 + 48) ∷ (n % 10 + 48) ∷ []) 3 (omega arith)
-        (significant_len ((n / 100 % 10 + 48) ∷ (n / 10 % 10 + 48) ∷ (n % 10 + 48) ∷ []))))
+    (significant_len ((n / 100 % 10 + 48) ∷ (n / 10 % 10 + 48) ∷ (n % 10 + 48) ∷ []))))
 few_digits n (suc (suc (suc (suc zero)))) low high h =
     drop_zero (n / 100000 % 10 + 48) (n / 10000 % 10 + 48) ((n / 1000 % 10 + 48) ∷ (n / 100 % 10 + 48) ∷ (n / 10 % 10 + 48) ∷
-        (n % 10 + 48) ∷ []) 4 (omega arith)
+    (n % 10 + 48) ∷ []) 4 (omega arith)
     (drop_zero (n / 10000 % 10 + 48) (n / 1000 % 10 + 48) ((n / 100 % 10 + 48) ∷ (n / 10 % 10 + 48) ∷ (n % 10 + 48) ∷ []) 4 (omega arith)
-        (significant_len ((n / 1000 % 10 + 48) ∷ (n / 100 % 10 + 48) ∷ (n / 10 % 10 + 48) ∷ (n % 10 + 48) ∷ [])))
+    (significant_len ((n / 1000 % 10 + 48) ∷ (n / 100 % 10 + 48) ∷ (n / 10 % 10 + 48) ∷ (n % 10 + 48) ∷ [])))
 few_digits n (suc (suc (suc (suc (suc zero))))) low high h =
     drop_zero (n / 100000 % 10 + 48) (n / 10000 % 10 + 48) ((n / 1000 % 10 + 48) ∷ (n / 100 % 10 + 48) ∷ (n / 10 % 10 + 48) ∷
-        (n % 10 + 48) ∷ []) 5 (omega arith)
-        (significant_len ((n / 10000 % 10 + 48) ∷ (n / 1000 % 10 + 48) ∷ (n / 100 % 10 + 48) ∷ (n / 10 % 10 + 48) ∷ (n % 10 + 48) ∷ []))
+    (n % 10 + 48) ∷ []) 5 (omega arith)
+    (significant_len ((n / 10000 % 10 + 48) ∷ (n / 1000 % 10 + 48) ∷ (n / 100 % 10 + 48) ∷ (n / 10 % 10 + 48) ∷ (n % 10 + 48) ∷ []))
 few_digits n (suc (suc (suc (suc (suc (suc k)))))) low high h = (let l = significant_len (six_digits n) in omega arith)
 
 -- n digits give a number below ten to the power n
@@ -96,7 +96,7 @@ numeral_shorter value v e = by (is_numeral value) refl e
         let some = ltb-true 0 (length value) b.0 in
         let few = leb-true (length value) 6 b.1 in
         let small : decimal value < 10 ^ length value =
-            subst (λ (m : ℕ). decimal value < 10 ^ m) (zero-add (length value)) (decimal_small value 0 0 a.1 (omega arith)) in
+        subst (λ (m : ℕ). decimal value < 10 ^ m) (zero-add (length value)) (decimal_small value 0 0 a.1 (omega arith)) in
         let same : digits_of (decimal value) ≡ v = cc in
         subst (λ (x : List ℕ). length x ≤ length value) same (few_digits (decimal value) (length value) (omega arith) few small)
     by false t h = absurd cc

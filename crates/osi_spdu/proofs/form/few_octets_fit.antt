@@ -154,7 +154,7 @@ pub few_fit : (unit : Contents) → IsCanonical unit.known → free_len unit.kno
 few_fit unit is few =
     let a = body_len unit.kind unit.known in
     let b = total_less (part_cost unit.kind unit.known) (λ c. weight unit.known c + total (weight unit.known) (members_of unit.kind c))
-        (codes_of unit.kind) (part_weight unit.kind unit.known) in
+    (codes_of unit.kind) (part_weight unit.kind unit.known) in
     let c = unit_weight unit.kind unit.known in
     let d = all_weight unit.known is in
     omega arith
@@ -175,4 +175,4 @@ pub made_fits : (unit : Contents) (p : Params) → unit.known ≡ known_of p →
 made_fits unit p same few =
     let f = params_free p in
     few_fit unit (subst IsCanonical (sym same) (params_canonical p))
-        (subst (λ (k : Known). free_len k ≤ 65000) (sym same) (let l : free_len (known_of p) ≤ 65000 = omega arith in l))
+    (subst (λ (k : Known). free_len k ≤ 65000) (sym same) (let l : free_len (known_of p) ≤ 65000 = omega arith in l))

@@ -50,7 +50,7 @@ Makes means make known codes = (c : Code) (v : List ℕ) → among codes c ≡ t
 each_if : (means : ℕ → List ℕ → Known → Type 0) (make : Code → List ℕ → Part) (c : Code) (o : Option (List ℕ)) (octets : List ℕ)
     (parts : List Part)
     → ((v : List ℕ) → o ≡ Some v → length (part_octets (make c v)) < 65536 → IsPart means (make c v)) →
-        length (octets_if make c o ++ octets) < 65536
+    length (octets_if make c o ++ octets) < 65536
     → AllByRecursion (IsPart means) parts → AllByRecursion (IsPart means) (part_if make c o parts)
 each_if means make c None octets parts h fits all = all
 each_if means make c (Some v) octets parts h fits all = (h v refl (omega (arith, length-append (part_octets (make c v)) octets)), all)
@@ -63,7 +63,7 @@ parts_each means make known (c ∷ codes) h fits =
     let rest = flat_map (λ d. octets_if make d (known d)) codes in
     let shorter : length rest < 65536 = omega (arith, length-append (octets_if make c (known c)) rest) in
     each_if means make c (known c) rest (parts_of make known codes)
-        (λ v e l. h c v (or_left (is_same c c) (among codes c) (same_refl c)) e l) fits
+    (λ v e l. h c v (or_left (is_same c c) (among codes c) (same_refl c)) e l) fits
     (parts_each means make known codes (λ d v a e l. h d v (or_right (is_same d c) (among codes d) a) e l) shorter)
 
 -- the values that each part gives: those of the slots that its code owns
@@ -86,7 +86,7 @@ parts_none owner make known [] d g e = refl
 parts_none owner make known (c ∷ codes) d g e =
     let o = or_parts (owner c d) (list_any (λ x. owner x d) codes) e in
     none_if make c (known c) (parts_of make known codes) d (λ v. g c v d ∙ ap (λ (b : Bool). cond b (known d) None) o.0)
-        (parts_none owner make known codes d g o.1)
+    (parts_none owner make known codes d g o.1)
 
 sole_head : (o : Option (List ℕ)) (options : List (Option (List ℕ))) → Sole options None → Sole (o ∷ options) o
 sole_head None options h = h
@@ -95,7 +95,7 @@ sole_head (Some v) options h = (refl, h)
 sole_if : (make : Code → List ℕ → Part) (c : Code) (o k : Option (List ℕ)) (parts : List Part) (d : Code) (b t : Bool) →
     ((v : List ℕ) → (make c v).gives d ≡ cond b k None)
     → Sole (given parts d) (cond t k None) → (b ≡ true → Sole (given parts d) None) →
-        Sole (given (part_if make c o parts) d) (cond ((b && is_some o) || t) k None)
+    Sole (given (part_if make c o parts) d) (cond ((b && is_some o) || t) k None)
 sole_if make c None k parts d true t g h n = h
 sole_if make c None k parts d false t g h n = h
 sole_if make c (Some v) k parts d true t g h n =
@@ -130,7 +130,7 @@ parts_sole owner make known [] d g e = refl
 parts_sole owner make known (c ∷ codes) d g e =
     let o = once_tail (owner c d) (list_any (λ x. owner x d) codes) (once owner codes d) e in
     sole_if make c (known c) (known d) (parts_of make known codes) d (owner c d) (list_any (λ x. owner x d && is_some (known x)) codes)
-        (λ v. g c v d)
+    (λ v. g c v d)
     (parts_sole owner make known codes d g (tail_once owner c codes d e))
     (λ t. parts_none owner make known codes d g (o.0 t))
 
@@ -209,7 +209,7 @@ shown_member : (known : Known) (members : List Code) (d : Code) (o : Option (Lis
     → cond (list_any (λ c. is_same d c && is_some (known c)) members) (known d) None ≡ cond (among members d) (known d) None
 shown_member known members d None e =
     ap (λ (k : Option (List ℕ)). cond (list_any (λ c. is_same d c && is_some (known c)) members) k None) e ∙
-        cond_none (list_any (λ c. is_same d c && is_some (known c)) members)
+    cond_none (list_any (λ c. is_same d c && is_some (known c)) members)
     ∙ sym (ap (λ (k : Option (List ℕ)). cond (among members d) k None) e ∙ cond_none (among members d))
 shown_member known members d (Some v) e =
     ap (λ (p : Code → Bool). cond (list_any p members) (known d) None) (λ i c. (same_and_there known d c v e) i)
@@ -281,7 +281,7 @@ group_means kind known c v is group e fits =
 parameter_means : (kind : Kind) (known : Known) (c : Code) (v : List ℕ) (b : Bool) → is_group c ≡ b → IsCanonicalIn kind known →
     known c ≡ Some v
     → length (cond b (group_octets kind known c) v) < 65536 →
-        ParameterOf kind c (cond b (group_octets kind known c) v) (owned kind known c) b
+    ParameterOf kind c (cond b (group_octets kind known c) v) (owned kind known c) b
 parameter_means kind known c v true group is e fits = group_means kind known c v is group e fits
 parameter_means kind known c v false group is e fits =
     (v, is.values c v e, owned_alone kind known c v group e ∙ ap (λ (s : Code). only s v) (sym (own_slot kind known c v is e)))
@@ -292,13 +292,13 @@ long_data_means : (kind : Kind) (known : Known) (c : Code) (v : List ℕ) → c 
 unfolding is_group canonical canonical_in may_enclose number_of slot_of
 long_data_means kind known c v data_code e =
     subst (λ (x : Code). known x ≡ Some v → KnownOf kind (value_octets kind known x v) (owned kind known x) (Some ExtendedUserData))
-        (sym data_code)
+    (sym data_code)
     (λ there. (v, refl, owned_alone kind known UserData v refl there)) e
 
 unit_means : (kind : Kind) (known : Known) (c : Code) (v : List ℕ) → IsCanonicalIn kind known → among (codes_of kind) c ≡ true →
     known c ≡ Some v
     → length (value_octets kind known c v) < 65536 →
-        MeansInUnit kind (number_of (written_code kind c v)) (value_octets kind known c v) (owned kind known c)
+    MeansInUnit kind (number_of (written_code kind c v)) (value_octets kind known c v) (owned kind known c)
 unfolding MeansInUnit written_code
 unit_means kind known c v is there e fits =
     let test = is_same c UserData && among (codes_of kind) ExtendedUserData && ltb 512 (length v) in
@@ -316,7 +316,7 @@ unit_makes kind known is c v there e fits =
     let value = value_octets kind known c v in
     let code = number_of (written_code kind c v) in
     let shorter : length value < 65536 =
-        omega (arith, length-append (code ∷ [] ++ length_octets (ltb 254 (length value)) (length value)) value) in
+    omega (arith, length-append (code ∷ [] ++ length_octets (ltb 254 (length value)) (length value)) value) in
     (number_octet (written_code kind c v), fitting code value fits, unit_means kind known c v is there e shorter)
 
 shown_owned : (kind : Kind) (known : Known) (d : Code) (o : Option (List ℕ)) → known d ≡ o →
@@ -324,7 +324,7 @@ shown_owned : (kind : Kind) (known : Known) (d : Code) (o : Option (List ℕ)) �
     → cond (list_any (λ c. owns kind c d && is_some (known c)) (codes_of kind)) (known d) None ≡ known d
 shown_owned kind known d None e formed =
     ap (λ (k : Option (List ℕ)). cond (list_any (λ c. owns kind c d && is_some (known c)) (codes_of kind)) k None) e ∙
-        cond_none (list_any (λ c. owns kind c d && is_some (known c)) (codes_of kind)) ∙ sym e
+    cond_none (list_any (λ c. owns kind c d && is_some (known c)) (codes_of kind)) ∙ sym e
 shown_owned kind known d (Some v) e formed =
     let present : may_be_there kind known d ≡ true = elim (or_cases (may_be_there kind known d) (is_none (known d)) formed) [
       | inl t ↦ t
@@ -334,10 +334,10 @@ shown_owned kind known d (Some v) e formed =
     elim (or_cases (among (codes_of kind) d) (list_any (λ g. among (members_of kind g) d && is_some (known g)) (codes_of kind)) present) [
       | inl a ↦ any_weaker (λ c. is_same d c) (λ c. owns kind c d && is_some (known c)) (codes_of kind)
           (λ c t. and_from (owns kind c d) (is_some (known c)) (or_left (is_same d c) (among (members_of kind c) d) t)
-              (ap is_some (sym (ap known (same_true d c t)) ∙ e))) a
+          (ap is_some (sym (ap known (same_true d c t)) ∙ e))) a
       | inr a ↦ any_weaker (λ g. among (members_of kind g) d && is_some (known g)) (λ c. owns kind c d && is_some (known c)) (codes_of kind)
           (λ c t. (let q = and_parts (among (members_of kind c) d) (is_some (known c)) t in
-              and_from (owns kind c d) (is_some (known c)) (or_right (is_same d c) (among (members_of kind c) d) q.0) q.1)) a
+          and_from (owns kind c d) (is_some (known c)) (or_right (is_same d c) (among (members_of kind c) d) q.0) q.1)) a
     ] in
     rw by refl
 

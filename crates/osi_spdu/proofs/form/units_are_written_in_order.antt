@@ -27,7 +27,7 @@ pub one_octets : (units : Units) (unit : Contents) → units ≡ unit ∷ [] →
 one_octets units unit e =
     octets_next units [] unit e
     ∙ ap (λ (t : List ℕ). unit_octets unit ++ (unit.information ++ t)) (octets_none [] refl) ∙
-        ap (λ (t : List ℕ). unit_octets unit ++ t) (append-nil unit.information)
+    ap (λ (t : List ℕ). unit_octets unit ++ t) (append-nil unit.information)
 
 pub one_len : (units : Units) (unit : Contents) → units ≡ unit ∷ [] →
     length (tsdu_octets units) ≡ length (unit_octets unit) + length unit.information
@@ -87,7 +87,7 @@ pub counts_next : (units : Units) (len : ℕ) (unit : Contents) (others all : Un
     CountsNext units len unit others all
 counts_next units len unit others all e so_far =
     subst (λ (us : Units). CountsNext us len unit others all) (sym e)
-        (counts_cons len unit others all (subst (λ (us : Units). IsCountingUnits us len all) e so_far))
+    (counts_cons len unit others all (subst (λ (us : Units). IsCountingUnits us len all) e so_far))
 
 pub counting_end : (units : Units) (len : ℕ) (all : Units) → units ≡ [] → IsCountingUnits units len all → len ≡ length (tsdu_octets all)
 counting_end units len all e so_far = (let n = ap length (octets_none units e) in let k = so_far.counted in omega arith)
@@ -124,7 +124,7 @@ puts_cons items spare unit others all before room so_far =
     let rest = tsdu_octets others in
     let whole : ((items ++ front) ++ info) ++ rest ≡ items ++ tsdu_octets (unit ∷ others) =
     append_assoc (items ++ front) info rest ∙ append_assoc items front (info ++ rest) ∙
-        ap (λ (t : List ℕ). items ++ t) (sym (octets_next (unit ∷ others) others unit refl)) in
+    ap (λ (t : List ℕ). items ++ t) (sym (octets_next (unit ∷ others) others unit refl)) in
     record {
       fits = so_far.fits.0;
       enough = omega arith;
@@ -141,7 +141,7 @@ pub puts_next : (units : Units) (items : List ℕ) (spare : ℕ) (unit : Content
     → PutsNext units items spare unit others all before room
 puts_next units items spare unit others all before room e so_far =
     subst (λ (us : Units). PutsNext us items spare unit others all before room) (sym e)
-        (puts_cons items spare unit others all before room (subst (λ (us : Units). IsPuttingUnits us items spare all before room) e so_far))
+    (puts_cons items spare unit others all before room (subst (λ (us : Units). IsPuttingUnits us items spare all before room) e so_far))
 
 pub putting_end : (units : Units) (items : List ℕ) (spare : ℕ) (all : Units) (before : List ℕ) (room : ℕ) → units ≡ [] →
     IsPuttingUnits units items spare all before room → items ≡ before ++ tsdu_octets all

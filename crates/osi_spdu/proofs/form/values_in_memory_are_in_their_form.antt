@@ -77,7 +77,7 @@ slot_canonical p Enclosure v e = made (λ x. enclosure_octet x ∷ []) p.enclosu
 slot_canonical p TokenSetting v e = made setting_octets p.token_setting v TokenSetting
     (λ s. ap (λ (b : Bool). cond b (Some (setting_octets s)) None)
     (setting_good (wish_number s.data_token) (wish_number s.minor) (wish_number s.major) (wish_number s.release) (wish_small s.data_token)
-        (wish_small s.minor) (wish_small s.major) (wish_small s.release))) e
+    (wish_small s.minor) (wish_small s.major) (wish_small s.release))) e
 slot_canonical p ResyncType v e = made (λ r. resync_octet r ∷ []) p.resync_type v ResyncType resync_again e
 slot_canonical p Number v e =
     made (λ s. digits_of s.number) p.number v Number (λ s. ap (option_map digits_of) (numeral_digits s.number s.small)) e

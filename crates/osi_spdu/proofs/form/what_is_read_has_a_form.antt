@@ -38,7 +38,7 @@ record Source (means : ℕ → List ℕ → Known → Type 0) (raw : Known) (d :
 
 later : (means : ℕ → List ℕ → Known → Type 0) (p : Part) (parts : List Part) (raw : Known) (d : Code) (v : List ℕ)
     → ((c : Code) → Sole (p.gives c ∷ map (λ q. q.gives c) parts) (raw c)) → Source means (λ c. first (map (λ q. q.gives c) parts)) d v →
-        Source means raw d v
+    Source means raw d v
 later means p parts raw d v once s = record {
   part = s.part;
   is_part = s.is_part;
@@ -122,7 +122,7 @@ unfolding MeansInGroup
 inner_source kind g value v inner d s e =
     let from = source (MeansInGroup kind (members_of kind g)) s.parts inner d v s.each s.once e in
     member_source kind g from.part.value v from.part.gives d (code_among (members_of kind g) from.part.code) from.part.code refl
-        from.is_part.2 from.gives_it
+    from.is_part.2 from.gives_it
 
 -- the source of a value of a unit: a code of the unit, or a group that is there
 abbrev pub IsOwned : Kind → Known → Code → Type 0
@@ -134,7 +134,7 @@ group_source : (kind : Kind) (raw : Known) (g : Code) (value v : List ℕ) (give
     → ((c : Code) (w : List ℕ) → gives c ≡ Some w → raw c ≡ Some w) → IsOwned kind raw d
 group_source kind raw g value v gives d there m e within =
     let presence : gives g ≡ Some [] =
-        sole_of_head (only g [] g) (m.0 g ∷ []) (gives g) [] (ap (λ (b : Bool). cond b (Some []) None) (same_refl g)) (m.2 g) in
+    sole_of_head (only g [] g) (m.0 g ∷ []) (gives g) [] (ap (λ (b : Bool). cond b (Some []) None) (same_refl g)) (m.2 g) in
     elim (option_cases (only g [] d)) [
       | inl s ↦ inl (subst (λ (x : Code). among (codes_of kind) x ≡ true) (sym (only_slot d g [] s.0 s.1)) there)
       | inr n ↦
@@ -164,7 +164,7 @@ unfolding MeansInUnit
 owned kind raw body v d s e =
     let from = source (MeansInUnit kind) s.parts raw d v s.each s.once e in
     unit_source kind raw from.part.value v from.part.gives d (code_among (codes_of kind) from.part.code) from.part.code refl from.is_part.2
-        from.gives_it from.within
+    from.gives_it from.within
 
 -- ---- an enclosure that is there
 
@@ -209,7 +209,7 @@ group_encloses kind g value v gives group m e =
       | inl s ↦ (let h : is_group Enclosure ≡ true = ap is_group (only_slot Enclosure g [] s.0 s.1) ∙ group in no_group h)
       | inr n ↦
           let one : Sole (m.0 Enclosure ∷ []) (gives Enclosure) =
-              subst (λ (k : Option (List ℕ)). Sole (k ∷ m.0 Enclosure ∷ []) (gives Enclosure)) n (m.2 Enclosure) in
+          subst (λ (k : Option (List ℕ)). Sole (k ∷ m.0 Enclosure ∷ []) (gives Enclosure)) n (m.2 Enclosure) in
           let same : gives Enclosure ≡ m.0 Enclosure = sole_same (m.0 Enclosure) (gives Enclosure) one in
           let h : true ≡ false = sym (inner_source kind g value v m.0 Enclosure m.1 (sym same ∙ e)) ∙ no_enclosed_member kind g in
           cc
@@ -222,12 +222,12 @@ parameter_encloses kind c value v gives false group m e =
     let own : only (slot_of c) m.0 Enclosure ≡ Some v = sym (ap (λ (k : Known). k Enclosure) m.2) ∙ e in
     let slot = only_slot Enclosure (slot_of c) m.0 v own in
     let form : m.0 ≡ v =
-        (let h : Some m.0 ≡ Some v = sym
-        (ap (λ (b : Bool). cond b (Some m.0) None) (ap (λ (s : Code). is_same Enclosure s) (sym slot) ∙ same_refl Enclosure)) ∙ own in cc)
-        in
+    (let h : Some m.0 ≡ Some v = sym
+    (ap (λ (b : Bool). cond b (Some m.0) None) (ap (λ (s : Code). is_same Enclosure s) (sym slot) ∙ same_refl Enclosure)) ∙ own in cc)
+    in
     enclosed_value kind value v
-        (subst (λ (x : Code). canonical_in kind x value ≡ Some v) (enclosure_slot c slot)
-        (m.1 ∙ ap {B = Option (List ℕ)} (λ x. Some x) form))
+    (subst (λ (x : Code). canonical_in kind x value ≡ Some v) (enclosure_slot c slot)
+    (m.1 ∙ ap {B = Option (List ℕ)} (λ x. Some x) form))
 
 unit_encloses : (kind : Kind) (value v : List ℕ) (gives : Known) (o : Option Code) → KnownOf kind value gives o → gives Enclosure ≡ Some v →
     is_enclosed kind (Some v) ≡ true
@@ -302,11 +302,11 @@ unit_formed unit octets s =
     let enclosure : is_enclosed kind (settled s.raw Enclosure) ≡ true =
     ap (is_enclosed kind) (settled_other s.raw Enclosure no_user_data) ∙ enclosed kind s.raw s.body (s.raw Enclosure) s.params refl in
     subst (λ (k : Known). ((list_all (test k) every_code && list_all (λ c. is_some (k c)) (required_of kind)) &&
-        is_enclosed kind (k Enclosure)) ≡ true) (sym s.value)
+    is_enclosed kind (k Enclosure)) ≡ true) (sym s.value)
     (and_from (list_all (test (settled s.raw)) every_code && list_all (λ c. is_some (settled s.raw c)) (required_of kind))
-        (is_enclosed kind (settled s.raw Enclosure))
+    (is_enclosed kind (settled s.raw Enclosure))
     (and_from (list_all (test (settled s.raw)) every_code) (list_all (λ c. is_some (settled s.raw c)) (required_of kind)) all required)
-        enclosure)
+    enclosure)
 
 -- a unit that was read is well formed
 pub placed_formed : (second : Bool) (at : ℕ) (octets : List ℕ) (p : Placed) → IsOctets octets → unit_at second at octets ≡ Ok p →

@@ -65,8 +65,8 @@ total_one f s (c ∷ codes) single h =
           omega arith
       | inr other ↦
           let none : f c ≡ 0 =
-              h c (or_left (is_same c c) (among codes c) (same_refl c))
-              (λ e. both_ways (is_same s c) other (subst (λ (x : Code). is_same s x ≡ true) (sym e) (same_refl s))) in
+          h c (or_left (is_same c c) (among codes c) (same_refl c))
+          (λ e. both_ways (is_same s c) other (subst (λ (x : Code). is_same s x ≡ true) (sym e) (same_refl s))) in
           let rest = total_one f s codes (t.1 other) (λ d a n. h d (or_right (is_same d c) (among codes d) a) n) in
           omega arith
     ]
@@ -115,7 +115,7 @@ parts_cost means f codes Good is (p ∷ parts) known each sole =
     let good_rest = is.good parts rest each.1 (λ c. (split c).0) in
     let good_one = is.good (p ∷ []) p.gives (each.0, tt) (λ c. sole_one (p.gives c)) in
     let sum = total_same (f known) (λ c. f rest c + f p.gives c) codes
-        (λ c a. is.add rest p.gives known (λ d. (split d).1) good_rest good_one c a) in
+    (λ c a. is.add rest p.gives known (λ d. (split d).1) good_rest good_one c a) in
     let both = total_both (f rest) (f p.gives) codes in
     let here = is.one p each.0 in
     omega (arith, length-append (part_octets p) (flat_map part_octets parts))
@@ -157,7 +157,7 @@ member_part kind g p None h m =
     omega arith
 member_part kind g p (Some c) h m =
     let same : total (λ d. member_cost (p.gives d)) (members_of kind g) ≡ total (λ d. member_cost (only (slot_of c) m.0 d))
-        (members_of kind g) = ap (λ (k : Known). total (λ d. member_cost (k d)) (members_of kind g)) m.2 in
+    (members_of kind g) = ap (λ (k : Known). total (λ d. member_cost (k d)) (members_of kind g)) m.2 in
     let one = only_cost member_cost (slot_of c) m.0 (members_of kind g) refl (member_once kind g (slot_of c)) in
     let less = cost_less (length m.0) (length p.value) (canonical_shorter c p.value m.0 (canonical_from kind c p.value m.0 m.1)) in
     let s = spelled_cost p.code p.long p.value h in
@@ -183,7 +183,7 @@ group_fits : (kind : Kind) (known : Known) (g : Code) (value : List ℕ) → Spe
     length (group_octets kind known g) ≤ length value
 group_fits kind known g value s =
     let p = parts_cost (MeansInGroup kind (members_of kind g)) (λ k c. member_cost (k c)) (members_of kind g) (λ k. Unit {0})
-        (group_cost kind g) s.parts known s.each s.once in
+    (group_cost kind g) s.parts known s.each s.once in
     let l = group_len kind known g in
     let w = ap length s.whole in
     omega arith
@@ -241,7 +241,7 @@ keeps_from : (kind : Kind) (raw : Known) (g d : Code) → among (codes_of kind) 
 keeps_from kind raw g d hg m (inl hd) = absurd (apart_from_unit kind g d hg m hd)
 keeps_from kind raw g d hg m (inr q) =
     let same : q.0 ≡ g = one_owner kind (codes_of kind) d q.0 g (code_once kind d) q.1 hg (member_owned kind q.0 d q.2)
-        (member_owned kind g d m) in
+    (member_owned kind g d m) in
     ([], sym (ap raw same) ∙ q.3)
 
 keeps_groups : (kind : Kind) (parts : List Part) (raw : Known) → AllByRecursion (IsPart (MeansInUnit kind)) parts →
@@ -255,7 +255,7 @@ members_same : (kind : Kind) (x o : Known) (c : Code) → ((d : Code) → among 
     length (group_octets kind o c) ≡ length (group_octets kind x c)
 members_same kind x o c h =
     group_len kind o c ∙ total_same (λ d. member_cost (o d)) (λ d. member_cost (x d)) (members_of kind c) (λ d a. ap member_cost (h d a)) ∙
-        sym (group_len kind x c)
+    sym (group_len kind x c)
 
 value_same : (kind : Kind) (x o : Known) (c : Code) (v : List ℕ) → ((d : Code) → among (members_of kind c) d ≡ true → o d ≡ x d) →
     cost (length (value_octets kind o c v)) ≡ cost (length (value_octets kind x c v))
@@ -275,13 +275,13 @@ unit_add_at kind x y o c None None ex ey j kx ky hc =
 unit_add_at kind x y o c None (Some v) ex ey j kx ky hc =
     let e : o c ≡ Some v = subst (λ (m : Option (List ℕ)). Joins m (y c) (o c)) ex (j c) ∙ ey in
     let same = value_same kind y o c v (λ d m. subst (λ (q : Option (List ℕ)). Joins q (y d) (o d)) (stays_out kind x c d kx hc m ex) (j d))
-        in
+    in
     let at = ap (unit_cost kind o c) e in
     omega arith
 unit_add_at kind x y o c (Some w) None ex ey j kx ky hc =
     let e : o c ≡ Some w = joins_is (x c) (o c) (subst (λ (k : Option (List ℕ)). Joins (x c) k (o c)) ey (j c)) ∙ ex in
     let same = value_same kind x o c w
-        (λ d m. joins_is (x d) (o d) (subst (λ (k : Option (List ℕ)). Joins (x d) k (o d)) (stays_out kind y c d ky hc m ey) (j d))) in
+    (λ d m. joins_is (x d) (o d) (subst (λ (k : Option (List ℕ)). Joins (x d) k (o d)) (stays_out kind y c d ky hc m ey) (j d))) in
     let at = ap (unit_cost kind o c) e in
     omega arith
 unit_add_at kind x y o c (Some w) (Some v) ex ey j kx ky hc =
@@ -315,12 +315,12 @@ leaf_part kind p c leaf h m =
     let form = m.0 in
     let there : p.gives s ≡ Some form = ap (λ (k : Known). k s) m.2 ∙ ap (λ (b : Bool). cond b (Some form) None) (same_refl s) in
     let one = total_one (part_cost kind p.gives) s (codes_of kind) (code_single kind s)
-        (λ d a n. absent_cost kind p.gives d (elim (option_cases (p.gives d)) [
+    (λ d a n. absent_cost kind p.gives d (elim (option_cases (p.gives d)) [
       | inl q ↦ absurd (n (only_slot d s form q.0 (sym (ap (λ (k : Known). k d) m.2) ∙ q.1)))
       | inr e ↦ e
     ])) in
     let at : part_cost kind p.gives s ≡ cost (length form) = ap (unit_cost kind p.gives s) there ∙
-        ap (λ (b : Bool). cost (length (cond b (group_octets kind p.gives s) form))) (slot_leaf c leaf) in
+    ap (λ (b : Bool). cost (length (cond b (group_octets kind p.gives s) form))) (slot_leaf c leaf) in
     let less = cost_less (length form) (length p.value) (canonical_shorter c p.value form (canonical_from kind c p.value form m.1)) in
     let spelled = spelled_cost p.code p.long p.value h in
     omega arith
@@ -330,26 +330,26 @@ group_part : (kind : Kind) (p : Part) (g : Code) → is_group g ≡ true → amo
 group_part kind p g group hg h m =
     let inner = m.0 in
     let bare = λ (d : Code) (e : only g [] d ≡ None). sole_same (inner d) (p.gives d)
-        (subst (λ (k : Option (List ℕ)). Sole (k ∷ inner d ∷ []) (p.gives d)) e (m.2 d)) in
+    (subst (λ (k : Option (List ℕ)). Sole (k ∷ inner d ∷ []) (p.gives d)) e (m.2 d)) in
     let outside = λ (d : Code) (n : d ≡ g → ⊥). (let e : only g [] d ≡ None = elim (cases_Bool (is_same d g)) [
       | inl t ↦ absurd (n (same_true d g t))
       | inr f ↦ ap (λ (b : Bool). cond b (Some []) None) f
     ] in bare d e) in
     let there : p.gives g ≡ Some [] =
     (let k = m.2 g in sole_head_is (only g [] g) (inner g ∷ []) (p.gives g) [] (ap (λ (b : Bool). cond b (Some []) None) (same_refl g)) k)
-        in
+    in
     let one = total_one (part_cost kind p.gives) g (codes_of kind) (code_single kind g)
-        (λ d a n. absent_cost kind p.gives d (elim (option_cases (p.gives d)) [
+    (λ d a n. absent_cost kind p.gives d (elim (option_cases (p.gives d)) [
       | inl q ↦ absurd (apart_from_unit kind g d hg (inner_source kind g p.value q.0 inner d m.1 (sym (outside d n) ∙ q.1)) a)
       | inr e ↦ e
     ])) in
     let members : length (group_octets kind p.gives g) ≡ length (group_octets kind inner g) =
     members_same kind inner p.gives g
-        (λ d a. outside d
-        (λ e. both_ways (among (members_of kind g) g) (group_apart kind g) (subst (λ (x : Code). among (members_of kind g) x ≡ true) e a)))
-        in
+    (λ d a. outside d
+    (λ e. both_ways (among (members_of kind g) g) (group_apart kind g) (subst (λ (x : Code). among (members_of kind g) x ≡ true) e a)))
+    in
     let at : part_cost kind p.gives g ≡ cost (length (group_octets kind p.gives g)) = ap (unit_cost kind p.gives g) there ∙
-        ap (λ (b : Bool). cost (length (cond b (group_octets kind p.gives g) []))) group in
+    ap (λ (b : Bool). cost (length (cond b (group_octets kind p.gives g) []))) group in
     let fits = group_fits kind inner g p.value m.1 in
     let less = cost_less (length (group_octets kind p.gives g)) (length p.value) (omega arith) in
     let spelled = spelled_cost p.code p.long p.value h in
@@ -424,11 +424,11 @@ unit_fits : (unit : Contents) (octets : List ℕ) → SpellsUnit unit octets →
 unit_fits unit octets s =
     let kind = unit.kind in
     let read = parts_cost (MeansInUnit kind) (part_cost kind) (codes_of kind) (KeepsGroups kind) (whole_cost kind) s.params.parts s.raw
-        s.params.each s.params.once in
+    s.params.each s.params.once in
     let less = total_less (part_cost kind (settled s.raw)) (part_cost kind s.raw) (codes_of kind) (settled_part kind s.raw) in
     let len = body_len kind (settled s.raw) in
     let same : length (body_octets kind unit.known) ≡ length (body_octets kind (settled s.raw)) =
-        ap (λ (k : Known). length (body_octets kind k)) s.value in
+    ap (λ (k : Known). length (body_octets kind k)) s.value in
     let w = ap length s.params.whole in
     let b = body_short s.long (length s.body) s.counted in
     omega arith

@@ -11,12 +11,32 @@ unknown : (n : ℕ) → (n ≡ 1 → ⊥) → (n ≡ 5 → ⊥) → (n ≡ 9 →
     → code_among every_code n ≡ None
 unfolding number_of
 unknown n n1 n5 n9 n10 n11 n12 n15 n16 n17 n19 n20 n21 n22 n23 n25 n26 n27 n42 n49 n50 n51 n52 n193 n194 =
-    rw (ne_eqb 1 n (λ e. n1 (sym e)), ne_eqb 5 n (λ e. n5 (sym e)), ne_eqb 9 n (λ e. n9 (sym e)), ne_eqb 10 n (λ e. n10 (sym e)),
-    ne_eqb 11 n (λ e. n11 (sym e)), ne_eqb 12 n (λ e. n12 (sym e)), ne_eqb 15 n (λ e. n15 (sym e)), ne_eqb 16 n (λ e. n16 (sym e)),
-    ne_eqb 17 n (λ e. n17 (sym e)), ne_eqb 19 n (λ e. n19 (sym e)), ne_eqb 20 n (λ e. n20 (sym e)), ne_eqb 21 n (λ e. n21 (sym e)),
-    ne_eqb 22 n (λ e. n22 (sym e)), ne_eqb 23 n (λ e. n23 (sym e)), ne_eqb 25 n (λ e. n25 (sym e)), ne_eqb 26 n (λ e. n26 (sym e)),
-    ne_eqb 27 n (λ e. n27 (sym e)), ne_eqb 42 n (λ e. n42 (sym e)), ne_eqb 49 n (λ e. n49 (sym e)), ne_eqb 50 n (λ e. n50 (sym e)),
-    ne_eqb 51 n (λ e. n51 (sym e)), ne_eqb 52 n (λ e. n52 (sym e)), ne_eqb 193 n (λ e. n193 (sym e)), ne_eqb 194 n (λ e. n194 (sym e))) refl
+    rw (
+      ne_eqb 1 n (λ e. n1 (sym e)),
+      ne_eqb 5 n (λ e. n5 (sym e)),
+      ne_eqb 9 n (λ e. n9 (sym e)),
+      ne_eqb 10 n (λ e. n10 (sym e)),
+      ne_eqb 11 n (λ e. n11 (sym e)),
+      ne_eqb 12 n (λ e. n12 (sym e)),
+      ne_eqb 15 n (λ e. n15 (sym e)),
+      ne_eqb 16 n (λ e. n16 (sym e)),
+      ne_eqb 17 n (λ e. n17 (sym e)),
+      ne_eqb 19 n (λ e. n19 (sym e)),
+      ne_eqb 20 n (λ e. n20 (sym e)),
+      ne_eqb 21 n (λ e. n21 (sym e)),
+      ne_eqb 22 n (λ e. n22 (sym e)),
+      ne_eqb 23 n (λ e. n23 (sym e)),
+      ne_eqb 25 n (λ e. n25 (sym e)),
+      ne_eqb 26 n (λ e. n26 (sym e)),
+      ne_eqb 27 n (λ e. n27 (sym e)),
+      ne_eqb 42 n (λ e. n42 (sym e)),
+      ne_eqb 49 n (λ e. n49 (sym e)),
+      ne_eqb 50 n (λ e. n50 (sym e)),
+      ne_eqb 51 n (λ e. n51 (sym e)),
+      ne_eqb 52 n (λ e. n52 (sym e)),
+      ne_eqb 193 n (λ e. n193 (sym e)),
+      ne_eqb 194 n (λ e. n194 (sym e)),
+    ) refl
 
 pub low_unknown : (n : ℕ) → n ≤ 52 → (n ≡ 1 → ⊥) → (n ≡ 5 → ⊥) → (n ≡ 9 → ⊥) → (n ≡ 10 → ⊥) → (n ≡ 11 → ⊥) → (n ≡ 12 → ⊥) → (n ≡ 15 → ⊥) →
     (n ≡ 16 → ⊥) → (n ≡ 17 → ⊥) → (n ≡ 19 → ⊥) → (n ≡ 20 → ⊥) → (n ≡ 21 → ⊥) → (n ≡ 22 → ⊥) → (n ≡ 23 → ⊥) → (n ≡ 25 → ⊥) → (n ≡ 26 → ⊥) →

@@ -48,9 +48,9 @@ among_at (d ∷ codes) (suc i) c lt =
 -- both groups are counted
 pub both_held : (lens : GroupLengths) (known : Known)
     → (among (codes_of lens.kind) ConnectionIdentifier ≡ true → is_some (known ConnectionIdentifier) ≡ true →
-        lens.connection_identifier ≡ length (group_octets lens.kind known ConnectionIdentifier))
+    lens.connection_identifier ≡ length (group_octets lens.kind known ConnectionIdentifier))
     → (among (codes_of lens.kind) ConnectAcceptItem ≡ true → is_some (known ConnectAcceptItem) ≡ true →
-        lens.connect_accept_item ≡ length (group_octets lens.kind known ConnectAcceptItem))
+    lens.connect_accept_item ≡ length (group_octets lens.kind known ConnectAcceptItem))
     → AreHeld lens known
 unfolding held is_group
 both_held lens known first second ConnectionIdentifier knows group there = first knows there

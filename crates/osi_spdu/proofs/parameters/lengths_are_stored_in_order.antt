@@ -33,9 +33,9 @@ keeping_next lens more count body units others all unit e is same so_far =
       size = omega arith;
       goes = λ tail h.
           (let all_of : AreLengths (take count lens ++ (body ∷ tail)) all = so_far.goes (body ∷ tail)
-              (subst (λ (us : Units). AreLengths (body ∷ tail) us) (sym e) (is, h)) in
+          (subst (λ (us : Units). AreLengths (body ∷ tail) us) (sym e) (is, h)) in
           let joined : (take count lens ++ body ∷ []) ++ tail ≡ take count lens ++ (body ∷ tail) =
-              append_assoc (take count lens) (body ∷ []) tail in
+          append_assoc (take count lens) (body ∷ []) tail in
           subst (λ (x : List ℕ). AreLengths (x ++ tail) all) (sym front) (subst (λ (x : List ℕ). AreLengths x all) (sym joined) all_of));
     }
 
@@ -55,7 +55,7 @@ pub one_kept : (lens more : List ℕ) (body : ℕ) (units : Units) (unit : Conte
     body ≡ body_length unit → more ≡ set lens 0 body → AreLengths more units
 one_kept lens more body units unit e size is same =
     keeping_end more 1 [] units refl
-        (keeping_next lens more 0 body units [] units unit e is same (keeping_start lens units size (let n = ap length e in omega arith)))
+    (keeping_next lens more 0 body units [] units unit e is same (keeping_start lens units size (let n = ap length e in omega arith)))
 
 -- the length of the next unit
 pub record IsNextLength (lens : List ℕ) (count : ℕ) (unit : Contents) (others : Units) : Type 0 where
@@ -70,7 +70,7 @@ next_length lens count units others unit e h =
     elim (cases_Bool (ltb count (length lens))) [
       | inl t ↦ (let lt = ltb-true count (length lens) t in
           let both : AreLengths (get_or lens count 0 ∷ drop (count + 1) lens) (unit ∷ others) =
-              subst (λ (x : List ℕ). AreLengths x (unit ∷ others)) (drop_more lens count 0 lt) here in
+          subst (λ (x : List ℕ). AreLengths x (unit ∷ others)) (drop_more lens count 0 lt) here in
           record { within = lt; is = both.0; rest = both.1 })
       | inr f ↦ absurd
           (let none : AreLengths [] (unit ∷ others) = subst (λ (x : List ℕ). AreLengths x (unit ∷ others))

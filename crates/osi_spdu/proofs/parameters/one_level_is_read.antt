@@ -45,15 +45,15 @@ params_found taking means follows n at known more [] le fits e =
 params_found taking means follows zero at known more (code ∷ octets) le fits e = absurd (omega arith)
 params_found taking means follows (suc n) at known more (code ∷ octets) le fits e =
     let a = bind_ok (measured_at at octets)
-        (λ m. taking at (at + (1 + m.used)) code m.value known >>= λ k. params_at taking n (at + (1 + m.used + length m.value)) k m.rest)
-        more e in
+    (λ m. taking at (at + (1 + m.used)) code m.value known >>= λ k. params_at taking n (at + (1 + m.used + length m.value)) k m.rest)
+    more e in
     let m = a.0 in
     let b = bind_ok (taking at (at + (1 + m.used)) code m.value known)
-        (λ k. params_at taking n (at + (1 + m.used + length m.value)) k m.rest) more a.2 in
+    (λ k. params_at taking n (at + (1 + m.used + length m.value)) k m.rest) more a.2 in
     let is = measured_ok at octets m (octets-tail code octets fits) a.1 in
     let one = follows.takes at (at + (1 + m.used)) code m.value known b.0 is.value_octets b.1 in
     let rest = params_found taking means follows n (at + (1 + m.used + length m.value)) b.0 more m.rest (omega (arith, is.shorter))
-        is.rest_octets b.2 in
+    is.rest_octets b.2 in
     let part : Part = record { code = code; long = is.long; value = m.value; gives = one.0 } in
     let byte : code < 256 = fits 0 in
     record {
@@ -67,7 +67,7 @@ params_found taking means follows (suc n) at known more (code ∷ octets) le fit
 pub params_only : (taking : Taking) (means : ℕ → List ℕ → Known → Type 0) → Follows taking means →
     (n at : ℕ) (known more : Known) (parts : List Part)
     → length (flat_map part_octets parts) ≤ n → AllByRecursion (IsPart means) parts →
-        ((c : Code) → Sole (known c ∷ map (λ p. p.gives c) parts) (more c))
+    ((c : Code) → Sole (known c ∷ map (λ p. p.gives c) parts) (more c))
     → params_at taking n at known (flat_map part_octets parts) ≡ Ok more
 unfolding params_at
 params_only taking means follows n at known more [] le each once =
@@ -79,16 +79,16 @@ params_only taking means follows (suc n) at known more (p ∷ parts) le each onc
     let after = at + (1 + indicator_len p.long + length p.value) in
     let one = follows.back at (at + (1 + indicator_len p.long)) p.code p.value p.gives known mid each.0.2 joins in
     let shorter : length (flat_map part_octets parts) ≤ n =
-        omega (arith, length-append (length_octets p.long (length p.value) ++ p.value) (flat_map part_octets parts)) in
+    omega (arith, length-append (length_octets p.long (length p.value) ++ p.value) (flat_map part_octets parts)) in
     let rest = params_only taking means follows n after mid more parts shorter each.1
-        (λ c. sole_step (p.gives c) (known c) (mid c) (map (λ q. q.gives c) parts) (more c) (joins c) (once c)) in
+    (λ c. sole_step (p.gives c) (known c) (mid c) (map (λ q. q.gives c) parts) (more c) (joins c) (once c)) in
     let made : Measured = record { used = indicator_len p.long; value = p.value; rest = flat_map part_octets parts } in
     let tail = length_octets p.long (length p.value) ++ p.value ++ flat_map part_octets parts in
     bind_of (measured_at at tail)
     (λ m. taking at (at + (1 + m.used)) p.code m.value known >>= λ k. params_at taking n (at + (1 + m.used + length m.value)) k m.rest)
     made (Ok more) (measured_again at p.long p.value (flat_map part_octets parts) each.0.1)
     (bind_of (taking at (at + (1 + indicator_len p.long)) p.code p.value known)
-        (λ k. params_at taking n after k (flat_map part_octets parts)) mid (Ok more) one rest)
+    (λ k. params_at taking n after k (flat_map part_octets parts)) mid (Ok more) one rest)
 
 -- ---- one parameter
 
@@ -100,7 +100,7 @@ judged_ok at c known more (Some form) e = (form, refl, sym (ok_is (put (slot_of 
 -- a value that was stored found its slot free
 pub stored_ok : (kind : Kind) (at : ℕ) (c : Code) (value : List ℕ) (known more : Known) → stored kind at c value known ≡ Ok more
     → (form : List ℕ) × (canonical_in kind c value ≡ Some form) × (more ≡ put (slot_of c) form known) ×
-        JoinsAll (only (slot_of c) form) known more
+    JoinsAll (only (slot_of c) form) known more
 unfolding stored
 stored_ok kind at c value known more h0 = grind (arith, guard_ok, judged_ok, is_none_of, put_joins, same_true, JoinsAll)
 
@@ -153,16 +153,16 @@ group_form kind c value h0 = grind arith
 group_takes : (kind : Kind) (body : ℕ) (c : Code) (value : List ℕ) (known mid more : Known) → IsOctets value →
     JoinsAll (only c []) known mid
     → params_of (in_group kind (members_of kind c)) body mid value ≡ Ok more →
-        (gives : Known) × GroupOf kind c value gives × JoinsAll gives known more
+    (gives : Known) × GroupOf kind c value gives × JoinsAll gives known more
 group_takes kind body c value known mid more fits joins e =
     let members = members_of kind c in
     let r = params_found (in_group kind members) (MeansInGroup kind members) (group_follows kind members) (length value) body mid more value
-        (omega arith) fits e in
+    (omega arith) fits e in
     let inner : Known = λ d. first (map (λ p. p.gives d) r.parts) in
     let split = λ (d : Code). sole_split (mid d) (map (λ p. p.gives d) r.parts) (more d) (r.once d) in
     let both = λ (d : Code). joins_both (only c [] d) (inner d) (known d) (mid d) (more d) (joins d) ((split d).1) in
     let spelled : Spells (MeansInGroup kind members) inner value =
-        record { parts = r.parts; whole = r.whole; each = r.each; once = λ d. (split d).0 } in
+    record { parts = r.parts; whole = r.whole; each = r.each; once = λ d. (split d).0 } in
     ((λ d. first (only c [] d ∷ inner d ∷ [])), (inner, spelled, λ d. (both d).0), λ d. (both d).1)
 
 group_back : (kind : Kind) (at body : ℕ) (c : Code) (value : List ℕ) (gives known more : Known) → is_group c ≡ true →
@@ -174,14 +174,14 @@ group_back kind at body c value gives known more is m j =
     let apart = λ (d : Code). joins_apart (only c [] d) (m.0 d) (gives d) (known d) (more d) (m.2 d) (j d) in
     let same = λ (d : Code). joins_merged (is_same d c) [] (known d) ((apart d).0) in
     let presence : JoinsAll (only c []) known mid =
-        λ d. subst (λ (k : Option (List ℕ)). Joins (only c [] d) (known d) k) (same d) ((apart d).0) in
+    λ d. subst (λ (k : Option (List ℕ)). Joins (only c [] d) (known d) k) (same d) ((apart d).0) in
     let contents : JoinsAll m.0 mid more = λ d. subst (λ (k : Option (List ℕ)). Joins (m.0 d) k (more d)) (same d) ((apart d).1) in
     let one : stored kind at c value known ≡ Ok mid =
     stored_back kind at c value [] known mid (group_form kind c value is)
-        (subst (λ (s : Code). JoinsAll (only s []) known mid) (sym (group_slot c is)) presence) in
+    (subst (λ (s : Code). JoinsAll (only s []) known mid) (sym (group_slot c is)) presence) in
     let read : params_of (in_group kind members) body mid (flat_map part_octets m.1.parts) ≡ Ok more =
     params_only (in_group kind members) (MeansInGroup kind members) (group_follows kind members) (length (flat_map part_octets m.1.parts))
-        body mid more m.1.parts (omega arith) m.1.each
+    body mid more m.1.parts (omega arith) m.1.each
     (λ d. sole_join (m.0 d) (mid d) (map (λ p. p.gives d) m.1.parts) (more d) (m.1.once d) (contents d)) in
     bind_of (stored kind at c value known) (λ k. params_of (in_group kind members) body k value) mid (Ok more) one
     (subst (λ (v : List ℕ). params_of (in_group kind members) body mid v ≡ Ok more) (sym m.1.whole) read)
@@ -194,8 +194,8 @@ opened_takes kind at body c value known more true is fits e =
     let s = stored_ok kind at c value known a.0 a.1 in
     let form : s.0 ≡ [] = (let h : Some s.0 ≡ Some [] = sym s.1 ∙ group_form kind c value is in cc) in
     let joins : JoinsAll (only c []) known a.0 =
-        subst (λ (x : Code). JoinsAll (only x []) known a.0) (group_slot c is)
-        (subst (λ (v : List ℕ). JoinsAll (only (slot_of c) v) known a.0) form s.3) in
+    subst (λ (x : Code). JoinsAll (only x []) known a.0) (group_slot c is)
+    (subst (λ (v : List ℕ). JoinsAll (only (slot_of c) v) known a.0) form s.3) in
     group_takes kind body c value known a.0 more fits joins a.2
 opened_takes kind at body c value known more false is fits e =
     let a = bind_ok (stored kind at c value known) (λ mid. Ok mid) more e in

@@ -24,7 +24,7 @@ stored_bad kind at n c value known h0 h1 h2 = grind arith
 pub stored_done : (kind : Kind) (at : ℕ) (c : Code) (value : List ℕ) (p q : Params) → is_some (slots_of p (slot_of c)) ≡ false →
     is_some (canonical_in kind c value) ≡ true
     → cells_of q ≡ filled (cells_of p) (place_of (slot_of c)) (canonical_in kind c value) →
-        stored kind at c value (slots_of p) ≡ Ok (slots_of q)
+    stored kind at c value (slots_of p) ≡ Ok (slots_of q)
 unfolding stored
 stored_done kind at c value p q h0 h1 h2 = grind (arith, slots_put)
 
@@ -70,7 +70,7 @@ params_fuel taking (suc n) (suc k) at known (code ∷ octets) hn hk =
 -- one parameter, and then the others
 pub params_next : (taking : Taking) (at code : ℕ) (m : Measured) (known : Known) (octets : List ℕ) → parameter_at at octets ≡ Ok (code, m)
     → params_of taking at known
-        octets ≡ (taking at (at + (1 + m.used)) code m.value known >>= λ x. params_of taking (at + (1 + m.used + length m.value)) x m.rest)
+    octets ≡ (taking at (at + (1 + m.used)) code m.value known >>= λ x. params_of taking (at + (1 + m.used + length m.value)) x m.rest)
 unfolding parameter_at params_at
 params_next taking at code m known [] e = absurd cc
 params_next taking at code m known (c ∷ octets) e =
@@ -82,10 +82,10 @@ params_next taking at code m known (c ∷ octets) e =
     let r = measured_rest at octets m read in
     bind_of (measured_at at octets)
     (λ k. taking at (at + (1 + k.used)) c k.value known >>= λ x. params_at taking (length octets) (at + (1 + k.used + length k.value)) x
-        k.rest) m
+    k.rest) m
     (taking at (at + (1 + m.used)) code m.value known >>= λ x. params_of taking (at + (1 + m.used + length m.value)) x m.rest) read
     (subst (λ (d : ℕ). (taking at (at + (1 + m.used)) c m.value known >>= λ x. params_at taking (length octets)
-        (at + (1 + m.used + length m.value)) x m.rest)
+    (at + (1 + m.used + length m.value)) x m.rest)
     ≡ (taking at (at + (1 + m.used)) d m.value known >>= λ x. params_of taking (at + (1 + m.used + length m.value)) x m.rest)) head
     (same_bind (taking at (at + (1 + m.used)) c m.value known)
     (λ x. params_at taking (length octets) (at + (1 + m.used + length m.value)) x m.rest)
@@ -111,13 +111,13 @@ taking_start taking at known octets = record { taken = refl; room = refl }
 pub taking_next : (taking : Taking) (at code : ℕ) (m : Measured) (known more : Known) (rest : List ℕ) (start : ℕ) (before : Known)
     (octets : List ℕ)
     → parameter_at at rest ≡ Ok (code, m) → 1 + m.used + length m.value + length m.rest ≡ length rest →
-        taking at (at + (1 + m.used)) code m.value known ≡ Ok more
+    taking at (at + (1 + m.used)) code m.value known ≡ Ok more
     → IsTaking taking at known rest start before octets →
-        IsTaking taking (at + (1 + m.used + length m.value)) more m.rest start before octets
+    IsTaking taking (at + (1 + m.used + length m.value)) more m.rest start before octets
 taking_next taking at code m known more rest start before octets read len one so_far = record {
   taken =
       sym (bind_of (taking at (at + (1 + m.used)) code m.value known) (λ x. params_of taking (at + (1 + m.used + length m.value)) x m.rest)
-          more (params_of taking (at + (1 + m.used + length m.value)) more m.rest) one refl)
+      more (params_of taking (at + (1 + m.used + length m.value)) more m.rest) one refl)
       ∙ sym (params_next taking at code m known rest read) ∙ so_far.taken;
   room = (let r = so_far.room in omega arith);
 }
@@ -125,7 +125,7 @@ taking_next taking at code m known more rest start before octets read len one so
 pub taking_fault : (taking : Taking) (at : ℕ) (known : Known) (rest : List ℕ) (start : ℕ) (before : Known) (octets : List ℕ)
     (fault : SpduFault)
     → 0 < length rest → parameter_at at rest ≡ Err fault → IsTaking taking at known rest start before octets →
-        params_of taking start before octets ≡ Err fault
+    params_of taking start before octets ≡ Err fault
 taking_fault taking at known rest start before octets fault some e so_far =
     sym so_far.taken ∙ params_fault taking at known rest fault some e
 
@@ -135,7 +135,7 @@ pub taking_refused : (taking : Taking) (at code : ℕ) (m : Measured) (known : K
     → IsTaking taking at known rest start before octets → params_of taking start before octets ≡ Err fault
 taking_refused taking at code m known rest start before octets fault read e so_far =
     sym so_far.taken ∙ params_next taking at code m known rest read ∙
-        ap (λ r. r >>= λ x. params_of taking (at + (1 + m.used + length m.value)) x m.rest) e
+    ap (λ r. r >>= λ x. params_of taking (at + (1 + m.used + length m.value)) x m.rest) e
 
 pub taking_end : (taking : Taking) (at : ℕ) (known : Known) (rest : List ℕ) (start : ℕ) (before : Known) (octets : List ℕ) → length rest ≡ 0
     → IsTaking taking at known rest start before octets → params_of taking start before octets ≡ Ok known

@@ -61,7 +61,7 @@ pub left_more : (room at : ℕ) (octets : List ℕ) (n : Next) → 1 ≤ room �
 left_more room at octets n one some e formed left =
     let units = left_at (room - 1) n.end n.rest in
     let read : behind_at room at octets ≡ Ok (n.unit ∷ units) = behind_goes room at octets n one some e ∙
-        ap (with_first n) (left_read (room - 1) n.end n.rest left.readable) in
+    ap (with_first n) (left_read (room - 1) n.end n.rest left.readable) in
     are_left room at octets (n.unit ∷ units) read (formed, left.formed)
 
 -- the first of the units that are left, and those after it
@@ -85,7 +85,7 @@ left_goes room at octets n some left e =
     let one = room_left room at octets some left.readable in
     let read = left_read room at octets left.readable in
     let o = others_ok n (behind_at (room - 1) n.end n.rest) (left_at room at octets) (sym (behind_goes room at octets n one some e) ∙ read)
-        in
+    in
     let same = left_of (room - 1) n.end n.rest o.0 o.1 in
     let formed : AllByRecursion IsFormedUnit (n.unit ∷ o.0) = subst (λ (us : Units). AllByRecursion IsFormedUnit us) o.2 left.formed in
     record {

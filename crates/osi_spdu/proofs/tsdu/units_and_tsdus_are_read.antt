@@ -70,21 +70,21 @@ unit_found second at (si ∷ octets) p fits e =
     let last = λ (kind : Kind) (m : Measured) (whole : Known).
     (let r : Placed = record { kind = kind; known = settled whole; end = at + (1 + m.used + length m.value); rest = m.rest } in r) in
     let a = bind_ok (placed_kind second at (kind_named second si))
-        (λ kind. measured_at at octets >>= λ m. params_of (in_unit kind) (at + (1 + m.used)) nothing m.value >>= λ raw. all_there at
-        (required_of kind) raw >>= λ whole. Ok (last kind m whole)) p e in
+    (λ kind. measured_at at octets >>= λ m. params_of (in_unit kind) (at + (1 + m.used)) nothing m.value >>= λ raw. all_there at
+    (required_of kind) raw >>= λ whole. Ok (last kind m whole)) p e in
     let kind = a.0 in
     let b = bind_ok (measured_at at octets)
-        (λ m. params_of (in_unit kind) (at + (1 + m.used)) nothing m.value >>= λ raw. all_there at (required_of kind) raw >>= λ whole. Ok
-        (last kind m whole)) p a.2 in
+    (λ m. params_of (in_unit kind) (at + (1 + m.used)) nothing m.value >>= λ raw. all_there at (required_of kind) raw >>= λ whole. Ok
+    (last kind m whole)) p a.2 in
     let m = b.0 in
     let c = bind_ok (params_of (in_unit kind) (at + (1 + m.used)) nothing m.value)
-        (λ raw. all_there at (required_of kind) raw >>= λ whole. Ok (last kind m whole)) p b.2 in
+    (λ raw. all_there at (required_of kind) raw >>= λ whole. Ok (last kind m whole)) p b.2 in
     let raw = c.0 in
     let d = bind_ok (all_there at (required_of kind) raw) (λ whole. Ok (last kind m whole)) p c.2 in
     let named = placed_ok second at (kind_named second si) kind a.1 in
     let is = measured_ok at octets m (octets-tail si octets fits) b.1 in
     let r = params_found (in_unit kind) (MeansInUnit kind) (unit_follows kind) (length m.value) (at + (1 + m.used)) nothing raw m.value
-        (omega arith) is.value_octets c.1 in
+    (omega arith) is.value_octets c.1 in
     let there = there_ok at (required_of kind) raw d.0 d.1 in
     let params : Spells (MeansInUnit kind) raw m.value = record { parts = r.parts; whole = r.whole; each = r.each; once = r.once } in
     let front : List ℕ = item_octets (si_of kind) is.long m.value in
@@ -124,22 +124,22 @@ unit_only second at unit front rest s stands =
     let read : params_of (in_unit kind) (at + (1 + used)) nothing s.body ≡ Ok s.raw =
     subst (λ (b : List ℕ). params_of (in_unit kind) (at + (1 + used)) nothing b ≡ Ok s.raw) (sym s.params.whole)
     (params_only (in_unit kind) (MeansInUnit kind) (unit_follows kind) (length (flat_map part_octets s.params.parts)) (at + (1 + used))
-        nothing s.raw s.params.parts (omega arith) s.params.each s.params.once) in
+    nothing s.raw s.params.parts (omega arith) s.params.each s.params.once) in
     let tail = length_octets s.long (length s.body) ++ s.body ++ rest in
     let finish : Ok (last made s.raw) ≡ Ok want =
-        ap (λ (k : Known). Ok (let r : Placed = record { kind = kind; known = k; end = end; rest = rest } in r)) (sym s.value) in
+    ap (λ (k : Known). Ok (let r : Placed = record { kind = kind; known = k; end = end; rest = rest } in r)) (sym s.value) in
     let whole : unit_at second at (item_octets (si_of kind) s.long s.body ++ rest) ≡ Ok want =
     bind_of (placed_kind second at (kind_named second (si_of kind)))
     (λ k. measured_at at tail >>= λ m. params_of (in_unit k) (at + (1 + m.used)) nothing m.value >>= λ raw. all_there at (required_of k) raw
-        >>= λ w. Ok (let r : Placed = record { kind = k; known = settled w; end = at + (1 + m.used + length m.value); rest = m.rest } in r))
-        kind (Ok want) named
+    >>= λ w. Ok (let r : Placed = record { kind = k; known = settled w; end = at + (1 + m.used + length m.value); rest = m.rest } in r))
+    kind (Ok want) named
     (bind_of (measured_at at tail)
     (λ m. params_of (in_unit kind) (at + (1 + m.used)) nothing m.value >>= λ raw. all_there at (required_of kind) raw >>= λ w. Ok
-        (last m w)) made (Ok want) (measured_again at s.long s.body rest s.counted)
+    (last m w)) made (Ok want) (measured_again at s.long s.body rest s.counted)
     (bind_of (params_of (in_unit kind) (at + (1 + used)) nothing s.body)
     (λ raw. all_there at (required_of kind) raw >>= λ w. Ok (last made w)) s.raw (Ok want) read
     (bind_of (all_there at (required_of kind) s.raw) (λ w. Ok (last made w)) s.raw (Ok want)
-        (there_back at (required_of kind) s.raw s.required) finish))) in
+    (there_back at (required_of kind) s.raw s.required) finish))) in
     (end, subst (λ (f : List ℕ). unit_at second at (f ++ rest) ≡ Ok want) (sym s.whole) whole)
 
 -- ---- a unit after another
@@ -208,19 +208,28 @@ next_found at octets n h0 h1 = grind (arith, bind_ok, ok_is, next_is, unit_found
 next_if_only : (unit : Contents) (end : ℕ) (rest : List ℕ) (b : Bool) → takes_rest unit.kind ≡ b →
     HasInformation unit.kind unit.information → (takes_rest unit.kind ≡ true → rest ≡ [])
     → (end' : ℕ) ×
-        (next_if b (let p : Placed = record { kind = unit.kind; known = unit.known; end = end; rest = unit.information ++ rest } in p) ≡
-        (let n : Next = record { unit = unit; end = end'; rest = rest } in n))
+    (next_if b (let p : Placed = record { kind = unit.kind; known = unit.known; end = end; rest = unit.information ++ rest } in p) ≡
+    (let n : Next = record { unit = unit; end = end'; rest = rest } in n))
 next_if_only unit end rest true e h ends =
     let none = ends e in
-    let all : unit.information ++ rest ≡ unit.information = ap (λ (t : List ℕ). unit.information ++ t) none ∙ append-nil unit.information in
-    (end + length (unit.information ++ rest),
-        λ i. (let n : Next = record { unit = (let c : Contents = record { kind = unit.kind; known = unit.known; information = all i } in c);
-        end = end + length (unit.information ++ rest); rest = sym none i } in n))
+    let all : unit.information ++ rest ≡ unit.information = ap (λ t. unit.information ++ t) none ∙ append-nil unit.information in (
+      end + length (unit.information ++ rest),
+      λ i. (let n : Next = record {
+        unit = (let c : Contents = record { kind = unit.kind; known = unit.known; information = all i } in c);
+        end = end + length (unit.information ++ rest);
+        rest = sym none i;
+      } in n),
+    )
 next_if_only unit end rest false e h ends =
-    let none = informed_plain unit.kind unit.information e h in
-    (end, λ i. (let
-        n : Next = record { unit = (let c : Contents = record { kind = unit.kind; known = unit.known; information = sym none i } in c);
-        end = end; rest = ap (λ (t : List ℕ). t ++ rest) none i } in n))
+    let none = informed_plain unit.kind unit.information e h in (
+      end,
+      λ i. (let
+          n : Next = record {
+            unit = (let c : Contents = record { kind = unit.kind; known = unit.known; information = sym none i } in c);
+            end = end;
+            rest = ap (λ (t : List ℕ). t ++ rest) none i;
+          } in n),
+    )
 
 next_only : (at : ℕ) (unit : Contents) (front rest : List ℕ) → SpellsUnit unit front → HasInformation unit.kind unit.information →
     category_of unit.kind ≡ Two
@@ -230,9 +239,11 @@ unfolding next_at
 next_only at unit front rest s h two ends =
     let u = unit_only true at unit front (unit.information ++ rest) s (two_second (category_of unit.kind) two) in
     let made : Placed = record { kind = unit.kind; known = unit.known; end = u.0; rest = unit.information ++ rest } in
-    let n = next_if_only unit u.0 rest (takes_rest unit.kind) refl h ends in
-    (n.0, bind_of (unit_at true at (front ++ (unit.information ++ rest))) (λ p. Ok (next_if (takes_rest p.kind) p)) made _ u.1
-        (ap (λ (x : Next). Ok x) n.1))
+    let n = next_if_only unit u.0 rest (takes_rest unit.kind) refl h ends in (
+      n.0,
+      bind_of (unit_at true at (front ++ (unit.information ++ rest))) (λ p. Ok (next_if (takes_rest p.kind) p)) made _ u.1
+          (ap (λ (x : Next). Ok x) n.1),
+    )
 
 -- ---- the units after the first
 
@@ -247,8 +258,14 @@ behind_found (suc room) at (si ∷ octets) units fits e =
     let b = bind_ok (behind_at room n.end n.rest) (λ others. Ok (n.unit ∷ others)) units a.2 in
     let is = next_found at (si ∷ octets) n fits a.1 in
     let r = behind_found room n.end n.rest b.0 is.rest_octets b.1 in
-    subst (λ (us : Units). AreUnits us (si ∷ octets)) (ok_is (n.unit ∷ b.0) units b.2) (is.front, n.rest, is.parts, is.spelled, is.informed,
-        r)
+    subst (λ (us : Units). AreUnits us (si ∷ octets)) (ok_is (n.unit ∷ b.0) units b.2) (
+      is.front,
+      n.rest,
+      is.parts,
+      is.spelled,
+      is.informed,
+      r,
+    )
 
 -- which units may occur there, whatever the octets are
 stands_ok : (second : Bool) (at : ℕ) (octets : List ℕ) (p : Placed) → unit_at second at octets ≡ Ok p →
@@ -259,18 +276,18 @@ stands_ok second at (si ∷ octets) p e =
     let last = λ (kind : Kind) (m : Measured) (whole : Known).
     (let r : Placed = record { kind = kind; known = settled whole; end = at + (1 + m.used + length m.value); rest = m.rest } in r) in
     let a = bind_ok (placed_kind second at (kind_named second si))
-        (λ kind. measured_at at octets >>= λ m. params_of (in_unit kind) (at + (1 + m.used)) nothing m.value >>= λ raw. all_there at
-        (required_of kind) raw >>= λ whole. Ok (last kind m whole)) p e in
+    (λ kind. measured_at at octets >>= λ m. params_of (in_unit kind) (at + (1 + m.used)) nothing m.value >>= λ raw. all_there at
+    (required_of kind) raw >>= λ whole. Ok (last kind m whole)) p e in
     let kind = a.0 in
     let b = bind_ok (measured_at at octets)
-        (λ m. params_of (in_unit kind) (at + (1 + m.used)) nothing m.value >>= λ raw. all_there at (required_of kind) raw >>= λ whole. Ok
-        (last kind m whole)) p a.2 in
+    (λ m. params_of (in_unit kind) (at + (1 + m.used)) nothing m.value >>= λ raw. all_there at (required_of kind) raw >>= λ whole. Ok
+    (last kind m whole)) p a.2 in
     let m = b.0 in
     let c = bind_ok (params_of (in_unit kind) (at + (1 + m.used)) nothing m.value)
-        (λ raw. all_there at (required_of kind) raw >>= λ whole. Ok (last kind m whole)) p b.2 in
+    (λ raw. all_there at (required_of kind) raw >>= λ whole. Ok (last kind m whole)) p b.2 in
     let d = bind_ok (all_there at (required_of kind) c.0) (λ whole. Ok (last kind m whole)) p c.2 in
     subst (λ (x : Placed). may_stand second (category_of x.kind) ≡ true) (ok_is (last kind m d.0) p d.2)
-        ((placed_ok second at (kind_named second si) kind a.1).1)
+    ((placed_ok second at (kind_named second si) kind a.1).1)
 
 -- a unit of category 2; nothing follows it if it is a DT
 record IsSecond (n : Next) : Type 0 where
@@ -305,11 +322,11 @@ behind_stands (suc room) at (si ∷ octets) units e =
 -- a unit is never empty, so octets with a unit begin with an octet
 pub behind_cons : (room at : ℕ) (front tail : List ℕ) (unit : Contents) → SpellsUnit unit front
     → behind_at (suc room) at
-        (front ++ tail) ≡ (next_at at (front ++ tail) >>= λ n. behind_at room n.end n.rest >>= λ others. Ok (n.unit ∷ others))
+    (front ++ tail) ≡ (next_at at (front ++ tail) >>= λ n. behind_at room n.end n.rest >>= λ others. Ok (n.unit ∷ others))
 unfolding behind_at
 behind_cons room at front tail unit s =
     subst (λ (f : List ℕ). behind_at (suc room) at
-        (f ++ tail) ≡ (next_at at (f ++ tail) >>= λ n. behind_at room n.end n.rest >>= λ others. Ok (n.unit ∷ others))) (sym s.whole) refl
+    (f ++ tail) ≡ (next_at at (f ++ tail) >>= λ n. behind_at room n.end n.rest >>= λ others. Ok (n.unit ∷ others))) (sym s.whole) refl
 
 none_spelled : (units : Units) (octets : List ℕ) → units ≡ [] → AreUnits units octets → octets ≡ []
 none_spelled [] octets e s = s
@@ -330,7 +347,7 @@ behind_only (suc room) at (unit ∷ units) octets s are few =
     let one = behind_cons room at front (unit.information ++ rest) unit s.3 in
     ap (behind_at (suc room) at) s.2 ∙ one
     ∙ bind_of (next_at at (front ++ (unit.information ++ rest))) (λ x. behind_at room x.end x.rest >>= λ us. Ok (x.unit ∷ us)) made
-        (Ok (unit ∷ units)) n.1
+    (Ok (unit ∷ units)) n.1
     (bind_of (behind_at room n.0 rest) (λ us. Ok (unit ∷ us)) units (Ok (unit ∷ units)) others refl)
 
 -- ---- a TSDU
@@ -393,10 +410,10 @@ tsdu_read (first ∷ behind) octets together u =
     let one = unit_only false 0 first u.0 u.1 u.3 stands in
     let p : Placed = record { kind = first.kind; known = first.known; end = one.0; rest = u.1 } in
     let same : contents_of p [] ≡ first =
-        λ i. (let c : Contents = record { kind = first.kind; known = first.known; information = sym empty i } in c) in
+    λ i. (let c : Contents = record { kind = first.kind; known = first.known; information = sym empty i } in c) in
     let read : tsdu_at (u.0 ++ u.1) ≡ Ok (contents_of p [] ∷ behind) =
     bind_of (unit_at false 0 (u.0 ++ u.1)) (λ unit. continued (category_of unit.kind) unit) p (Ok (contents_of p [] ∷ behind)) one.1
-        (continued_only (category_of first.kind) p behind together.0 together.1 u.5) in
+    (continued_only (category_of first.kind) p behind together.0 together.1 u.5) in
     ap tsdu_at whole ∙ read ∙ ap (λ (c : Contents). Ok (c ∷ behind)) same
 
 pub tsdu_only : (units : Units) (octets : List ℕ) → SpellsTsdu units octets → tsdu_at octets ≡ Ok units

@@ -43,9 +43,9 @@ gone_phase r s e settled lasts none kept =
     let p = s.state.phase in
     over_phase p
     (unneeded (needs_link p) (is_open r e.carrier) (λ needs. (settled.sound lasts).links lasts r s kept needs)
-        (ap is_some (no_link r e.carrier none)))
+    (ap is_some (no_link r e.carrier none)))
     (unneeded (is_wait_transport p) (is_some (value_at r e.carrier.live)) (λ waits. ap is_some (settled.asks lasts r s kept waits))
-        (ap is_some none))
+    (ap is_some none))
 
 gone_by : (r : ℕ) (call : Call) (e : End) (o : Option Listener) (over : Option EndReason) → IsSettled e → value_at r e.carrier.live ≡ None →
     kept_at r e.lines ≡ o → e.carrier.ended ≡ over →
@@ -70,7 +70,7 @@ alike_by r call e None at settled =
     }
 alike_by r call e (Some connection) at settled =
     let same : session_at r e ≡ session_in (value_at r e.lines) =
-        ap (λ (x : Option Connection). if is_some x then session_in (value_at r e.lines) else None) at in
+    ap (λ (x : Option Connection). if is_some x then session_in (value_at r e.lines) else None) at in
     record {
       refusal = sym (ap (λ (x : Option Listener). session_refusal r x call e.carrier) same);
       error = sym (ap (λ (x : Option Listener). session_error x call) same);
@@ -97,14 +97,14 @@ pub answered_there : {A : Type 0} (result : Result A CallError) (r : ℕ) (call 
     IsSettled e → call_error r call e ≡ table_error r call e →
     (IsSome e.carrier.ended → IsSome (call_error r call e)) → OnOk result (session_refusal r (kept_at r e.lines) call e.carrier ≡ None) →
     IfErr result (λ f. Refuses f (session_error (kept_at r e.lines) call) (session_refusal r (kept_at r e.lines) call e.carrier)) →
-        IsAnswered result r call e
+    IsAnswered result r call e
 answered_there result r call e given settled law over ok err =
     let alike = alike_by r call e (value_at r e.carrier.live) refl settled in
     let unless : Option CallError → Bool → Option CallError = λ o b. if not b then Some error.NoSuchConnection else o in
     let all : session_refusal r (kept_at r e.lines) call e.carrier ≡ call_error r call e =
-        alike.refusal ∙ ap (unless (session_refusal r (session_at r e) call e.carrier)) (sym given) in
+    alike.refusal ∙ ap (unless (session_refusal r (session_at r e) call e.carrier)) (sym given) in
     let first : session_error (kept_at r e.lines) call ≡ table_error r call e =
-        alike.error ∙ ap (unless (session_error (session_at r e) call)) (sym given) in
+    alike.error ∙ ap (unless (session_error (session_at r e) call)) (sym given) in
     let allowed = subst (λ (o : Option CallError). OnOk result (o ≡ None)) all ok in
     let refused = subst (λ (o : Option CallError). IfErr result (λ f. Refuses f o (call_error r call e))) first
     (subst (λ (o : Option CallError). IfErr result (λ f. Refuses f (session_error (kept_at r e.lines) call) o)) all err) in

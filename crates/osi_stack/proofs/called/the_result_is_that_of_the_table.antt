@@ -37,7 +37,7 @@ open_by (Some link) tsdus h short = ap send_refusal (lengths_fit tsdus short)
 answer_by : Below → (r : ℕ) (call : Call) (e : End) (s : Listener) (a : Answer) → allowed s.state call ≡ a → HasSerial call →
     e.carrier.ended ≡ None → Soundness e →
     kept_at r e.lines ≡ Some s → CameAbout s →
-        move_refusal r (limit_of s.state) (react s (called call)) e.carrier ≡ (react s (called call)).error
+    move_refusal r (limit_of s.state) (react s (called call)) e.carrier ≡ (react s (called call)).error
 unfolding react
 answer_by law r call e s (Err err) allows serial lasts sound here came =
     let is : react s (called call) ≡ answered s (Err err) = ap (answered s) allows in
@@ -45,14 +45,14 @@ answer_by law r call e s (Err err) allows serial lasts sound here came =
 answer_by law r call e s (Ok x) allows serial lasts sound here came =
     let is : react s (called call) ≡ answered s (Ok x) = ap (answered s) allows in
     let state = (subst (λ (x : Listener). IsSoundState x.state) came.is
-        (law.kept came.first came.inputs came.numbered (sound_first law s came))) in
+    (law.kept came.first came.inputs came.numbered (sound_first law s came))) in
     let short = tsdus_short law.spdu s.state call x state allows (law.passed s.state call x allows)
-        (law.sendable s.state call x state serial allows) in
+    (law.sendable s.state call x state serial allows) in
     let needs : needs_link s.state.phase ≡ true =
-        or_right (is_wait_cn s.state.phase) (may_abort s.state.phase) (law.phase s.state call x allows) in
+    or_right (is_wait_cn s.state.phase) (may_abort s.state.phase) (law.phase s.state call x allows) in
     let opened = sound.links lasts r s here needs in
     ap (λ (m : Move). move_refusal r (limit_of s.state) m e.carrier) is ∙
-        open_by (open_link r e.carrier) (tsdus_of (limit_of s.state) x.sent) opened short ∙ sym (ap (λ (m : Move). m.error) is)
+    open_by (open_link r e.carrier) (tsdus_of (limit_of s.state) x.sent) opened short ∙ sym (ap (λ (m : Move). m.error) is)
 
 answered_at : Below → (r : ℕ) (call : Call) (e : End) (o : Option Listener) → session_at r e ≡ o → HasSerial call → e.carrier.ended ≡ None →
     Soundness e → AllCameAbout e.lines →
@@ -62,7 +62,7 @@ answered_at law r call e (Some s) at serial lasts sound all =
     let there = line_of (is_some (value_at r e.carrier.live)) (value_at r e.lines) s at in
     let kept : kept_at r e.lines ≡ Some s = ap session_in there.1 ∙ there.2 in
     let came : CameAbout s = subst (λ (o : Option Listener). IfSome o CameAbout) there.2 (at_line CameAbout r there.0 e.lines all there.1)
-        in
+    in
     answer_by law r call e s (allowed s.state call) refl serial lasts sound kept came
 
 pub answered_is : Below → (r : ℕ) (call : Call) (e : End) → HasSerial call → e.carrier.ended ≡ None → Soundness e → AllCameAbout e.lines →

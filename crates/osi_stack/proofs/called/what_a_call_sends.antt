@@ -46,7 +46,7 @@ pub call_handed : {A E : Type 0} (result : Result A E) (s : Listener) (call : Ca
     (c d : Carrying) → (react s (called call)).error ≡ None →
     sent ≡ tsdus_sent limit (react s (called call)).reply → tsdus ≡ sent →
     OnOk result (d ≡ record c { state = hands r tsdus c.state }) →
-        OnOk result (d ≡ record c { state = answers r limit (react s (called call)) c.state })
+    OnOk result (d ≡ record c { state = answers r limit (react s (called call)) c.state })
 call_handed (Err f) s call sent tsdus r limit c d none e same h = tt
 call_handed (Ok a) s call sent tsdus r limit c d none e same h =
     h ∙ ap (λ (l : List (List ℕ)). record c { state = hands r l c.state }) same
@@ -54,7 +54,7 @@ call_handed (Ok a) s call sent tsdus r limit c d none e same h =
 
 refusal_is : (s : Listener) (call : Call) (sent tsdus : List (List ℕ)) (r limit : ℕ) (c : Carrier) → (react s (called call)).error ≡ None →
     sent ≡ tsdus_sent limit (react s (called call)).reply → tsdus ≡ sent →
-        send_refusal (send_all_error tsdus (open_link r c)) ≡ move_refusal r limit (react s (called call)) c
+    send_refusal (send_all_error tsdus (open_link r c)) ≡ move_refusal r limit (react s (called call)) c
 refusal_is s call sent tsdus r limit c none e same =
     ap (λ (l : List (List ℕ)). send_refusal (send_all_error l (open_link r c))) same ∙ sym (call_sends s call sent r limit c none e).refusal
 
@@ -62,7 +62,7 @@ pub call_allowed : {A E : Type 0} (result : Result A E) (s : Listener) (call : C
     (c : Carrier) → (react s (called call)).error ≡ None →
     sent ≡ tsdus_sent limit (react s (called call)).reply → tsdus ≡ sent →
     OnOk result (send_refusal (send_all_error tsdus (open_link r c)) ≡ None) →
-        OnOk result (move_refusal r limit (react s (called call)) c ≡ None)
+    OnOk result (move_refusal r limit (react s (called call)) c ≡ None)
 call_allowed result s call sent tsdus r limit c none e same h =
     subst (λ (o : Option CallError). OnOk result (o ≡ None)) (refusal_is s call sent tsdus r limit c none e same) h
 
@@ -84,11 +84,11 @@ call_refused (Err f) s call sent tsdus r limit c none e same h =
 pub called_line : {A E : Type 0} (result : Result A E) (r : ℕ) (l : Line) (v : ℕ × Line) (s t : Listener) (call : Call) → (r, l) ≡ v →
     l.session ≡ Some s →
     OnOk result (t ≡ (react s (called call)).next) →
-        OnOk result (◌≡◌ {A = ℕ × Line} (r, record l { session = Some t }) (v.0, line_by v.1 v.1.session (called call)))
+    OnOk result (◌≡◌ {A = ℕ × Line} (r, record l { session = Some t }) (v.0, line_by v.1 v.1.session (called call)))
 called_line result r l v s t call is here h = grind (arith, react, called, line_by, append-nil, call_is)
 
 pub called_carrier : {A E : Type 0} (result : Result A E) (r : ℕ) (l : Line) (v : ℕ × Line) (s : Listener) (c d : Carrying) (call : Call) →
     (r, l) ≡ v → l.session ≡ Some s →
     OnOk result (d ≡ record c { state = answers r (limit_of s.state) (react s (called call)) c.state }) →
-        OnOk result (d ≡ record c { state = carrier_by v.0 v.1.session (called call) c.state })
+    OnOk result (d ≡ record c { state = carrier_by v.0 v.1.session (called call) c.state })
 called_carrier result r l v s c d call is here h = grind arith

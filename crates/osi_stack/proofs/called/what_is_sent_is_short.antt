@@ -31,7 +31,7 @@ spelled_short : (m : Meaning) (b : Bool) → is_second m ≡ b → TsduFits (spe
 unfolding spelled
 spelled_short m true e fits none =
     let is : spelled m ≡ behind_tokens (unit_of m) =
-        ap (λ (b : Bool). if◌then◌else◌ {A = Units} b (behind_tokens (unit_of m)) (alone_units (unit_of m))) e in
+    ap (λ (b : Bool). if◌then◌else◌ {A = Units} b (behind_tokens (unit_of m)) (alone_units (unit_of m))) e in
     let all : TsduFits (behind_tokens (unit_of m)) = subst TsduFits is fits in
     let few = two_short (unit_with GiveTokens nothing) (unit_of m) all.0 all.1.0 refl in
     let no = ap length none in
@@ -39,7 +39,7 @@ spelled_short m true e fits none =
     omega arith
 spelled_short m false e fits none =
     let is : spelled m ≡ alone_units (unit_of m) =
-        ap (λ (b : Bool). if◌then◌else◌ {A = Units} b (behind_tokens (unit_of m)) (alone_units (unit_of m))) e in
+    ap (λ (b : Bool). if◌then◌else◌ {A = Units} b (behind_tokens (unit_of m)) (alone_units (unit_of m))) e in
     let all : TsduFits (alone_units (unit_of m)) = subst TsduFits is fits in
     let few = one_short (unit_of m) all.0 in
     let no = ap length none in

@@ -54,7 +54,7 @@ out_full e new out full =
 out_lasting : (e new : End) → RunsOut e new → (attends e).carrier.ended ≡ None → new.carrier.ended ≡ Some NoMemory
 out_lasting e new out lasts =
     let heard = times_within out.heard e.carrier.events e refl (ap (λ (c : Carrier). c.ended) (sym (concluded_carrier (hears_all e))) ∙
-        lasts) in
+    lasts) in
     ap (λ (x : End). x.carrier.ended) out.starved ∙ starves_lasting (with_events out.more (hears_times out.heard e)) heard
 
 out_by : (e new : End) (packet : List ℕ) (c : Carrier) →
@@ -63,7 +63,7 @@ out_by : (e new : End) (packet : List ℕ) (c : Carrier) →
 out_by e new packet c (inl is) out lasts =
     out_lasting (with_carrier c e) new out
     (ap (λ (x : Carrier). (attends (with_carrier x e)).carrier.ended) is ∙ ap (λ (x : End). x.carrier.ended) (sym (packet_is e packet)) ∙
-        lasts)
+    lasts)
 out_by e new packet c (inr starved) out lasts = out_full (with_carrier c e) new out (ap (λ (x : Carrier). x.ended) starved.2.ended)
 
 -- if the packet does not end it, an allocation failure does
@@ -80,4 +80,4 @@ pub packet_over : (e : End) (packet : List ℕ) → is_some (carriers.after_pack
     is_some (after_packet e packet).carrier.ended ≡ true
 packet_over e packet over =
     ap (λ (x : End). is_some x.carrier.ended) (packet_is e packet) ∙
-        ap is_some (attends_over (with_carrier (carriers.after_packet e.carrier packet) e) over) ∙ over
+    ap is_some (attends_over (with_carrier (carriers.after_packet e.carrier packet) e) over) ∙ over

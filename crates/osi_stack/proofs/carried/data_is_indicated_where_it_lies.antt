@@ -29,7 +29,7 @@ pub straight_carrier : (r : ℕ) (session : Option Listener) (s : Listener) (inp
     carrier_by r session input c ≡ c
 straight_carrier r session s input shown c here h =
     ap (λ (o : Option Listener). carrier_by r o input c) here ∙ ap (λ (m : Move). answers r (limit_for s input) m c) h.shows ∙
-        hands_none r c
+    hands_none r c
 
 pub straight_needs : (r : ℕ) (session : Option Listener) (s : Listener) (input : Input) (shown : Shown) (c : Carrier) → session ≡ Some s →
     ShowsData s input shown →
@@ -43,7 +43,7 @@ straight_needs r session s input shown c here h =
 pub heard_line : {A E : Type 0} (result : Result A E) (row new : ℕ × Line) (s : Listener) (input : Input) (shown : Shown) →
     row.1.session ≡ Some s → ShowsData s input shown →
     OnOk result (new ≡ (row.0, record row.1 { waiting = row.1.waiting ++ shown ∷ [] })) →
-        OnOk result (new ≡ (row.0, line_by row.1 row.1.session input))
+    OnOk result (new ≡ (row.0, line_by row.1 row.1.session input))
 heard_line (Ok a) row new s input shown here h e = e ∙ ap (λ (l : Line). (row.0, l)) (sym (straight_line row.1 s input shown here h))
 heard_line (Err f) row new s input shown here h e = tt
 

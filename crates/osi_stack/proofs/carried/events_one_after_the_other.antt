@@ -68,9 +68,11 @@ pub heard_left : (old now : Holding) (event : Happening) (mid : Carrier) (new : 
     needs_memory event (with_carrier mid now.end) ≡ true → Interrupted (with_carrier mid now.end) new → LeftOff old.end new
 heard_left old now event mid new so_far h needed stopped =
     let t = taken_is now.end event mid h in
-    search (ap (λ (e : End). e.carrier.events) (sym so_far.is) ∙ t.first,
-        subst (λ (e : End). needs_memory event e ≡ true) (sym t.rest ∙ ap (with_events mid.events) so_far.is) needed,
-        subst (λ (e : End). Interrupted e new) (sym t.rest ∙ ap (with_events mid.events) so_far.is) stopped)
+    search (
+      ap (λ (e : End). e.carrier.events) (sym so_far.is) ∙ t.first,
+      subst (λ (e : End). needs_memory event e ≡ true) (sym t.rest ∙ ap (with_events mid.events) so_far.is) needed,
+      subst (λ (e : End). Interrupted e new) (sym t.rest ∙ ap (with_events mid.events) so_far.is) stopped,
+    )
 
 -- ---- an allocation failure
 
@@ -136,9 +138,9 @@ concluded_lines false e lines is h = ap (λ (l : Rows Line). record e { lines = 
 pub fetched : (old : Holding) (octets : List ℕ) (fed : Fed) (told : Carrying) (heard : Holding) (carrier : Carrying) (lines : Rows Line)
     (b : Bool) →
     carriers.Feeds (carrying_of old) octets fed told → HasHeard (holding told old.end.lines) heard →
-        Tells None heard.end.carrier carrier.state → carrier.held ≡ heard.held →
+    Tells None heard.end.carrier carrier.state → carrier.held ≡ heard.held →
     is_some carrier.state.ended ≡ b → lines ≡ (if b then all_lost heard.end.lines else heard.end.lines) →
-        Fetches old octets fed.used (holding carrier lines)
+    Fetches old octets fed.used (holding carrier lines)
 fetched old octets fed told heard carrier lines b feeds so_far none held over left =
     let is : (holding carrier lines).end ≡ concludes heard.end =
     ap (λ (c : Carrier). record { carrier = c; lines = lines }) none.1
@@ -156,7 +158,7 @@ fetched old octets fed told heard carrier lines b feeds so_far none held over le
 pub fetched_not : (old : Holding) (octets : List ℕ) (fed : Fed) (told : Carrying) (heard new : Holding) →
     carriers.Feeds (carrying_of old) octets fed told →
     LeftOff (with_carrier told.state old.end) heard.end → heard.held ≡ told.held → new ≡ record heard { end = starves heard.end } →
-        Fetches old octets (length octets) new
+    Fetches old octets (length octets) new
 fetched_not old octets fed told heard new feeds left held is = record {
   fed = fed;
   told = told;

@@ -39,7 +39,7 @@ answers_last : (closes : Bool) (r : ℕ) (tsdus : List (List ℕ)) (c : Carrier)
 answers_last true r tsdus c still = cc
 answers_last false r tsdus c still =
     unless_sent (λ x. x.ended ≡ c.ended) (λ q tsdu x same. sent_lasts_by q tsdu (open_link q x) x ∙ same)
-        (send_all_error tsdus (open_link r c)) r tsdus c refl
+    (send_all_error tsdus (open_link r c)) r tsdus c refl
 
 carrier_lasts : ((s : Listener) (call : Call) → (react s (called call)).closes ≡ false) →
     (r : ℕ) (o : Option Listener) (call : Call) (c : Carrier) →

@@ -240,16 +240,16 @@ AllLinked events e = (r : ℕ) → IsLinked r (kept_at r e.lines) events e.carri
 moved_linked : SessionLaws → (q : ℕ) (input : Input) (event : Happening) (rest : List Happening) (e d : End) → told_of event ≡ q →
     HasMoved q input e d → d.carrier.ended ≡ None →
     ((s : Listener) → kept_at q e.lines ≡ Some s → needs_link (react s input).next.state.phase ≡ true → open_after q true rest ≡ true →
-        is_open q e.carrier ≡ true) →
+    is_open q e.carrier ≡ true) →
     AllLinked (event ∷ rest) e → (r : ℕ) (b : Bool) → (r == q) ≡ b → IsLinked r (kept_at r d.lines) rest d.carrier
 moved_linked laws q input event rest e d of m over needs l r true at =
     let same = eqb-true r q at in
     let before : IsLinked q (Some m.session) (event ∷ rest) e.carrier =
-        subst (λ (o : Option Listener). IsLinked q o (event ∷ rest) e.carrier) m.was (l q) in
+    subst (λ (o : Option Listener). IsLinked q o (event ∷ rest) e.carrier) m.was (l q) in
     let after = here_linked laws q m.session input event rest e.carrier d.carrier (react m.session input).closes refl m.answered over
-        (needs m.session m.was) before in
+    (needs m.session m.was) before in
     subst (λ (n : ℕ). IsLinked n (kept_at n d.lines) rest d.carrier) (sym same)
-        (subst (λ (o : Option Listener). IsLinked q o rest d.carrier) (sym m.is) after)
+    (subst (λ (o : Option Listener). IsLinked q o rest d.carrier) (sym m.is) after)
 moved_linked laws q input event rest e d of m over needs l r false at =
     let ne : r ≢ q = (λ same. both (r == q) (eq-eqb r q same) at) in
     let other : r ≢ told_of event = (λ same. ne (same ∙ of)) in
@@ -264,7 +264,7 @@ rested_linked q event rest e of none l r b at = search (arith, eqb-true, none_li
 pub session_linked : SessionLaws → (q : ℕ) (input : Input) (event : Happening) (rest : List Happening) (e d : End) → told_of event ≡ q →
     Hearing q input e d → d.carrier.ended ≡ None →
     ((s : Listener) → kept_at q e.lines ≡ Some s → needs_link (react s input).next.state.phase ≡ true → open_after q true rest ≡ true →
-        is_open q e.carrier ≡ true) →
+    is_open q e.carrier ≡ true) →
     AllLinked (event ∷ rest) e → AllLinked rest d
 session_linked laws q input event rest e d of (inl m) over needs l =
     λ r. moved_linked laws q input event rest e d of m over needs l r (r == q) refl
@@ -355,12 +355,12 @@ joined_by q rest e none l r true at (inl same) =
 joined_by q rest e none l r true at (inr gone) =
     let before : kept_at r e.lines ≡ None = ap (λ n. kept_at n e.lines) (eqb-true r q at) ∙ ap session_in none in
     subst (λ (o : Option Listener). IsLinked r o rest e.carrier) (before ∙ sym (ap session_in gone.0))
-        (none_linked (told.opened q) rest r (kept_at r e.lines) e.carrier before (l r))
+    (none_linked (told.opened q) rest r (kept_at r e.lines) e.carrier before (l r))
 joined_by q rest e none l r false at (inl same) =
     let ne : r ≢ q = (λ is. both (r == q) (eq-eqb r q is) at) in
     let kept : kept_at r e.lines ≡ kept_at r (joins q awaits e).lines = ap session_in (sym (push_other r q _ e.lines ne) ∙ sym same) in
     subst (λ (o : Option Listener). IsLinked r o rest e.carrier) kept
-        (other_linked (told.opened q) rest r (kept_at r e.lines) e.carrier e.carrier ne refl (λ x. x) (l r))
+    (other_linked (told.opened q) rest r (kept_at r e.lines) e.carrier e.carrier ne refl (λ x. x) (l r))
 joined_by q rest e none l r false at (inr gone) =
     let ne : r ≢ q = (λ is. both (r == q) (eq-eqb r q is) at) in
     subst (λ (o : Option Listener). IsLinked r o rest e.carrier) (sym (ap session_in gone.0)) (record {
@@ -375,7 +375,7 @@ joined_linked : (q : ℕ) (rest : List Happening) (e : End) → AreApart e.lines
     AllLinked (told.opened q ∷ rest) e → AllLinked rest (joins q awaits e)
 joined_linked q rest e apart none l =
     λ r. joined_by q rest e none l r (r == q) refl
-        (used_at r e.carrier.live (joined_lines q awaits e.lines) (apart_push q _ e.lines none apart))
+    (used_at r e.carrier.live (joined_lines q awaits e.lines) (apart_push q _ e.lines none apart))
 
 -- ---- one event
 
@@ -391,7 +391,7 @@ broken_needs_none s = refl
 opened_needs : SessionLaws → (q : ℕ) (rest : List Happening) (e : End) (s : Listener) (b : Bool) → needs_link s.state.phase ≡ b →
     kept_at q e.lines ≡ Some s →
     IsLinked q (kept_at q e.lines) (told.opened q ∷ rest) e.carrier → needs_link (react s opened).next.state.phase ≡ true →
-        open_after q true rest ≡ true → is_open q e.carrier ≡ true
+    open_after q true rest ≡ true → is_open q e.carrier ≡ true
 opened_needs laws q rest e s b needs is l n h = search (arith, mono, eq-eqb, both, is_ended)
 
 opened_linked : SessionLaws → (q : ℕ) (rest : List Happening) (e : End) (o : Option Line) → value_at q e.lines ≡ o → AreApart e.lines →
@@ -462,9 +462,9 @@ times_linked laws (event ∷ rest) e h apart over l =
     let here = with_events rest e in
     let is = first_is event rest e h in
     let lasts : (hears event here).carrier.ended ≡ None = ap (λ (x : End). x.carrier.ended) (sym is) ∙
-        times_last (length rest) (hears_next e) over in
+    times_last (length rest) (hears_next e) over in
     let next : AllLinked rest (hears_next e) =
-        subst (λ (x : End). AllLinked rest x) (sym is)
-        (hears_linked laws event rest here apart lasts (λ r. untold_linked rest r (kept_at r e.lines) (event ∷ rest) e.carrier (l r))) in
+    subst (λ (x : End). AllLinked rest x) (sym is)
+    (hears_linked laws event rest here apart lasts (λ r. untold_linked rest r (kept_at r e.lines) (event ∷ rest) e.carrier (l r))) in
     let still : AreApart (hears_next e).lines = subst (λ (x : End). AreApart x.lines) (sym is) (hears_apart event here apart) in
     times_linked laws rest (hears_next e) (rest_is event rest e h) still over next

@@ -109,7 +109,7 @@ pub last_is : (c d : Carrier) (units : List (List ℕ)) → carriers.TakesPacket
 last_is c d [] h quiet stopped = both (carriers.stops c) (ap carriers.stops (sym h) ∙ stopped) quiet
 last_is c d (u ∷ units) h quiet stopped =
     last_by c d u units (carriers.stops (carriers.after_packet c u)) refl quiet h.1 stopped
-        (λ e. last_is (carriers.after_packet c u) d units h.1 e stopped)
+    (λ e. last_is (carriers.after_packet c u) d units h.1 e stopped)
 
 -- ---- one list of packets after another
 
@@ -137,7 +137,7 @@ packets_part (u ∷ us) vs s q h =
 pub lift_last : (lines : Rows Line) (c d : Carrier) (units : List (List ℕ)) (new : End) → waits lines ≡ false →
     carriers.TakesPackets c units d → carriers.stops c ≡ false →
     carriers.stops d ≡ true → new ≡ attends (record { carrier = d; lines = lines }) →
-        TakesPackets (record { carrier = c; lines = lines }) units new
+    TakesPackets (record { carrier = c; lines = lines }) units new
 lift_last lines c d units new none h quiet stopped is =
     let l = last_is c d units h quiet stopped in
     let before : End = record { carrier = l.before; lines = lines } in

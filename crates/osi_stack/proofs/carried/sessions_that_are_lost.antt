@@ -13,7 +13,7 @@ pub lost_line : (s : Listener) (l : Line) (b : Bool) (waiting : List Shown) → 
     waiting ≡ l.waiting ++ (if b then Lost ∷ [] else []) → record l { session = None; waiting = waiting } ≡ loses l
 lost_line s l b waiting e shows h =
     ap (λ (w : List Shown). record l { session = None; waiting = w })
-        (h ∙ ap (λ (v : Bool). l.waiting ++ (if v then Lost ∷ [] else [])) shows
+    (h ∙ ap (λ (v : Bool). l.waiting ++ (if v then Lost ∷ [] else [])) shows
     ∙ ap (λ v. l.waiting ++ v) (sym (lost_shown s)) ∙ ap (λ o. l.waiting ++ shown_at_loss o) (sym e))
 
 -- one indication more
@@ -39,7 +39,7 @@ lost_put r l ((q, y) ∷ rows) h = lost_put_by r q y l rows (q == r) refl (lost_
 pub stopped_rows : {A E : Type 0} (result : Result A E) (r : ℕ) (rows items : Rows Line) (i : ℕ) (row new : ℕ × Line) →
     place_of r rows ≡ Some i →
     row ≡ get_or rows i row → items ≡ rows → OnErr result (new ≡ (row.0, loses row.1)) →
-        OnErr result (all_lost (set items i new) ≡ all_lost rows)
+    OnErr result (all_lost (set items i new) ≡ all_lost rows)
 stopped_rows (Ok a) r rows items i row new e here same h = tt
 stopped_rows (Err f) r rows items i row new e here same h =
     let p = placed r rows i row e in

@@ -40,9 +40,12 @@ by_acts : (r : ℕ) (input : Input) (e : End) (line : Line) (s : Listener) → v
     Acts r input e (to_session r input e)
 by_acts r input e line s here is short =
     let at : to_session r input e ≡ by_line r (Some line) input e = ap (λ o. by_line r o input e) here in
-    search (ap (λ (x : End). x.lines) at ∙ ap (λ o. put r (line_by line o input) e.lines) is, ap (λ (x : End). x.carrier) at ∙
-        ap (λ o. carrier_by r o input e.carrier) is ∙ answers_put r (react s input).closes (limit_for s input) (react s input).reply
-        e.carrier short)
+    search (
+      ap (λ (x : End). x.lines) at ∙ ap (λ o. put r (line_by line o input) e.lines) is,
+      ap (λ (x : End). x.carrier) at ∙
+          ap (λ o. carrier_by r o input e.carrier) is ∙ answers_put r (react s input).closes (limit_for s input) (react s input).reply
+          e.carrier short,
+    )
 
 pub acts_is : (r : ℕ) (input : Input) (e : End) (s : HasSession r e.lines) →
     IsShort (limit_for s.session input) (react s.session input).reply → Acts r input e (to_session r input e)
@@ -70,7 +73,7 @@ arrives_by r effect v e heard h is = record { heard = heard; hears = h; is = is 
 
 happens_by : (r : ℕ) (input : Input) (event : Happening) (v : Value) (e : End) → (carries_out v e).carrier.events ≡ event ∷ [] →
     hears event (told_all v e) ≡ to_session r input (told_all v e) → CanHear r (happens input) e.lines →
-        Arrives r (happens input) v e (after_unit e v)
+    Arrives r (happens input) v e (after_unit e v)
 happens_by r input event v e h same can =
     arrives_by r (happens input) v e (to_session r input (told_all v e)) (acts_is r input (told_all v e) can.0 can.1)
     (attends_one (carries_out v e) event h ∙ ap concludes same)
@@ -91,7 +94,7 @@ pub arrives : Readings → (r : ℕ) (place : Place) (m : Message) (v : Value) (
     CanHear r (effect_at place m) e.lines → Arrives r (effect_at place m) v e (after_unit e v)
 arrives law r never ask v e whole h can =
     arrives_by r begins v e (joins r awaits (told_all v e)) refl
-        (attends_one (carries_out v e) (told.opened r) h ∙ ap (λ o. concludes (opens r o (told_all v e))) can)
+    (attends_one (carries_out v e) (told.opened r) h ∙ ap (λ o. concludes (opens r o (told_all v e))) can)
 arrives law r (was_given (Some asked)) agree v e whole h can =
     happens_by r opened (told.opened r) v e h (ap (λ o. opens r o (told_all v e)) can.0.here) can
 arrives law r (was_given (Some asked)) (deny reason) v e whole h can = happens_by r (refused reason) (told.refused r reason) v e h refl can
@@ -131,7 +134,7 @@ are_lost lines = grind (arith, session_in, lost_at, lost_none, value_at, waiting
 shown_first : (r : ℕ) (line : Line) (waiting : List Shown) (lines : Rows Line) → line.waiting ≡ waiting →
     IsFirstOf (first_shown lines) (all_waiting lines) (all_waiting (without_first lines)) →
     IsFirstOf (first_by r waiting (first_shown lines)) (shown_of r waiting ++ all_waiting lines)
-        (all_waiting (rest_by r line waiting lines (without_first lines)))
+    (all_waiting (rest_by r line waiting lines (without_first lines)))
 shown_first r line waiting lines none more = grind arith
 
 pub first_of_all : (lines : Rows Line) → IsFirstOf (first_shown lines) (all_waiting lines) (all_waiting (without_first lines))
@@ -195,7 +198,7 @@ granted_by r call s c (Err error) e h =
 granted_by r call s c (Ok step) e h =
     let is : react s (called call) ≡ answered s (Ok step) = ap (answered s) e in
     let sends : send_refusal (send_all_error (tsdus_of (limit_of s.state) step.sent) (open_link r c)) ≡ None =
-        sym (ap (λ (m : Move). move_refusal r (limit_of s.state) m c) is) ∙ h in
+    sym (ap (λ (m : Move). move_refusal r (limit_of s.state) m c) is) ∙ h in
     let link = unsent_link (open_link r c) (tsdus_of (limit_of s.state) step.sent) sends in
     search (ap (λ (m : Move). m.reply) is, ap (λ (m : Move). m.closes) is, ap (λ (m : Move). m.shown) is, ap (λ (m : Move). m.next) is)
 

@@ -37,11 +37,11 @@ counted_at : (rows : Rows Line) (i : ℕ) (d : ℕ × Line) → i < length rows 
 counted_at [] i d within here = absurd (omega arith)
 counted_at (row ∷ rows) zero d within here =
     subst (λ (n : ℕ). 0 < n) (sym (sum_by-cons (λ x. cond (line_waits x.1) 1 0) row rows))
-        (counted_by (line_waits row.1) (how_many_wait rows) here)
+    (counted_by (line_waits row.1) (how_many_wait rows) here)
 counted_at (row ∷ rows) (suc i) d within here =
     let more = counted_at rows i d (omega arith) here in
     let sum : how_many_wait (row ∷ rows) ≡ cond (line_waits row.1) 1 0 + how_many_wait rows =
-        sum_by-cons (λ x. cond (line_waits x.1) 1 0) row rows in
+    sum_by-cons (λ x. cond (line_waits x.1) 1 0) row rows in
     omega arith
 
 -- if one is counted and another has pending ones, a line has none
@@ -56,11 +56,11 @@ quiet_before [] i k d one within here less = absurd (omega arith)
 quiet_before (row ∷ rows) zero k d one within here less = absurd (omega arith)
 quiet_before (row ∷ rows) (suc i) zero d one within here less =
     quiet_by (line_waits row.1) (how_many_wait rows) (sym (sum_by-cons (λ x. cond (line_waits x.1) 1 0) row rows) ∙ one)
-        (counted_at rows i d (omega arith) here)
+    (counted_at rows i d (omega arith) here)
 quiet_before (row ∷ rows) (suc i) (suc k) d one within here less =
     let some = counted_at rows i d (omega arith) here in
     let sum : how_many_wait (row ∷ rows) ≡ cond (line_waits row.1) 1 0 + how_many_wait rows =
-        sum_by-cons (λ x. cond (line_waits x.1) 1 0) row rows in
+    sum_by-cons (λ x. cond (line_waits x.1) 1 0) row rows in
     quiet_before rows i k d (omega arith) (omega arith) here (omega arith)
 
 -- the only line with pending indications is the first
@@ -88,7 +88,7 @@ room_at rows i row within here h =
     let more : how_many_wait (set rows i any_waiting) + cond {A = ℕ} (line_waits (get_or rows i row).1) 1 0 ≡ how_many_wait rows + 1 =
     sum_by-set (λ x. cond (line_waits x.1) 1 0) rows i any_waiting row within in
     let most : how_many_wait (set rows i any_waiting) ≤ length (set rows i any_waiting) =
-        count_by-le-length (λ x. line_waits x.1) (set rows i any_waiting) in
+    count_by-le-length (λ x. line_waits x.1) (set rows i any_waiting) in
     let same : length (set rows i any_waiting) ≡ length rows = length-set rows i any_waiting in
     omega arith
 
@@ -107,7 +107,7 @@ AreKept waiting rises rows = (waiting ≡ how_many_wait rows) × (rises ≡ true
 pub set_kept : (waiting counted : ℕ) (rises before after : Bool) (rows : Rows Line) (i : ℕ) (row new : ℕ × Line) →
     AreKept waiting rises rows → row ≡ get_or rows i row → i < length rows →
     new.0 ≡ row.0 → before ≡ line_waits row.1 → after ≡ line_waits new.1 → counted + cond before 1 0 ≡ waiting + cond after 1 0 →
-        AreKept counted rises (set rows i new)
+    AreKept counted rises (set rows i new)
 set_kept waiting counted rises before after rows i row new kept here within named was is sum =
     grind (arith, cond, line_waits, get_or, how_many_wait, set, sum_by-set, set_rise)
 

@@ -134,9 +134,9 @@ times_heard (suc n) (event ∷ rest) e h all rise =
     let one = one_heard event rest (with_events rest e) all rise in
     let risen : RiseFrom 0 (hears_next e).lines = subst (λ (x : End). RiseFrom 0 x.lines) (sym is) one.rise in
     let kept : (r : ℕ) → IsSome (value_at r e.lines) → IsSome (value_at r (hears_next e).lines) =
-        λ r some. subst (λ (x : End). IsSome (value_at r x.lines)) (sym is) (one.kept r some) in
+    λ r some. subst (λ (x : End). IsSome (value_at r x.lines)) (sym is) (one.kept r some) in
     let more = times_heard n rest (hears_next e) (rest_is event rest e h)
-        (have_still e.lines (hears_next e).lines (opened_in rest) kept (have_rest event rest e.lines all)) risen in
+    (have_still e.lines (hears_next e).lines (opened_in rest) kept (have_rest event rest e.lines all)) risen in
     record { rise = more.rise; kept = λ r some. more.kept r (kept r some) }
 
 -- ---- the events of a called end
@@ -240,7 +240,7 @@ packet_along packet c orderly = acts_along (units_of packet) c orderly
 pub packet_ordered : (packet : List ℕ) (e : End) → e.carrier.events ≡ [] → Soundness e → IsOrdered e → IsOrdered (after_packet e packet)
 packet_ordered packet e none s o =
     subst IsOrdered (sym (packet_is e packet))
-        (attends_ordered e (carriers.after_packet e.carrier packet) none s.known o (packet_along packet e.carrier s.orderly))
+    (attends_ordered e (carriers.after_packet e.carrier packet) none s.known o (packet_along packet e.carrier s.orderly))
 
 -- ---- the end
 

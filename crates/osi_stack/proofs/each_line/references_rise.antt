@@ -57,7 +57,7 @@ pub rise_connect : (c : Connect) (e : End) → Soundness e → RiseFrom 0 e.line
 rise_connect c e sound rise =
     rise_joins e.carrier.given (e.carrier.given + 1) (calls_with c)
     (record e { carrier = asks (option_map tsap_octets c.calling_tsap) (option_map tsap_octets c.called_tsap) e.carrier }) (omega arith)
-        sound.known rise
+    sound.known rise
 
 pub rise_breaks : (e : End) → RiseFrom 0 e.lines → RiseFrom 0 (breaks e).lines
 rise_breaks e rise = broken_end (λ x. RiseFrom 0 x.lines) (λ x rise. rise_lost 0 x.lines rise) e rise
@@ -75,4 +75,4 @@ pub rise_arrives : (r : ℕ) (effect : Effect) (v : Value) (e new : End) → Arr
 rise_arrives r effect v e new a up over rise =
     subst (λ (x : End). RiseFrom 0 x.lines) (sym a.is)
     (concluded_end (λ x. RiseFrom 0 x.lines) (λ x rise. rise_lost 0 x.lines rise) a.heard
-        (rise_hears r effect (told_all v e) a.heard a.hears e.carrier.given up over rise))
+    (rise_hears r effect (told_all v e) a.heard a.hears e.carrier.given up over rise))

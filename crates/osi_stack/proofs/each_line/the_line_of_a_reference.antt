@@ -27,9 +27,9 @@ pub heard_rows : {A E : Type 0} (result : Result A E) (r : ℕ) (rows items : Ro
     (input : Input) →
     place_of r rows ≡ Some i → row ≡ get_or rows i row → items ≡ rows →
     OnOk result (new ≡ (row.0, line_by row.1 row.1.session input)) →
-        OnOk result (d ≡ record c { state = carrier_by row.0 row.1.session input c.state }) →
+    OnOk result (d ≡ record c { state = carrier_by row.0 row.1.session input c.state }) →
     OnOk result (◌≡◌ {A = End} (record { carrier = d.state; lines = set items i new })
-        (to_session r input (record { carrier = c.state; lines = rows })))
+    (to_session r input (record { carrier = c.state; lines = rows })))
 heard_rows (Err f) r rows items i row new c d input e here same h k = tt
 heard_rows (Ok a) r rows items i row new c d input e here same h k =
     let p = placed r rows i row e in
@@ -49,7 +49,7 @@ refusal_at r rows i row call c e here =
     let p = placed r rows i row e in
     let named = ap (λ (x : ℕ × Line). x.0) here ∙ p.named in
     ap (λ n. session_refusal n row.1.session call c) named ∙
-        sym (ap (λ o. session_refusal r (session_in o) call c) (here_is r rows rows i row e here refl))
+    sym (ap (λ o. session_refusal r (session_in o) call c) (here_is r rows rows i row e here refl))
 
 pub session_here : (r : ℕ) (rows : Rows Line) (i : ℕ) (row : ℕ × Line) → place_of r rows ≡ Some i → row ≡ get_or rows i row →
     row.1.session ≡ session_in (value_at r rows)
@@ -58,18 +58,18 @@ session_here r rows i row e here = sym (ap session_in (here_is r rows rows i row
 pub allowed_at : {A E : Type 0} (result : Result A E) (r : ℕ) (rows : Rows Line) (i : ℕ) (row : ℕ × Line) (call : Call) (c : Carrier) →
     place_of r rows ≡ Some i →
     row ≡ get_or rows i row → OnOk result (session_refusal row.0 row.1.session call c ≡ None) →
-        OnOk result (session_refusal r (session_in (value_at r rows)) call c ≡ None)
+    OnOk result (session_refusal r (session_in (value_at r rows)) call c ≡ None)
 allowed_at result r rows i row call c e here h =
     subst (λ (o : Option CallError). OnOk result (o ≡ None)) (refusal_at r rows i row call c e here) h
 
 pub refused_at : {A : Type 0} (result : Result A CallError) (r : ℕ) (rows : Rows Line) (i : ℕ) (row : ℕ × Line) (call : Call)
     (c : Carrier) → place_of r rows ≡ Some i →
     row ≡ get_or rows i row →
-        IfErr result (λ e. Refuses e (session_error row.1.session call) (session_refusal row.0 row.1.session call c)) →
+    IfErr result (λ e. Refuses e (session_error row.1.session call) (session_refusal row.0 row.1.session call c)) →
     IfErr result (λ e. Refuses e (session_error (session_in (value_at r rows)) call)
-        (session_refusal r (session_in (value_at r rows)) call c))
+    (session_refusal r (session_in (value_at r rows)) call c))
 refused_at result r rows i row call c e here h =
     subst (λ (o : Option CallError). IfErr result (λ e. Refuses e (session_error (session_in (value_at r rows)) call) o))
-        (refusal_at r rows i row call c e here)
+    (refusal_at r rows i row call c e here)
     (subst (λ (o : Option Listener). IfErr result (λ e. Refuses e (session_error o call) (session_refusal row.0 row.1.session call c)))
-        (session_here r rows i row e here) h)
+    (session_here r rows i row e here) h)

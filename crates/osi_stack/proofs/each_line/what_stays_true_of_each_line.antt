@@ -89,7 +89,7 @@ pub packet_lines : (Q : Line → Type 0) → LinesStay Q → (packet : List ℕ)
     OfLines Q (after_packet e packet).lines
 packet_lines Q law packet e all =
     subst (λ (x : End). OfLines Q x.lines) (sym (packet_is e packet))
-        (attends_lines Q law (with_carrier (carriers.after_packet e.carrier packet) e) all)
+    (attends_lines Q law (with_carrier (carriers.after_packet e.carrier packet) e) all)
 
 starved_lines : (Q : Line → Type 0) → LinesStay Q → (e new : End) (packet : List ℕ) → Starves e packet new → OfLines Q e.lines →
     OfLines Q new.lines
@@ -97,7 +97,7 @@ starved_lines Q law e new packet (inl h) all =
     subst (λ (x : End). OfLines Q x.lines) (sym h.2) (attends_lines Q law (with_carrier h.0 e) all)
 starved_lines Q law e new packet (inr h) all =
     subst (λ (x : End). OfLines Q x.lines) (sym h.2.starved)
-        (lost_lines Q (with_events h.2.more (hears_times h.2.heard (with_carrier h.0 e))).lines law.lost)
+    (lost_lines Q (with_events h.2.more (hears_times h.2.heard (with_carrier h.0 e))).lines law.lost)
 
 pub feeds_lines : (Q : Line → Type 0) → LinesStay Q → (old new : Holding) (piece : List ℕ) (fed : Fed) → Feeds old piece fed new →
     OfLines Q old.end.lines → OfLines Q new.end.lines

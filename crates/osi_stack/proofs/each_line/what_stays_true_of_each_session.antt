@@ -72,8 +72,12 @@ one_more s (i ∷ inputs) input = one_more (react s i).next inputs input
 
 pub came_moves : (input : Input) → HasNumbersInWords input → (s : Listener) → CameAbout s → CameAbout (react s input).next
 came_moves input one s h =
-    search (h.inputs ++ input ∷ [], numbered_behind h.inputs input h.numbered one, one_more h.first h.inputs input ∙
-    ap (λ (x : Listener). (react x input).next) h.is)
+    search (
+      h.inputs ++ input ∷ [],
+      numbered_behind h.inputs input h.numbered one,
+      one_more h.first h.inputs input ∙
+          ap (λ (x : Listener). (react x input).next) h.is,
+    )
 
 pub came_asking : (c : Connect) → CameAbout (calls_with c)
 came_asking c = record { first = calls_with c; fresh = inr (c, refl); inputs = []; numbered = tt; is = refl }

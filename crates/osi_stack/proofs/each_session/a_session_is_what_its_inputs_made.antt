@@ -56,7 +56,7 @@ after_more s (input ∷ l) m = after_more (react s input).next l m
 made_more : (r : ℕ) (l : List (ℕ × Input)) (past : Past) → made_at r (then_came l past) ≡ after_inputs (made_at r past) (inputs_of r l)
 made_more r l past =
     ap (after_inputs (begun_as (value_at r past.asked))) (inputs_more r past.inputs l) ∙
-        after_more (begun_as (value_at r past.asked)) (inputs_of r past.inputs) (inputs_of r l)
+    after_more (begun_as (value_at r past.asked)) (inputs_of r past.inputs) (inputs_of r l)
 
 one_here : (q : ℕ) (input : Input) → inputs_of q ((q, input) ∷ []) ≡ input ∷ []
 one_here q input = let e = eq-eqb q q refl in rw e refl
@@ -90,7 +90,7 @@ unheard_more : (g q : ℕ) (input : Input) (past : Past) → ((r : ℕ) → g < 
     inputs_of r (then_came ((q, input) ∷ []) past).inputs ≡ []
 unheard_more g q input past none r above ne =
     inputs_more r past.inputs ((q, input) ∷ []) ∙ ap (λ (l : List Input). l ++ inputs_of r ((q, input) ∷ [])) (none r above) ∙
-        one_other r q input (unlike q r ne)
+    one_other r q input (unlike q r ne)
 
 moved_made : (q : ℕ) (input : Input) (e d : End) (past : Past) → HasMoved q input e d →
     ((r : ℕ) (s : Listener) → kept_at r e.lines ≡ Some s → s ≡ made_at r past) →
@@ -101,7 +101,7 @@ moved_made q input e d past m made r s true at is =
     let two : Some (react m.session input).next ≡ Some s = sym m.is ∙ here in
     let one : (react m.session input).next ≡ s = cc in
     sym one ∙ ap (λ (x : Listener). (react x input).next) (made q m.session m.was) ∙ sym (made_here q input past) ∙
-        ap (λ n. made_at n (then_came ((q, input) ∷ []) past)) same
+    ap (λ n. made_at n (then_came ((q, input) ∷ []) past)) same
 moved_made q input e d past m made r s false at is =
     let ne : r ≢ q = (λ same. both (q == r) (eq-eqb q r (sym same)) at) in
     made r s (sym (m.others r ne) ∙ is) ∙ sym (made_other r q input past at)
@@ -139,7 +139,7 @@ kept_joined q r s t live lines true at none (inl same) is =
     let e = eqb-true q r at in
     let x : Line = fresh_line s in
     let here : Some s ≡ Some t = ap session_in (sym (push_here q x lines none)) ∙ ap (λ n. session_in (value_at n (joined_lines q s lines)))
-        e ∙ ap session_in (sym same) ∙ is in
+    e ∙ ap session_in (sym same) ∙ is in
     inl (e, (let one : s ≡ t = cc in sym one))
 kept_joined q r s t live lines false at none (inl same) is =
     let ne : r ≢ q = (λ e. both (q == r) (eq-eqb q r (sym e)) at) in
@@ -212,7 +212,7 @@ times_caller g (event ∷ rest) e past is up all rise k =
     let one = one_heard event rest (with_events rest e) all rise in
     let risen : RiseFrom 0 (hears_next e).lines = subst (λ (x : End). RiseFrom 0 x.lines) (sym at) one.rise in
     let kept : (r : ℕ) → IsSome (value_at r e.lines) → IsSome (value_at r (hears_next e).lines) =
-        λ r some. subst (λ (x : End). IsSome (value_at r x.lines)) (sym at) (one.kept r some) in
+    λ r some. subst (λ (x : End). IsSome (value_at r x.lines)) (sym at) (one.kept r some) in
     let entry : ℕ × Input = (told_of event, input_of event) in
     let now = next_known g event rest e (then_came (entry ∷ []) past) is (caller_known g event rest (with_events rest e) past up.0 all k) in
     behind_known g entry (inputs_told rest) past (hears_times (length rest) (hears_next e)).lines
@@ -230,30 +230,30 @@ times_called : (g h : ℕ) (l : List Happening) (e : End) (past : Past) → e.ca
 times_called g h [] e past is comes apart k = subst (λ n. IsKnown n (then_came [] past) e.lines) (sym comes) (none_known g past e.lines k)
 times_called g h (opened r ∷ rest) e past is comes apart k =
     behind_known h _ (inputs_told rest) past _
-        (times_called r h rest (hears_next e) _ (rest_is (opened r) rest e is) comes.1 (next_apart (opened r) rest e is apart)
+    (times_called r h rest (hears_next e) _ (rest_is (opened r) rest e is) comes.1 (next_apart (opened r) rest e is apart)
     (next_known r (opened r) rest e _ is (new_known g r (value_at r e.lines) (with_events rest e) past refl comes.0 apart k)))
 times_called g h (event ∷ rest) e past is comes apart k =
     behind_known h _ (inputs_told rest) past _
-        (times_called g h rest (hears_next e) _ (rest_is event rest e is) comes.1 (next_apart event rest e is apart)
+    (times_called g h rest (hears_next e) _ (rest_is event rest e is) comes.1 (next_apart event rest e is apart)
     (next_known g event rest e _ is (given_known g (told_of event) _ (with_events rest e) past comes.0 k)))
 
 heard_by : (b : Bool) (e : End) (c : Carrier) (past : Past) → e.carrier.is_caller ≡ b → e.carrier.events ≡ [] → Soundness e → IsOrdered e →
     OpensAlong e.carrier c →
     IsKnown e.carrier.given past e.lines →
-        IsKnown c.given (then_came (inputs_told c.events) past) (hears_times (length c.events) (with_carrier c e)).lines
+    IsKnown c.given (then_came (inputs_told c.events) past) (hears_times (length c.events) (with_carrier c e)).lines
 heard_by true e c past side none s o a k =
     let events : c.events ≡ a.told = a.events ∙ ap (λ (l : List Happening). l ++ a.told) none in
     let known = a.known side in
     subst (λ n. IsKnown n (then_came (inputs_told c.events) past) (hears_times (length c.events) (with_carrier c e)).lines) (sym known.0)
     (subst (λ (l : List Happening). IsKnown e.carrier.given (then_came (inputs_told l) past)
-        (hears_times (length l) (with_carrier c e)).lines) (sym events)
+    (hears_times (length l) (with_carrier c e)).lines) (sym events)
     (times_caller e.carrier.given a.told (with_carrier c e) past events known.1 (awaited_lines e (opened_in a.told) o (a.caller side))
-        o.rise k))
+    o.rise k))
 heard_by false e c past side none s o a k =
     let events : c.events ≡ a.told = a.events ∙ ap (λ (l : List Happening). l ++ a.told) none in
     let nobody : NoneAwaited e.carrier.live = λ q h. both e.carrier.is_caller (o.awaiting q h).0 side in
     subst (λ (l : List Happening). IsKnown c.given (then_came (inputs_told l) past) (hears_times (length l) (with_carrier c e)).lines)
-        (sym events)
+    (sym events)
     (times_called e.carrier.given c.given a.told (with_carrier c e) past events (a.comes side nobody) s.apart k)
 
 -- ---- the references that were given stay
@@ -274,14 +274,14 @@ times_given n e =
 packet_made : (packet : List ℕ) (e : End) (past : Past) → e.carrier.events ≡ [] → Soundness e → IsOrdered e →
     (after_packet e packet).carrier.ended ≡ None → IsKnown e.carrier.given past e.lines →
     IsKnown (after_packet e packet).carrier.given (then_came (inputs_told (carriers.after_packet e.carrier packet).events) past)
-        (after_packet e packet).lines
+    (after_packet e packet).lines
 packet_made packet e past none s o over k =
     let c = carriers.after_packet e.carrier packet in
     let mid = with_carrier c e in
     let heard = hears_all mid in
     let is = packet_is e packet in
     let lasts : heard.carrier.ended ≡ None = sym (ap (λ (x : Carrier). x.ended) (concluded_carrier heard)) ∙
-        ap (λ (x : End). x.carrier.ended) (sym is) ∙ over in
+    ap (λ (x : End). x.carrier.ended) (sym is) ∙ over in
     let same : heard ≡ after_packet e packet = sym (concludes_lasting heard.carrier.ended heard lasts) ∙ sym is in
     subst (λ (x : End). IsKnown x.carrier.given (then_came (inputs_told c.events) past) x.lines) same
     (subst (λ n. IsKnown n (then_came (inputs_told c.events) past) heard.lines) (sym (times_given (length c.events) mid))
@@ -303,7 +303,7 @@ packets_made laws (u ∷ units) old new past h attended sound o over k =
     let now = packet_made u old past (attended lasts) (sound lasts) o (takes_last units next new h.1 over) k in
     subst (λ (p : Past). IsKnown new.carrier.given p new.lines) (then_joined first (told_along next units) past)
     (packets_made laws units next new (then_came first past) h.1
-        (attended_then (with_carrier (carriers.after_packet old.carrier u) old) next (packet_is old u))
+    (attended_then (with_carrier (carriers.after_packet old.carrier u) old) next (packet_is old u))
     (packet_sound laws u old lasts (attended lasts) sound) (packet_ordered u old (attended lasts) (sound lasts) o) over now)
 
 -- ---- a call that feeds, tells or carries
@@ -368,7 +368,7 @@ served laws nothing old (telling shown) new h s lasts =
     (λ r. ap (λ (x : Holding). kept_at r x.end.lines) h.1 ∙ kept_first r old.end.lines)
 served laws nothing old (carrying octets) new h s lasts =
     served_still old (carrying octets) new refl (ap (λ (x : Holding). x.held.octets) (sym h))
-        (ap (λ (x : Holding). x.end.carrier.given) (sym h))
+    (ap (λ (x : Holding). x.end.carrier.given) (sym h))
     (λ r. ap (λ (x : Holding). kept_at r x.end.lines) (sym h))
 
 -- ---- an end keeps its invariant
@@ -381,8 +381,11 @@ sane_first e s = record { attended = s.attended; sound = first_sound e s.sound; 
 
 pub sane_served : SessionLaws → (old : Holding) (call : Call) (new : Holding) → Calls old call new → IsSane old.end → IsSane new.end
 sane_served laws old (feeding piece fed) new h s =
-    search (feeds_attended old new piece fed h s.attended, feeds_sound laws old new piece fed h s.attended s.sound,
-    feeds_ordered laws old new piece fed h s.attended s.sound s.ordered)
+    search (
+      feeds_attended old new piece fed h s.attended,
+      feeds_sound laws old new piece fed h s.attended s.sound,
+      feeds_ordered laws old new piece fed h s.attended s.sound s.ordered,
+    )
 sane_served laws old (telling shown) new h s = subst (λ (x : Holding). IsSane x.end) (sym h.1) (sane_first old.end s)
 sane_served laws old (carrying octets) new h s = sane_carried octets new.end (subst (λ (x : Holding). IsSane x.end) h s)
 
@@ -404,7 +407,7 @@ asked_here : (q : ℕ) (c : Connect) (past : Past) → value_at q past.asked ≡
     made_at q (record past { asked = past.asked ++ (q, c) ∷ [] }) ≡ calls_with c
 asked_here q c past unasked unheard =
     ap (λ (l : List Input). after_inputs (begun_as (value_at q (past.asked ++ (q, c) ∷ []))) l) unheard ∙
-        ap begun_as (push_here q c past.asked unasked)
+    ap begun_as (push_here q c past.asked unasked)
 
 asked_other : (r q : ℕ) (c : Connect) (past : Past) → r ≢ q → made_at r (record past { asked = past.asked ++ (q, c) ∷ [] }) ≡ made_at r past
 asked_other r q c past ne =
@@ -417,7 +420,7 @@ connect_known c e past s k =
     let none : value_at q e.lines ≡ None = beyond q e.carrier.given e.lines s.known (omega arith) in
     let live = (asks (option_map tsap_octets c.calling_tsap) (option_map tsap_octets c.called_tsap) e.carrier).live in
     let stays = (λ (r : ℕ). used_at r live (joined_lines q (calls_with c) e.lines)
-        (apart_push q (fresh_line (calls_with c)) e.lines none s.apart)) in
+    (apart_push q (fresh_line (calls_with c)) e.lines none s.apart)) in
     record {
       made = λ r t is. elim (kept_joined q r (calls_with c) t live e.lines (q == r) refl none (stays r) is) [
         | inl h ↦ h.1 ∙ sym (asked_here q c past (k.unasked q (omega arith)) (k.unheard q (omega arith))) ∙
@@ -438,9 +441,9 @@ call_known : (r : ℕ) (call : SessionCall) (e : End) (past : Past) → call_err
 call_known r call e past allowed s k =
     let says = says_is r call e allowed in
     let up = up_at r e.carrier.given e.carrier.live s.orderly.up_to
-        (live_by (value_at r e.carrier.live) (session_in (value_at r e.lines)) says.acts.session says.live) in
+    (live_by (value_at r e.carrier.live) (session_in (value_at r e.lines)) says.acts.session says.live) in
     subst (λ n. IsKnown n (past_called (calling r call) e past) (to_session r (called call) e).lines)
-        (sym (session_carried (λ k. k.given ≡ e.carrier.given) (session_given e.carrier) r (called call) e refl))
+    (sym (session_carried (λ k. k.given ≡ e.carrier.given) (session_given e.carrier) r (called call) e refl))
     (given_known e.carrier.given r (called call) e past up k)
 
 -- what is left of sessions if one is given up is what a break leaves of it
@@ -452,9 +455,9 @@ given_line r line o lines is here q = by (q == r) refl
     by true e =
         let same = eqb-true q r e in
         ap (λ n. kept_at n (put r (given_up line) lines)) same ∙ ap session_in (put_here r (given_up line) line lines here) ∙
-            session_left line o is
+        session_left line o is
         ∙ sym (ap (λ n. kept_at n (put r (line_by line o linked_down) lines)) same ∙
-            ap session_in (put_here r (line_by line o linked_down) line lines here))
+        ap session_in (put_here r (line_by line o linked_down) line lines here))
     by false e =
         let ne : q ≢ r = (λ same. both (q == r) (eq-eqb q r same) e) in
         ap session_in (put_other q r (given_up line) lines ne) ∙ sym (ap session_in (put_other q r (line_by line o linked_down) lines ne))
@@ -487,8 +490,11 @@ disconnect_known r e past allowed lasts k =
 
 sane_disconnect : (r : ℕ) (e : End) → IsSane e → IsSane (disconnects r e)
 sane_disconnect r e s =
-    record { attended = disconnect_attended r e s.attended; sound = disconnect_sound r e s.sound;
-    ordered = disconnect_ordered r e s.ordered }
+    record {
+      attended = disconnect_attended r e s.attended;
+      sound = disconnect_sound r e s.sound;
+      ordered = disconnect_ordered r e s.ordered;
+    }
 
 -- ---- steps
 
@@ -526,8 +532,11 @@ step_run laws nothing one_cut (serving call packets) old new before behind h las
     let s = served laws nothing old call new h.0 run.sane lasts in
     let partial = s.partial run.partial in
     let one = one_cut (old.held.octets ++ used_in call) new.held.octets new.held.octets s.packets packets partial partial s.cut h.1 in
-    search (sane_served laws old call new h.0 run.sane, subst (λ (p : Past). IsKnown new.end.carrier.given p new.end.lines)
-        (ap (λ (l : List (List ℕ)). then_came (told_along old.end l) before) one.0 ∙ sym h.2) (s.known before run.known))
+    search (
+      sane_served laws old call new h.0 run.sane,
+      subst (λ (p : Past). IsKnown new.end.carrier.given p new.end.lines)
+          (ap (λ (l : List (List ℕ)). then_came (told_along old.end l) before) one.0 ∙ sym h.2) (s.known before run.known),
+    )
 step_run laws nothing one_cut (using call) old new before behind h lasts run =
     subst (λ (x : Holding). IsRun x behind) (sym h.2)
     (subst (λ (p : Past). IsRun (record old { end = user_does call old.end }) p) (sym h.3)
@@ -556,6 +565,6 @@ steps_run laws nothing one_cut (step ∷ steps) old new before behind h lasts ru
 pub made_along : SessionLaws → IsPartial [] → OneCut →
     (is_caller : Bool) (local : Local) (steps : List Step) (new : Holding) (past : Past) →
     StepsAlong (record { end = fresh_end is_caller local; held = fresh }) no_past steps new past → new.end.carrier.ended ≡ None →
-        AreMadeBy past new.end
+    AreMadeBy past new.end
 made_along laws nothing one_cut is_caller local steps new past h lasts =
     grind (arith, steps_run, fresh_end, fresh, no_past, fresh_sound, fresh_ordered)

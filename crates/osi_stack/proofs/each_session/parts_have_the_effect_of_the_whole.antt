@@ -38,20 +38,20 @@ moves_at : (r : ℕ) (input : Input) (c : Carrier) (l : Listener) (waiting : Lis
     HasLine r rows →
     to_session r input (at r c l waiting selectors rows)
     ≡ at r (answers r (limit_for l input) (react l input) c) (react l input).next (waiting ++ (react l input).shown)
-        (names (react l input).shown (selectors_told input) selectors) rows
+    (names (react l input).shown (selectors_told input) selectors) rows
 moves_at r input c l waiting selectors rows h =
     let line : Line = record { session = Some l; waiting = waiting; selectors = selectors } in
     let there = put_here r line h.line rows h.here in
     ap (λ (o : Option Line). by_line r o input (at r c l waiting selectors rows)) there
     ∙ ap (λ (x : Rows Line). record { carrier = answers r (limit_for l input) (react l input) c; lines = x })
-        (put_twice r (line_by line (Some l) input) line rows)
+    (put_twice r (line_by line (Some l) input) line rows)
 
 -- ---- a part before the last, and a call
 
 quiet_answers : (r limit : ℕ) (move : Move) (c : Carrier) → IsSilent move → answers r limit move c ≡ c
 quiet_answers r limit move c s =
     ap (λ (b : Bool). answers_by b r (tsdus_sent limit move.reply) c) s.closes ∙
-        ap (λ (o : Option Meaning). answers_by false r (tsdus_sent limit o) c) s.reply ∙ hands_none r c
+    ap (λ (o : Option Meaning). answers_by false r (tsdus_sent limit o) c) s.reply ∙ hands_none r c
 
 silent_at : (r : ℕ) (input : Input) (c : Carrier) (l : Listener) (waiting : List Shown) (selectors : Option Selectors) (rows : Rows Line) →
     HasLine r rows → IsSilent (react l input) →
@@ -74,7 +74,7 @@ record Runs (r : ℕ) (rows : Rows Line) (l m : Listener) (a b : End) : Type 0 w
 runs : (r : ℕ) (rows : Rows Line) (c : Carrier) (waiting : List Shown) (selectors : Option Selectors) (l m : Listener) (acts : List Act) →
     HasLine r rows → AreSilent l m acts →
     Runs r rows (after_inputs l (map act_in_octets acts)) (after_inputs m (calls_in acts))
-        (to_session_along r (map act_in_octets acts) (at r c l waiting selectors rows))
+    (to_session_along r (map act_in_octets acts) (at r c l waiting selectors rows))
     (to_session_along r (calls_in acts) (at r c m waiting selectors rows))
 runs r rows c waiting selectors l m [] h silent =
     record { carrier = c; waiting = waiting; selectors = selectors; parts = refl; whole = refl }
@@ -86,15 +86,17 @@ runs r rows c waiting selectors l m (calls call ∷ acts) h silent =
     let one = react l (called call) in
     let two = react m (called call) in
     let more = runs r rows (answers r (limit_of l.state) one c) (waiting ++ one.shown) (names one.shown None selectors) one.next two.next
-        acts h silent.1 in
+    acts h silent.1 in
     let same : at r (answers r (limit_of m.state) two c) two.next (waiting ++ two.shown) (names two.shown None selectors) rows
     ≡ at r (answers r (limit_of l.state) one c) two.next (waiting ++ one.shown) (names one.shown None selectors) rows =
     ap (λ (d : Carrier). at r d two.next (waiting ++ two.shown) (names two.shown None selectors) rows)
-        (sym (alike_answers r (limit_of l.state) (limit_of m.state) one two c silent.0.0 silent.0.1))
+    (sym (alike_answers r (limit_of l.state) (limit_of m.state) one two c silent.0.0 silent.0.1))
     ∙ ap (λ (w : List Shown). at r (answers r (limit_of l.state) one c) two.next (waiting ++ w) (names w None selectors) rows)
-        (sym silent.0.1.shown) in
-    search (ap (to_session_along r (map act_in_octets acts)) (moves_at r (called call) c l waiting selectors rows h) ∙ more.parts,
-        ap (to_session_along r (calls_in acts)) (moves_at r (called call) c m waiting selectors rows h ∙ same) ∙ more.whole)
+    (sym silent.0.1.shown) in
+    search (
+      ap (to_session_along r (map act_in_octets acts)) (moves_at r (called call) c l waiting selectors rows h) ∙ more.parts,
+      ap (to_session_along r (calls_in acts)) (moves_at r (called call) c m waiting selectors rows h ∙ same) ∙ more.whole,
+    )
 
 -- ---- the end as it was
 
@@ -108,13 +110,13 @@ stands_at : (r : ℕ) (session : Listener) (e : End) (line : Line) → value_at 
 stands_at r session e line here is =
     ap (λ (x : Rows Line). record { carrier = e.carrier; lines = x })
     (sym (put_same r line e.lines here) ∙
-        ap (λ (o : Option Listener). put r (record { session = o; waiting = line.waiting; selectors = line.selectors }) e.lines) is)
+    ap (λ (o : Option Listener). put r (record { session = o; waiting = line.waiting; selectors = line.selectors }) e.lines) is)
 
 pub parts_as_whole : (r : ℕ) (session : Listener) (acts : List Act) (last whole : Input) (e : End) → kept_at r e.lines ≡ Some session →
     AreSilent session session acts →
     react (after_inputs session (map act_in_octets acts)) last ≡ react (after_inputs session (calls_in acts)) whole →
     limit_for (after_inputs session (map act_in_octets acts)) last ≡ limit_for (after_inputs session (calls_in acts)) whole →
-        selectors_told last ≡ selectors_told whole →
+    selectors_told last ≡ selectors_told whole →
     to_session r last (to_session_along r (map act_in_octets acts) e) ≡ to_session r whole (to_session_along r (calls_in acts) e)
 parts_as_whole r session acts last whole e kept silent same sizes told =
     let parted = after_inputs session (map act_in_octets acts) in
@@ -127,11 +129,11 @@ parts_as_whole r session acts last whole e kept silent same sizes told =
     ∙ ap (to_session r last) both.parts
     ∙ moves_at r last both.carrier (after_inputs session (map act_in_octets acts)) both.waiting both.selectors e.lines h
     ∙ ap (λ (m : Move). at r (answers r (limit_for parted last) m both.carrier) m.next (both.waiting ++ m.shown)
-        (names m.shown (selectors_told last) both.selectors) e.lines) same
+    (names m.shown (selectors_told last) both.selectors) e.lines) same
     ∙ ap (λ (n : ℕ). at r (answers r n (react alone whole) both.carrier) (react alone whole).next
-        (both.waiting ++ (react alone whole).shown) (names (react alone whole).shown (selectors_told last) both.selectors) e.lines) sizes
+    (both.waiting ++ (react alone whole).shown) (names (react alone whole).shown (selectors_told last) both.selectors) e.lines) sizes
     ∙ ap (λ (o : Option Selectors). at r (answers r (limit_for alone whole) (react alone whole) both.carrier) (react alone whole).next
-        (both.waiting ++ (react alone whole).shown)
+    (both.waiting ++ (react alone whole).shown)
     (names (react alone whole).shown o both.selectors) e.lines) told
     ∙ sym (moves_at r whole both.carrier (after_inputs session (calls_in acts)) both.waiting both.selectors e.lines h)
     ∙ sym (ap (to_session r whole) both.whole)

@@ -32,7 +32,7 @@ broken_is_quiet s = record { reply = refl; closes = refl }
 pub quiet_takes : {E : Type 0} (t : Taken) (shown : Option Indication) (move : Move) (old new : Listener) → t.first ≡ shown →
     t.more.items ≡ [] →
     t.reply ≡ option_map in_one move.reply → t.closes ≡ move.closes → new ≡ move.next → shown_list shown ≡ move.shown →
-        Takes {E = E} (Ok t) move old new
+    Takes {E = E} (Ok t) move old new
 quiet_takes t shown move old new first more reply closes next is = grind arith
 
 pub takes_if : {E : Type 0} (result : Result Taken E) (s : Listener) (i j : Input) (old new : Listener) → j ≡ i →

@@ -24,7 +24,7 @@ pub joined_open : JoinedLaws → (r : ℕ) (s : Listener) (e : End) → IsSettle
     is_some s.joined ≡ true → is_open r e.carrier ≡ true
 joined_open law r s e settled lasts is some =
     (settled.sound lasts).links lasts r s is
-        (implied may_hold needs_link refl s.state.phase (law.held s (kept_of law r s e settled is) some))
+    (implied may_hold needs_link refl s.state.phase (law.held s (kept_of law r s e settled is) some))
 
 pub joined_few : JoinedLaws → (r : ℕ) (s : Listener) (e : End) → IsSettled e → kept_at r e.lines ≡ Some s →
     length (joined_octets s.joined) ≤ most_data

@@ -43,7 +43,7 @@ begun_by : Published → (s : Listener) (b : Bool) → is_ended s.state.phase �
 begun_by law s false e needs = refl
 begun_by law s true e needs =
     both (needs_link (react s opened).next.state.phase) needs
-        (excluded is_ended needs_link refl (react s opened).next.state.phase (law.ended s (opened ∷ []) e))
+    (excluded is_ended needs_link refl (react s opened).next.state.phase (law.ended s (opened ∷ []) e))
 
 pub session_laws : Published → SessionLaws
 session_laws law = record {

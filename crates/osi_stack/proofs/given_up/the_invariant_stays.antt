@@ -159,13 +159,13 @@ links_by : (r q : ℕ) (e : End) (s : Listener) (b : Bool) → (q == r) ≡ b �
     kept_at q (gives_up r e.lines) ≡ Some s → needs_link s.state.phase ≡ true → is_open q (closed_with r 128 e.carrier) ≡ true
 links_by r q e s true at sound was lasts is needs =
     let here : option_map (λ s. after_input s broken) (kept_at r e.lines) ≡ Some s =
-        sym (kept_given r e.lines) ∙ ap (λ n. kept_at n (gives_up r e.lines)) (sym (eqb-true q r at)) ∙ is in
+    sym (kept_given r e.lines) ∙ ap (λ n. kept_at n (gives_up r e.lines)) (sym (eqb-true q r at)) ∙ is in
     both (needs_link s.state.phase) needs (given_session r (kept_at r e.lines) s here)
 links_by r q e s false at sound was lasts is needs =
     let ne : q ≢ r = (λ same. both (q == r) (eq-eqb q r same) at) in
     let open_then = sound.links was q s (sym (ap session_in (given_other q r e.lines ne)) ∙ is) needs in
     closed_opens r q 128 e.carrier lasts ∙ ap (λ b. is_open q e.carrier && not b) (unlike r q ne) ∙ and-true (is_open q e.carrier) ∙
-        open_then
+    open_then
 
 pub disconnect_sound : (r : ℕ) (e : End) → IsSound e → IsSound (disconnects r e)
 disconnect_sound r e sound over =

@@ -52,7 +52,7 @@ pub asks_peer : (r peer : ℕ) (link : Link) (e : End) → open_link r e.carrier
     (disconnects r e).carrier ≡ writes (disconnect peer r 128 [] ∷ []) (moves r (closing peer) e.carrier)
 asks_peer r peer link e here other =
     disconnect_carrier r e ∙ ap (λ (o : Option (ℕ × Link)). closed_on r 128 o e.carrier) here ∙
-        asks_by r peer e.carrier.class e.carrier other
+    asks_by r peer e.carrier.class e.carrier other
 
 pub ends_in_zero : (r peer : ℕ) (link : Link) (e : End) → open_link r e.carrier ≡ Some (peer, link) → e.carrier.class ≡ Some Zero →
     (disconnects r e).carrier ≡ carrier_ends Closed e.carrier
@@ -87,7 +87,7 @@ none_given r lines = ap waiting_of (given_here r lines) ∙ given_waits (value_a
 lost_given : (r : ℕ) (lines : Rows Line) → shown_at_loss (kept_at r (gives_up r lines)) ≡ []
 lost_given r lines =
     ap (λ (o : Option Line). shown_at_loss (session_in o)) (given_here r lines) ∙ ap shown_at_loss (session_given (value_at r lines)) ∙
-        unseen (session_in (value_at r lines))
+    unseen (session_in (value_at r lines))
 
 hushed_by : (r : ℕ) (over : Bool) (e : End) → waiting_at r e.lines ≡ [] → shown_at_loss (kept_at r e.lines) ≡ [] →
     waiting_at r (if over then record e { lines = all_lost e.lines } else e).lines ≡ []
@@ -121,4 +121,4 @@ is_over_then r s e is =
     let c = closed_with r 128 e.carrier in
     over_by r (is_some c.ended) s (closed_and_given r e) is
     (λ here. ended_in (session_in (value_at r e.lines)) s
-        (sym (session_given (value_at r e.lines)) ∙ ap session_in (sym (given_here r e.lines)) ∙ here))
+    (sym (session_given (value_at r e.lines)) ∙ ap session_in (sym (given_here r e.lines)) ∙ here))

@@ -18,14 +18,14 @@ use Rattle.osi_stack.proofs.carried.what_each_step_preserves.{concluded_end}
 
 concludes_back : (o : List ℕ) (over : Bool) (e : End) →
     (if over then record (put_back o e) { lines = all_lost e.lines } else put_back o e) ≡ put_back o
-        (if over then record e { lines = all_lost e.lines } else e)
+    (if over then record e { lines = all_lost e.lines } else e)
 concludes_back o true e = refl
 concludes_back o false e = refl
 
 pub disconnects_apart : (o : List ℕ) (r : ℕ) (e : End) → disconnects r (put_back o e) ≡ put_back o (disconnects r e)
 disconnects_apart o r e =
     ap (λ (c : Carrier). if is_some c.ended then record { carrier = c; lines = all_lost (gives_up r e.lines) } else
-        record { carrier = c; lines = gives_up r e.lines })
+    record { carrier = c; lines = gives_up r e.lines })
     (apart_all [] o (user (closes r 128) ∷ []) e.carrier)
     ∙ concludes_back o (is_some (closed_with r 128 e.carrier).ended) (closed_and_given r e)
 
@@ -51,7 +51,7 @@ module _ (K : ℕ → Bool) where
       sym (only_row K q y lines false f)
   unput_by r q x y lines false true e f gone more =
       ap (only K) (put_row K r q x y lines false e) ∙ only_row K q y (put r x lines) true f ∙ ap (λ (l : Rows Line). (q, y) ∷ l) more ∙
-          sym (only_row K q y lines true f)
+      sym (only_row K q y lines true f)
   unput_by r q x y lines false false e f gone more =
       ap (only K) (put_row K r q x y lines false e) ∙ only_row K q y (put r x lines) false f ∙ more ∙ sym (only_row K q y lines false f)
 
@@ -78,7 +78,7 @@ module _ (K : ℕ → Bool) where
   only_disconnects r e =
       let c = closed_with r 128 e.carrier in
       ap (λ (l : Rows Line). if is_some c.ended then record { carrier = c; lines = all_lost l } else record { carrier = c; lines = l })
-          (gives_by r e.lines (K r) refl)
+      (gives_by r e.lines (K r) refl)
       ∙ only_concludes K (is_some c.ended) (closed_and_given r e)
 
   -- ---- the others are still
@@ -108,7 +108,7 @@ module _ (K : ℕ → Bool) where
   pub still_disconnects : (r : ℕ) (e : End) → AreStill K e.lines → AreStill K (disconnects r e).lines
   still_disconnects r e still =
       concluded_end (λ x. AreStill K x.lines) (λ x still. still_lost K x.lines still) (closed_and_given r e)
-          (still_lines r (value_at r e.lines) e.lines still)
+      (still_lines r (value_at r e.lines) e.lines still)
 
 -- ---- an end without the lines of connections that are gone
 
@@ -116,7 +116,7 @@ disconnect_within : (r : ℕ) (e : End) → Within (is_live (disconnects r e).ca
 disconnect_within r e q here =
     within_by (value_at q (disconnects r e).carrier.live) (reached e.carrier q)
     (λ no. ap (λ (c : Carrier). value_at q c.live) (disconnect_carrier r e) ∙ closed_gone r q 128 e.carrier (unreached e.carrier q no).none)
-        here
+    here
 
 pub disconnect_alike : (r : ℕ) (e : End) → AreUpTo e.carrier.given e.lines → AreStill (reached e.carrier) e.lines →
     SameInLive (disconnects r (pruned e)) (disconnects r e)

@@ -25,22 +25,22 @@ given_waits r (Some t) s is = let one : after_input t broken ≡ s = cc in ap (�
 
 asked_by : (r q : ℕ) (e : End) (s : Listener) (b : Bool) → (q == r) ≡ b → HasAsked e → (closed_with r 128 e.carrier).ended ≡ None →
     kept_at q (gives_up r e.lines) ≡ Some s → is_wait_transport s.state.phase ≡ true →
-        value_at q (closed_with r 128 e.carrier).live ≡ Some asked
+    value_at q (closed_with r 128 e.carrier).live ≡ Some asked
 asked_by r q e s true at has lasts is waits =
     let here : option_map (λ s. after_input s broken) (kept_at r e.lines) ≡ Some s =
-        sym (kept_given r e.lines) ∙ ap (λ n. kept_at n (gives_up r e.lines)) (sym (eqb-true q r at)) ∙ is in
+    sym (kept_given r e.lines) ∙ ap (λ n. kept_at n (gives_up r e.lines)) (sym (eqb-true q r at)) ∙ is in
     both (is_wait_transport s.state.phase) waits (given_waits r (kept_at r e.lines) s here)
 asked_by r q e s false at has lasts is waits =
     let ne : q ≢ r = (λ same. both (q == r) (eq-eqb q r same) at) in
     asked_closed q r (open_link r e.carrier) e.carrier refl
-        (λ was. has was q s (sym (ap session_in (given_other q r e.lines ne)) ∙ is) waits) lasts
+    (λ was. has was q s (sym (ap session_in (given_other q r e.lines ne)) ∙ is) waits) lasts
 
 pub disconnect_asked : (r : ℕ) (e : End) → HasAsked e → HasAsked (disconnects r e)
 disconnect_asked r e has over q s is waits =
     let lasts = disconnect_lasts r e over in
     let same = disconnect_is r e over in
     ap (λ (x : End). value_at q x.carrier.live) same ∙
-        asked_by r q e s (q == r) refl has lasts (ap (λ (x : End). kept_at q x.lines) (sym same) ∙ is) waits
+    asked_by r q e s (q == r) refl has lasts (ap (λ (x : End). kept_at q x.lines) (sym same) ∙ is) waits
 
 -- ---- between any two calls
 

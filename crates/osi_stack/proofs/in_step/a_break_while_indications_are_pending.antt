@@ -55,9 +55,9 @@ lost_told r t lines apart =
     let lost = shown_of r (shown_at_loss (kept_at r lines)) in
     told_join r t (all_waiting (all_lost lines))
     ∙ ap (λ (l : List (ℕ × Shown)). told_of r t ++ l)
-        (told_at r (all_lost lines) (apart_lost lines apart) ∙ ap (shown_of r) ((are_lost lines).waiting r)
+    (told_at r (all_lost lines) (apart_lost lines apart) ∙ ap (shown_of r) ((are_lost lines).waiting r)
     ∙ shown_join r (waiting_at r lines) (shown_at_loss (kept_at r lines)) ∙
-        ap (λ (l : List (ℕ × Shown)). l ++ lost) (sym (told_at r lines apart)))
+    ap (λ (l : List (ℕ × Shown)). l ++ lost) (sym (told_at r lines apart)))
     ∙ sym (append_assoc (told_of r t) (told_of r (all_waiting lines)) lost)
     ∙ ap (λ (l : List (ℕ × Shown)). l ++ lost) (sym (told_join r t (all_waiting lines)))
 
@@ -86,7 +86,7 @@ broken_apart a b xs ys apart others h = record {
   told = λ r. lost_told r (flat_map told_in xs) a.end.lines apart
       ∙ ap (λ (l : List (ℕ × Shown)). l ++ shown_of r (shown_at_loss (kept_at r a.end.lines))) (ap (told_of r) h.told)
       ∙ ap (λ (s : Option Listener). told_of r (flat_map told_in ys ++ all_waiting b.end.lines) ++ shown_of r (shown_at_loss s))
-          (kept_alike a b xs ys h r)
+      (kept_alike a b xs ys h r)
       ∙ sym (lost_told r (flat_map told_in ys) b.end.lines others);
 }
 
@@ -100,7 +100,7 @@ breaks_by true a b xs ys over s t h = record { octets = h.octets; end = h.end; t
 breaks_by false a b xs ys over s t h =
     let same = ap (λ (e : End). is_some e.carrier.ended) h.end in
     broken_apart a b xs ys (s.sound (none_of a.end.carrier.ended over)).apart
-        (t.sound (none_of b.end.carrier.ended (sym same ∙ over))).apart h
+    (t.sound (none_of b.end.carrier.ended (sym same ∙ over))).apart h
 
 -- if a break is found, whatever is pending
 pub breaks_alike : (a b : Holding) (xs ys : List Call) → IsSettled a.end → IsSettled b.end → AreAlike a xs b ys →

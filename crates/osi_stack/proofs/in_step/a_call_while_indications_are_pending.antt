@@ -41,14 +41,14 @@ hushed_by r line input e = grind (arith, quieted_twice, by_line, put_quieted, li
 session_hushed : (r : ℕ) (input : Input) (e : End) → hushed (to_session r input e) ≡ hushed (to_session r input (hushed e))
 session_hushed r input e =
     hushed_by r (value_at r e.lines) input e ∙ ap (λ (o : Option Line). hushed (by_line r o input (hushed e)))
-        (sym (quieted_value r e.lines))
+    (sym (quieted_value r e.lines))
 
 -- ---- what is pending
 
 waiting_by : (r q : ℕ) (x line y : Line) (lines : Rows Line) (b : Bool) → (q == r) ≡ b → x.waiting ≡ line.waiting →
     value_at r ((q, y) ∷ lines) ≡ Some line →
     (value_at r lines ≡ Some line → all_waiting (put r x lines) ≡ all_waiting lines) →
-        all_waiting (put r x ((q, y) ∷ lines)) ≡ all_waiting ((q, y) ∷ lines)
+    all_waiting (put r x ((q, y) ∷ lines)) ≡ all_waiting ((q, y) ∷ lines)
 waiting_by r q x line y lines b e same here more = grind arith
 
 waiting_put : (r : ℕ) (x line : Line) (lines : Rows Line) → x.waiting ≡ line.waiting → value_at r lines ≡ Some line →
@@ -74,7 +74,7 @@ none_quieted ((q, line) ∷ lines) = none_quieted lines
 
 pub account_calling : (t : List (ℕ × Shown)) (o : List ℕ) (r : ℕ) (call : SessionCall) (e : End) → call_error r call e ≡ None →
     account_of t o (to_session r (called call) e) ≡ account_of (t ++ all_waiting e.lines) []
-        (to_session r (called call) (put_back o (hushed e)))
+    (to_session r (called call) (put_back o (hushed e)))
 account_calling t o r call e h =
     let input = called call in
     let there = to_session r input (hushed e) in

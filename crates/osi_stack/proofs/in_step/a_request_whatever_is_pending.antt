@@ -23,7 +23,7 @@ waits_by live p y rows more true e h =
 waits_by live p y rows more false e h =
     ap all_waiting (used_by live (p, y) rows false e) ∙ h
     ∙ sym (ap (λ (w : List Shown). shown_of p w ++ all_waiting more)
-        (quiet_line y (or_second (is_some (value_at p live)) (line_waits y) e)))
+    (quiet_line y (or_second (is_some (value_at p live)) (line_waits y) e)))
 
 -- no pending indication is dropped
 waits_still : (live : Rows Connection) (q : ℕ) (s : Listener) (lines : Rows Line) →
@@ -36,7 +36,7 @@ waits_still live q s ((p, y) ∷ lines) =
 pub waits_asked : (c : Connect) (e : End) → all_waiting (connects c e).lines ≡ all_waiting e.lines
 waits_asked c e =
     waits_still (asks (option_map tsap_octets c.calling_tsap) (option_map tsap_octets c.called_tsap) e.carrier).live (e.carrier.given + 1)
-        (calls_with c) e.lines
+    (calls_with c) e.lines
 
 -- ---- lines of live connections
 
@@ -62,7 +62,7 @@ hushed_lines : (live : Rows Connection) (q : ℕ) (s : Listener) (lines : Rows L
     quieted (joins_live live q s lines) ≡ joins_live live q s (quieted lines)
 hushed_lines live q s lines =
     ap quieted (live_used live (joined_lines q s lines)) ∙ sym (quieted_live live (joined_lines q s lines)) ∙
-        ap (live_lines live) (joined_quieted q s lines)
+    ap (live_lines live) (joined_quieted q s lines)
     ∙ sym (live_used live (joined_lines q s (quieted lines)))
 
 -- what is pending does not matter to them
@@ -86,16 +86,16 @@ asked_within c r here = asked_within_by r c (r == c.given + 1) refl here
 
 pruned_lines : (c : Carrier) (s : Listener) (lines : Rows Line) → AreUpTo c.given c.live → AreUpTo c.given lines →
     joins_live (c.live ++ (c.given + 1, asked) ∷ []) (c.given + 1) s (live_lines c.live lines) ≡ joins_live
-        (c.live ++ (c.given + 1, asked) ∷ []) (c.given + 1) s lines
+    (c.live ++ (c.given + 1, asked) ∷ []) (c.given + 1) s lines
 pruned_lines c s lines up known =
     let q = c.given + 1 in
     let live = c.live ++ (q, asked) ∷ [] in
     let K : ℕ → Bool = λ r. is_some (value_at r live) in
     let new : K q ≡ true = ap is_some (push_here q asked c.live (beyond q c.given c.live up (omega arith))) in
     let less : only K (live_lines c.live lines) ≡ only K lines = ap (only K) (sym (known_live c lines known)) ∙
-        only_less K (reached c) (asked_within c) lines in
+    only_less K (reached c) (asked_within c) lines in
     live_used live (joined_lines q s (live_lines c.live lines)) ∙ sym (only_push K q s (live_lines c.live lines) new) ∙
-        ap (joined_lines q s) less ∙ only_push K q s lines new
+    ap (joined_lines q s) less ∙ only_push K q s lines new
     ∙ sym (live_used live (joined_lines q s lines))
 
 pub connects_pruned : (c : Connect) (e : End) → AreUpTo e.carrier.given e.carrier.live → AreUpTo e.carrier.given e.lines →
@@ -113,6 +113,9 @@ connects_back o c e = ap (put_back o) (connects_hushed c e) ∙ ap pruned (sym (
 pub asked_alike : (c : Connect) (a b : Holding) (xs ys : List Call) → AreAlike a xs b ys →
     AreAlikeInLive (record a { end = connects c a.end }) xs (record b { end = connects c b.end }) ys
 asked_alike c a b xs ys h =
-    search (connects_back (flat_map carried_in xs) c a.end ∙ ap (λ (e : End). pruned (connects c e)) h.end ∙
-    sym (connects_back (flat_map carried_in ys) c b.end), ap (λ (l : List (ℕ × Shown)). flat_map told_in xs ++ l) (waits_asked c a.end) ∙
-    h.told ∙ ap (λ (l : List (ℕ × Shown)). flat_map told_in ys ++ l) (sym (waits_asked c b.end)))
+    search (
+      connects_back (flat_map carried_in xs) c a.end ∙ ap (λ (e : End). pruned (connects c e)) h.end ∙
+          sym (connects_back (flat_map carried_in ys) c b.end),
+      ap (λ (l : List (ℕ × Shown)). flat_map told_in xs ++ l) (waits_asked c a.end) ∙
+          h.told ∙ ap (λ (l : List (ℕ × Shown)). flat_map told_in ys ++ l) (sym (waits_asked c b.end)),
+    )

@@ -14,7 +14,7 @@ or_not b w e h = grind arith
 
 push_by : (r p q : ℕ) (c d : Connection) (live : Rows Connection) (b : Bool) → (p == r) ≡ b → is_some (value_at r ((p, d) ∷ live)) ≡ true →
     (is_some (value_at r live) ≡ true → is_some (value_at r (live ++ (q, c) ∷ [])) ≡ true) →
-        is_some (value_at r ((p, d) ∷ (live ++ (q, c) ∷ []))) ≡ true
+    is_some (value_at r ((p, d) ∷ (live ++ (q, c) ∷ []))) ≡ true
 push_by r p q c d live true e here more = rw e refl
 push_by r p q c d live false e here more = rw e (more (rw e at here))
 
@@ -26,9 +26,10 @@ live_push r q c ((p, d) ∷ live) here = push_by r p q c d live (p == r) refl he
 pub wait_push : (q : ℕ) (c : Connection) (live : Rows Connection) (lines : Rows Line) → WaitForLive live lines →
     WaitForLive (live ++ (q, c) ∷ []) lines
 wait_push q c live [] all = tt
-wait_push q c live ((r, line) ∷ lines) all =
-    (mono_or (is_some (value_at r live)) (is_some (value_at r (live ++ (q, c) ∷ []))) (not (line_waits line)) (live_push r q c live) all.0,
-        wait_push q c live lines all.1)
+wait_push q c live ((r, line) ∷ lines) all = (
+  mono_or (is_some (value_at r live)) (is_some (value_at r (live ++ (q, c) ∷ []))) (not (line_waits line)) (live_push r q c live) all.0,
+  wait_push q c live lines all.1,
+)
 
 -- ---- the lines that are kept
 
@@ -53,16 +54,24 @@ row_joins live q p s y lines true e may j =
     let still : is_used live (p, hush y) ≡ true = ap (λ x. x || false) e in
     let kept = used_by live (p, y) (joined_lines q s lines) true used in
     let hushed = used_by live (p, hush y) (joined_lines q s (quieted lines)) true still in
-    search (ap quieted kept ∙ ap (λ (l : Rows Line). (p, hush y) ∷ l) j.same ∙ ap quieted (sym hushed), ap all_waiting kept ∙
-        ap (λ (l : List (ℕ × Shown)). shown_of p y.waiting ++ l) j.waiting, ap all_waiting hushed ∙ j.none)
+    search (
+      ap quieted kept ∙ ap (λ (l : Rows Line). (p, hush y) ∷ l) j.same ∙ ap quieted (sym hushed),
+      ap all_waiting kept ∙
+          ap (λ (l : List (ℕ × Shown)). shown_of p y.waiting ++ l) j.waiting,
+      ap all_waiting hushed ∙ j.none,
+    )
 row_joins live q p s y lines false e may j =
     let quiet = or_not (is_some (value_at p live)) (line_waits y) e may in
     let used : is_used live (p, y) ≡ false = ap (λ x. x || line_waits y) e ∙ quiet in
     let still : is_used live (p, hush y) ≡ false = ap (λ x. x || false) e in
     let kept = used_by live (p, y) (joined_lines q s lines) false used in
     let hushed = used_by live (p, hush y) (joined_lines q s (quieted lines)) false still in
-    search (ap quieted kept ∙ j.same ∙ ap quieted (sym hushed), ap all_waiting kept ∙ j.waiting ∙
-        sym (ap (λ (w : List Shown). shown_of p w ++ all_waiting lines) (quiet_line y quiet)), ap all_waiting hushed ∙ j.none)
+    search (
+      ap quieted kept ∙ j.same ∙ ap quieted (sym hushed),
+      ap all_waiting kept ∙ j.waiting ∙
+          sym (ap (λ (w : List Shown). shown_of p w ++ all_waiting lines) (quiet_line y quiet)),
+      ap all_waiting hushed ∙ j.none,
+    )
 
 pub joins_alike : (live : Rows Connection) (q : ℕ) (s : Listener) (lines : Rows Line) → WaitForLive live lines → Joins live q s lines
 joins_alike live q s [] all =

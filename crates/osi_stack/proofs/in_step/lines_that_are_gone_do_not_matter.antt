@@ -65,8 +65,11 @@ fit_back o e f = grind (arith, orderly_same, put_back, apart_quieted, up_quieted
 
 pub fit_packet : SessionLaws → StillWaits → (unit : List ℕ) (e : End) → e.carrier.ended ≡ None → IsFit e → IsFit (after_packet e unit)
 fit_packet laws law unit e lasts f =
-    search (attended_then (with_carrier (carriers.after_packet e.carrier unit) e) (after_packet e unit) (packet_is e unit),
-    packet_sound laws unit e lasts (f.attended lasts) f.sound, packet_asked law unit e lasts (f.sound lasts) f.asks)
+    search (
+      attended_then (with_carrier (carriers.after_packet e.carrier unit) e) (after_packet e unit) (packet_is e unit),
+      packet_sound laws unit e lasts (f.attended lasts) f.sound,
+      packet_asked law unit e lasts (f.sound lasts) f.asks,
+    )
 
 -- ---- the session of a connection that is gone indicates nothing when it is lost
 
@@ -92,7 +95,7 @@ gone_quiet e r s lasts f kept none true true m shows =
 gone_quiet e r s lasts f kept none false true m shows =
     let waits : is_wait_transport s.state.phase ≡ true =
     or_either (may_abort s.state.phase) (is_wait_transport s.state.phase)
-        (implied shows_loss (λ p. may_abort p || is_wait_transport p) refl s.state.phase shows) m in
+    (implied shows_loss (λ p. may_abort p || is_wait_transport p) refl s.state.phase shows) m in
     let no : None ≡ Some asked = sym none ∙ f.asks lasts r s kept waits in
     cc
 
@@ -132,7 +135,7 @@ still_lines K ((q, y) ∷ lines) apart quiet shows = (
 pub fit_still : (e : End) → e.carrier.ended ≡ None → IsFit e → waits e.lines ≡ false → AreStill (reached e.carrier) e.lines
 fit_still e lasts f quiet =
     still_lines (reached e.carrier) e.lines (f.sound lasts).apart quiet
-        (λ r s is gone. gone_shows e r s lasts f is (unreached e.carrier r gone).none)
+    (λ r s is gone. gone_shows e r s lasts f is (unreached e.carrier r gone).none)
 
 -- ---- accounts
 
@@ -158,7 +161,7 @@ pub account_alike : (t : List (ℕ × Shown)) (o : List ℕ) (a b : End) → Sam
     pruned_account (account_of t o a) ≡ pruned_account (account_of t o b)
 account_alike t o a b h =
     account_view t o a ∙ ap (λ (e : End). made (put_back o (hushed e)) (t ++ all_waiting a.lines)) h.end ∙
-        ap (λ (w : List (ℕ × Shown)). made (put_back o (hushed (pruned b))) (t ++ w)) h.told
+    ap (λ (w : List (ℕ × Shown)). made (put_back o (hushed (pruned b))) (t ++ w)) h.told
     ∙ sym (account_view t o b)
 
 -- all its indications were given

@@ -50,11 +50,14 @@ like_packet : SessionLaws → StillWaits → (x y : Account) (unit : List ℕ) �
     LikeInLive (with_packet x unit) (with_packet y unit)
 like_packet laws law x y unit lasts h =
     let still = sym (ended_same x y h) ∙ lasts in
-    search (one_packet x unit lasts h.left h.quiet ∙ ap (λ (z : Account). pruned_account (with_packet z unit)) h.same ∙
-        sym (one_packet y unit still h.right h.quiet_too),
-        fit_hushed [] (after_packet x.end unit) (fit_packet laws law unit x.end lasts h.left),
-        fit_hushed [] (after_packet y.end unit) (fit_packet laws law unit y.end still h.right), none_waits (after_packet x.end unit).lines,
-        none_waits (after_packet y.end unit).lines)
+    search (
+      one_packet x unit lasts h.left h.quiet ∙ ap (λ (z : Account). pruned_account (with_packet z unit)) h.same ∙
+          sym (one_packet y unit still h.right h.quiet_too),
+      fit_hushed [] (after_packet x.end unit) (fit_packet laws law unit x.end lasts h.left),
+      fit_hushed [] (after_packet y.end unit) (fit_packet laws law unit y.end still h.right),
+      none_waits (after_packet x.end unit).lines,
+      none_waits (after_packet y.end unit).lines,
+    )
 
 -- ---- an end
 
@@ -65,15 +68,19 @@ one_end : (z : Account) (reason : EndReason) → z.end.carrier.ended ≡ None �
     pruned_account (ended reason z) ≡ pruned_account (ended reason (pruned_account z))
 one_end z reason lasts f quiet =
     sym (account_alike z.told [] (ends reason (pruned z.end)) (ends reason z.end)
-        (ends_alike reason z.end (f.sound lasts).known (fit_still z.end lasts f quiet)))
+    (ends_alike reason z.end (f.sound lasts).known (fit_still z.end lasts f quiet)))
 
 like_end : (x y : Account) (reason : EndReason) → x.end.carrier.ended ≡ None → LikeInLive x y → LikeInLive (ended reason x) (ended reason y)
 like_end x y reason lasts h =
     let still = sym (ended_same x y h) ∙ lasts in
-    search (one_end x reason lasts h.left h.quiet ∙ ap (λ (z : Account). pruned_account (ended reason z)) h.same ∙
-        sym (one_end y reason still h.right h.quiet_too), fit_hushed [] (ends reason x.end) (fit_over (ends reason x.end) refl),
-        fit_hushed [] (ends reason y.end) (fit_over (ends reason y.end) refl), none_waits (ends reason x.end).lines,
-        none_waits (ends reason y.end).lines)
+    search (
+      one_end x reason lasts h.left h.quiet ∙ ap (λ (z : Account). pruned_account (ended reason z)) h.same ∙
+          sym (one_end y reason still h.right h.quiet_too),
+      fit_hushed [] (ends reason x.end) (fit_over (ends reason x.end) refl),
+      fit_hushed [] (ends reason y.end) (fit_over (ends reason y.end) refl),
+      none_waits (ends reason x.end).lines,
+      none_waits (ends reason y.end).lines,
+    )
 
 -- ---- a call of a session
 
@@ -101,11 +108,14 @@ like_call : SessionLaws → StillWaits → (r : ℕ) (call : SessionCall) (x y :
     LikeInLive (called_by (calling r call) x) (called_by (calling r call) y)
 like_call laws law r call x y here there lasts h =
     let still = sym (ended_same x y h) ∙ lasts in
-    search (one_call r call x here lasts h.left h.quiet ∙ ap (λ (z : Account). pruned_account (called_by (calling r call) z)) h.same ∙
-        sym (one_call r call y there still h.right h.quiet_too),
-        fit_hushed [] (to_session r (called call) x.end) (fit_call laws law r call x.end h.left),
-        fit_hushed [] (to_session r (called call) y.end) (fit_call laws law r call y.end h.right),
-        none_waits (to_session r (called call) x.end).lines, none_waits (to_session r (called call) y.end).lines)
+    search (
+      one_call r call x here lasts h.left h.quiet ∙ ap (λ (z : Account). pruned_account (called_by (calling r call) z)) h.same ∙
+          sym (one_call r call y there still h.right h.quiet_too),
+      fit_hushed [] (to_session r (called call) x.end) (fit_call laws law r call x.end h.left),
+      fit_hushed [] (to_session r (called call) y.end) (fit_call laws law r call y.end h.right),
+      none_waits (to_session r (called call) x.end).lines,
+      none_waits (to_session r (called call) y.end).lines,
+    )
 
 -- ---- a connection is given up
 
@@ -113,7 +123,7 @@ one_disconnect : (r : ℕ) (z : Account) → z.end.carrier.ended ≡ None → Is
     pruned_account (called_by (disconnecting r) z) ≡ pruned_account (called_by (disconnecting r) (pruned_account z))
 one_disconnect r z lasts f quiet =
     sym (account_alike z.told [] (disconnects r (pruned z.end)) (disconnects r z.end)
-        (disconnect_alike r z.end (f.sound lasts).known (fit_still z.end lasts f quiet)))
+    (disconnect_alike r z.end (f.sound lasts).known (fit_still z.end lasts f quiet)))
 
 fit_disconnect : (r : ℕ) (e : End) → IsFit e → IsFit (disconnects r e)
 fit_disconnect r e f =
@@ -144,7 +154,7 @@ one_asked t o c e lasts f =
     let s = f.sound lasts in
     account_view t o (connects c e)
     ∙ ap (λ (x : End). made x (t ++ all_waiting (connects c e).lines))
-        (connects_back o c e ∙ sym (connects_pruned c (put_back o (hushed e)) s.orderly.up_to s.known))
+    (connects_back o c e ∙ sym (connects_pruned c (put_back o (hushed e)) s.orderly.up_to s.known))
     ∙ ap (λ (w : List (ℕ × Shown)). made (pruned (connects c (pruned (put_back o (hushed e))))) (t ++ w)) (waits_asked c e)
 
 fit_connect : (c : Connect) (e : End) → connect_error c e ≡ None → IsFit e → IsFit (connects c e)
@@ -154,11 +164,14 @@ like_asked : (t : List (ℕ × Shown)) (o : List ℕ) (a : End) (u : List (ℕ �
     a.carrier.ended ≡ None → connect_error c a ≡ None → connect_error c b ≡ None →
     LikeInLive (account_of t o a) (account_of u p b) → LikeInLive (account_of t o (connects c a)) (account_of u p (connects c b))
 like_asked t o a u p b c lasts may might h =
-    search (one_asked t o c a lasts h.left ∙ ap (asked_of c) h.same ∙
-    sym (one_asked u p c b (sym (ended_same (account_of t o a) (account_of u p b) h) ∙ lasts) h.right),
-    fit_hushed o (connects c a) (fit_connect c a may (fit_back o a h.left)),
-    fit_hushed p (connects c b) (fit_connect c b might (fit_back p b h.right)), none_waits (connects c a).lines,
-    none_waits (connects c b).lines)
+    search (
+      one_asked t o c a lasts h.left ∙ ap (asked_of c) h.same ∙
+          sym (one_asked u p c b (sym (ended_same (account_of t o a) (account_of u p b) h) ∙ lasts) h.right),
+      fit_hushed o (connects c a) (fit_connect c a may (fit_back o a h.left)),
+      fit_hushed p (connects c b) (fit_connect c b might (fit_back p b h.right)),
+      none_waits (connects c a).lines,
+      none_waits (connects c b).lines,
+    )
 
 -- ---- a call of the user
 
@@ -174,21 +187,21 @@ like_user laws law t o a u p b (calling r call) lasts may might h =
     let x = account_of t o a in
     let y = account_of u p b in
     alike_at LikeInLive (account_of t o (to_session r (called call) a)) (account_of u p (to_session r (called call) b))
-        (called_by (calling r call) x) (called_by (calling r call) y)
+    (called_by (calling r call) x) (called_by (calling r call) y)
     (account_called t o (calling r call) a may) (account_called u p (calling r call) b might)
     (like_call laws law r call x y (accepted_live r call a may) (accepted_live r call b might) lasts h)
 like_user laws law t o a u p b (disconnecting r) lasts may might h =
     let x = account_of t o a in
     let y = account_of u p b in
     alike_at LikeInLive (account_of t o (disconnects r a)) (account_of u p (disconnects r b)) (called_by (disconnecting r) x)
-        (called_by (disconnecting r) y)
+    (called_by (disconnecting r) y)
     (account_called t o (disconnecting r) a may) (account_called u p (disconnecting r) b might) (like_disconnect r x y lasts h)
 like_user laws law t o a u p b breaking lasts may might h =
     let x = account_of t o a in
     let y = account_of u p b in
     alike_at LikeInLive (account_of t o (user_does breaking a)) (account_of u p (user_does breaking b)) (ended Broken x) (ended Broken y)
     (account_called t o breaking a may ∙ breaks_is x lasts)
-        (account_called u p breaking b might ∙ breaks_is y (sym (ended_same x y h) ∙ lasts))
+    (account_called u p breaking b might ∙ breaks_is y (sym (ended_same x y h) ∙ lasts))
     (like_end x y Broken lasts h)
 
 pub in_live : SessionLaws → StillWaits → Likeness MayAsk LikeInLive
@@ -210,7 +223,7 @@ like_first e s =
 alike_after : (a b : Holding) (xs ys : List Call) → SameAfter LikeInLive [] [] xs a [] [] ys b → AreAlikeInLive a xs b ys
 alike_after a b xs ys h =
     let same = sym (account_view (flat_map told_in xs) (flat_map carried_in xs) a.end) ∙ h.account.same ∙
-        account_view (flat_map told_in ys) (flat_map carried_in ys) b.end in
+    account_view (flat_map told_in ys) (flat_map carried_in ys) b.end in
     record { octets = h.octets; end = ap (λ (x : Account). x.end) same; told = ap (λ (x : Account). x.told) same }
 
 pub asking_alike : SessionLaws → StillWaits → IsPartial [] → OneCut → (old a b : Holding) (xs ys : List Round) → IsSettled old.end →
@@ -219,14 +232,14 @@ pub asking_alike : SessionLaws → StillWaits → IsPartial [] → OneCut → (o
 asking_alike laws law nothing one_cut old a b xs ys s partial bound h k step =
     alike_after a b (calls_of xs) (calls_of ys)
     (rounds_alike MayAsk LikeInLive (in_live laws law) nothing one_cut [] [] old [] [] old xs ys a b
-        (are_first LikeInLive old partial bound (like_first old.end s)) h k step).same
+    (are_first LikeInLive old partial bound (like_first old.end s)) h k step).same
 
 pub whole_asking_alike : SessionLaws → StillWaits → PacketLaws → IsPartial [] → OneCut →
     (old c d a b : Holding) (xs ys : List Round) (zs ws : List Call) → IsSettled old.end → IsPartial old.held.octets →
     old.held.offset < 2 ^ 64 → RoundsAsking old xs c → RoundsAsking old ys d → AreInStep xs ys → CallsInRoom c zs a → CallsInRoom d ws b →
-        flat_map used_in zs ≡ flat_map used_in ws →
+    flat_map used_in zs ≡ flat_map used_in ws →
     AreAlikeInLive a (calls_of xs ++ zs) b (calls_of ys ++ ws)
 whole_asking_alike laws law packets nothing one_cut old c d a b xs ys zs ws s partial bound h k step m n used =
     alike_after a b (calls_of xs ++ zs) (calls_of ys ++ ws)
     (whole_alike MayAsk LikeInLive (in_live laws law) packets nothing one_cut old c d a b xs ys zs ws partial bound (like_first old.end s) h
-        k step m n used)
+    k step m n used)

@@ -55,17 +55,17 @@ pub account_told : (shown : Option (ℕ × Shown)) (e : End) → shown ≡ first
     account_of (option_to_list shown) [] (record e { lines = without_first e.lines }) ≡ account_of [] [] e
 account_told shown e is =
     ap (λ (l : Rows Line). made (record e { lines = l }) (option_to_list shown ++ all_waiting (without_first e.lines)))
-        (quieted_first e.lines)
+    (quieted_first e.lines)
     ∙ ap (λ (o : Option (ℕ × Shown)). made (hushed e) (option_to_list o ++ all_waiting (without_first e.lines))) is
     ∙ ap (made (hushed e))
-        (told_first (first_shown e.lines) (all_waiting e.lines) (all_waiting (without_first e.lines)) (first_of_all e.lines))
+    (told_first (first_shown e.lines) (all_waiting e.lines) (all_waiting (without_first e.lines)) (first_of_all e.lines))
 
 -- ---- more before
 
 pub account_joined : (t u : List (ℕ × Shown)) (o p : List ℕ) (e : End) → account_of (t ++ u) (o ++ p) e ≡ after_more t o (account_of u p e)
 account_joined t u o p e =
     ap (λ (l : List ℕ). made (record e { carrier = record e.carrier { outgoing = l }; lines = quieted e.lines })
-        ((t ++ u) ++ all_waiting e.lines)) (append_assoc o p e.carrier.outgoing)
+    ((t ++ u) ++ all_waiting e.lines)) (append_assoc o p e.carrier.outgoing)
     ∙ ap (made (put_back o (put_back p (hushed e)))) (append_assoc t u (all_waiting e.lines))
 
 packet_apart : (t : List (ℕ × Shown)) (o : List ℕ) (a : Account) (unit : List ℕ) →

@@ -40,7 +40,7 @@ module _ (May : UserCall → End → Type 0) (Like : Account → Account → Typ
         account = alike_at Like (account_of (t ++ flat_map told_in xs) (o ++ flat_map carried_in xs) c.end)
             (account_of (u ++ flat_map told_in ys) (p ++ flat_map carried_in ys) d.end)
             (account_of t o a.end) (account_of u p b.end) (account_stays t o a xs c m.account) (account_stays u p b ys d n.account)
-                same.account;
+            same.account;
       }
 
   -- ---- the octets end both
@@ -57,9 +57,9 @@ module _ (May : UserCall → End → Type 0) (Like : Account → Account → Typ
       let front = packets_alike May Like l a.before x y a.lasts like in
       let behind : Like (with_packets us x) (with_packets us y) =
       alike_at Like (with_packets us x) (with_packets us y) (with_packet (with_packets a.before x) a.last)
-          (with_packet (with_packets a.before y) a.last)
+      (with_packet (with_packets a.before y) a.last)
       (with_joined a.before (a.last ∷ []) x) (with_joined a.before (a.last ∷ []) y)
-          (l.packet (with_packets a.before x) (with_packets a.before y) a.last a.lasts front) in
+      (l.packet (with_packets a.before x) (with_packets a.before y) a.last a.lasts front) in
       record {
         final = with_packets us y;
         how = inl (record {
@@ -104,11 +104,11 @@ module _ (May : UserCall → End → Type 0) (Like : Account → Account → Typ
       let here = ending_alike (account_of t o a.end) (account_of u p b.end) a.held.offset s first are.same.account
       (ending_apart t o (account_of [] [] a.end) a.held.offset s (account_along xs c.end) m.how) in
       let other = ending_apart u p (account_of [] [] b.end) b.held.offset (b.held.octets ++ flat_map used_in ys) (account_along ys d.end)
-          n.how in
+      n.how in
       let there : Ending (account_of u p b.end) a.held.offset s final =
       subst (λ (k : ℕ). Ending (account_of u p b.end) k s final) (sym are.offset)
       (subst (λ (r : List ℕ). Ending (account_of u p b.end) b.held.offset r final) (sym (used_alike a b xs ys are.same.octets used)) other)
-          in
+      in
       let one : here.final ≡ final = end_alike laws (account_of u p b.end) a.held.offset s here.final final here.how there in
       record {
         octets = m.nothing ∙ sym n.nothing;
@@ -127,7 +127,7 @@ module _ (May : UserCall → End → Type 0) (Like : Account → Account → Typ
       let left = account_of t o a.end in
       let right = account_of u p b.end in
       let there : (with_packets h.units right).end.carrier.ended ≡ None =
-          ap (λ (x : Account). x.end.carrier.ended) (packets_apart u p h.units (account_of [] [] b.end)) ∙ h.lasts in
+      ap (λ (x : Account). x.end.carrier.ended) (packets_apart u p h.units (account_of [] [] b.end)) ∙ h.lasts in
       let back = packets_alike May Like l h.units right left there (l.turned left right same.account) in
       record {
         units = h.units;
@@ -143,30 +143,30 @@ module _ (May : UserCall → End → Type 0) (Like : Account → Account → Typ
       (t : List (ℕ × Shown)) (o : List ℕ) (a : Holding) (u : List (ℕ × Shown)) (p : List ℕ) (b : Holding) (xs ys : List Call)
       (c d : Holding) → Same Like t o a u p b →
       IsPartial b.held.octets → flat_map used_in xs ≡ flat_map used_in ys →
-          Outcome a (a.held.octets ++ flat_map used_in xs) (account_along xs c.end) c.held.octets →
+      Outcome a (a.held.octets ++ flat_map used_in xs) (account_along xs c.end) c.held.octets →
       CallsInRoom b ys d → d.end.carrier.ended ≡ None → ⊥
   never_one laws nothing t o a u p b xs ys c d same partial used m k lasts =
       let h = reads_lasts nothing b ys d partial (in_room b ys d k) lasts in
       let here = subst (Lasts b) (sym (used_alike a b xs ys same.octets used)) h in
       ending_lasts laws a (a.held.octets ++ flat_map used_in xs) (account_along xs c.end)
-          (lasts_alike t o a u p b (a.held.octets ++ flat_map used_in xs) same here) m.how
+      (lasts_alike t o a u p b (a.held.octets ++ flat_map used_in xs) same here) m.how
 
   alike_by : PacketLaws → IsPartial [] → OneCut →
       (t : List (ℕ × Shown)) (o : List ℕ) (a : Holding) (u : List (ℕ × Shown)) (p : List ℕ) (b : Holding) (xs ys : List Call)
       (c d : Holding) (first other : Bool) →
       is_some c.end.carrier.ended ≡ first → is_some d.end.carrier.ended ≡ other → Are Like t o a u p b → a.end.carrier.ended ≡ None →
-          CallsInRoom a xs c → CallsInRoom b ys d →
+      CallsInRoom a xs c → CallsInRoom b ys d →
       flat_map used_in xs ≡ flat_map used_in ys → SameAfter Like t o xs c u p ys d
   alike_by laws nothing one_cut t o a u p b xs ys c d false false e f are quiet h k used =
       (calls_alike May Like l nothing one_cut t o a u p b xs ys c d are (in_room a xs c h) (in_room b ys d k) used
-          (none_of c.end.carrier.ended e) (none_of d.end.carrier.ended f)).same
+      (none_of c.end.carrier.ended e) (none_of d.end.carrier.ended f)).same
   alike_by laws nothing one_cut t o a u p b xs ys c d true true e f are quiet h k used =
       let still = sym (ended_alike t o a u p b are.same) ∙ quiet in
       end_same laws t o a u p b xs ys c d are used (outcome_along nothing a xs c quiet are.bound h e)
       (outcome_along nothing b ys d still (subst (λ (n : ℕ). n < 2 ^ 64) are.offset are.bound) k f)
   alike_by laws nothing one_cut t o a u p b xs ys c d true false e f are quiet h k used =
       absurd (never_one laws nothing t o a u p b xs ys c d are.same (subst IsPartial are.same.octets are.partial) used
-          (outcome_along nothing a xs c quiet are.bound h e) k (none_of d.end.carrier.ended f))
+      (outcome_along nothing a xs c quiet are.bound h e) k (none_of d.end.carrier.ended f))
   alike_by laws nothing one_cut t o a u p b xs ys c d false true e f are quiet h k used =
       let still = sym (ended_alike t o a u p b are.same) ∙ quiet in
       absurd (never_one laws nothing u p b t o a ys xs d c (turned t o a u p b are.same) are.partial (sym used)
@@ -176,11 +176,11 @@ module _ (May : UserCall → End → Type 0) (Like : Account → Account → Typ
       (t : List (ℕ × Shown)) (o : List ℕ) (a : Holding) (u : List (ℕ × Shown)) (p : List ℕ) (b : Holding) (xs ys : List Call)
       (c d : Holding) (over : Bool) →
       is_some a.end.carrier.ended ≡ over → Are Like t o a u p b → CallsInRoom a xs c → CallsInRoom b ys d →
-          flat_map used_in xs ≡ flat_map used_in ys → SameAfter Like t o xs c u p ys d
+      flat_map used_in xs ≡ flat_map used_in ys → SameAfter Like t o xs c u p ys d
   last_by laws nothing one_cut t o a u p b xs ys c d true e are h k used = stay_alike t o a u p b xs ys c d are.same e h k
   last_by laws nothing one_cut t o a u p b xs ys c d false e are h k used =
       alike_by laws nothing one_cut t o a u p b xs ys c d (is_some c.end.carrier.ended) (is_some d.end.carrier.ended) refl refl are
-          (none_of a.end.carrier.ended e) h k used
+      (none_of a.end.carrier.ended e) h k used
 
   -- ---- whole runs
 
@@ -188,11 +188,11 @@ module _ (May : UserCall → End → Type 0) (Like : Account → Account → Typ
       IsPartial old.held.octets → old.held.offset < 2 ^ 64 →
       Like (account_of [] [] old.end) (account_of [] [] old.end) → RoundsBy May old xs c → RoundsBy May old ys d → AreInStep xs ys →
       CallsInRoom c zs a → CallsInRoom d ws b → flat_map used_in zs ≡ flat_map used_in ws →
-          SameAfter Like [] [] (calls_of xs ++ zs) a [] [] (calls_of ys ++ ws) b
+      SameAfter Like [] [] (calls_of xs ++ zs) a [] [] (calls_of ys ++ ws) b
   whole_alike laws nothing one_cut old c d a b xs ys zs ws partial bound like h k step m n used =
       let are = rounds_alike May Like l nothing one_cut [] [] old [] [] old xs ys c d (are_first Like old partial bound like) h k step in
       let last = last_by laws nothing one_cut (flat_map told_in (calls_of xs)) (flat_map carried_in (calls_of xs)) c
-          (flat_map told_in (calls_of ys)) (flat_map carried_in (calls_of ys)) d zs ws a b
+      (flat_map told_in (calls_of ys)) (flat_map carried_in (calls_of ys)) d zs ws a b
       (is_some c.end.carrier.ended) refl are m n used in
       same_joined Like [] [] [] [] (calls_of xs) (calls_of ys) zs ws a b last
 
@@ -200,9 +200,9 @@ module _ (May : UserCall → End → Type 0) (Like : Account → Account → Typ
 pub whole_runs_alike : PacketLaws → IsPartial [] → OneCut → (old c d a b : Holding) (xs ys : List Round) (zs ws : List Call) →
     IsPartial old.held.octets → old.held.offset < 2 ^ 64 →
     RoundsAlong old xs c → RoundsAlong old ys d → AreInStep xs ys → CallsInRoom c zs a → CallsInRoom d ws b →
-        flat_map used_in zs ≡ flat_map used_in ws →
+    flat_map used_in zs ≡ flat_map used_in ws →
     AreAlike a (calls_of xs ++ zs) b (calls_of ys ++ ws)
 whole_runs_alike laws nothing one_cut old c d a b xs ys zs ws partial bound h k step m n used =
     same_alike a b (calls_of xs ++ zs) (calls_of ys ++ ws)
     (whole_alike MayCall (λ (x y : Account). x ≡ y) exactly laws nothing one_cut old c d a b xs ys zs ws partial bound refl h k step m n
-        used)
+    used)

@@ -60,14 +60,14 @@ module _ (K : ℕ → Bool) where
       put r x (only ((q, y) ∷ lines)) ≡ only (put r x ((q, y) ∷ lines))
   put_by r q x y lines true true e f here more =
       ap (put r x) (only_row q y lines true f) ∙ put_row r q x y (only lines) true e ∙
-          sym (ap only (put_row r q x y lines true e) ∙ only_row q x lines true f)
+      sym (ap only (put_row r q x y lines true e) ∙ only_row q x lines true f)
   put_by r q x y lines false true e f here more =
       ap (put r x) (only_row q y lines true f) ∙ put_row r q x y (only lines) false e ∙ ap (row q y) more
       ∙ sym (ap only (put_row r q x y lines false e) ∙ only_row q y (put r x lines) true f)
   put_by r q x y lines true false e f here more = both (K r) here (ap K (sym (eqb-true q r e)) ∙ f)
   put_by r q x y lines false false e f here more =
       ap (put r x) (only_row q y lines false f) ∙ more ∙
-          sym (ap only (put_row r q x y lines false e) ∙ only_row q y (put r x lines) false f)
+      sym (ap only (put_row r q x y lines false e) ∙ only_row q y (put r x lines) false f)
 
   pub only_put : (r : ℕ) (x : Line) (lines : Rows Line) → K r ≡ true → put r x (only lines) ≡ only (put r x lines)
   only_put r x [] here = refl
@@ -81,10 +81,10 @@ module _ (K : ℕ → Bool) where
       ∙ sym (ap only (used_by live (q, y) lines true e) ∙ only_row q y (used_lines live lines) true f)
   used_rows live q y lines true false e f more =
       ap (used_lines live) (only_row q y lines false f) ∙ more ∙
-          sym (ap only (used_by live (q, y) lines true e) ∙ only_row q y (used_lines live lines) false f)
+      sym (ap only (used_by live (q, y) lines true e) ∙ only_row q y (used_lines live lines) false f)
   used_rows live q y lines false true e f more =
       ap (used_lines live) (only_row q y lines true f) ∙ used_by live (q, y) (only lines) false e ∙ more ∙
-          sym (ap only (used_by live (q, y) lines false e))
+      sym (ap only (used_by live (q, y) lines false e))
   used_rows live q y lines false false e f more =
       ap (used_lines live) (only_row q y lines false f) ∙ more ∙ sym (ap only (used_by live (q, y) lines false e))
 
@@ -96,7 +96,7 @@ module _ (K : ℕ → Bool) where
   only_push r s lines here =
       let new : Line = fresh_line s in
       sym (filter-append (λ (row : ℕ × Line). K row.0) lines ((r, new) ∷ []) ∙
-          ap (λ (l : Rows Line). only lines ++ l) (only_row r new [] true here))
+      ap (λ (l : Rows Line). only lines ++ l) (only_row r new [] true here))
 
   lost_row : (q : ℕ) (y : Line) (lines : Rows Line) (b : Bool) → K q ≡ b → all_lost (only lines) ≡ only (all_lost lines) →
       all_lost (only ((q, y) ∷ lines)) ≡ only (all_lost ((q, y) ∷ lines))
@@ -115,17 +115,17 @@ module _ (K : ℕ → Bool) where
   only_line r None input e here = refl
   only_line r (Some line) input e here =
       ap (λ (l : Rows Line). record { carrier = carrier_by r line.session input e.carrier; lines = l })
-          (only_put r (line_by line line.session input) e.lines here)
+      (only_put r (line_by line line.session input) e.lines here)
 
   pub only_session : (r : ℕ) (input : Input) (e : End) → K r ≡ true → to_session r input (only_end e) ≡ only_end (to_session r input e)
   only_session r input e here =
       ap (λ (line : Option Line). by_line r line input (only_end e)) (only_at r e.lines here) ∙
-          only_line r (value_at r e.lines) input e here
+      only_line r (value_at r e.lines) input e here
 
   only_joins : (r : ℕ) (s : Listener) (e : End) → K r ≡ true → joins r s (only_end e) ≡ only_end (joins r s e)
   only_joins r s e here =
       ap (λ (l : Rows Line). record e { lines = l }) (ap (used_lines e.carrier.live) (only_push r s e.lines here) ∙
-          only_used e.carrier.live (joined_lines r s e.lines))
+      only_used e.carrier.live (joined_lines r s e.lines))
 
   only_opens : (r : ℕ) (line : Option Line) (e : End) → K r ≡ true → opens r line (only_end e) ≡ only_end (opens r line e)
   only_opens r None e here = only_joins r awaits e here
@@ -157,7 +157,7 @@ module _ (K : ℕ → Bool) where
 
   pub only_concludes : (over : Bool) (e : End) →
       (if over then record (only_end e) { lines = all_lost (only e.lines) } else only_end e) ≡ only_end
-          (if over then record e { lines = all_lost e.lines } else e)
+      (if over then record e { lines = all_lost e.lines } else e)
   only_concludes true e = ap (λ (l : Rows Line). record e { lines = l }) (only_lost e.lines)
   only_concludes false e = refl
 
@@ -169,7 +169,7 @@ module _ (K : ℕ → Bool) where
       after_packet (only_end e) unit ≡ only_end (after_packet e unit)
   only_packet e unit all =
       packet_is (only_end e) unit ∙ only_attends (with_carrier (carriers.after_packet e.carrier unit) e) all ∙
-          ap only_end (sym (packet_is e unit))
+      ap only_end (sym (packet_is e unit))
 
   -- ---- the others are still
 
@@ -185,7 +185,7 @@ module _ (K : ℕ → Bool) where
       ap (λ (l : List (ℕ × Shown)). shown_of q y.waiting ++ l) more
   told_row q y lines false e still more =
       ap all_waiting (only_row q y lines false e) ∙ more ∙
-          sym (ap (λ (w : List Shown). shown_of q w ++ all_waiting lines) (still e).waiting)
+      sym (ap (λ (w : List Shown). shown_of q w ++ all_waiting lines) (still e).waiting)
 
   pub only_told : (lines : Rows Line) → AreStill lines → all_waiting (only lines) ≡ all_waiting lines
   only_told [] still = refl
@@ -245,7 +245,7 @@ module _ (K : ℕ → Bool) where
       let mid = with_carrier (carriers.after_packet e.carrier unit) e in
       subst (λ (x : End). AreStill x.lines) (sym (packet_is e unit))
       (concluded_end (λ x. AreStill x.lines) (λ x still. still_lost x.lines still) (hears_all mid)
-          (still_times (length mid.carrier.events) mid all still))
+      (still_times (length mid.carrier.events) mid all still))
 
   -- the indications of a packet are the same if the others are dropped
   pub told_packet : (e : End) (unit : List ℕ) → AreOf (carriers.after_packet e.carrier unit).events → AreStill e.lines →

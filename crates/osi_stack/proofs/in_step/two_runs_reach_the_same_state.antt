@@ -48,7 +48,7 @@ pub packets_alike : (May : UserCall → End → Type 0) (Like : Account → Acco
 packets_alike May Like l [] x y lasts like = like
 packets_alike May Like l (unit ∷ units) x y lasts like =
     packets_alike May Like l units (with_packet x unit) (with_packet y unit) lasts
-        (l.packet x y unit (lasts_before (unit ∷ units) x lasts) like)
+    (l.packet x y unit (lasts_before (unit ∷ units) x lasts) like)
 
 -- two ends that are alike, after these indications were given and these octets sent
 pub record Same (Like : Account → Account → Type 0) (t : List (ℕ × Shown)) (o : List ℕ) (a : Holding) (u : List (ℕ × Shown)) (p : List ℕ)
@@ -81,9 +81,9 @@ used_alike a b xs ys same used = ap (λ l. l ++ flat_map used_in xs) same ∙ ap
 
 pub calls_alike : (May : UserCall → End → Type 0) (Like : Account → Account → Type 0) → Likeness May Like → IsPartial [] → OneCut →
     (t : List (ℕ × Shown)) (o : List ℕ) (a : Holding) (u : List (ℕ × Shown)) (p : List ℕ) (b : Holding) (xs ys : List Call)
-        (c d : Holding) → Are Like t o a u p b →
+    (c d : Holding) → Are Like t o a u p b →
     CallsAlong a xs c → CallsAlong b ys d → flat_map used_in xs ≡ flat_map used_in ys → c.end.carrier.ended ≡ None →
-        d.end.carrier.ended ≡ None →
+    d.end.carrier.ended ≡ None →
     Are Like (t ++ flat_map told_in xs) (o ++ flat_map carried_in xs) c (u ++ flat_map told_in ys) (p ++ flat_map carried_in ys) d
 calls_alike May Like l nothing one_cut t o a u p b xs ys c d are h k used lasts still =
     let m = calls_read nothing a xs c h lasts in
@@ -216,14 +216,14 @@ AreAfter Like t o xs a u p ys b = Are Like (t ++ flat_map told_in xs) (o ++ flat
 pub same_joined : (Like : Account → Account → Type 0) (t : List (ℕ × Shown)) (o : List ℕ) (u : List (ℕ × Shown)) (p : List ℕ)
     (xs ys more rest : List Call) (a b : Holding) →
     SameAfter Like (t ++ flat_map told_in xs) (o ++ flat_map carried_in xs) more a (u ++ flat_map told_in ys) (p ++ flat_map carried_in ys)
-        rest b →
+    rest b →
     SameAfter Like t o (xs ++ more) a u p (ys ++ rest) b
 same_joined Like t o u p xs ys more rest a b h = grind (arith, alike_at, account_of, flat_map, told_in, carried_in, account_behind)
 
 are_joined : (Like : Account → Account → Type 0) (t : List (ℕ × Shown)) (o : List ℕ) (u : List (ℕ × Shown)) (p : List ℕ)
     (xs ys more rest : List Call) (a b : Holding) →
     AreAfter Like (t ++ flat_map told_in xs) (o ++ flat_map carried_in xs) more a (u ++ flat_map told_in ys) (p ++ flat_map carried_in ys)
-        rest b →
+    rest b →
     AreAfter Like t o (xs ++ more) a u p (ys ++ rest) b
 are_joined Like t o u p xs ys more rest a b h =
     record { same = same_joined Like t o u p xs ys more rest a b h.same; partial = h.partial; offset = h.offset; bound = h.bound }
@@ -232,7 +232,7 @@ are_joined Like t o u p xs ys more rest a b h =
 account_none : (t : List (ℕ × Shown)) (o : List ℕ) (a c : Holding) → c ≡ a → account_of (t ++ []) (o ++ []) c.end ≡ account_of t o a.end
 account_none t o a c h =
     ap (λ (x : Holding). account_of (t ++ []) (o ++ []) x.end) h ∙ ap (λ l. account_of l (o ++ []) a.end) (append-nil t) ∙
-        ap (λ l. account_of t l a.end) (append-nil o)
+    ap (λ l. account_of t l a.end) (append-nil o)
 
 are_behind : (Like : Account → Account → Type 0) (t : List (ℕ × Shown)) (o : List ℕ) (a : Holding) (u : List (ℕ × Shown)) (p : List ℕ)
     (b c d : Holding) → Are Like t o a u p b → c ≡ a → d ≡ b →
@@ -241,9 +241,9 @@ are_behind Like t o a u p b c d are h k = grind (arith, alike_at, account_of, ac
 
 pub rounds_alike : (May : UserCall → End → Type 0) (Like : Account → Account → Type 0) → Likeness May Like → IsPartial [] → OneCut →
     (t : List (ℕ × Shown)) (o : List ℕ) (a : Holding) (u : List (ℕ × Shown)) (p : List ℕ) (b : Holding) (xs ys : List Round)
-        (c d : Holding) →
+    (c d : Holding) →
     Are Like t o a u p b → RoundsBy May a xs c → RoundsBy May b ys d → AreInStep xs ys →
-        AreAfter Like t o (calls_of xs) c u p (calls_of ys) d
+    AreAfter Like t o (calls_of xs) c u p (calls_of ys) d
 rounds_alike May Like l nothing one_cut t o a u p b [] [] c d are h k step = are_behind Like t o a u p b c d are h k
 rounds_alike May Like l nothing one_cut t o a u p b [] (y ∷ ys) c d are h k step = absurd step
 rounds_alike May Like l nothing one_cut t o a u p b (x ∷ xs) [] c d are h k step = absurd step
@@ -255,7 +255,7 @@ rounds_alike May Like l nothing one_cut t o a u p b (x ∷ xs) (y ∷ ys) c d ar
     let u' = u ++ flat_map told_in y.calls in
     let p' = p ++ flat_map carried_in y.calls in
     let met = user_alike May Like l t' o' h.0 u' p' k.0 x.user h.1 k.1 fed h.3
-        (subst (λ (call : Option UserCall). IsCalled May k.0 call k.1) (sym step.1) k.3) in
+    (subst (λ (call : Option UserCall). IsCalled May k.0 call k.1) (sym step.1) k.3) in
     are_joined Like t o u p x.calls y.calls (calls_of xs) (calls_of ys) c d
     (rounds_alike May Like l nothing one_cut t' o' h.1 u' p' k.1 xs ys c d met h.4 k.4 step.2)
 

@@ -32,7 +32,7 @@ session_pruned r e = session_by r e.carrier.live e.lines (is_some (value_at r e.
 session_view : (r : ℕ) (o : List ℕ) (e : End) → session_at r (put_back o (hushed (pruned e))) ≡ session_at r e
 session_view r o e =
     ap (λ (s : Option Listener). if is_some (value_at r e.carrier.live) then s else None)
-        (quieted_at r (live_lines e.carrier.live e.lines)) ∙ session_pruned r e
+    (quieted_at r (live_lines e.carrier.live e.lines)) ∙ session_pruned r e
 
 phase_view : (r : ℕ) (o : List ℕ) (e : End) → phase_at r (put_back o (hushed (pruned e))) ≡ phase_at r e
 phase_view r o e = ap (λ (s : Option Listener). if has_given r e.carrier then Some (phase_of s) else None) (session_view r o e)
@@ -41,12 +41,12 @@ call_view : (r : ℕ) (call : SessionCall) (o : List ℕ) (e : End) → call_err
 call_view r call o e =
     call_apart o r call (hushed (pruned e)) ∙ call_hushed r call (pruned e)
     ∙ ap (λ (s : Option Listener). if not (has_given r e.carrier) then Some NoSuchConnection else session_refusal r s call e.carrier)
-        (session_pruned r e)
+    (session_pruned r e)
 
 disconnect_view : (r : ℕ) (o : List ℕ) (e : End) → disconnect_error r (put_back o (hushed (pruned e))) ≡ disconnect_error r e
 disconnect_view r o e =
     ap (λ (s : Option Listener). if not (has_given r e.carrier) then Some NoSuchConnection else
-        (if awaits_transport s then Some BadState else None)) (session_view r o e)
+    (if awaits_transport s then Some BadState else None)) (session_view r o e)
 
 gone_joined : (live : Rows Connection) (row : ℕ × Line) → is_some (value_at row.0 live) ≡ false → joined_live live row ≡ 0
 gone_joined live row e = ap (λ (b : Bool). if◌then◌else◌ {A = ℕ} b (joined_of row.1.session) 0) e
@@ -78,7 +78,7 @@ joined_view e = sym (joined_quiet e.carrier.live (live_lines e.carrier.live e.li
 looks : (a b : Holding) (xs ys : List Call) → a.held.octets ≡ b.held.octets →
     put_back (flat_map carried_in xs) (hushed (pruned a.end)) ≡ put_back (flat_map carried_in ys) (hushed (pruned b.end)) →
     ((r : ℕ) → told_of r (flat_map told_in xs ++ all_waiting a.end.lines) ≡ told_of r (flat_map told_in ys ++ all_waiting b.end.lines)) →
-        LookAlike a xs b ys
+    LookAlike a xs b ys
 looks a b xs ys octets same told =
     let o = flat_map carried_in xs in
     let p = flat_map carried_in ys in
@@ -128,7 +128,7 @@ kept_view r o e here = quieted_at r (live_lines e.carrier.live e.lines) ∙
 lost_by : (r : ℕ) (o p : List ℕ) (a b : End) (here : Bool) → is_some (value_at r a.carrier.live) ≡ here →
     put_back o (hushed (pruned a)) ≡ put_back p (hushed (pruned b)) →
     a.carrier.ended ≡ None → b.carrier.ended ≡ None → IsFit a → IsFit b →
-        shown_at_loss (kept_at r a.lines) ≡ shown_at_loss (kept_at r b.lines)
+    shown_at_loss (kept_at r a.lines) ≡ shown_at_loss (kept_at r b.lines)
 lost_by r o p a b true e same lasts still f g =
     let there : is_some (value_at r b.carrier.live) ≡ true = ap (λ (x : End). is_some (value_at r x.carrier.live)) (sym same) ∙ e in
     ap shown_at_loss (sym (kept_view r o a e) ∙ ap (λ (x : End). kept_at r x.lines) same ∙ kept_view r p b there)
@@ -143,13 +143,13 @@ settled_fit e s = record { attended = s.attended; sound = s.sound; asks = s.asks
 broken_told : (a b : Holding) (xs ys : List Call) (r : ℕ) → a.end.carrier.ended ≡ None → b.end.carrier.ended ≡ None → IsFit a.end →
     IsFit b.end → AreAlikeInLive a xs b ys →
     told_of r (flat_map told_in xs ++ all_waiting (all_lost a.end.lines)) ≡ told_of r
-        (flat_map told_in ys ++ all_waiting (all_lost b.end.lines))
+    (flat_map told_in ys ++ all_waiting (all_lost b.end.lines))
 broken_told a b xs ys r lasts still f g h =
     lost_told r (flat_map told_in xs) a.end.lines (f.sound lasts).apart
     ∙ ap (λ (l : List (ℕ × Shown)). l ++ shown_of r (shown_at_loss (kept_at r a.end.lines))) (ap (told_of r) h.told)
     ∙ ap (λ (w : List Shown). told_of r (flat_map told_in ys ++ all_waiting b.end.lines) ++ shown_of r w)
     (lost_by r (flat_map carried_in xs) (flat_map carried_in ys) a.end b.end (is_some (value_at r a.end.carrier.live)) refl h.end lasts
-        still f g)
+    still f g)
     ∙ sym (lost_told r (flat_map told_in ys) b.end.lines (g.sound still).apart)
 
 abbrev broken_by : Bool → Holding → Holding
@@ -162,7 +162,7 @@ breaks_by true a b xs ys over f g h = looks_in_live a b xs ys h
 breaks_by false a b xs ys over f g h =
     let same = ap (λ (e : End). is_some e.carrier.ended) h.end in
     looks (broken_by false a) (broken_by false b) xs ys h.octets
-        (ended_same (flat_map carried_in xs) (flat_map carried_in ys) a.end b.end h.end)
+    (ended_same (flat_map carried_in xs) (flat_map carried_in ys) a.end b.end h.end)
     (λ r. broken_told a b xs ys r (none_of a.end.carrier.ended over) (none_of b.end.carrier.ended (sym same ∙ over)) f g h)
 
 -- found whatever is pending

@@ -83,12 +83,12 @@ within_by o false none here = both (is_some o) here (ap is_some (none refl))
 pub packet_within : (e : End) (unit : List ℕ) → IsOrderly e.carrier → Within (is_live (after_packet e unit).carrier) (reached e.carrier)
 packet_within e unit orderly q here =
     within_by (value_at q (after_packet e unit).carrier.live) (reached e.carrier q)
-        (λ no. gone_packet e unit q orderly (unreached e.carrier q no)) here
+    (λ no. gone_packet e unit q orderly (unreached e.carrier q no)) here
 
 pub session_within : (r : ℕ) (input : Input) (e : End) → Within (is_live (to_session r input e).carrier) (reached e.carrier)
 session_within r input e q here =
     within_by (value_at q (to_session r input e).carrier.live) (reached e.carrier q)
-        (λ no. session_carried (λ c. value_at q c.live ≡ None) (sessions_keep q) r input e (unreached e.carrier q no).none) here
+    (λ no. session_carried (λ c. value_at q c.live ≡ None) (sessions_keep q) r input e (unreached e.carrier q no).none) here
 
 -- ---- lines of fewer references
 
@@ -154,5 +154,5 @@ pub ends_alike : (reason : EndReason) (e : End) → AreUpTo e.carrier.given e.li
 ends_alike reason e known still =
     subst (λ (x : End). SameInLive x (ends reason e))
     (ap (λ (l : Rows Line). record (ends reason e) { lines = l }) (sym (only_lost (reached e.carrier) e.lines)) ∙
-        ap (ends reason) (pruned_is e known))
+    ap (ends reason) (pruned_is e known))
     (acts_alike e (ends reason e) (λ q here. cc) (still_lost (reached e.carrier) e.lines still))

@@ -75,7 +75,7 @@ module _ (o : List ℕ) where
 
   apart_concludes : (over : Bool) (e : End) →
       (if over then record (put_back o e) { lines = all_lost e.lines } else put_back o e) ≡ put_back o
-          (if over then record e { lines = all_lost e.lines } else e)
+      (if over then record e { lines = all_lost e.lines } else e)
   apart_concludes true e = refl
   apart_concludes false e = refl
 

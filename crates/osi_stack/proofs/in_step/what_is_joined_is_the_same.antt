@@ -30,7 +30,7 @@ live_apart r n live [] low rise = refl
 live_apart r n live ((q, line) ∷ lines) low rise =
     let above : n < q = rise.0 in
     let here : live_one (without r live) (q, line) ≡ live_one live (q, line) =
-        ap (λ (o : Option Connection). cond (is_some o) 1 0) (without_other q r live (unlike q r (omega arith))) in
+    ap (λ (o : Option Connection). cond (is_some o) 1 0) (without_other q r live (unlike q r (omega arith))) in
     let more = live_apart r q live lines (omega arith) rise.1 in
     let one = sum_by-cons (λ row. live_one (without r live) row) (q, line) lines in
     let two = sum_by-cons (λ row. live_one live row) (q, line) lines in
@@ -75,9 +75,9 @@ joined_quiet live ((r, line) ∷ lines) =
 pub kept_same : (a b : Holding) (here there : End) → length a.held.octets ≡ length b.held.octets →
     kept_in a.end.carrier.live ≡ kept_in here.carrier.live →
     joined_in a.end.carrier.live a.end.lines ≡ joined_in here.carrier.live here.lines →
-        kept_in b.end.carrier.live ≡ kept_in there.carrier.live →
+    kept_in b.end.carrier.live ≡ kept_in there.carrier.live →
     joined_in b.end.carrier.live b.end.lines ≡ joined_in there.carrier.live there.lines →
-        kept_in here.carrier.live ≡ kept_in there.carrier.live →
+    kept_in here.carrier.live ≡ kept_in there.carrier.live →
     joined_in here.carrier.live here.lines ≡ joined_in there.carrier.live there.lines → kept_octets a ≡ kept_octets b
 kept_same a b here there held one two three four five six = omega arith
 

@@ -53,7 +53,7 @@ call_same o r call e = call_apart o r call (hushed e) ∙ call_hushed r call e
 disconnect_same : (o : List ℕ) (r : ℕ) (e : End) → disconnect_error r (put_back o (hushed e)) ≡ disconnect_error r e
 disconnect_same o r e =
     ap (λ (s : Option Listener). if not (has_given r e.carrier) then Some NoSuchConnection else
-        (if awaits_transport s then Some BadState else None)) (session_hushed r e)
+    (if awaits_transport s then Some BadState else None)) (session_hushed r e)
 
 -- also if the indications of several references are in another order
 pub look_apart : (a b : Holding) (xs ys : List Call) → AreAlikeByReference a xs b ys → LookAlike a xs b ys
@@ -66,7 +66,7 @@ look_apart a b xs ys h = record {
   kept = kept_same a b (put_back (flat_map carried_in xs) (hushed a.end)) (put_back (flat_map carried_in ys) (hushed b.end))
       (ap length h.octets) refl
       (sym (joined_quiet a.end.carrier.live a.end.lines)) refl (sym (joined_quiet b.end.carrier.live b.end.lines))
-          (ap (λ (e : End). kept_in e.carrier.live) h.end)
+      (ap (λ (e : End). kept_in e.carrier.live) h.end)
       (ap (λ (e : End). joined_in e.carrier.live e.lines) h.end);
   requests = λ c. ap (connect_error c) h.end;
   answers = λ r call. sym (call_same (flat_map carried_in xs) r call a.end) ∙ ap (call_error r call) h.end ∙

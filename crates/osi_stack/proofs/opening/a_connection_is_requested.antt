@@ -15,7 +15,7 @@ holds carrier lines held = record { end = record { carrier = carrier; lines = li
 pub end_connects : (c : Connect) (old new : Carrier) (held kept : Held) (lines pushed swept : Rows Line) (r : ℕ) (row : ℕ × Line)
     (session : Listener) →
     r ≡ old.given → session ≡ calls_with c → row ≡ begins_with (r + 1) session → pushed ≡ lines ++ row ∷ [] → new ≡ asked_by c old →
-        kept ≡ held →
+    kept ≡ held →
     swept ≡ used_lines new.live pushed →
-        holds new swept kept ≡ record { end = connects c (record { carrier = old; lines = lines }); held = held }
+    holds new swept kept ≡ record { end = connects c (record { carrier = old; lines = lines }); held = held }
 end_connects c old new held kept lines pushed swept r row session given is row_is pushed_is new_is kept_is swept_is = cc

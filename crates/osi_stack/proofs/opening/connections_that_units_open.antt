@@ -182,7 +182,7 @@ opens_asked : (r : ℕ) (unit : Value) (s : State) → IsOrderly s → value_at 
 opens_asked r (confirm destination c) s o here = opens_confirm r c (confirmed c s.local s.class) s here
 opens_asked r (disconnect destination source reason user) s o here =
     telling s (to_asked r (disconnect destination source reason user) s) (refused r reason) refl (ap is_some here) refl refl refl
-        (awaited_without r s.live o.rise)
+    (awaited_without r s.live o.rise)
     (λ q h over. stays_by q r (refused r reason) _ (r == q) refl (or_left (r == q) false) (λ ne. without_other q r s.live ne ∙ h))
 opens_asked r (error destination cause) s o here =
     telling s (to_asked r (error destination cause) s) (refused r 0) refl (ap is_some here) refl refl refl (awaited_without r s.live o.rise)
@@ -202,11 +202,11 @@ opens_settles : (r : ℕ) (whole : List (List ℕ)) (c : Connection) (s t : Stat
     t.events ≡ s.events → Opens s (tells_of r (take 1 whole) t)
 opens_settles r [] c s t here other given side live events =
     silent s (tells_of r [] t) (append-nil t.events ∙ events) given side
-        (subst (AwaitedBefore s.live) (sym live) (awaited_put r c s.live other))
+    (subst (AwaitedBefore s.live) (sym live) (awaited_put r c s.live other))
     (λ q h over. inl (ap (value_at q) live ∙ put_other q r c s.live (here.apart q h) ∙ h))
 opens_settles r (first ∷ more) c s t here other given side live events =
     telling s (tells_of r (first ∷ []) t) (tsdu r first) refl here.here (ap (λ l. l ++ tsdu r first ∷ []) events) given side
-        (subst (AwaitedBefore s.live) (sym live) (awaited_put r c s.live other))
+    (subst (AwaitedBefore s.live) (sym live) (awaited_put r c s.live other))
     (λ q h over. inl (ap (value_at q) live ∙ put_other q r c s.live (here.apart q h) ∙ h))
 
 opens_breaks : (r peer : ℕ) (fault : LinkFault) (held : Option Class) (s : State) → IsThere r s → Opens s (breaks r peer fault held s)
@@ -442,10 +442,10 @@ along_join old mid new a b = record {
   events = b.events ∙ ap (λ l. l ++ b.told) a.events ∙ append_assoc old.events a.told b.told;
   caller = λ caller. subst (AreAwaited old.live) (sym (opened_join a.told b.told))
       (awaited_join old.live (opened_in a.told) (opened_in b.told) (a.caller caller)
-          (awaited_from old.live mid.live (opened_in b.told) a.awaited (b.caller (a.side ∙ caller))));
+      (awaited_from old.live mid.live (opened_in b.told) a.awaited (b.caller (a.side ∙ caller))));
   called = λ called none. subst (λ (l : List ℕ). Rises old.given l new.given) (sym (opened_join a.told b.told))
       (rises_join old.given (opened_in a.told) mid.given (opened_in b.told) new.given (a.called called none)
-          (b.called (a.side ∙ called) (λ q h. none q (a.awaited q h))));
+      (b.called (a.side ∙ called) (λ q h. none q (a.awaited q h))));
   side = b.side ∙ a.side;
   awaited = λ q h. a.awaited q (b.awaited q h);
   about = all_join (IsOf old) a.told b.told a.about
@@ -480,7 +480,7 @@ pub along_units : (units : List Value) (s : State) → IsOrderly s → OpensAlon
 along_units [] s orderly = along_none s
 along_units (unit ∷ units) s orderly =
     along_join s (react unit s) (reacts units (react unit s)) (along_unit unit s orderly)
-        (along_units units (react unit s) (orderly_unit unit s orderly))
+    (along_units units (react unit s) (orderly_unit unit s orderly))
 
 pub along_end : (old mid : State) (reason : EndReason) → OpensAlong old mid → OpensAlong old (ends reason mid)
 along_end old mid reason a = grind arith

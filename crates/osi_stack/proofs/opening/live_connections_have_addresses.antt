@@ -34,7 +34,7 @@ untaken law input not s h = absurd (let t : true ≡ false = sym (law.taken s in
 moved_by : {X : Type 0} (law : ShownFirst) (s : Listener) (input : Input) (old told : Option X) (b c : Bool) →
     shows_connect (react s input).shown ≡ b → shows_loss s.state.phase ≡ c →
     (b ≡ true → IsSome told) → (c ≡ true → IsSome old) → shows_loss (after_input s input).state.phase ≡ true →
-        IsSome (if b then told else old)
+    IsSome (if b then told else old)
 moved_by law s input old told b c shows was tells named k = grind arith
 
 line_named : ShownFirst → (input : Input) → TellsThem input → (line : Line) (o : Option Listener) → line.session ≡ o → IsNamed line →
@@ -71,6 +71,6 @@ pub known_at : (r : ℕ) (e : End) → IsSettled e → IfSome (phase_at r e) (λ
 known_at r e s =
     given_known (has_given r e.carrier) (session_at r e) (addresses_at r e)
     (live_known (is_some (value_at r e.carrier.live)) (tsaps_at r e.carrier) (value_at r e.lines) (known_is r e.carrier s.orderly.named)
-        (named_by r e.lines (value_at r e.lines) refl s.named))
+    (named_by r e.lines (value_at r e.lines) refl s.named))
 
 -- ---- in memory

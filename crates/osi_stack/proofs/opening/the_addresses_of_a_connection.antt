@@ -27,13 +27,13 @@ asked_known c e s named =
     let live : value_at n new.live ≡ Some asked = push_here n asked e.carrier.live gone in
     addressed_by n (connects c e) asked ids line _ live (push_here n ids e.carrier.tsaps unnamed)
     (used_live n new.live (e.lines ++ (n, line) ∷ []) (ap is_some live) ∙
-        push_here n line e.lines (beyond n e.carrier.given e.lines s.known (omega arith))) refl
+    push_here n line e.lines (beyond n e.carrier.given e.lines s.known (omega arith))) refl
 
 -- ---- what arrives, and what keeps the selectors
 
 moved_by : (r : ℕ) (input : Input) (e : End) (o : Option Line) (s : Listener) → value_at r e.lines ≡ o → session_in o ≡ Some s →
     selectors_in (value_at r (to_session r input e).lines) ≡ (if shows_connect (react s input).shown then selectors_told input else
-        selectors_in o)
+    selectors_in o)
 moved_by r input e o s here is = grind (arith, selectors_in, value_at, by_line, put_here, line_by)
 
 pub came_known : (r : ℕ) (input : Input) (s : Listener) (e : End) → kept_at r e.lines ≡ Some s →

@@ -79,16 +79,16 @@ Unanswered q input event rest = (s : Listener) → is_wait_transport (react s in
 moved_asked : StillWaits → (q : ℕ) (input : Input) (event : Happening) (rest : List Happening) (e d : End) → told_of event ≡ q →
     HasMoved q input e d →
     ((r : ℕ) → value_at r e.carrier.live ≡ Some asked → value_at r d.carrier.live ≡ Some asked) → Unanswered q input event rest →
-        AllAsked (event ∷ rest) e →
+    AllAsked (event ∷ rest) e →
     (r : ℕ) (s : Listener) (b : Bool) → (r == q) ≡ b → kept_at r d.lines ≡ Some s → is_wait_transport s.state.phase ≡ true →
-        answered r rest ≡ false → value_at r d.carrier.live ≡ Some asked
+    answered r rest ≡ false → value_at r d.carrier.live ≡ Some asked
 moved_asked law q input event rest e d of m stays quiet all r s true at is n h =
     let same = eqb-true r q at in
     let both_are : Some (react m.session input).next ≡ Some s = sym m.is ∙ ap (λ k. kept_at k d.lines) (sym same) ∙ is in
     let one : (react m.session input).next ≡ s = cc in
     let waits = ap (λ (x : Listener). is_wait_transport x.state.phase) one ∙ n in
     stays r (ap (λ k. value_at k e.carrier.live) same ∙
-        all q m.session m.was (law m.session input waits) (quiet m.session waits ∙ ap (λ k. answered k rest) (sym same) ∙ h))
+    all q m.session m.was (law m.session input waits) (quiet m.session waits ∙ ap (λ k. answered k rest) (sym same) ∙ h))
 moved_asked law q input event rest e d of m stays quiet all r s false at is n h =
     let ne : r ≢ q = (λ same. both (r == q) (eq-eqb r q same) at) in
     stays r (all r s (sym (m.others r ne) ∙ is) n (answered_other r event rest (λ same. ne (same ∙ of)) ∙ h))
@@ -96,13 +96,13 @@ moved_asked law q input event rest e d of m stays quiet all r s false at is n h 
 rested_asked : (q : ℕ) (event : Happening) (rest : List Happening) (e : End) → told_of event ≡ q → kept_at q e.lines ≡ None →
     AllAsked (event ∷ rest) e →
     (r : ℕ) (s : Listener) (b : Bool) → (r == q) ≡ b → kept_at r e.lines ≡ Some s → is_wait_transport s.state.phase ≡ true →
-        answered r rest ≡ false → value_at r e.carrier.live ≡ Some asked
+    answered r rest ≡ false → value_at r e.carrier.live ≡ Some asked
 rested_asked q event rest e of none all r s b at is n h = grind arith
 
 heard_asked : StillWaits → (q : ℕ) (input : Input) (event : Happening) (rest : List Happening) (e d : End) → told_of event ≡ q →
     Hearing q input e d →
     ((r : ℕ) → value_at r e.carrier.live ≡ Some asked → value_at r d.carrier.live ≡ Some asked) → Unanswered q input event rest →
-        AllAsked (event ∷ rest) e → AllAsked rest d
+    AllAsked (event ∷ rest) e → AllAsked rest d
 heard_asked law q input event rest e d of (inl m) stays quiet all =
     λ r s. moved_asked law q input event rest e d of m stays quiet all r s (r == q) refl
 heard_asked law q input event rest e d of (inr m) stays quiet all =
@@ -113,7 +113,7 @@ session_asked : StillWaits → (q : ℕ) (input : Input) (event : Happening) (re
     Unanswered q input event rest → AllAsked (event ∷ rest) e → AllAsked rest (to_session q input e)
 session_asked law q input event rest e of over quiet all =
     heard_asked law q input event rest e (to_session q input e) of (session_hears q input e) (λ r here. asked_session r q input e over here)
-        quiet all
+    quiet all
 
 -- ---- one event
 
@@ -129,8 +129,8 @@ joined_asked : (q : ℕ) (rest : List Happening) (e : End) → AreApart e.lines 
     AllAsked (told.opened q ∷ rest) e → AllAsked rest (opens q None e)
 joined_asked q rest e apart none all =
     λ r s is n h. elim
-        (kept_joined q r awaits s e.carrier.live e.lines (q == r) refl none
-        (used_at r e.carrier.live (joined_lines q awaits e.lines) (apart_push q _ e.lines none apart)) is) [
+    (kept_joined q r awaits s e.carrier.live e.lines (q == r) refl none
+    (used_at r e.carrier.live (joined_lines q awaits e.lines) (apart_push q _ e.lines none apart)) is) [
       | inl new ↦ (let no : false ≡ true = ap (λ (x : Listener). is_wait_transport x.state.phase) (sym new.1) ∙ n in cc)
       | inr old ↦ all r s old.1 n (answered_other r (told.opened q) rest (λ same. old.0 (sym same)) ∙ h)
     ]
@@ -141,14 +141,14 @@ opens_asked : StillWaits → (q : ℕ) (rest : List Happening) (e : End) (o : Op
 opens_asked law q rest e None at apart over all = joined_asked q rest e apart at all
 opens_asked law q rest e (Some line) at apart over all =
     session_asked law q opened (told.opened q) rest e refl over
-        (λ s n. both (is_wait_transport (react s opened).next.state.phase) n (opened_waits s)) all
+    (λ s n. both (is_wait_transport (react s opened).next.state.phase) n (opened_waits s)) all
 
 hears_asked : StillWaits → (event : Happening) (rest : List Happening) (e : End) → AreApart e.lines → (hears event e).carrier.ended ≡ None →
     AllAsked (event ∷ rest) e → AllAsked rest (hears event e)
 hears_asked law (told.opened q) rest e apart over all = opens_asked law q rest e (value_at q e.lines) refl apart over all
 hears_asked law (told.refused q reason) rest e apart over all =
     session_asked law q (refused reason) (told.refused q reason) rest e refl over
-        (λ s n. both (is_wait_transport (react s (refused reason)).next.state.phase) n (refused_waits s reason)) all
+    (λ s n. both (is_wait_transport (react s (refused reason)).next.state.phase) n (refused_waits s reason)) all
 hears_asked law event rest e apart over all = session_asked law (told_of event) (input_of event) event rest e refl over (λ s n. refl) all
 
 -- ---- all events
@@ -160,9 +160,9 @@ times_asked law (event ∷ rest) e h apart over all =
     let here = with_events rest e in
     let is = first_is event rest e h in
     let lasts : (hears event here).carrier.ended ≡ None = ap (λ (x : End). x.carrier.ended) (sym is) ∙
-        times_last (length rest) (hears_next e) over in
+    times_last (length rest) (hears_next e) over in
     let next : AllAsked rest (hears_next e) =
-        subst (λ (x : End). AllAsked rest x) (sym is) (hears_asked law event rest here apart lasts all) in
+    subst (λ (x : End). AllAsked rest x) (sym is) (hears_asked law event rest here apart lasts all) in
     let still : AreApart (hears_next e).lines = subst (λ (x : End). AreApart x.lines) (sym is) (hears_apart event here apart) in
     times_asked law rest (hears_next e) (rest_is event rest e h) still over next
 
@@ -187,13 +187,13 @@ packet_asked law packet e lasts sound has over =
     let heard = hears_all mid in
     let is = packet_is e packet in
     let heard_lasts : heard.carrier.ended ≡ None = sym (ap (λ (x : Carrier). x.ended) (concluded_carrier heard)) ∙
-        ap (λ (x : End). x.carrier.ended) (sym is) ∙ over in
+    ap (λ (x : End). x.carrier.ended) (sym is) ∙ over in
     let told_lasts : c.ended ≡ None = times_last (length c.events) mid heard_lasts in
     let all : AllAsked [] heard =
-        times_asked law c.events mid refl sound.apart heard_lasts (packet_told packet e sound.orderly lasts told_lasts has) in
+    times_asked law c.events mid refl sound.apart heard_lasts (packet_told packet e sound.orderly lasts told_lasts has) in
     let same : heard ≡ after_packet e packet = sym (concludes_lasting heard.carrier.ended heard heard_lasts) ∙ sym is in
     subst (λ (x : End). (r : ℕ) (s : Listener) → kept_at r x.lines ≡ Some s → is_wait_transport s.state.phase ≡ true →
-        value_at r x.carrier.live ≡ Some asked) same (λ r s is n. all r s is n refl)
+    value_at r x.carrier.live ≡ Some asked) same (λ r s is n. all r s is n refl)
 
 -- ---- calls
 
@@ -205,7 +205,7 @@ call_asked law r call e has over =
     let lasts = (session_keeps r (called call) e).lasts over in
     let all : AllAsked (told.tsdu r [] ∷ []) e = (λ q s is n h. has lasts q s is n) in
     let after : AllAsked [] (to_session r (called call) e) =
-        session_asked law r (called call) (told.tsdu r []) [] e refl over (λ s n. refl) all in
+    session_asked law r (called call) (told.tsdu r []) [] e refl over (λ s n. refl) all in
     λ q s is n. after q s is n refl
 
 pub connect_asked : (c : Connect) (e : End) → IsSound e → HasAsked e → HasAsked (connects c e)
@@ -216,8 +216,8 @@ connect_asked c e sound has over =
     let none : value_at q e.lines ≡ None = beyond q e.carrier.given e.lines s.known (omega arith) in
     let free : value_at q e.carrier.live ≡ None = beyond q e.carrier.given e.carrier.live s.orderly.up_to (omega arith) in
     λ r t is n. elim
-        (kept_joined q r (calls_with c) t live e.lines (q == r) refl none
-        (used_at r live (joined_lines q (calls_with c) e.lines) (apart_push q _ e.lines none s.apart)) is) [
+    (kept_joined q r (calls_with c) t live e.lines (q == r) refl none
+    (used_at r live (joined_lines q (calls_with c) e.lines) (apart_push q _ e.lines none s.apart)) is) [
       | inl new ↦ subst (λ k. value_at k live ≡ Some asked) new.0 (push_here q asked e.carrier.live free)
       | inr old ↦ push_other r q asked e.carrier.live (λ same. old.0 (sym same)) ∙ has over r t old.1 n
     ]
@@ -240,5 +240,5 @@ pub feeds_asked : SessionLaws → StillWaits → (old new : Holding) (piece : Li
     IsAttended old.end → IsSound old.end → HasAsked old.end → HasAsked new.end
 feeds_asked laws law old new piece fed h attended sound has =
     feeds_beside IsHale HasAsked (hale_kept laws)
-        (over_beside IsHale HasAsked (λ packet e lasts hale has. packet_asked law packet e lasts (hale.1 lasts) has) over_asked)
+    (over_beside IsHale HasAsked (λ packet e lasts hale has. packet_asked law packet e lasts (hale.1 lasts) has) over_asked)
     old new piece fed h (attended, sound) has

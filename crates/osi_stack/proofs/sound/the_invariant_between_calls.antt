@@ -44,7 +44,7 @@ session_orderly r input e h = (session_leaves r input e h).0
 pub connect_orderly : (c : Connect) (e : End) → connect_error c e ≡ None → IsOrderly e.carrier → IsOrderly (connects c e).carrier
 connect_orderly c e allowed h =
     orderly_asks (option_map tsap_octets c.calling_tsap) (option_map tsap_octets c.called_tsap) e.carrier
-        (open_none (may_connect e.carrier) (terms_error c) allowed) h
+    (open_none (may_connect e.carrier) (terms_error c) allowed) h
 
 pub breaks_orderly : (e : End) → IsOrderly e.carrier → IsOrderly (breaks e).carrier
 breaks_orderly e h = broken_end (λ x. IsOrderly x.carrier) (λ x h. orderly_end Broken x.carrier h) e h
@@ -92,12 +92,12 @@ starves_orderly e h = orderly_ended NoMemory e.carrier h
 starved_orderly : (e new : End) (packet : List ℕ) → Starves e packet new → Fits e → IsOrderly new.carrier
 starved_orderly e new packet (inl h) f =
     subst (λ (x : End). IsOrderly x.carrier) (sym h.2)
-        (attends_orderly (with_carrier h.0 e) (grown_fits e h.0 (grows_out h.1.0 e.carrier h.0 h.1.2 f.orderly) f))
+    (attends_orderly (with_carrier h.0 e) (grown_fits e h.0 (grows_out h.1.0 e.carrier h.0 h.1.2 f.orderly) f))
 starved_orderly e new packet (inr h) f =
     let mid = hears_times h.2.heard (with_carrier h.0 e) in
     let fits = times_fits h.2.heard (with_carrier h.0 e) (grown_fits e h.0 (grows_by (units_of packet) e.carrier h.0 h.1 f.orderly) f) in
     subst (λ (x : End). IsOrderly x.carrier) (sym h.2.starved)
-        (starves_orderly (with_events h.2.more mid) (orderly_same mid.carrier mid.carrier.outgoing h.2.more fits.orderly))
+    (starves_orderly (with_events h.2.more mid) (orderly_same mid.carrier mid.carrier.outgoing h.2.more fits.orderly))
 
 -- ---- feeding
 
@@ -145,7 +145,7 @@ terms_none (Some e) error h = cc
 asks_profile : Profiles → (c : Connect) (e : End) → connect_error c e ≡ None → IsProfiled (calls_with c)
 asks_profile profiles c e allowed =
     profiles.caller (opening_of c)
-        (units_of_terms (is_profile (unit_bits c.requirements)) _ (terms_none (may_connect e.carrier) (terms_error c) allowed))
+    (units_of_terms (is_profile (unit_bits c.requirements)) _ (terms_none (may_connect e.carrier) (terms_error c) allowed))
 
 pub connect_settled : Profiles → (c : Connect) (e : End) → connect_error c e ≡ None → IsSettled e → IsSettled (connects c e)
 connect_settled profiles c e allowed s = record {

@@ -108,8 +108,11 @@ session_up n r input e up = line_up n r input e (value_at r e.lines) up
 pub session_fits : (r : ℕ) (input : Input) (e : End) → Fits e → Fits (to_session r input e)
 session_fits r input e f =
     let l = session_leaves r input e f.orderly in
-    record { orderly = l.0; known = subst (λ n. AreUpTo n (to_session r input e).lines) (sym l.1)
-        (session_up e.carrier.given r input e f.known) }
+    record {
+      orderly = l.0;
+      known = subst (λ n. AreUpTo n (to_session r input e).lines) (sym l.1)
+          (session_up e.carrier.given r input e f.known);
+    }
 
 pub joins_fits : (r : ℕ) (s : Listener) (e : End) → Fits e → Fits (joins r s e)
 joins_fits r s e f = record { orderly = f.orderly; known = up_joined e.carrier.given r s e.carrier.live e.lines f.orderly.up_to f.known }
@@ -117,7 +120,7 @@ joins_fits r s e f = record { orderly = f.orderly; known = up_joined e.carrier.g
 pub times_fits : (n : ℕ) (e : End) → Fits e → Fits (hears_times n e)
 times_fits n e f =
     events_heard Fits (λ events x f. record { orderly = orderly_same x.carrier x.carrier.outgoing events f.orderly; known = f.known })
-        (record {
+    (record {
       begins = λ r x none f. joins_fits r awaits x f;
       moves = λ event x f. session_fits (told_of event) (input_of event) x f;
     }) n e f
@@ -163,14 +166,16 @@ packet_sound laws packet e lasts none sound over =
     let heard = hears_all mid in
     let is = packet_is e packet in
     let heard_lasts : heard.carrier.ended ≡ None = sym (ap (λ (x : Carrier). x.ended) (concluded_carrier heard)) ∙
-        ap (λ (x : End). x.carrier.ended) (sym is) ∙ over in
+    ap (λ (x : End). x.carrier.ended) (sym is) ∙ over in
     let told_lasts : c.ended ≡ None = times_last (length c.events) mid heard_lasts in
     let all : AllLinked [] heard =
-        times_linked laws c.events mid refl s.apart heard_lasts
-        (packet_linked e packet s.orderly none (links_linked e s.links lasts) told_lasts) in
+    times_linked laws c.events mid refl s.apart heard_lasts
+    (packet_linked e packet s.orderly none (links_linked e s.links lasts) told_lasts) in
     let f = times_fits (length c.events) mid
-        (record { orderly = orderly_packet packet e.carrier s.orderly;
-        known = up_more e.carrier.given c.given e.lines (packet_rises packet e.carrier) s.known }) in
+    (record {
+      orderly = orderly_packet packet e.carrier s.orderly;
+      known = up_more e.carrier.given c.given e.lines (packet_rises packet e.carrier) s.known;
+    }) in
     let same : heard ≡ after_packet e packet = sym (concludes_lasting heard.carrier.ended heard heard_lasts) ∙ sym is in
     subst Soundness same (record {
       orderly = f.orderly;
@@ -195,7 +200,7 @@ call_sound laws r call e sound over =
     let l = links_linked e s.links lasts in
     let before : AllLinked (told.refused r 0 ∷ []) e = (λ q. record { needed = (l q).needed; fresh = (l q).fresh }) in
     let all = session_linked laws r (called call) (told.refused r 0) [] e (to_session r (called call) e) refl
-        (session_hears r (called call) e) over
+    (session_hears r (called call) e) over
     (λ t is n h. (l r).needed t is (laws.linked t (called call) (called_not_opened call) n) h) before in
     search (session_apart r (called call) e s.apart, linked_links (to_session r (called call) e) (λ x. all))
 
@@ -219,11 +224,11 @@ asked_linked q s e c none apart unneeded l same r true at (inl is) =
     })
 asked_linked q s e c none apart unneeded l same r b at (inr gone) =
     subst (λ (o : Option Listener). IsLinked r o [] c) (sym (ap session_in gone.0))
-        (record { needed = λ t is n h. cc; fresh = inl (λ h. cc) })
+    (record { needed = λ t is n h. cc; fresh = inl (λ h. cc) })
 asked_linked q s e c none apart unneeded l same r false at (inl is) =
     let ne : r ≢ q = (λ here. both (r == q) (eq-eqb r q here) at) in
     let kept : kept_at r (used_lines c.live (joined_lines q s e.lines)) ≡ kept_at r e.lines =
-        ap session_in (is ∙ push_other r q _ e.lines ne) in
+    ap session_in (is ∙ push_other r q _ e.lines ne) in
     subst (λ (o : Option Listener). IsLinked r o [] c) (sym kept) (record {
       needed = λ t is n h. same r ∙ (l r).needed t is n h;
       fresh = inl (λ h. cc);
@@ -241,12 +246,14 @@ connect_sound c e allowed sound over =
     let none = beyond q e.carrier.given e.lines s.known (omega arith) in
     let apart = apart_joins q (calls_with c) (record e { carrier = asked }) none s.apart in
     let l = asked_linked q (calls_with c) e asked none s.apart refl (links_linked e s.links over)
-        (λ r. asks_opens calling to e.carrier r s.orderly) in
+    (λ r. asks_opens calling to e.carrier r s.orderly) in
     let stays = (λ (r : ℕ). used_at r asked.live (joined_lines q (calls_with c) e.lines)
-        (apart_push q (fresh_line (calls_with c)) e.lines none s.apart)) in
-    search ((joins_fits q (calls_with c) (record e { carrier = asked })
-        (record { orderly = orderly; known = up_more e.carrier.given q e.lines (omega arith) s.known })).known,
-        linked_links (connects c e) (λ x r. l r (r == q) refl (stays r)))
+    (apart_push q (fresh_line (calls_with c)) e.lines none s.apart)) in
+    search (
+      (joins_fits q (calls_with c) (record e { carrier = asked })
+          (record { orderly = orderly; known = up_more e.carrier.given q e.lines (omega arith) s.known })).known,
+      linked_links (connects c e) (λ x r. l r (r == q) refl (stays r)),
+    )
 
 -- ---- indications and octets that go
 

@@ -64,7 +64,7 @@ ended_attends c d lines reason h q = grind arith
 attends_spoilt : (e new : End) → new ≡ attends e → is_spoilt new.carrier.ended ≡ is_spoilt e.carrier.ended
 attends_spoilt e new h =
     ap (λ (x : End). is_spoilt x.carrier.ended) h ∙ ap (λ (c : Carrier). is_spoilt c.ended) (concluded_carrier (hears_all e)) ∙
-        all_keep_by (length e.carrier.events) e
+    all_keep_by (length e.carrier.events) e
 
 acts_is : (old new : Carrier) (packet : List ℕ) → new ≡ carriers.after_packet old packet → carriers.Acts old packet new
 unfolding carriers.after_packet
@@ -87,7 +87,7 @@ looked piece front rest within cut =
     cut ∙ ap (λ l. front ++ l) (sym (take-append-drop within rest)) ∙ sym (append_assoc front (take within rest) (drop within rest)) in
     let sizes = ap length parts ∙ length-append (front ++ take within rest) (drop within rest) in
     let seen = ap (take (length (front ++ take within rest))) parts ∙ take_at (front ++ take within rest) (drop within rest)
-        (length (front ++ take within rest)) refl in
+    (length (front ++ take within rest)) refl in
     let behind = ap (drop (length (front ++ take within rest))) parts ∙ drop-append_seam (front ++ take within rest) (drop within rest) in
     grind arith
 
@@ -102,7 +102,7 @@ more_packets old piece now rest more read =
 place_of_rest : (old : Holding) (piece : List ℕ) (now : Holding) (rest more : List ℕ) (left : ℕ) (read : IsRead old piece now rest) →
     left ≤ length (now.held.octets ++ more) →
     offset_of (now.held.offset + (length (now.held.octets ++ more) - left)) ≡ offset_of
-        (old.held.offset + (length (old.held.octets ++ (read.front ++ more)) - left))
+    (old.held.offset + (length (old.held.octets ++ (read.front ++ more)) - left))
 place_of_rest old piece now rest more left read within = grind (arith, packets_leave, length-append, length, offset_of)
 
 -- ---- one look
@@ -140,7 +140,7 @@ Look old piece rest used new = (IsDry old piece rest used new ⊎ IsBehind old p
 dry_is : (old : Holding) (piece : List ℕ) (now : Holding) (rest : List ℕ) (fed : ℕ) (told : Carrying) (new : Holding)
     (read : IsRead old piece now rest) →
     carriers.RunsDry (record { state = now.end.carrier; held = now.held }) rest fed told → new.held ≡ told.held →
-        new.end ≡ with_carrier told.state now.end →
+    new.end ≡ with_carrier told.state now.end →
     RunsDry old piece (length piece) new
 dry_is old piece now rest fed told new read g held is =
     let none = or_second (is_some now.end.carrier.ended) (waits now.end.lines) read.quiet in
@@ -153,11 +153,11 @@ dry_is old piece now rest fed told new read g held is =
       packets = subst (λ h. ArePackets (read.units ++ g.units) (old.held.octets ++ piece) h) (ap (λ h. h.octets) (sym held))
           (subst (λ l. ArePackets (read.units ++ g.units) (old.held.octets ++ l) told.held.octets) (sym read.cut)
           (packets_append read.units g.units (old.held.octets ++ (read.front ++ rest)) (now.held.octets ++ rest) told.held.octets whole
-              g.packets));
+          g.packets));
       partial = subst (λ h. IsPartial h) (ap (λ h. h.octets) (sym held)) g.partial;
       taken = subst (λ (x : End). TakesPackets old.end (read.units ++ g.units) x) (sym is)
           (takes_append old.end now.end there read.units g.units read.taken
-              (lift_dry now.end.lines now.end.carrier told.state g.units none g.taken g.quiet));
+          (lift_dry now.end.lines now.end.carrier told.state g.units none g.taken g.quiet));
       quiet = ap stops is ∙ quiet_stops there (quiet_is told.state g.quiet).lasts none;
       offset = ap (λ h. h.offset) held ∙ g.offset ∙ place_of_rest old piece now rest rest (length told.held.octets) read left
           ∙ ap (λ l. offset_of (old.held.offset + (length (old.held.octets ++ l) - length told.held.octets))) (sym read.cut)
@@ -168,7 +168,7 @@ dry_is old piece now rest fed told new read g held is =
 behind_is : (old : Holding) (piece : List ℕ) (now : Holding) (rest : List ℕ) (used fed : ℕ) (told : Carrying) (new : Holding)
     (read : IsRead old piece now rest) →
     carriers.StopsBehind (record { state = now.end.carrier; held = now.held }) rest fed told → new.held ≡ told.held →
-        new.end ≡ attends (with_carrier told.state now.end) →
+    new.end ≡ attends (with_carrier told.state now.end) →
     used ≡ fed → IsBehind old piece rest used new
 behind_is old piece now rest used fed told new read g held is same =
     let none = or_second (is_some now.end.carrier.ended) (waits now.end.lines) read.quiet in
@@ -193,7 +193,7 @@ behind_is old piece now rest used fed told new read g held is same =
           (more_packets old piece now rest (take g.within rest) read) g.packets;
       taken = takes_append old.end now.end new.end read.units g.units read.taken
           (lift_last now.end.lines now.end.carrier told.state g.units new.end none g.taken (quiet_end now.end read.quiet read.attended)
-              g.stopped is);
+          g.stopped is);
       held = ap (λ h. h.octets) held ∙ g.held;
       offset = λ n. (
           let here = ap (λ h. h.offset) held ∙ g.offset in
@@ -201,14 +201,14 @@ behind_is old piece now rest used fed told new read g held is same =
           let sum : (length (old.held.octets ++ read.front) - length now.held.octets) + (length (now.held.octets ++ take g.within rest) + n)
           ≡ length (old.held.octets ++ (read.front ++ take g.within rest)) + n = omega arith in
           let moved : offset_of (new.held.offset + n) ≡ offset_of (now.held.offset + (length (now.held.octets ++ take g.within rest) + n)) =
-              omega arith in
+          omega arith in
           moved ∙ far ∙ ap (λ k. offset_of (old.held.offset + k)) sum
           );
       place = (
           let sum : (length (old.held.octets ++ read.front) - length now.held.octets) + length (now.held.octets ++ take g.within rest)
           ≡ length (old.held.octets ++ (read.front ++ take g.within rest)) = omega arith in
           ap (λ h. h.offset) held ∙ g.offset ∙ read.offset (length (now.held.octets ++ take g.within rest)) ∙
-              ap (λ k. offset_of (old.held.offset + k)) sum
+          ap (λ k. offset_of (old.held.offset + k)) sum
           );
       room = room_stays old.held.room now.held.room told.held new.held read.room g.room held;
     }
@@ -217,14 +217,14 @@ behind_is old piece now rest used fed told new read g held is same =
 stopped_is : (old : Holding) (piece : List ℕ) (now : Holding) (rest : List ℕ) (fed : ℕ) (told : Carrying) (new : Holding)
     (read : IsRead old piece now rest) →
     carriers.StopsBehind (record { state = now.end.carrier; held = now.held }) rest fed told →
-        RunsOut (with_carrier told.state now.end) new.end → new.held ≡ told.held →
+    RunsOut (with_carrier told.state now.end) new.end → new.held ≡ told.held →
     FindsNoMemory old piece (length piece) new
 stopped_is old piece now rest fed told new read g out held =
     let none = or_second (is_some now.end.carrier.ended) (waits now.end.lines) read.quiet in
     let look = looked piece read.front rest g.within read.cut in
     let l = last_is now.end.carrier told.state g.units g.taken (quiet_end now.end read.quiet read.attended) g.stopped in
     let parts = packets_part l.first (l.last ∷ []) (now.held.octets ++ take g.within rest) []
-        (subst (λ us. ArePackets us (now.held.octets ++ take g.within rest) []) l.all g.packets) in
+    (subst (λ us. ArePackets us (now.held.octets ++ take g.within rest) []) l.all g.packets) in
     let before = with_carrier l.before now.end in
     record {
       within = length (read.front ++ take g.within rest);
@@ -235,7 +235,7 @@ stopped_is old piece now rest fed told new read g out held =
       bound = look.bound;
       packets = subst (λ k. ArePackets (read.units ++ l.first) (old.held.octets ++ k) parts.between) (sym look.seen)
           (packets_append read.units l.first (old.held.octets ++ (read.front ++ take g.within rest)) (now.held.octets ++ take g.within rest)
-              parts.between
+          parts.between
           (more_packets old piece now rest (take g.within rest) read) parts.front);
       taken = takes_append old.end now.end before read.units l.first read.taken
           (lift_dry now.end.lines now.end.carrier l.before l.first none l.taken l.quiet);
@@ -248,7 +248,7 @@ stopped_is old piece now rest fed told new read g out held =
 refuses_is : (old : Holding) (piece : List ℕ) (now : Holding) (rest : List ℕ) (fed : ℕ) (told : Carrying) (new : Holding)
     (read : IsRead old piece now rest) →
     carriers.Refuses (record { state = now.end.carrier; held = now.held }) rest fed told → new.held ≡ told.held →
-        new.end ≡ attends (with_carrier told.state now.end) →
+    new.end ≡ attends (with_carrier told.state now.end) →
     Refuses old piece (length piece) new
 refuses_is old piece now rest fed told new read g held is =
     let none = or_second (is_some now.end.carrier.ended) (waits now.end.lines) read.quiet in
@@ -267,7 +267,7 @@ refuses_is old piece now rest fed told new read g held is =
         r,
         subst (λ l. ArePackets (read.units ++ g.units) (old.held.octets ++ l) r) (sym read.cut)
             (packets_append read.units g.units (old.held.octets ++ (read.front ++ rest)) (now.held.octets ++ rest) r
-                (more_packets old piece now rest rest read) g.cut.1),
+            (more_packets old piece now rest rest read) g.cut.1),
         subst (λ n. IsFaultOf n r g.fault) place g.cut.2,
       );
       taken = takes_append old.end now.end before read.units g.units read.taken
@@ -289,12 +289,14 @@ no_room : (old : Holding) (piece : List ℕ) (now : Holding) (rest : List ℕ) (
     (read : IsRead old piece now rest) →
     (g : carriers.FindsNoMemory (record { state = now.end.carrier; held = now.held }) rest fed told) →
     carriers.FindsNoRoom (record { state = now.end.carrier; held = now.held }) rest g.within g.rest g.before told.state →
-        new.end ≡ ends NoMemory (with_carrier g.before now.end) →
+    new.end ≡ ends NoMemory (with_carrier g.before now.end) →
     FindsNoRoom old piece (length (read.front ++ take g.within rest)) g.rest (with_carrier g.before now.end) new.end
 no_room old piece now rest fed told new read g none ended =
-    search (first_part g.units read.front now.held.octets g.within rest g.rest read.first none.first g.packets,
-    subst (HasToHold old.held.room g.rest) (sym (looked piece read.front rest g.within read.cut).behind)
-    (less_room now.held.room old.held.room g.rest (drop g.within rest) read.room none.holds))
+    search (
+      first_part g.units read.front now.held.octets g.within rest g.rest read.first none.first g.packets,
+      subst (HasToHold old.held.room g.rest) (sym (looked piece read.front rest g.within read.cut).behind)
+          (less_room now.held.room old.held.room g.rest (drop g.within rest) read.room none.holds),
+    )
 
 starved_with : (old : Holding) (piece : List ℕ) (now : Holding) (rest : List ℕ) (fed : ℕ) (told : Carrying) (new : Holding)
     (read : IsRead old piece now rest) →
@@ -313,7 +315,7 @@ starved_with old piece now rest fed told new read g held how =
       bound = look.bound;
       packets = subst (λ k. ArePackets (read.units ++ g.units) (old.held.octets ++ k) g.rest) (sym look.seen)
           (packets_append read.units g.units (old.held.octets ++ (read.front ++ take g.within rest)) (now.held.octets ++ take g.within rest)
-              g.rest
+          g.rest
           (more_packets old piece now rest (take g.within rest) read) g.packets);
       taken = takes_append old.end now.end before read.units g.units read.taken
           (lift_dry now.end.lines now.end.carrier g.before g.units none g.taken g.quiet);
@@ -327,7 +329,7 @@ starved_how : (old : Holding) (piece : List ℕ) (now : Holding) (rest : List �
     (read : IsRead old piece now rest) →
     (g : carriers.FindsNoMemory (record { state = now.end.carrier; held = now.held }) rest fed told) →
     ((new.end ≡ attends (with_carrier told.state now.end)) ⊎ RunsOut (with_carrier told.state now.end) new.end) →
-        HowStarved old piece now rest fed told new read g
+    HowStarved old piece now rest fed told new read g
 starved_how old piece now rest fed told new read g heard =
     let q = quiet_is g.before g.quiet in
     elim (g.how) [
@@ -352,8 +354,11 @@ looks old piece now rest used new read fetch =
           let q = quiet_is fetch.told.state g.quiet in
           elim (fetch.heard) [
             | inl h ↦ inl
-                (inl (record { all = h.1 ∙ g.all; runs = dry_is old piece now rest fetch.fed.used fetch.told new read g fetch.held
-                (h.0 ∙ quiet_attends there q) }))
+                (inl (record {
+                  all = h.1 ∙ g.all;
+                  runs = dry_is old piece now rest fetch.fed.used fetch.told new read g fetch.held
+                      (h.0 ∙ quiet_attends there q);
+                }))
             | inr h ↦ never_starved there new.end q.events h.0
           ]
           )
@@ -364,21 +369,27 @@ looks old piece now rest used new read fetch =
       ]
       | inr (inl g) ↦ elim (fetch.heard) [
         | inl h ↦ inr
-            (record { all = h.1 ∙ g.all;
-            goes = inr (inl (refuses_is old piece now rest fetch.fed.used fetch.told new read g fetch.held h.0)) })
+            (record {
+              all = h.1 ∙ g.all;
+              goes = inr (inl (refuses_is old piece now rest fetch.fed.used fetch.told new read g fetch.held h.0));
+            })
         | inr h ↦ never_starved there new.end (ap (λ (c : Carrier). c.events) g.ended ∙ (quiet_is g.before g.quiet).events) h.0
       ]
       | inr (inr g) ↦ elim (fetch.heard) [
         | inl h ↦ inr
-            (record { all = h.1 ∙ g.all;
-            goes = inr (inr
-            (starved_with old piece now rest fetch.fed.used fetch.told new read g fetch.held
-            (starved_how old piece now rest fetch.fed.used fetch.told new read g (inl h.0)))) })
+            (record {
+              all = h.1 ∙ g.all;
+              goes = inr (inr
+                  (starved_with old piece now rest fetch.fed.used fetch.told new read g fetch.held
+                  (starved_how old piece now rest fetch.fed.used fetch.told new read g (inl h.0))));
+            })
         | inr h ↦ inr
-            (record { all = h.1;
-            goes = inr (inr
-            (starved_with old piece now rest fetch.fed.used fetch.told new read g fetch.held
-            (starved_how old piece now rest fetch.fed.used fetch.told new read g (inr h.0)))) })
+            (record {
+              all = h.1;
+              goes = inr (inr
+                  (starved_with old piece now rest fetch.fed.used fetch.told new read g fetch.held
+                  (starved_how old piece now rest fetch.fed.used fetch.told new read g (inr h.0))));
+            })
       ]
     ]
 
@@ -396,7 +407,7 @@ spoilt_ended (Some reason) e = cc
 uses_waiting : (b w : Bool) (piece front rest : List ℕ) (used within : ℕ) → w ≡ true → piece ≡ front ++ drop within rest →
     within ≤ length rest →
     used ≡ (if b then length rest else within) →
-        length piece - length (drop used rest) ≡ (if b || not w then length piece else length front)
+    length piece - length (drop used rest) ≡ (if b || not w then length piece else length front)
 uses_waiting b w piece front rest used within w2 cut bound uses = grind (arith, all_used, length, length-append, drop)
 
 uses_ended : (b w : Bool) (all within : ℕ) → w ≡ false → all ≡ (if b || not w then all else within)
@@ -455,7 +466,7 @@ behind_on old piece rest used new none lasts attended b =
       attended = attended;
       offset = λ n. (
           let same : length (old.held.octets ++ b.front) + n ≡ (length (old.held.octets ++ b.front) - length new.held.octets) + n =
-              omega arith in
+          omega arith in
           b.offset n ∙ ap (λ k. offset_of (old.held.offset + k)) same
           );
       room = b.room;
@@ -465,7 +476,7 @@ behind_on old piece rest used new none lasts attended b =
 pub read_on : (old : Holding) (piece : List ℕ) (now : Holding) (rest : List ℕ) (used : ℕ) (new : Holding) → IsRead old piece now rest →
     Fetches now rest used new →
     waits new.end.lines ≡ false → is_some new.end.carrier.ended ≡ false → 0 < length (drop used rest) →
-        IsRead old piece new (drop used rest)
+    IsRead old piece new (drop used rest)
 read_on old piece now rest used new read fetch none lasts some = elim (looks old piece now rest used new read fetch) [
   | inl (inl dry) ↦ (let no = all_used rest used dry.all in absurd (omega arith))
   | inl (inr b) ↦ behind_on old piece rest used new none lasts fetch.attended b

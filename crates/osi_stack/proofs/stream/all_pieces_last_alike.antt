@@ -65,7 +65,7 @@ front_lasts laws old s vs r lasts h =
     let parted = front_parts laws old s vs r lasts h in
     still_lasts (with_packets vs start).end.carrier.ended
     (λ over. never (with_packets parted.more (with_packets vs start)).end (account_over parted.more (with_packets vs start) over)
-        (parted_lasts start lasts.units vs parted.more parted.all lasts.lasts))
+    (parted_lasts start lasts.units vs parted.more parted.all lasts.lasts))
 
 pub no_packets_end : PacketLaws → (old : Holding) (s : List ℕ) (vs : List (List ℕ)) (r : List ℕ) → Lasts old s → ArePackets vs s r →
     is_some (with_packets vs (account_of [] [] old.end)).end.carrier.ended ≡ true → ⊥
@@ -83,7 +83,7 @@ pub in_front : (held used within front later : List ℕ) → used ≡ within ++ 
     held ++ (used ++ later) ≡ (held ++ within) ++ (front ++ later)
 in_front held used within front later same =
     ap (λ l. held ++ (l ++ later)) same ∙ ap (λ l. held ++ l) (append_assoc within front later) ∙
-        sym (append_assoc held within (front ++ later))
+    sym (append_assoc held within (front ++ later))
 
 -- packets of the first octets of a piece
 pub packets_within : (units : List (List ℕ)) (held used within front later rest : List ℕ) → used ≡ within ++ front →
@@ -91,7 +91,7 @@ pub packets_within : (units : List (List ℕ)) (held used within front later res
     ArePackets units (held ++ (used ++ later)) (rest ++ (front ++ later))
 packets_within units held used within front later rest same h =
     subst (λ l. ArePackets units l (rest ++ (front ++ later))) (sym (in_front held used within front later same))
-        (packets_more units (held ++ within) rest (front ++ later) h)
+    (packets_more units (held ++ within) rest (front ++ later) h)
 
 over_stops : PacketLaws → (old : Holding) (piece : List ℕ) (fed : Fed) (new : Holding) (later : List ℕ) →
     Lasts old (old.held.octets ++ (take fed.used piece ++ later)) →
@@ -99,20 +99,20 @@ over_stops : PacketLaws → (old : Holding) (piece : List ℕ) (fed : Fed) (new 
 over_stops laws old piece fed new later lasts stop over =
     let front = front_used (uses_all new.end) piece fed.used stop.within stop.bound stop.uses in
     let packets = packets_within stop.units old.held.octets (take fed.used piece) (take stop.within piece) front.0 later [] front.1
-        stop.packets in
+    stop.packets in
     let done = packets_done stop.units old.end new.end stop.taken in
     no_packets_end laws old (old.held.octets ++ (take fed.used piece ++ later)) stop.units (front.0 ++ later) lasts packets
-        (ap (λ (x : Account). is_some x.end.carrier.ended) (sym done) ∙ over)
+    (ap (λ (x : Account). is_some x.end.carrier.ended) (sym done) ∙ over)
 
 over_refuses : PacketLaws → (old : Holding) (piece : List ℕ) (fed : Fed) (new : Holding) (later : List ℕ) →
     Lasts old (old.held.octets ++ (take fed.used piece ++ later)) →
     Refuses old piece fed.used new → ⊥
 over_refuses laws old piece fed new later lasts refused =
     let whole : take fed.used piece ≡ piece ++ [] = let all = refused.all in take_all fed.used piece (omega arith) ∙
-        sym (append-nil piece) in
+    sym (append-nil piece) in
     let packets = packets_within refused.units old.held.octets (take fed.used piece) piece [] later refused.cut.0 whole refused.cut.1 in
     no_fault_ends laws old (old.held.octets ++ (take fed.used piece ++ later)) refused.units (refused.cut.0 ++ later) _ refused.fault lasts
-        packets
+    packets
     (fault_behind _ refused.cut.0 later refused.fault refused.cut.2)
 
 -- because memory ran out it ends so, since the packet alone would not have ended it
@@ -126,14 +126,14 @@ over_starves laws old piece fed new later lasts starved = elim (starved.how) [
       let s = old.held.octets ++ take starved.within piece in
       let first = packets_append starved.units (p.0 ∷ []) s starved.rest [] starved.packets p.1 in
       let packets = packets_within (starved.units ++ p.0 ∷ []) old.held.octets (take fed.used piece) (take starved.within piece) front.0
-          later [] front.1 first in
+      later [] front.1 first in
       let start = account_of [] [] old.end in
       let done = packets_done starved.units old.end starved.before starved.taken in
       let here : account_of [] [] (after_packet starved.before p.0) ≡ with_packets (starved.units ++ p.0 ∷ []) start =
       sym (account_packet starved.before p.0 starved.quiet) ∙ ap (λ (x : Account). with_packet x p.0) done ∙
-          sym (with_joined starved.units (p.0 ∷ []) start) in
+      sym (with_joined starved.units (p.0 ∷ []) start) in
       let still = front_lasts laws old (old.held.octets ++ (take fed.used piece ++ later)) (starved.units ++ p.0 ∷ []) (front.0 ++ later)
-          lasts packets in
+      lasts packets in
       starved_full starved.before new.end p.0 p.2 (ap (λ (x : Account). x.end.carrier.ended) here ∙ still)
       )
 ]
@@ -150,7 +150,7 @@ over_goes laws old piece fed new later lasts (inr (inr starved)) over = over_sta
 over_feed : PacketLaws → (old : Holding) (piece : List ℕ) (fed : Fed) (new : Holding) (later : List ℕ) (waiting : Bool) →
     waits old.end.lines ≡ waiting → old.end.carrier.ended ≡ None →
     Lasts old (old.held.octets ++ (take fed.used piece ++ later)) → Feeds old piece fed new → is_some new.end.carrier.ended ≡ true →
-        new.end.carrier.ended ≡ Some NoMemory
+    new.end.carrier.ended ≡ Some NoMemory
 over_feed laws old piece fed new later true e quiet lasts h over =
     never new.end over (ap (λ (x : Holding). x.end.carrier.ended) (h.waiting quiet e).1 ∙ quiet)
 over_feed laws old piece fed new later false e quiet lasts h over =
@@ -158,7 +158,7 @@ over_feed laws old piece fed new later false e quiet lasts h over =
 
 over_one : PacketLaws → (old : Holding) (call : Call) (new : Holding) (later : List ℕ) → old.end.carrier.ended ≡ None →
     Lasts old (old.held.octets ++ (used_in call ++ later)) → Calls old call new → is_some new.end.carrier.ended ≡ true →
-        new.end.carrier.ended ≡ Some NoMemory
+    new.end.carrier.ended ≡ Some NoMemory
 over_one laws old (feeding piece fed) new later quiet lasts h over =
     over_feed laws old piece fed new later (waits old.end.lines) refl quiet lasts h over
 over_one laws old (telling shown) new later quiet lasts h over = never new.end over (ap (λ (x : Holding). x.end.carrier.ended) h.1 ∙ quiet)
@@ -181,7 +181,7 @@ LastsOrStarves new = (new.end.carrier.ended ≡ None) ⊎ (new.end.carrier.ended
 lasts_by : PacketLaws → IsPartial [] → (old : Holding) (call : Call) (mid : Holding) (calls : List Call) (new : Holding) (over : Bool) →
     is_some mid.end.carrier.ended ≡ over →
     old.end.carrier.ended ≡ None → Calls old call mid → CallsAlong mid calls new →
-        Lasts old (old.held.octets ++ (used_in call ++ flat_map used_in calls)) →
+    Lasts old (old.held.octets ++ (used_in call ++ flat_map used_in calls)) →
     (mid.end.carrier.ended ≡ None → Lasts mid (mid.held.octets ++ flat_map used_in calls) → LastsOrStarves new) → LastsOrStarves new
 lasts_by laws nothing old call mid calls new true e quiet h rest lasts on =
     inr (over_calls mid calls new e rest ∙ over_one laws old call mid (flat_map used_in calls) quiet lasts h e)
@@ -210,4 +210,4 @@ pub pieces_last : PacketLaws → IsPartial [] → (old a b : Holding) (xs ys : L
     (b.end.carrier.ended ≡ None) ⊎ (b.end.carrier.ended ≡ Some NoMemory)
 pieces_last laws nothing old a b xs ys partial quiet h k used lasts =
     lasts_along laws nothing old ys b quiet k
-        (subst (λ l. Lasts old (old.held.octets ++ l)) used (reads_lasts nothing old xs a partial h lasts))
+    (subst (λ l. Lasts old (old.held.octets ++ l)) used (reads_lasts nothing old xs a partial h lasts))

@@ -21,13 +21,15 @@ nothing_by old used told quiet (inl (inl g)) same = dry_is old used told quiet g
 nothing_by old used told quiet (inl (inr g)) same = let some = g.some in let bound = g.bound in absurd (omega arith)
 nothing_by old used told quiet (inr (inl g)) same =
     ended_not old.end.carrier told.state g.before (or_first (is_some old.end.carrier.ended) (waits old.end.lines) quiet)
-        (ap (λ (x : Carrying). x.state) same)
+    (ap (λ (x : Carrying). x.state) same)
     (ap (λ (c : Carrier). is_some c.ended) g.ended)
 nothing_by old used told quiet (inr (inr g)) same =
     ended_not old.end.carrier told.state g.before (or_first (is_some old.end.carrier.ended) (waits old.end.lines) quiet)
-        (ap (λ (x : Carrying). x.state) same)
-    (elim (g.how) [ inl none ↦ ap (λ (c : Carrier). is_some c.ended) none.ended | inr p ↦ ap (λ (c : Carrier). is_some c.ended) p.2.2.ended
-        ])
+    (ap (λ (x : Carrying). x.state) same)
+    (elim (g.how) [
+      | inl none ↦ ap (λ (c : Carrier). is_some c.ended) none.ended
+      | inr p ↦ ap (λ (c : Carrier). is_some c.ended) p.2.2.ended
+    ])
 
 -- no octet was used, nothing has changed, and this is a result of feeding
 pub record IsIdle (old : Holding) (piece : List ℕ) (used : ℕ) (new : Holding) : Type 0 where
@@ -39,14 +41,14 @@ idle_by : (old new : Holding) (piece : List ℕ) (used : ℕ) → piece ≡ [] �
     Goes old piece used new
 idle_by old new piece used none unused same dry =
     subst (λ (p : List ℕ). Goes old p used new) (sym none)
-        (subst (λ (n : ℕ). Goes old [] n new) (sym unused) (subst (Goes old [] 0) (sym same) (inl (inl dry))))
+    (subst (λ (n : ℕ). Goes old [] n new) (sym unused) (subst (Goes old [] 0) (sym same) (inl (inl dry))))
 
 idle_is : (old new : Holding) (piece : List ℕ) (fed : Fed) (told : Carrying) → piece ≡ [] → stops old.end ≡ false → IsAttended old.end →
     carriers.Feeds (carrying_of old) piece fed told → fed.used ≡ 0 → told ≡ carrying_of old → new ≡ old → IsIdle old piece fed.used new
 idle_is old new piece fed told none quiet attended feeds unused still same =
     let goes = feeds.goes (quiet_end old.end quiet attended) in
     search (idle_by old new piece fed.used none unused same
-        (nothing_by old fed.used told quiet (subst (λ (p : List ℕ). carriers.Goes (carrying_of old) p fed.used told) none goes) still))
+    (nothing_by old fed.used told quiet (subst (λ (p : List ℕ). carriers.Goes (carrying_of old) p fed.used told) none goes) still))
 
 nothing_of : (l : List ℕ) → (length l == 0) ≡ true → l ≡ []
 nothing_of [] e = refl
@@ -56,5 +58,5 @@ nothing_of (x ∷ l) e = let none = eqb-true (length (x ∷ l)) 0 e in absurd (o
 pub idle_goes : (old : Holding) (piece : List ℕ) (fed : Fed) (told : Carrying) → (length piece == 0) ≡ true → stops old.end ≡ false →
     IsAttended old.end →
     carriers.Feeds (carrying_of old) piece fed told → (piece ≡ [] → (fed.used ≡ 0) × (told ≡ carrying_of old)) →
-        IsIdle old piece fed.used (holding told old.end.lines)
+    IsIdle old piece fed.used (holding told old.end.lines)
 idle_goes old piece fed told e quiet attended feeds empty = grind (arith, nothing_of, idle_is, holding)

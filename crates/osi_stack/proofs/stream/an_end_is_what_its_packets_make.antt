@@ -94,7 +94,7 @@ reads_feed nothing old piece fed new waiting e quiet h lasts =
 reads_told : (old : Holding) (shown : Option (ℕ × Shown)) (new : Holding) → Calls old (telling shown) new → ReadsOne old (telling shown) new
 reads_told old shown new h =
     reads_still old (telling shown) new refl (ap (λ (x : Holding). x.held) h.1)
-        (ap (λ (x : Holding). account_of (told_in (telling shown)) [] x.end) h.1 ∙ account_told shown old.end h.0)
+    (ap (λ (x : Holding). account_of (told_in (telling shown)) [] x.end) h.1 ∙ account_told shown old.end h.0)
 
 pub reads_one : IsPartial [] → (old : Holding) (call : Call) (new : Holding) → Calls old call new → new.end.carrier.ended ≡ None →
     ReadsOne old call new
@@ -110,7 +110,7 @@ reads_one nothing old (carrying octets) new h lasts =
 pub account_more : (call : Call) (calls : List Call) (us vs : List (List ℕ)) (old mid new : End) →
     account_of (told_in call) (carried_in call) mid ≡ with_packets us (account_of [] [] old) →
     account_along calls new ≡ with_packets vs (account_of [] [] mid) →
-        account_along (call ∷ calls) new ≡ with_packets (us ++ vs) (account_of [] [] old)
+    account_along (call ∷ calls) new ≡ with_packets (us ++ vs) (account_of [] [] old)
 account_more call calls us vs old mid new one more =
     account_joined (told_in call) (flat_map told_in calls) (carried_in call) (flat_map carried_in calls) new
     ∙ ap (after_more (told_in call) (carried_in call)) more ∙ sym (packets_apart (told_in call) (carried_in call) vs (account_of [] [] mid))
@@ -146,24 +146,24 @@ pub calls_read : IsPartial [] → (old : Holding) (calls : List Call) (new : Hol
 calls_read nothing old [] new h lasts = reads_none old new h
 calls_read nothing old (call ∷ calls) new h lasts =
     reads_more old call h.0 calls new (reads_one nothing old call h.0 h.1 (calls_last h.0 calls new h.2 lasts))
-        (calls_read nothing h.0 calls new h.2 lasts)
+    (calls_read nothing h.0 calls new h.2 lasts)
 
 -- ---- the pieces do not matter
 
 pub pieces_alike : IsPartial [] → OneCut → (old a b : Holding) (xs ys : List Call) → IsPartial old.held.octets → old.held.offset < 2 ^ 64 →
     CallsAlong old xs a → CallsAlong old ys b → flat_map used_in xs ≡ flat_map used_in ys → a.end.carrier.ended ≡ None →
-        b.end.carrier.ended ≡ None →
+    b.end.carrier.ended ≡ None →
     AreAlike a xs b ys × (a.held.offset ≡ b.held.offset)
 pieces_alike nothing one_cut old a b xs ys partial bound h k used lasts still =
     let m = calls_read nothing old xs a h lasts in
     let n = calls_read nothing old ys b k still in
     let one = one_cut (old.held.octets ++ flat_map used_in xs) a.held.octets b.held.octets m.packets n.packets (m.partial partial)
-        (n.partial partial) m.cut
+    (n.partial partial) m.cut
     (subst (λ l. ArePackets n.packets (old.held.octets ++ l) b.held.octets) (sym used) n.cut) in
     let same : account_along xs a.end ≡ account_along ys b.end = m.account ∙ ap (λ us. with_packets us (account_of [] [] old.end)) one.0 ∙
-        sym n.account in (
+    sym n.account in (
       record { octets = one.1; end = ap (λ (x : Account). x.end) same; told = ap (λ (x : Account). x.told) same },
       m.offset bound ∙ ap (λ l. offset_of (old.held.offset + (length (old.held.octets ++ l) - length a.held.octets))) used
           ∙ ap (λ l. offset_of (old.held.offset + (length (old.held.octets ++ flat_map used_in ys) - length l))) one.1 ∙
-              sym (n.offset bound),
+          sym (n.offset bound),
     )

@@ -74,7 +74,7 @@ packet_fault_by : {B : Type 0} (old : Account) (at : ℕ) (s : List ℕ) (f g : 
     ArePackets more b.rest a.rest → B
 packet_fault_by old at s f g a b [] e h =
     never (with_packets b.before old).end (ap (λ l. is_some (with_packets l old).end.carrier.ended) (sym (e ∙ append-nil b.before)) ∙
-        a.over) b.lasts
+    a.over) b.lasts
 packet_fault_by old at s f g a b (m ∷ ms) e h = absurd (no_further _ ms m b.rest a.rest b.fault b.is h)
 
 packet_fault : {B : Type 0} (old : Account) (at : ℕ) (s : List ℕ) (f g : Account) (a : InPacket old s f) (b : InFault old at s g) →
@@ -89,7 +89,7 @@ same_fault old at s f g a b [] e rests =
     let fault : a.fault ≡ b.fault = one_fault (offset_of (at + (length s - length b.rest))) b.rest a.fault b.fault
     (subst (λ l. IsFaultOf (offset_of (at + (length s - length l))) l a.fault) (sym rests) a.is) b.is in
     a.account ∙ ap (λ l. faulted a.fault (with_packets l old)) (e ∙ append-nil b.before) ∙
-        ap (λ x. faulted x (with_packets b.before old)) fault ∙ sym b.account
+    ap (λ x. faulted x (with_packets b.before old)) fault ∙ sym b.account
 same_fault old at s f g a b (m ∷ ms) e h = absurd (no_further _ ms m b.rest a.rest b.fault b.is h)
 
 both_faults : (old : Account) (at : ℕ) (s : List ℕ) (f g : Account) (a : InFault old at s f) (b : InFault old at s g) →
@@ -148,7 +148,7 @@ ends_stops : (old : Holding) (piece : List ℕ) (fed : Fed) (new : Holding) (lat
 ends_stops old piece fed new later quiet stop over =
     let front = front_used (uses_all new.end) piece fed.used stop.within stop.bound stop.uses in
     let packets = packets_within stop.units old.held.octets (take fed.used piece) (take stop.within piece) front.0 later [] front.1
-        stop.packets in
+    stop.packets in
     let t = takes_last stop.units old.end new.end stop.taken quiet stop.stopped in
     let done = packets_done stop.units old.end new.end stop.taken ∙ ap (λ l. with_packets l (account_of [] [] old.end)) t.all in
     record {
@@ -174,7 +174,7 @@ ends_refuses : (old : Holding) (piece : List ℕ) (fed : Fed) (new : Holding) (l
     Outcome old (old.held.octets ++ (take fed.used piece ++ later)) (account_of [] [] new.end) new.held.octets
 ends_refuses old piece fed new later refused =
     let whole : take fed.used piece ≡ piece ++ [] = let all = refused.all in take_all fed.used piece (omega arith) ∙
-        sym (append-nil piece) in
+    sym (append-nil piece) in
     let s = old.held.octets ++ piece in
     let r = refused.cut.0 in
     let same = in_front old.held.octets (take fed.used piece) piece [] later whole in
@@ -196,7 +196,7 @@ ends_refuses old piece fed new later refused =
 
 ends_goes : (old : Holding) (piece : List ℕ) (fed : Fed) (new : Holding) (later : List ℕ) → stops old.end ≡ false →
     (RunsDry old piece fed.used new ⊎ StopsBehind old piece fed.used new) ⊎ Refuses old piece fed.used new →
-        is_some new.end.carrier.ended ≡ true →
+    is_some new.end.carrier.ended ≡ true →
     Outcome old (old.held.octets ++ (take fed.used piece ++ later)) (account_of [] [] new.end) new.held.octets
 ends_goes old piece fed new later quiet (inl (inl dry)) over = never new.end over (stops_not new.end dry.quiet)
 ends_goes old piece fed new later quiet (inl (inr stop)) over = ends_stops old piece fed new later quiet stop over
@@ -247,10 +247,10 @@ in_room old (call ∷ calls) new h = (h.0, h.1, in_room h.0 calls new h.3)
 -- what packets did after the call
 behind_call : (told : List (ℕ × Shown)) (carried : List ℕ) (vs more us : List (List ℕ)) (old mid : End) → us ≡ vs ++ more →
     account_of told carried mid ≡ with_packets vs (account_of [] [] old) →
-        with_packets us (account_of [] [] old) ≡ after_more told carried (with_packets more (account_of [] [] mid))
+    with_packets us (account_of [] [] old) ≡ after_more told carried (with_packets more (account_of [] [] mid))
 behind_call told carried vs more us old mid all e =
     with_parts us vs more (account_of [] [] old) all ∙ ap (with_packets more) (sym e) ∙
-        packets_apart told carried more (account_of [] [] mid)
+    packets_apart told carried more (account_of [] [] mid)
 
 -- a fault ends it so whatever was reported and carried before
 faulted_apart : (told : List (ℕ × Shown)) (carried : List ℕ) (fault : TpktFault) (a : Account) →
@@ -261,7 +261,7 @@ faulted_apart told carried fault a =
 ending_more : (old mid : Holding) (call : Call) (t : List ℕ) (final : Account) → old.held.offset < 2 ^ 64 → ReadsOne old call mid →
     Ending (account_of [] [] mid.end) mid.held.offset (mid.held.octets ++ t) final →
     Ending (account_of [] [] old.end) old.held.offset (old.held.octets ++ (used_in call ++ t))
-        (after_more (told_in call) (carried_in call) final)
+    (after_more (told_in call) (carried_in call) final)
 ending_more old mid call t final bound one (inl a) =
     let vs = one.packets in
     let us = a.before ++ a.last ∷ [] in
@@ -288,10 +288,10 @@ ending_more old mid call t final bound one (inr a) =
     let m = length-append mid.held.octets t in
     let n = length-append s t in
     let at : offset_of (mid.held.offset + (length (mid.held.octets ++ t) - length a.rest)) ≡ offset_of
-        (old.held.offset + (length (s ++ t) - length a.rest)) =
+    (old.held.offset + (length (s ++ t) - length a.rest)) =
     ap (λ k. offset_of (mid.held.offset + (k - length a.rest))) m
     ∙ offsets_join old.held.offset mid.held.offset (length s) (length mid.held.octets) (length t) (length a.rest) (one.offset bound)
-        (omega arith) (omega arith)
+    (omega arith) (omega arith)
     ∙ ap (λ k. offset_of (old.held.offset + (k - length a.rest))) (sym n) in
     inr (record {
       before = vs ++ a.before;
@@ -305,21 +305,21 @@ ending_more old mid call t final bound one (inr a) =
       lasts = ap (λ (x : Account). x.end.carrier.ended) all ∙ a.lasts;
       account = ap (after_more (told_in call) (carried_in call)) a.account
           ∙ sym (faulted_apart (told_in call) (carried_in call) a.fault (with_packets a.before (account_of [] [] mid.end))) ∙
-              ap (faulted a.fault) (sym all);
+          ap (faulted a.fault) (sym all);
     })
 
 outcome_by : IsPartial [] → (old : Holding) (call : Call) (mid : Holding) (calls : List Call) (new : Holding) (over : Bool) →
     is_some mid.end.carrier.ended ≡ over → old.end.carrier.ended ≡ None →
     old.held.offset < 2 ^ 64 → Calls old call mid → HasRoom old call mid → CallsInRoom mid calls new →
     (mid.end.carrier.ended ≡ None → mid.held.offset < 2 ^ 64 →
-        Outcome mid (mid.held.octets ++ flat_map used_in calls) (account_along calls new.end) new.held.octets) →
+    Outcome mid (mid.held.octets ++ flat_map used_in calls) (account_along calls new.end) new.held.octets) →
     Outcome old (old.held.octets ++ (used_in call ++ flat_map used_in calls)) (account_along (call ∷ calls) new.end) new.held.octets
 outcome_by nothing old call mid calls new true e quiet bound h room rest on =
     let still = stays_along mid calls new e (in_room mid calls new rest) in
     let one = ends_one old call mid (flat_map used_in calls) quiet h room e in
     let same : account_along (call ∷ calls) new.end ≡ account_of (told_in call) (carried_in call) mid.end =
     account_joined (told_in call) (flat_map told_in calls) (carried_in call) (flat_map carried_in calls) new.end ∙
-        ap (after_more (told_in call) (carried_in call)) still.account in
+    ap (after_more (told_in call) (carried_in call)) still.account in
     record {
       how = subst (λ (a : Account). Ending (account_of [] [] old.end) old.held.offset
           (old.held.octets ++ (used_in call ++ flat_map used_in calls)) a) (sym same) one.how;
@@ -385,16 +385,17 @@ alike_by : PacketLaws → IsPartial [] → (old a b : Holding) (xs ys : List Cal
 alike_by laws nothing old a b xs ys false e partial bound k used quiet m =
     let lasts = reads_lasts nothing old ys b partial (in_room old ys b k) (none_of b.end.carrier.ended e) in
     absurd (ending_lasts laws old (old.held.octets ++ flat_map used_in xs) (account_along xs a.end)
-        (subst (λ l. Lasts old (old.held.octets ++ l)) (sym used) lasts) m.how)
+    (subst (λ l. Lasts old (old.held.octets ++ l)) (sym used) lasts) m.how)
 alike_by laws nothing old a b xs ys true e partial bound k used quiet m =
     let n = outcome_along nothing old ys b quiet bound k e in
     let same : account_along xs a.end ≡ account_along ys b.end =
     end_alike laws (account_of [] [] old.end) old.held.offset (old.held.octets ++ flat_map used_in xs) (account_along xs a.end)
-        (account_along ys b.end)
+    (account_along ys b.end)
     m.how (subst (λ l. Ending (account_of [] [] old.end) old.held.offset (old.held.octets ++ l) (account_along ys b.end)) (sym used) n.how)
-        in
-    (record { octets = m.nothing ∙ sym n.nothing; end = ap (λ (x : Account). x.end) same; told = ap (λ (x : Account). x.told) same },
-        m.nothing)
+    in (
+      record { octets = m.nothing ∙ sym n.nothing; end = ap (λ (x : Account). x.end) same; told = ap (λ (x : Account). x.told) same },
+      m.nothing,
+    )
 
 pub pieces_end : PacketLaws → IsPartial [] → (old a b : Holding) (xs ys : List Call) → IsPartial old.held.octets →
     old.held.offset < 2 ^ 64 → old.end.carrier.ended ≡ None →

@@ -37,7 +37,7 @@ goes_kept P law old new piece used (inr (inl h)) p =
     subst P (sym h.ended) (law.over _ h.before (packets_kept P law h.units old.end h.before h.taken p))
 goes_kept P law old new piece used (inr (inr h)) p =
     none_found P law h.before new.end h.rest (lasting_of h.before.carrier.ended (waits h.before.lines) h.quiet)
-        (found_how old piece used new h)
+    (found_how old piece used new h)
     (packets_kept P law h.units old.end h.before h.taken p)
 
 feeds_by : (P : End → Type 0) → IsKept P → (old new : Holding) (piece : List ℕ) (fed : Fed) (o : Option EndReason) (b : Bool) →

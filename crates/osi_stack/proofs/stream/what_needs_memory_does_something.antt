@@ -35,5 +35,5 @@ wants_memory (Err e) grown h is = h
 pub needs_at : {A E : Type 0} (result : Result A E) (r : ℕ) (rows : Rows Line) (i : ℕ) (row : ℕ × Line) (input : Input) (c : Carrier) →
     place_of r rows ≡ Some i → row ≡ get_or rows i row →
     OnErr result (session_needs row.0 row.1.session input c ≡ true) →
-        OnErr result (session_needs r (session_in (value_at r rows)) input c ≡ true)
+    OnErr result (session_needs r (session_in (value_at r rows)) input c ≡ true)
 needs_at result r rows i row input c e here h = grind (arith, placed, session_needs, session_in, value_at, session_here)

@@ -53,7 +53,7 @@ acted_unit : (old : Carrier) (new : Carrier) (unit : Value) → IsSendable unit 
     (new ≡ react unit old) ⊎ (new ≡ states.ends NoMemory old)
 acted_unit old new unit sendable h =
     let acts : carriers.ActsBy (Ok (unit ∷ [])) old new =
-        subst (λ (r : Result (List Value) TpduFault). carriers.ActsBy r old new) (unit_read unit sendable) h in
+    subst (λ (r : Result (List Value) TpduFault). carriers.ActsBy r old new) (unit_read unit sendable) h in
     elim acts [
       | inl is ↦ inl is
       | inr out ↦ inr (alone_starved old new unit out.done out.more out.next out.all out.ended)
@@ -77,7 +77,7 @@ packet_starved : (e new : End) (packet : List ℕ) (coming : List Value) (r t : 
     (f : Fronts (packet ∷ []) coming r t) → Starves e packet new → Starved e coming new
 packet_starved e new packet coming r t none f h =
     elim f.done as (λ (l : List Value). packet ∷ [] ≡ map written l → coming ≡ l ++ f.left → AllByRecursion IsSendable l →
-        Starved e coming new) [
+    Starved e coming new) [
       | [] ↦ λ is parts all. cc
       | u ∷ us ↦ λ is parts all.
           let same : packet ≡ written u = cc in
@@ -96,7 +96,7 @@ all_heard : (l : List Happening) (e : End) → e.carrier.events ≡ l → (hears
 all_heard [] e h = h
 all_heard (x ∷ xs) e h =
     let next : (hears_next e).carrier.events ≡ xs = ap (λ (k : List Happening). (hears_first k e).carrier.events) h ∙
-        (hears_keep x (with_events xs e)).events in
+    (hears_keep x (with_events xs e)).events in
     all_heard xs (hears_next e) next
 
 pub attended_then : (e new : End) → new ≡ attends e → IsAttended new
@@ -105,8 +105,8 @@ attended_then e new h = concluded_attended (hears_all e) new h (all_heard e.carr
 pub attended_kept : IsKept IsAttended
 attended_kept =
     over_kept IsAttended
-        (λ packet e lasts attended. attended_then (with_carrier (carriers.after_packet e.carrier packet) e) (after_packet e packet)
-        (packet_is e packet)) (λ e over lasts. never e over lasts)
+    (λ packet e lasts attended. attended_then (with_carrier (carriers.after_packet e.carrier packet) e) (after_packet e packet)
+    (packet_is e packet)) (λ e over lasts. never e over lasts)
 
 -- ---- feeding
 
@@ -149,7 +149,7 @@ stops_behind old new outgoing coming k used less c h =
       coming_then = λ lasts.
           let all : used ≡ n = uses_within new.end (length (take k outgoing)) n used h.stopped lasts h.uses in
           subst (λ m. AreComing new.held.octets (drop m outgoing) f.left) (sym all)
-              (subst (λ l. AreComing l (drop n outgoing) f.left) (sym h.held) f.rest);
+          (subst (λ l. AreComing l (drop n outgoing) f.left) (sym h.held) f.rest);
     }
 
 refuses_none : (old new : Holding) (outgoing : List ℕ) (coming : List Value) (k used : ℕ) → AreComing old.held.octets outgoing coming →
@@ -157,7 +157,7 @@ refuses_none : (old new : Holding) (outgoing : List ℕ) (coming : List Value) (
 refuses_none old new outgoing coming k used c h =
     let f = reads_part old.held.octets outgoing coming k h.units h.cut.0 c h.cut.1 in
     fault_free (offset_of (old.held.offset + (length (old.held.octets ++ take k outgoing) - length h.cut.0))) h.cut.0 (drop k outgoing)
-        h.fault f.left f.rest h.cut.2
+    h.fault f.left f.rest h.cut.2
 
 finds_none : (old new : Holding) (outgoing : List ℕ) (coming : List Value) (k used : ℕ) → k ≤ length outgoing →
     AreComing old.held.octets outgoing coming → IsAttended old.end →
@@ -195,7 +195,7 @@ goes_some old new outgoing coming k used less c attended (inr (inr h)) = finds_n
 feeds_by : (old new : Holding) (outgoing : List ℕ) (coming : List Value) (k : ℕ) (fed : Fed) (wait : Bool) → k ≤ length outgoing →
     AreComing old.held.octets outgoing coming →
     IsAttended old.end → old.end.carrier.ended ≡ None → waits old.end.lines ≡ wait → Feeds old (take k outgoing) fed new →
-        TakesSome old outgoing coming fed.used new
+    TakesSome old outgoing coming fed.used new
 feeds_by old new outgoing coming k fed true less c attended lasts wait h =
     let none = h.waiting lasts wait in
     record {

@@ -7,8 +7,11 @@ pub returns : goal.returns
 returns c =
     let nothing = c.a_prefix_of_a_packet.ensures.nothing in
     let laws : PacketLaws =
-        record { one = c.no_packet_begins_another.ensures; front = c.a_prefix_of_a_packet.ensures.front;
-        proper = c.a_prefix_of_a_packet.ensures.proper } in
+    record {
+      one = c.no_packet_begins_another.ensures;
+      front = c.a_prefix_of_a_packet.ensures.front;
+      proper = c.a_prefix_of_a_packet.ensures.proper;
+    } in
     record {
       calls = λ old new calls. calls_read nothing old calls new;
       lasts = pieces_last laws nothing;

@@ -31,14 +31,14 @@ returns-in_default-put_given c =
     let gives = subst (λ r. Gives r (next now) now then) c.in-Some.is c.next_out.follows.holds-at-none in
     let e = c.all_is_given.ensures.some now then (given c.in-Some.unit) room gives in
     let short = pumping_short c.args.peer first now then (given c.in-Some.unit) c.args.out.now.spare c.units.out.spare e c.units.invariant.1
-        c.in_default-put_given.ensures.full in
+    c.in_default-put_given.ensures.full in
     record {
       link = tt;
       ok = tt;
       pumped = tt;
       err = c.truncate.ensures.items ∙ ap (λ (n : ℕ). take n c.put_given.new.out.items) c.len-before.ensures.value
           ∙ pumping_full c.args.peer first now c.args.out.now.items c.units.out.items c.put_given.new.out.items c.units.invariant.0
-              c.in_default-put_given.ensures.err;
+          c.in_default-put_given.ensures.err;
       needs = some_written (written_by c.args.peer first) c.args.out.now.spare (λ enough. omega arith);
       enough = λ enough. absurd (omega arith);
     }

@@ -6,4 +6,4 @@ pub returns-clause-ok : goal.returns-clause-ok
 returns-clause-ok c =
     subst (λ (l : List ℕ). IfOk c.from_slice.result (λ v. v.items ≡ l))
     (left_behind c.args.head.now c.args.body.now c.split_at.result.1.now c.args.octets _ (omega arith) c.split_at.ensures.back)
-        c.from_slice.ensures.items
+    c.from_slice.ensures.items

@@ -29,6 +29,6 @@ unreachable-requires c =
     let fits : length (packets (written_by c.args.peer then)) ≤ c.reserve.new.self.spare = omega arith in
     let never = c.in_default-pump.ensures.enough
     (subst (λ (s : Standing). length (packets (written_by c.args.peer s)) ≤ c.reserve.new.self.spare)
-        (sym (c.in_ok-keep_all.ensures.ok ∙ ap (λ ts. with_tsdus (any_standing c.args.link.now) (map (λ v. v.items) ts))
-        (sym c.as_slice-lent.ensures.value))) fits) in
+    (sym (c.in_ok-keep_all.ensures.ok ∙ ap (λ ts. with_tsdus (any_standing c.args.link.now) (map (λ v. v.items) ts))
+    (sym c.as_slice-lent.ensures.value))) fits) in
     cc

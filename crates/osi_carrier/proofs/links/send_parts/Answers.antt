@@ -38,5 +38,5 @@ unreachable-requires c =
     let fits : length (packets (written_by c.args.peer then)) ≤ c.reserve.new.self.spare = omega arith in
     let never = c.in_default.ensures.enough
     (subst (λ (s : Standing). length (packets (written_by c.args.peer s)) ≤ c.reserve.new.self.spare)
-        (sym (c.in_ok-keep.ensures.ok ∙ ap (with_tsdu (any_standing c.args.link.now)) (sym c.as_slice-octets.ensures.value))) fits) in
+    (sym (c.in_ok-keep.ensures.ok ∙ ap (with_tsdu (any_standing c.args.link.now)) (sym c.as_slice-octets.ensures.value))) fits) in
     cc

@@ -28,7 +28,7 @@ returns c =
     let limit = c.limit.ensures.value in
     let fits : length tsdu ≤ (any_standing c.args.link.now).ends.limit = omega arith in
     let sent = subst (λ (u : Given). GivesPart u tsdu (any_standing c.args.link.now) new)
-        (whole_part c.in-Some.slot (any_standing c.args.link.now).ends.limit tsdu fits) (c.in-Some.ensures.given tsdu) in
+    (whole_part c.in-Some.slot (any_standing c.args.link.now).ends.limit tsdu fits) (c.in-Some.ensures.given tsdu) in
     let least = c.in-Some.ensures.at_least in
     let octets = part_octets (number_in c.in-Some.slot) true tsdu in
     let all : length tsdu ≤ octets_of unit = omega arith in

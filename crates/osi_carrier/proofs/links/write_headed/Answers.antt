@@ -19,12 +19,12 @@ unreachable-requires-in_default-put_part c =
     let least = c.in-Some.ensures.at_least in
     let short = c.requires.short in
     let cut = first_cut c.in-Some.slot limit c.min-carried.result c.args.head.now c.args.body.now c.split_at.result.0.now
-        c.split_at.result.1.now c.is_empty-end.result (omega arith) (omega (arith, c.min-carried.ensures))
+    c.split_at.result.1.now c.is_empty-end.result (omega arith) (omega (arith, c.min-carried.ensures))
     c.split_at.ensures.front c.split_at.ensures.back c.is_empty-end.ensures in
     let unit = first_in c.in-Some.slot limit tsdu in
     let size = ap (λ (u : Given). length (packets (unit_of c.args.peer u ∷ []))) cut.unit in
     let room = part_room c.args.peer (any_standing c.args.link.now) (any_standing c.give_slot.new.self) tsdu unit (omega arith)
-        (c.in-Some.ensures.given tsdu) in
+    (c.in-Some.ensures.given tsdu) in
     let enough = c.requires.room in
     let full = c.in_default-put_part.ensures.full in
     omega arith
@@ -39,19 +39,22 @@ returns-then-end c =
     let least = c.in-Some.ensures.at_least in
     let short = c.requires.short in
     let cut = first_cut c.in-Some.slot limit c.min-carried.result c.args.head.now c.args.body.now c.split_at.result.0.now
-        c.split_at.result.1.now c.is_empty-end.result (omega arith) (omega (arith, c.min-carried.ensures))
+    c.split_at.result.1.now c.is_empty-end.result (omega arith) (omega (arith, c.min-carried.ensures))
     c.split_at.ensures.front c.split_at.ensures.back c.is_empty-end.ensures in
     let unit = first_in c.in-Some.slot limit tsdu in
     let put = c.in-Ok.ensures.ok ∙ ap (λ (u : Given). c.args.out.now.items ++ packets (unit_of c.args.peer u ∷ [])) cut.unit in
     let goes : Goes (any_standing c.args.link.now) tsdu c.args.kept.items =
-    record { quiet = c.requires.quiet; alone = (part_goes (any_standing c.args.link.now) tsdu c.requires.quiet c.requires.some).alone;
-        left = c.requires.kept } in
+    record {
+      quiet = c.requires.quiet;
+      alone = (part_goes (any_standing c.args.link.now) tsdu c.requires.quiet c.requires.some).alone;
+      left = c.requires.kept;
+    } in
     let nothing = eqb-true (length c.split_at.result.1.now) 0 (sym c.is_empty-end.ensures ∙ c.if-end.true) in
     let none : drop (octets_of unit) tsdu ≡ [] = cut.left ∙ empty_list c.split_at.result.1.now nothing in
     let start = parting_first c.args.peer (any_standing c.args.link.now) tsdu c.args.kept.items c.args.out.now.items c.args.out.now.spare
-        goes c.requires.room in
+    goes c.requires.room in
     let all = parting_last c.args.peer first (any_standing c.args.link.now) then
-        c.args.out.now.items tsdu c.args.kept.items c.args.out.now.items c.put_part.new.out.items unit c.args.out.now.spare
+    c.args.out.now.items tsdu c.args.kept.items c.args.out.now.items c.put_part.new.out.items unit c.args.out.now.spare
     start (omega arith) (c.in-Some.ensures.given tsdu) put none in
     record { link = all.link; written = all.written; pumped = (c.in-Some.ensures.given tsdu).last }
 
@@ -65,21 +68,24 @@ write_parts-requires-clause-quiet c =
     let least = c.in-Some.ensures.at_least in
     let short = c.requires.short in
     let cut = first_cut c.in-Some.slot limit c.min-carried.result c.args.head.now c.args.body.now c.split_at.result.0.now
-        c.split_at.result.1.now c.is_empty-end.result (omega arith) (omega (arith, c.min-carried.ensures))
+    c.split_at.result.1.now c.is_empty-end.result (omega arith) (omega (arith, c.min-carried.ensures))
     c.split_at.ensures.front c.split_at.ensures.back c.is_empty-end.ensures in
     let unit = first_in c.in-Some.slot limit tsdu in
     let put = c.in-Ok.ensures.ok ∙ ap (λ (u : Given). c.args.out.now.items ++ packets (unit_of c.args.peer u ∷ [])) cut.unit in
     let goes : Goes (any_standing c.args.link.now) tsdu c.args.kept.items =
-    record { quiet = c.requires.quiet; alone = (part_goes (any_standing c.args.link.now) tsdu c.requires.quiet c.requires.some).alone;
-        left = c.requires.kept } in
+    record {
+      quiet = c.requires.quiet;
+      alone = (part_goes (any_standing c.args.link.now) tsdu c.requires.quiet c.requires.some).alone;
+      left = c.requires.kept;
+    } in
     let took : c.args.out.now.spare ≤ c.put_part.new.out.spare + length (packets (unit_of c.args.peer unit ∷ [])) =
     subst (λ (u : Given). c.args.out.now.spare ≤ c.put_part.new.out.spare + length (packets (unit_of c.args.peer u ∷ []))) cut.unit
-        c.in-Ok.ensures.spare in
+    c.in-Ok.ensures.spare in
     let something : length c.split_at.result.1.now ≡ 0 →
-        ⊥ = eqb-false (length c.split_at.result.1.now) 0 (sym c.is_empty-end.ensures ∙ c.if-end.false) in
+    ⊥ = eqb-false (length c.split_at.result.1.now) 0 (sym c.is_empty-end.ensures ∙ c.if-end.false) in
     let parting = parting_then c.args.peer (any_standing c.args.link.now) then
-        tsdu c.split_at.result.1.now c.args.kept.items c.args.out.now.items c.put_part.new.out.items unit c.args.out.now.spare
-        c.put_part.new.out.spare
+    tsdu c.split_at.result.1.now c.args.kept.items c.args.out.now.items c.put_part.new.out.items unit c.args.out.now.spare
+    c.put_part.new.out.spare
     goes c.requires.room (omega arith) (c.in-Some.ensures.given tsdu) c.in-Some.ensures.alone cut.left put took (omega arith) in
     parting.goes.quiet
 
@@ -93,21 +99,24 @@ write_parts-requires-clause-alone c =
     let least = c.in-Some.ensures.at_least in
     let short = c.requires.short in
     let cut = first_cut c.in-Some.slot limit c.min-carried.result c.args.head.now c.args.body.now c.split_at.result.0.now
-        c.split_at.result.1.now c.is_empty-end.result (omega arith) (omega (arith, c.min-carried.ensures))
+    c.split_at.result.1.now c.is_empty-end.result (omega arith) (omega (arith, c.min-carried.ensures))
     c.split_at.ensures.front c.split_at.ensures.back c.is_empty-end.ensures in
     let unit = first_in c.in-Some.slot limit tsdu in
     let put = c.in-Ok.ensures.ok ∙ ap (λ (u : Given). c.args.out.now.items ++ packets (unit_of c.args.peer u ∷ [])) cut.unit in
     let goes : Goes (any_standing c.args.link.now) tsdu c.args.kept.items =
-    record { quiet = c.requires.quiet; alone = (part_goes (any_standing c.args.link.now) tsdu c.requires.quiet c.requires.some).alone;
-        left = c.requires.kept } in
+    record {
+      quiet = c.requires.quiet;
+      alone = (part_goes (any_standing c.args.link.now) tsdu c.requires.quiet c.requires.some).alone;
+      left = c.requires.kept;
+    } in
     let took : c.args.out.now.spare ≤ c.put_part.new.out.spare + length (packets (unit_of c.args.peer unit ∷ [])) =
     subst (λ (u : Given). c.args.out.now.spare ≤ c.put_part.new.out.spare + length (packets (unit_of c.args.peer u ∷ []))) cut.unit
-        c.in-Ok.ensures.spare in
+    c.in-Ok.ensures.spare in
     let something : length c.split_at.result.1.now ≡ 0 →
-        ⊥ = eqb-false (length c.split_at.result.1.now) 0 (sym c.is_empty-end.ensures ∙ c.if-end.false) in
+    ⊥ = eqb-false (length c.split_at.result.1.now) 0 (sym c.is_empty-end.ensures ∙ c.if-end.false) in
     let parting = parting_then c.args.peer (any_standing c.args.link.now) then
-        tsdu c.split_at.result.1.now c.args.kept.items c.args.out.now.items c.put_part.new.out.items unit c.args.out.now.spare
-        c.put_part.new.out.spare
+    tsdu c.split_at.result.1.now c.args.kept.items c.args.out.now.items c.put_part.new.out.items unit c.args.out.now.spare
+    c.put_part.new.out.spare
     goes c.requires.room (omega arith) (c.in-Some.ensures.given tsdu) c.in-Some.ensures.alone cut.left put took (omega arith) in
     parting.goes.alone
 
@@ -121,21 +130,24 @@ write_parts-requires-clause-kept c =
     let least = c.in-Some.ensures.at_least in
     let short = c.requires.short in
     let cut = first_cut c.in-Some.slot limit c.min-carried.result c.args.head.now c.args.body.now c.split_at.result.0.now
-        c.split_at.result.1.now c.is_empty-end.result (omega arith) (omega (arith, c.min-carried.ensures))
+    c.split_at.result.1.now c.is_empty-end.result (omega arith) (omega (arith, c.min-carried.ensures))
     c.split_at.ensures.front c.split_at.ensures.back c.is_empty-end.ensures in
     let unit = first_in c.in-Some.slot limit tsdu in
     let put = c.in-Ok.ensures.ok ∙ ap (λ (u : Given). c.args.out.now.items ++ packets (unit_of c.args.peer u ∷ [])) cut.unit in
     let goes : Goes (any_standing c.args.link.now) tsdu c.args.kept.items =
-    record { quiet = c.requires.quiet; alone = (part_goes (any_standing c.args.link.now) tsdu c.requires.quiet c.requires.some).alone;
-        left = c.requires.kept } in
+    record {
+      quiet = c.requires.quiet;
+      alone = (part_goes (any_standing c.args.link.now) tsdu c.requires.quiet c.requires.some).alone;
+      left = c.requires.kept;
+    } in
     let took : c.args.out.now.spare ≤ c.put_part.new.out.spare + length (packets (unit_of c.args.peer unit ∷ [])) =
     subst (λ (u : Given). c.args.out.now.spare ≤ c.put_part.new.out.spare + length (packets (unit_of c.args.peer u ∷ []))) cut.unit
-        c.in-Ok.ensures.spare in
+    c.in-Ok.ensures.spare in
     let something : length c.split_at.result.1.now ≡ 0 →
-        ⊥ = eqb-false (length c.split_at.result.1.now) 0 (sym c.is_empty-end.ensures ∙ c.if-end.false) in
+    ⊥ = eqb-false (length c.split_at.result.1.now) 0 (sym c.is_empty-end.ensures ∙ c.if-end.false) in
     let parting = parting_then c.args.peer (any_standing c.args.link.now) then
-        tsdu c.split_at.result.1.now c.args.kept.items c.args.out.now.items c.put_part.new.out.items unit c.args.out.now.spare
-        c.put_part.new.out.spare
+    tsdu c.split_at.result.1.now c.args.kept.items c.args.out.now.items c.put_part.new.out.items unit c.args.out.now.spare
+    c.put_part.new.out.spare
     goes c.requires.room (omega arith) (c.in-Some.ensures.given tsdu) c.in-Some.ensures.alone cut.left put took (omega arith) in
     parting.goes.left
 
@@ -149,21 +161,24 @@ write_parts-requires-clause-room c =
     let least = c.in-Some.ensures.at_least in
     let short = c.requires.short in
     let cut = first_cut c.in-Some.slot limit c.min-carried.result c.args.head.now c.args.body.now c.split_at.result.0.now
-        c.split_at.result.1.now c.is_empty-end.result (omega arith) (omega (arith, c.min-carried.ensures))
+    c.split_at.result.1.now c.is_empty-end.result (omega arith) (omega (arith, c.min-carried.ensures))
     c.split_at.ensures.front c.split_at.ensures.back c.is_empty-end.ensures in
     let unit = first_in c.in-Some.slot limit tsdu in
     let put = c.in-Ok.ensures.ok ∙ ap (λ (u : Given). c.args.out.now.items ++ packets (unit_of c.args.peer u ∷ [])) cut.unit in
     let goes : Goes (any_standing c.args.link.now) tsdu c.args.kept.items =
-    record { quiet = c.requires.quiet; alone = (part_goes (any_standing c.args.link.now) tsdu c.requires.quiet c.requires.some).alone;
-        left = c.requires.kept } in
+    record {
+      quiet = c.requires.quiet;
+      alone = (part_goes (any_standing c.args.link.now) tsdu c.requires.quiet c.requires.some).alone;
+      left = c.requires.kept;
+    } in
     let took : c.args.out.now.spare ≤ c.put_part.new.out.spare + length (packets (unit_of c.args.peer unit ∷ [])) =
     subst (λ (u : Given). c.args.out.now.spare ≤ c.put_part.new.out.spare + length (packets (unit_of c.args.peer u ∷ []))) cut.unit
-        c.in-Ok.ensures.spare in
+    c.in-Ok.ensures.spare in
     let something : length c.split_at.result.1.now ≡ 0 →
-        ⊥ = eqb-false (length c.split_at.result.1.now) 0 (sym c.is_empty-end.ensures ∙ c.if-end.false) in
+    ⊥ = eqb-false (length c.split_at.result.1.now) 0 (sym c.is_empty-end.ensures ∙ c.if-end.false) in
     let parting = parting_then c.args.peer (any_standing c.args.link.now) then
-        tsdu c.split_at.result.1.now c.args.kept.items c.args.out.now.items c.put_part.new.out.items unit c.args.out.now.spare
-        c.put_part.new.out.spare
+    tsdu c.split_at.result.1.now c.args.kept.items c.args.out.now.items c.put_part.new.out.items unit c.args.out.now.spare
+    c.put_part.new.out.spare
     goes c.requires.room (omega arith) (c.in-Some.ensures.given tsdu) c.in-Some.ensures.alone cut.left put took (omega arith) in
     parting.room
 
@@ -177,23 +192,26 @@ returns c =
     let least = c.in-Some.ensures.at_least in
     let short = c.requires.short in
     let cut = first_cut c.in-Some.slot limit c.min-carried.result c.args.head.now c.args.body.now c.split_at.result.0.now
-        c.split_at.result.1.now c.is_empty-end.result (omega arith) (omega (arith, c.min-carried.ensures))
+    c.split_at.result.1.now c.is_empty-end.result (omega arith) (omega (arith, c.min-carried.ensures))
     c.split_at.ensures.front c.split_at.ensures.back c.is_empty-end.ensures in
     let unit = first_in c.in-Some.slot limit tsdu in
     let put = c.in-Ok.ensures.ok ∙ ap (λ (u : Given). c.args.out.now.items ++ packets (unit_of c.args.peer u ∷ [])) cut.unit in
     let goes : Goes (any_standing c.args.link.now) tsdu c.args.kept.items =
-    record { quiet = c.requires.quiet; alone = (part_goes (any_standing c.args.link.now) tsdu c.requires.quiet c.requires.some).alone;
-        left = c.requires.kept } in
+    record {
+      quiet = c.requires.quiet;
+      alone = (part_goes (any_standing c.args.link.now) tsdu c.requires.quiet c.requires.some).alone;
+      left = c.requires.kept;
+    } in
     let took : c.args.out.now.spare ≤ c.put_part.new.out.spare + length (packets (unit_of c.args.peer unit ∷ [])) =
     subst (λ (u : Given). c.args.out.now.spare ≤ c.put_part.new.out.spare + length (packets (unit_of c.args.peer u ∷ []))) cut.unit
-        c.in-Ok.ensures.spare in
+    c.in-Ok.ensures.spare in
     let something : length c.split_at.result.1.now ≡ 0 →
-        ⊥ = eqb-false (length c.split_at.result.1.now) 0 (sym c.is_empty-end.ensures ∙ c.if-end.false) in
+    ⊥ = eqb-false (length c.split_at.result.1.now) 0 (sym c.is_empty-end.ensures ∙ c.if-end.false) in
     let parting = parting_then c.args.peer (any_standing c.args.link.now) then
-        tsdu c.split_at.result.1.now c.args.kept.items c.args.out.now.items c.put_part.new.out.items unit c.args.out.now.spare
-        c.put_part.new.out.spare
+    tsdu c.split_at.result.1.now c.args.kept.items c.args.out.now.items c.put_part.new.out.items unit c.args.out.now.spare
+    c.put_part.new.out.spare
     goes c.requires.room (omega arith) (c.in-Some.ensures.given tsdu) c.in-Some.ensures.alone cut.left put took (omega arith) in
     let all = parting_all c.args.peer first then (any_standing c.write_parts.new.link) c.args.out.now.items c.split_at.result.1.now
-        c.args.kept.items c.put_part.new.out.items c.write_parts.new.out.items c.put_part.new.out.spare
+    c.args.kept.items c.put_part.new.out.items c.write_parts.new.out.items c.put_part.new.out.spare
     parting c.write_parts.ensures.link c.write_parts.ensures.written in
     record { link = all.link; written = all.written; pumped = c.write_parts.ensures.pumped }

@@ -19,7 +19,7 @@ returns-in_default-clause-link c =
     let never : GoesAtOnce (any_standing c.parts.link) → ⊥ = λ goes. (let given = c.in_default.ensures.at_once goes in cc) in
     let is = c.in-Ok.ensures.ok ∙ ap (λ (l : AnyLink). with_tsdu (any_standing l) c.args.kept.items) c.in_default.ensures.none in
     let all = parting_kept c.args.peer (with_tsdu (any_standing c.args.link.now) c.args.tsdu.now) (any_standing c.parts.link)
-        (any_standing c.send_owned.new.self)
+    (any_standing c.send_owned.new.self)
     c.args.out.now.items c.parts.rest.now c.args.kept.items c.parts.out.items c.parts.out.spare c.parts.invariant.0 never is in
     all.whole.link
 
@@ -28,7 +28,7 @@ returns-in_default-clause-written c =
     let never : GoesAtOnce (any_standing c.parts.link) → ⊥ = λ goes. (let given = c.in_default.ensures.at_once goes in cc) in
     let is = c.in-Ok.ensures.ok ∙ ap (λ (l : AnyLink). with_tsdu (any_standing l) c.args.kept.items) c.in_default.ensures.none in
     let all = parting_kept c.args.peer (with_tsdu (any_standing c.args.link.now) c.args.tsdu.now) (any_standing c.parts.link)
-        (any_standing c.send_owned.new.self)
+    (any_standing c.send_owned.new.self)
     c.args.out.now.items c.parts.rest.now c.args.kept.items c.parts.out.items c.parts.out.spare c.parts.invariant.0 never is in
     all.whole.written
 
@@ -39,12 +39,12 @@ unreachable-requires-in_default-put_part c =
     let value = c.limit.ensures.value in
     let least = c.in-Some.ensures.at_least in
     let cut = first_cut c.in-Some.slot limit c.min-carried.result [] rest c.split_at.result.0.now c.split_at.result.1.now
-        c.is_empty-end.result (omega arith) (omega (arith, c.min-carried.ensures))
+    c.is_empty-end.result (omega arith) (omega (arith, c.min-carried.ensures))
     c.split_at.ensures.front c.split_at.ensures.back c.is_empty-end.ensures in
     let unit = first_in c.in-Some.slot limit rest in
     let size = ap (λ (u : Given). length (packets (unit_of c.args.peer u ∷ []))) cut.unit in
     let room = part_room c.args.peer (any_standing c.parts.link) (any_standing c.give_slot.new.self) rest unit (omega arith)
-        (c.in-Some.ensures.given rest) in
+    (c.in-Some.ensures.given rest) in
     let enough = c.parts.invariant.0.room in
     let full = c.in_default-put_part.ensures.full in
     omega arith
@@ -56,7 +56,7 @@ returns-then-end c =
     let value = c.limit.ensures.value in
     let least = c.in-Some.ensures.at_least in
     let cut = first_cut c.in-Some.slot limit c.min-carried.result [] rest c.split_at.result.0.now c.split_at.result.1.now
-        c.is_empty-end.result (omega arith) (omega (arith, c.min-carried.ensures))
+    c.is_empty-end.result (omega arith) (omega (arith, c.min-carried.ensures))
     c.split_at.ensures.front c.split_at.ensures.back c.is_empty-end.ensures in
     let unit = first_in c.in-Some.slot limit rest in
     let part = c.in-Some.ensures.given rest in
@@ -64,9 +64,9 @@ returns-then-end c =
     let nothing = eqb-true (length c.split_at.result.1.now) 0 (sym c.is_empty-end.ensures ∙ c.if-end.true) in
     let none : drop (octets_of unit) rest ≡ [] = cut.left ∙ empty_list c.split_at.result.1.now nothing in
     let all = parting_last c.args.peer (with_tsdu (any_standing c.args.link.now) c.args.tsdu.now) (any_standing c.parts.link)
-        (any_standing c.give_slot.new.self)
+    (any_standing c.give_slot.new.self)
     c.args.out.now.items rest c.args.kept.items c.parts.out.items c.put_part.new.out.items unit c.parts.out.spare c.parts.invariant.0
-        (omega arith) part put none in
+    (omega arith) part put none in
     let longer = put_length c.parts.out.items c.put_part.new.out.items
     (packets (unit_of c.args.peer (part_under (number_in c.in-Some.slot) c.is_empty-end.result ([] ++ c.split_at.result.0.now)) ∷ []))
     c.in-Ok-put_part.ensures.ok in
@@ -83,16 +83,16 @@ parts-preserved c =
     let value = c.limit.ensures.value in
     let least = c.in-Some.ensures.at_least in
     let cut = first_cut c.in-Some.slot limit c.min-carried.result [] rest c.split_at.result.0.now c.split_at.result.1.now
-        c.is_empty-end.result (omega arith) (omega (arith, c.min-carried.ensures))
+    c.is_empty-end.result (omega arith) (omega (arith, c.min-carried.ensures))
     c.split_at.ensures.front c.split_at.ensures.back c.is_empty-end.ensures in
     let unit = first_in c.in-Some.slot limit rest in
     let put = c.in-Ok-put_part.ensures.ok ∙ ap (λ (u : Given). c.parts.out.items ++ packets (unit_of c.args.peer u ∷ [])) cut.unit in
     let took : c.parts.out.spare ≤ c.put_part.new.out.spare + length (packets (unit_of c.args.peer unit ∷ [])) =
     subst (λ (u : Given). c.parts.out.spare ≤ c.put_part.new.out.spare + length (packets (unit_of c.args.peer u ∷ []))) cut.unit
-        c.in-Ok-put_part.ensures.spare in
+    c.in-Ok-put_part.ensures.spare in
     let left = ap length cut.left in
     let something : length c.split_at.result.1.now ≡ 0 →
-        ⊥ = eqb-false (length c.split_at.result.1.now) 0 (sym c.is_empty-end.ensures ∙ c.if-end.false) in
+    ⊥ = eqb-false (length c.split_at.result.1.now) 0 (sym c.is_empty-end.ensures ∙ c.if-end.false) in
     let some : 0 < length (drop (octets_of unit) rest) = omega arith in
     let longer = put_length c.parts.out.items c.put_part.new.out.items
     (packets (unit_of c.args.peer (part_under (number_in c.in-Some.slot) c.is_empty-end.result ([] ++ c.split_at.result.0.now)) ∷ []))
@@ -102,7 +102,7 @@ parts-preserved c =
     let parting = subst (λ (r : List ℕ). IsParting c.args.peer first c.args.out.now.items then r c.args.kept.items
     c.put_part.new.out.items c.put_part.new.out.spare) cut.left
     (parting_next c.args.peer first (any_standing c.parts.link) then c.args.out.now.items rest c.args.kept.items c.parts.out.items
-        c.put_part.new.out.items unit
+    c.put_part.new.out.items unit
     c.parts.out.spare c.put_part.new.out.spare c.parts.invariant.0 (omega arith) (c.in-Some.ensures.given rest) c.in-Some.ensures.alone put
-        took some) in
+    took some) in
     (parting, omega (arith, longer, room, kept))

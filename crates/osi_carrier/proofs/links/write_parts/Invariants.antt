@@ -6,7 +6,7 @@ use Rattle.osi_carrier.proofs.links.write_parts.Given as goal
 abbrev pub invariant-parts : goal.invariant-parts
 invariant-parts l =
     IsParting l.fn.peer (with_tsdu (any_standing l.fn.link) l.fn.tsdu) l.fn.out.items (any_standing l.link) l.rest l.fn.kept.items
-        l.out.items l.out.spare
+    l.out.items l.out.spare
     × (length l.fn.out.items + l.fn.out.spare ≤ length l.out.items + l.out.spare)
 
 abbrev pub decreases-parts : goal.decreases-parts

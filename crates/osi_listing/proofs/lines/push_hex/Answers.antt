@@ -5,7 +5,7 @@ use Rattle.osi_listing.proofs.lines.push_hex.Goals as goal
 pub octets-preserved : goal.octets-preserved
 octets-preserved c =
     hex_goes_on c.octets.octet-index c.octets.text.items c.push_octet.new.text.items _ c.args.octets.now (omega arith)
-        c.in_ok-push_octet.ensures
+    c.in_ok-push_octet.ensures
     c.octets.invariant
 
 pub returns : goal.returns

@@ -8,5 +8,5 @@ returns c =
     on_ok_weaker c.push_octet-2.result
     (λ new. reference_added c.args.text.now.items c.args.word.now c.push_words.new.text.items c.push_octet.new.text.items
     c.push_octet-2.new.text.items (c.args.reference / 256) (c.args.reference % 256) c.in_ok-push_words.ensures c.in_ok-push_octet.ensures
-        new)
+    new)
     c.push_octet-2.ensures

@@ -9,7 +9,7 @@ pub units-init : goal.units-init
 unfolding one_more
 units-init c =
     lists_first c.args.text.now.items c.push_session_unit.new.text.items c.args.counts.now c.add_session_unit.new.self
-        (said_by c.first.result.now)
+    (said_by c.first.result.now)
     (units_behind c.behind-behind.result) (units_of c.args.group.now) (first_of c.args.group.now) (behind_of c.args.group.now)
     refl c.first.ensures c.behind-behind.ensures c.in_ok-push_session_unit.ensures c.add_session_unit.ensures
 
@@ -18,5 +18,5 @@ unfolding one_more
 units-preserved c =
     lists_next c.args.text.now.items c.units.text.items c.push_session_unit-in-Some.new.text.items c.args.counts.now c.units.counts
     c.add_session_unit-in-Some.new.self (said_by c.in-Some.unit) (units_behind c.units.behind) (units_behind c.next.new.self)
-        (units_of c.args.group.now)
+    (units_of c.args.group.now)
     c.in-Some.ensures.steps c.in_ok-push_session_unit-2.ensures c.add_session_unit-in-Some.ensures c.units.invariant

@@ -8,5 +8,5 @@ pub returns-in-TooLong : goal.returns-in-TooLong
 unfolding line_of one_more
 returns-in-TooLong c =
     rw c.in-TooLong.is
-        (then_one c.push_too_long.result c.args.text.now.items c.push_too_long.new.text.items c.args.counts.now c.add_refused.new.self
+    (then_one c.push_too_long.result c.args.text.now.items c.push_too_long.new.text.items c.args.counts.now c.add_refused.new.self
     TsduFault c.push_too_long.ensures c.add_refused.ensures)

@@ -9,6 +9,6 @@ pub returns-clause-says : goal.returns-clause-says
 unfolding line_of one_more
 returns-clause-says c =
     then_more c.list_units.result c.args.text.now.items c.push_packet.new.text.items c.list_units.new.text.items c.args.counts.now
-        c.add_packet.new.self
+    c.add_packet.new.self
     c.list_units.new.counts (Packet c.args.offset c.args.unit.now) c.args.streams.now (λ e. read_entries e (units_of c.args.unit.now))
     c.in_ok-push_packet.ensures c.add_packet.ensures c.list_units.ensures.says

@@ -10,5 +10,5 @@ unfolding line_of one_more
 returns-clause-says c =
     then_brought c.list_outcome.result c.args.text.now.items c.push_unit.new.text.items c.list_outcome.new.text.items c.args.counts.now
     c.add_unit.new.self c.list_outcome.new.counts (value c.args.unit.now) c.args.streams.now
-        (outcome_entries (outcome_value c.in_ok-outcome.outcome))
+    (outcome_entries (outcome_value c.in_ok-outcome.outcome))
     c.in_ok-push_unit.ensures c.add_unit.ensures c.in_ok-outcome.ensures.entries c.list_outcome.ensures

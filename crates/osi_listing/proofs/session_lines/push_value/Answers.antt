@@ -13,7 +13,8 @@ returns c =
     on_ok_weaker c.push_hex-2.result
     (λ lent. value_added text (decimal (number_of c.args.code)) (made_of c.args.value) (lent_of c.args.value) c.push_words.new.text.items
     c.push_hex.new.text.items c.push_hex-2.new.text.items
-    (c.in_ok-push_words.ensures ∙ ap (λ t. t ++ codes "=") (c.in_ok-push_decimal.ensures ∙ ap (λ n. text ++ decimal n) (c.from.ensures ∙ c.number.ensures)))
+    (c.in_ok-push_words.ensures ∙ ap (λ t. t ++ codes "=")
+    (c.in_ok-push_decimal.ensures ∙ ap (λ n. text ++ decimal n) (c.from.ensures ∙ c.number.ensures)))
     (c.in_ok-push_hex.ensures ∙ ap (λ m. c.push_words.new.text.items ++ encode_lower m) c.made.ensures.value)
     (lent ∙ ap (λ l. c.push_hex.new.text.items ++ encode_lower l) c.lent.ensures))
     c.push_hex-2.ensures

@@ -6,7 +6,7 @@ use Rattle.osi_message.proofs.parts.parts.Goals as goal
 pub pieces-init : goal.pieces-init
 pieces-init c =
     let put = c.in_ok-put_part.ensures ∙ ap (λ l. map (λ v. v.items) l ++ part_octets First c.split_at.result.0.now ∷ [])
-        c.new-tsdus.ensures.items in (
+    c.new-tsdus.ensures.items in (
       parting_begins c.args.size c.args.user_data.now c.split_at.result.0.now c.split_at.result.1.now
           (map (λ v. v.items) c.put_part.new.tsdus.items)
           c.requires.some c.requires.long c.split_at.ensures.front c.split_at.ensures.back put,

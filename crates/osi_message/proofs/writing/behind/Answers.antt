@@ -14,4 +14,4 @@ returns-clause-units c = c.behind_give_tokens.ensures ∙ (λ i. unit_with GiveT
 pub returns-clause-fits : goal.returns-clause-fits
 returns-clause-fits c = λ fits.
     subst TsduFits (sym (returns-clause-units c)) (let both : TsduFits (behind_tokens (said_by c.args.unit)) = (token_fits, (fits, tt)) in
-        both)
+    both)

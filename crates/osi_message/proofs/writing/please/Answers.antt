@@ -7,7 +7,7 @@ pub returns-clause-units : goal.returns-clause-units
 unfolding unit_of
 returns-clause-units c = c.please_tokens.ensures.units ∙ ap (unit_with PleaseTokens) (please_known c.set.result c.args.user_data)
     ∙ ap (λ (b : ℕ). unit_with PleaseTokens (with_data c.args.user_data.now (put TokenItem (b ∷ []) nothing)))
-        (set_kept c.set.result c.args.tokens c.set.ensures.octet)
+    (set_kept c.set.result c.args.tokens c.set.ensures.octet)
 
 pub returns-clause-fits : goal.returns-clause-fits
 returns-clause-fits c = λ few. c.please_tokens.ensures.fits (omega arith)

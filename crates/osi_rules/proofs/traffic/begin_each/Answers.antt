@@ -8,5 +8,5 @@ loop-connection-preserved c =
     let same = ap length c.deref_mut-connection-items.ensures.value in
     let within : c.loop-connection.connection-index < length c.args.connections.now.items = omega arith in
     changed_step (begins c.args.direction) c.args.connections.now.items c.loop-connection.connection-items
-        c.loop-connection.connection-index
+    c.loop-connection.connection-index
     _ c.begin.new.self within c.loop-connection.invariant c.begin.ensures

@@ -9,7 +9,7 @@ use Rattle.osi_session.proofs.counting.count_all.Goals as goal
 pub units-init : goal.units-init
 units-init c =
     walks_begin c.args.state.now c.args.joined (count_of c.none-counting.result) (word_by c.of-first.result)
-        (word (first_of c.args.group.now))
+    (word (first_of c.args.group.now))
     (map word (units_behind c.behind-behind.result)) (map word (behind_of c.args.group.now))
     c.none-counting.ensures (c.of-first.ensures ∙ ap word c.first.ensures) (ap (map word) c.behind-behind.ensures)
 
@@ -17,38 +17,38 @@ pub returns-then-is_bad : goal.returns-then-is_bad
 returns-then-is_bad c =
     let words = said_by_units (units_of c.args.group.now) in
     let w = walks_turn c.args.state.now c.args.joined words (count_of c.units.counting) c.units.restarts (word_by c.of-first.result)
-        (word_by c.of-word.result) (word (said_by c.in-Some.unit))
+    (word_by c.of-word.result) (word (said_by c.in-Some.unit))
     (map word (units_behind c.units.behind)) (map word (units_behind c.next.new.self)) c.units.invariant
-        (ap (map word) c.in-Some.ensures.steps) c.of-word.ensures in
+    (ap (map word) c.in-Some.ensures.steps) c.of-word.ensures in
     walks_stop c.args.state.now c.args.joined words (count_of c.units.counting) (count_of c.then.new.self) c.units.restarts
-        c.in_ok-is_bad.is_bad (word_by c.of-first.result) (word_by c.of-word.result)
+    c.in_ok-is_bad.is_bad (word_by c.of-first.result) (word_by c.of-word.result)
     (map word (units_behind c.next.new.self)) w c.in_ok-is_bad.ensures.bad c.if-is_bad.true c.in_ok-is_bad.ensures.left
 
 pub units-preserved : goal.units-preserved
 units-preserved c =
     let words = said_by_units (units_of c.args.group.now) in
     let w = walks_turn c.args.state.now c.args.joined words (count_of c.units.counting) c.units.restarts (word_by c.of-first.result)
-        (word_by c.of-word.result) (word (said_by c.in-Some.unit))
+    (word_by c.of-word.result) (word (said_by c.in-Some.unit))
     (map word (units_behind c.units.behind)) (map word (units_behind c.next.new.self)) c.units.invariant
-        (ap (map word) c.in-Some.ensures.steps) c.of-word.ensures in
+    (ap (map word) c.in-Some.ensures.steps) c.of-word.ensures in
     walks_on c.args.state.now c.args.joined words (count_of c.units.counting) (count_of c.then.new.self) c.units.restarts
-        c.either-restarts.result c.in_ok-is_bad.is_bad (word_by c.of-first.result) (word_by c.of-word.result)
+    c.either-restarts.result c.in_ok-is_bad.is_bad (word_by c.of-first.result) (word_by c.of-word.result)
     (map word (units_behind c.next.new.self)) w c.in_ok-is_bad.ensures.bad c.if-is_bad.false c.in_ok-is_bad.ensures.left
     (c.either-restarts.ensures ∙ ap (λ (b : Bool). c.units.restarts || b) c.is_restart.ensures)
 
 pub returns-then-restarts : goal.returns-then-restarts
 returns-then-restarts c =
     walks_restarted c.args.state.now c.args.joined (said_by_units (units_of c.args.group.now)) (count_of c.units.counting) c.units.restarts
-        (word_by c.of-first.result)
+    (word_by c.of-first.result)
     (map word (units_behind c.units.behind)) c.units.invariant
     (ap (map word) (behind_none c.units.behind c.next.new.self c.next.result c.next.ensures.steps (λ u e. c.in_default.not-Some u e)))
-        c.if-restarts.true
+    c.if-restarts.true
 
 pub returns : goal.returns
 returns c =
     walks_item c.args.state.now c.args.joined (said_by_units (units_of c.args.group.now)) (count_of c.units.counting)
-        (count_of c.then-2.new.self) c.units.restarts (word_by c.of-first.result)
+    (count_of c.then-2.new.self) c.units.restarts (word_by c.of-first.result)
     (map word (units_behind c.units.behind)) c.units.invariant
     (ap (map word) (behind_none c.units.behind c.next.new.self c.next.result c.next.ensures.steps (λ u e. c.in_default.not-Some u e)))
-        c.if-restarts.false
+    c.if-restarts.false
     c.in_ok-_is_bad.ensures.left

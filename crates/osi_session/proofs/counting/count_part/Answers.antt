@@ -8,22 +8,22 @@ pub returns-in-Dropped : goal.returns-in-Dropped
 returns-in-Dropped c = dropped_counts c.args.state.now c.args.joined (option_copied c.as_ref.result) c.args.place c.args.user_data.now
     (count_of c.of.result)
     (c.as_ref.ensures.value ∙ c.placeholder-begun.ensures) c.in-Dropped.ensures
-        (c.of.ensures ∙ ap (count_by c.args.joined) c.silent.ensures)
+    (c.of.ensures ∙ ap (count_by c.args.joined) c.silent.ensures)
 
 pub returns-in-Bad : goal.returns-in-Bad
 returns-in-Bad c = bad_counts c.args.state.now c.args.joined (option_copied c.as_ref.result) c.args.place c.args.user_data.now
     c.in-Bad.fault (count_of c.of-in-Bad.result)
     (c.as_ref.ensures.value ∙ c.placeholder-begun.ensures) c.in-Bad.ensures
-        (c.of-in-Bad.ensures ∙ ap (count_by c.args.joined) c.bad.ensures)
+    (c.of-in-Bad.ensures ∙ ap (count_by c.args.joined) c.bad.ensures)
 
 pub returns-in-Some : goal.returns-in-Some
 returns-in-Some c =
     let left : Option ℕ = if is_last c.args.place then None else Some c.in-Some.total in
     good_counts c.args.state.now c.args.joined (option_copied c.as_ref.result) c.args.place c.args.user_data.now c.in-Some.total
-        (count_of c.of-in-Some.result)
+    (count_of c.of-in-Some.result)
     (c.as_ref.ensures.value ∙ c.placeholder-begun.ensures) c.in-Good.ensures c.in-Some.ensures.few c.in-Some.ensures.some
     (c.of-in-Some.ensures ∙ ap (λ (n : Option ℕ). count_by n (outcome_of c.silent-in-Some.result)) c.behind_part.ensures ∙
-        ap (count_by left) c.silent-in-Some.ensures)
+    ap (count_by left) c.silent-in-Some.ensures)
 
 pub returns : goal.returns
 returns c = long_counts c.args.state.now c.args.joined (option_copied c.as_ref.result) c.args.place c.args.user_data.now

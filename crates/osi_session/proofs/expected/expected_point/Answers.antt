@@ -10,10 +10,10 @@ returns-in_ok-numbers-in-MinorPoint c = (
   c.if-is_unfinished.false,
   ap (λ (p : PlainUnit). respond_word (record { state = c.args.state.now; joined = None }) (plain_word p)) c.in-MinorPoint.is
       ∙ word_comes c.args.state.now (MIP true c.in-MinorPoint.number.number []) c.in_ok-numbers-in-MinorPoint.numbers
-          (Minor c.in-MinorPoint.number.number true []) c.in_ok-numbers-in-MinorPoint.ensures
+      (Minor c.in-MinorPoint.number.number true []) c.in_ok-numbers-in-MinorPoint.ensures
       ∙ ap (λ (o : List ℕ). heard None
-          (shows (record c.args.state.now { numbers = c.in_ok-numbers-in-MinorPoint.numbers })
-          (Minor c.in-MinorPoint.number.number true o))) (sym c.new.ensures),
+      (shows (record c.args.state.now { numbers = c.in_ok-numbers-in-MinorPoint.numbers })
+      (Minor c.in-MinorPoint.number.number true o))) (sym c.new.ensures),
 )
 
 pub returns-in_ok-numbers-in-MinorAck : goal.returns-in_ok-numbers-in-MinorAck
@@ -21,8 +21,8 @@ returns-in_ok-numbers-in-MinorAck c = (
   c.if-is_unfinished.false,
   ap (λ (p : PlainUnit). respond_word (record { state = c.args.state.now; joined = None }) (plain_word p)) c.in-MinorAck.is
       ∙ word_comes c.args.state.now (MIA c.in-MinorAck.number.number []) c.in_ok-numbers-in-MinorAck.numbers
-          (MinorConfirmed c.in-MinorAck.number.number []) c.in_ok-numbers-in-MinorAck.ensures
+      (MinorConfirmed c.in-MinorAck.number.number []) c.in_ok-numbers-in-MinorAck.ensures
       ∙ ap (λ (o : List ℕ). heard None
-          (shows (record c.args.state.now { numbers = c.in_ok-numbers-in-MinorAck.numbers })
-          (MinorConfirmed c.in-MinorAck.number.number o))) (sym c.new-in-MinorAck.ensures),
+      (shows (record c.args.state.now { numbers = c.in_ok-numbers-in-MinorAck.numbers })
+      (MinorConfirmed c.in-MinorAck.number.number o))) (sym c.new-in-MinorAck.ensures),
 )

@@ -25,12 +25,12 @@ returns-in_err-is_bad-clause-err c =
     let t : Taker = record { state = c.args.state.now; joined = option_copied c.args.joined } in
     let want : Hearing = respond_tsdu t (said_by_units (units_of c.args.group.now)) in
     let w = walks_turn want t.joined c.units.reactions c.units.restarts (word_by c.of-first.result) (word_by c.of-word.result)
-        (word (said_by c.in-Some.unit))
+    (word (said_by c.in-Some.unit))
     (map word (units_behind c.units.behind)) (map word (units_behind c.next.new.self)) c.units.invariant
     (ap (map word) c.in-Some.ensures.steps) c.of-word.ensures in
     on_err c.from_residual.result
-        (takes t.joined want (hearing_of_all t.joined c.units.reactions) c.units.restarts (word_by c.of-first.result)
-        (word_by c.of-word.result)
+    (takes t.joined want (hearing_of_all t.joined c.units.reactions) c.units.restarts (word_by c.of-first.result)
+    (word_by c.of-word.result)
     (map word (units_behind c.next.new.self)) w.so_far w.leads c.in_err-is_bad.ensures.err)
 
 pub returns-then-is_bad-clause-heard : goal.returns-then-is_bad-clause-heard
@@ -38,11 +38,11 @@ returns-then-is_bad-clause-heard c =
     let t : Taker = record { state = c.args.state.now; joined = option_copied c.args.joined } in
     let want : Hearing = respond_tsdu t (said_by_units (units_of c.args.group.now)) in
     let w = walks_turn want t.joined c.units.reactions c.units.restarts (word_by c.of-first.result) (word_by c.of-word.result)
-        (word (said_by c.in-Some.unit))
+    (word (said_by c.in-Some.unit))
     (map word (units_behind c.units.behind)) (map word (units_behind c.next.new.self)) c.units.invariant
     (ap (map word) c.in-Some.ensures.steps) c.of-word.ensures in
     c.in_ok-is_bad.ensures.heard ∙ stops want (hearing_of_all t.joined c.units.reactions) c.units.restarts (word_by c.of-first.result)
-        (word_by c.of-word.result)
+    (word_by c.of-word.result)
     (map word (units_behind c.next.new.self)) w.leads (sym c.in_ok-is_bad.ensures.bad ∙ c.if-is_bad.true)
 
 pub units-preserved : goal.units-preserved
@@ -50,11 +50,11 @@ units-preserved c =
     let t : Taker = record { state = c.args.state.now; joined = option_copied c.args.joined } in
     let want : Hearing = respond_tsdu t (said_by_units (units_of c.args.group.now)) in
     let w = walks_turn want t.joined c.units.reactions c.units.restarts (word_by c.of-first.result) (word_by c.of-word.result)
-        (word (said_by c.in-Some.unit))
+    (word (said_by c.in-Some.unit))
     (map word (units_behind c.units.behind)) (map word (units_behind c.next.new.self)) c.units.invariant
     (ap (map word) c.in-Some.ensures.steps) c.of-word.ensures in
     walks_on want t.joined c.units.reactions c.then.new.self c.units.restarts c.either-restarts.result (word_by c.of-first.result)
-        (word_by c.of-word.result)
+    (word_by c.of-word.result)
     (map word (units_behind c.next.new.self)) w (sym c.in_ok-is_bad.ensures.bad ∙ c.if-is_bad.false) c.in_ok-is_bad.ensures.heard
     c.in_ok-is_bad.ensures.ordered (c.either-restarts.ensures ∙ ap (λ (b : Bool). c.units.restarts || b) c.is_restart.ensures)
 
@@ -64,9 +64,9 @@ returns-then-restarts-clause-heard c =
     let want : Hearing = respond_tsdu t (said_by_units (units_of c.args.group.now)) in
     ends_restarted want (hearing_of_all t.joined c.units.reactions) (word_by c.of-first.result)
     (walks_end want t.joined c.units.reactions c.units.restarts true (word_by c.of-first.result) (map word (units_behind c.units.behind))
-        c.units.invariant
+    c.units.invariant
     (ap (map word) (behind_none c.units.behind c.next.new.self c.next.result c.next.ensures.steps (λ u e. c.in_default.not-Some u e)))
-        c.if-restarts.true)
+    c.if-restarts.true)
 
 pub returns-then-restarts-clause-ordered : goal.returns-then-restarts-clause-ordered
 returns-then-restarts-clause-ordered c = c.units.invariant.ordered
@@ -76,11 +76,11 @@ returns-in_err-_is_bad-clause-err c =
     let t : Taker = record { state = c.args.state.now; joined = option_copied c.args.joined } in
     let want : Hearing = respond_tsdu t (said_by_units (units_of c.args.group.now)) in
     on_err c.from_residual-in_err-_is_bad.result
-        (item_takes t.joined want (hearing_of_all t.joined c.units.reactions) (word_by c.of-first.result) c.units.invariant.so_far
+    (item_takes t.joined want (hearing_of_all t.joined c.units.reactions) (word_by c.of-first.result) c.units.invariant.so_far
     (walks_end want t.joined c.units.reactions c.units.restarts false (word_by c.of-first.result) (map word (units_behind c.units.behind))
-        c.units.invariant
+    c.units.invariant
     (ap (map word) (behind_none c.units.behind c.next.new.self c.next.result c.next.ensures.steps (λ u e. c.in_default.not-Some u e)))
-        c.if-restarts.false) c.in_err-_is_bad.ensures.err)
+    c.if-restarts.false) c.in_err-_is_bad.ensures.err)
 
 pub returns-clause-heard : goal.returns-clause-heard
 returns-clause-heard c =
@@ -88,6 +88,6 @@ returns-clause-heard c =
     let want : Hearing = respond_tsdu t (said_by_units (units_of c.args.group.now)) in
     c.in_ok-_is_bad.ensures.heard ∙ ends_with_item want (hearing_of_all t.joined c.units.reactions) (word_by c.of-first.result)
     (walks_end want t.joined c.units.reactions c.units.restarts false (word_by c.of-first.result) (map word (units_behind c.units.behind))
-        c.units.invariant
+    c.units.invariant
     (ap (map word) (behind_none c.units.behind c.next.new.self c.next.result c.next.ensures.steps (λ u e. c.in_default.not-Some u e)))
-        c.if-restarts.false)
+    c.if-restarts.false)

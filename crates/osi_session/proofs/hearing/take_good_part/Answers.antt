@@ -9,7 +9,7 @@ returns-in-First c =
     let e = subst (λ (p : Place). word_verdict t (part p c.args.user_data.now) ≡ fine) c.in-First.is c.requires in
     subst (λ (h : Hearing). Hears t.joined c.take_early_part.result h)
     (sym (ap (λ (p : Place). respond_word t (part p c.args.user_data.now)) c.in-First.is ∙ first_is t c.args.user_data.now e))
-        c.take_early_part.ensures
+    c.take_early_part.ensures
 
 pub returns-in-Middle : goal.returns-in-Middle
 returns-in-Middle c =
@@ -17,7 +17,7 @@ returns-in-Middle c =
     let e = subst (λ (p : Place). word_verdict t (part p c.args.user_data.now) ≡ fine) c.in-Middle.is c.requires in
     subst (λ (h : Hearing). Hears t.joined c.take_early_part-in-Middle.result h)
     (sym (ap (λ (p : Place). respond_word t (part p c.args.user_data.now)) c.in-Middle.is ∙ middle_is t c.args.user_data.now e))
-        c.take_early_part-in-Middle.ensures
+    c.take_early_part-in-Middle.ensures
 
 pub returns-in-Last : goal.returns-in-Last
 returns-in-Last c =
@@ -25,4 +25,4 @@ returns-in-Last c =
     let e = subst (λ (p : Place). word_verdict t (part p c.args.user_data.now) ≡ fine) c.in-Last.is c.requires in
     subst (λ (h : Hearing). Hears t.joined c.take_last_part.result h)
     (sym (ap (λ (p : Place). respond_word t (part p c.args.user_data.now)) c.in-Last.is ∙ last_is t c.args.user_data.now e))
-        c.take_last_part.ensures
+    c.take_last_part.ensures

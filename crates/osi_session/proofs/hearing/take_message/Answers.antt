@@ -12,4 +12,4 @@ pub returns-in-Some : goal.returns-in-Some
 returns-in-Some c =
     let t : Taker = record { state = c.args.state.now; joined = option_copied c.args.joined } in
     reacts_misplaced c.take_misplaced.result t (meant_by c.args.message) c.misplaced.result c.in-Some.kind c.take_misplaced.ensures
-        c.in-Some.is c.misplaced.ensures
+    c.in-Some.is c.misplaced.ensures

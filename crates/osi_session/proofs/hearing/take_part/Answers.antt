@@ -7,10 +7,10 @@ pub returns-in-Dropped : goal.returns-in-Dropped
 returns-in-Dropped c =
     let t : Taker = record { state = c.args.state.now; joined = option_copied c.args.joined } in
     part_dropped t c.args.place c.args.user_data.now (sym c.in-Dropped.is ∙ c.judge_part.ensures) ∙
-        ap (heard t.joined) (sym c.silent.ensures) ∙ sym (c.of.ensures t.joined)
+    ap (heard t.joined) (sym c.silent.ensures) ∙ sym (c.of.ensures t.joined)
 
 pub returns-in-Bad : goal.returns-in-Bad
 returns-in-Bad c =
     let t : Taker = record { state = c.args.state.now; joined = option_copied c.args.joined } in
     part_bad t c.args.place c.args.user_data.now c.in-Bad.fault (sym c.in-Bad.is ∙ c.judge_part.ensures) ∙
-        ap (heard t.joined) (sym c.bad.ensures) ∙ sym (c.of-in-Bad.ensures t.joined)
+    ap (heard t.joined) (sym c.bad.ensures) ∙ sym (c.of-in-Bad.ensures t.joined)

@@ -12,7 +12,7 @@ returns-clause-octets c = λ l acts front last.
     let m = DT (front ++ last) in
     let h = data_sendable (front ++ last) in
     octets_do_as_whole c.what_a_part_says.ensures l acts front last
-        (said_again m (c.what_is_sent_is_read.ensures.read m h) (c.what_is_sent_is_read.ensures.said m h))
+    (said_again m (c.what_is_sent_is_read.ensures.read m h) (c.what_is_sent_is_read.ensures.said m h))
 
 pub returns-clause-before : goal.returns-clause-before
 returns-clause-before c = silent_before c.what_a_part_says.ensures

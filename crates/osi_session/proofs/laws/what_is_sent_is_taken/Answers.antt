@@ -23,4 +23,4 @@ pub returns-clause-asked : goal.returns-clause-asked
 returns-clause-asked c = λ o l few.
     let h = asked_sendable o few in
     taken_as_meant l (asked_for o) (c.what_is_sent_is_read.ensures.read (asked_for o) h)
-        (c.what_is_sent_is_read.ensures.said (asked_for o) h)
+    (c.what_is_sent_is_read.ensures.said (asked_for o) h)

@@ -16,4 +16,4 @@ returns-clause-read c =
     let h = asked_sendable o c.requires in
     subst (λ (sent : List (List ℕ)). unit_in sent ≡ Some (asked_for o)) (sym (c.in_ok-sent.ensures ∙ ap in_one c.message.ensures.meaning))
     (read_again (asked_for o) (asked_alone o) (c.what_is_sent_is_read.ensures.read (asked_for o) h)
-        (c.what_is_sent_is_read.ensures.said (asked_for o) h))
+    (c.what_is_sent_is_read.ensures.said (asked_for o) h))

@@ -19,7 +19,7 @@ returns-in_err-later-clause-refused c =
     let room : 1 ≤ c.units.room = omega (arith, c.if-room-eq0.false) in
     let e = err_from_is_err_and c.from_residual.result c.from_residual.ensures.1 in
     rw (e.1, e.2)
-        (c.units.invariant.leads.refused _ (behind_bad c.units.room c.units.at c.units.rest.now _ room some c.in_err-later.ensures.value))
+    (c.units.invariant.leads.refused _ (behind_bad c.units.room c.units.at c.units.rest.now _ room some c.in_err-later.ensures.value))
 
 pub units-preserved : goal.units-preserved
 units-preserved c =

@@ -7,5 +7,5 @@ pub returns-then-is_empty : goal.returns-then-is_empty
 returns-then-is_empty c =
     let none : length c.args.octets.now ≡ 0 = search rules in
     taking_end (in_unit c.args.kind) c.args.at nothing c.args.octets.now c.args.at nothing c.args.octets.now none
-        (taking_start (in_unit c.args.kind) c.args.at nothing c.args.octets.now)
+    (taking_start (in_unit c.args.kind) c.args.at nothing c.args.octets.now)
     ∙ ap (λ k. Ok k) (sym c.none.ensures)

@@ -14,11 +14,11 @@ returns-in-None c =
     let slot : c.slot.result ≡ slot_of c.args.code = c.slot.ensures in
     stored_bad c.args.kind c.args.at c.number-in-None.result c.args.code c.args.value.now (slots_of c.args.params.now)
     (ap (λ (s : Code). is_some (slots_of c.args.params.now s)) (sym slot) ∙ sym c.has.ensures ∙ c.if-has.false)
-        (sym c.in-None.ensures.value) c.number-in-None.ensures
+    (sym c.in-None.ensures.value) c.number-in-None.ensures
 
 pub returns-in-Some : goal.returns-in-Some
 returns-in-Some c =
     let slot : c.slot.result ≡ slot_of c.args.code = c.slot.ensures in
     stored_done c.args.kind c.args.at c.args.code c.args.value.now c.args.params.now c.fill_in.new.params
     (ap (λ (s : Code). is_some (slots_of c.args.params.now s)) (sym slot) ∙ sym c.has.ensures ∙ c.if-has.false)
-        (sym c.in-Some.ensures.value) c.in-Some.ensures.cells
+    (sym c.in-Some.ensures.value) c.in-Some.ensures.cells

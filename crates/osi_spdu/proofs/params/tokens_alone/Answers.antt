@@ -6,7 +6,7 @@ use Rattle.osi_spdu.proofs.params.tokens_alone.Goals as goal
 pub returns-clause-same : goal.returns-clause-same
 returns-clause-same c =
     ap (λ o. Some o) (tokens_same c.in_ok-tokens.tokens c.alone.result c.alone.ensures).0 ∙
-        sym (ap (option_map token_octets) c.in_ok-tokens.was)
+    sym (ap (option_map token_octets) c.in_ok-tokens.was)
 
 pub returns-clause-alone : goal.returns-clause-alone
 returns-clause-alone c = (tokens_same c.in_ok-tokens.tokens c.alone.result c.alone.ensures).1

@@ -8,5 +8,5 @@ parameter_len-len-requires-clause-held c =
     let codes = c.codes-codes.result.now in
     let code = get_or codes c.codes.code-index ConnectionIdentifier in
     c.requires.held code
-        (subst (λ (s : List Code). among s code ≡ true) c.codes-codes.ensures
-        (among_at codes c.codes.code-index ConnectionIdentifier c.codes-test.true))
+    (subst (λ (s : List Code). among s code ≡ true) c.codes-codes.ensures
+    (among_at codes c.codes.code-index ConnectionIdentifier c.codes-test.true))

@@ -21,4 +21,4 @@ returns-clause-value c =
 pub returns-clause-lengths : goal.returns-clause-lengths
 returns-clause-lengths c =
     one_kept c.args.lengths.now c.keep_length.new.lengths c.unit_len-counted.result.body (units_behind c.args.behind.now)
-        (said_by c.in-Some.unit.now) c.in-Some.ensures c.requires.room c.unit_len-counted.ensures.body c.keep_length.ensures
+    (said_by c.in-Some.unit.now) c.in-Some.ensures c.requires.room c.unit_len-counted.ensures.body c.keep_length.ensures

@@ -27,19 +27,19 @@ keep_length-requires-clause-within c =
 pub keep_length-requires-clause-small : goal.keep_length-requires-clause-small
 keep_length-requires-clause-small c =
     let n = counts_next (units_behind c.units.behind) c.units.len (said_by c.in-Some.unit) (units_behind c.next.new.self)
-        (units_behind c.args.behind) c.in-Some.ensures.steps c.units.invariant.so_far in
+    (units_behind c.args.behind) c.in-Some.ensures.steps c.units.invariant.so_far in
     omega (arith, n.fits, c.unit_len-counted.ensures.body)
 
 pub overflow_add-count : goal.overflow_add-count
 overflow_add-count c =
     let w = keeping_within c.units.lengths c.units.count (units_behind c.units.behind) (units_behind c.next.new.self)
-        (units_behind c.args.behind) (said_by c.in-Some.unit) c.in-Some.ensures.steps c.units.invariant.kept in
+    (units_behind c.args.behind) (said_by c.in-Some.unit) c.in-Some.ensures.steps c.units.invariant.kept in
     omega (arith, w, c.units.invariant.kept.size)
 
 pub overflow_add-len : goal.overflow_add-len
 overflow_add-len c =
     let n = counts_next (units_behind c.units.behind) c.units.len (said_by c.in-Some.unit) (units_behind c.next.new.self)
-        (units_behind c.args.behind) c.in-Some.ensures.steps c.units.invariant.so_far in
+    (units_behind c.args.behind) c.in-Some.ensures.steps c.units.invariant.so_far in
     omega (arith, n.small, c.unit_len-counted.ensures.short)
 
 pub units-preserved : goal.units-preserved
@@ -52,7 +52,7 @@ units-preserved c =
     let is = c.unit_len-counted.ensures.value in
     let info = ap length c.information.ensures in
     let same : c.units.len + (c.unit_len-counted.result.whole + length c.information.result.now) ≡ c.units.len +
-        (length (unit_octets u) + length u.information) = omega arith in
+    (length (unit_octets u) + length u.information) = omega arith in
     record {
       so_far = subst (λ (k : ℕ). IsCountingUnits others k all) (sym same) (n.next (omega arith));
       small = omega (arith, n.small, short);

@@ -8,8 +8,8 @@ unfolding group_octets
 members_len-requires c =
     let known = known_of c.args.params.now in
     let there = mapped_there octets_of c.value.result (known c.args.group) c.value.ensures (c.is_none.ensures ∙ ap not c.if-is_none.false)
-        in
+    in
     let within = group_within c.args.kind known c.args.group (sym c.knows.ensures ∙ c.if-not-knows.false) c.requires.group there in
     let same : length (members_octets known c.members.result.now) ≡ length (group_octets c.args.kind known c.args.group) =
-        ap (λ (s : List Code). length (members_octets known s)) c.members.ensures in
+    ap (λ (s : List Code). length (members_octets known s)) c.members.ensures in
     omega (arith, within, same, c.requires.small)

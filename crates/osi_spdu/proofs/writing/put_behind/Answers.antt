@@ -24,8 +24,8 @@ put_unit-requires-clause-groups c = c.none-groups.ensures.value (said_by c.in-So
 pub put_unit-requires-clause-body : goal.put_unit-requires-clause-body
 put_unit-requires-clause-body c =
     c.kept_length.ensures ∙
-        (next_length c.args.lengths.now 0 (units_behind c.args.behind.now) [] (said_by c.in-Some.unit.now) c.in-Some.ensures
-        c.requires.lengths).is
+    (next_length c.args.lengths.now 0 (units_behind c.args.behind.now) [] (said_by c.in-Some.unit.now) c.in-Some.ensures
+    c.requires.lengths).is
 
 pub put_unit-requires-clause-room : goal.put_unit-requires-clause-room
 put_unit-requires-clause-room c =

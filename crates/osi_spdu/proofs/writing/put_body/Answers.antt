@@ -9,8 +9,8 @@ put_parameter-requires-clause-held c =
     let codes = c.codes-codes.result.now in
     let code = get_or codes c.codes.code-index ConnectionIdentifier in
     c.requires.held code
-        (subst (λ (s : List Code). among s code ≡ true) c.codes-codes.ensures
-        (among_at codes c.codes.code-index ConnectionIdentifier c.codes-test.true))
+    (subst (λ (s : List Code). among s code ≡ true) c.codes-codes.ensures
+    (among_at codes c.codes.code-index ConnectionIdentifier c.codes-test.true))
 
 pub put_parameter-requires-clause-small : goal.put_parameter-requires-clause-small
 unfolding body_octets
@@ -18,7 +18,7 @@ put_parameter-requires-clause-small c =
     let f = λ (x : Code). parameter_octets c.args.groups.kind (known_of c.args.params.now) x (known_of c.args.params.now x) in
     let codes = c.codes-codes.result.now in
     let small : length (flat_map f codes) < 65536 =
-        subst (λ (s : List Code). length (flat_map f s) < 65536) (sym c.codes-codes.ensures) c.requires.small in
+    subst (λ (s : List Code). length (flat_map f s) < 65536) (sym c.codes-codes.ensures) c.requires.small in
     let p = piece_len f codes c.codes.code-index ConnectionIdentifier c.codes-test.true in
     let t = tail_less f codes c.codes.code-index in
     omega (arith, small)

@@ -51,5 +51,5 @@ returns-clause-items c =
     let behind : tsdu_octets (units_behind c.others.result.now) ≡ rest = ap tsdu_octets c.others.ensures in
     c.put_behind.ensures.items ∙ ap (λ (t : List ℕ). c.put_unit.new.out.items ++ t) behind
     ∙ ap (λ (t : List ℕ). t ++ rest) (c.put_unit.ensures.items ∙ ap (λ (t : List ℕ). before ++ t) first) ∙
-        append_assoc before (unit_octets u) rest
+    append_assoc before (unit_octets u) rest
     ∙ ap (λ (t : List ℕ). before ++ t) (sym (first_octets u (units_behind g.behind) (group_plain g)))

@@ -15,13 +15,13 @@ units-init c = record {
 pub put_unit-requires-clause-small : goal.put_unit-requires-clause-small
 put_unit-requires-clause-small c =
     (puts_next (units_behind c.units.behind) c.units.out.items c.units.out.spare (said_by c.in-Some.unit) (units_behind c.next.new.self)
-        (units_behind c.args.behind) c.args.out.now.items c.args.out.now.spare c.in-Some.ensures.steps c.units.invariant.put).fits
+    (units_behind c.args.behind) c.args.out.now.items c.args.out.now.spare c.in-Some.ensures.steps c.units.invariant.put).fits
 
 pub none-groups-requires : goal.none-groups-requires
 none-groups-requires c =
     ap category_of c.kind.ensures
     ∙ next_two (units_behind c.units.behind) (units_behind c.next.new.self) (said_by c.in-Some.unit) c.in-Some.ensures.steps
-        (behind_formed c.units.behind).behind
+    (behind_formed c.units.behind).behind
 
 pub put_unit-requires-clause-groups : goal.put_unit-requires-clause-groups
 put_unit-requires-clause-groups c = c.none-groups.ensures.value (said_by c.in-Some.unit).known
@@ -34,27 +34,27 @@ kept_length-requires c =
 pub put_unit-requires-clause-body : goal.put_unit-requires-clause-body
 put_unit-requires-clause-body c =
     c.kept_length.ensures ∙
-        (next_length c.args.lengths.now c.units.count (units_behind c.units.behind) (units_behind c.next.new.self) (said_by c.in-Some.unit)
-        c.in-Some.ensures.steps c.units.invariant.kept).is
+    (next_length c.args.lengths.now c.units.count (units_behind c.units.behind) (units_behind c.next.new.self) (said_by c.in-Some.unit)
+    c.in-Some.ensures.steps c.units.invariant.kept).is
 
 pub overflow_add-count : goal.overflow_add-count
 overflow_add-count c =
     let w = (next_length c.args.lengths.now c.units.count (units_behind c.units.behind) (units_behind c.next.new.self)
-        (said_by c.in-Some.unit) c.in-Some.ensures.steps c.units.invariant.kept).within in
+    (said_by c.in-Some.unit) c.in-Some.ensures.steps c.units.invariant.kept).within in
     omega (arith, w, c.requires.kept)
 
 pub put_unit-requires-clause-room : goal.put_unit-requires-clause-room
 put_unit-requires-clause-room c =
     let n = puts_next (units_behind c.units.behind) c.units.out.items c.units.out.spare (said_by c.in-Some.unit)
-        (units_behind c.next.new.self) (units_behind c.args.behind) c.args.out.now.items c.args.out.now.spare c.in-Some.ensures.steps
-        c.units.invariant.put in
+    (units_behind c.next.new.self) (units_behind c.args.behind) c.args.out.now.items c.args.out.now.spare c.in-Some.ensures.steps
+    c.units.invariant.put in
     omega (arith, n.enough)
 
 pub extend_reserved-requires : goal.extend_reserved-requires
 extend_reserved-requires c =
     let n = puts_next (units_behind c.units.behind) c.units.out.items c.units.out.spare (said_by c.in-Some.unit)
-        (units_behind c.next.new.self) (units_behind c.args.behind) c.args.out.now.items c.args.out.now.spare c.in-Some.ensures.steps
-        c.units.invariant.put in
+    (units_behind c.next.new.self) (units_behind c.args.behind) c.args.out.now.items c.args.out.now.spare c.in-Some.ensures.steps
+    c.units.invariant.put in
     let info = ap length c.information.ensures in
     omega (arith, n.enough, c.put_unit.ensures.spare)
 
@@ -65,13 +65,13 @@ units-preserved c =
     let all = units_behind c.args.behind in
     let before = c.args.out.now.items in
     let n = puts_next (units_behind c.units.behind) c.units.out.items c.units.out.spare u others all before c.args.out.now.spare
-        c.in-Some.ensures.steps c.units.invariant.put in
+    c.in-Some.ensures.steps c.units.invariant.put in
     let info = ap length c.information.ensures in
     let left : c.extend_reserved.new.self.spare + (length (unit_octets u) + length u.information) ≡ c.units.out.spare =
-        omega (arith, c.put_unit.ensures.spare, c.extend_reserved.ensures.spare) in
+    omega (arith, c.put_unit.ensures.spare, c.extend_reserved.ensures.spare) in
     let items : c.extend_reserved.new.self.items ≡ (c.units.out.items ++ unit_octets u) ++ u.information =
     c.extend_reserved.ensures.items ∙ ap (λ (t : List ℕ). c.put_unit.new.out.items ++ t) c.information.ensures ∙
-        ap (λ (t : List ℕ). t ++ u.information) c.put_unit.ensures.items in
+    ap (λ (t : List ℕ). t ++ u.information) c.put_unit.ensures.items in
     record {
       put = subst (λ (t : List ℕ). IsPuttingUnits others t c.extend_reserved.new.self.spare all before c.args.out.now.spare) (sym items)
           (n.next c.extend_reserved.new.self.spare left);
@@ -82,9 +82,9 @@ units-preserved c =
 pub returns-clause-items : goal.returns-clause-items
 returns-clause-items c =
     putting_end (units_behind c.units.behind) c.units.out.items c.units.out.spare (units_behind c.args.behind) c.args.out.now.items
-        c.args.out.now.spare c.in_default.ensures.steps.0 c.units.invariant.put
+    c.args.out.now.spare c.in_default.ensures.steps.0 c.units.invariant.put
 
 pub returns-clause-spare : goal.returns-clause-spare
 returns-clause-spare c =
     putting_spare (units_behind c.units.behind) c.units.out.items c.units.out.spare (units_behind c.args.behind) c.args.out.now.items
-        c.args.out.now.spare c.in_default.ensures.steps.0 c.units.invariant.put
+    c.args.out.now.spare c.in_default.ensures.steps.0 c.units.invariant.put

@@ -9,11 +9,11 @@ returns-in-Some-clause-carrier c =
     let limit = limit_of s.state in
     let sent = (c.in-Some.head.now ++ c.in-Data.user_data.now) ∷ [] in
     subst (λ (k : Call). OnOk c.send_headed_call.result
-        (c.send_headed_call.new.carrier ≡ record c.args.carrier.now
-        { state = answers c.args.reference limit (react s (called k)) c.args.carrier.now.state }))
+    (c.send_headed_call.new.carrier ≡ record c.args.carrier.now
+    { state = answers c.args.reference limit (react s (called k)) c.args.carrier.now.state }))
     (sym (ap called_by c.in-Data.is))
     (call_handed c.send_headed_call.result s (Data c.in-Data.user_data.now) sent sent c.args.reference limit c.args.carrier.now
-        c.send_headed_call.new.carrier
+    c.send_headed_call.new.carrier
     c.in-Some.ensures.accepted c.in-Some.ensures.sent refl c.send_headed_call.ensures.ok)
 
 pub returns-in-Some-clause-allowed : goal.returns-in-Some-clause-allowed
@@ -22,7 +22,7 @@ returns-in-Some-clause-allowed c =
     let limit = limit_of s.state in
     let sent = (c.in-Some.head.now ++ c.in-Data.user_data.now) ∷ [] in
     subst (λ (k : Call). OnOk c.send_headed_call.result
-        (move_refusal c.args.reference limit (react s (called k)) c.args.carrier.now.state ≡ None)) (sym (ap called_by c.in-Data.is))
+    (move_refusal c.args.reference limit (react s (called k)) c.args.carrier.now.state ≡ None)) (sym (ap called_by c.in-Data.is))
     (call_allowed c.send_headed_call.result s (Data c.in-Data.user_data.now) sent sent c.args.reference limit c.args.carrier.now.state
     c.in-Some.ensures.accepted c.in-Some.ensures.sent refl c.send_headed_call.ensures.allowed)
 
@@ -32,7 +32,7 @@ returns-in-Some-clause-refused c =
     let limit = limit_of s.state in
     let sent = (c.in-Some.head.now ++ c.in-Data.user_data.now) ∷ [] in
     subst (λ (k : Call). IfErr c.send_headed_call.result
-        (λ e. Refuses e (react s (called k)).error (move_refusal c.args.reference limit (react s (called k)) c.args.carrier.now.state)))
+    (λ e. Refuses e (react s (called k)).error (move_refusal c.args.reference limit (react s (called k)) c.args.carrier.now.state)))
     (sym (ap called_by c.in-Data.is))
     (call_refused c.send_headed_call.result s (Data c.in-Data.user_data.now) sent sent c.args.reference limit c.args.carrier.now.state
     c.in-Some.ensures.accepted c.in-Some.ensures.sent refl c.send_headed_call.ensures.refused)

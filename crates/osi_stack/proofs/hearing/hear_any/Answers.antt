@@ -11,7 +11,7 @@ returns-clause-carrier c =
     c.in_ok-answer-2.ensures.ok
     ∙ ap (λ (x : Carrier). record c.args.carrier.now { state = x })
     (answer_heard c.args.session.now c.args.told.now c.args.reference c.in_ok-first.field-0.reply c.in_ok-first.field-0.closes move
-        c.args.carrier.now.state reply closes)
+    c.args.carrier.now.state reply closes)
 
 pub returns-in_default-clause-carrier : goal.returns-in_default-clause-carrier
 returns-in_default-clause-carrier c =
@@ -21,4 +21,4 @@ returns-in_default-clause-carrier c =
     c.in_ok-answer.ensures.ok
     ∙ ap (λ (x : Carrier). record c.args.carrier.now { state = x })
     (answer_heard c.args.session.now c.args.told.now c.args.reference c.in_ok-first.field-0.reply c.in_ok-first.field-0.closes move
-        c.args.carrier.now.state reply closes)
+    c.args.carrier.now.state reply closes)

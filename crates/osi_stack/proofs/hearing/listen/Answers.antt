@@ -19,7 +19,7 @@ returns-in-Refused c =
     let quiet = refused_is_quiet s c.in-Refused.reason in
     takes_if _ s (refused c.in-Refused.reason) (told_input c.args.told.now) s c.refused.new.self (ap told_input c.in-Refused.is)
     (quiet_takes _ c.refused.result (react s (refused c.in-Refused.reason)) s c.refused.new.self c.quiet-in-Refused.ensures.first
-        c.quiet-in-Refused.ensures.more
+    c.quiet-in-Refused.ensures.more
     (c.quiet-in-Refused.ensures.reply ∙ ap (option_map in_one) (sym quiet.reply)) (c.quiet-in-Refused.ensures.closes ∙ sym quiet.closes)
     c.refused.ensures.state c.refused.ensures.shown)
 

@@ -32,8 +32,13 @@ returns c =
       connects = connect_settled profiles;
       called = call_settled profiles shown laws c.where_a_call_is_accepted.ensures.begun c.what_closes_sends_nothing.ensures.call;
       fed = feeds_settled
-          (record { laws = laws; profiles = profiles; waits = c.where_a_call_is_accepted.ensures.begun;
-          units = c.what_happens_has_numbers.ensures.units; shown = shown });
+          (record {
+            laws = laws;
+            profiles = profiles;
+            waits = c.where_a_call_is_accepted.ensures.begun;
+            units = c.what_happens_has_numbers.ensures.units;
+            shown = shown;
+          });
       shown = first_settled;
       carried = carried_settled;
       disconnected = disconnect_settled (λ s h. c.units_are_a_profile.ensures.kept s (broken ∷ []) h);

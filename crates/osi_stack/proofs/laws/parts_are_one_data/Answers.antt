@@ -14,5 +14,8 @@ returns c = λ r session acts front last e kept none profile fits short parts.
     (came_unbounded (after_inputs session (map act_in_octets acts)) (part_octets Last last)
     ∙ sym (came_unbounded (after_inputs session (calls_in acts)) (written (DT (front ++ last)))))
     (data_selectors
-        (record { parts = c.what_a_part_says.ensures; read = c.what_is_sent_is_read.ensures.read;
-        said = c.what_is_sent_is_read.ensures.said }) Last last (front ++ last))
+    (record {
+      parts = c.what_a_part_says.ensures;
+      read = c.what_is_sent_is_read.ensures.read;
+      said = c.what_is_sent_is_read.ensures.said;
+    }) Last last (front ++ last))

@@ -15,8 +15,11 @@ returns c =
     let nothing = c.a_prefix_of_a_packet.ensures.nothing in
     let one_cut = c.a_stream_has_one_cut.ensures.packets in
     let packets : PacketLaws =
-        record { one = c.no_packet_begins_another.ensures; front = c.a_prefix_of_a_packet.ensures.front;
-        proper = c.a_prefix_of_a_packet.ensures.proper } in
+    record {
+      one = c.no_packet_begins_another.ensures;
+      front = c.a_prefix_of_a_packet.ensures.front;
+      proper = c.a_prefix_of_a_packet.ensures.proper;
+    } in
     let laws : SessionLaws = session_laws (record {
       over = c.an_ended_session_stays_ended.ensures.over;
       ended = c.an_ended_session_stays_ended.ensures.ended;

@@ -6,37 +6,37 @@ use Rattle.osi_stack.proofs.reading.fetch.Goals as goal
 pub events-preserved : goal.events-preserved
 events-preserved c =
     heard_next (holding c.feed-fed.new.self c.args.lines.now) (holding c.events.carrier c.events.lines) (happening c.in-Some.event)
-        c.next_event.new.self.state
+    c.next_event.new.self.state
     (holding c.hear.new.carrier c.hear.new.lines) c.events.invariant c.in-Some.ensures.told c.in-Ok.ensures.ok
-        (c.hear.ensures.held ∙ c.next_event.ensures.held)
+    (c.hear.ensures.held ∙ c.next_event.ensures.held)
 
 pub events-smaller : goal.events-smaller
 events-smaller c =
     heard_left_over (holding c.events.carrier c.events.lines) (holding c.hear.new.carrier c.hear.new.lines) (happening c.in-Some.event)
-        c.next_event.new.self.state
+    c.next_event.new.self.state
     c.in-Some.ensures.told c.in-Ok.ensures.ok
 
 pub returns-in_default-hear : goal.returns-in_default-hear
 returns-in_default-hear c =
     fetched_not (holding c.args.carrier.now c.args.lines.now) c.args.octets.now c.feed-fed.result c.feed-fed.new.self
-        (holding c.hear.new.carrier c.hear.new.lines) (holding c.starve.new.carrier c.starve.new.lines)
+    (holding c.hear.new.carrier c.hear.new.lines) (holding c.starve.new.carrier c.starve.new.lines)
     c.feed-fed.ensures.feeds
     (heard_left (holding c.feed-fed.new.self c.args.lines.now) (holding c.events.carrier c.events.lines) (happening c.in-Some.event)
-        c.next_event.new.self.state
+    c.next_event.new.self.state
     (holding c.hear.new.carrier c.hear.new.lines).end c.events.invariant c.in-Some.ensures.told c.in_default-hear.ensures.needed
-        c.in_default-hear.ensures.err)
+    c.in_default-hear.ensures.err)
     (c.hear.ensures.held ∙ c.next_event.ensures.held ∙ c.events.invariant.held) c.starve.ensures
 
 pub returns-then-is_some : goal.returns-then-is_some
 returns-then-is_some c =
     fetched (holding c.args.carrier.now c.args.lines.now) c.args.octets.now c.feed-fed.result c.feed-fed.new.self
-        (holding c.events.carrier c.events.lines) c.next_event.new.self c.lose_all.new.self true
+    (holding c.events.carrier c.events.lines) c.next_event.new.self c.lose_all.new.self true
     c.feed-fed.ensures.feeds c.events.invariant c.in_default.ensures.told c.next_event.ensures.held
-        (ap is_some (sym c.ended.ensures) ∙ sym c.is_some.ensures ∙ c.if-is_some.true) c.lose_all.ensures
+    (ap is_some (sym c.ended.ensures) ∙ sym c.is_some.ensures ∙ c.if-is_some.true) c.lose_all.ensures
 
 pub returns-else-is_some : goal.returns-else-is_some
 returns-else-is_some c =
     fetched (holding c.args.carrier.now c.args.lines.now) c.args.octets.now c.feed-fed.result c.feed-fed.new.self
-        (holding c.events.carrier c.events.lines) c.next_event.new.self c.events.lines false
+    (holding c.events.carrier c.events.lines) c.next_event.new.self c.events.lines false
     c.feed-fed.ensures.feeds c.events.invariant c.in_default.ensures.told c.next_event.ensures.held
-        (ap is_some (sym c.ended.ensures) ∙ sym c.is_some.ensures ∙ c.if-is_some.false) refl
+    (ap is_some (sym c.ended.ensures) ∙ sym c.is_some.ensures ∙ c.if-is_some.false) refl

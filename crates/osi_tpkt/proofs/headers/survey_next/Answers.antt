@@ -8,9 +8,9 @@ returns-clause-front c =
     let stated : 256 * c.in-Some-octet_at.high + c.in-Some.low ≡ stated_length (c.args.held.now ++ c.args.piece.now) =
     omega (arith, c.in-Some.ensures.1, c.in-Some-octet_at.ensures.1) in
     part_front c.part_of.result c.args.held.now c.args.piece.now c.requires.front
-        (version_of c.args.held.now c.args.piece.now c.requires.front c.requires.some) (λ i. omega (arith, c.type_inv.piece i))
+    (version_of c.args.held.now c.args.piece.now c.requires.front c.requires.some) (λ i. omega (arith, c.type_inv.piece i))
     (omega (arith, c.in-Some.ensures.0)) (rw stated at c.part_of.ensures.least) c.part_of.ensures.used
-        (rw stated at c.part_of.ensures.whole)
+    (rw stated at c.part_of.ensures.whole)
 
 pub returns-clause-whole : goal.returns-clause-whole
 returns-clause-whole c =

@@ -1,4 +1,4 @@
-use Rattle.std.proofs.Common.{◌≡◌, ℕ, ◌≤◌, List, ◌++◌, length, take, refl, ◌∙◌, ap, subst, arith}
+use Rattle.std.proofs.Common.{◌≡◌, ℕ, ◌≤◌, List, ◌++◌, length, take, refl, subst, arith}
 use Rattle.osi_tpkt.proofs.Vocabulary.{take-take, take-append-le, length-append, length-take-le, IsFront, IsFull}
 use Rattle.osi_tpkt.proofs.storage.put_block.Goals as goal
 
@@ -18,18 +18,18 @@ pub returns-clause-front : goal.returns-clause-front
 returns-clause-front c =
     let first = c.in_ok-block.ensures.cases in
     subst IsFront
-        (of_block c.in_ok-used.used 32 c.in_ok-block.block.now c.args.piece.now c.in_ok-used.ensures.within first.enough first.same)
-        c.in_ok-used.ensures.front
+    (of_block c.in_ok-used.used 32 c.in_ok-block.block.now c.args.piece.now c.in_ok-used.ensures.within first.enough first.same)
+    c.in_ok-used.ensures.front
 
 pub returns-clause-full : goal.returns-clause-full
 returns-clause-full c =
     let first = c.in_ok-block.ensures.cases in
     subst IsFull (of_block c.in_ok-used.used 32 c.in_ok-block.block.now c.args.piece.now c.in_ok-used.ensures.within first.enough
-        first.same) c.in_ok-used.ensures.full
+    first.same) c.in_ok-used.ensures.full
 
 pub returns-clause-octets : goal.returns-clause-octets
 returns-clause-octets c =
     let first = c.in_ok-block.ensures.cases in
     let whole : 32 ≤ length c.as_mut_slice.result.now = c.in_ok-room.ensures.variant.0 refl in
     of_storage c.in_ok-used.used 32 c.args.storage.now.len c.in_ok-block.block.now _ _ c.args.piece.now c.in_ok-used.ensures.within
-        (omega arith) first.enough first.same
+    (omega arith) first.enough first.same

@@ -22,30 +22,30 @@ returns-in-Over-clause-feeds c =
           (subst (λ (f : Fetched). Fetches c.packets.self c.packets.rest.now f c.fetch.new.self) part c.fetch.ensures)
     ] in
     fed_goes c.args.self.now c.args.piece.now c.packets.self c.packets.rest.now (length c.args.piece.now) c.fed-in-Over.result
-        c.fetch.new.self c.packets.invariant goes (omega arith)
+    c.fetch.new.self c.packets.invariant goes (omega arith)
     c.fed-in-Over.ensures.used c.fed-in-Over.ensures.whole
 
 pub returns-then-is_spoilt-clause-feeds : goal.returns-then-is_spoilt-clause-feeds
 returns-then-is_spoilt-clause-feeds c =
     let spoilt = ap (λ (x : Carrying). is_spoilt x.state.ended) (sym c.self-in-packets.view_is) ∙
-        (sym c.is_spoilt.ensures ∙ c.if-is_spoilt.true) in
+    (sym c.is_spoilt.ensures ∙ c.if-is_spoilt.true) in
     fed_goes c.args.self.now c.args.piece.now c.packets.self c.packets.rest.now (length c.args.piece.now) c.fed-then-is_spoilt.result
-        c.fetch.new.self c.packets.invariant
+    c.fetch.new.self c.packets.invariant
     (read_spoilt c.args.self.now c.args.piece.now c.packets.self c.packets.rest.now c.in-Packet.used c.fetch.new.self c.packets.invariant
-        c.in-Packet.ensures spoilt) (omega arith)
+    c.in-Packet.ensures spoilt) (omega arith)
     c.fed-then-is_spoilt.ensures.used c.fed-then-is_spoilt.ensures.whole
 
 pub returns-then-stops-clause-feeds : goal.returns-then-stops-clause-feeds
 returns-then-stops-clause-feeds c =
     let sound = ap (λ (x : Carrying). is_spoilt x.state.ended) (sym c.self-in-packets.view_is) ∙
-        (sym c.is_spoilt.ensures ∙ c.if-is_spoilt.false) in
+    (sym c.is_spoilt.ensures ∙ c.if-is_spoilt.false) in
     let stopped = ap (λ (x : Carrying). stops x.state) (sym c.self-in-packets.view_is) ∙ (sym c.stops.ensures ∙ c.if-stops.true) in
     let goes = subst (λ (l : List ℕ). Goes c.args.self.now c.args.piece.now (length c.args.piece.now - length l) c.fetch.new.self)
-        (sym c.split_at.ensures.back)
+    (sym c.split_at.ensures.back)
     (read_stops c.args.self.now c.args.piece.now c.packets.self c.packets.rest.now c.in-Packet.used c.fetch.new.self c.packets.invariant
-        c.in-Packet.ensures stopped sound) in
+    c.in-Packet.ensures stopped sound) in
     fed_goes c.args.self.now c.args.piece.now c.packets.self c.packets.rest.now (length c.args.piece.now - length c.split_at.result.1.now)
-        c.fed-then-stops.result c.fetch.new.self c.packets.invariant goes (omega arith)
+    c.fed-then-stops.result c.fetch.new.self c.packets.invariant goes (omega arith)
     c.fed-then-stops.ensures.used c.fed-then-stops.ensures.whole
 
 pub packets-preserved : goal.packets-preserved
@@ -53,4 +53,4 @@ packets-preserved c =
     let quiet = ap (λ (x : Carrying). stops x.state) (sym c.self-in-packets.view_is) ∙ (sym c.stops.ensures ∙ c.if-stops.false) in
     subst (λ (l : List ℕ). IsRead c.args.self.now c.args.piece.now c.fetch.new.self l) (sym c.split_at.ensures.back)
     (read_next c.args.self.now c.args.piece.now c.packets.self c.packets.rest.now c.in-Packet.used c.fetch.new.self c.packets.invariant
-        c.in-Packet.ensures quiet)
+    c.in-Packet.ensures quiet)

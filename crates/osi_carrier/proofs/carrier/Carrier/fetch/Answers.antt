@@ -9,7 +9,7 @@ returns c =
     let new = the_view (record c.self.inside { switch = c.take_packet.new.self; cutter = c.pass.new.self }) in
     subst (λ (x : Carrying). PacketActs x c.args.octets.now (4 + length c.in-Some.packet.now) new) c.self.view_is
     (passed_packet c.a_prefix_of_a_packet.ensures.nothing (the_view c.self.inside) new c.args.octets.now c.in-Some.packet.now
-        c.in-Some.ensures.passes
+    c.in-Some.ensures.passes
     c.in-Some.ensures.sound c.take_packet.ensures)
 
 pub gather-requires-clause-parted : goal.gather-requires-clause-parted

@@ -6,5 +6,5 @@ use Rattle.osi_carrier.proofs.rows.Connections.phase.Goals as goal
 pub returns : goal.returns
 returns c =
     here_is c.args.reference c.args.self.now c.self.inside.rows.items c.args.place c.index.result.now c.requires c.index.ensures
-        c.self.view_is
+    c.self.view_is
     ∙ ap (λ (x : ℕ × Connection). Some x.1) (sym c.behind-self.view_is)

@@ -17,10 +17,10 @@ linked_phase phase peer e other = cc
 found_at : (r peer i n q : ℕ) (rows items : Rows Connection) (row : ℕ × Connection) (p : Phase) (link : AnyLink) →
     place_of r rows ≡ Some i → row ≡ get_or items i row → items ≡ rows →
     ◌≡◌ {A = ℕ × Connection} (n, connection p) row → p ≡ Linked q link → peer_in (value_at r rows) ≡ Some peer →
-        (any_standing link ≡ link_in (value_at r rows)) × (q ≡ peer)
+    (any_standing link ≡ link_in (value_at r rows)) × (q ≡ peer)
 found_at r peer i n q rows items row p link e here same view is opened =
     let at = here_is r rows items i row e here same ∙ ap (λ (x : ℕ × Connection). Some x.1) (sym view) ∙
-        ap (λ (p : Phase). Some (connection p)) is in
+    ap (λ (p : Phase). Some (connection p)) is in
     let named : Some q ≡ Some peer = sym (ap peer_in at) ∙ opened in (sym (ap link_in at), cc)
 
 row_linked : (n m q peer : ℕ) (t u : Standing) → n ≡ m → q ≡ peer → t ≡ u → ◌≡◌ {A = ℕ × Connection} (n, linked q t) (m, linked peer u)
@@ -33,7 +33,7 @@ ok_then (Err e) f p = tt
 pub unreachable-requires : goal.unreachable-requires
 unreachable-requires c =
     let at = here_is c.args.reference c.args.self.now c.self.inside.rows.items c.args.place c.index_mut.result.now c.requires.place
-        c.index_mut.ensures.value c.self.view_is
+    c.index_mut.ensures.value c.self.view_is
     ∙ ap (λ (x : ℕ × Connection). Some x.1) (sym c.link.view_is) in
     linked_phase c.link.inside.phase c.args.peer (ap peer_in (sym at) ∙ c.requires.open) c.in_default.not-Linked
 
@@ -44,73 +44,73 @@ send_parts-requires c = ap next (c.send_whole.ensures.none c.if-send_whole.false
 pub invariant_of-self-then-send_whole-2 : goal.invariant_of-self-then-send_whole-2
 invariant_of-self-then-send_whole-2 c =
     set_kept c.self.inside.rises c.self.inside.rows.items c.args.place c.index_mut.result.now
-        (c.link.inside.reference, linked c.in-Linked.field-0 (any_standing c.send_whole.new.link))
+    (c.link.inside.reference, linked c.in-Linked.field-0 (any_standing c.send_whole.new.link))
     c.index_mut.ensures.value (ap (λ (x : ℕ × Connection). x.0) c.link.view_is) c.self.invariant
 
 pub invariant_of-self-2 : goal.invariant_of-self-2
 invariant_of-self-2 c =
     set_kept c.self.inside.rises c.self.inside.rows.items c.args.place c.index_mut.result.now
-        (c.link.inside.reference, linked c.in-Linked.field-0 (any_standing c.send_parts.new.link))
+    (c.link.inside.reference, linked c.in-Linked.field-0 (any_standing c.send_parts.new.link))
     c.index_mut.ensures.value (ap (λ (x : ℕ × Connection). x.0) c.link.view_is) c.self.invariant
 
 pub returns-then-send_whole-clause-rows : goal.returns-then-send_whole-clause-rows
 returns-then-send_whole-clause-rows c =
     let found = found_at c.args.reference c.args.peer c.args.place _ _ c.args.self.now _ _ _ _ c.requires.place c.index_mut.ensures.value
-        c.self.view_is c.link.view_is c.in-Linked.is c.requires.open in
+    c.self.view_is c.link.view_is c.in-Linked.is c.requires.open in
     let same = ap (λ (s : Standing). with_tsdu s c.as_slice.result.now) found.0 ∙
-        ap (with_tsdu (link_in (value_at c.args.reference c.args.self.now))) c.as_slice.ensures.value in
+    ap (with_tsdu (link_in (value_at c.args.reference c.args.self.now))) c.as_slice.ensures.value in
     put_row c.args.reference c.args.self.now c.self.inside.rows.items c.args.place c.index_mut.result.now
-        (c.link.inside.reference, linked c.in-Linked.field-0 (any_standing c.send_whole.new.link))
+    (c.link.inside.reference, linked c.in-Linked.field-0 (any_standing c.send_whole.new.link))
     (linked c.args.peer (pumped (with_tsdu (link_in (value_at c.args.reference c.args.self.now)) (cow_slice_items c.args.tsdu))))
-        c.requires.place c.index_mut.ensures.value c.self.view_is
+    c.requires.place c.index_mut.ensures.value c.self.view_is
     (row_linked c.link.inside.reference c.index_mut.result.now.0 c.in-Linked.field-0 c.args.peer (any_standing c.send_whole.new.link)
-        (pumped (with_tsdu (link_in (value_at c.args.reference c.args.self.now)) (cow_slice_items c.args.tsdu)))
+    (pumped (with_tsdu (link_in (value_at c.args.reference c.args.self.now)) (cow_slice_items c.args.tsdu)))
     (ap (λ (x : ℕ × Connection). x.0) c.link.view_is) found.1 (c.send_whole.ensures.link c.if-send_whole.true ∙ ap pumped same))
 
 pub returns-then-send_whole-clause-ok : goal.returns-then-send_whole-clause-ok
 returns-then-send_whole-clause-ok c =
     let found = found_at c.args.reference c.args.peer c.args.place _ _ c.args.self.now _ _ _ _ c.requires.place c.index_mut.ensures.value
-        c.self.view_is c.link.view_is c.in-Linked.is c.requires.open in
+    c.self.view_is c.link.view_is c.in-Linked.is c.requires.open in
     let same = ap (λ (s : Standing). with_tsdu s c.as_slice.result.now) found.0 ∙
-        ap (with_tsdu (link_in (value_at c.args.reference c.args.self.now))) c.as_slice.ensures.value in
+    ap (with_tsdu (link_in (value_at c.args.reference c.args.self.now))) c.as_slice.ensures.value in
     c.send_whole.ensures.written c.if-send_whole.true ∙ ap (λ (s : Standing). c.args.out.now.items ++ packets (written_by c.args.peer s))
-        same
+    same
 
 pub returns-clause-rows : goal.returns-clause-rows
 returns-clause-rows c =
     let found = found_at c.args.reference c.args.peer c.args.place _ _ c.args.self.now _ _ _ _ c.requires.place c.index_mut.ensures.value
-        c.self.view_is c.link.view_is c.in-Linked.is c.requires.open in
+    c.self.view_is c.link.view_is c.in-Linked.is c.requires.open in
     let same = ap (λ (s : Standing). with_tsdu s (cow_slice_items c.args.tsdu))
-        ((c.send_whole.ensures.none c.if-send_whole.false).0 ∙ found.0) in
+    ((c.send_whole.ensures.none c.if-send_whole.false).0 ∙ found.0) in
     ok_then c.send_parts.result
-        (λ (e : any_standing c.send_parts.new.link ≡ pumped (with_tsdu (any_standing c.send_whole.new.link) (cow_slice_items c.args.tsdu))).
+    (λ (e : any_standing c.send_parts.new.link ≡ pumped (with_tsdu (any_standing c.send_whole.new.link) (cow_slice_items c.args.tsdu))).
     put_row c.args.reference c.args.self.now c.self.inside.rows.items c.args.place c.index_mut.result.now
-        (c.link.inside.reference, linked c.in-Linked.field-0 (any_standing c.send_parts.new.link))
+    (c.link.inside.reference, linked c.in-Linked.field-0 (any_standing c.send_parts.new.link))
     (linked c.args.peer (pumped (with_tsdu (link_in (value_at c.args.reference c.args.self.now)) (cow_slice_items c.args.tsdu))))
-        c.requires.place c.index_mut.ensures.value c.self.view_is
+    c.requires.place c.index_mut.ensures.value c.self.view_is
     (row_linked c.link.inside.reference c.index_mut.result.now.0 c.in-Linked.field-0 c.args.peer (any_standing c.send_parts.new.link)
-        (pumped (with_tsdu (link_in (value_at c.args.reference c.args.self.now)) (cow_slice_items c.args.tsdu)))
+    (pumped (with_tsdu (link_in (value_at c.args.reference c.args.self.now)) (cow_slice_items c.args.tsdu)))
     (ap (λ (x : ℕ × Connection). x.0) c.link.view_is) found.1 (e ∙ ap pumped same)))
     c.send_parts.ensures.link
 
 pub returns-clause-ok : goal.returns-clause-ok
 returns-clause-ok c =
     let found = found_at c.args.reference c.args.peer c.args.place _ _ c.args.self.now _ _ _ _ c.requires.place c.index_mut.ensures.value
-        c.self.view_is c.link.view_is c.in-Linked.is c.requires.open in
+    c.self.view_is c.link.view_is c.in-Linked.is c.requires.open in
     let none = c.send_whole.ensures.none c.if-send_whole.false in
     let same = ap (λ (s : Standing). with_tsdu s (cow_slice_items c.args.tsdu)) (none.0 ∙ found.0) in
     ok_then c.send_parts.result
-        (λ (e : c.send_parts.new.out.items ≡ c.send_whole.new.out.items ++
-        packets (written_by c.args.peer (with_tsdu (any_standing c.send_whole.new.link) (cow_slice_items c.args.tsdu)))).
+    (λ (e : c.send_parts.new.out.items ≡ c.send_whole.new.out.items ++
+    packets (written_by c.args.peer (with_tsdu (any_standing c.send_whole.new.link) (cow_slice_items c.args.tsdu)))).
     e ∙ ap (λ (o : List ℕ). o ++
-        packets (written_by c.args.peer (with_tsdu (any_standing c.send_whole.new.link) (cow_slice_items c.args.tsdu)))) none.1
+    packets (written_by c.args.peer (with_tsdu (any_standing c.send_whole.new.link) (cow_slice_items c.args.tsdu)))) none.1
     ∙ ap (λ (s : Standing). c.args.out.now.items ++ packets (written_by c.args.peer s)) same)
     c.send_parts.ensures.ok
 
 pub returns-clause-kept : goal.returns-clause-kept
 returns-clause-kept c =
     let found = found_at c.args.reference c.args.peer c.args.place _ _ c.args.self.now _ _ _ _ c.requires.place c.index_mut.ensures.value
-        c.self.view_is c.link.view_is c.in-Linked.is c.requires.open in
+    c.self.view_is c.link.view_is c.in-Linked.is c.requires.open in
     λ owned alone. c.send_parts.ensures.kept owned
-        (subst (λ (s : Standing). WaitsAlone s (cow_slice_items c.args.tsdu))
-        (sym ((c.send_whole.ensures.none c.if-send_whole.false).0 ∙ found.0)) alone)
+    (subst (λ (s : Standing). WaitsAlone s (cow_slice_items c.args.tsdu))
+    (sym ((c.send_whole.ensures.none c.if-send_whole.false).0 ∙ found.0)) alone)

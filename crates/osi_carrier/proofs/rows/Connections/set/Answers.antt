@@ -7,7 +7,7 @@ use Rattle.osi_carrier.proofs.rows.Connections.set.Goals as goal
 pub returns : goal.returns
 returns c =
     put_row c.args.reference c.args.self.now c.self.inside.rows.items c.args.place c.index_mut.result.now c.set.new.self
-        (connection c.args.phase)
+    (connection c.args.phase)
     c.requires.place c.index_mut.ensures.value c.self.view_is c.set.ensures
 
 pub invariant_of-self : goal.invariant_of-self

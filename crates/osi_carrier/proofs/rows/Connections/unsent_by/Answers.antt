@@ -7,5 +7,5 @@ pub returns : goal.returns
 returns c =
     c.unsent.ensures
     ∙ ap unsent_at
-        (sym (here_is c.args.reference c.args.self.now c.self.inside.rows.items c.args.place c.index.result.now c.requires c.index.ensures
-        c.self.view_is))
+    (sym (here_is c.args.reference c.args.self.now c.self.inside.rows.items c.args.place c.index.result.now c.requires c.index.ensures
+    c.self.view_is))

@@ -8,11 +8,11 @@ pub returns-in-Err-OutOfMemory-clause-needs : goal.returns-in-Err-OutOfMemory-cl
 returns-in-Err-OutOfMemory-clause-needs c =
     let is : link_in (Some c.args.self.now.1) ≡ any_standing c.in-Linked.link =
     ap (λ (r : ℕ × Connection). link_in (Some r.1)) (sym c.self.view_is) ∙ ap (λ (p : Phase). link_in (Some (connection p))) c.in-Linked.is
-        in
+    in
     let refused = want_taken c.take.result c.in-Err-OutOfMemory.field-0 (needs_memory (value c.args.unit.now))
-        (taken (any_standing c.in-Linked.link) (value c.args.unit.now))
+    (taken (any_standing c.in-Linked.link) (value c.args.unit.now))
     (any_standing c.in-Linked.link) (any_standing c.take.new.self) c.in-Err-OutOfMemory.is c.in-Err-OutOfMemory.field-0-is
-        c.take.ensures.taken in
+    c.take.ensures.taken in
     subst (λ (s : Standing). link_grows c.args.peer s (taken s (value c.args.unit.now)) ≡ true) (sym is)
     (taken_grows c.args.peer (any_standing c.in-Linked.link) (value c.args.unit.now) refused.0 refused.1)
 
@@ -20,9 +20,9 @@ pub returns-in_default-pump-clause-needs : goal.returns-in_default-pump-clause-n
 returns-in_default-pump-clause-needs c =
     let is : link_in (Some c.args.self.now.1) ≡ any_standing c.in-Linked.link =
     ap (λ (r : ℕ × Connection). link_in (Some r.1)) (sym c.self.view_is) ∙ ap (λ (p : Phase). link_in (Some (connection p))) c.in-Linked.is
-        in
+    in
     subst (λ (s : Standing). link_grows c.args.peer s (taken s (value c.args.unit.now)) ≡ true) (sym is)
     (pump_grows c.args.peer (any_standing c.in-Linked.link) (any_standing c.take.new.self) (any_standing c.next_tsdu-whole.new.self)
     (option_map (λ v. v.items) c.next_tsdu-whole.result) (taken (any_standing c.in-Linked.link) (value c.args.unit.now))
-        c.in-Ok.ensures.taken c.next_tsdu-whole.ensures.handed
+    c.in-Ok.ensures.taken c.next_tsdu-whole.ensures.handed
     c.in_default-pump.ensures.needs)

@@ -6,4 +6,4 @@ pub returns : goal.returns
 returns c =
     ap Some c.tsaps.ensures
     ∙ sym (here_is c.args.reference c.args.self.now c.self.inside.rows.items c.args.place c.index.result.now c.requires c.index.ensures
-        c.self.view_is)
+    c.self.view_is)

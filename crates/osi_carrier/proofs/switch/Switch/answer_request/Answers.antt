@@ -13,4 +13,4 @@ returns-clause-ok c =
     let room = ap is_full (sym v) ∙ has_room (the_view c.self.inside) few c.if-self-ge-LAST_REFERENCE.false in
     let same = c.answer-selected.ensures ∙ ap (λ (s : State). selected_by request s.local) v in
     is_answered c.answer_by.result request c.args.self.now c.answer_by.new.self (selection c.answer-selected.result) free room same
-        c.answer_by.ensures.ok
+    c.answer_by.ensures.ok

@@ -8,4 +8,4 @@ returns-in_err-reserve-clause-needs c =
 pub returns-in_err-put_disconnected-in-Some-Two-clause-needs : goal.returns-in_err-put_disconnected-in-Some-Two-clause-needs
 returns-in_err-put_disconnected-in-Some-Two-clause-needs c =
     on_want c.from_residual-in_err-put_disconnected-in-Some-Two.result
-        (leaves_grows c.args.reference c.args.peer c.args.reason c.args.self.now.class c.args.self.now)
+    (leaves_grows c.args.reference c.args.peer c.args.reason c.args.self.now.class c.args.self.now)

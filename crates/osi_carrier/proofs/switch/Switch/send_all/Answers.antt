@@ -8,14 +8,14 @@ use Rattle.osi_carrier.proofs.switch.Switch.send_all.Goals as goal
 pub returns-in_default-clause-refused : goal.returns-in_default-clause-refused
 returns-in_default-clause-refused c =
     let none = ap (λ (s : State). link_of (value_at c.args.reference s.live)) (sym c.self.view_is) ∙
-        c.open_at.ensures.none c.in_default.is in
+    c.open_at.ensures.none c.in_default.is in
     sym (ap (send_all_error (map (λ v. v.items) (cow_slice_items c.args.tsdus))) (not_open c.args.reference c.args.self.now none))
 
 pub returns-clause-ok : goal.returns-clause-ok
 returns-clause-ok c =
     let alive = ap (λ (s : State). s.ended) (sym c.self.view_is) ∙ none_of c.self.inside.ended (sym c.is_some.ensures ∙ c.if-is_some.false)
-        in
+    in
     let here = ap (λ (s : State). peer_in (value_at c.args.reference s.live)) (sym c.self.view_is) ∙ c.in-Some.ensures.open.1 in
     subst (λ (s : State). OnOk c.send_all_open.result (c.send_all_open.new.self ≡ s))
     (sent_open c.args.reference c.in-Some.peer (map (λ v. v.items) (cow_slice_items c.args.tsdus)) c.args.self.now alive here)
-        c.send_all_open.ensures.ok
+    c.send_all_open.ensures.ok

@@ -6,9 +6,9 @@ use Rattle.osi_carrier.proofs.switch.Switch.send_all_open.Goals as goal
 pub returns-then-is_empty-clause-ok : goal.returns-then-is_empty-clause-ok
 returns-then-is_empty-clause-ok c =
     let none = ap length (sym c.as_slice-lent.ensures.value) ∙
-        eqb-true (length c.as_slice-lent.result.now) 0 (sym c.is_empty.ensures ∙ c.if-is_empty.true) in
+    eqb-true (length c.as_slice-lent.result.now) 0 (sym c.is_empty.ensures ∙ c.if-is_empty.true) in
     sends_none c.args.reference c.args.peer (map (λ v. v.items) (cow_slice_items c.args.tsdus)) c.args.self.now
-        (no_items (λ v. v.items) (cow_slice_items c.args.tsdus) none) c.requires.open
+    (no_items (λ v. v.items) (cow_slice_items c.args.tsdus) none) c.requires.open
 
 pub returns-then-any_too_long-clause-refused : goal.returns-then-any_too_long-clause-refused
 returns-then-any_too_long-clause-refused c =

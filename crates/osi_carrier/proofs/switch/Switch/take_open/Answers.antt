@@ -14,4 +14,4 @@ pub returns-clause-acts : goal.returns-clause-acts
 returns-clause-acts c = λ _.
     let opened = ap (λ (s : State). peer_in (value_at c.args.reference s.live)) (sym c.self.view_is) ∙ c.in-Some.ensures.open.1 in
     one_taken c.args.self.now c.take.new.self _ (value c.args.unit.now) c.requires.lasts (c.requires.acts c.in-Some.peer opened)
-        c.in-Ok.ensures.ok
+    c.in-Ok.ensures.ok

@@ -7,18 +7,18 @@ pub returns-then-is_some : goal.returns-then-is_some
 returns-then-is_some c =
     let over = ap (λ (s : State). is_some s.ended) (sym c.self.view_is) ∙ (sym c.is_some.ensures ∙ c.if-is_some.true) in
     along_over c.args.self.now c.units.self c.react.new.self (units_left c.args.units) (units_left c.units.units)
-        (units_left c.next.new.self) (value c.in-Some.unit)
+    (units_left c.next.new.self) (value c.in-Some.unit)
     c.units.invariant c.in-Some.ensures.steps.0 c.in-Ok.ensures.ok over
 
 pub units-preserved : goal.units-preserved
 units-preserved c =
     let lasts = ap (λ (s : State). is_some s.ended) (sym c.self.view_is) ∙ (sym c.is_some.ensures ∙ c.if-is_some.false) in
     along_next c.args.self.now c.units.self c.react.new.self (units_left c.args.units) (units_left c.units.units)
-        (units_left c.next.new.self) (value c.in-Some.unit)
+    (units_left c.next.new.self) (value c.in-Some.unit)
     c.units.invariant c.in-Some.ensures.steps.0 c.in-Ok.ensures.ok (none_of c.react.new.self.ended lasts)
 
 pub returns-in_default-react : goal.returns-in_default-react
 returns-in_default-react c =
     along_starved c.args.self.now c.units.self c.react.new.self c.end.new.self (units_left c.args.units) (units_left c.units.units)
-        (units_left c.next.new.self) (value c.in-Some.unit)
+    (units_left c.next.new.self) (value c.in-Some.unit)
     c.units.invariant c.in-Some.ensures.steps.0 c.in_default-react.ensures.err c.in_default-react.ensures.needs c.end.ensures

@@ -7,17 +7,20 @@ use Rattle.osi_class.proofs.class_two.Class2Link.give_slot.Goals as goal
 pub returns-clause-given : goal.returns-clause-given
 returns-clause-given c =
     let ends : Ends =
-        record { limit = c.self.inside.limit; unsent = c.self.inside.outgoing.unsent;
-        joining = joining c.self.inside.begun (map (λ v. v.items) c.self.inside.whole.items) } in
+    record {
+      limit = c.self.inside.limit;
+      unsent = c.self.inside.outgoing.unsent;
+      joining = joining c.self.inside.begun (map (λ v. v.items) c.self.inside.whole.items);
+    } in
     let flow : Flow = record { sender = c.self.inside.sending; receiver = c.self.inside.receiving } in
     let Slots : ℕ → Sender → Two →
-        Type 0 = λ number sender old. GivesSlot (Data2 number) (two_standing old.ends old.flow)
-        (two_standing ends (record flow { sender = sender })) in
+    Type 0 = λ number sender old. GivesSlot (Data2 number) (two_standing old.ends old.flow)
+    (two_standing ends (record flow { sender = sender })) in
     let slot : Slots flow.sender.next (after_sent flow.sender) (record { ends = ends; flow = flow }) =
     λ tsdu. part_of_class_2 ends flow tsdu (min ends.limit (length tsdu)) refl (c.if-not-is_empty.ensures.nothing refl)
     (sym c.has_ack.ensures ∙ c.if-has_ack.false) (sym c.if-not-has_credit.ensures) in
     let numbered = subst (λ (n : ℕ). Slots n (after_sent flow.sender) (record { ends = ends; flow = flow }))
-        (sym c.count_unit.ensures.number) slot in
+    (sym c.count_unit.ensures.number) slot in
     let counted = subst (λ (s : Sender). Slots c.count_unit.result s (record { ends = ends; flow = flow })) (sym c.count_unit.ensures.after)
-        numbered in
+    numbered in
     subst (λ (old : Two). Slots c.count_unit.result c.count_unit.new.self old) c.self.view_is counted

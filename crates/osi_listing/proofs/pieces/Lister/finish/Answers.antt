@@ -9,5 +9,5 @@ returns-in_ok-push_rest-in-Going-clause-listing c = λ octets lines fed.
 pub returns-in-Faulty-clause-listing : goal.returns-in-Faulty-clause-listing
 returns-in-Faulty-clause-listing c = λ octets lines fed.
     finish_faulty c.args.self.now.stage c.args.self.now.work octets lines c.args.text.now.items c.status-in-Faulty.result c.in-Faulty.is
-        fed.stands
+    fed.stands
     c.status-in-Faulty.ensures

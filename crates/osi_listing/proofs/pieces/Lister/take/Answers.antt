@@ -6,7 +6,7 @@ use Rattle.osi_listing.proofs.pieces.Lister.take.Goals as goal
 pub returns-in-Going-clause-fed : goal.returns-in-Going-clause-fed
 returns-in-Going-clause-fed c =
     feeds_on c.list_on.result c.args.self.now c.list_on.new.self c.args.piece.now c.args.text.now.items c.list_on.new.text.items
-        c.list_on.ensures.octets
+    c.list_on.ensures.octets
     (omega arith) (c.list_on.ensures.listed c.in-Going.is)
 
 pub returns-in-Faulty-clause-fed : goal.returns-in-Faulty-clause-fed

@@ -14,7 +14,7 @@ returns-in-Dt0-clause-holds c =
     ((earlier : List Part) → AreJoins (join_value old.class_0) (join_at old.class_2) earlier →
     AreJoins (join_value c.take.new.self) (join_at old.class_2) (earlier ++ record { stream = None; end = end; octets = octets } ∷ []))
     (λ e earlier h. took_zero (join_value old.class_0) (join_value c.take.new.self) (join_at old.class_2) earlier end octets e h)
-        c.take.ensures.joined)
+    c.take.ensures.joined)
 
 pub returns-in-Dt2-clause-holds : goal.returns-in-Dt2-clause-holds
 returns-in-Dt2-clause-holds c =
@@ -26,6 +26,6 @@ returns-in-Dt2-clause-holds c =
     ((d : ℕ) → join_at c.take_for.new.references d ≡ cond (d == to) (joined (join_at old.class_2 to) end octets) (join_at old.class_2 d))
     ((earlier : List Part) → AreJoins (join_value old.class_0) (join_at old.class_2) earlier →
     AreJoins (join_value old.class_0) (join_at c.take_for.new.references)
-        (earlier ++ record { stream = Some to; end = end; octets = octets } ∷ []))
+    (earlier ++ record { stream = Some to; end = end; octets = octets } ∷ []))
     (λ e earlier h. took_two (join_value old.class_0) (join_at old.class_2) (join_at c.take_for.new.references) to earlier end octets e h)
-        c.take_for.ensures.joined)
+    c.take_for.ensures.joined)

@@ -17,11 +17,11 @@ returns-in_ok-list_held-in-Ok-clause-completes c = λ going.
     let taken = c.in-Ok.ensures.taken going.1 going.0 in
     let octets : c.feed.new.self.octets ≡ old.cutter.octets ++ take used piece = ap (λ h. h.octets) taken.1.octets in
     let whole : IsOnePacket c.feed.new.self.octets =
-        subst IsOnePacket (sym octets) (held_whole c.in-Ok.fed.whole used old.cutter.octets piece c.if-not-fed.false taken.0.whole) in (
+    subst IsOnePacket (sym octets) (held_whole c.in-Ok.fed.whole used old.cutter.octets piece c.if-not-fed.false taken.0.whole) in (
       moves_both old mid new text text last (old.cutter.octets ++ piece) (old.cutter.octets ++ piece) (drop used piece)
           (moves_none old mid text (old.cutter.octets ++ piece) refl)
           (subst (λ (o : List ℕ). Moves mid text o new last (drop used piece))
-              (joined_again c.feed.new.self.octets old.cutter.octets piece used octets)
+          (joined_again c.feed.new.self.octets old.cutter.octets piece used octets)
           (c.in_ok-list_held-in-Ok.ensures.moves (drop used piece) whole)),
       c.in_ok-list_held-in-Ok.ensures.ready whole,
     )

@@ -8,7 +8,7 @@ pub returns-in-Ok-clause-leaves : goal.returns-in-Ok-clause-leaves
 returns-in-Ok-clause-leaves c = λ ready without.
     let taken = c.in-Ok.ensures.taken ready.1 (subst IsPartial (sym ready.0) empty_partial) in
     held_rest c.in-Ok.field-0.whole c.in-Ok.field-0.used c.args.self.now.cutter c.feed.new.self c.args.rest.now ready without taken.0.whole
-        taken.1
+    taken.1
 
 pub returns-in_ok-of_stream-in-Err-clause-leaves : goal.returns-in_ok-of_stream-in-Err-clause-leaves
 returns-in_ok-of_stream-in-Err-clause-leaves c = λ ready without.

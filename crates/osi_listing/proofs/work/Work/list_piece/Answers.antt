@@ -15,9 +15,9 @@ returns-in_ok-left-in-Next c = λ going.
     let whole = c.in_ok-left-in-Next.ensures in
     let rest = c.split_at.result.1.now in
     then_holds c.hold.result c.args.self.now c.complete.new.self c.list_whole.new.self c.hold.new.self c.args.text.now.items
-        c.complete.new.text.items
+    c.complete.new.text.items
     c.list_whole.new.text.items c.args.piece.now rest c.in_ok-left-in-Next.left.now
     (subst (λ (r : List ℕ). Moves c.args.self.now c.args.text.now.items (c.args.self.now.cutter.octets ++ c.args.piece.now)
-        c.complete.new.self c.complete.new.text.items r)
+    c.complete.new.self c.complete.new.text.items r)
     (sym c.split_at.ensures.back) done.0)
     (whole.moves done.1) c.hold.ensures.same (c.hold.ensures.leaves (whole.ready done.1) (whole.none_left done.1))

@@ -15,6 +15,6 @@ invariant_of-self c = (
 pub returns : goal.returns
 returns c =
     let a = advance_leaves c.args.self.now c.self.inside.state (option_and_then unit_in c.self.inside.waiting) c.self.inside.joined
-        c.args.point c.in-Some.numbers
+    c.args.point c.in-Some.numbers
     c.self.view_is c.self.invariant.3 (sym c.in-Some.is ∙ c.numbers_after.ensures) in
     record { done = sym a.0; state = λ k. a.1; rests = λ k. absurd (cc) }

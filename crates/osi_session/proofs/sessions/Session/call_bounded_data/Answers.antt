@@ -7,8 +7,8 @@ use Rattle.osi_session.proofs.sessions.Session.call_bounded_data.Goals as goal
 pub returns-in-Ok : goal.returns-in-Ok
 returns-in-Ok c =
     let a = accepts (size_of c.size_limit.result) _ c.args.self.now (Data c.args.user_data.now)
-        (record { next = c.self.inside.state; sent = DT c.args.user_data.now }) c.size_limit.ensures c.self.view_is c.self.invariant.0 tt
-        c.in_ok-allow_data.ensures.ok in
+    (record { next = c.self.inside.state; sent = DT c.args.user_data.now }) c.size_limit.ensures c.self.view_is c.self.invariant.0 tt
+    c.in_ok-allow_data.ensures.ok in
     record {
       state = rests_by _ c.args.self.now (Data c.args.user_data.now) (DT c.args.user_data.now) c.self.view_is c.self.invariant.3
           c.in_ok-allow_data.ensures.ok;

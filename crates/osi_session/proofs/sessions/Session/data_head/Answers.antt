@@ -9,7 +9,7 @@ pub returns : goal.returns
 returns c =
     let user = c.args.user_data.now in
     let a = accepts c.limit_of.result _ c.args.self.now (Data user) (record { next = c.self.inside.state; sent = DT user })
-        c.limit_of.ensures c.self.view_is c.self.invariant.0 tt c.in-Ok.ensures.ok in
+    c.limit_of.ensures c.self.view_is c.self.invariant.0 tt c.in-Ok.ensures.ok in
     let whole : is_whole c.limit_of.result user ≡ true = sym c.is_whole.ensures ∙ c.if-not-is_whole.false in
     record {
       state = rests_by _ c.args.self.now (Data user) (DT user) c.self.view_is c.self.invariant.3 c.in-Ok.ensures.ok;

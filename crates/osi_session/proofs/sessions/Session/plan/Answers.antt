@@ -15,7 +15,7 @@ pub returns-in-Ok : goal.returns-in-Ok
 returns-in-Ok c =
     let x = step_of c.in_ok-step.step in
     let a = accepts (size_of c.size_limit.result) _ c.args.self.now (called_by c.args.request) x c.size_limit.ensures c.self.view_is
-        c.self.invariant.0 (request_small c.args.request) c.in_ok-step.ensures in
+    c.self.invariant.0 (request_small c.args.request) c.in_ok-step.ensures in
     record {
       state = sym a.leaves;
       sent = c.in-Ok.ensures ∙ a.sends;

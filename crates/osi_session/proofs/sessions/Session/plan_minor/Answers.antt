@@ -9,16 +9,20 @@ unfolding user_data_of
 minor_point-requires c =
     let k : Call = Minor c.args.confirm c.args.user_data.now in
     let x : Step =
-        record { next = record c.self.inside.state { numbers = point_sent c.self.inside.state.numbers };
-        sent = MIP c.args.confirm c.in_ok-number.number.number c.args.user_data.now } in
+    record {
+      next = record c.self.inside.state { numbers = point_sent c.self.inside.state.numbers };
+      sent = MIP c.args.confirm c.in_ok-number.number.number c.args.user_data.now;
+    } in
     sent_short c.self.inside.state k x c.in_ok-number.ensures.ok
 
 pub returns-in-Ok-clause-planned : goal.returns-in-Ok-clause-planned
 unfolding words_sent
 returns-in-Ok-clause-planned c =
     let x : Step =
-        record { next = record c.self.inside.state { numbers = point_sent c.self.inside.state.numbers };
-        sent = MIP c.args.confirm c.in_ok-number.number.number c.args.user_data.now } in
+    record {
+      next = record c.self.inside.state { numbers = point_sent c.self.inside.state.numbers };
+      sent = MIP c.args.confirm c.in_ok-number.number.number c.args.user_data.now;
+    } in
     point_planned c.args.self.now c.self.inside.state (option_and_then unit_in c.self.inside.waiting) c.self.inside.joined
     (record { sent = c.in-Ok.sent; point = point.Minor c.in_ok-number.number }) c.args.confirm c.args.user_data.now x
     c.self.view_is (eq-eqb _ _ c.in_ok-number.ensures.number) c.in_ok-number.ensures.ok c.self.invariant.0 c.in-Ok.ensures
@@ -27,7 +31,9 @@ pub returns-in-Err-clause-refused : goal.returns-in-Err-clause-refused
 returns-in-Err-clause-refused c =
     let k : Call = Minor c.args.confirm c.args.user_data.now in
     let x : Step =
-        record { next = record c.self.inside.state { numbers = point_sent c.self.inside.state.numbers };
-        sent = MIP c.args.confirm c.in_ok-number.number.number c.args.user_data.now } in
+    record {
+      next = record c.self.inside.state { numbers = point_sent c.self.inside.state.numbers };
+      sent = MIP c.args.confirm c.in_ok-number.number.number c.args.user_data.now;
+    } in
     point_passes c.args.self.now c.self.inside.state (option_and_then unit_in c.self.inside.waiting) c.self.inside.joined k x c.self.view_is
-        c.in_ok-number.ensures.ok
+    c.in_ok-number.ensures.ok

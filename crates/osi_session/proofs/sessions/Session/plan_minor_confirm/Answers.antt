@@ -12,8 +12,10 @@ unfolding user_data_of
 minor_ack-requires c =
     let k : Call = MinorConfirm c.args.number c.args.user_data.now in
     let x : Step =
-        record { next = record c.self.inside.state { numbers = minor_confirmed c.args.number c.self.inside.state.numbers };
-        sent = MIA c.in_ok-serial.serial.number c.args.user_data.now } in
+    record {
+      next = record c.self.inside.state { numbers = minor_confirmed c.args.number c.self.inside.state.numbers };
+      sent = MIA c.in_ok-serial.serial.number c.args.user_data.now;
+    } in
     sent_short c.self.inside.state k x c.in_ok-serial.ensures.ok
 
 pub returns-in-Ok-clause-planned : goal.returns-in-Ok-clause-planned
@@ -21,21 +23,25 @@ unfolding words_sent
 returns-in-Ok-clause-planned c =
     let p : PlannedPoint = record { sent = c.in-Ok.sent; point = point.Confirmation c.in_ok-serial.serial } in
     let x : Step =
-        record { next = record c.self.inside.state { numbers = minor_confirmed c.args.number c.self.inside.state.numbers };
-        sent = MIA c.in_ok-serial.serial.number c.args.user_data.now } in
+    record {
+      next = record c.self.inside.state { numbers = minor_confirmed c.args.number c.self.inside.state.numbers };
+      sent = MIA c.in_ok-serial.serial.number c.args.user_data.now;
+    } in
     let same : c.in_ok-serial.serial.number ≡ c.args.number = c.in_ok-serial.ensures.number in
     subst (λ (n : ℕ). PlansPoint c.args.self.now (MinorConfirm n c.args.user_data.now) p) same
     (point_planned c.args.self.now c.self.inside.state (option_and_then unit_in c.self.inside.waiting) c.self.inside.joined p true
-        c.args.user_data.now x
+    c.args.user_data.now x
     c.self.view_is refl
-        (subst (λ (n : ℕ). allowed c.self.inside.state (MinorConfirm n c.args.user_data.now) ≡ Ok x) (sym same) c.in_ok-serial.ensures.ok)
+    (subst (λ (n : ℕ). allowed c.self.inside.state (MinorConfirm n c.args.user_data.now) ≡ Ok x) (sym same) c.in_ok-serial.ensures.ok)
     c.self.invariant.0 c.in-Ok.ensures)
 
 pub returns-in-Err-clause-refused : goal.returns-in-Err-clause-refused
 returns-in-Err-clause-refused c =
     let k : Call = MinorConfirm c.args.number c.args.user_data.now in
     let x : Step =
-        record { next = record c.self.inside.state { numbers = minor_confirmed c.args.number c.self.inside.state.numbers };
-        sent = MIA c.in_ok-serial.serial.number c.args.user_data.now } in
+    record {
+      next = record c.self.inside.state { numbers = minor_confirmed c.args.number c.self.inside.state.numbers };
+      sent = MIA c.in_ok-serial.serial.number c.args.user_data.now;
+    } in
     point_passes c.args.self.now c.self.inside.state (option_and_then unit_in c.self.inside.waiting) c.self.inside.joined k x c.self.view_is
-        c.in_ok-serial.ensures.ok
+    c.in_ok-serial.ensures.ok

@@ -14,7 +14,7 @@ settle-requires c =
     let l : Listener = c.args.self.now in
     let words : Words = said_by_units (units_of c.args.group.now) in
     let x = leaves_by (λ t. respond_tsdu t words) l c.self.inside.state (option_and_then unit_in c.self.inside.waiting) c.self.inside.joined
-        (option_copied c.as_ref.result) c.in-Ok.reactions c.self.view_is c.as_ref.ensures.value c.in-Ok.ensures.heard
+    (option_copied c.as_ref.result) c.in-Ok.reactions c.self.view_is c.as_ref.ensures.value c.in-Ok.ensures.heard
     c.self.invariant.0 c.self.invariant.3 c.self.invariant.4 (λ h. leaves_words l words h (units_numbered (units_of c.args.group.now))) in
     record { sound = x.sound; begun = x.begun; ordered = c.in-Ok.ensures.ordered; kept = x.phase; few = x.few }
 
@@ -23,15 +23,15 @@ returns-in-Ok c =
     let l : Listener = c.args.self.now in
     let words : Words = said_by_units (units_of c.args.group.now) in
     let e = heard_by (λ t. respond_tsdu t words) l c.self.inside.state (option_and_then unit_in c.self.inside.waiting) c.self.inside.joined
-        (option_copied c.as_ref.result) c.in-Ok.reactions c.self.view_is c.as_ref.ensures.value c.in-Ok.ensures.heard in
+    (option_copied c.as_ref.result) c.in-Ok.reactions c.self.view_is c.as_ref.ensures.value c.in-Ok.ensures.heard in
     takes_as c.settle.result (moved l (hearing_of_all l.joined c.in-Ok.reactions)) _ l c.settle.new.self
-        (sym (taken_is l words (hearing_of_all l.joined c.in-Ok.reactions) (sym e))) c.settle.ensures
+    (sym (taken_is l words (hearing_of_all l.joined c.in-Ok.reactions) (sym e))) c.settle.ensures
 
 pub returns-in-Err : goal.returns-in-Err
 returns-in-Err c =
     let l : Listener = c.args.self.now in
     let words : Words = said_by_units (units_of c.args.group.now) in
     takes_nothing c.in-Err.error l l _ refl
-        (subst (λ (m : Move). takes_memory l m ≡ true) (sym (taken_is l words (respond_tsdu (taker_of l) words) refl))
+    (subst (λ (m : Move). takes_memory l m ≡ true) (sym (taken_is l words (respond_tsdu (taker_of l) words) refl))
     (room_by (λ t. respond_tsdu t words) l c.self.inside.state (option_and_then unit_in c.self.inside.waiting) c.self.inside.joined
-        (option_copied c.as_ref.result) c.self.view_is c.as_ref.ensures.value c.in-Err.ensures.err))
+    (option_copied c.as_ref.result) c.self.view_is c.as_ref.ensures.value c.in-Err.ensures.err))

@@ -9,21 +9,21 @@ pub settle-requires : goal.settle-requires
 settle-requires c =
     let l : Listener = c.args.self.now in
     let e = of_heard l.joined c.of.result c.of-heard.result (respond_came (taker_of l) (Err c.args.fault)) c.of.ensures.outcome
-        c.of.ensures.joined
+    c.of.ensures.joined
     (c.of-heard.ensures l.joined ∙
-        ap (heard l.joined) (c.judge_unread.ensures ∙ ap (λ (s : Listener). respond_fault s.state c.args.fault) c.self.view_is)) in
+    ap (heard l.joined) (c.judge_unread.ensures ∙ ap (λ (s : Listener). respond_fault s.state c.args.fault) c.self.view_is)) in
     let h : Holds l = holds l c.self.inside.state (option_and_then unit_in c.self.inside.waiting) c.self.inside.joined c.self.view_is
     c.self.invariant.0 c.self.invariant.3 c.self.invariant.4 in
     let x = leaves_as l (hearing_of_all l.joined c.of.result) (respond_came (taker_of l) (Err c.args.fault)) e
-        (leaves_fault l c.args.fault h) in
+    (leaves_fault l c.args.fault h) in
     record { sound = x.sound; begun = x.begun; ordered = (λ n. c.of.ensures.ordered); kept = x.phase; few = x.few }
 
 pub returns : goal.returns
 returns c =
     let l : Listener = c.args.self.now in
     let e = of_heard l.joined c.of.result c.of-heard.result (respond_came (taker_of l) (Err c.args.fault)) c.of.ensures.outcome
-        c.of.ensures.joined
+    c.of.ensures.joined
     (c.of-heard.ensures l.joined ∙
-        ap (heard l.joined) (c.judge_unread.ensures ∙ ap (λ (s : Listener). respond_fault s.state c.args.fault) c.self.view_is)) in
+    ap (heard l.joined) (c.judge_unread.ensures ∙ ap (λ (s : Listener). respond_fault s.state c.args.fault) c.self.view_is)) in
     takes_as c.settle-2.result (moved l (hearing_of_all l.joined c.of.result)) _ l c.settle-2.new.self
     (ap (moved l) e ∙ sym (of_fault l c.args.fault)) c.settle-2.ensures

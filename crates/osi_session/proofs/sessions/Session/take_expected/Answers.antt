@@ -10,11 +10,13 @@ pub returns-clause-taken : goal.returns-clause-taken
 returns-clause-taken c = elim c.match-copy.branch [
   | in-Ok w ↦ rw w.result-is
       (point_shows c.args.self.now c.self.inside.state (option_and_then unit_in c.self.inside.waiting) c.self.inside.joined c.is_some.result
-      c.self.inside.state.numbers (indication.Data w.in-Ok.user_data) (said_at c.args.tsdu.now) c.self.view_is c.is_some.ensures
-      (c.if-is_some.false, unit_comes c.self.inside.state (DT c.in-Some.user_data.now) c.self.inside.state.numbers
-          (Data c.in-Some.user_data.now) (said_at c.args.tsdu.now) c.in-Some.ensures.said
-          (c.expects_data.ensures c.in-Some.user_data.now c.if-not-expects_data.false) ∙
-          ap (λ (o : List ℕ). heard None (shows c.self.inside.state (Data o))) (sym w.in-Ok.ensures))
+      c.self.inside.state.numbers (indication.Data w.in-Ok.user_data) (said_at c.args.tsdu.now) c.self.view_is c.is_some.ensures (
+        c.if-is_some.false,
+        unit_comes c.self.inside.state (DT c.in-Some.user_data.now) c.self.inside.state.numbers
+            (Data c.in-Some.user_data.now) (said_at c.args.tsdu.now) c.in-Some.ensures.said
+            (c.expects_data.ensures c.in-Some.user_data.now c.if-not-expects_data.false) ∙
+            ap (λ (o : List ℕ). heard None (shows c.self.inside.state (Data o))) (sym w.in-Ok.ensures),
+      )
       ∙ ap (λ (l : Listener). only_shows l (Data w.in-Ok.user_data)) c.self.view_is)
   | in-Err w ↦ rw w.result-is tt
 ]
@@ -25,9 +27,11 @@ returns-clause-memory c = elim c.match-copy.branch [
   | in-Err w ↦ rw w.result-is
       (let e = point_shows c.args.self.now c.self.inside.state (option_and_then unit_in c.self.inside.waiting) c.self.inside.joined
       c.is_some.result c.self.inside.state.numbers (indication.Data c.in-Some.user_data.now) (said_at c.args.tsdu.now) c.self.view_is
-      c.is_some.ensures
-      (c.if-is_some.false, unit_comes c.self.inside.state (DT c.in-Some.user_data.now) c.self.inside.state.numbers
-      (Data c.in-Some.user_data.now) (said_at c.args.tsdu.now) c.in-Some.ensures.said
-      (c.expects_data.ensures c.in-Some.user_data.now c.if-not-expects_data.false)) in
+      c.is_some.ensures (
+        c.if-is_some.false,
+        unit_comes c.self.inside.state (DT c.in-Some.user_data.now) c.self.inside.state.numbers
+            (Data c.in-Some.user_data.now) (said_at c.args.tsdu.now) c.in-Some.ensures.said
+            (c.expects_data.ensures c.in-Some.user_data.now c.if-not-expects_data.false),
+      ) in
       subst (λ (m : Move). takes_memory c.args.self.now m ≡ true) (sym e) refl)
 ]

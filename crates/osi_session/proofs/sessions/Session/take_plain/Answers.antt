@@ -15,6 +15,6 @@ pub returns-in_default-unit : goal.returns-in_default-unit
 returns-in_default-unit c =
     let l : Listener = c.args.self.now in
     tries_as (Ok c.take_point.result) (moved l (respond_word (taker_of l) (plain_word c.in-Some.unit))) (react l (came c.args.tsdu.now)) l
-        c.take_point.new.self
+    c.take_point.new.self
     (came_plain l c.args.tsdu.now c.in-Some.unit c.in-Some.ensures.said)
     (record { taken = c.take_point.ensures; err = tt; memory = tt })

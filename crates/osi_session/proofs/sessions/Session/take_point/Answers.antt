@@ -7,7 +7,7 @@ invariant_of-self c = (
   point_leaves c.self.inside.state (option_and_then unit_in c.self.inside.waiting) c.self.inside.joined c.is_some.result
       c.in-Some.expected.numbers c.in-Some.expected.shown
       (plain_word c.args.unit) (plain_numbered c.args.unit) c.is_some.ensures c.in-Some.ensures c.self.invariant.0 c.self.invariant.3
-          c.self.invariant.4,
+      c.self.invariant.4,
   c.self.invariant.1,
   c.self.invariant.2,
   c.self.invariant.3,
@@ -17,4 +17,4 @@ invariant_of-self c = (
 pub returns : goal.returns
 returns c = word_shows c.args.self.now c.self.inside.state (option_and_then unit_in c.self.inside.waiting) c.self.inside.joined
     c.is_some.result c.in-Some.expected.numbers c.in-Some.expected.shown (plain_word c.args.unit) c.self.view_is c.is_some.ensures
-        c.in-Some.ensures
+    c.in-Some.ensures

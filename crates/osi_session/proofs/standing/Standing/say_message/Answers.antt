@@ -7,6 +7,6 @@ use Rattle.osi_session.proofs.standing.Standing.say_message.Goals as goal
 pub returns : goal.returns
 returns c =
     said_by_message c.args.self.now c.goes.result c.self.inside.state c.in_ok-next.next (meant_by c.args.message.now) c.has_no_effect.result
-        c.is_misplaced.result
+    c.is_misplaced.result
     (ap (λ (s : Seen). s.state) c.self.view_is) c.has_no_effect.ensures c.if-has_no_effect.false c.is_misplaced.ensures
-        c.if-is_misplaced.false c.in_ok-next.ensures c.goes.ensures
+    c.if-is_misplaced.false c.in_ok-next.ensures c.goes.ensures

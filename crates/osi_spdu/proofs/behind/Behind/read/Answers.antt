@@ -19,7 +19,7 @@ returns-in_err-read_others c =
     let some : 1 ≤ length c.args.octets.now = search rules in
     let e = err_from_is_err_and c.from_residual-in_err-read_others.result c.from_residual-in_err-read_others.ensures.1 in
     rw (e.1, e.2) (others_bad 16 c.args.at c.args.octets.now (later_of c.in_ok-later.later) _ (omega arith) some c.in_ok-later.ensures.value
-        c.in_err-read_others.ensures.refused)
+    c.in_err-read_others.ensures.refused)
 
 pub invariant_of-result-clause-left : goal.invariant_of-result-clause-left
 invariant_of-result-clause-left c = c.in_ok-read_others.ensures.left
@@ -28,4 +28,4 @@ pub returns : goal.returns
 returns c =
     let some : 1 ≤ length c.args.octets.now = search rules in
     others_read 16 c.args.at c.args.octets.now (later_of c.in_ok-later.later) (omega arith) some c.in_ok-later.ensures.value
-        c.in_ok-read_others.ensures.left
+    c.in_ok-read_others.ensures.left

@@ -43,7 +43,7 @@ returns-clause-steps c =
     let some : 1 ≤ length s.rest.now = search rules in
     ap (λ o. units_from o (left_at s.room s.at s.rest.now)) c.in_ok-unit.was
     ∙ ap (λ us. said_by c.in_ok-unit.unit ∷ us)
-        (left_goes s.room s.at s.rest.now (later_of c.in-Ok.later) some s.left c.in-Ok.ensures.value).given
+    (left_goes s.room s.at s.rest.now (later_of c.in-Ok.later) some s.left c.in-Ok.ensures.value).given
 
 pub returns-clause-goes : goal.returns-clause-goes
 returns-clause-goes c =

@@ -12,7 +12,7 @@ pub returns-then-is_empty : goal.returns-then-is_empty
 returns-then-is_empty c =
     let v = octets_of c.in_ok-value.value in
     sym (known_empty c.args.self.now c.args.code v (sym c.in_ok-value.ensures) (sym c.is_user_data.ensures ∙ c.if-is_user_data.true)
-        (eqb-true (length v) 0 (sym c.is_empty.ensures ∙ c.if-is_empty.true)))
+    (eqb-true (length v) 0 (sym c.is_empty.ensures ∙ c.if-is_empty.true)))
 
 pub returns : goal.returns
 returns c =

@@ -17,7 +17,7 @@ returns c =
     let some : place_of c.args.reference c.args.self.now ≡ Some c.in-Some.place = sym c.find.ensures ∙ c.in-Some.is in
     let here = c.index_mut.ensures.value ∙ ap (λ (l : Rows Line). get_or l c.in-Some.place row) c.self.view_is in
     given_rows c.args.reference c.args.self.now c.self.inside.rows.items c.in-Some.place row c.give_up.new.self some here c.self.view_is
-        c.give_up.ensures
+    c.give_up.ensures
 
 pub invariant_of-self : goal.invariant_of-self
 invariant_of-self c = (

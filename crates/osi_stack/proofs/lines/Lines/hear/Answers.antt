@@ -20,15 +20,17 @@ returns-clause-ok c =
     let some : place_of c.args.reference c.args.self.now ≡ Some c.in-Some.place = sym c.find.ensures ∙ c.in-Some.is in
     let here = c.index_mut-line.ensures.value ∙ ap (λ (l : Rows Line). get_or l c.in-Some.place row) c.self.view_is in
     let eq : c.if-waits.self-inside.rows.items ≡ set c.self.inside.rows.items c.in-Some.place c.hear-result.new.self =
-    elim c.if-waits.branch
-        [ then-waits+then-not-waited w ↦ ap (λ (x : Inside). x.rows.items) w.self-inside-is | else-waits w ↦ ap
-        (λ (x : Inside). x.rows.items) w.self-inside-is ] in
+    elim c.if-waits.branch [
+      | then-waits+then-not-waited w ↦ ap (λ (x : Inside). x.rows.items) w.self-inside-is
+      | else-waits w ↦ ap
+          (λ (x : Inside). x.rows.items) w.self-inside-is
+    ] in
     subst (λ (l : Rows Line). OnOk c.hear-result.result
-        (record { carrier = c.hear-result.new.carrier.state; lines = l } ≡ to_session c.args.reference (told_input c.args.told)
-        (record { carrier = c.args.carrier.now.state; lines = c.args.self.now })))
+    (record { carrier = c.hear-result.new.carrier.state; lines = l } ≡ to_session c.args.reference (told_input c.args.told)
+    (record { carrier = c.args.carrier.now.state; lines = c.args.self.now })))
     (sym eq)
     (heard_rows c.hear-result.result c.args.reference c.args.self.now c.self.inside.rows.items c.in-Some.place row c.hear-result.new.self
-        c.args.carrier.now c.hear-result.new.carrier
+    c.args.carrier.now c.hear-result.new.carrier
     (told_input c.args.told) some here c.self.view_is c.hear-result.ensures.ok c.hear-result.ensures.carrier)
 
 pub returns-clause-lost : goal.returns-clause-lost
@@ -37,12 +39,14 @@ returns-clause-lost c =
     let some : place_of c.args.reference c.args.self.now ≡ Some c.in-Some.place = sym c.find.ensures ∙ c.in-Some.is in
     let here = c.index_mut-line.ensures.value ∙ ap (λ (l : Rows Line). get_or l c.in-Some.place row) c.self.view_is in
     let eq : c.if-waits.self-inside.rows.items ≡ set c.self.inside.rows.items c.in-Some.place c.hear-result.new.self =
-    elim c.if-waits.branch
-        [ then-waits+then-not-waited w ↦ ap (λ (x : Inside). x.rows.items) w.self-inside-is | else-waits w ↦ ap
-        (λ (x : Inside). x.rows.items) w.self-inside-is ] in
+    elim c.if-waits.branch [
+      | then-waits+then-not-waited w ↦ ap (λ (x : Inside). x.rows.items) w.self-inside-is
+      | else-waits w ↦ ap
+          (λ (x : Inside). x.rows.items) w.self-inside-is
+    ] in
     subst (λ (l : Rows Line). OnErr c.hear-result.result (all_lost l ≡ all_lost c.args.self.now)) (sym eq)
     (stopped_rows c.hear-result.result c.args.reference c.args.self.now c.self.inside.rows.items c.in-Some.place row c.hear-result.new.self
-        some here c.self.view_is c.hear-result.ensures.lost)
+    some here c.self.view_is c.hear-result.ensures.lost)
 
 pub returns-clause-needed : goal.returns-clause-needed
 returns-clause-needed c =
@@ -50,7 +54,7 @@ returns-clause-needed c =
     let some : place_of c.args.reference c.args.self.now ≡ Some c.in-Some.place = sym c.find.ensures ∙ c.in-Some.is in
     let here = c.index_mut-line.ensures.value ∙ ap (λ (l : Rows Line). get_or l c.in-Some.place row) c.self.view_is in
     needs_at c.hear-result.result c.args.reference c.args.self.now c.in-Some.place row (told_input c.args.told) c.args.carrier.now.state
-        some here c.hear-result.ensures.needed
+    some here c.hear-result.ensures.needed
 
 pub overflow_add-self : goal.overflow_add-self
 overflow_add-self c =
@@ -58,7 +62,7 @@ overflow_add-self c =
     let some : place_of c.args.reference c.args.self.now ≡ Some c.in-Some.place = sym c.find.ensures ∙ c.in-Some.is in
     let here = c.index_mut-line.ensures.value ∙ ap (λ (l : Rows Line). get_or l c.in-Some.place row) c.self.view_is in
     let less = room_of c.args.reference c.args.self.now c.self.inside.rows.items c.in-Some.place row c.self.inside.waiting
-        (length c.self.inside.rows.items) some here c.self.view_is
+    (length c.self.inside.rows.items) some here c.self.view_is
     c.self.invariant.0 refl (sym c.waits-waited.ensures ∙ c.if-not-waited.true) in
     let len = c.self.inside.rows.ok in
     let small = c.self.inside.rows.small in
@@ -70,20 +74,20 @@ pub invariant_of-self : goal.invariant_of-self
 invariant_of-self c =
     let row = c.index_mut-line.result.now in
     let some : place_of c.args.reference c.self.inside.rows.items ≡ Some c.in-Some.place =
-        ap (λ (l : Rows Line). place_of c.args.reference l) c.self.view_is ∙ sym c.find.ensures ∙ c.in-Some.is in
+    ap (λ (l : Rows Line). place_of c.args.reference l) c.self.view_is ∙ sym c.find.ensures ∙ c.in-Some.is in
     let within = (placed c.args.reference c.self.inside.rows.items c.in-Some.place row some).within in
     let stays = (λ (h : c.waits-waited.result ≡ true). c.waits.ensures
     ∙ heard_stays c.hear-result.result row c.hear-result.new.self (told_input c.args.told) c.hear-result.ensures.ok
-        c.hear-result.ensures.lost (sym c.waits-waited.ensures ∙ h)) in
+    c.hear-result.ensures.lost (sym c.waits-waited.ensures ∙ h)) in
     elim c.if-waits.branch [
       | then-waits+then-not-waited w ↦ subst (λ (x : Inside). AreKept x.waiting x.rises x.rows.items) (sym w.self-inside-is)
           (set_kept c.self.inside.waiting (c.self.inside.waiting + 1) c.self.inside.rises false true c.self.inside.rows.items
-              c.in-Some.place row c.hear-result.new.self
+          c.in-Some.place row c.hear-result.new.self
           c.self.invariant c.index_mut-line.ensures.value within c.hear-result.ensures.reference
           (sym w.if-not-waited.true ∙ c.waits-waited.ensures) (sym w.if-waits.true ∙ c.waits.ensures) (omega arith))
       | else-waits w ↦ subst (λ (x : Inside). AreKept x.waiting x.rises x.rows.items) (sym w.self-inside-is)
           (set_kept c.self.inside.waiting c.self.inside.waiting c.self.inside.rises c.waits-waited.result c.waits.result
-              c.self.inside.rows.items c.in-Some.place row c.hear-result.new.self
+          c.self.inside.rows.items c.in-Some.place row c.hear-result.new.self
           c.self.invariant c.index_mut-line.ensures.value within c.hear-result.ensures.reference
           c.waits-waited.ensures c.waits.ensures
           (elim w.else-waits.branch [

@@ -9,13 +9,13 @@ use Rattle.osi_stack.proofs.lines.Lines.next.Goals as goal
 pub returns-in_default-clause-shown : goal.returns-in_default-clause-shown
 returns-in_default-clause-shown c =
     let none = ap (position (λ (row : ℕ × Line). line_waits row.1)) (sym (c.as_slice.ensures.value ∙ c.self.view_is)) ∙
-        sym c.first_place.ensures ∙ c.in_default.is in
+    sym c.first_place.ensures ∙ c.in_default.is in
     sym (none_waits c.args.self.now none).shown
 
 pub returns-in_default-clause-rest : goal.returns-in_default-clause-rest
 returns-in_default-clause-rest c =
     let none = ap (position (λ (row : ℕ × Line). line_waits row.1)) (sym (c.as_slice.ensures.value ∙ c.self.view_is)) ∙
-        sym c.first_place.ensures ∙ c.in_default.is in
+    sym c.first_place.ensures ∙ c.in_default.is in
     sym (none_waits c.args.self.now none).rest
 
 pub returns-in_default-pop_front : goal.returns-in_default-pop_front
@@ -29,30 +29,30 @@ pub returns-clause-shown : goal.returns-clause-shown
 returns-clause-shown c =
     let row = c.index_mut-line.result.now in
     let line : Line =
-        record { session = c.line.inside.session; waiting = []; selectors = option_map session_selectors c.line.inside.selectors } in
+    record { session = c.line.inside.session; waiting = []; selectors = option_map session_selectors c.line.inside.selectors } in
     let new : ℕ × Line = (c.line.inside.reference, record line { waiting = map shown_by c.pop_front.new.self.items }) in
     let some = ap (position (λ (row : ℕ × Line). line_waits row.1)) (sym (c.as_slice.ensures.value ∙ c.self.view_is)) ∙
-        sym c.first_place.ensures ∙ c.in-Some.is in
+    sym c.first_place.ensures ∙ c.in-Some.is in
     let here = c.index_mut-line.ensures.value ∙ ap (λ (l : Rows Line). get_or l c.in-Some.place row) c.self.view_is in
     let told = subst (λ (x : ℕ × Line). TellsOf (Some (shown_by c.in-Some-pop_front.indication)) x new) c.line.view_is
     (ap (λ (l : List Indication). (c.line.inside.reference, record line { waiting = map shown_by l })) c.in-Some-pop_front.ensures.items) in
     ap (λ n. Some (n, shown_by c.in-Some-pop_front.indication)) c.reference-reference.ensures
     ∙ sym (told_first c.args.self.now c.self.inside.rows.items c.in-Some.place row new (shown_by c.in-Some-pop_front.indication) some here
-        c.self.view_is told).first
+    c.self.view_is told).first
 
 pub returns-clause-rest : goal.returns-clause-rest
 returns-clause-rest c =
     let row = c.index_mut-line.result.now in
     let line : Line =
-        record { session = c.line.inside.session; waiting = []; selectors = option_map session_selectors c.line.inside.selectors } in
+    record { session = c.line.inside.session; waiting = []; selectors = option_map session_selectors c.line.inside.selectors } in
     let new : ℕ × Line = (c.line.inside.reference, record line { waiting = map shown_by c.pop_front.new.self.items }) in
     let some = ap (position (λ (row : ℕ × Line). line_waits row.1)) (sym (c.as_slice.ensures.value ∙ c.self.view_is)) ∙
-        sym c.first_place.ensures ∙ c.in-Some.is in
+    sym c.first_place.ensures ∙ c.in-Some.is in
     let here = c.index_mut-line.ensures.value ∙ ap (λ (l : Rows Line). get_or l c.in-Some.place row) c.self.view_is in
     let told = subst (λ (x : ℕ × Line). TellsOf (Some (shown_by c.in-Some-pop_front.indication)) x new) c.line.view_is
     (ap (λ (l : List Indication). (c.line.inside.reference, record line { waiting = map shown_by l })) c.in-Some-pop_front.ensures.items) in
     let rest = (told_first c.args.self.now c.self.inside.rows.items c.in-Some.place row new (shown_by c.in-Some-pop_front.indication) some
-        here c.self.view_is told).rest in
+    here c.self.view_is told).rest in
     elim c.if-not-waits.branch [ then-not-waits w ↦ w.self-is ∙ rest | else-not-waits w ↦ w.self-is ∙ rest ]
 
 pub returns-then-self-eq0-clause-shown : goal.returns-then-self-eq0-clause-shown
@@ -72,7 +72,7 @@ invariant_of-self-then-not-waits c =
     set_kept c.self.inside.waiting (c.self.inside.waiting - 1) c.self.inside.rises true false c.self.inside.rows.items c.in-Some.place row _
     c.self.invariant c.index_mut-line.ensures.value first.within (ap (λ (x : ℕ × Line). x.0) c.line.view_is)
     (sym (ap (λ (x : ℕ × Line). line_waits x.1) c.index_mut-line.ensures.value ∙ first.waits)) (sym c.if-not-waits.true ∙ c.waits.ensures)
-        (omega arith)
+    (omega arith)
 
 pub invariant_of-self-else-not-waits : goal.invariant_of-self-else-not-waits
 invariant_of-self-else-not-waits c =
@@ -82,4 +82,4 @@ invariant_of-self-else-not-waits c =
     set_kept c.self.inside.waiting c.self.inside.waiting c.self.inside.rises true true c.self.inside.rows.items c.in-Some.place row _
     c.self.invariant c.index_mut-line.ensures.value first.within (ap (λ (x : ℕ × Line). x.0) c.line.view_is)
     (sym (ap (λ (x : ℕ × Line). line_waits x.1) c.index_mut-line.ensures.value ∙ first.waits)) (sym c.if-not-waits.false ∙ c.waits.ensures)
-        refl
+    refl

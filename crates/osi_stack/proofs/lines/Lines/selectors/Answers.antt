@@ -14,4 +14,4 @@ returns c =
     let some : place_of c.args.reference c.args.self.now ≡ Some c.in-Some.place = sym c.find-place.ensures ∙ c.in-Some.is in
     let here = c.index.ensures ∙ ap (λ (l : Rows Line). get_or l c.in-Some.place row) c.self.view_is in
     c.selectors.ensures ∙
-        sym (ap selectors_in (here_is c.args.reference c.args.self.now c.args.self.now c.in-Some.place row some here refl))
+    sym (ap selectors_in (here_is c.args.reference c.args.self.now c.args.self.now c.in-Some.place row some here refl))

@@ -12,11 +12,11 @@ invariant_of-self c =
     settled_by c.call.result old new
     (record old { end = to_session c.args.reference.0 (called (called_by c.args.request)) old.end })
     (called_ok c.call.result old new (to_session c.args.reference.0 (called (called_by c.args.request)) old.end) c.call.ensures.ok
-        c.call.ensures.held)
+    c.call.ensures.held)
     (called_err c.call.result c.self.inside.carrier c.call.new.carrier c.self.inside.lines c.call.new.self c.call.ensures.err)
-        c.self.invariant
+    c.self.invariant
     (c.an_end_is_settled_between_calls.ensures.called c.args.reference.0 (called_by c.args.request) old.end (request_small c.args.request)
-        c.self.invariant)
+    c.self.invariant)
 
 pub returns : goal.returns
 returns c =
@@ -27,7 +27,7 @@ returns c =
     let laws = c.a_call_of_a_settled_end_is_answered_by_its_session.ensures in
     let a = subst (λ (x : Holding). IsAnswered c.call.result r call x.end) c.self.view_is
     (answered_there c.call.result r call old.end (ap (λ (x : Holding). has_given r x.end.carrier) c.self.view_is ∙ sym c.has_given.ensures ∙
-        c.if-not-has_given.false) c.self.invariant (laws.answered r call old.end (request_small c.args.request) c.self.invariant)
+    c.if-not-has_given.false) c.self.invariant (laws.answered r call old.end (request_small c.args.request) c.self.invariant)
     (laws.over r call old.end c.self.invariant) c.call.ensures.allowed c.call.ensures.refused) in
     record {
       ok = subst (λ (x : Holding). OnOk c.call.result (new ≡ record x { end = to_session r (called call) x.end })) c.self.view_is

@@ -10,21 +10,21 @@ pub invariant_of-self : goal.invariant_of-self
 invariant_of-self c =
     let old = holding c.self.inside.carrier c.self.inside.lines in
     settled_by c.give_up.result old (holding c.give_up.new.carrier c.give_up.new.lines)
-        (record old { end = disconnects c.args.reference.0 old.end }) c.give_up.ensures.ok c.give_up.ensures.err
+    (record old { end = disconnects c.args.reference.0 old.end }) c.give_up.ensures.ok c.give_up.ensures.err
     c.self.invariant (c.an_end_is_settled_between_calls.ensures.disconnected c.args.reference.0 old.end c.self.invariant)
 
 pub returns-clause-ok : goal.returns-clause-ok
 returns-clause-ok c =
     subst (λ (x : Holding). OnOk c.give_up.result
-        (holding c.give_up.new.carrier c.give_up.new.lines ≡ record x { end = disconnects c.args.reference.0 x.end })) c.self.view_is
-        c.give_up.ensures.ok
+    (holding c.give_up.new.carrier c.give_up.new.lines ≡ record x { end = disconnects c.args.reference.0 x.end })) c.self.view_is
+    c.give_up.ensures.ok
 
 pub returns-clause-needed : goal.returns-clause-needed
 returns-clause-needed c = wants_memory c.give_up.result _
     (subst (λ (x : Holding). OnErr c.give_up.result (grows x.end.carrier (closed_with c.args.reference.0 128 x.end.carrier) ≡ true))
-        c.self.view_is c.give_up.ensures.needed)
+    c.self.view_is c.give_up.ensures.needed)
 
 pub returns-clause-err : goal.returns-clause-err
 returns-clause-err c =
     subst (λ (x : Holding). OnErr c.give_up.result (holding c.give_up.new.carrier c.give_up.new.lines ≡ x)) c.self.view_is
-        c.give_up.ensures.err
+    c.give_up.ensures.err

@@ -10,9 +10,9 @@ invariant_of-self c =
     let new = holding c.read-used.new.carrier c.read-used.new.lines in
     let quiet : stops old.end ≡ false =
     quiet_stops old.end (ap is_some (sym c.ended.ensures) ∙ sym c.is_some.ensures ∙ c.if-is_some.false)
-        (sym c.wait-2.ensures ∙ c.if-wait.false) in
+    (sym c.wait-2.ensures ∙ c.if-wait.false) in
     c.an_end_is_settled_between_calls.ensures.fed old new c.args.piece.now
-        (record { used = c.read-used.result; whole = waits new.end.lines })
+    (record { used = c.read-used.result; whole = waits new.end.lines })
     (feeds_of old new c.args.piece.now c.read-used.result quiet c.read-used.ensures.goes c.read-used.ensures.used
-        c.read-used.ensures.progress)
+    c.read-used.ensures.progress)
     c.self.invariant

@@ -9,4 +9,4 @@ returns-in-Some-clause-over c =
     λ over. set
     ∙ ap held_by (subst (λ (x : Holding). IsSome x.end.carrier.ended → session_at c.args.reference.0 x.end ≡ None) c.self.view_is
     (c.an_end_is_settled_between_calls.ensures.over c.args.reference.0 (holding c.self.inside.carrier c.self.inside.lines).end
-        c.self.invariant) over)
+    c.self.invariant) over)

@@ -18,7 +18,7 @@ pub units-preserved : goal.units-preserved
 units-preserved c =
     let some : 1 ≤ length c.split_at.result.1.now = search rules in
     let more = Ends-more _ _ _ _ c.units.invariant.ends c.in_ok-used.ensures.gives (omega (arith, c.split_at.ensures.back_len))
-        c.in_ok-used.ensures.least in
+    c.in_ok-used.ensures.least in
     record {
       ends = rw c.split_at.ensures.back more;
       room = omega (arith, c.units.invariant.room, c.split_at.ensures.back_len);

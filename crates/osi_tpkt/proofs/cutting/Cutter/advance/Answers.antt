@@ -1,4 +1,4 @@
-use Rattle.std.proofs.Common.{[], take, refl, vec_len, arith}
+use Rattle.std.proofs.Common.{[], refl, vec_len, arith}
 use Rattle.osi_tpkt.proofs.a_prefix_of_a_packet.{partial_not_whole}
 use Rattle.osi_tpkt.proofs.what_a_cutter_holds.{kept_sound, going_on, begins}
 use Rattle.osi_tpkt.proofs.cutting.Cutter.advance.Goals as goal

@@ -1,4 +1,3 @@
-use Rattle.std.proofs.Common.{take, vec_len}
 use Rattle.osi_tpkt.proofs.a_prefix_of_a_packet.{belonging_no_fault}
 use Rattle.osi_tpkt.proofs.what_a_cutter_holds.{kept_sound, going_on, taken_feeds, taken_sound, taken_refused, taken_lasting}
 use Rattle.osi_tpkt.proofs.cutting.Cutter.feed.Goals as goal

@@ -7,7 +7,7 @@ use Rattle.osi_tpkt.proofs.cutting.Cutter.gather.Goals as goal
 pub returns-in_default-clause-taken : goal.returns-in_default-clause-taken
 returns-in_default-clause-taken c =
     let belongs = surveyed _ (take c.self.inside.held c.self.inside.storage.items) c.args.piece.now c.in-Ok.fed
-        (ap (take c.self.inside.held) c.as_slice.ensures.value)
+    (ap (take c.self.inside.held) c.as_slice.ensures.value)
     c.in-Ok.ensures.used c.in-Ok.ensures.front c.in-Ok.ensures.whole in
     let count = length-take-le c.self.inside.held c.self.inside.storage.items (omega arith) in
     rw (← c.self.view_is) (
@@ -23,13 +23,13 @@ returns-in_default-clause-taken c =
 pub returns-then-fed-clause-taken : goal.returns-then-fed-clause-taken
 returns-then-fed-clause-taken c =
     let belongs = surveyed _ (take c.self.inside.held c.self.inside.storage.items) c.args.piece.now c.in-Ok.fed
-        (ap (take c.self.inside.held) c.as_slice.ensures.value)
+    (ap (take c.self.inside.held) c.as_slice.ensures.value)
     c.in-Ok.ensures.used c.in-Ok.ensures.front c.in-Ok.ensures.whole in
     rw (← c.self.view_is) (
       belongs,
       gathered c.self.inside.offset c.self.inside.held c.in-Ok.fed.used (vec_len c.self.inside.storage) (vec_len c.put.new.storage)
           (fault_of c.self.inside.offset c.self.inside.progress) c.self.inside.storage.items c.make_room.new.storage.items
-              c.put.new.storage.items
+          c.put.new.storage.items
           (take c.in-Ok.fed.used c.args.piece.now) (length-take-le c.in-Ok.fed.used c.args.piece.now c.in-Ok.ensures.used)
           c.put.ensures.octets c.make_room.ensures.octets (ap (λ (h : Held). h.fault) c.self.view_is ∙ c.requires.faultless) (omega arith),
     )
@@ -37,13 +37,13 @@ returns-then-fed-clause-taken c =
 pub returns-else-fed-clause-taken : goal.returns-else-fed-clause-taken
 returns-else-fed-clause-taken c =
     let belongs = surveyed _ (take c.self.inside.held c.self.inside.storage.items) c.args.piece.now c.in-Ok.fed
-        (ap (take c.self.inside.held) c.as_slice.ensures.value)
+    (ap (take c.self.inside.held) c.as_slice.ensures.value)
     c.in-Ok.ensures.used c.in-Ok.ensures.front c.in-Ok.ensures.whole in
     rw (← c.self.view_is) (
       belongs,
       gathered c.self.inside.offset c.self.inside.held c.in-Ok.fed.used (vec_len c.self.inside.storage) (vec_len c.put.new.storage)
           (fault_of c.self.inside.offset c.self.inside.progress) c.self.inside.storage.items c.make_room.new.storage.items
-              c.put.new.storage.items
+          c.put.new.storage.items
           (take c.in-Ok.fed.used c.args.piece.now) (length-take-le c.in-Ok.fed.used c.args.piece.now c.in-Ok.ensures.used)
           c.put.ensures.octets c.make_room.ensures.octets (ap (λ (h : Held). h.fault) c.self.view_is ∙ c.requires.faultless) (omega arith),
     )

@@ -1,4 +1,3 @@
-use Rattle.std.proofs.Common.{take, vec_len}
 use Rattle.osi_tpkt.proofs.what_a_cutter_holds.{kept_sound}
 use Rattle.osi_tpkt.proofs.cutting.Cutter.packet.Goals as goal
 

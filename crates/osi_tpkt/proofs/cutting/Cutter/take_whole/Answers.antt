@@ -10,7 +10,7 @@ pub returns-clause-taken : goal.returns-clause-taken
 returns-clause-taken c =
     taken_whole c.self.inside.offset c.in_ok-used.used (vec_len c.self.inside.storage) (vec_len c.put_first.new.storage)
     (take c.self.inside.held c.self.inside.storage.items) c.args.piece.now c.put_first.new.storage.items c.self.inside.progress
-        c.args.self.now
+    c.args.self.now
     c.in-Awaited.is c.self.invariant.1 c.self.view_is c.in_ok-used.ensures.within c.in_ok-used.ensures.front c.in_ok-used.ensures.full
     c.in_ok-used.ensures.octets c.put_first.ensures.room
 
@@ -19,4 +19,4 @@ returns-clause-sound c =
     let on = going_on _ _ _ _ _ (inl c.in-Awaited.is) c.self.invariant.1 c.self.view_is in
     let before = kept_sound _ _ _ _ _ c.self.invariant.1 c.self.view_is in
     taken_sound c.args.self.now c.args.piece.now (Ok (record { used = c.in_ok-used.used; whole = true })) _ before on.0 on.1
-        (returns-clause-taken c)
+    (returns-clause-taken c)

@@ -11,7 +11,7 @@ returns-then-not-fed-clause-begun c =
     let front : List ℕ = take c.in-Ok.fed.used octets in (
       λ _. short_whole_piece octets c.in-Ok.fed.used c.in-Ok.ensures.front
           (where_short (IsFull front) (IsUnfinished front × (c.in-Ok.fed.used ≡ length octets)) c.in-Ok.fed.whole c.if-not-fed.true
-              c.in-Ok.ensures.whole),
+          c.in-Ok.ensures.whole),
       λ _. refl,
     )
 
@@ -21,7 +21,7 @@ invariant_of-result c =
     let front : List ℕ = take c.in-Ok.fed.used octets in
     let packet = front_packet octets c.in-Ok.fed.used c.in-Ok.ensures.used c.in-Ok.ensures.front
     (where_whole (IsFull front) (IsUnfinished front × (c.in-Ok.fed.used ≡ length octets)) c.in-Ok.fed.whole c.if-not-fed.false
-        c.in-Ok.ensures.whole) in
+    c.in-Ok.ensures.whole) in
     let known : IsOctets octets = λ i. omega (arith, c.type_inv.octets i) in
     record {
       at_least = packet.at_least;
@@ -35,5 +35,5 @@ returns-clause-only c = λ v n at.
     let front : List ℕ = take c.in-Ok.fed.used octets in
     let packet = front_packet octets c.in-Ok.fed.used c.in-Ok.ensures.used c.in-Ok.ensures.front
     (where_whole (IsFull front) (IsUnfinished front × (c.in-Ok.fed.used ≡ length octets)) c.in-Ok.fed.whole c.if-not-fed.false
-        c.in-Ok.ensures.whole) in
+    c.in-Ok.ensures.whole) in
     one_front octets (take (c.in-Ok.fed.used - 4) (drop 4 octets)) v c.in-Ok.fed.used n c.in-Ok.ensures.used at.within packet at.spelled
