@@ -3,5 +3,5 @@ mod Vocabulary
 pub mod basics
 pub mod parameters
 pub mod tsdu
-pub mod faults
+pub mod first_faults
 pub mod form

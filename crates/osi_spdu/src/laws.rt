@@ -72,7 +72,7 @@ pub fn serial_digits()
 
 /// If a unit can't be read, the fault returned is its first one. What comes before the fault is well formed: the SI,
 /// and parameters with distinct codes.
-#[tactic(auto, using(crate::proofs::faults::the_first_fault_of_a_unit::unit_fault_found, crate::proofs::faults::the_first_fault_of_a_unit::unit_fault_only))]
+#[tactic(auto, using(crate::proofs::first_faults::the_first_fault_of_a_unit::unit_fault_found, crate::proofs::first_faults::the_first_fault_of_a_unit::unit_fault_only))]
 pub fn first_fault_of_a_unit()
     ensures found { (second : Bool) (at : ℕ) (octets : List ℕ) (fault : SpduFault) → IsOctets octets →
         unit_at second at octets ≡ Err fault → IsUnitFault second at octets fault }

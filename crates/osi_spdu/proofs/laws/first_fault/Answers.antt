@@ -1,4 +1,4 @@
-use Rattle.osi_spdu.proofs.faults.the_first_fault_of_a_tsdu.{first_fault_found, first_fault_only}
+use Rattle.osi_spdu.proofs.first_faults.the_first_fault_of_a_tsdu.{first_fault_found, first_fault_only}
 use Rattle.osi_spdu.proofs.laws.first_fault.Goals as goal
 
 pub returns-clause-found : goal.returns-clause-found

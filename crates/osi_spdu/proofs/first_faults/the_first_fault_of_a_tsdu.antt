@@ -9,8 +9,8 @@ use Rattle.osi_spdu.proofs.basics.the_steps_of_reading.{bind_of}
 use Rattle.osi_spdu.proofs.basics.length_indicators.{octets-drop}
 use Rattle.osi_spdu.proofs.tsdu.units_and_tsdus_are_read.{IsUnitAt, unit_found, unit_only, second_stands, two_second, informed_none}
 use Rattle.osi_spdu.proofs.tsdu.units_and_tsdus_are_read.{informed_plain, ends_none, not_second, behind_cons}
-use Rattle.osi_spdu.proofs.faults.the_first_fault_is_returned.{failed, fault_is, never, bind_bad}
-use Rattle.osi_spdu.proofs.faults.the_first_fault_of_a_unit.{unit_end, unit_fault_found, unit_fault_only}
+use Rattle.osi_spdu.proofs.first_faults.the_first_fault_is_returned.{failed, fault_is, never, bind_bad}
+use Rattle.osi_spdu.proofs.first_faults.the_first_fault_of_a_unit.{unit_end, unit_fault_found, unit_fault_only}
 
 abbrev read : Units → Result Units SpduFault
 read units = Ok units
