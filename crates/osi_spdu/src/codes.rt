@@ -124,6 +124,7 @@ impl Code {
 }
 
 /// The code of this number, if there is one.
+#[inline(always)]
 #[tactic(auto, using(crate::proofs::parameters::a_code_is_looked_up::low_unknown, crate::proofs::parameters::a_code_is_looked_up::high_unknown), unfolding(crate::specs::Codes::number_of))]
 pub(crate) fn code_numbered(number: u8) -> Option<Code>
     ensures { result ≡ code_among every_code number }

@@ -293,7 +293,7 @@ impl Kind {
     }
 
     /// Whether the unit has the number of a synchronization point.
-    fn is_numbered(self) -> bool
+    pub(crate) fn is_numbered(self) -> bool
         ensures { result ≡ among (codes_of self) Code.Number }
     {
         matches!(
@@ -337,6 +337,7 @@ impl Kind {
     }
 
     /// The parameter or group of this number, if the unit knows it outside its groups.
+    #[inline(always)]
     #[tactic(auto, using(crate::proofs::parameters::a_code_is_looked_up::looked_up))]
     pub(crate) fn known(self, number: u8) -> Option<Code>
         ensures { result ≡ code_among (codes_of self) number }
@@ -346,6 +347,7 @@ impl Kind {
     }
 
     /// The parameter of this number, if a group of the unit knows it.
+    #[inline(always)]
     #[tactic(auto, using(crate::proofs::parameters::a_code_is_looked_up::looked_up))]
     pub(crate) fn known_in(self, group: Code, number: u8) -> Option<Code>
         ensures { result ≡ code_among (members_of self group) number }

@@ -1,18 +1,18 @@
 //! Parameters of one level: those of a unit, and those of a group within it.
 
-ghost use Rattle.std.specs.Prelude.{◌≡◌, ◌≤◌, ◌<◌, ◌+◌, ◌^◌, [], ◌∷◌, length, is_some, IfOk};
-ghost use Rattle.osi_spdu.specs.Reading.{Gives, Taking, counted_at, measured_at, parameter_at, stored, in_group, in_unit, params_of, all_there};
+ghost use Rattle.std.specs.Prelude.{◌≡◌, ◌≤◌, ◌<◌, ◌+◌, ◌^◌, [], ◌∷◌, length, is_some, if◌then◌else◌, ℕ, Ok, IfOk, IfSome};
+ghost use Rattle.osi_spdu.specs.Reading.{Gives, Taking, counted_at, long_at, measured_at, parameter_at, stored, in_group, in_unit, params_of, all_there};
 ghost use Rattle.osi_spdu.specs.Kinds.{members_of, required_of};
 ghost use Rattle.osi_spdu.specs.Known.{nothing};
-ghost use Rattle.osi_spdu.specs.Codes.{slot_of};
-ghost use Rattle.osi_spdu.specs.Values.{canonical_in};
-ghost use Rattle.osi_spdu.specs.Params.{place_of, cells_of, filled, slots_of};
+ghost use Rattle.osi_spdu.specs.Codes.{number_of, slot_of};
+ghost use Rattle.osi_spdu.specs.Params.{slots_of};
 ghost use Rattle.osi_spdu.specs.Counted.{measured_of, parameter_of};
 
 use crate::codes::Code;
 use crate::faults::SpduFault;
 use crate::kinds::Kind;
 use crate::params::Params;
+use crate::serials::Serial;
 
 /// The octets that a length indicator counts, and the octets after them.
 #[derive(Clone, Copy)]
@@ -47,8 +47,21 @@ fn counted_at<'a>(
     Ok(Counted { used, value, rest })
 }
 
+/// The octets that a length of two octets counts, after FF.
+#[tactic(auto, unfolding(crate::specs::Reading::long_at))]
+fn long_at<'a>(at: usize, octets: &'a [u8]) -> Result<Counted<'a>, SpduFault>
+    ensures value { Gives measured_of result (long_at at octets.now) }
+    ensures whole { IfOk result (λ m.
+        m.used + length m.value.now + length m.rest.now ≡ 1 + length octets.now) }
+{
+    match octets {
+        [high, low, rest @ ..] => counted_at(at, 3, 256 * *high as usize + *low as usize, rest),
+        _ => Err(SpduFault::LengthPastEnd(at)),
+    }
+}
+
 /// The octets that the length indicator at the front counts.
-#[tactic(auto, unfolding(crate::specs::Reading::measured_at, crate::specs::Reading::long_at))]
+#[tactic(auto, unfolding(crate::specs::Reading::measured_at))]
 pub(crate) fn measured_at<'a>(at: usize, octets: &'a [u8]) -> Result<Counted<'a>, SpduFault>
     ensures value { Gives measured_of result (measured_at at octets.now) }
     ensures whole { IfOk result (λ m.
@@ -56,13 +69,7 @@ pub(crate) fn measured_at<'a>(at: usize, octets: &'a [u8]) -> Result<Counted<'a>
 {
     match octets {
         [] => Err(SpduFault::LengthPastEnd(at)),
-        [255, high, low, rest @ ..] => counted_at(
-            at,
-            3,
-            256 * *high as usize + *low as usize,
-            rest,
-        ),
-        [255, ..] => Err(SpduFault::LengthPastEnd(at)),
+        [255, rest @ ..] => long_at(at, rest),
         [n, rest @ ..] => counted_at(at, 1, *n as usize, rest),
     }
 }
@@ -83,21 +90,22 @@ fn parameter_at<'a>(at: usize, octets: &'a [u8]) -> Result<Parameter<'a>, SpduFa
     })
 }
 
-/// Puts a value into its slot, or returns `None` if the value is not allowed for this code in a unit of this kind. Only
-/// a DT may have a part of user data.
-#[tactic(auto, unfolding(crate::specs::Values::canonical_in))]
-fn fill_in<'a>(params: &mut Params<'a>, kind: Kind, code: Code, value: &'a [u8]) -> Option<()>
-    ensures value { is_some result ≡ is_some (canonical_in kind code value.now) }
-    ensures cells { cells_of params.new
-        ≡ filled (cells_of params.old) (place_of (slot_of code)) (canonical_in kind code value.now) }
+/// The fault of a value that its code does not allow. If the slot has a value too, the second value is the fault.
+#[cold]
+fn refused(params: &Params, at: usize, code: Code) -> SpduFault
+    ensures { result ≡ if is_some (slots_of params.now (slot_of code))
+        then SpduFault.DuplicateParameter (number_of code) at
+        else SpduFault.BadValue (number_of code) at }
 {
-    if !kind.may_enclose(code, value) {
-        return None;
+    if params.has(code.slot()) {
+        SpduFault::DuplicateParameter(code.number(), at)
+    } else {
+        SpduFault::BadValue(code.number(), at)
     }
-    params.fill(code, value)
 }
 
 /// Puts a value into its slot, which must be free.
+#[inline(always)]
 fn store<'a>(
     params: &mut Params<'a>,
     kind: Kind,
@@ -108,12 +116,10 @@ fn store<'a>(
     ensures { Gives (λ _. slots_of params.new) result
         (stored kind at code value.now (slots_of params.old)) }
 {
-    if params.has(code.slot()) {
-        return Err(SpduFault::DuplicateParameter(code.number(), at));
-    }
-    match fill_in(params, kind, code, value) {
-        None => Err(SpduFault::BadValue(code.number(), at)),
-        Some(()) => Ok(()),
+    match params.fill(kind, code, value) {
+        None => Err(refused(params, at, code)),
+        Some(true) => Err(SpduFault::DuplicateParameter(code.number(), at)),
+        Some(false) => Ok(()),
     }
 }
 
@@ -229,6 +235,40 @@ fn some_parameters<'a>(kind: Kind, at: usize, octets: &'a [u8]) -> Result<Params
     Ok(params)
 }
 
+/// The digits of a serial number, if the octets are this parameter and nothing else.
+#[inline(always)]
+#[tactic(auto, using(crate::proofs::parameters::a_number_alone_is_read::sliced))]
+fn digits_alone(octets: &[u8]) -> Option<&[u8]>
+    ensures alone { IfSome result (λ digits. octets.now ≡ 42 ∷ length digits.now ∷ digits.now) }
+    ensures short { IfSome result (λ digits. length digits.now ≤ 6) }
+{
+    let [42, n, digits @ ..] = octets else {
+        return None;
+    };
+    if digits.len() > 6 {
+        return None;
+    }
+    if *n as usize != digits.len() {
+        return None;
+    }
+    Some(digits)
+}
+
+/// The parameters of a unit that has a serial number and nothing else, as most points and confirmations do. They are
+/// read without the loop over parameters, so that their `Params` needs no place in memory.
+#[inline(always)]
+fn number_alone<'a>(kind: Kind, octets: &[u8]) -> Option<Params<'a>>
+    ensures { IfSome result (λ params. (at : ℕ) →
+        params_of (in_unit kind) at nothing octets.now ≡ Ok (slots_of params)) }
+{
+    let digits = digits_alone(octets)?;
+    if !kind.is_numbered() {
+        return None;
+    }
+    let number = Serial::read(digits)?;
+    Some(Params::numbered(number))
+}
+
 /// The parameters and groups of a unit. Most units have none; for these no `Params` is filled.
 #[inline(always)]
 pub(crate) fn read_parameters<'a>(
@@ -241,6 +281,9 @@ pub(crate) fn read_parameters<'a>(
 {
     if octets.is_empty() {
         return Ok(Params::none());
+    }
+    if let Some(params) = number_alone(kind, octets) {
+        return Ok(params);
     }
     some_parameters(kind, at, octets)
 }

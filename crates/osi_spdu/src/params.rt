@@ -1,15 +1,16 @@
 //! The parameters of a session unit.
 
-ghost use Rattle.std.specs.Prelude.{◌≡◌, ◌==◌, true, None, Some, is_some, option_map, length, if◌then◌else◌};
+ghost use Rattle.std.specs.Prelude.{◌≡◌, ◌==◌, true, None, Some, [], ◌∷◌, is_some, option_map, set, length, if◌then◌else◌, IfSome};
 ghost use Rattle.osi_spdu.specs.Codes.{slot_of};
-ghost use Rattle.osi_spdu.specs.Values.{canonical, digits_of};
+ghost use Rattle.osi_spdu.specs.Values.{canonical_in, digits_of};
 ghost use Rattle.osi_spdu.specs.Known.{nothing, some_octets};
 ghost use Rattle.osi_spdu.specs.Octets.{octets_of};
-ghost use Rattle.osi_spdu.specs.Params.{cells_of, place_of, filled, slots_of, known_of, is_settled, present};
-ghost use Rattle.osi_spdu.specs.Fields.{token_octets, tokens_alone};
+ghost use Rattle.osi_spdu.specs.Params.{cells_of, no_params, place_of, filled, slots_of, known_of, is_settled, present};
+ghost use Rattle.osi_spdu.specs.Fields.{enclosure_octet, token_octets, tokens_alone};
 
 use crate::codes::Code;
 use crate::fields::{Enclosure, Reason, ResyncType, SyncType, TsduMaximumSize, octet_of};
+use crate::kinds::Kind;
 use crate::octets::{Short, Value};
 use crate::requirements::Requirements;
 use crate::selectors::Selector;
@@ -109,6 +110,18 @@ impl<'a> Params<'a> {
         Params::NONE
     }
 
+    /// The parameters of a unit that has a serial number and nothing else.
+    #[inline(always)]
+    #[tactic(auto, unfolding(crate::specs::Params::cells_of))]
+    pub(crate) fn numbered(number: Serial) -> Params<'a>
+        ensures { cells_of result ≡ set (cells_of no_params) 17 (Some (digits_of number.number)) }
+    {
+        Params {
+            number: Some(number),
+            ..Params::NONE
+        }
+    }
+
     /// Normalises the parameters: a token item keeps only the bits that name a token, and empty user data counts as
     /// none.
     #[inline(always)]
@@ -197,41 +210,80 @@ impl<'a> Params<'a> {
         }
     }
 
-    /// Puts the value of a parameter into its slot, or returns `None` if its code does not allow this value.
-    #[tactic(auto, unfolding(crate::specs::Params::cells_of, crate::specs::Params::place_of, crate::specs::Codes::slot_of, crate::specs::Values::canonical))]
-    pub(crate) fn fill(&mut self, code: Code, value: &'a [u8]) -> Option<()>
-        ensures value { is_some result ≡ is_some (canonical code value.now) }
+    /// Puts the value of a parameter into its slot, and returns whether there was one before. `None` if the value is
+    /// not allowed for this code in a unit of this kind.
+    #[tactic(auto, using(crate::proofs::parameters::a_slot_is_filled::has_mapped, crate::proofs::parameters::a_slot_is_filled::has_present), unfolding(crate::specs::Params::slots_of, crate::specs::Params::cells_of, crate::specs::Params::place_of, crate::specs::Codes::slot_of, crate::specs::Codes::number_of, crate::specs::Values::canonical_in, crate::specs::Values::may_enclose, crate::specs::Values::canonical))]
+    pub(crate) fn fill(&mut self, kind: Kind, code: Code, value: &'a [u8]) -> Option<bool>
+        ensures value { is_some result ≡ is_some (canonical_in kind code value.now) }
+        ensures taken { IfSome result (λ taken. taken ≡ is_some (slots_of self.old (slot_of code))) }
         ensures cells { cells_of self.new
-            ≡ filled (cells_of self.old) (place_of (slot_of code)) (canonical code value.now) }
+            ≡ filled (cells_of self.old) (place_of (slot_of code)) (canonical_in kind code value.now) }
     {
         match code {
-            Code::ConnectionIdentifier => self.connection_identifier = true,
-            Code::ConnectAcceptItem => self.connect_accept_item = true,
-            Code::CalledReference => self.called_reference = Some(value),
-            Code::CallingReference => self.calling_reference = Some(value),
-            Code::CommonReference => self.common_reference = Some(value),
-            Code::AdditionalReference => self.additional_reference = Some(value),
-            Code::SyncType => self.sync_type = Some(SyncType::read(value)?),
-            Code::TokenItem => self.token_item = Some(TokenSet::read(value)?),
-            Code::TransportDisconnect => self.transport_disconnect = Some(octet_of(value)?),
-            Code::ProtocolOptions => self.protocol_options = Some(octet_of(value)?),
-            Code::UserRequirements => self.user_requirements = Some(Requirements::read(value)?),
-            Code::TsduMaximumSize => self.tsdu_maximum_size = Some(TsduMaximumSize::read(value)?),
-            Code::Version => self.version = Some(octet_of(value)?),
-            Code::InitialNumber => self.initial_number = Some(Serial::read(value)?),
-            Code::Enclosure => self.enclosure = Some(Enclosure::read(value)?),
-            Code::TokenSetting => self.token_setting = Some(TokenSetting::read(value)?),
-            Code::ResyncType => self.resync_type = Some(ResyncType::read(value)?),
-            Code::Number => self.number = Some(Serial::read(value)?),
-            Code::Reflect => self.reflect = Some(value),
-            Code::Reason => self.reason = Some(Reason::read(value)?),
-            Code::CallingSelector => self.calling_selector = Some(Selector::read(value)?),
-            Code::CalledSelector => self.called_selector = Some(Selector::read(value)?),
-            Code::UserData => self.user_data = Some(value),
-            Code::ExtendedUserData => self.user_data = Some(value),
+            Code::ConnectionIdentifier => mark(&mut self.connection_identifier),
+            Code::ConnectAcceptItem => mark(&mut self.connect_accept_item),
+            Code::CalledReference => keep(&mut self.called_reference, value),
+            Code::CallingReference => keep(&mut self.calling_reference, value),
+            Code::CommonReference => keep(&mut self.common_reference, value),
+            Code::AdditionalReference => keep(&mut self.additional_reference, value),
+            Code::SyncType => keep(&mut self.sync_type, SyncType::read(value)?),
+            Code::TokenItem => keep(&mut self.token_item, TokenSet::read(value)?),
+            Code::TransportDisconnect => keep(&mut self.transport_disconnect, octet_of(value)?),
+            Code::ProtocolOptions => keep(&mut self.protocol_options, octet_of(value)?),
+            Code::UserRequirements => keep(&mut self.user_requirements, Requirements::read(value)?),
+            Code::TsduMaximumSize => keep(
+                &mut self.tsdu_maximum_size,
+                TsduMaximumSize::read(value)?,
+            ),
+            Code::Version => keep(&mut self.version, octet_of(value)?),
+            Code::InitialNumber => keep(&mut self.initial_number, Serial::read(value)?),
+            Code::Enclosure => keep(&mut self.enclosure, enclosure_in(kind, value)?),
+            Code::TokenSetting => keep(&mut self.token_setting, TokenSetting::read(value)?),
+            Code::ResyncType => keep(&mut self.resync_type, ResyncType::read(value)?),
+            Code::Number => keep(&mut self.number, Serial::read(value)?),
+            Code::Reflect => keep(&mut self.reflect, value),
+            Code::Reason => keep(&mut self.reason, Reason::read(value)?),
+            Code::CallingSelector => keep(&mut self.calling_selector, Selector::read(value)?),
+            Code::CalledSelector => keep(&mut self.called_selector, Selector::read(value)?),
+            Code::UserData => keep(&mut self.user_data, value),
+            Code::ExtendedUserData => keep(&mut self.user_data, value),
         }
-        Some(())
     }
+}
+
+/// The enclosure in a unit of this kind: only a DT may have a part of user data.
+#[inline(always)]
+#[tactic(auto, unfolding(crate::specs::Values::canonical_in))]
+fn enclosure_in(kind: Kind, value: &[u8]) -> Option<Enclosure>
+    ensures { canonical_in kind Code.Enclosure value.now ≡ option_map (λ e. enclosure_octet e ∷ []) result }
+{
+    if kind.may_enclose(Code::Enclosure, value) {
+        Enclosure::read(value)
+    } else {
+        None
+    }
+}
+
+/// Puts a value into a slot, and returns whether there was one before.
+#[inline(always)]
+fn keep<T: Copy>(slot: &mut Option<T>, value: T) -> Option<bool>
+    ensures taken { result ≡ Some (is_some slot.old) }
+    ensures kept { slot.new ≡ Some value }
+{
+    let taken = slot.is_some();
+    *slot = Some(value);
+    Some(taken)
+}
+
+/// Marks a group as there, and returns whether it was before.
+#[inline(always)]
+fn mark(there: &mut bool) -> Option<bool>
+    ensures taken { result ≡ Some there.old }
+    ensures marked { there.new ≡ true }
+{
+    let taken = *there;
+    *there = true;
+    Some(taken)
 }
 
 /// The tokens, without bits that name no token.

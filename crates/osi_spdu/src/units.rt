@@ -102,6 +102,10 @@ impl<'a> Spdu<'a> {
         ensures { MatchOption ((said_by self.now).known code) (result ≡ code)
             (λ value. result ≡ written_code (said_by self.now).kind code value) }
     {
+        // Only user data has two codes, so no other value has to be looked at.
+        if !code.is_user_data() {
+            return code;
+        }
         match self.value(code) {
             None => code,
             Some(value) => written_code(self.kind, code, value),

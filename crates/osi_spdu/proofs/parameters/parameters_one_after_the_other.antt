@@ -1,6 +1,6 @@
 -- Reading parameters one after the other, by a loop.
 use Rattle.std.proofs.Common.{inl, inr, ◌≡◌, ℕ, zero, suc, ◌+◌, ◌*◌, ◌<◌, ◌≤◌, true, false, ltb, eqb, List, [], ◌∷◌, length, take, drop}
-use Rattle.std.proofs.Common.{Option, Some, None, Result, Ok, Err, refl, sym, ap, subst, ◌∙◌, arith}
+use Rattle.std.proofs.Common.{Option, Some, None, Result, Ok, Err, refl, sym, ap, subst, ◌∙◌, arith, if◌then◌else◌}
 use Rattle.osi_spdu.proofs.Vocabulary.{is_some, length-drop, SpduFault, LengthPastEnd, DuplicateParameter, BadValue, Code, Kind, Params}
 use Rattle.osi_spdu.proofs.Vocabulary.{number_of, slot_of, canonical_in, Known, ◌>>=◌, Measured, counted_at, long_at, measured_at}
 use Rattle.osi_spdu.proofs.Vocabulary.{parameter_at, Taking, params_at, params_of, judged, stored, place_of, cells_of, filled, slots_of}
@@ -20,6 +20,14 @@ pub stored_bad : (kind : Kind) (at n : ℕ) (c : Code) (value : List ℕ) (known
     → stored kind at c value known ≡ Err (BadValue n at)
 unfolding stored
 stored_bad kind at n c value known h0 h1 h2 = grind arith
+
+-- nothing is stored of a bad value, so the slot says as before whether it is free
+pub stored_refused : (kind : Kind) (at : ℕ) (c : Code) (value : List ℕ) (p q : Params) (f : SpduFault) →
+    is_some (canonical_in kind c value) ≡ false → cells_of q ≡ filled (cells_of p) (place_of (slot_of c)) (canonical_in kind c value) →
+    f ≡ (if is_some (slots_of q (slot_of c)) then DuplicateParameter (number_of c) at else BadValue (number_of c) at)
+    → stored kind at c value (slots_of p) ≡ Err f
+unfolding stored slots_of
+stored_refused kind at c value p q f h0 h1 h2 = grind arith
 
 pub stored_done : (kind : Kind) (at : ℕ) (c : Code) (value : List ℕ) (p q : Params) → is_some (slots_of p (slot_of c)) ≡ false →
     is_some (canonical_in kind c value) ≡ true

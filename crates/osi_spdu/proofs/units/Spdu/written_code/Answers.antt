@@ -1,6 +1,18 @@
-use Rattle.std.proofs.Common.{◌≡◌, ℕ, List, Option, MatchOption, refl, subst}
-use Rattle.osi_spdu.specs.Writing.{written_code}
+use Rattle.std.proofs.Common.{◌≡◌, ℕ, false, List, Option, Some, None, MatchOption, refl, subst, rules}
+use Rattle.osi_spdu.proofs.Vocabulary.{is_same, Code, UserData, Kind, written_code}
 use Rattle.osi_spdu.proofs.units.Spdu.written_code.Goals as goal
+
+-- a value that is no user data has one code
+kept : (kind : Kind) (code : Code) (o : Option (List ℕ)) → is_same code UserData ≡ false →
+    MatchOption o (code ≡ code) (λ v. code ≡ written_code kind code v)
+unfolding written_code
+kept kind code None e = refl
+kept kind code (Some v) e = rw e refl
+
+pub returns-then-not-is_user_data : goal.returns-then-not-is_user_data
+returns-then-not-is_user_data c =
+    let one : is_same c.args.code UserData ≡ false = search rules in
+    kept c.args.self.now.kind c.args.code _ one
 
 pub returns-in-None : goal.returns-in-None
 returns-in-None c =
