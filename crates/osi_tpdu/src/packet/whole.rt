@@ -1,6 +1,6 @@
 //! Reading all units of a packet.
 
-ghost use Rattle.std.specs.Prelude.{◌≡◌, List, Err, IfOk, IfErr, IsOk, IsOkAnd, OnErr, MatchResult};
+ghost use Rattle.std.specs.Prelude.{◌≡◌, true, List, Err, IfOk, IfErr, IsOk, IsOkAnd, OnErr, MatchResult};
 ghost use Rattle.osi_tpdu.specs.Packet.{AreUnits, IsFirstFault, units_of};
 ghost use Rattle.osi_tpdu.specs.Reading.{ReadsAs};
 ghost use Rattle.osi_tpdu.specs.Units.{units_left};
@@ -10,9 +10,33 @@ use super::Units;
 use crate::faults::TpduFault;
 use crate::reading::read_unit;
 
+// Whether a packet is one DT, as nearly all are: then it has to be looked at no further.
+#[inline(always)]
+#[tactic(auto, using(crate::proofs::packets_of_one_dt_or_ak::data0_read, crate::proofs::packets_of_one_dt_or_ak::data2_read))]
+fn is_one_dt(packet: &[u8]) -> bool
+    ensures { result ≡ true → IsOk (units_of packet.now) }
+{
+    match packet {
+        [2, 0xF0, _, ..] => true,
+        [4, 0xF0, _, _, _, ..] => true,
+        _ => false,
+    }
+}
+
 // Reads a packet to its end, or to its first fault.
 #[inline(always)]
 fn read_to_end(packet: &[u8]) -> Result<(), TpduFault>
+    ensures { MatchResult result (λ _. IsOk (units_of packet.now)) (λ f. units_of packet.now ≡ Err f) }
+{
+    if is_one_dt(packet) {
+        return Ok(());
+    }
+    read_each(packet)
+}
+
+// Reads the units of a packet one after the other.
+#[inline(always)]
+fn read_each(packet: &[u8]) -> Result<(), TpduFault>
     ensures { MatchResult result (λ _. IsOk (units_of packet.now)) (λ f. units_of packet.now ≡ Err f) }
 {
     let mut at = 0;

@@ -1,7 +1,7 @@
 use Rattle.std.proofs.Common.{◌+◌, ◌<◌, ◌^◌, length}
 use Rattle.osi_tpdu.specs.Packet.{units_of}
 use Rattle.osi_tpdu.proofs.the_units_of_a_packet.{Ends}
-use Rattle.osi_tpdu.proofs.packet.whole.read_to_end.Given as goal
+use Rattle.osi_tpdu.proofs.packet.whole.read_each.Given as goal
 
 abbrev pub invariant-units : goal.invariant-units
 invariant-units l = record {
