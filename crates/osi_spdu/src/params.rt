@@ -212,6 +212,7 @@ impl<'a> Params<'a> {
 
     /// Puts the value of a parameter into its slot, and returns whether there was one before. `None` if the value is
     /// not allowed for this code in a unit of this kind.
+    #[inline(always)]
     #[tactic(auto, using(crate::proofs::parameters::a_slot_is_filled::has_mapped, crate::proofs::parameters::a_slot_is_filled::has_present), unfolding(crate::specs::Params::slots_of, crate::specs::Params::cells_of, crate::specs::Params::place_of, crate::specs::Codes::slot_of, crate::specs::Codes::number_of, crate::specs::Values::canonical_in, crate::specs::Values::may_enclose, crate::specs::Values::canonical))]
     pub(crate) fn fill(&mut self, kind: Kind, code: Code, value: &'a [u8]) -> Option<bool>
         ensures value { is_some result ≡ is_some (canonical_in kind code value.now) }
