@@ -47,6 +47,11 @@ def packets(stream):
     return found
 
 
+def has_disconnect_confirm(stream):
+    """Whether a direction has a DC."""
+    return any(unit[1] & 0xF0 == 0xC0 for _, _, unit in packets(stream))
+
+
 def whole(stream):
     """A direction up to the end of its last whole TSDU."""
     ends = [end for _, end, unit in packets(stream) if unit[1] & 0xF0 != 0xF0 or unit[2] & 0x80]
@@ -122,8 +127,6 @@ FIRST = re.compile(r"^(left|right) (?:broke the protocol|leaves the profile) fir
 # What is not compared of a unit of a foreign end: the protocol options of a CN or AC, and what a CN offers and its addresses.
 OPTIONS = re.compile(r"(?<= 5\()19=\w+ ")
 OFFERED = re.compile(r"(?<=    CN )(.*?)( 20=\w+)?( 51=\w*)?( 52=\w*)?(?= 193|$)")
-# What may come too early without a word of the judge.
-EARLY = re.compile(r"# (left|right) packet \d+: no end of class 0 sends this here\n\Z")
 
 
 def as_they_act(lines):
@@ -164,12 +167,13 @@ class Witnesses:
         if judged == 2:
             return self.check(f"{name}: {status} where osi judge gives 2", (status, script) == (2, ""))
         pieces = pieces_of(text)
-        may_stop = UNFINISHED.search(script) if name in BEYOND_CALLS else EARLY.search(script)
+        # No call sends a DC, so a script stops before one that is right.
+        confirms = any(has_disconnect_confirm(stream) for stream in streams(pieces).values())
+        may_stop = (confirms or name in BEYOND_CALLS) and UNFINISHED.search(script)
         self.check(f"{name}: both kept the protocol, and the script stops", judged != 0 or status == 0 or may_stop)
         self.check(f"{name}: the script is not played to its end", self.osi(["pair"], script)[0] == 0)
         first, stops = FIRST.search(verdict), STOPS.search(script)
-        # No call sends a DC, so a script stops before one that is right.
-        is_early = first and EARLY.search(script) and first[1] == stops[1] and int(stops[2]) < int(first[2])
+        is_early = first and confirms and UNFINISHED.search(script) and first[1] == stops[1] and int(stops[2]) < int(first[2])
         self.check(f"{name}: the script stops elsewhere than the verdict says\n{verdict}by\n{script}",
                    (stops is not None) == (status == 1)
                    and (first is None or is_early or stops and first.groups() == stops.groups()))

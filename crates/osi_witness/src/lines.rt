@@ -99,7 +99,7 @@ fn push_sides(text: &mut Vec<u8>, sides: Sides) -> Result<(), AllocError>
     push_holder(text, sides.release)
 }
 
-/// Adds the sizes behind user data, if one is not 0.
+/// Adds the sizes after user data, if one is not 0.
 fn push_sizes(text: &mut Vec<u8>, sizes: TsduSizes) -> Result<(), AllocError>
     ensures { OnOk result (text.new.items ≡ text.old.items ++ sizes_field (named_by sizes)) }
 {

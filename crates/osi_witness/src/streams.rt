@@ -1,5 +1,6 @@
 //! One direction of a capture, cut into packets and TSDUs.
 
+use crate::halts::Halt;
 use osi_class::LONGEST_TSDU;
 use osi_script::Side;
 use osi_tpdu::{ConnectFields, SizeCode, Tpdu, read_units};
@@ -57,8 +58,9 @@ pub(crate) struct Stream {
     /// Its CR, CC or DR.
     pub(crate) opening: Option<Opening>,
     pub(crate) tsdus: Vec<Tsdu>,
-    /// The packet at which it is looked at no further.
+    /// The packet at which it is looked at no further, and why.
     pub(crate) stop: Option<Place>,
+    pub(crate) halt: Halt,
 }
 
 /// Whether one of these octets has class 0 in its high half.
@@ -130,10 +132,11 @@ impl Stream {
             opening: None,
             tsdus: Vec::new(alloc),
             stop: None,
+            halt: Halt::Transport,
         }
     }
 
-    /// The offset behind its last whole packet.
+    /// The offset after its last whole packet.
     pub(crate) fn offset(&self) -> usize {
         self.offset
     }
@@ -222,6 +225,12 @@ impl Stream {
             }
             (Some(opening), Some(Tpdu::Dt0(data))) if !opening.is_refusal => {
                 self.add(data.end, data.user, place)
+            }
+            // It may answer a DR, but no call sends it.
+            (Some(_), Some(Tpdu::Dc(_))) => {
+                self.halt = Halt::NoCall;
+                self.stop_at(place);
+                Ok(())
             }
             _ => {
                 self.stop_at(place);

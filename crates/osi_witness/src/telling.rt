@@ -236,7 +236,7 @@ impl<'c> Telling<'c> {
         match self.run(side).limit {
             Some(Limit::NoSession(_)) => Halt::NoSession,
             Some(Limit::TooMany(_)) => Halt::TooMany,
-            None => Halt::Transport,
+            None => self.capture.stream(side).halt,
         }
     }
 
@@ -417,7 +417,7 @@ impl<'c> Telling<'c> {
         }
     }
 
-    /// A stop behind all packets of a side.
+    /// A stop after all packets of a side.
     fn stop_behind(&self, side: Side, halt: Halt) -> Stop {
         Stop {
             side,
