@@ -12,7 +12,7 @@ use Rattle.osi_judge.specs.Captures.{Capture}
 use Rattle.osi_judge.specs.Stops.{breaks, broke_session}
 use Rattle.osi_judge.specs.Tapping.{IsFoundIn, IsReferenceIn, told, tell}
 use Rattle.osi_judge.specs.Transport.{Sent, IsSent}
-use Rattle.osi_judge.proofs.what_is_known_of_a_side_is_of_the_capture.{nameless_said_nothing}
+use Rattle.osi_judge.proofs.captured.what_is_known_of_a_side_is_of_the_capture.{nameless_said_nothing}
 use Rattle.osi_dispute.specs.declared.verdicts.Told.{Told}
 use Rattle.osi_dispute.specs.declared.verdicts.Told.TheVariants as what
 use Rattle.osi_dispute.specs.declared.verdicts.Connection.{Connection}
@@ -89,7 +89,7 @@ side_words : (d : Direction) (f : Finding) (count offset : ℕ) (stands : Stands
     (reference : Option ℕ) (refused unanswered : Bool)
     → (broke_session f || breaks stopped) ≡ true → (broke_session f ≡ true → reference ≡ None → ⊥)
     → HasWords (connection_first d stopped
-        (connection_by false reference (broke_session f) refused unanswered (told_by f count offset stands by)))
+    (connection_by false reference (broke_session f) refused unanswered (told_by f count offset stands by)))
 side_words d (Broke i) count offset stands by stopped None refused unanswered h n = absurd (n refl refl)
 side_words d (Broke i) count offset stands by stopped (Some r) refused unanswered h n = broke_words d offset by
 side_words d (Left i) count offset stands by stopped None refused unanswered h n = absurd (n refl refl)
@@ -107,7 +107,7 @@ account_words : (d : Direction) (c : Capture) (f right : Facts) → AreFacts d c
     → HasWords (first_line d (account_by false f right))
 account_words d c f right h b =
     side_words d f.found f.count f.offset f.stands f.by f.stopped f.reference (is_refused right.stopped)
-        (is_unanswered right.reference right.stopped) b (named d c f h)
+    (is_unanswered right.reference right.stopped) b (named d c f h)
 
 -- ---- the last line
 

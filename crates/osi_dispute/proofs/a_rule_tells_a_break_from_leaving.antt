@@ -14,7 +14,7 @@ use Rattle.osi_judge.specs.Profiles.{leaves}
 use Rattle.osi_judge.specs.Stops.{broke_session, is_judged, place_of}
 use Rattle.osi_judge.specs.Tapping.{begin_of, IsFoundIn, IsBrokenBy, IsLeftBy, IsRuleIn, heard, told}
 use Rattle.osi_judge.specs.Transport.{Sent, IsSent}
-use Rattle.osi_judge.proofs.a_tsdu_is_broken_by_one_rule.{one_break}
+use Rattle.osi_judge.proofs.told.a_tsdu_is_broken_by_one_rule.{one_break}
 use Rattle.osi_dispute.proofs.a_capture_has_one_finding.{HasOneList}
 
 -- a side of a capture breaks the protocol or leaves the profile at one place

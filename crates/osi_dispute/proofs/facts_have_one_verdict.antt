@@ -24,7 +24,7 @@ use Rattle.osi_dispute.specs.Facts.{Determined, is_broken, IsFirstOf, Facts, Are
 use Rattle.osi_dispute.specs.Facts.{connection_by, left_first, outcome_by, verdict_by, IsToldBy, StandsIn}
 use Rattle.osi_judge.specs.Foremost.{foremost}
 use Rattle.osi_judge.specs.Onward.{StandsBehind}
-use Rattle.osi_judge.proofs.a_session_stands_in_one_way.{one_stands}
+use Rattle.osi_judge.proofs.told.a_session_stands_in_one_way.{one_stands}
 use Rattle.osi_dispute.specs.declared.verdicts.Connection.TheVariants.{Session}
 use Rattle.osi_dispute.specs.Disputes.{IsJudgement}
 use Rattle.osi_dispute.specs.Texts.{verdict_text, verdict_status}
@@ -51,7 +51,7 @@ one_reference d c r q h k =
 abbrev stop_at : Direction → Capture → (units others : List (List ℕ)) → Ending → Option Stopped
 stop_at d c units others ending =
     or_hasty (option_map offset_of (hasty_from d (met_before d c others) opening None 0 units))
-        (stop_in (stage_from d (met_before d c others) opening 0 units) ending)
+    (stop_in (stage_from d (met_before d c others) opening 0 units) ending)
 
 one_stop : (d : Direction) (c : Capture) (r q : Option Stopped) → IsStoppedIn d c r → IsStoppedIn d c q → r ≡ q
 one_stop d c r q h k =

@@ -18,7 +18,7 @@ use Rattle.osi_judge.specs.Following.{Judged, judged, half_of, first_in, Taps, F
 use Rattle.osi_judge.specs.Judging.{Watched, Keeps}
 use Rattle.osi_judge.specs.Onward.{StandsFor}
 use Rattle.osi_judge.specs.Stops.{broke_session}
-use Rattle.osi_judge.proofs.what_is_known_of_a_side_is_of_the_capture.{is_standing, known_in, is_first_in}
+use Rattle.osi_judge.proofs.captured.what_is_known_of_a_side_is_of_the_capture.{is_standing, known_in, is_first_in}
 use Rattle.osi_dispute.specs.declared.verdicts.Told.{Told}
 use Rattle.osi_dispute.specs.declared.verdicts.Told.TheVariants as told
 use Rattle.osi_dispute.specs.declared.verdicts.Connection.{Connection}
@@ -94,7 +94,7 @@ connects_as : (t right : Tapped) (r : ℕ) (blamed refused unanswered : Bool) (x
     → broke_session t.side.finding ≡ blamed → is_refused (stopped_of right) ≡ refused
     → is_unanswered right.line.reference (stopped_of right) ≡ unanswered
     → connection_by false t.line.reference (broke_session t.side.finding) (is_refused (stopped_of right))
-        (is_unanswered right.line.reference (stopped_of right)) x ≡ connection_by false (Some r) blamed refused unanswered x
+    (is_unanswered right.line.reference (stopped_of right)) x ≡ connection_by false (Some r) blamed refused unanswered x
 connects_as t right r blamed refused unanswered x e b f a = λ i. connection_by false (e i) (b i) (f i) (a i) x
 
 pub refused : (t right : Tapped) (r : ℕ) → t.line.reference ≡ Some r → broke_session t.side.finding ≡ false

@@ -21,7 +21,7 @@ use Rattle.osi_judge.specs.Running as running
 use Rattle.osi_judge.specs.Tapping.{had_passed, heard, octets_of, told}
 use Rattle.osi_judge.specs.Transport.{ArePacketsOf, Handshake, IsSent, Sent, agreed, between, first_unit, met_before, opening}
 use Rattle.osi_judge.specs.Transport.{packet_length, packets_length, sent_from, shaken_first, stage_from, step_of}
-use Rattle.osi_judge.proofs.JudgeLaws.{one_reading, packets_of}
+use Rattle.osi_judge.proofs.captured.what_was_found_of_a_capture.{one_reading, packets_of}
 use Rattle.osi_honest.specs.Parts.{dt, units_put}
 use Rattle.osi_honest.specs.Seeing.{IsPrefix, IsSeen, put_along}
 use Rattle.osi_honest.specs.Showing.{AreSame, Shows}

@@ -9,8 +9,8 @@ use Rattle.osi_message.proofs.the_tsdus_of_a_message.{sent_alone}
 use Rattle.osi_session.specs.Listening.{Listener, Move, came, react, taker_of}
 use Rattle.osi_session.specs.Sizes.{limit_of}
 use Rattle.osi_session.specs.Standing.{answers}
-use Rattle.osi_judge.proofs.a_run_is_explained.{came_moves}
-use Rattle.osi_judge.proofs.an_answer_says_itself.{SaysItself, came_itself}
+use Rattle.osi_judge.proofs.honest.a_run_is_explained.{came_moves}
+use Rattle.osi_judge.proofs.honest.an_answer_says_itself.{SaysItself, came_itself}
 use Rattle.osi_stack.specs.Messages.{AreShort}
 use Rattle.osi_stack.specs.Moving.{limit_for}
 use Rattle.osi_stack.proofs.called.what_is_sent_is_short.{SpduLaws, sent_short}

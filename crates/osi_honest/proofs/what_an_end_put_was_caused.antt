@@ -14,7 +14,7 @@ use Rattle.osi_judge.specs.declared.directions.Direction.{Direction}
 use Rattle.osi_judge.specs.Captures.{Capture, other, passed_before, stream}
 use Rattle.osi_judge.specs.Tapping.{had_passed, octets_of}
 use Rattle.osi_judge.specs.Transport.{Handshake, Sent, between, opening, packets_length, packet_length, sent_from, stage_from}
-use Rattle.osi_judge.proofs.CaptureLaws.{passed_within}
+use Rattle.osi_judge.proofs.captured.a_capture_goes_on.{passed_within}
 use Rattle.osi_honest.specs.Parts.{Carry, dt, units_put}
 use Rattle.osi_honest.specs.Reading.{between_two}
 use Rattle.osi_honest.specs.Seeing.{IsPrefix, PassAfter, put_along, used_along}

@@ -60,7 +60,7 @@ pub(crate) fn add(members: &mut Vec<Member>, member: Member) -> Result<(), Alloc
 }
 
 /// Whether the list is empty.
-#[tactic(auto, using(crate::proofs::SideLaws::empty_is))]
+#[tactic(auto, using(crate::proofs::told::what_is_known_of_a_side::empty_is))]
 pub(crate) fn none_is_left(members: &[Member]) -> bool
     ensures { result ≡ is_empty members.now }
 {

@@ -38,7 +38,7 @@ fn accepted_in(message: &Message) -> Option<Requirements>
 }
 
 /// Those of a unit that is a CN.
-#[tactic(auto, using(crate::proofs::a_selection_is_read::offered_word))]
+#[tactic(auto, using(crate::proofs::honest::a_selection_is_read::offered_word))]
 fn offered_by(unit: &Spdu) -> Option<Requirements>
     ensures { option_map unit_bits result ≡ offered_in (as_message (word (said_by unit.now))) }
 {
@@ -47,7 +47,7 @@ fn offered_by(unit: &Spdu) -> Option<Requirements>
 }
 
 /// Those of a unit that is an AC.
-#[tactic(auto, using(crate::proofs::a_selection_is_read::accepted_word))]
+#[tactic(auto, using(crate::proofs::honest::a_selection_is_read::accepted_word))]
 fn accepted_by(unit: &Spdu) -> Option<Requirements>
     ensures { option_map unit_bits result ≡ accepted_in (as_message (word (said_by unit.now))) }
 {

@@ -144,7 +144,7 @@ impl Side {
         }
     }
 
-    #[tactic(auto, using(crate::proofs::SideLaws::broke_as, crate::proofs::SideLaws::left_as, crate::proofs::SideLaws::too_many_as))]
+    #[tactic(auto, using(crate::proofs::told::what_is_known_of_a_side::broke_as, crate::proofs::told::what_is_known_of_a_side::left_as, crate::proofs::told::what_is_known_of_a_side::too_many_as))]
     fn tell_in_order(&mut self, tsdu: &[u8], before: usize) -> Result<(), AllocError>
         requires order { (watched self.old).before ≤ before }
         requires passed { before ≤ length (watched self.old).heard }

@@ -11,10 +11,3 @@ pub mod promises
 pub mod whole
 pub mod machine
 pub mod tables
--- names that osi_pair takes from here
-pub mod Tokens
-pub mod TableLines
-pub mod TableRuns
-pub mod CalmLaws
-pub mod CoreLaws
-pub mod Places

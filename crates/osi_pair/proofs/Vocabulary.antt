@@ -126,12 +126,12 @@ pub use Rattle.osi_session.specs.declared.faults.CallError.{CallError}
 pub use Rattle.osi_session.specs.declared.phases.Phase.{Phase}
 pub use Rattle.osi_session.specs.declared.requests.Request.{Request}
 pub use Rattle.osi_session.specs.declared.state.State.{State as SessionState}
-pub use Rattle.osi_machine.proofs.CalmLaws.{called_calm, left_is, over_calm}
-pub use Rattle.osi_machine.proofs.CoreLaws.{SessionLaws}
-pub use Rattle.osi_machine.proofs.Places.{cut_count, cut_there, none_there, with_count, with_other, with_same}
-pub use Rattle.osi_machine.proofs.TableLines.{SaysItsUnit}
-pub use Rattle.osi_machine.proofs.TableRuns.{At, line_there, all_follow}
-pub use Rattle.osi_machine.proofs.Tokens.{none_held}
+pub use Rattle.osi_machine.proofs.tables.data_behind_is_no_fault.{called_calm, left_is, over_calm}
+pub use Rattle.osi_machine.proofs.invariant.each_step_keeps_one_side.{SessionLaws}
+pub use Rattle.osi_machine.proofs.basics.what_stands_at_a_reference.{cut_count, cut_there, none_there, with_count, with_other, with_same}
+pub use Rattle.osi_machine.proofs.tables.a_line_is_a_connection.{SaysItsUnit}
+pub use Rattle.osi_machine.proofs.tables.the_tables_are_the_machine.{At, line_there, all_follow}
+pub use Rattle.osi_machine.proofs.channels.a_held_token_keeps_units_out.{none_held}
 pub use Rattle.osi_machine.specs.AsTables.{AreAgreed, AreOffered, AreSendable, AreSoundLines, AtEachSide, HoldNoneTwice, IsOverWhenLeft}
 pub use Rattle.osi_machine.specs.AsTables.{IsSeenInBoth, IsSoundLine, IsSoundSeat, IsTableRun, LosesAsItEnds, OfEachLine, TellsNoFault}
 pub use Rattle.osi_machine.specs.AsTables.{is_leaving, offers_in}

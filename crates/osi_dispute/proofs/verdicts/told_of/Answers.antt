@@ -15,7 +15,7 @@ returns-in_ok-stands-in-Kept-clause-told c =
 pub returns-in-Broke-clause-told : goal.returns-in-Broke-clause-told
 returns-in-Broke-clause-told c =
     told_broke (half_of c.args.direction (judged c.args.judge.now)) c.offset-offset.result c.by.result c.in-Broke.field-0
-        c.offset-offset.ensures.value
+    c.offset-offset.ensures.value
     (c.by.ensures.value ∙ ap (λ (w : Watched). w.by) c.side-side.ensures)
     (sym c.in-Broke.ensures.value)
 

@@ -20,4 +20,4 @@ returns-clause-turn c =
     let law : SpduLaws = record { room = c.few_octets_fit.ensures; digits = c.serial_digits.ensures } in
     λ r asks turn old new terms w takes.
     turn_asks r (calls_with asks) (all_proper law c.what_closes_sends_nothing.ensures.octets) (can_begin law asks terms) refl turn old new w
-        takes
+    takes

@@ -3,8 +3,8 @@ use Rattle.osi_session.specs.declared.standing.Taking.{Taking}
 use Rattle.osi_session.specs.Standing.{listens, Takes, after_count}
 use Rattle.osi_session.specs.Steps.{reply_of}
 use Rattle.osi_session.specs.Taking.{count_taken}
-use Rattle.osi_judge.proofs.WalkLaws.{at_some, at_none}
-use Rattle.osi_judge.proofs.FirstPlaceLaws.{heard_one, not_heard, answers_it}
+use Rattle.osi_judge.proofs.kept.a_walk_loses_no_explanation.{at_some, at_none}
+use Rattle.osi_judge.proofs.kept.the_first_place_is_enough.{heard_one, not_heard, answers_it}
 use Rattle.osi_judge.proofs.first_places.hears.Goals as goal
 
 pub returns-in_default : goal.returns-in_default

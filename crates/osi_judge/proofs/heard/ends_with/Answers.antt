@@ -3,7 +3,7 @@ use Rattle.std.specs.Prelude.{eqb}
 use lib.Pointwise.{pointwise}
 use Rattle.osi_judge.specs.declared.heard.Run.{Run}
 use Rattle.osi_judge.specs.Runs.{last_in}
-use Rattle.osi_judge.proofs.equal_tsdus_in_a_row_are_kept_once.{last_tsdu, same_by_pairs}
+use Rattle.osi_judge.proofs.outlined.equal_tsdus_in_a_row_are_kept_once.{last_tsdu, same_by_pairs}
 use Rattle.osi_judge.proofs.heard.ends_with.Goals as goal
 
 pub returns-clause-same : goal.returns-clause-same

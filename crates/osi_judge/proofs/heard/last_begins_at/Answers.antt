@@ -1,7 +1,7 @@
 use Rattle.std.proofs.Common.{◌∙◌, sym, ap, length, get_or, ◌-◌}
 use Rattle.osi_judge.specs.declared.heard.Run.{Run}
 use Rattle.osi_judge.specs.Runs.{last_from}
-use Rattle.osi_judge.proofs.equal_tsdus_in_a_row_are_kept_once.{is_or_not, last_begin}
+use Rattle.osi_judge.proofs.outlined.equal_tsdus_in_a_row_are_kept_once.{is_or_not, last_begin}
 use Rattle.osi_judge.proofs.heard.last_begins_at.Goals as goal
 
 pub returns : goal.returns

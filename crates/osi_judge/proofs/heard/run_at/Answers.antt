@@ -1,6 +1,6 @@
 use Rattle.std.proofs.Common.{ap, ◌+◌, ◌-◌, ◌/◌, ◌<◌, length, arith}
 use Rattle.osi_judge.specs.declared.heard.Run.{Run}
-use Rattle.osi_judge.proofs.equal_tsdus_in_a_row_are_kept_once.{begin_read, halves_begin}
+use Rattle.osi_judge.proofs.outlined.equal_tsdus_in_a_row_are_kept_once.{begin_read, halves_begin}
 use Rattle.osi_judge.proofs.heard.run_at.Goals as goal
 
 pub halves-init : goal.halves-init

@@ -1,6 +1,6 @@
 use Rattle.std.proofs.lemmas.List.{map-append}
 use Rattle.osi_judge.specs.Captures.{of}
-use Rattle.osi_judge.proofs.JudgeLaws.{one_reading}
+use Rattle.osi_judge.proofs.captured.what_was_found_of_a_capture.{one_reading}
 use Rattle.osi_judge.proofs.laws.a_capture_has_one_reading.Goals as goal
 
 pub returns-clause-one : goal.returns-clause-one

@@ -1,4 +1,4 @@
-use Rattle.osi_judge.proofs.a_side_strays_at_one_place.{one_way}
+use Rattle.osi_judge.proofs.told.a_side_strays_at_one_place.{one_way}
 use Rattle.osi_judge.proofs.laws.a_side_is_found_in_one_way.Goals as goal
 
 pub returns : goal.returns

@@ -1,5 +1,5 @@
-use Rattle.osi_judge.proofs.a_session_stands_in_one_way.{one_stands}
-use Rattle.osi_judge.proofs.no_session_is_before_the_one_that_is_told.{foremost_is, nearest_is}
+use Rattle.osi_judge.proofs.told.a_session_stands_in_one_way.{one_stands}
+use Rattle.osi_judge.proofs.told.no_session_is_before_the_one_that_is_told.{foremost_is, nearest_is}
 use Rattle.osi_judge.proofs.laws.a_side_is_told_by_one_session.Goals as goal
 
 pub returns-clause-foremost : goal.returns-clause-foremost

@@ -1,6 +1,6 @@
 use Rattle.osi_session.proofs.tsdu.what_is_sent_is_taken_as_meant.{said_again}
-use Rattle.osi_judge.proofs.a_call_is_explained.{AsSent}
-use Rattle.osi_judge.proofs.a_caller_is_explained.{called_explained, caller_explained}
+use Rattle.osi_judge.proofs.honest.a_call_is_explained.{AsSent}
+use Rattle.osi_judge.proofs.honest.a_caller_is_explained.{called_explained, caller_explained}
 use Rattle.osi_judge.proofs.laws.an_honest_session_is_explained.Goals as goal
 
 -- what the laws of messages state

@@ -1,6 +1,6 @@
 use Rattle.osi_session.proofs.tsdu.what_is_sent_is_taken_as_meant.{said_again}
-use Rattle.osi_judge.proofs.a_call_is_explained.{AsSent}
-use Rattle.osi_judge.proofs.an_honest_side_is_kept.{not_blamed}
+use Rattle.osi_judge.proofs.honest.a_call_is_explained.{AsSent}
+use Rattle.osi_judge.proofs.honest.an_honest_side_is_kept.{not_blamed}
 use Rattle.osi_judge.proofs.laws.an_honest_side_is_not_blamed.Goals as goal
 
 -- what the laws of messages state
@@ -15,4 +15,5 @@ as_sent c = record {
 }
 
 pub returns : goal.returns
-returns c = not_blamed (as_sent c) c.what_leaves_in_parts.ensures.read c.an_honest_session_is_explained.ensures.caller c.an_honest_session_is_explained.ensures.called c.a_capture_has_one_reading.ensures.one
+returns c = not_blamed (as_sent c) c.what_leaves_in_parts.ensures.read c.an_honest_session_is_explained.ensures.caller
+    c.an_honest_session_is_explained.ensures.called c.a_capture_has_one_reading.ensures.one

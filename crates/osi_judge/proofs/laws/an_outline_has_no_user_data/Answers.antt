@@ -1,4 +1,5 @@
-use Rattle.osi_judge.proofs.an_outline_is_taken_alike.{alone_outline, behind_outline, data_has_one_outline, outline_no_longer, part_has_one_outline, taken_alike}
+use Rattle.osi_judge.proofs.outlined.an_outline_is_taken_alike.{alone_outline, behind_outline, data_has_one_outline, outline_no_longer}
+use Rattle.osi_judge.proofs.outlined.an_outline_is_taken_alike.{part_has_one_outline, taken_alike}
 use Rattle.osi_judge.proofs.laws.an_outline_has_no_user_data.Goals as goal
 
 pub returns-clause-alike : goal.returns-clause-alike

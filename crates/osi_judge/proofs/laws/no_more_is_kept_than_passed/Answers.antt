@@ -1,4 +1,4 @@
-use Rattle.osi_judge.proofs.no_more_is_kept_than_passed.{few_sessions, no_more_kept}
+use Rattle.osi_judge.proofs.outlined.no_more_is_kept_than_passed.{few_sessions, no_more_kept}
 use Rattle.osi_judge.proofs.laws.no_more_is_kept_than_passed.Goals as goal
 
 pub returns-clause-sessions : goal.returns-clause-sessions

@@ -2,7 +2,7 @@ use Rattle.std.proofs.Common.{refl, sym, ap, subst, List, ℕ, ◌≤◌, length
 use Rattle.osi_tpkt.specs.Packet.{IsPacket, IsPartial, IsFaultOf}
 use Rattle.osi_judge.specs.Sides.{watched}
 use Rattle.osi_judge.specs.Feeding.{Lined, handshake_in, lined, tapped, goes_on, faulty}
-use Rattle.osi_judge.proofs.LineLaws.{settled_whole}
+use Rattle.osi_judge.proofs.captured.what_a_line_keeps.{settled_whole}
 use Rattle.osi_judge.proofs.lines.settle.Goals as goal
 
 pub returns-in-Ok-None-clause-ok : goal.returns-in-Ok-None-clause-ok
@@ -23,6 +23,13 @@ returns-in_ok-take_unit-in-Ok-Some-clause-ok c =
     let n = c.in-Ok-Some.found.1 in
     let packet = subst (λ (u : List ℕ). IsPacket u (take n c.as_slice.result.now)) (sym c.unit-unit.ensures.value) found.spelled in
     settled_whole c.args.direction c.unit-unit.result.now c.args.since n (handshake_in c.args.met) (tapped half)
-    (record { held = half.held.items; octets = half.octets; fault = half.fault; line = lined c.take_unit.new.line; side = watched c.take_unit.new.side }) (tapped c.advance.new.self) (watched c.args.other.now) (watched c.take_unit.new.other)
-    (subst (λ (x : List ℕ). n ≤ length x) c.as_slice.ensures.value found.within) (subst (λ (x : List ℕ). IsPacket c.unit-unit.result.now (take n x)) c.as_slice.ensures.value packet)
+    (record {
+      held = half.held.items;
+      octets = half.octets;
+      fault = half.fault;
+      line = lined c.take_unit.new.line;
+      side = watched c.take_unit.new.side;
+    }) (tapped c.advance.new.self) (watched c.args.other.now) (watched c.take_unit.new.other)
+    (subst (λ (x : List ℕ). n ≤ length x) c.as_slice.ensures.value found.within)
+    (subst (λ (x : List ℕ). IsPacket c.unit-unit.result.now (take n x)) c.as_slice.ensures.value packet)
     refl refl refl c.in_ok-take_unit-in-Ok-Some.ensures.ok c.advance.ensures

@@ -1,4 +1,4 @@
-use Rattle.osi_judge.proofs.MemberLaws.{added}
+use Rattle.osi_judge.proofs.kept.one_more_session.{added}
 use Rattle.osi_judge.proofs.members.add.Goals as goal
 
 pub returns : goal.returns

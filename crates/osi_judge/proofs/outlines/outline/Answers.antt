@@ -1,5 +1,5 @@
 use Rattle.osi_judge.specs.Outlines.{outline}
-use Rattle.osi_judge.proofs.an_outline_is_taken_alike.{as_well, plain_outline}
+use Rattle.osi_judge.proofs.outlined.an_outline_is_taken_alike.{as_well, plain_outline}
 use Rattle.osi_judge.proofs.outlines.outline.Goals as goal
 
 pub returns-in-Some : goal.returns-in-Some

@@ -2,7 +2,7 @@ use Rattle.std.proofs.Common.{◌∙◌, sym, Ok}
 use Rattle.osi_message.specs.Reading.{said_by_units}
 use Rattle.osi_spdu.specs.Groups.{behind_of, first_of, units_of}
 use Rattle.osi_judge.specs.Outlines.{outline_by}
-use Rattle.osi_judge.proofs.an_outline_is_taken_alike.{as_well, more_stay}
+use Rattle.osi_judge.proofs.outlined.an_outline_is_taken_alike.{as_well, more_stay}
 use Rattle.osi_judge.proofs.outlines.outline_of.Goals as goal
 
 pub returns-in-Some-next : goal.returns-in-Some-next

@@ -1,6 +1,6 @@
 use Rattle.osi_message.specs.Reading.{word}
 use Rattle.osi_spdu.specs.Units.{said_by}
-use Rattle.osi_judge.proofs.a_walk_to_a_restart_keeps_two.{asks, restarted_by}
+use Rattle.osi_judge.proofs.kept.a_walk_to_a_restart_keeps_two.{asks, restarted_by}
 use Rattle.osi_judge.proofs.restarts.ask.Goals as goal
 
 pub returns-clause-gives : goal.returns-clause-gives

@@ -1,4 +1,4 @@
-use Rattle.osi_judge.proofs.a_walk_to_a_restart_keeps_two.{joins_apart, joins_between, joins_after}
+use Rattle.osi_judge.proofs.kept.a_walk_to_a_restart_keeps_two.{joins_apart, joins_between, joins_after}
 use Rattle.osi_judge.proofs.restarts.join.Goals as goal
 
 pub returns-then-not-is_same : goal.returns-then-not-is_same

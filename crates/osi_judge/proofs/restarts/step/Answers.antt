@@ -4,7 +4,7 @@ use Rattle.osi_spdu.specs.Units.{said_by}
 use Rattle.osi_judge.specs.declared.members.Member.{Member}
 use Rattle.osi_judge.specs.declared.restarts.Asker.{Asker}
 use Rattle.osi_judge.specs.Walking.{MovesTo}
-use Rattle.osi_judge.proofs.a_walk_to_a_restart_keeps_two.{moves_none, steps_on, steps_out}
+use Rattle.osi_judge.proofs.kept.a_walk_to_a_restart_keeps_two.{moves_none, steps_on, steps_out}
 use Rattle.osi_judge.proofs.restarts.step.Goals as goal
 
 pub returns-in_default-clause-gives : goal.returns-in_default-clause-gives

@@ -1,7 +1,7 @@
 use Rattle.std.proofs.Common.{◌↔◌, ◌+◌, List, ℕ, Option, Some, subst, sym}
 use Rattle.osi_judge.specs.declared.restarts.Asked.{Asked}
 use Rattle.osi_judge.specs.Waiting.{Waits, Known}
-use Rattle.osi_judge.proofs.a_walk_to_a_restart_keeps_two.{still_wait}
+use Rattle.osi_judge.proofs.kept.a_walk_to_a_restart_keeps_two.{still_wait}
 use Rattle.osi_judge.proofs.restarts.wait.Goals as goal
 
 pub returns-clause-gives : goal.returns-clause-gives

@@ -2,7 +2,7 @@ use Rattle.std.proofs.Common.{◌≡◌, ◌∙◌, sym, ap, true}
 use Rattle.osi_message.specs.Reading.{word}
 use Rattle.osi_session.specs.Phases.{is_restarting}
 use Rattle.osi_spdu.specs.Units.{said_by}
-use Rattle.osi_judge.proofs.a_restart_waits.{it_waits}
+use Rattle.osi_judge.proofs.kept.a_restart_waits.{it_waits}
 use Rattle.osi_judge.proofs.restarts.waits.Goals as goal
 
 pub returns : goal.returns

@@ -1,6 +1,6 @@
 use Rattle.osi_message.specs.Reading.{word}
 use Rattle.osi_spdu.specs.Units.{said_by}
-use Rattle.osi_judge.proofs.a_walk_to_a_restart_keeps_two.{both, steps_last}
+use Rattle.osi_judge.proofs.kept.a_walk_to_a_restart_keeps_two.{both, steps_last}
 use Rattle.osi_judge.proofs.restarts.walk_with.Goals as goal
 
 pub returns : goal.returns

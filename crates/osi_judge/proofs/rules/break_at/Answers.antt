@@ -1,7 +1,7 @@
 use Rattle.std.proofs.Common.{length}
 use Rattle.osi_spdu.specs.Groups.{units_of}
 use Rattle.osi_spdu.specs.Reading.{tsdu_at}
-use Rattle.osi_judge.proofs.the_nearest_of_all_sessions_is_told.{breaks_as, breaks_unread}
+use Rattle.osi_judge.proofs.told.the_nearest_of_all_sessions_is_told.{breaks_as, breaks_unread}
 use Rattle.osi_judge.proofs.rules.break_at.Goals as goal
 
 pub returns-in-Ok : goal.returns-in-Ok

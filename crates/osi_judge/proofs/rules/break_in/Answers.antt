@@ -5,7 +5,7 @@ use Rattle.osi_judge.specs.declared.members.Member.{Member}
 use Rattle.osi_judge.specs.declared.rules.Behind.{Behind}
 use Rattle.osi_judge.specs.declared.rules.Behind.TheVariants as behind
 use Rattle.osi_judge.specs.Breaking.{LeavesBehind, in_effect}
-use Rattle.osi_judge.proofs.the_nearest_of_all_sessions_is_told.{breaks_later, breaks_here, breaks_last_ok}
+use Rattle.osi_judge.proofs.told.the_nearest_of_all_sessions_is_told.{breaks_later, breaks_here, breaks_last_ok}
 use Rattle.osi_judge.proofs.rules.break_in.Goals as goal
 
 pub units-preserved : goal.units-preserved

@@ -1,5 +1,5 @@
 use Rattle.osi_judge.specs.Nearest.{unsaid}
-use Rattle.osi_judge.proofs.the_nearest_of_all_sessions_is_told.{tries, tries_next, tries_stop}
+use Rattle.osi_judge.proofs.told.the_nearest_of_all_sessions_is_told.{tries, tries_next, tries_stop}
 use Rattle.osi_judge.proofs.rules.nearest_on.Goals as goal
 
 pub takes-preserved : goal.takes-preserved

@@ -2,8 +2,8 @@ use Rattle.std.proofs.Common.{◌∙◌, sym, ap, ◌+◌, drop, List}
 use Rattle.std.specs.List.{fold}
 use Rattle.osi_judge.specs.declared.members.Member.{Member}
 use Rattle.osi_judge.specs.Foremost.{before_of, foremost}
-use Rattle.osi_judge.proofs.OnwardLaws.{among_next}
-use Rattle.osi_judge.proofs.the_nearest_of_all_sessions_is_told.{one_more, no_more}
+use Rattle.osi_judge.proofs.told.how_a_session_comes_on.{among_next}
+use Rattle.osi_judge.proofs.told.the_nearest_of_all_sessions_is_told.{one_more, no_more}
 use Rattle.osi_judge.proofs.standings.foremost.Goals as goal
 
 pub members-init : goal.members-init

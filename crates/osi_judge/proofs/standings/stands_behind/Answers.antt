@@ -1,7 +1,7 @@
 use Rattle.std.proofs.Common.{refl, subst, ℕ, ◌<◌}
 use Rattle.osi_judge.specs.Onward.{stays}
-use Rattle.osi_judge.proofs.OnwardLaws.{comes_next, stands_stop}
-use Rattle.osi_judge.proofs.the_nearest_of_all_sessions_is_told.{goes_next}
+use Rattle.osi_judge.proofs.told.how_a_session_comes_on.{comes_next, stands_stop}
+use Rattle.osi_judge.proofs.told.the_nearest_of_all_sessions_is_told.{goes_next}
 use Rattle.osi_judge.proofs.standings.stands_behind.Goals as goal
 
 pub takes-init : goal.takes-init
@@ -11,7 +11,8 @@ pub takes-preserved : goal.takes-preserved
 takes-preserved c = record {
   comes = comes_next c.args.heard.now c.args.member c.takes.at c.in-Goes.next c.in_ok-next.field-0 c.in-Goes.is c.takes.invariant.comes
       c.in_ok-next.ensures;
-  goes = goes_next c.args.heard.now c.takes.at c.in-Goes.next c.args.member c.in_ok-next.field-0 (subst (λ (n : ℕ). c.takes.at.taken < n) c.len.ensures c.takes-test.true) c.in-Goes.is
+  goes = goes_next c.args.heard.now c.takes.at c.in-Goes.next c.args.member c.in_ok-next.field-0
+      (subst (λ (n : ℕ). c.takes.at.taken < n) c.len.ensures c.takes-test.true) c.in-Goes.is
       c.in_ok-next.ensures
       c.takes.invariant.goes;
 }

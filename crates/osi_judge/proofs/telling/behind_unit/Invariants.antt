@@ -3,7 +3,7 @@ use Rattle.osi_message.specs.Reading.{word}
 use Rattle.osi_spdu.specs.Units.{said_by}
 use Rattle.osi_judge.specs.Explaining.{Remark}
 use Rattle.osi_judge.specs.Walking.{the_remark, Ever}
-use Rattle.osi_judge.proofs.TellingLaws.{SoFar}
+use Rattle.osi_judge.proofs.kept.sessions_after_a_unit.{SoFar}
 use Rattle.osi_judge.proofs.telling.behind_unit.Given as goal
 
 abbrev pub invariant-members : goal.invariant-members

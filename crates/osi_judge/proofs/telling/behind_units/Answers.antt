@@ -2,30 +2,38 @@ use Rattle.std.proofs.Common.{◌∙◌, refl, ap, subst, Bool, ◌||◌, List, 
 use Rattle.osi_message.specs.Reading.{word, said_by_units}
 use Rattle.osi_spdu.specs.Groups.{units_behind, behind_of, first_of, units_of}
 use Rattle.osi_spdu.specs.Units.{said_by}
-use Rattle.osi_judge.proofs.TellingLaws.{UnitGives, units_begin, units_turn, units_restarted, units_item}
+use Rattle.osi_judge.proofs.kept.sessions_after_a_unit.{UnitGives, units_begin, units_turn, units_restarted, units_item}
 use Rattle.osi_judge.specs.declared.members.Member.{Member}
 use Rattle.osi_judge.proofs.telling.behind_units.Goals as goal
 
 pub units-init : goal.units-init
-units-init c = units_begin c.args.heard.now c.args.octets c.args.before c.args.members.now c.in_ok-now.now.items (word (said_by c.first.result.now)) (word (first_of c.args.group.now))
-    (map word (units_behind c.behind-behind.result)) (map word (behind_of c.args.group.now)) c.in_ok-now.ensures.items (ap word c.first.ensures) (ap (map word) c.behind-behind.ensures)
+units-init c = units_begin c.args.heard.now c.args.octets c.args.before c.args.members.now c.in_ok-now.now.items
+    (word (said_by c.first.result.now)) (word (first_of c.args.group.now))
+    (map word (units_behind c.behind-behind.result)) (map word (behind_of c.args.group.now)) c.in_ok-now.ensures.items
+    (ap word c.first.ensures) (ap (map word) c.behind-behind.ensures)
 
 pub units-preserved : goal.units-preserved
 units-preserved c =
     let u = word (said_by c.in-Some.unit) in
-    units_turn c.args.heard.now c.args.octets c.args.before c.args.members.now (said_by_units (units_of c.args.group.now)) c.units.now.items c.in_ok-now-2.now.items c.units.restarts c.either-restarts.result
-    (word (said_by c.first.result.now)) u u (map word (units_behind c.units.behind)) (map word (units_behind c.next.new.self)) c.units.invariant (ap (map word) c.in-Some.ensures.steps) refl
-    (subst (λ (x : List Member). UnitGives c.args.heard.now c.args.octets c.args.before x u c.in_ok-now-2.now.items) c.deref.ensures.value c.in_ok-now-2.ensures)
+    units_turn c.args.heard.now c.args.octets c.args.before c.args.members.now (said_by_units (units_of c.args.group.now)) c.units.now.items
+    c.in_ok-now-2.now.items c.units.restarts c.either-restarts.result
+    (word (said_by c.first.result.now)) u u (map word (units_behind c.units.behind)) (map word (units_behind c.next.new.self))
+    c.units.invariant (ap (map word) c.in-Some.ensures.steps) refl
+    (subst (λ (x : List Member). UnitGives c.args.heard.now c.args.octets c.args.before x u c.in_ok-now-2.now.items) c.deref.ensures.value
+    c.in_ok-now-2.ensures)
     (c.either-restarts.ensures ∙ ap (λ (b : Bool). c.units.restarts || b) c.is_restart_unit.ensures)
 
 pub returns-then-restarts : goal.returns-then-restarts
 returns-then-restarts c =
-    units_restarted c.args.heard.now c.args.octets c.args.before c.args.members.now (said_by_units (units_of c.args.group.now)) c.units.now.items c.units.restarts (word (said_by c.first.result.now))
+    units_restarted c.args.heard.now c.args.octets c.args.before c.args.members.now (said_by_units (units_of c.args.group.now))
+    c.units.now.items c.units.restarts (word (said_by c.first.result.now))
     (map word (units_behind c.units.behind)) c.units.invariant (ap (map word) c.in_default.ensures.steps.0) c.if-restarts.true
 
 pub returns : goal.returns
 returns c =
     let first = word (said_by c.first.result.now) in
-    units_item c.args.heard.now c.args.octets c.args.before c.args.members.now (said_by_units (units_of c.args.group.now)) c.units.now.items c.in_ok-last.last.items c.units.restarts first first
+    units_item c.args.heard.now c.args.octets c.args.before c.args.members.now (said_by_units (units_of c.args.group.now)) c.units.now.items
+    c.in_ok-last.last.items c.units.restarts first first
     (map word (units_behind c.units.behind)) c.units.invariant (ap (map word) c.in_default.ensures.steps.0) c.if-restarts.false refl
-    (subst (λ (x : List Member). UnitGives c.args.heard.now c.args.octets c.args.before x first c.in_ok-last.last.items) c.deref-2.ensures.value c.in_ok-last.ensures)
+    (subst (λ (x : List Member). UnitGives c.args.heard.now c.args.octets c.args.before x first c.in_ok-last.last.items)
+    c.deref-2.ensures.value c.in_ok-last.ensures)

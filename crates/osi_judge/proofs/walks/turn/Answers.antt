@@ -8,13 +8,15 @@ use Rattle.osi_spdu.specs.Units.{said_by}
 use Rattle.osi_judge.specs.declared.members.Member.{Member}
 use Rattle.osi_judge.specs.declared.walks.Walker.{Walker}
 use Rattle.osi_judge.specs.Walking.{MayFollow}
-use Rattle.osi_judge.proofs.WalkLaws.{deaf, answered, goes_on, none_of, Took, at_some, at_none}
+use Rattle.osi_judge.proofs.kept.a_walk_loses_no_explanation.{deaf, answered, goes_on, none_of, Took, at_some, at_none}
 use Rattle.osi_judge.proofs.walks.turn.Goals as goal
 
 pub returns-in_default-clause-turns : goal.returns-in_default-clause-turns
 returns-in_default-clause-turns c = λ before b us later x h.
-    deaf us later (word (said_by c.args.unit.now)) c.args.octets before c.args.next.now.items c.say_it.new.next.items c.args.walker c.in_ok-said.said
-    (c.in_ok-said.ensures us later) (at_none (listens c.args.walker.at.standing ≡ false) c.in_ok-taking.field-0 c.in_default.not-Some c.in_ok-taking.ensures.deaf)
+    deaf us later (word (said_by c.args.unit.now)) c.args.octets before c.args.next.now.items c.say_it.new.next.items c.args.walker
+    c.in_ok-said.said
+    (c.in_ok-said.ensures us later)
+    (at_none (listens c.args.walker.at.standing ≡ false) c.in_ok-taking.field-0 c.in_default.not-Some c.in_ok-taking.ensures.deaf)
 
 pub returns-in-Some-reply-clause-turns : goal.returns-in-Some-reply-clause-turns
 returns-in-Some-reply-clause-turns c = λ before b us later x h.
@@ -27,12 +29,15 @@ returns-in-Some-reply-clause-turns c = λ before b us later x h.
     let tsdu : get_or us at.taken [] ≡ c.tsdu_at-tsdu.result.now = x at.taken c.requires ∙ sym c.tsdu_at-tsdu.ensures.octets in
     let took : Took us at next (count_taken t) = record {
       listening = at_some (λ (y : Taking). listens at.standing ≡ true) o t e k.listens;
-      taken = subst (λ (u : List ℕ). Takes at.standing u (count_taken t)) (sym tsdu) (at_some (λ (y : Taking). Takes at.standing c.tsdu_at-tsdu.result.now (count_taken y)) o t e k.counted);
+      taken = subst (λ (u : List ℕ). Takes at.standing u (count_taken t)) (sym tsdu)
+          (at_some (λ (y : Taking). Takes at.standing c.tsdu_at-tsdu.result.now (count_taken y)) o t e k.counted);
       place = refl;
       standing = at_some (λ (y : Taking). y.next ≡ after_count at.standing (count_taken y)) o t e k.sent;
     } in
-    answered us later (word (said_by c.args.unit.now)) c.args.octets before c.args.next.now.items c.say_it.new.next.items c.answer.new.next.items c.args.walker c.in_ok-said.said
-    next (count_taken t) (reply_of c.in-Some-reply.reply) (c.in_ok-said.ensures us later) took (ap (option_map reply_of) c.in-Some-reply.is) b (c.in_ok-answer.ensures us later)
+    answered us later (word (said_by c.args.unit.now)) c.args.octets before c.args.next.now.items c.say_it.new.next.items
+    c.answer.new.next.items c.args.walker c.in_ok-said.said
+    next (count_taken t) (reply_of c.in-Some-reply.reply) (c.in_ok-said.ensures us later) took (ap (option_map reply_of) c.in-Some-reply.is)
+    b (c.in_ok-answer.ensures us later)
 
 pub returns-clause-turns : goal.returns-clause-turns
 returns-clause-turns c = λ before b us later x h.
@@ -46,10 +51,13 @@ returns-clause-turns c = λ before b us later x h.
     let tsdu : get_or us at.taken [] ≡ c.tsdu_at-tsdu.result.now = x at.taken c.requires ∙ sym c.tsdu_at-tsdu.ensures.octets in
     let took : Took us at next (count_taken t) = record {
       listening = at_some (λ (y : Taking). listens at.standing ≡ true) o t e k.listens;
-      taken = subst (λ (u : List ℕ). Takes at.standing u (count_taken t)) (sym tsdu) (at_some (λ (y : Taking). Takes at.standing c.tsdu_at-tsdu.result.now (count_taken y)) o t e k.counted);
+      taken = subst (λ (u : List ℕ). Takes at.standing u (count_taken t)) (sym tsdu)
+          (at_some (λ (y : Taking). Takes at.standing c.tsdu_at-tsdu.result.now (count_taken y)) o t e k.counted);
       place = refl;
       standing = at_some (λ (y : Taking). y.next ≡ after_count at.standing (count_taken y)) o t e k.sent;
     } in
-    goes_on us later (word (said_by c.args.unit.now)) c.args.octets before c.args.next.now.items c.say_it.new.next.items c.args.walker c.in_ok-said.said now
+    goes_on us later (word (said_by c.args.unit.now)) c.args.octets before c.args.next.now.items c.say_it.new.next.items c.args.walker
+    c.in_ok-said.said now
     (count_taken t) (c.in_ok-said.ensures us later) took (none_of reply_of t.reply (λ r z. c.in_default-reply.not-Some r z)) b h
-    (subst (λ (u : List ℕ). MayFollow c.in_ok-said.said.said_before u c.in_ok-said_before.said_before) (sym tsdu) c.in_ok-said_before.ensures)
+    (subst (λ (u : List ℕ). MayFollow c.in_ok-said.said.said_before u c.in_ok-said_before.said_before) (sym tsdu)
+    c.in_ok-said_before.ensures)

@@ -7,7 +7,8 @@ use Rattle.osi_judge.proofs.walks.walk_through.Given as goal
 
 abbrev pub invariant-takes : goal.invariant-takes
 invariant-takes l = Ever l.heard l.before (λ (us : List (List ℕ)) (later : List Remark).
-    Walked us later (the_remark (word (said_by l.unit)) l.octets l.before) l.fn.next.items l.next.items (record { at = l.fn.member; said_before = None }) l.walker)
+    Walked us later (the_remark (word (said_by l.unit)) l.octets l.before) l.fn.next.items l.next.items
+    (record { at = l.fn.member; said_before = None }) l.walker)
 
 abbrev pub decreases-takes : goal.decreases-takes
 decreases-takes l = l.before - l.walker.at.taken

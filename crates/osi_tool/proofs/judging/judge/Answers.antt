@@ -28,7 +28,7 @@ returns-in_err-write_text-clause-long g c =
     not_long _ (remaining c.args.reader.now.inner) (remaining c.read_input.new.reader.inner) c.in_ok-input.input.items
     c.in_ok-input.ensures.ok.0 c.in_ok-input.ensures.ok.1
     (subst (λ (text : List ℕ). Judges text c.in_ok-judgement.judgement.lines.items c.in_ok-judgement.judgement.status)
-        c.as_slice.ensures.value
+    c.as_slice.ensures.value
     c.in_ok-judgement.ensures.judged).short
 
 pub returns-clause-judged : goal.returns-clause-judged
@@ -49,5 +49,5 @@ returns-clause-long g c =
     not_long _ (remaining c.args.reader.now.inner) (remaining c.read_input.new.reader.inner) c.in_ok-input.input.items
     c.in_ok-input.ensures.ok.0 c.in_ok-input.ensures.ok.1
     (subst (λ (text : List ℕ). Judges text c.in_ok-judgement.judgement.lines.items c.in_ok-judgement.judgement.status)
-        c.as_slice.ensures.value
+    c.as_slice.ensures.value
     c.in_ok-judgement.ensures.judged).short

@@ -16,5 +16,6 @@ returns c =
     let read : command_of c.args.line.now ≡ Some (command_by c.in-Some.command) = sym c.in_ok-line.ensures ∙ sym c.in-Some.ensures in
     failed c.args.number c.args.line.now (command_by c.in-Some.command) c.in-Some-event_of.event c.args.pair.now
     c.args.out.now.items c.play_event.new.out.items read c.in-Some-event_of.ensures.some
-    (event_stops c.in_ok-play_event.field-0 c.args.number c.in-Some-event_of.event c.args.pair.now c.args.out.now.items c.play_event.new.pair
+    (event_stops c.in_ok-play_event.field-0 c.args.number c.in-Some-event_of.event c.args.pair.now c.args.out.now.items
+    c.play_event.new.pair
     c.play_event.new.out.items c.if-branch.false c.in_ok-play_event.ensures)

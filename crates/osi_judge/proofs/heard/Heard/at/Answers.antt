@@ -1,6 +1,6 @@
 use Rattle.std.proofs.Common.{◌∙◌, sym, ap, arith}
 use Rattle.osi_judge.specs.declared.heard.Run.{Run}
-use Rattle.osi_judge.proofs.equal_tsdus_in_a_row_are_kept_once.{counted_in, place_in}
+use Rattle.osi_judge.proofs.outlined.equal_tsdus_in_a_row_are_kept_once.{counted_in, place_in}
 use Rattle.osi_judge.proofs.heard.Heard.at.Goals as goal
 
 pub run_at-at-requires-clause-there : goal.run_at-at-requires-clause-there

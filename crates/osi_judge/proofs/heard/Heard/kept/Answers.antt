@@ -1,6 +1,6 @@
 use Rattle.std.proofs.Common.{◌∙◌, ap, ℕ, List, length}
 use Rattle.osi_judge.specs.Keeping.{once}
-use Rattle.osi_judge.proofs.equal_tsdus_in_a_row_are_kept_once.{kept_once}
+use Rattle.osi_judge.proofs.outlined.equal_tsdus_in_a_row_are_kept_once.{kept_once}
 use Rattle.osi_judge.proofs.heard.Heard.kept.Goals as goal
 
 pub returns : goal.returns

@@ -1,4 +1,4 @@
-use Rattle.osi_judge.proofs.equal_tsdus_in_a_row_are_kept_once.{counted_in}
+use Rattle.osi_judge.proofs.outlined.equal_tsdus_in_a_row_are_kept_once.{counted_in}
 use Rattle.osi_judge.proofs.heard.Heard.len.Goals as goal
 
 pub returns : goal.returns

@@ -2,7 +2,7 @@ use Rattle.std.proofs.Common.{◌∙◌, refl, sym, subst, ◌≡◌, ◌<◌, �
 use Rattle.osi_judge.specs.declared.heard.Run.{Run}
 use Rattle.osi_judge.specs.Keeping.{is_same}
 use Rattle.osi_judge.specs.Runs.{last_in}
-use Rattle.osi_judge.proofs.equal_tsdus_in_a_row_are_kept_once.{a_run_more, added_in, last_goes_on, once_more}
+use Rattle.osi_judge.proofs.outlined.equal_tsdus_in_a_row_are_kept_once.{a_run_more, added_in, last_goes_on, once_more}
 use Rattle.osi_judge.proofs.heard.Heard.push.Goals as goal
 
 pub invariant_of-self : goal.invariant_of-self

@@ -1,7 +1,7 @@
 use Rattle.std.proofs.Common.{◌∙◌, ap, subst, ℕ, ◌≡◌, ◌≢◌, ◌-◌, List, length, take, arith}
 use Rattle.osi_judge.specs.declared.heard.Run.{Run}
 use Rattle.osi_judge.specs.Runs.{last_from}
-use Rattle.osi_judge.proofs.equal_tsdus_in_a_row_are_kept_once.{counted_in, one_fewer, popped, stays_shorter}
+use Rattle.osi_judge.proofs.outlined.equal_tsdus_in_a_row_are_kept_once.{counted_in, one_fewer, popped, stays_shorter}
 use Rattle.osi_judge.proofs.heard.Heard.take_back.Goals as goal
 
 pub overflow_sub-count : goal.overflow_sub-count

@@ -3,7 +3,7 @@ use Rattle.osi_judge.specs.declared.findings.Finding.{Finding}
 use Rattle.osi_judge.specs.Judging.{Watched}
 use Rattle.osi_judge.specs.Following.{judged}
 use Rattle.osi_judge.specs.Tapping.{IsFoundIn}
-use Rattle.osi_judge.proofs.JudgeLaws.{is_found}
+use Rattle.osi_judge.proofs.captured.what_was_found_of_a_capture.{is_found}
 use Rattle.osi_judge.proofs.judge.Judge.finding.Goals as goal
 
 pub returns-clause-found : goal.returns-clause-found

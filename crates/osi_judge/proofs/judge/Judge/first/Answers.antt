@@ -1,5 +1,5 @@
 use Rattle.osi_judge.specs.Following.{judged, first_in}
-use Rattle.osi_judge.proofs.FirstLaws.{first_told}
+use Rattle.osi_judge.proofs.captured.which_side_broke_the_protocol_first.{first_told}
 use Rattle.osi_judge.proofs.judge.Judge.first.Goals as goal
 
 pub returns-clause-first : goal.returns-clause-first

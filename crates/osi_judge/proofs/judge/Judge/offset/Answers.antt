@@ -2,7 +2,7 @@ use Rattle.std.proofs.Common.{sym, subst}
 use Rattle.osi_judge.specs.Feeding.{Tapped}
 use Rattle.osi_judge.specs.Following.{judged, half_of}
 use Rattle.osi_judge.specs.Tapping.{IsPlaceIn}
-use Rattle.osi_judge.proofs.JudgeLaws.{is_placed}
+use Rattle.osi_judge.proofs.captured.what_was_found_of_a_capture.{is_placed}
 use Rattle.osi_judge.proofs.judge.Judge.offset.Goals as goal
 
 pub returns-clause-place : goal.returns-clause-place

@@ -3,7 +3,7 @@ use Rattle.osi_judge.specs.declared.judge.Reading.{Reading}
 use Rattle.osi_judge.specs.Feeding.{reading_of}
 use Rattle.osi_judge.specs.Following.{judged}
 use Rattle.osi_judge.specs.Tapping.{IsReadIn}
-use Rattle.osi_judge.proofs.JudgeLaws.{is_read, with_rest}
+use Rattle.osi_judge.proofs.captured.what_was_found_of_a_capture.{is_read, with_rest}
 use Rattle.osi_judge.proofs.judge.Judge.reading.Goals as goal
 
 pub returns-clause-value : goal.returns-clause-value

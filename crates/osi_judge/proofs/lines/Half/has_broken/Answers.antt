@@ -9,8 +9,10 @@ returns-in-Broke c = ap (λ (f : Finding). broke_session f || breaks (stopped_of
 
 pub returns-in-Kept : goal.returns-in-Kept
 returns-in-Kept c =
-    c.breaks.ensures ∙ ap breaks c.stopped.ensures ∙ ap (λ (f : Finding). broke_session f || breaks (stopped_of (tapped c.args.self.now))) c.in-Kept.ensures.value
+    c.breaks.ensures ∙ ap breaks c.stopped.ensures ∙ ap (λ (f : Finding). broke_session f || breaks (stopped_of (tapped c.args.self.now)))
+    c.in-Kept.ensures.value
 
 pub returns-in-TooMany : goal.returns-in-TooMany
 returns-in-TooMany c =
-    c.breaks-in-TooMany.ensures ∙ ap breaks c.stopped-in-TooMany.ensures ∙ ap (λ (f : Finding). broke_session f || breaks (stopped_of (tapped c.args.self.now))) c.in-TooMany.ensures.value
+    c.breaks-in-TooMany.ensures ∙ ap breaks c.stopped-in-TooMany.ensures ∙
+    ap (λ (f : Finding). broke_session f || breaks (stopped_of (tapped c.args.self.now))) c.in-TooMany.ensures.value

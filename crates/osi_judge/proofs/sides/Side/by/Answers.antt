@@ -1,5 +1,5 @@
 use Rattle.osi_judge.specs.Sides.{watched}
-use Rattle.osi_judge.proofs.SideLaws.{broke_by, left_by}
+use Rattle.osi_judge.proofs.told.what_is_known_of_a_side.{broke_by, left_by}
 use Rattle.osi_judge.proofs.sides.Side.by.Goals as goal
 
 pub returns-clause-broke : goal.returns-clause-broke

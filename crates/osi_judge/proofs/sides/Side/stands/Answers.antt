@@ -4,7 +4,7 @@ use Rattle.osi_judge.specs.Foremost.{foremost}
 use Rattle.osi_judge.specs.Judging.{is_empty}
 use Rattle.osi_judge.specs.Onward.{IsAmong}
 use Rattle.osi_judge.specs.Sides.{watched}
-use Rattle.osi_judge.proofs.OnwardLaws.{stands_ok}
+use Rattle.osi_judge.proofs.told.how_a_session_comes_on.{stands_ok}
 use Rattle.osi_judge.proofs.sides.Side.stands.Goals as goal
 
 pub returns : goal.returns

@@ -4,7 +4,7 @@ use Rattle.osi_judge.specs.declared.findings.Finding.TheVariants.{TooMany}
 use Rattle.osi_judge.specs.Explaining.{Told}
 use Rattle.osi_judge.specs.Judging.{is_empty}
 use Rattle.osi_judge.specs.Sides.{watched}
-use Rattle.osi_judge.proofs.SideLaws.{ends_ok, leaves_as, crowds_as, kept_as, gives_as, nil_of}
+use Rattle.osi_judge.proofs.told.what_is_known_of_a_side.{ends_ok, leaves_as, crowds_as, kept_as, gives_as, nil_of}
 use Rattle.osi_judge.proofs.sides.Side.tell_kept.Goals as goal
 
 pub returns-then-none_is_left-clause-watches : goal.returns-then-none_is_left-clause-watches
@@ -42,7 +42,9 @@ returns-clause-watches c = λ told k.
     let x : Told = record { octets = c.args.tsdu.now; before = c.args.before } in
     let new = c.in_ok-members.members.items in
     let some : is_empty new ≡ false = ap is_empty (sym c.as_slice.ensures.value) ∙ sym c.none_is_left.ensures ∙ c.if-none_is_left.false in
-    let few : length new ≤ 4096 = subst (λ (m : List Member). length m ≤ 4096) c.as_slice-2.ensures.value (c.is_crowd.ensures.few c.if-is_crowd.false) in
-    kept_as w (record w { members = new; told = w.told + 1; before = c.args.before }) told x new c.opens_outside.result refl c.requires.kept c.requires.order
+    let few : length new ≤ 4096 =
+    subst (λ (m : List Member). length m ≤ 4096) c.as_slice-2.ensures.value (c.is_crowd.ensures.few c.if-is_crowd.false) in
+    kept_as w (record w { members = new; told = w.told + 1; before = c.args.before }) told x new c.opens_outside.result refl c.requires.kept
+    c.requires.order
     (gives_as w x new w.heard c.deref.result.now refl c.deref.ensures.value c.in_ok-members.ensures) some few
     c.requires.passed (c.opens_outside.ensures.first, c.opens_outside.ensures.later) c.if-opens_outside.false k

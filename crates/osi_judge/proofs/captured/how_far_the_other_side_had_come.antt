@@ -1,0 +1,127 @@
+-- How far the other side had come before an octet stays so as octets pass, and so does what the packets of a side mean.
+-- For what a judge is fed.
+use Rattle.std.proofs.Common.{◌≡◌, ◌∙◌, refl, sym, ap, ℕ, ◌+◌, ◌-◌, ◌<◌, ◌≤◌, ◌⊎◌, inl, inr, Bool, cond, true, false}
+use Rattle.std.proofs.Common.{leb, List, [], ◌∷◌, ◌++◌, length, Option, None, arith}
+use Rattle.std.proofs.lemmas.Bool.{le-leb, lt-leb}
+use Rattle.std.proofs.lemmas.Bool.Decides.{leb_tells}
+use Rattle.osi_tpkt.specs.Stream.{ArePackets}
+use Rattle.osi_tpdu.specs.Packet.{units_of}
+use Rattle.osi_judge.specs.declared.directions.Direction.{Direction}
+use Rattle.osi_judge.specs.Captures.{Capture, other, piece, stream, passed_before}
+use Rattle.osi_judge.specs.Transport.{Handshake, silent, first_unit, shaken, handshake_from, packet_length, complete_in, met_before}
+use Rattle.osi_judge.specs.Transport.{Stage, opening, stage_behind, Sent, sent_by, stage_from, sent_from, hasty_behind}
+use Rattle.osi_judge.specs.Transport.{hasty_from, packets_length}
+use Rattle.osi_judge.proofs.captured.a_capture_goes_on.{passed_stays, passed_by_then, passed_within}
+use Rattle.osi_judge.proofs.captured.one_more_packet_passes.{offset_from, offset_of_rest}
+
+-- ---- the packets that are complete within so many octets
+
+complete_one : (n : ℕ) (u : List ℕ) (us : List (List ℕ)) → packet_length u ≤ n
+    → complete_in n (u ∷ us) ≡ u ∷ complete_in (n - packet_length u) us
+complete_one n u us l = ap (λ (b : Bool). cond b (u ∷ complete_in (n - packet_length u) us) []) (le-leb (packet_length u) n l)
+
+complete_none : (n : ℕ) (u : List ℕ) (us : List (List ℕ)) → n < packet_length u → complete_in n (u ∷ us) ≡ []
+complete_none n u us l = ap (λ (b : Bool). cond b (u ∷ complete_in (n - packet_length u) us) []) (lt-leb (packet_length u) n l)
+
+complete_all : (n : ℕ) (us : List (List ℕ)) → packets_length us ≤ n → complete_in n us ≡ us
+complete_all n [] l = refl
+complete_all n (u ∷ us) l =
+    complete_one n u us (omega arith) ∙ ap (λ (x : List (List ℕ)). u ∷ x) (complete_all (n - packet_length u) us (omega arith))
+
+complete_by : (n : ℕ) (u : List ℕ) (xs ys : List (List ℕ))
+    → (packet_length u ≤ n → complete_in (n - packet_length u) xs ≡ complete_in (n - packet_length u) ys)
+    → ((leb (packet_length u) n ≡ true) × (packet_length u ≤ n)) ⊎ ((leb (packet_length u) n ≡ false) × (n < packet_length u))
+    → complete_in n (u ∷ xs) ≡ complete_in n (u ∷ ys)
+complete_by n u xs ys more (inl (e, l)) = complete_one n u xs l ∙ ap (λ (x : List (List ℕ)). u ∷ x) (more l) ∙ sym (complete_one n u ys l)
+complete_by n u xs ys more (inr (e, l)) = complete_none n u xs l ∙ sym (complete_none n u ys l)
+
+-- one that ends later is not among them
+complete_front : (n : ℕ) (us : List (List ℕ)) (u : List ℕ) → n < packets_length us + packet_length u
+    → complete_in n (us ++ u ∷ []) ≡ complete_in n us
+complete_front n [] u l = complete_none n u [] (omega arith)
+complete_front n (v ∷ us) u l =
+    complete_by n v (us ++ u ∷ []) us (λ m. complete_front (n - packet_length v) us u (omega arith)) (leb_tells (packet_length v) n)
+
+-- ---- how far a side has come
+
+pub handshake_more : (h : Handshake) (us : List (List ℕ)) (u : List ℕ)
+    → handshake_from h (us ++ u ∷ []) ≡ shaken (handshake_from h us) (first_unit (units_of u))
+handshake_more h [] u = refl
+handshake_more h (v ∷ us) u = handshake_more (shaken h (first_unit (units_of v))) us u
+
+-- before an octet that is there it stays so
+pub met_stays : (d : Direction) (c e : Capture) (others : List (List ℕ)) (k : ℕ) → k < length (stream d c)
+    → met_before d (c ++ e) others k ≡ met_before d c others k
+met_stays d c e others k l = ap (λ (n : ℕ). handshake_from silent (complete_in n others)) (passed_stays d c e k l)
+
+-- also if a packet ends later
+pub met_not_yet : (d : Direction) (c : Capture) (others : List (List ℕ)) (u : List ℕ) (k : ℕ)
+    → length (stream (other d) c) < packets_length others + packet_length u → met_before d c (others ++ u ∷ []) k ≡ met_before d c others k
+met_not_yet d c others u k l =
+    let w = passed_within d c k in ap (handshake_from silent) (complete_front (passed_before d c k) others u (omega arith))
+
+-- before an octet that passes now, all that the other side sent had passed
+pub met_now : (d : Direction) (c : Capture) (octets : List ℕ) (others : List (List ℕ)) (k : ℕ) → length (stream d c) ≤ k
+    → k < length (stream d c) + length octets
+    → packets_length others ≤ length (stream (other d) c) → met_before d (c ++ piece d octets) others k ≡ handshake_from silent others
+met_now d c octets others k l m h =
+    ap (λ (n : ℕ). handshake_from silent (complete_in n others)) (passed_by_then d c octets k l m)
+    ∙ ap (handshake_from silent) (complete_all (length (stream (other d) c)) others h)
+
+-- ---- what packets mean
+
+-- packets end behind where they begin
+offset_more : (at : ℕ) (us : List (List ℕ)) → at ≤ offset_from at us
+offset_more at [] = omega arith
+offset_more at (u ∷ us) = let h = offset_more (at + packet_length u) us in omega arith
+
+stage_same : (d : Direction) (m p : ℕ → Handshake) (n : ℕ) → ((k : ℕ) → k < n → m k ≡ p k) → (s : Stage) (at : ℕ) (us : List (List ℕ))
+    → offset_from at us ≤ n
+    → stage_from d m s at us ≡ stage_from d p s at us
+stage_same d m p n e s at [] l = refl
+stage_same d m p n e s at (u ∷ us) l =
+    let far = offset_more (at + packet_length u) us in
+    ap (λ (h : Handshake). stage_from d m (stage_behind d h s at u) (at + packet_length u) us) (e at (omega arith))
+    ∙ stage_same d m p n e (stage_behind d (p at) s at u) (at + packet_length u) us l
+
+sent_same : (d : Direction) (m p : ℕ → Handshake) (n : ℕ) → ((k : ℕ) → k < n → m k ≡ p k) → (s : Stage) (at : ℕ) (us : List (List ℕ))
+    → offset_from at us ≤ n
+    → sent_from d m s at us ≡ sent_from d p s at us
+sent_same d m p n e s at [] l = refl
+sent_same d m p n e s at (u ∷ us) l =
+    let far = offset_more (at + packet_length u) us in
+    ap (λ (h : Handshake). sent_by d h s at u ++ sent_from d m (stage_behind d h s at u) (at + packet_length u) us) (e at (omega arith))
+    ∙ ap (λ (x : List Sent). sent_by d (p at) s at u ++ x) (sent_same d m p n e (stage_behind d (p at) s at u) (at + packet_length u) us l)
+
+hasty_same : (d : Direction) (m p : ℕ → Handshake) (n : ℕ) → ((k : ℕ) → k < n → m k ≡ p k)
+    → (s : Stage) (hasty : Option ℕ) (at : ℕ) (us : List (List ℕ))
+    → offset_from at us ≤ n → hasty_from d m s hasty at us ≡ hasty_from d p s hasty at us
+hasty_same d m p n e s hasty at [] l = refl
+hasty_same d m p n e s hasty at (u ∷ us) l =
+    let far = offset_more (at + packet_length u) us in
+    ap (λ (h : Handshake). hasty_from d m (stage_behind d h s at u) (hasty_behind d h s hasty at u) (at + packet_length u) us)
+    (e at (omega arith))
+    ∙ hasty_same d m p n e (stage_behind d (p at) s at u) (hasty_behind d (p at) s hasty at u) (at + packet_length u) us l
+
+-- the packets of a stream mean the same if the other side had come as far before each of its octets
+abbrev pub MeetAlike : ℕ → (m p : ℕ → Handshake) → Type 0
+MeetAlike n m p = (k : ℕ) → k < n → m k ≡ p k
+
+end_within : (d : Direction) (c : Capture) (us : List (List ℕ)) (rest : List ℕ) → ArePackets us (stream d c) rest
+    → offset_from 0 us ≤ length (stream d c)
+end_within d c us rest h = let e = offset_of_rest 0 us (stream d c) rest h in omega arith
+
+pub stage_stays : (d : Direction) (c : Capture) (us : List (List ℕ)) (rest : List ℕ) → ArePackets us (stream d c) rest
+    → (m p : ℕ → Handshake) → MeetAlike (length (stream d c)) m p
+    → stage_from d m opening 0 us ≡ stage_from d p opening 0 us
+stage_stays d c us rest h m p e = stage_same d m p (length (stream d c)) e opening 0 us (end_within d c us rest h)
+
+pub sent_stays : (d : Direction) (c : Capture) (us : List (List ℕ)) (rest : List ℕ) → ArePackets us (stream d c) rest
+    → (m p : ℕ → Handshake) → MeetAlike (length (stream d c)) m p
+    → sent_from d m opening 0 us ≡ sent_from d p opening 0 us
+sent_stays d c us rest h m p e = sent_same d m p (length (stream d c)) e opening 0 us (end_within d c us rest h)
+
+pub hasty_stays : (d : Direction) (c : Capture) (us : List (List ℕ)) (rest : List ℕ) → ArePackets us (stream d c) rest
+    → (m p : ℕ → Handshake) → MeetAlike (length (stream d c)) m p
+    → hasty_from d m opening None 0 us ≡ hasty_from d p opening None 0 us
+hasty_stays d c us rest h m p e = hasty_same d m p (length (stream d c)) e opening None 0 us (end_within d c us rest h)

@@ -1,0 +1,386 @@
+-- How many TSDUs a side told, and how its session stands, is so in the capture; and a side without a reference told none.
+-- For the crate that writes what a judge found.
+use Rattle.std.proofs.Common.{◌≡◌, ◌∙◌, refl, sym, ap, subst, ℕ, ◌+◌, ◌==◌, Bool, true, false, if◌then◌else◌, List, [], ◌∷◌, ◌++◌}
+use Rattle.std.proofs.Common.{◌↔◌, inl, inr, length, take, Option, Some, None, Result, Ok, Err}
+use Rattle.osi_tpkt.proofs.a_stream_is_cut_in_one_way.{one_cut}
+use Rattle.osi_tpdu.specs.Value.{Value, request, confirm, disconnect, disconnected, data0, data2, acknowledge, error}
+use Rattle.osi_tpdu.specs.Packet.{units_of}
+use Rattle.osi_tpdu.specs.declared.faults.TpduFault.{TpduFault}
+use Rattle.osi_class.specs.Negotiation.{proposes}
+use Rattle.osi_session.specs.Standing.{Seen}
+use Rattle.osi_judge.specs.declared.directions.Direction.{Direction}
+use Rattle.osi_judge.specs.declared.directions.Direction.TheVariants as side
+use Rattle.osi_judge.specs.declared.findings.Finding.{Finding}
+use Rattle.osi_judge.specs.declared.findings.Finding.TheVariants.{Kept, Broke, Left, TooMany}
+use Rattle.osi_judge.specs.declared.members.Member.{Member}
+use Rattle.osi_judge.specs.declared.standings.Stands.{Stands}
+use Rattle.osi_judge.specs.declared.stops.Stop.TheVariants.{NoOpening, OtherClass}
+use Rattle.osi_judge.specs.Captures.{Capture, other, stream}
+use Rattle.osi_judge.specs.Explaining.{Told, remarks, Explains, IsExplained}
+use Rattle.osi_judge.specs.Breaking.{BreaksWith}
+use Rattle.osi_judge.specs.Foremost.{foremost}
+use Rattle.osi_judge.specs.Judging.{Watched, AreAll, Keeps, BrokeBy, LeftBy, WatchesBy, Watches}
+use Rattle.osi_judge.specs.Onward.{StandsFor, StandsBehind}
+use Rattle.osi_judge.specs.Walking.{Ever}
+use Rattle.osi_judge.specs.Transport.{Handshake, silent, asked, asked_again, agreed, denied, astray, first_unit, packet_length, met_before}
+use Rattle.osi_judge.specs.Transport.{Move, asks, opens, adds, hurries, refuses, ignores, stops, misplaced}
+use Rattle.osi_judge.specs.Transport.{asking_step, answering_step, has_asked, first_step, refused_step, step_of}
+use Rattle.osi_judge.specs.Transport.{given_by, reference_in, Stage, opening, asking, between, within, refused}
+use Rattle.osi_judge.specs.Transport.{stopped, moved, stage_behind}
+use Rattle.osi_judge.specs.Transport.{Sent, brought, sent_by, sent_from, ArePacketsOf, IsSent}
+use Rattle.osi_judge.specs.Tapping.{begin_of, heard, told, IsFoundIn, IsStoppedIn, IsReadIn, IsReferenceIn, IsPlaceIn, IsCountIn}
+use Rattle.osi_judge.specs.Tapping.{StandIn, IsStandingIn, IsRuleIn, IsFirstIn}
+use Rattle.osi_judge.specs.Feeding.{Tapped, reading_of, stopped_of}
+use Rattle.osi_judge.specs.Following.{Follows, Judged, half_of, Taps, FirstIs}
+use Rattle.osi_judge.proofs.captured.what_was_found_of_a_capture.{cut_as, packets_of, is_sent, is_read, is_given, is_stopped, is_found}
+use Rattle.osi_judge.proofs.captured.what_was_found_of_a_capture.{is_placed}
+use Rattle.osi_judge.proofs.captured.which_side_broke_the_protocol_first.{first_told}
+use Rattle.osi_judge.proofs.captured.what_is_told_beside_is_of_the_capture.{count_kept, count_told, opening_given}
+use Rattle.osi_judge.proofs.outlined.a_rule_of_outlines_is_one_of_tsdus.{all_of_tsdus, explained_of_outlines, rule_of_tsdus}
+use Rattle.osi_judge.proofs.outlined.a_rule_of_outlines_is_one_of_tsdus.{stands_of_outlines}
+use Rattle.osi_judge.proofs.outlined.alike_tsdus_explain_the_same.{said_of_tsdus}
+
+-- ---- a side that kept the protocol
+
+-- so many TSDUs were told of it, and so its session stands
+abbrev pub Counts : Watched → ℕ → Type 0
+Counts w n = (said : List Told) → Watches w said → w.finding ≡ Kept → n ≡ length said
+
+abbrev pub StandsHere : Watched → Stands → Type 0
+StandsHere w s = (said : List Told) → Keeps w said → StandsFor w said s
+
+keeps_as : (w : Watched) (said : List Told) → Watches w said → w.finding ≡ Kept → Keeps w said
+keeps_as w said k e = subst (λ (f : Finding). WatchesBy f w said) e k
+
+counted_as : (d : Direction) (c : Capture) (t : Tapped) (us bs : List (List ℕ)) (mine others : List Sent) → Follows d c t us bs mine others
+    → ArePacketsOf (other d) c bs → t.side.finding ≡ Kept
+    → (n : ℕ) → Counts t.side n → IsCountIn d c n
+counted_as d c t us bs mine others f b e n k = record {
+  mine = mine;
+  is_mine = is_sent d c t us bs mine others f b;
+  counted = k (told d c mine others) f.watches e ∙ sym (keeps_as t.side (told d c mine others) f.watches e).count ∙
+      count_told d c mine others t.side f.watches e;
+}
+
+pub is_counted : (d : Direction) (c : Capture) (j : Judged) → Taps j c → (half_of d j).side.finding ≡ Kept → (n : ℕ)
+    → Counts (half_of d j).side n → IsCountIn d c n
+is_counted side.Left c j h e n k = counted_as side.Left c j.left h.left_units h.right_units h.left h.right h.of_left
+    (cut_as side.Right c j.right h.right_units h.left_units h.right h.left h.of_right) e n k
+is_counted side.Right c j h e n k = counted_as side.Right c j.right h.right_units h.left_units h.right h.left h.of_right
+    (cut_as side.Left c j.left h.left_units h.right_units h.left h.right h.of_left) e n k
+
+-- the sessions that explain what a side said
+abbrev stand_as : (d : Direction) (c : Capture) (t u : Tapped) (us bs : List (List ℕ)) (mine others : List Sent) (said : List Told) →
+    Follows d c t us bs mine others
+    → Follows (other d) c u bs us others mine → AreAll t.side.begin t.side.heard t.side.before t.side.members said
+    → StandIn d c mine others said t.side.members
+stand_as d c t u us bs mine others said f g a = record {
+  is_mine = is_sent d c t us bs mine others f (cut_as (other d) c u bs us others mine g);
+  is_others = is_sent (other d) c u bs us others mine g (packets_of d c us (cut_as d c t us bs mine others f));
+  before = t.side.before;
+  all = subst (λ (b : Seen). AreAll b (heard others) t.side.before t.side.members said) f.begin
+      (all_of_tsdus t.side.begin (heard others) t.side.before t.side.members said
+      (subst (λ (x : List (List ℕ)). AreAll t.side.begin x t.side.before t.side.members said) f.heard a));
+}
+
+standing_as : (d : Direction) (c : Capture) (t u : Tapped) (us bs : List (List ℕ)) (mine others : List Sent) →
+    Follows d c t us bs mine others
+    → Follows (other d) c u bs us others mine → t.side.finding ≡ Kept
+    → (s : Stands) → StandsHere t.side s → IsStandingIn d c t.side.members s
+standing_as d c t u us bs mine others f g e s k =
+    let said = told d c mine others in
+    let m = foremost t.side.members in
+    let h = k said (keeps_as t.side said f.watches e) in record {
+      mine = mine;
+      others = others;
+      stand = stand_as d c t u us bs mine others said f g h.all;
+      has_said = subst (λ (b : Seen). Ever (heard others) t.side.before
+          (λ us later. Explains us later m.taken m.standing → Explains us (remarks said ++ later) 0 b)) f.begin
+          (said_of_tsdus (heard others) t.side.before m.taken m.standing (remarks said) t.side.begin
+          (subst (λ (x : List (List ℕ)). Ever x t.side.before
+          (λ us later. Explains us later m.taken m.standing → Explains us (remarks said ++ later) 0 t.side.begin)) f.heard h.has_said));
+      behind = stands_of_outlines (heard others) m s (subst (λ (x : List (List ℕ)). StandsBehind x m s) f.heard h.behind);
+    }
+
+pub is_standing : (d : Direction) (c : Capture) (j : Judged) → Taps j c → (half_of d j).side.finding ≡ Kept → (s : Stands)
+    → StandsHere (half_of d j).side s → IsStandingIn d c (half_of d j).side.members s
+is_standing side.Left c j h e s k = standing_as side.Left c j.left j.right h.left_units h.right_units h.left h.right h.of_left h.of_right e
+    s k
+is_standing side.Right c j h e s k = standing_as side.Right c j.right j.left h.right_units h.left_units h.right h.left h.of_right h.of_left
+    e s k
+
+-- ---- the rule by which a side broke the protocol
+
+-- some sessions before the unit at which the side broke the protocol
+abbrev pub HasRule : Direction → Capture → Tapped → Finding → Type 0
+HasRule d c t found = (at : List Member) × IsRuleIn d c t.side.members at found t.side.by
+
+rule_in : (d : Direction) (c : Capture) (t : Tapped) (us bs : List (List ℕ)) (mine others : List Sent) (x : Told) (at : List Member)
+    → Follows d c t us bs mine others → BreaksWith t.side.heard x.octets x.before t.side.members at t.side.by
+    → BreaksWith (heard others) x.octets x.before t.side.members at t.side.by
+rule_in d c t us bs mine others x at f h = rule_of_tsdus (heard others) x.octets x.before t.side.members at t.side.by
+    (subst (λ (h : List (List ℕ)). BreaksWith h x.octets x.before t.side.members at t.side.by) f.heard h)
+
+broken_as : (d : Direction) (c : Capture) (t u : Tapped) (us bs : List (List ℕ)) (mine others : List Sent) (i : ℕ) →
+    Follows d c t us bs mine others
+    → Follows (other d) c u bs us others mine → BrokeBy t.side (told d c mine others) i → HasRule d c t (Broke i)
+broken_as d c t u us bs mine others i f g (x, s, b, l) = (
+  b.0,
+  record {
+    mine = mine;
+    others = others;
+    stand = stand_as d c t u us bs mine others (take i (told d c mine others)) f g s.all;
+    tsdu = x;
+    is = s.is;
+    near = rule_in d c t us bs mine others x b.0 f b.1;
+    breaks = l;
+  },
+)
+
+explained_in : (d : Direction) (c : Capture) (t : Tapped) (us bs : List (List ℕ)) (mine others : List Sent) (said : List Told) →
+    Follows d c t us bs mine others
+    → IsExplained t.side.begin t.side.heard said ↔ IsExplained (begin_of d) (heard others) said
+explained_in d c t us bs mine others said f =
+    let a = f.begin in
+    let b = f.heard in
+    let e = explained_of_outlines (heard others) (remarks said) 0 (begin_of d) in (
+      λ k. e.0 (subst (λ (p : Seen × List (List ℕ)). IsExplained p.0 p.1 said) (λ i. (a i, b i)) k),
+      λ k. subst (λ (p : Seen × List (List ℕ)). IsExplained p.0 p.1 said) (sym (λ i. (a i, b i))) (e.1 k),
+    )
+
+left_as : (d : Direction) (c : Capture) (t u : Tapped) (us bs : List (List ℕ)) (mine others : List Sent) (i : ℕ) →
+    Follows d c t us bs mine others
+    → Follows (other d) c u bs us others mine → LeftBy t.side (told d c mine others) i → HasRule d c t (Left i)
+left_as d c t u us bs mine others i f g (x, s, inl (b, l, k)) = (
+  b.0,
+  record {
+    mine = mine;
+    others = others;
+    stand = stand_as d c t u us bs mine others (take i (told d c mine others)) f g s.all;
+    tsdu = x;
+    is = s.is;
+    near = inl (
+      rule_in d c t us bs mine others x b.0 f b.1,
+      l,
+      λ e. (k.1 t.side.heard (λ j p. refl)).1 ((explained_in d c t us bs mine others (take (i + 1) (told d c mine others)) f).1 e),
+    );
+  },
+)
+left_as d c t u us bs mine others i f g (x, s, inr (b, k)) = (
+  [],
+  record {
+    mine = mine;
+    others = others;
+    stand = stand_as d c t u us bs mine others (take i (told d c mine others)) f g s.all;
+    tsdu = x;
+    is = s.is;
+    near = inr (b, (explained_in d c t us bs mine others (take (i + 1) (told d c mine others)) f).0 (k t.side.heard (λ j p. refl)));
+  },
+)
+
+rule_by : (found : Finding) (d : Direction) (c : Capture) (t u : Tapped) (us bs : List (List ℕ)) (mine others : List Sent) →
+    Follows d c t us bs mine others
+    → Follows (other d) c u bs us others mine → WatchesBy found t.side (told d c mine others) → HasRule d c t found
+rule_by Kept d c t u us bs mine others f g k = ([], tt)
+rule_by (Broke i) d c t u us bs mine others f g k = broken_as d c t u us bs mine others i f g k.1
+rule_by (Left i) d c t u us bs mine others f g k = left_as d c t u us bs mine others i f g k.1
+rule_by TooMany d c t u us bs mine others f g k = ([], tt)
+
+-- what is known of the rule by which a side broke the protocol
+pub has_rule : (d : Direction) (c : Capture) (j : Judged) → Taps j c → HasRule d c (half_of d j) (half_of d j).side.finding
+has_rule side.Left c j h = rule_by j.left.side.finding side.Left c j.left j.right h.left_units h.right_units h.left h.right h.of_left
+    h.of_right h.of_left.watches
+has_rule side.Right c j h = rule_by j.right.side.finding side.Right c j.right j.left h.right_units h.left_units h.right h.left h.of_right
+    h.of_left h.of_right.watches
+
+-- ---- what is known of a side
+
+pub record KnownIn (d : Direction) (c : Capture) (t : Tapped) : Type 0 where
+  pub read : IsReadIn d c (reading_of t)
+  pub given : IsReferenceIn d c t.line.reference
+  pub stops : IsStoppedIn d c (stopped_of t)
+  pub found : IsFoundIn d c t.side.finding
+  pub count : t.side.finding ≡ Kept → IsCountIn d c t.side.told
+  pub place : IsPlaceIn d c t.side.finding t.line.last
+  pub rule : HasRule d c t t.side.finding
+
+pub known_in : (d : Direction) (c : Capture) (j : Judged) → Taps j c → KnownIn d c (half_of d j)
+known_in d c j h = record {
+  read = is_read d c j h;
+  given = is_given d c j h;
+  stops = is_stopped d c j h;
+  found = is_found d c j h;
+  count = λ e. is_counted d c j h e (half_of d j).side.told (λ said k f. count_kept (half_of d j).side said k f);
+  place = is_placed d c j h;
+  rule = has_rule d c j h;
+}
+
+-- ---- a side without a reference
+
+-- no TSDU follows such a packet
+abbrev IsOver : Stage → Type 0
+IsOver (refused at) = Unit {0}
+IsOver (stopped stop at) = Unit {0}
+IsOver s = ⊥
+
+abbrev IsLast : Move → Type 0
+IsLast refuses = Unit {0}
+IsLast ignores = Unit {0}
+IsLast (stops stop) = Unit {0}
+IsLast m = ⊥
+
+abbrev Ends : Move → Type 0
+Ends refuses = Unit {0}
+Ends (stops stop) = Unit {0}
+Ends m = ⊥
+
+asks_or_ends : (b : Bool) (source : ℕ) → given_by (if b then asks source else stops OtherClass) ≡ None
+    → Ends (if b then asks source else stops OtherClass)
+asks_or_ends true source h = absurd (cc)
+asks_or_ends false source h = tt
+
+opens_or_ends : (b : Bool) (source : ℕ) → given_by (if b then opens source else stops OtherClass) ≡ None
+    → Ends (if b then opens source else stops OtherClass)
+opens_or_ends true source h = absurd (cc)
+opens_or_ends false source h = tt
+
+either_ends : (b : Bool) (m p : Move) → Ends m → Ends p → Ends (if b then m else p)
+either_ends true m p h k = h
+either_ends false m p h k = k
+
+answering_ends : (v : Value) → Ends (answering_step v)
+answering_ends (request c) = tt
+answering_ends (confirm destination c) = tt
+answering_ends (disconnect destination source reason user) = tt
+answering_ends (disconnected destination source) = tt
+answering_ends (data0 end user) = tt
+answering_ends (data2 destination number end user) = tt
+answering_ends (acknowledge credit destination number) = tt
+answering_ends (error destination cause) = tt
+
+asking_ends : (v : Value) → given_by (asking_step v) ≡ None → Ends (asking_step v)
+asking_ends (request c) h = asks_or_ends (proposes c 0) c.source h
+asking_ends (confirm destination c) h = tt
+asking_ends (disconnect destination source reason user) h = tt
+asking_ends (disconnected destination source) h = tt
+asking_ends (data0 end user) h = tt
+asking_ends (data2 destination number end user) h = tt
+asking_ends (acknowledge credit destination number) h = tt
+asking_ends (error destination cause) h = tt
+
+answered_ends : (h : Handshake) (v : Value) → Ends (if has_asked h then answering_step v else stops NoOpening)
+answered_ends h v = either_ends (has_asked h) (answering_step v) (stops NoOpening) (answering_ends v) tt
+
+first_ends : (d : Direction) (h : Handshake) (v : Value) → given_by (first_step d h v) ≡ None → Ends (first_step d h v)
+first_ends side.Left h v n = asking_ends v n
+first_ends side.Right h (confirm destination c) n = opens_or_ends (c.class == 0) c.source n
+first_ends side.Right h (request c) n = answered_ends h (request c)
+first_ends side.Right h (disconnect destination source reason user) n = answered_ends h (disconnect destination source reason user)
+first_ends side.Right h (disconnected destination source) n = answered_ends h (disconnected destination source)
+first_ends side.Right h (data0 end user) n = answered_ends h (data0 end user)
+first_ends side.Right h (data2 destination number end user) n = answered_ends h (data2 destination number end user)
+first_ends side.Right h (acknowledge credit destination number) n = answered_ends h (acknowledge credit destination number)
+first_ends side.Right h (error destination cause) n = answered_ends h (error destination cause)
+
+nameless_ends : (d : Direction) (h : Handshake) (r : Result (Option Value) TpduFault) → given_by (step_of d opening h r) ≡ None
+    → Ends (step_of d opening h r)
+nameless_ends d h (Err fault) n = tt
+nameless_ends d h (Ok None) n = tt
+nameless_ends d h (Ok (Some v)) n = first_ends d h v n
+
+misplaced_last : (v : Value) → IsLast (misplaced v)
+misplaced_last (request c) = tt
+misplaced_last (confirm destination c) = tt
+misplaced_last (disconnect destination source reason user) = tt
+misplaced_last (disconnected destination source) = tt
+misplaced_last (data0 end user) = tt
+misplaced_last (data2 destination number end user) = tt
+misplaced_last (acknowledge credit destination number) = tt
+misplaced_last (error destination cause) = tt
+
+refused_last : (h : Handshake) (v : Value) → IsLast (refused_step h v)
+refused_last asked v = misplaced_last v
+refused_last (denied destination source) v = misplaced_last v
+refused_last silent v = tt
+refused_last asked_again v = tt
+refused_last agreed v = tt
+refused_last astray v = tt
+
+step_last : (d : Direction) (place : ℕ) (h : Handshake) (r : Result (Option Value) TpduFault) → IsLast (step_of d (refused place) h r)
+step_last d place h (Err fault) = tt
+step_last d place h (Ok None) = tt
+step_last d place h (Ok (Some v)) = refused_last h v
+
+brings_none : (s : Stage) (at : ℕ) (u : List ℕ) (m : Move) → IsLast m → brought s at u m ≡ []
+brings_none s at u refuses h = refl
+brings_none s at u ignores h = refl
+brings_none s at u (stops stop) h = refl
+brings_none s at u (asks reference) h = absurd h
+brings_none s at u (opens reference) h = absurd h
+brings_none s at u (adds end octets) h = absurd h
+brings_none s at u (hurries end octets) h = absurd h
+
+over_moved : (place at : ℕ) (m : Move) → IsLast m → IsOver (moved (refused place) at m)
+over_moved place at refuses h = tt
+over_moved place at ignores h = tt
+over_moved place at (stops stop) h = tt
+over_moved place at (asks reference) h = absurd h
+over_moved place at (opens reference) h = absurd h
+over_moved place at (adds end octets) h = absurd h
+over_moved place at (hurries end octets) h = absurd h
+
+over_sends : (d : Direction) (h : Handshake) (s : Stage) (at : ℕ) (u : List ℕ) → IsOver s
+    → (sent_by d h s at u ≡ []) × IsOver (stage_behind d h s at u)
+over_sends d h (refused place) at u o =
+    let l = step_last d place h (first_unit (units_of u)) in
+    let m = step_of d (refused place) h (first_unit (units_of u)) in (brings_none (refused place) at u m l, over_moved place at m l)
+over_sends d h (stopped stop place) at u o = (refl, tt)
+over_sends d h opening at u o = absurd o
+over_sends d h asking at u o = absurd o
+over_sends d h between at u o = absurd o
+over_sends d h (within first octets) at u o = absurd o
+
+over_is_silent : (d : Direction) (met : ℕ → Handshake) (s : Stage) (at : ℕ) (us : List (List ℕ)) → IsOver s → sent_from d met s at us ≡ []
+over_is_silent d met s at [] o = refl
+over_is_silent d met s at (u ∷ us) o =
+    let h = over_sends d (met at) s at u o in
+    ap (λ (x : List Sent). x ++ sent_from d met (stage_behind d (met at) s at u) (at + packet_length u) us) h.0
+    ∙ over_is_silent d met (stage_behind d (met at) s at u) (at + packet_length u) us h.1
+
+ends_is_last : (m : Move) → Ends m → IsLast m
+ends_is_last refuses h = tt
+ends_is_last (stops stop) h = tt
+ends_is_last ignores h = absurd h
+ends_is_last (asks reference) h = absurd h
+ends_is_last (opens reference) h = absurd h
+ends_is_last (adds end octets) h = absurd h
+ends_is_last (hurries end octets) h = absurd h
+
+ends_is_over : (s : Stage) (at : ℕ) (m : Move) → Ends m → IsOver (moved s at m)
+ends_is_over s at refuses h = tt
+ends_is_over s at (stops stop) h = tt
+ends_is_over s at ignores h = absurd h
+ends_is_over s at (asks reference) h = absurd h
+ends_is_over s at (opens reference) h = absurd h
+ends_is_over s at (adds end octets) h = absurd h
+ends_is_over s at (hurries end octets) h = absurd h
+
+nameless_sends : (d : Direction) (met : ℕ → Handshake) (us : List (List ℕ)) → reference_in d us ≡ None → sent_from d met opening 0 us ≡ []
+nameless_sends d met [] h = refl
+nameless_sends d met (u ∷ us) h =
+    let r = first_unit (units_of u) in
+    let m = step_of d opening (met 0) r in
+    let e = nameless_ends d (met 0) r (opening_given d (met 0) r ∙ h) in
+    ap (λ (x : List Sent). x ++ sent_from d met (moved opening 0 m) (0 + packet_length u) us) (brings_none opening 0 u m (ends_is_last m e))
+    ∙ over_is_silent d met (moved opening 0 m) (0 + packet_length u) us (ends_is_over opening 0 m e)
+
+-- it sent no TSDU
+pub nameless_said_nothing : (d : Direction) (c : Capture) (mine : List Sent) → IsSent d c mine → IsReferenceIn d c None → mine ≡ []
+nameless_said_nothing d c mine (units, others, (ending, cut), are_others, sent) g =
+    let same = (one_cut (stream d c) units g.units ending g.ending cut g.cut).0 in
+    sent ∙ ap (λ (us : List (List ℕ)). sent_from d (met_before d c others) opening 0 us) same
+    ∙ nameless_sends d (met_before d c others) g.units (sym g.given)
+
+-- the side that broke the protocol first
+pub is_first_in : (first : Option Direction) (j : Judged) (c : Capture) → Taps j c → FirstIs first j c → IsFirstIn c first
+is_first_in first j c t h = first_told first j c t h

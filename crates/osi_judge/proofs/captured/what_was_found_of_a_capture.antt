@@ -1,0 +1,250 @@
+-- What is known of a judge, and what was found of a capture.
+use Rattle.std.proofs.Common.{◌≡◌, ◌∙◌, refl, sym, ap, subst, ℕ, ◌-◌, ◌+◌, List, [], length, Option, Some, None, option_map, arith}
+use Rattle.osi_tpkt.specs.Packet.{IsFaultOf}
+use Rattle.osi_tpkt.specs.Stream.{Ending, EndsAt, offset_of}
+use Rattle.osi_tpkt.specs.Stream.Ending.{Faulty, Rest}
+use Rattle.osi_tpkt.specs.declared.faults.TpktFault.{TpktFault}
+use Rattle.osi_tpkt.specs.declared.faults.TpktFault.TheVariants.{BadVersion, BadLength, OutOfMemory}
+use Rattle.osi_tpkt.proofs.a_prefix_of_a_packet.{empty_partial}
+use Rattle.osi_tpkt.proofs.a_stream_is_cut_in_one_way.{one_cut}
+use Rattle.osi_judge.specs.declared.directions.Direction.{Direction}
+use Rattle.osi_judge.specs.declared.directions.Direction.TheVariants.{Left, Right}
+use Rattle.osi_session.specs.Standing.{Seen}
+use Rattle.osi_judge.specs.Captures.{Capture, other, stream}
+use Rattle.osi_judge.specs.Judging.{Watched, Watches, IsFound}
+use Rattle.osi_judge.specs.declared.findings.Finding.{Finding}
+use Rattle.osi_judge.specs.declared.findings.Finding.TheVariants.{Kept}
+use Rattle.osi_judge.specs.declared.judge.Reading.{Reading}
+use Rattle.osi_judge.specs.declared.stops.Stopped.{Stopped as StoppedAt}
+use Rattle.osi_judge.specs.Transport.{silent, met_before, Stage, opening, asking, between, within, refused, stopped}
+use Rattle.osi_judge.specs.Transport.{Sent, packets_length, stage_from, sent_from, hasty_from, ArePacketsOf, IsSent}
+use Rattle.osi_judge.specs.Tapping.{begin_of, heard, told, IsFoundIn, stop_in, or_hasty, IsStoppedIn, IsReadIn}
+use Rattle.osi_judge.specs.Tapping.{IsReferenceIn, IsPlace, IsPlaceIn}
+use Rattle.osi_judge.specs.Feeding.{Tapped, reading_of, stopped_by, stopped_of}
+use Rattle.osi_judge.specs.Following.{shown, IsRest, Follows, Judged, half_of, Taps}
+use Rattle.osi_judge.proofs.told.what_is_known_of_a_side.{found_as}
+use Rattle.osi_judge.proofs.outlined.alike_tsdus_explain_the_same.{found_of_tsdus}
+use Rattle.osi_judge.proofs.captured.one_more_packet_passes.{offset_of_rest}
+use Rattle.osi_judge.proofs.captured.what_is_told_beside_is_of_the_capture.{offset_sum}
+
+-- ---- the beginning
+
+abbrev pub fresh_half : Watched → Tapped
+fresh_half w = record {
+  held = [];
+  octets = 0;
+  fault = None;
+  line = record {
+    at = 0;
+    since = 0;
+    met = silent;
+    handshake = silent;
+    stage = opening;
+    hasty = None;
+    begun_since = 0;
+    packets = 0;
+    reference = None;
+    last = 0;
+  };
+  side = w;
+}
+
+place_kept : (f : Finding) (last : ℕ) → f ≡ Kept → IsPlace f [] last
+place_kept f last e = subst (λ (x : Finding). IsPlace x [] last) (sym e) tt
+
+pub nothing_follows : (d : Direction) (w : Watched) → w.begin ≡ begin_of d → w.heard ≡ [] → w.finding ≡ Kept → Watches w []
+    → Follows d [] (fresh_half w) [] [] [] []
+nothing_follows d w b h y k = record {
+  rest = [];
+  packets = refl;
+  is_rest = (refl, empty_partial);
+  at = refl;
+  handshake = refl;
+  met = λ e l. absurd (omega arith);
+  sent = refl;
+  stage = refl;
+  hasty = refl;
+  since = λ e l. absurd (omega arith);
+  begun = tt;
+  octets = refl;
+  counted = refl;
+  reference = refl;
+  place = place_kept w.finding 0 y;
+  begins = tt;
+  ends = tt;
+  begin = b;
+  heard = h;
+  watches = k;
+}
+
+pub nothing_passed : (j : Judged) (l r : Watched) → j.left ≡ fresh_half l → j.right ≡ fresh_half r → l.begin ≡ begin_of Left →
+    r.begin ≡ begin_of Right → l.heard ≡ [] → r.heard ≡ []
+    → l.finding ≡ Kept → r.finding ≡ Kept → Watches l [] → Watches r [] → Taps j []
+nothing_passed j l r e f b c h k m n x y = record {
+  left_units = [];
+  right_units = [];
+  left = [];
+  right = [];
+  of_left = subst (λ (t : Tapped). Follows Left [] t [] [] [] []) (sym e) (nothing_follows Left l b h m x);
+  of_right = subst (λ (t : Tapped). Follows Right [] t [] [] [] []) (sym f) (nothing_follows Right r c k n y);
+}
+
+-- ---- what was found
+
+fault_at : (at : ℕ) (r : List ℕ) (f : TpktFault) → IsFaultOf 0 r f → (g : TpktFault) × IsFaultOf at r g
+fault_at at r (BadVersion o) h = (BadVersion at, (h.0, refl))
+fault_at at r (BadLength o) h = (BadLength at, (h.0, refl))
+fault_at at r OutOfMemory h = absurd h
+
+ending_of : (at : ℕ) (f : Option TpktFault) (held rest : List ℕ) → IsRest f held rest → (e : Ending) × EndsAt at rest e
+ending_of at None held rest h = (Rest (length rest), (h.1, refl))
+ending_of at (Some f) held rest h = let g = fault_at at rest f h in (Faulty g.0, g.1)
+
+-- a stream is cut where the packets end that were read
+pub cut_as : (d : Direction) (c : Capture) (t : Tapped) (us bs : List (List ℕ)) (mine others : List Sent) → Follows d c t us bs mine others
+    → ArePacketsOf d c us
+cut_as d c t us bs mine others f =
+    let e = ending_of (offset_of (0 + (length (stream d c) - length f.rest))) t.fault t.held f.rest f.is_rest in
+    (e.0, (f.rest, f.packets, e.1))
+
+pub is_sent : (d : Direction) (c : Capture) (t : Tapped) (us bs : List (List ℕ)) (mine others : List Sent)
+    → Follows d c t us bs mine others → ArePacketsOf (other d) c bs → IsSent d c mine
+is_sent d c t us bs mine others f b = (us, bs, cut_as d c t us bs mine others f, b, f.sent)
+
+-- a side has one list of TSDUs
+pub one_reading : (d : Direction) (c : Capture) (some others : List Sent) → IsSent d c some → IsSent d c others → some ≡ others
+one_reading d c some others (us, bs, (e, cut), (f, beside), s) (vs, cs, (g, cut_too), (h, beside_too), t) =
+    let mine = (one_cut (stream d c) us vs e g cut cut_too).0 in
+    let theirs = (one_cut (stream (other d) c) bs cs f h beside beside_too).0 in
+    s ∙ ap (λ (x : List (List ℕ)). sent_from d (met_before d c bs) opening 0 x) mine
+    ∙ ap (λ (x : List (List ℕ)). sent_from d (met_before d c x) opening 0 vs) theirs ∙ sym t
+
+other_twice : (d : Direction) → other (other d) ≡ d
+other_twice Left = refl
+other_twice Right = refl
+
+-- the packets of a side are those of the other side of the other one
+pub packets_of : (d : Direction) (c : Capture) (us : List (List ℕ)) → ArePacketsOf d c us → ArePacketsOf (other (other d)) c us
+packets_of d c us h = subst (λ (x : Direction). ArePacketsOf x c us) (sym (other_twice d)) h
+
+found_of : (d : Direction) (c : Capture) (t u : Tapped) (us bs : List (List ℕ)) (mine others : List Sent) → Follows d c t us bs mine others
+    → Follows (other d) c u bs us others mine
+    → IsFoundIn d c t.side.finding
+found_of d c t u us bs mine others f g = record {
+  mine = mine;
+  others = others;
+  is_mine = is_sent d c t us bs mine others f (cut_as (other d) c u bs us others mine g);
+  is_others = is_sent (other d) c u bs us others mine g (packets_of d c us (cut_as d c t us bs mine others f));
+  found = subst (λ (b : Seen). IsFound b (heard others) (told d c mine others) t.side.finding) f.begin
+      (found_of_tsdus t.side.begin (heard others) (told d c mine others) t.side.finding
+      (subst (λ (x : List (List ℕ)). IsFound t.side.begin x (told d c mine others) t.side.finding) f.heard
+      (found_as t.side (told d c mine others) f.watches)));
+}
+
+pub is_found : (d : Direction) (c : Capture) (j : Judged) → Taps j c → IsFoundIn d c (half_of d j).side.finding
+is_found Left c j h = found_of Left c j.left j.right h.left_units h.right_units h.left h.right h.of_left h.of_right
+is_found Right c j h = found_of Right c j.right j.left h.right_units h.left_units h.right h.left h.of_right h.of_left
+
+-- ---- where it is not read any further
+
+stops_as : (s : Stage) (fault : Option TpktFault) (held rest : List ℕ) (at : ℕ) (r : IsRest fault held rest) →
+    stopped_by (shown s) fault at ≡ stop_in s (ending_of at fault held rest r).0
+unfolding ending_of fault_at
+stops_as (stopped stop place) fault held rest at r = refl
+stops_as (refused place) fault held rest at r = refl
+stops_as asking None held rest at r = refl
+stops_as asking (Some (BadVersion o)) held rest at r = refl
+stops_as asking (Some (BadLength o)) held rest at r = refl
+stops_as asking (Some OutOfMemory) held rest at r = absurd r
+stops_as opening None held rest at r = refl
+stops_as opening (Some (BadVersion o)) held rest at r = refl
+stops_as opening (Some (BadLength o)) held rest at r = refl
+stops_as opening (Some OutOfMemory) held rest at r = absurd r
+stops_as between None held rest at r = refl
+stops_as between (Some (BadVersion o)) held rest at r = refl
+stops_as between (Some (BadLength o)) held rest at r = refl
+stops_as between (Some OutOfMemory) held rest at r = absurd r
+stops_as (within first octets) None held rest at r = refl
+stops_as (within first octets) (Some (BadVersion o)) held rest at r = refl
+stops_as (within first octets) (Some (BadLength o)) held rest at r = refl
+stops_as (within first octets) (Some OutOfMemory) held rest at r = absurd r
+
+zero_plus : (n : ℕ) → n ≡ 0 + n
+zero_plus n = omega arith
+
+abbrev stopped_of_stage : Tapped → Option StoppedAt
+stopped_of_stage t = stopped_by t.line.stage t.fault t.line.at
+
+stopped_as : (d : Direction) (c : Capture) (t : Tapped) (us bs : List (List ℕ)) (mine others : List Sent) → Follows d c t us bs mine others
+    → ArePacketsOf (other d) c bs
+    → IsStoppedIn d c (stopped_of t)
+stopped_as d c t us bs mine others f b =
+    let s = stage_from d (met_before d c bs) opening 0 us in
+    let n = length (stream d c) - length f.rest in
+    let at = offset_of (0 + n) in
+    let e = ending_of at t.fault t.held f.rest f.is_rest in
+    let same_at : t.line.at ≡ at = f.at ∙ ap offset_of (zero_plus n) in record {
+      units = us;
+      ending = e.0;
+      cut = (f.rest, f.packets, e.1);
+      others = bs;
+      are_others = b;
+      stops = ap (λ (x : Option ℕ). or_hasty x (stopped_of_stage t)) f.hasty
+          ∙ ap (or_hasty (option_map offset_of (hasty_from d (met_before d c bs) opening None 0 us)))
+          (ap (λ (x : Stage). stopped_by x t.fault t.line.at) f.stage ∙ ap (λ (x : ℕ). stopped_by (shown s) t.fault x) same_at ∙
+          stops_as s t.fault t.held f.rest at f.is_rest);
+    }
+
+pub is_stopped : (d : Direction) (c : Capture) (j : Judged) → Taps j c → IsStoppedIn d c (stopped_of (half_of d j))
+is_stopped Left c j h =
+    stopped_as Left c j.left h.left_units h.right_units h.left h.right h.of_left
+    (cut_as Right c j.right h.right_units h.left_units h.right h.left h.of_right)
+is_stopped Right c j h =
+    stopped_as Right c j.right h.right_units h.left_units h.right h.left h.of_right
+    (cut_as Left c j.left h.left_units h.right_units h.left h.right h.of_left)
+
+-- ---- what is told beside it
+
+abbrev pub with_rest : (packets octets rest : ℕ) → Reading
+with_rest packets octets rest = record { packets = packets; octets = octets; rest = rest }
+
+read_as : (d : Direction) (c : Capture) (t : Tapped) (us bs : List (List ℕ)) (mine others : List Sent) → Follows d c t us bs mine others
+    → IsReadIn d c (reading_of t)
+read_as d c t us bs mine others f =
+    let e = cut_as d c t us bs mine others f in
+    let place = offset_of_rest 0 us (stream d c) f.rest f.packets in
+    let sum = offset_sum 0 us in
+    let there : length (stream d c) - length f.rest ≡ packets_length us = omega arith in record {
+      units = us;
+      ending = e.0;
+      cut = e.1;
+      packets = f.counted;
+      octets = f.octets;
+      rest = ap (λ (x : ℕ). x - t.line.at) f.octets ∙ ap (λ (x : ℕ). offset_of (length (stream d c)) - x) (f.at ∙ ap offset_of there);
+    }
+
+pub is_read : (d : Direction) (c : Capture) (j : Judged) → Taps j c → IsReadIn d c (reading_of (half_of d j))
+is_read Left c j h = read_as Left c j.left h.left_units h.right_units h.left h.right h.of_left
+is_read Right c j h = read_as Right c j.right h.right_units h.left_units h.right h.left h.of_right
+
+given_as : (d : Direction) (c : Capture) (t : Tapped) (us bs : List (List ℕ)) (mine others : List Sent) → Follows d c t us bs mine others
+    → IsReferenceIn d c t.line.reference
+given_as d c t us bs mine others f =
+    let e = cut_as d c t us bs mine others f in record { units = us; ending = e.0; cut = e.1; given = f.reference }
+
+pub is_given : (d : Direction) (c : Capture) (j : Judged) → Taps j c → IsReferenceIn d c (half_of d j).line.reference
+is_given Left c j h = given_as Left c j.left h.left_units h.right_units h.left h.right h.of_left
+is_given Right c j h = given_as Right c j.right h.right_units h.left_units h.right h.left h.of_right
+
+placed_as : (d : Direction) (c : Capture) (t : Tapped) (us bs : List (List ℕ)) (mine others : List Sent) → Follows d c t us bs mine others
+    → ArePacketsOf (other d) c bs
+    → IsPlaceIn d c t.side.finding t.line.last
+placed_as d c t us bs mine others f b = record { mine = mine; is_mine = is_sent d c t us bs mine others f b; place = f.place }
+
+pub is_placed : (d : Direction) (c : Capture) (j : Judged) → Taps j c → IsPlaceIn d c (half_of d j).side.finding (half_of d j).line.last
+is_placed Left c j h =
+    placed_as Left c j.left h.left_units h.right_units h.left h.right h.of_left
+    (cut_as Right c j.right h.right_units h.left_units h.right h.left h.of_right)
+is_placed Right c j h =
+    placed_as Right c j.right h.right_units h.left_units h.right h.left h.of_right
+    (cut_as Left c j.left h.left_units h.right_units h.left h.right h.of_left)

@@ -1,0 +1,256 @@
+-- A walk to the next remark loses no explanation, and finds none that is not one.
+use Rattle.std.proofs.Common.{◌≡◌, ◌∙◌, refl, sym, ap, subst, ℕ, ◌+◌, ◌<◌, ◌≤◌, ◌⊎◌, ◌↔◌, inl, inr, true, false, Bool, List, [], ◌∷◌}
+use Rattle.std.proofs.Common.{get_or, Option, Some, None, IfSome, IfNone, option_map, arith}
+use Rattle.osi_message.specs.Meanings.{Meaning}
+use Rattle.osi_message.specs.Words.{Word}
+use Rattle.osi_session.specs.Standing.{Seen, Count, CanSay, Takes, listens, after_count, answers_word}
+use Rattle.osi_session.specs.Steady.{Hears}
+use Rattle.osi_session.proofs.sent.what_a_side_may_send.{so_many, so_many_are}
+use Rattle.osi_judge.specs.declared.members.Member.{Member}
+use Rattle.osi_judge.specs.declared.walks.Walker.{Walker}
+use Rattle.osi_judge.specs.Explaining.{Remark, Explains, done, takes, answers, says}
+use Rattle.osi_judge.specs.Members.{SomeExplains, IsBehind}
+use Rattle.osi_judge.specs.Walking.{the_remark, SaidHere, Covers, WalkerCovers, Open, SaysIt, Answers, MayFollow, Turns, Walked}
+
+-- what is taken leaves one count
+pub takes_one : (s : Seen) (u : List ℕ) (c d : Count) → Takes s u c → Takes s u d → c ≡ d
+takes_one s u c d h k = sym (h (so_many s.joined) (so_many_are s.joined)) ∙ k (so_many s.joined) (so_many_are s.joined)
+
+-- ---- two ways to the next remark
+
+-- a TSDU is taken first
+pub record TakenOn (us : List (List ℕ)) (later : List Remark) (m : Remark) (w : Word) (j : ℕ) (s : Seen) : Type 0 where
+  pub count : Count
+  pub before : j < m.before
+  pub listening : listens s ≡ true
+  pub taken : Takes s (get_or us j []) count
+  pub on : ((count.reply ≡ None) × (Explains us (m ∷ later) (j + 1) (after_count s count)))
+      ⊎ ((reply : Meaning) × (count.reply ≡ Some reply) × (answers_word reply w ≡ true) × (Explains us later (j + 1) (after_count s count)))
+
+same_word : (w v : Word) → Some w ≡ Some v → v ≡ w
+same_word w v e = cc
+
+split : (us : List (List ℕ)) (m : Remark) (later : List Remark) (j : ℕ) (s : Seen) (w : Word) → Some w ≡ m.word →
+    Explains us (m ∷ later) j s
+    → ((next : Seen) × (CanSay s w m.octets next) × (Explains us later j next)) ⊎ TakenOn us later m w j s
+split us m later j s w k (takes _ _ _ _ c b l t n e) = inr (record { count = c; before = b; listening = l; taken = t; on = inl (n, e) })
+split us m later j s w k (answers _ _ _ _ c reply v b l t r d a e) =
+    inr (record {
+      count = c;
+      before = b;
+      listening = l;
+      taken = t;
+      on = inr (reply, r, subst (λ (x : Word). answers_word reply x ≡ true) (same_word w v (k ∙ d)) a, e);
+    })
+split us m later j s w k (says _ _ _ _ next v d a e) =
+    inl (next, subst (λ (x : Word). CanSay s x m.octets next) (same_word w v (k ∙ d)) a, e)
+
+abbrev pub Ways : List (List ℕ) → List Remark → Word → ℕ → ℕ → Member → Type 0
+Ways us later w octets before at = SaidHere us later w octets at ⊎ TakenOn us later (the_remark w octets before) w at.taken at.standing
+
+pub ways : (us : List (List ℕ)) (later : List Remark) (w : Word) (octets before : ℕ) (at : Member) →
+    Explains us (the_remark w octets before ∷ later) at.taken at.standing → Ways us later w octets before at
+ways us later w octets before at e = split us (the_remark w octets before) later at.taken at.standing w refl e
+
+pub said_on : (us : List (List ℕ)) (later : List Remark) (w : Word) (octets before : ℕ) (at : Member) → SaidHere us later w octets at →
+    Explains us (the_remark w octets before ∷ later) at.taken at.standing
+said_on us later w octets before at h = says (the_remark w octets before) later at.taken at.standing h.0 w refl h.1 h.2
+
+-- ---- the end of a walk
+
+-- what is known, and what is sent here, is what is known and what the session explains
+known : (us : List (List ℕ)) (later : List Remark) (w : Word) (octets before : ℕ) (old : List Member) (at : Member) →
+    (SomeExplains us old later ⊎ SaidHere us later w octets at)
+    → (SomeExplains us old later ⊎ Explains us (the_remark w octets before ∷ later) at.taken at.standing)
+known us later w octets before old at (inl k) = inl k
+known us later w octets before old at (inr s) = inr (said_on us later w octets before at s)
+
+-- if no TSDU can be taken, the remark is sent here or not at all
+stuck_there : (us : List (List ℕ)) (later : List Remark) (w : Word) (octets before : ℕ) (old new : List Member) (at : Member)
+    → ((SomeExplains us old later ⊎ SaidHere us later w octets at) → SomeExplains us new later) →
+    (TakenOn us later (the_remark w octets before) w at.taken at.standing → ⊥)
+    → (SomeExplains us old later ⊎ Explains us (the_remark w octets before ∷ later) at.taken at.standing) → SomeExplains us new later
+stuck_there us later w octets before old new at g none (inl k) = g (inl k)
+stuck_there us later w octets before old new at g none (inr e) =
+    elim (ways us later w octets before at e) [ inl s ↦ g (inr s) | inr t ↦ absurd (none t) ]
+
+pub stuck : (us : List (List ℕ)) (later : List Remark) (w : Word) (octets before : ℕ) (old new : List Member) (from to : Walker) →
+    SaysIt us later w octets old new from to → WalkerCovers us later old from
+    → (TakenOn us later (the_remark w octets before) w from.at.taken from.at.standing → ⊥) →
+    Open us later (the_remark w octets before) old (Some from) ↔ SomeExplains us new later
+stuck us later w octets before old new from to h c none = (
+  stuck_there us later w octets before old new from.at (h.gives c).0 none,
+  λ k. known us later w octets before old from.at ((h.gives c).1 k),
+)
+
+not_both : (b : Bool) → b ≡ true → b ≡ false → ⊥
+not_both true h k = cc
+not_both false h k = cc
+
+-- a session that takes nothing
+pub deaf : (us : List (List ℕ)) (later : List Remark) (w : Word) (octets before : ℕ) (old new : List Member) (from to : Walker) →
+    SaysIt us later w octets old new from to
+    → listens from.at.standing ≡ false → Turns us later (the_remark w octets before) old new from None
+deaf us later w octets before old new from to h l = record {
+  gives = λ c. stuck us later w octets before old new from to h c (λ t. not_both (listens from.at.standing) t.listening l);
+  covers = λ c. tt;
+}
+
+-- ---- a TSDU is taken
+
+-- what one session takes at this place
+pub record Took (us : List (List ℕ)) (at next : Member) (count : Count) : Type 0 where
+  pub listening : listens at.standing ≡ true
+  pub taken : Takes at.standing (get_or us at.taken []) count
+  pub place : next.taken ≡ at.taken + 1
+  pub standing : next.standing ≡ after_count at.standing count
+
+-- the state after it, by its count
+from_next : (us : List (List ℕ)) (ms : List Remark) (at next : Member) (c : Count) → Took us at next c →
+    Explains us ms next.taken next.standing → Explains us ms (at.taken + 1) (after_count at.standing c)
+from_next us ms at next c k e =
+    subst (λ (x : ℕ). Explains us ms x (after_count at.standing c)) k.place (subst (λ (x : Seen). Explains us ms next.taken x) k.standing e)
+
+to_next : (us : List (List ℕ)) (ms : List Remark) (at next : Member) (c d : Count) → Took us at next c →
+    Takes at.standing (get_or us at.taken []) d
+    → Explains us ms (at.taken + 1) (after_count at.standing d) → Explains us ms next.taken next.standing
+to_next us ms at next c d k t e =
+    let same = takes_one at.standing (get_or us at.taken []) d c t k.taken in
+    subst (λ (x : Seen). Explains us ms next.taken x) (sym k.standing)
+    (subst (λ (x : ℕ). Explains us ms x (after_count at.standing c)) (sym k.place)
+    (subst (λ (x : Count). Explains us ms (at.taken + 1) (after_count at.standing x)) same e))
+
+pub none_or_some : (o : Option Meaning) (a : Meaning) → o ≡ None → o ≡ Some a → ⊥
+none_or_some None a h k = cc
+none_or_some (Some b) a h k = cc
+
+-- it is answered
+answered_there : (us : List (List ℕ)) (later : List Remark) (w : Word) (octets before : ℕ) (old mid new : List Member) (at next : Member)
+    (c : Count) (a : Meaning) → Took us at next c → c.reply ≡ Some a
+    → ((SomeExplains us old later ⊎ SaidHere us later w octets at) → SomeExplains us mid later) → Answers us later w a next mid new
+    → (SomeExplains us old later ⊎ Explains us (the_remark w octets before ∷ later) at.taken at.standing) → SomeExplains us new later
+answered_there us later w octets before old mid new at next c a k r g x (inl h) = x.0 (inl (g (inl h)))
+answered_there us later w octets before old mid new at next c a k r g x (inr e) = elim (ways us later w octets before at e) [
+  | inl s ↦ x.0 (inl (g (inr s)))
+  | inr t ↦ (let same = takes_one at.standing (get_or us at.taken []) t.count c t.taken k.taken in elim t.on [
+    | inl n ↦ absurd (none_or_some c.reply a (sym (ap (λ (y : Count). y.reply) same) ∙ n.0) r)
+    | inr y ↦ (let other : y.0 ≡ a = some_same y.0 a (sym y.1 ∙ ap (λ (z : Count). z.reply) same ∙ r) in
+        x.0 (inr (subst (λ (z : Meaning). answers_word z w ≡ true) other y.2, to_next us later at next c t.count k t.taken y.3)))
+  ])
+]
+  where
+    some_same : (b d : Meaning) → Some b ≡ Some d → b ≡ d
+    some_same b d e = cc
+
+answered_back : (us : List (List ℕ)) (later : List Remark) (w : Word) (octets before : ℕ) (old mid : List Member) (at next : Member)
+    (c : Count) (a : Meaning) → Took us at next c → c.reply ≡ Some a → at.taken < before
+    → (SomeExplains us mid later → (SomeExplains us old later ⊎ SaidHere us later w octets at))
+    → (SomeExplains us mid later ⊎ ((answers_word a w ≡ true) × Explains us later next.taken next.standing))
+    → (SomeExplains us old later ⊎ Explains us (the_remark w octets before ∷ later) at.taken at.standing)
+answered_back us later w octets before old mid at next c a k r b g (inl h) = known us later w octets before old at (g h)
+answered_back us later w octets before old mid at next c a k r b g (inr y) =
+    inr (answers (the_remark w octets before) later at.taken at.standing c a w b k.listening k.taken r refl y.0
+    (from_next us later at next c k y.1))
+
+pub answered : (us : List (List ℕ)) (later : List Remark) (w : Word) (octets before : ℕ) (old mid new : List Member) (from to : Walker)
+    (next : Member) (c : Count) (a : Meaning)
+    → SaysIt us later w octets old mid from to → Took us from.at next c → c.reply ≡ Some a → from.at.taken < before →
+    Answers us later w a next mid new
+    → Turns us later (the_remark w octets before) old new from None
+answered us later w octets before old mid new from to next c a h k r b x = record {
+  gives = λ v. (
+    answered_there us later w octets before old mid new from.at next c a k r (h.gives v).0 x,
+    λ y. answered_back us later w octets before old mid from.at next c a k r b (h.gives v).1 (x.1 y),
+  );
+  covers = λ v. tt;
+}
+
+-- nothing is sent, and the walk continues
+on_there : (us : List (List ℕ)) (later : List Remark) (w : Word) (octets before : ℕ) (old mid : List Member) (at next : Member)
+    (c : Count) → Took us at next c → c.reply ≡ None
+    → ((SomeExplains us old later ⊎ SaidHere us later w octets at) → SomeExplains us mid later)
+    → (SomeExplains us old later ⊎ Explains us (the_remark w octets before ∷ later) at.taken at.standing)
+    → (SomeExplains us mid later ⊎ Explains us (the_remark w octets before ∷ later) next.taken next.standing)
+on_there us later w octets before old mid at next c k r g (inl h) = inl (g (inl h))
+on_there us later w octets before old mid at next c k r g (inr e) = elim (ways us later w octets before at e) [
+  | inl s ↦ inl (g (inr s))
+  | inr t ↦ (let same = takes_one at.standing (get_or us at.taken []) t.count c t.taken k.taken in elim t.on [
+    | inl n ↦ inr (to_next us (the_remark w octets before ∷ later) at next c t.count k t.taken n.1)
+    | inr y ↦ absurd (none_or_some c.reply y.0 r (sym (ap (λ (z : Count). z.reply) same) ∙ y.1))
+  ])
+]
+
+on_back : (us : List (List ℕ)) (later : List Remark) (w : Word) (octets before : ℕ) (old mid : List Member) (at next : Member) (c : Count) →
+    Took us at next c → c.reply ≡ None → at.taken < before
+    → (SomeExplains us mid later → (SomeExplains us old later ⊎ SaidHere us later w octets at))
+    → (SomeExplains us mid later ⊎ Explains us (the_remark w octets before ∷ later) next.taken next.standing)
+    → (SomeExplains us old later ⊎ Explains us (the_remark w octets before ∷ later) at.taken at.standing)
+on_back us later w octets before old mid at next c k r b g (inl h) = known us later w octets before old at (g h)
+on_back us later w octets before old mid at next c k r b g (inr e) =
+    inr (takes (the_remark w octets before) later at.taken at.standing c b k.listening k.taken r
+    (from_next us (the_remark w octets before ∷ later) at next c k e))
+
+-- what a session explains after it took a TSDU, it explains before
+pub before_it : (us : List (List ℕ)) (later : List Remark) (before j : ℕ) (s t : Seen) → j < before → IsBehind before later →
+    Hears s (get_or us j []) t → Explains us later (j + 1) t → Explains us later j s
+before_it us [] before j s t b h f e = done j s
+before_it us (m ∷ ms) before j s t b h f e =
+    takes m ms j s f.count (omega arith) f.listening f.taken f.quiet (subst (λ (x : Seen). Explains us (m ∷ ms) (j + 1) x) f.next e)
+
+still : (us : List (List ℕ)) (later : List Remark) (before : ℕ) (mid : List Member) (j : ℕ) (x y : Option Seen) → j < before →
+    IsBehind before later → MayFollow x (get_or us j []) y
+    → Covers us later mid j x → Covers us later mid (j + 1) y
+still us later before mid j x None b h f c = tt
+still us later before mid j None (Some t) b h f c = absurd f
+still us later before mid j (Some s) (Some t) b h f c = λ e. c (before_it us later before j s t b h f e)
+
+pub goes_on : (us : List (List ℕ)) (later : List Remark) (w : Word) (octets before : ℕ) (old mid : List Member) (from to now : Walker)
+    (c : Count)
+    → SaysIt us later w octets old mid from to → Took us from.at now.at c → c.reply ≡ None → from.at.taken < before → IsBehind before later
+    → MayFollow to.said_before (get_or us from.at.taken []) now.said_before →
+    Turns us later (the_remark w octets before) old mid from (Some now)
+goes_on us later w octets before old mid from to now c h k r b i f = record {
+  gives = λ v. (
+    on_there us later w octets before old mid from.at now.at c k r (h.gives v).0,
+    on_back us later w octets before old mid from.at now.at c k r b (h.gives v).1,
+  );
+  covers = λ v. subst (λ (x : ℕ). Covers us later mid x now.said_before) (sym k.place)
+      (still us later before mid from.at.taken to.said_before now.said_before b i f
+      (subst (λ (x : Member). Covers us later mid x.taken to.said_before) h.same (h.covers v)));
+}
+
+-- ---- a walk
+
+pub walked_turn : (us : List (List ℕ)) (later : List Remark) (m : Remark) (first old new : List Member) (from at now : Walker) →
+    Walked us later m first old from at → Turns us later m old new at (Some now)
+    → Walked us later m first new from now
+walked_turn us later m first old new from at now w t = record {
+  gives = (λ h. (t.gives w.covers).0 (w.gives.0 h), λ h. w.gives.1 ((t.gives w.covers).1 h));
+  covers = t.covers w.covers;
+}
+
+pub walked_stop : (us : List (List ℕ)) (later : List Remark) (m : Remark) (first old new : List Member) (from at : Walker) →
+    Walked us later m first old from at → Turns us later m old new at None
+    → Open us later m first (Some from) ↔ SomeExplains us new later
+walked_stop us later m first old new from at w t = (λ h. (t.gives w.covers).0 (w.gives.0 h), λ h. w.gives.1 ((t.gives w.covers).1 h))
+
+pub walked_last : (us : List (List ℕ)) (later : List Remark) (w : Word) (octets before : ℕ) (first old new : List Member)
+    (from at to : Walker)
+    → Walked us later (the_remark w octets before) first old from at → SaysIt us later w octets old new at to → before ≤ at.at.taken
+    → Open us later (the_remark w octets before) first (Some from) ↔ SomeExplains us new later
+walked_last us later w octets before first old new from at to x h b =
+    let s = stuck us later w octets before old new at to h x.covers (λ t. let l = t.before in absurd (omega arith)) in
+    (λ k. s.0 (x.gives.0 k), λ k. x.gives.1 (s.1 k))
+
+pub none_of : {A B : Type 0} (f : A → B) (o : Option A) → ((a : A) → o ≡ Some a → ⊥) → option_map f o ≡ None
+none_of f None h = refl
+none_of f (Some a) h = absurd (h a refl)
+
+-- what an option that is known gives
+pub at_some : {A : Type 0} (P : A → Type 0) (o : Option A) (a : A) → o ≡ Some a → IfSome o P → P a
+at_some P None a e h = absurd (cc)
+at_some P (Some b) a e h = let same : b ≡ a = cc in subst P same h
+
+pub at_none : {A : Type 0} (P : Type 0) (o : Option A) → ((a : A) → o ≡ Some a → ⊥) → IfNone o P → P
+at_none P None n h = h
+at_none P (Some a) n h = absurd (n a refl)

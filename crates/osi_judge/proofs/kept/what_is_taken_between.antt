@@ -1,0 +1,549 @@
+-- Of three sessions that differ in V(A) alone, in the order of V(A), what the second does with a TSDU the first does, or the
+-- third. For the law of what lies between.
+use Rattle.std.proofs.Common.{◌≡◌, ◌∙◌, refl, sym, ap, subst, ℕ, ◌+◌, ◌<◌, ◌≤◌, ◌⊎◌, inl, inr, Bool, true, false, not, ◌&&◌, ◌||◌}
+use Rattle.std.proofs.Common.{if◌then◌else◌, nat_le, nat_lt, List, [], ◌∷◌, ◌++◌, length, Option, Some, None, is_none, option_map, Result}
+use Rattle.std.proofs.Common.{Ok, Err, arith}
+use Rattle.std.proofs.lemmas.Bool.{leb-true, le-leb, ltb-true, lt-ltb}
+use Rattle.osi_spdu.specs.declared.faults.SpduFault.{SpduFault}
+use Rattle.osi_message.specs.declared.places.Place.TheVariants.{First, Middle, Last}
+use Rattle.osi_message.specs.Meanings.{Meaning, CN, AC, RF, DT, GT, PT, MIP, MIA, MAP, MAA, RS, RA, FN, DN, NF, AB, AA}
+use Rattle.osi_message.specs.Reading.{said_at}
+use Rattle.osi_message.specs.Words.{Word, Words, says, part, as_message}
+use Rattle.osi_session.specs.declared.faults.UnitFault.{UnitFault}
+use Rattle.osi_session.specs.declared.faults.UnitFault.TheVariants.{Unexpected, NotSelected, BadNumber, BadEnclosure, Spelling}
+use Rattle.osi_session.specs.declared.phases.Phase.TheVariants.{Ended}
+use Rattle.osi_session.specs.declared.state.State.{State}
+use Rattle.osi_session.specs.Counting.{taker_with}
+use Rattle.osi_session.specs.Joining.{Taker, Hearing, begins_anew, enacted_word, heard, heard_then, idle, respond_came, word_verdict}
+unfoldable use Rattle.osi_session.specs.Joining.{acting_words, respond_word, respond_words}
+use Rattle.osi_session.specs.Numbers.{lower}
+unfoldable use Rattle.osi_session.specs.Numbers.{point_taken, minor_confirmed, major_confirmed, restarted_at}
+use Rattle.osi_session.specs.Phases.{is_over, is_aborting, is_major_asked, takes_minor_ack}
+use Rattle.osi_session.specs.Respond.{Outcome, Verdict, over, dropped, faulty, fine, agreed_base, becomes, bad, by_fault, drops}
+use Rattle.osi_session.specs.Respond.{first_fault, in_aborting, in_ended, is_acceptable, nothing, replies_abort, reply_for, closes_for}
+use Rattle.osi_session.specs.Respond.{shown_for, si}
+unfoldable use Rattle.osi_session.specs.Respond.{stands, respond_fault}
+use Rattle.osi_session.specs.Standing.{Seen, Count, Takes, counted}
+use Rattle.osi_session.specs.State.{without_tokens}
+use Rattle.osi_session.specs.Units.{both_units, functional_units}
+use Rattle.osi_session.proofs.sent.what_a_side_may_send.{so_many, so_many_are}
+use Rattle.osi_session.proofs.tables.messages_act_as_the_table_says.{word_at}
+use Rattle.osi_judge.specs.Between.{confirmed_to, seen_to}
+use Rattle.osi_judge.proofs.told.a_tsdu_leaves_one_count.{then_words, by_reply, one_count}
+
+-- the same with this V(A) afterwards
+abbrev pub moved_to : ℕ → Hearing → Hearing
+moved_to n h = record h { next = taker_with (confirmed_to n h.next.state) h.next.joined }
+
+abbrev outcome_to : ℕ → Outcome → Outcome
+outcome_to n o = record o { next = confirmed_to n o.next }
+
+-- ---- a word that is no confirmation
+
+abbrev pub confirms : Word → Bool
+confirms (says (MIA n octets)) = true
+confirms _ = false
+
+verdict_alike : (s : State) (j : Option (List ℕ)) (w : Word) (n m : ℕ) → confirms w ≡ false
+    → word_verdict (taker_with (confirmed_to n s) j) w ≡ word_verdict (taker_with (confirmed_to m s) j) w
+verdict_alike s j (says (MIA k o)) n m e = absurd (cc)
+verdict_alike s j (says (AC v r i w z o)) n m e = refl
+verdict_alike s j (says (DT o)) n m e = refl
+verdict_alike s j (says (GT t)) n m e = refl
+verdict_alike s j (says (PT t o)) n m e = refl
+verdict_alike s j (says (MIP c k o)) n m e = refl
+verdict_alike s j (says (MAP k o)) n m e = refl
+verdict_alike s j (says (MAA k o)) n m e = refl
+verdict_alike s j (says (RS t k w o)) n m e = refl
+verdict_alike s j (says (RA k w o)) n m e = refl
+verdict_alike s j (says (FN o)) n m e = refl
+verdict_alike s j (says (NF o)) n m e = refl
+verdict_alike s j (says _) n m e = refl
+verdict_alike s j (part place o) n m e = refl
+
+-- V(A) after a good message
+abbrev pub rise_by : State → Meaning → ℕ → ℕ
+rise_by s (AC v r i w z o) n = agreed_base (both_units s.units (functional_units r)) i s.proposed
+rise_by s (MIP c k o) n = if s.numbers.answers then n else s.numbers.next
+rise_by s (MAP k o) n = if s.numbers.answers then n else s.numbers.next
+rise_by s (MAA k o) n = s.numbers.next
+rise_by s (RS t k w o) n = if stands s k then lower k n else n
+rise_by s _ n = n
+
+abbrev pub rise : State → Word → Verdict → ℕ → ℕ
+rise s w fine n = rise_by s (as_message w) n
+rise s w _ n = n
+
+if_to : (b : Bool) (n : ℕ) (x y : State) → (if b then confirmed_to n x else confirmed_to n y) ≡ confirmed_to n (if b then x else y)
+if_to true n x y = refl
+if_to false n x y = refl
+
+if_low : (b : Bool) (n m : ℕ) (x y : State) → (if b then confirmed_to n x else confirmed_to m y) ≡ confirmed_to (if b then n else m) (if b
+    then x else y)
+if_low true n m x y = refl
+if_low false n m x y = refl
+
+becomes_at : (s : State) (u : Meaning) (n : ℕ) → confirms (says u) ≡ false
+    → becomes (confirmed_to n s) u ≡ confirmed_to (rise_by s u n) (becomes s u)
+unfolding point_taken major_confirmed restarted_at stands
+becomes_at s (CN v r i w f t z o) n e = if_to (is_acceptable v r z) n _ _
+becomes_at s (RS t k w o) n e = if_low (stands s k) (lower k n) n _ _
+becomes_at s (MIA k o) n e = absurd (cc)
+becomes_at s (AC v r i w z o) n e = refl
+becomes_at s (MIP c k o) n e = refl
+becomes_at s (MAP k o) n e = refl
+becomes_at s (MAA k o) n e = refl
+becomes_at s _ n e = refl
+
+shown_at : (s : State) (u : Meaning) (n : ℕ) → shown_for (confirmed_to n s) u ≡ shown_for s u
+unfolding stands
+shown_at s (RS t k w o) n = refl
+shown_at s (AC v r i w z o) n = refl
+shown_at s _ n = refl
+
+fine_at : (s : State) (j : Option (List ℕ)) (w : Word) (n : ℕ) → confirms w ≡ false
+    → enacted_word (taker_with (confirmed_to n s) j) w fine ≡ moved_to (rise_by s (as_message w) n) (enacted_word (taker_with s j) w fine)
+fine_at s j (says u) n e =
+    let p = becomes_at s u n e in
+    let q = shown_at s u n in
+    λ i. heard j (record { next = p i; shown = q i; reply = reply_for u; closes = closes_for u })
+fine_at s j (part First o) n e = refl
+fine_at s j (part Middle o) n e = refl
+fine_at s j (part Last o) n e = refl
+
+over_at : (s : State) (n : ℕ) (b : Bool) (u : Meaning) → (if b then in_aborting (confirmed_to n s) u else in_ended (confirmed_to n s) u) ≡
+    outcome_to n (if b then in_aborting s u else in_ended s u)
+over_at s n true (AB b o) = refl
+over_at s n true AA = refl
+over_at s n true _ = refl
+over_at s n false (AB b o) = refl
+over_at s n false _ = refl
+
+-- a word that is not good
+abbrev is_fine : Verdict → Bool
+is_fine fine = true
+is_fine _ = false
+
+rest_at : (s : State) (j : Option (List ℕ)) (w : Word) (v : Verdict) (n : ℕ) → is_fine v ≡ false
+    → enacted_word (taker_with (confirmed_to n s) j) w v ≡ moved_to n (enacted_word (taker_with s j) w v)
+rest_at s j w over n e = ap (heard j) (over_at s n (is_aborting s.phase) (as_message w))
+rest_at s j w dropped n e = refl
+rest_at s j w (faulty fault) n e = refl
+rest_at s j w fine n e = absurd (cc)
+
+by_verdict : (s : State) (j : Option (List ℕ)) (w : Word) (v : Verdict) (n : ℕ) → confirms w ≡ false
+    → enacted_word (taker_with (confirmed_to n s) j) w v ≡ moved_to (rise s w v n) (enacted_word (taker_with s j) w v)
+by_verdict s j w over n e = rest_at s j w over n refl
+by_verdict s j w dropped n e = rest_at s j w dropped n refl
+by_verdict s j w (faulty fault) n e = rest_at s j w (faulty fault) n refl
+by_verdict s j w fine n e = fine_at s j w n e
+
+if_rises : (c : Bool) (k a b : ℕ) → a ≤ b → (if c then a else k) ≤ (if c then b else k)
+if_rises true k a b h = h
+if_rises false k a b h = omega arith
+
+pub lower_rises : (k a b : ℕ) → a ≤ b → lower k a ≤ lower k b
+lower_rises k a b h = by (nat_lt k a) (nat_lt k b) refl refl
+  where
+    by : (x y : Bool) → nat_lt k a ≡ x → nat_lt k b ≡ y → (if x then k else a) ≤ (if y then k else b)
+    by true true p q = omega arith
+    by true false p q = let l = ltb-true k a p in let m = lt-ltb k b (omega arith) in absurd (cc)
+    by false true p q = grind (arith, lt-ltb)
+    by false false p q = h
+
+either_rises : (c : Bool) (k a b : ℕ) → a ≤ b → (if c then lower k a else a) ≤ (if c then lower k b else b)
+either_rises true k a b h = lower_rises k a b h
+either_rises false k a b h = h
+
+by_rises : (s : State) (u : Meaning) (a b : ℕ) → a ≤ b → rise_by s u a ≤ rise_by s u b
+by_rises s (AC v r i w z o) a b h = omega arith
+by_rises s (MIP c k o) a b h = if_rises s.numbers.answers s.numbers.next a b h
+by_rises s (MAP k o) a b h = if_rises s.numbers.answers s.numbers.next a b h
+by_rises s (MAA k o) a b h = omega arith
+by_rises s (RS t k w o) a b h = either_rises (stands s k) k a b h
+by_rises s _ a b h = h
+
+rises : (s : State) (w : Word) (v : Verdict) (a b : ℕ) → a ≤ b → rise s w v a ≤ rise s w v b
+rises s w over a b h = h
+rises s w dropped a b h = h
+rises s w (faulty fault) a b h = h
+rises s w fine a b h = by_rises s (as_message w) a b h
+
+-- ---- what each of three does
+
+-- all do the same, and differ in V(A) as before
+pub record Three (x y z : Hearing) : Type 0 where
+  pub from : Hearing
+  pub low : ℕ
+  pub mid : ℕ
+  pub high : ℕ
+  pub to_mid : low ≤ mid
+  pub to_high : mid ≤ high
+  pub one : x ≡ moved_to low from
+  pub two : y ≡ moved_to mid from
+  pub three : z ≡ moved_to high from
+
+-- the connection is over for both
+pub record Both (x y : Hearing) : Type 0 where
+  pub from : Hearing
+  pub first : ℕ
+  pub second : ℕ
+  pub one : x ≡ moved_to first from
+  pub other : y ≡ moved_to second from
+  pub over : is_over from.next.state.phase ≡ true
+
+abbrev pub OneDoes : Hearing → Hearing → Type 0
+OneDoes x y = (x ≡ y) ⊎ Both x y
+
+abbrev pub AmongThree : Hearing → Hearing → Hearing → Type 0
+AmongThree x y z = Three x y z ⊎ (OneDoes x y ⊎ OneDoes z y)
+
+-- a bad word ends it
+abbrev Stops : Hearing → Hearing → Type 0
+Stops x y = (x ≡ y) ⊎ ((b : Both x y) × (replies_abort b.from.reply ≡ true))
+
+abbrev WordDoes : Hearing → Hearing → Hearing → Type 0
+WordDoes x y z = Three x y z ⊎ (Stops x y ⊎ Stops z y)
+
+-- ---- a confirmation of minor points
+
+abbrev mia_verdict : State → Option (List ℕ) → ℕ → List ℕ → Bool → Verdict
+mia_verdict s j k o b = if is_over s.phase then over else if drops s (MIA k o) then dropped else if not (takes_minor_ack s.phase) then
+    faulty (Unexpected (si (MIA k o)))
+    else by_fault (first_fault (si (MIA k o)) ((s.units.minor, NotSelected) ∷ (
+      not s.numbers.answers && (b && (if is_major_asked s.phase
+          then nat_lt (k + 1) s.numbers.next else nat_lt k s.numbers.next)),
+      BadNumber,
+    )
+    ∷ (is_none j || not (begins_anew (MIA k o)), BadEnclosure) ∷ []))
+
+over_any : (o d x : Bool) (u : UnitFault) (f g : Option UnitFault) → (if o then over else if d then dropped else if not x then faulty u
+    else by_fault f) ≡ over
+    → (if o then over else if d then dropped else if not x then faulty u else by_fault g) ≡ over
+over_any true d x u f g h = refl
+over_any false true x u f g h = absurd (cc)
+over_any false false false u f g h = absurd (cc)
+over_any false false true u None g h = absurd (cc)
+over_any false false true u (Some e) g h = absurd (cc)
+
+dropped_any : (o d x : Bool) (u : UnitFault) (f g : Option UnitFault) → (if o then over else if d then dropped else if not x then faulty u
+    else by_fault f) ≡ dropped
+    → (if o then over else if d then dropped else if not x then faulty u else by_fault g) ≡ dropped
+dropped_any true d x u f g h = absurd (cc)
+dropped_any false true x u f g h = refl
+dropped_any false false false u f g h = absurd (cc)
+dropped_any false false true u None g h = absurd (cc)
+dropped_any false false true u (Some e) g h = absurd (cc)
+
+module _ (s : State) (j : Option (List ℕ)) (k : ℕ) (o : List ℕ) where
+  abbrev mia : Word
+  mia = says (MIA k o)
+
+  abbrev at : ℕ → Taker
+  at n = taker_with (confirmed_to n s) j
+
+  mia_over : (n m : ℕ) → word_verdict (at n) mia ≡ over → word_verdict (at m) mia ≡ over
+  mia_over n m h = over_any (is_over s.phase) (drops s (MIA k o)) (takes_minor_ack s.phase) (Unexpected (si (MIA k o))) _ _ h
+
+  mia_dropped : (n m : ℕ) → word_verdict (at n) mia ≡ dropped → word_verdict (at m) mia ≡ dropped
+  mia_dropped n m h = dropped_any (is_over s.phase) (drops s (MIA k o)) (takes_minor_ack s.phase) (Unexpected (si (MIA k o))) _ _ h
+
+  mia_rests : (v : Verdict) (n : ℕ) → is_fine v ≡ false → word_verdict (at n) mia ≡ v
+      → respond_word (at n) mia ≡ moved_to n (enacted_word (taker_with s j) mia v)
+  mia_rests v n e h = word_at (at n) mia v h ∙ rest_at s j mia v n e
+
+  mia_fine : (n m : ℕ) → enacted_word (at n) mia fine ≡ enacted_word (at m) mia fine
+  unfolding minor_confirmed
+  mia_fine n m = refl
+
+  -- one of them does what the second does
+  mia_one : (x v : ℕ) (d : Verdict) → word_verdict (at x) mia ≡ d → word_verdict (at v) mia ≡ d
+      → (Stops (respond_word (at x) mia) (respond_word (at v) mia)) ⊎ ((d ≡ over) ⊎ (d ≡ dropped))
+  mia_one x v over p q = inr (inl refl)
+  mia_one x v dropped p q = inr (inr refl)
+  mia_one x v (faulty fault) p q = inl (inr (
+    record {
+      from = enacted_word (taker_with s j) mia (faulty fault);
+      first = x;
+      second = v;
+      one = mia_rests (faulty fault) x refl p;
+      other = mia_rests (faulty fault) v refl q;
+      over = refl;
+    },
+    refl,
+  ))
+  mia_one x v fine p q = inl (inl (word_at (at x) mia fine p ∙ mia_fine x v ∙ sym (word_at (at v) mia fine q)))
+
+  mia_three : (a v c : ℕ) (d : Verdict) → a ≤ v → v ≤ c → is_fine d ≡ false → word_verdict (at a) mia ≡ d → word_verdict (at v) mia ≡ d
+      → word_verdict (at c) mia ≡ d
+      → Three (respond_word (at a) mia) (respond_word (at v) mia) (respond_word (at c) mia)
+  mia_three a v c d l m e p q r = record {
+    from = enacted_word (taker_with s j) mia d;
+    low = a;
+    mid = v;
+    high = c;
+    to_mid = l;
+    to_high = m;
+    one = mia_rests d a e p;
+    two = mia_rests d v e q;
+    three = mia_rests d c e r;
+  }
+
+  mia_rest : (a v c : ℕ) (d : Verdict) → a ≤ v → v ≤ c → word_verdict (at v) mia ≡ d → ((d ≡ over) ⊎ (d ≡ dropped))
+      → Three (respond_word (at a) mia) (respond_word (at v) mia) (respond_word (at c) mia)
+  mia_rest a v c d l m q (inl e) = let h = q ∙ e in mia_three a v c over l m refl (mia_over v a h) h (mia_over v c h)
+  mia_rest a v c d l m q (inr e) = let h = q ∙ e in mia_three a v c dropped l m refl (mia_dropped v a h) h (mia_dropped v c h)
+
+  mia_between : (a v c : ℕ) → a ≤ v → v ≤ c → WordDoes (respond_word (at a) mia) (respond_word (at v) mia) (respond_word (at c) mia)
+  mia_between a v c l m = by (nat_le v k) refl
+    where
+      low : nat_le v k ≡ true → nat_le a k ≡ true
+      low h = let w = leb-true v k h in le-leb a k (omega arith)
+
+      high : (b : Bool) → nat_le c k ≡ b → nat_le v k ≡ false → nat_le c k ≡ false
+      high true e h = let w = leb-true c k e in let y = le-leb v k (omega arith) in absurd (cc)
+      high false e h = e
+
+      by : (b : Bool) → nat_le v k ≡ b → WordDoes (respond_word (at a) mia) (respond_word (at v) mia) (respond_word (at c) mia)
+      by true h = elim (mia_one a v (word_verdict (at v) mia) (ap (mia_verdict s j k o) (low h ∙ sym h)) refl) [
+        | inl x ↦ inr (inl x)
+        | inr x ↦ inl (mia_rest a v c (word_verdict (at v) mia) l m refl x)
+      ]
+      by false h = elim (mia_one c v (word_verdict (at v) mia) (ap (mia_verdict s j k o) (high (nat_le c k) refl h ∙ sym h)) refl) [
+        | inl x ↦ inr (inr x)
+        | inr x ↦ inl (mia_rest a v c (word_verdict (at v) mia) l m refl x)
+      ]
+
+-- ---- one word
+
+word_three : (s : State) (j : Option (List ℕ)) (w : Word) (a v c : ℕ) → confirms w ≡ false → a ≤ v → v ≤ c
+    → Three (respond_word (taker_with (confirmed_to a s) j) w) (respond_word (taker_with (confirmed_to v s) j) w) (respond_word (taker_with
+    (confirmed_to c s) j) w)
+word_three s j w a v c e l m =
+    let d = word_verdict (taker_with (confirmed_to v s) j) w in
+    record {
+      from = enacted_word (taker_with s j) w d;
+      low = rise s w d a;
+      mid = rise s w d v;
+      high = rise s w d c;
+      to_mid = rises s w d a v l;
+      to_high = rises s w d v c m;
+      one = word_at (taker_with (confirmed_to a s) j) w d (verdict_alike s j w a v e) ∙ by_verdict s j w d a e;
+      two = word_at (taker_with (confirmed_to v s) j) w d refl ∙ by_verdict s j w d v e;
+      three = word_at (taker_with (confirmed_to c s) j) w d (verdict_alike s j w c v e) ∙ by_verdict s j w d c e;
+    }
+
+word_between : (s : State) (j : Option (List ℕ)) (w : Word) (a v c : ℕ) → a ≤ v → v ≤ c
+    → WordDoes (respond_word (taker_with (confirmed_to a s) j) w) (respond_word (taker_with (confirmed_to v s) j) w) (respond_word
+    (taker_with (confirmed_to c s) j) w)
+word_between s j (says (MIA k o)) a v c l m = mia_between s j k o a v c l m
+word_between s j (says u) a v c l m = inl (word_three s j (says u) a v c refl l m)
+word_between s j (part place o) a v c l m = inl (word_three s j (part place o) a v c refl l m)
+
+-- ---- words one after the other
+
+among_at : (x y z p q r : Hearing) → x ≡ p → y ≡ q → z ≡ r → AmongThree p q r → AmongThree x y z
+among_at x y z p q r d e f h =
+    subst (λ (k : Hearing). AmongThree k y z) (sym d) (subst (λ (k : Hearing). AmongThree p k z) (sym e) (subst (λ (k : Hearing).
+    AmongThree p q k) (sym f) h))
+
+one_lifts : (from : Hearing) (l m : ℕ) (x y : Hearing) → OneDoes x y → OneDoes (heard_then (moved_to l from) x) (heard_then (moved_to m
+    from) y)
+one_lifts from l m x y (inl e) = inl (ap (heard_then from) e)
+one_lifts from l m x y (inr b) = inr (record {
+  from = heard_then from b.from;
+  first = b.first;
+  second = b.second;
+  one = ap (heard_then from) b.one;
+  other = ap (heard_then from) b.other;
+  over = b.over;
+})
+
+lifts : (from : Hearing) (l m h : ℕ) (x y z : Hearing) → AmongThree x y z
+    → AmongThree (heard_then (moved_to l from) x) (heard_then (moved_to m from) y) (heard_then (moved_to h from) z)
+lifts from l m h x y z (inl t) = inl (record {
+  from = heard_then from t.from;
+  low = t.low;
+  mid = t.mid;
+  high = t.high;
+  to_mid = t.to_mid;
+  to_high = t.to_high;
+  one = ap (heard_then from) t.one;
+  two = ap (heard_then from) t.two;
+  three = ap (heard_then from) t.three;
+})
+lifts from l m h x y z (inr (inl o)) = inr (inl (one_lifts from l m x y o))
+lifts from l m h x y z (inr (inr o)) = inr (inr (one_lifts from h m z y o))
+
+abbrev WordsDo : Words → Type 0
+WordsDo ws = (s : State) (j : Option (List ℕ)) (a v c : ℕ) → a ≤ v → v ≤ c
+    → AmongThree (respond_words (taker_with (confirmed_to a s) j) ws) (respond_words (taker_with (confirmed_to v s) j) ws) (respond_words
+    (taker_with (confirmed_to c s) j) ws)
+
+stopped : (ws : Words) (h : Hearing) → replies_abort h.reply ≡ true → then_words ws h ≡ h
+stopped ws h e = ap (λ (b : Bool). if b then h else heard_then h (respond_words h.next ws)) e
+
+one_then : (ws : Words) (x y : Hearing) → Stops x y → OneDoes (then_words ws x) (then_words ws y)
+one_then ws x y (inl e) = inl (ap (then_words ws) e)
+one_then ws x y (inr b) = inr (record {
+  from = b.0.from;
+  first = b.0.first;
+  second = b.0.second;
+  one = ap (then_words ws) b.0.one ∙ stopped ws (moved_to b.0.first b.0.from) b.1;
+  other = ap (then_words ws) b.0.other ∙ stopped ws (moved_to b.0.second b.0.from) b.1;
+  over = b.0.over;
+})
+
+then_three : (ws : Words) (x y z : Hearing) → WordsDo ws → Three x y z → AmongThree (then_words ws x) (then_words ws y) (then_words ws z)
+then_three ws x y z k t =
+    among_at _ _ _ (then_words ws (moved_to t.low t.from)) (then_words ws (moved_to t.mid t.from)) (then_words ws (moved_to t.high t.from))
+    (ap (then_words ws) t.one) (ap (then_words ws) t.two) (ap (then_words ws) t.three) (by (replies_abort t.from.reply))
+  where
+    after : ℕ → Bool → Hearing
+    after n b = if b then moved_to n t.from else heard_then (moved_to n t.from) (respond_words (taker_with (confirmed_to n
+        t.from.next.state) t.from.next.joined) ws)
+
+    by : (b : Bool) → AmongThree (if b then moved_to t.low t.from else heard_then (moved_to t.low t.from) (respond_words (taker_with
+        (confirmed_to t.low t.from.next.state) t.from.next.joined) ws))
+        (if b then moved_to t.mid t.from else heard_then (moved_to t.mid t.from) (respond_words (taker_with (confirmed_to t.mid
+        t.from.next.state) t.from.next.joined) ws))
+        (if b then moved_to t.high t.from else heard_then (moved_to t.high t.from) (respond_words (taker_with (confirmed_to t.high
+        t.from.next.state) t.from.next.joined) ws))
+    by true = inl (record {
+      from = t.from;
+      low = t.low;
+      mid = t.mid;
+      high = t.high;
+      to_mid = t.to_mid;
+      to_high = t.to_high;
+      one = refl;
+      two
+          = refl;
+      three = refl;
+    })
+    by false = lifts t.from t.low t.mid t.high _ _ _ (k t.from.next.state t.from.next.joined t.low t.mid t.high t.to_mid t.to_high)
+
+then_among : (ws : Words) (x y z : Hearing) → WordsDo ws → WordDoes x y z → AmongThree (then_words ws x) (then_words ws y) (then_words ws z)
+then_among ws x y z k (inl t) = then_three ws x y z k t
+then_among ws x y z k (inr (inl o)) = inr (inl (one_then ws x y o))
+then_among ws x y z k (inr (inr o)) = inr (inr (one_then ws z y o))
+
+words_between : (ws : Words) → WordsDo ws
+unfolding respond_words
+words_between [] = λ s j a v c l m. inl (record {
+  from = idle (taker_with s j);
+  low = a;
+  mid = v;
+  high = c;
+  to_mid = l;
+  to_high = m;
+  one =
+      refl;
+  two = refl;
+  three = refl;
+})
+words_between (w ∷ ws) = λ s j a v c l m.
+    among_at _ _ _ _ _ _ (by_reply (taker_with (confirmed_to a s) j) w ws) (by_reply (taker_with (confirmed_to v s) j) w ws) (by_reply
+    (taker_with (confirmed_to c s) j) w ws)
+    (then_among ws _ _ _ (words_between ws) (word_between s j w a v c l m))
+
+-- ---- a TSDU
+
+fault_at : (s : State) (j : Option (List ℕ)) (fault : SpduFault) (n : ℕ)
+    → heard j (respond_fault (confirmed_to n s) fault) ≡ moved_to n (heard j (respond_fault s fault))
+unfolding respond_fault
+fault_at s j fault n = by (is_over s.phase)
+  where
+    by : (b : Bool) → heard j (if b then nothing (confirmed_to n s) else bad (confirmed_to n s) (Spelling fault)) ≡ moved_to n (heard j (if
+        b then nothing s else bad s (Spelling fault)))
+    by true = refl
+    by false = refl
+
+came_between : (s : State) (j : Option (List ℕ)) (came : Result Words SpduFault) (a v c : ℕ) → a ≤ v → v ≤ c
+    → AmongThree (respond_came (taker_with (confirmed_to a s) j) came) (respond_came (taker_with (confirmed_to v s) j) came) (respond_came
+    (taker_with (confirmed_to c s) j) came)
+came_between s j (Ok words) a v c l m = words_between (acting_words words) s j a v c l m
+came_between s j (Err fault) a v c l m = inl (record {
+  from = heard j (respond_fault s fault);
+  low = a;
+  mid = v;
+  high = c;
+  to_mid = l;
+  to_high = m;
+  one = fault_at s j fault a;
+  two = fault_at s j fault v;
+  three = fault_at s j fault c;
+})
+
+-- ---- by counts
+
+abbrev pub count_to : ℕ → Count → Count
+count_to n c = record c { state = confirmed_to n c.state }
+
+pub record TakesThree (s : Seen) (tsdu : List ℕ) (a v c : ℕ) (d : Count) : Type 0 where
+  pub from : Count
+  pub low : ℕ
+  pub mid : ℕ
+  pub high : ℕ
+  pub to_mid : low ≤ mid
+  pub to_high : mid ≤ high
+  pub one : Takes (seen_to a s) tsdu (count_to low from)
+  pub two : d ≡ count_to mid from
+  pub three : Takes (seen_to c s) tsdu (count_to high from)
+
+pub record TakesOver (s : Seen) (tsdu : List ℕ) (x : ℕ) (d : Count) : Type 0 where
+  pub from : Count
+  pub first : ℕ
+  pub second : ℕ
+  pub one : Takes (seen_to x s) tsdu (count_to first from)
+  pub other : d ≡ count_to second from
+  pub over : is_over from.state.phase ≡ true
+
+abbrev pub TakesOne : Seen → List ℕ → ℕ → Count → Type 0
+TakesOne s tsdu x d = Takes (seen_to x s) tsdu d ⊎ TakesOver s tsdu x d
+
+abbrev pub TakesBetween : Seen → List ℕ → ℕ → ℕ → ℕ → Count → Type 0
+TakesBetween s tsdu a v c d = TakesThree s tsdu a v c d ⊎ (TakesOne s tsdu a d ⊎ TakesOne s tsdu c d)
+
+-- what one does with the octets that are joined here, it does with any
+abbrev came_to : Seen → List ℕ → ℕ → Hearing
+came_to s tsdu n = respond_came (taker_with (confirmed_to n s.state) (so_many s.joined)) (said_at tsdu)
+
+takes_as : (s : Seen) (tsdu : List ℕ) (n : ℕ) (h : Hearing) → came_to s tsdu n ≡ h → Takes (seen_to n s) tsdu (counted h)
+takes_as s tsdu n h e =
+    let o = one_count (seen_to n s) tsdu in
+    subst (λ (x : Count). Takes (seen_to n s) tsdu x) (sym (o.taken (so_many s.joined) (so_many_are s.joined)) ∙ ap counted e) o.taken
+
+one_takes : (s : Seen) (tsdu : List ℕ) (x v : ℕ) (d : Count) → d ≡ counted (came_to s tsdu v)
+    → OneDoes (came_to s tsdu x) (came_to s tsdu v) → TakesOne s tsdu x d
+one_takes s tsdu x v d e (inl h) = inl (subst (λ (y : Count). Takes (seen_to x s) tsdu y) (sym e) (takes_as s tsdu x (came_to s tsdu v) h))
+one_takes s tsdu x v d e (inr b) = inr (record {
+  from = counted b.from;
+  first = b.first;
+  second = b.second;
+  one = takes_as s tsdu x (moved_to b.first b.from) b.one;
+  other = e ∙ ap counted b.other;
+  over = b.over;
+})
+
+pub takes_between : (s : Seen) (tsdu : List ℕ) (a v c : ℕ) (d : Count) → a ≤ v → v ≤ c → Takes (seen_to v s) tsdu d
+    → TakesBetween s tsdu a v c d
+takes_between s tsdu a v c d l m h = by (came_between s.state (so_many s.joined) (said_at tsdu) a v c l m)
+  where
+    is : d ≡ counted (came_to s tsdu v)
+    is = sym (h (so_many s.joined) (so_many_are s.joined))
+
+    by : AmongThree (came_to s tsdu a) (came_to s tsdu v) (came_to s tsdu c) → TakesBetween s tsdu a v c d
+    by (inl t) = inl (record {
+      from = counted t.from;
+      low = t.low;
+      mid = t.mid;
+      high = t.high;
+      to_mid = t.to_mid;
+      to_high = t.to_high;
+      one = takes_as s tsdu a (moved_to t.low t.from) t.one;
+      two = is ∙ ap counted t.two;
+      three = takes_as s tsdu c (moved_to t.high t.from) t.three;
+    })
+    by (inr (inl o)) = inr (inl (one_takes s tsdu a v d is o))
+    by (inr (inr o)) = inr (inr (one_takes s tsdu c v d is o))

@@ -1,0 +1,454 @@
+-- What is known of a side, as it hears and tells.
+use Rattle.std.proofs.Common.{◌≡◌, ◌∙◌, refl, sym, ap, subst, ℕ, suc, zero, ◌+◌, ◌<◌, ◌≤◌, ◌↔◌, ◌==◌, ◌&&◌, Bool, nat_lt, true, false, inl}
+use Rattle.std.proofs.Common.{inr, List, [], ◌∷◌, ◌++◌, length, map, take, get_or, Result, Ok, Err, OnOk, arith}
+use Rattle.std.proofs.lemmas.List.{append-nil, append_assoc, length-append}
+use Rattle.osi_spdu.specs.declared.faults.SpduFault.{SpduFault}
+use Rattle.osi_message.specs.Reading.{said_at}
+use Rattle.osi_message.specs.Words.{Words}
+use Rattle.osi_session.specs.Joining.{acting_words}
+use Rattle.osi_session.specs.Standing.{Seen}
+use Rattle.osi_judge.specs.declared.members.Member.{Member}
+use Rattle.osi_judge.specs.declared.findings.Finding.{Finding}
+use Rattle.osi_judge.specs.declared.findings.Finding.TheVariants.{Kept, Broke, Left, TooMany}
+use Rattle.osi_judge.specs.Explaining.{Remark, remark, Told, read_as, remarks_of, remarks, Explains, done, IsExplained}
+use Rattle.osi_judge.specs.Members.{SomeExplains, Extends, IsBehind}
+use Rattle.osi_judge.specs.Walking.{Ever}
+use Rattle.osi_judge.specs.declared.rules.Break.{Break}
+use Rattle.osi_judge.specs.Breaking.{BreaksAt, selection_of}
+use Rattle.osi_judge.specs.Sides.{ended_at, EndsAt}
+use Rattle.osi_judge.specs.Profiles.{offered_in, accepted_in, in_first, is_outside, selects_outside, leaves}
+use Rattle.osi_judge.specs.Judging.{Watched, is_empty, StandsBefore, BrokeBy, LeftBy, IsKept, IsAstray, BrokeFor, LeftFor, CrowdedFor}
+use Rattle.osi_judge.specs.Judging.{AreAll, Keeps, WatchesBy, Watches, IsFound}
+use Rattle.osi_judge.proofs.told.a_break_stays_the_break.{extends_front, breaks_heard}
+
+-- ---- the TSDUs of the other side become more
+
+stands_heard : (w : Watched) (x : List ℕ) (told : List Told) (i : ℕ) (t : Told) → StandsBefore w told i t
+    → StandsBefore (record w { heard = w.heard ++ x ∷ [] }) told i t
+stands_heard w x told i t k =
+    let n = length-append w.heard (x ∷ []) in
+    let p = k.passed in record {
+      is = k.is;
+      passed = omega arith;
+      all = λ us later e h. k.all us later (extends_front us w.heard x e) h;
+      some = k.some;
+    }
+
+broke_heard : (w : Watched) (x : List ℕ) (told : List Told) (i : ℕ) → BrokeBy w told i
+    → BrokeBy (record w { heard = w.heard ++ x ∷ [] }) told i
+broke_heard w x told i k =
+    (k.0, stands_heard w x told i k.0 k.1, breaks_heard w.heard x k.0.octets k.0.before w.members w.by k.1.passed k.2, k.3)
+
+left_heard : (w : Watched) (x : List ℕ) (told : List Told) (i : ℕ) → LeftBy w told i
+    → LeftBy (record w { heard = w.heard ++ x ∷ [] }) told i
+left_heard w x told i (t, s, inl (b, l, k)) = (
+  t,
+  stands_heard w x told i t s,
+  inl (
+    breaks_heard w.heard x t.octets t.before w.members w.by s.passed b,
+    l,
+    (k.0, λ us e. k.1 us (extends_front us w.heard x e)),
+  ),
+)
+left_heard w x told i (t, s, inr (e, k)) = (t, stands_heard w x told i t s, inr (e, λ us h. k us (extends_front us w.heard x h)))
+
+heard_by : (f : Finding) (w : Watched) (x : List ℕ) (told : List Told) → WatchesBy f w told →
+    WatchesBy f (record w { heard = w.heard ++ x ∷ [] }) told
+heard_by Kept w x told k = record {
+  count = k.count;
+  all = λ us later e h. k.all us later (extends_front us w.heard x e) h;
+  some = k.some;
+  few = k.few;
+  inside = λ us e. k.inside us (extends_front us w.heard x e);
+}
+heard_by (Broke i) w x told k = ((k.0.0, λ us e. k.0.1 us (extends_front us w.heard x e)), broke_heard w x told i k.1)
+heard_by (Left i) w x told k = ((k.0.0, λ us e. k.0.1 us (extends_front us w.heard x e)), left_heard w x told i k.1)
+heard_by TooMany w x told k = (k.0, λ us e. k.1 us (extends_front us w.heard x e))
+
+pub hears : (w : Watched) (x : List ℕ) (told : List Told) → Watches w told → Watches (record w { heard = w.heard ++ x ∷ [] }) told
+hears w x told k = heard_by w.finding w x told k
+
+-- the TSDUs of the other side, by what is in memory
+pub hears_as : (w n : Watched) (x : List ℕ) (told : List Told) → n ≡ record w { heard = w.heard ++ x ∷ [] } → Watches w told →
+    Watches n told
+hears_as w n x told e k = subst (λ (y : Watched). Watches y told) (sym e) (hears w x told k)
+
+-- ---- its own TSDUs become more
+
+take_front : (xs ys : List Told) (n : ℕ) → n ≤ length xs → take n (xs ++ ys) ≡ take n xs
+take_front xs ys zero l = refl
+take_front [] ys (suc n) l = absurd (omega arith)
+take_front (x ∷ xs) ys (suc n) l = ap (λ (z : List Told). x ∷ z) (take_front xs ys n (omega arith))
+
+take_whole : (xs : List Told) (n : ℕ) → length xs ≤ n → take n xs ≡ xs
+take_whole [] zero l = refl
+take_whole [] (suc n) l = refl
+take_whole (x ∷ xs) zero l = absurd (omega arith)
+take_whole (x ∷ xs) (suc n) l = ap (λ (z : List Told). x ∷ z) (take_whole xs n (omega arith))
+
+-- what is said of the front part of what was told stays
+kept_still : (begin : Seen) (us : List (List ℕ)) (a b : List Told) → a ≡ b → IsKept begin us b → IsKept begin us a
+kept_still begin us a b e k = subst (λ (z : List Told). IsKept begin us z) (sym e) k
+
+astray_still : (begin : Seen) (us : List (List ℕ)) (a b : List Told) → a ≡ b → IsAstray begin us b → IsAstray begin us a
+astray_still begin us a b e k = subst (λ (z : List Told). IsAstray begin us z) (sym e) k
+
+broke_stays : (begin : Seen) (heard : List (List ℕ)) (told : List Told) (x : Told) (i : ℕ) → BrokeFor begin heard told i
+    → BrokeFor begin heard (told ++ x ∷ []) i
+broke_stays begin heard told x i k =
+    let n = length-append told (x ∷ []) in
+    let there = k.0 in
+    let a = take_front told (x ∷ []) i (omega arith) in
+    let b = take_front told (x ∷ []) (i + 1) (omega arith) in (
+      omega arith,
+      λ us e. let y =
+          k.1 us e in (
+            kept_still begin us (take i (told ++ x ∷ [])) (take i told) a y.0,
+            λ h. y.1 (subst (λ (z : List Told). IsExplained begin us z) b h),
+          ),
+    )
+
+left_stays : (begin : Seen) (heard : List (List ℕ)) (told : List Told) (x : Told) (i : ℕ) → LeftFor begin heard told i →
+    LeftFor begin heard (told ++ x ∷ []) i
+left_stays begin heard told x i k =
+    let n = length-append told (x ∷ []) in
+    let there = k.0 in
+    let a = take_front told (x ∷ []) i (omega arith) in
+    let b = take_front told (x ∷ []) (i + 1) (omega arith) in (
+      omega arith,
+      λ us e. let y = k.1 us e in (
+        kept_still begin us (take i (told ++ x ∷ [])) (take i told) a y.0,
+        astray_still begin us (take (i + 1) (told ++ x ∷ [])) (take (i + 1) told) b y.1,
+      ),
+    )
+
+crowded_stays : (begin : Seen) (heard : List (List ℕ)) (told : List Told) (x : Told) (i : ℕ) → CrowdedFor begin heard told i
+    → CrowdedFor begin heard (told ++ x ∷ []) i
+crowded_stays begin heard told x i k =
+    let n = length-append told (x ∷ []) in
+    let there = k.0 in
+    let b = take_front told (x ∷ []) (i + 1) (omega arith) in
+    (omega arith, λ us e. kept_still begin us (take (i + 1) (told ++ x ∷ [])) (take (i + 1) told) b (k.1 us e))
+
+told_front : (xs ys : List Told) (i : ℕ) (t : Told) → i < length xs → get_or (xs ++ ys) i t ≡ get_or xs i t
+told_front [] ys i t l = absurd (omega arith)
+told_front (x ∷ xs) ys zero t l = refl
+told_front (x ∷ xs) ys (suc i) t l = told_front xs ys i t (omega arith)
+
+-- what is known of the sessions that explain what was said before stays
+stood_stays : (w : Watched) (told : List Told) (x : Told) (i : ℕ) (t : Told) → i < length told → StandsBefore w told i t
+    → StandsBefore w (told ++ x ∷ []) i t
+stood_stays w told x i t l k = record {
+  is = k.is ∙ sym (told_front told (x ∷ []) i t l);
+  passed = k.passed;
+  all = subst (λ (z : List Told). AreAll w.begin w.heard w.before w.members z) (sym (take_front told (x ∷ []) i (omega arith))) k.all;
+  some = k.some;
+}
+
+broke_by_stays : (w : Watched) (told : List Told) (x : Told) (i : ℕ) → i < length told → BrokeBy w told i → BrokeBy w (told ++ x ∷ []) i
+broke_by_stays w told x i l k = (k.0, stood_stays w told x i k.0 l k.1, k.2, k.3)
+
+left_by_stays : (w : Watched) (told : List Told) (x : Told) (i : ℕ) → i < length told → LeftBy w told i → LeftBy w (told ++ x ∷ []) i
+left_by_stays w told x i l (t, s, inl (b, e, k)) = (t, stood_stays w told x i t l s, inl (b, e, broke_stays w.begin w.heard told x i k))
+left_by_stays w told x i l (t, s, inr (e, k)) =
+    let same = take_front told (x ∷ []) (i + 1) (omega arith) in
+    (t, stood_stays w told x i t l s, inr (e, λ us h. subst (λ (z : List Told). IsExplained w.begin us z) (sym same) (k us h)))
+
+stays_by : (f : Finding) (w : Watched) (told : List Told) (x : Told) → (f ≡ Kept → ⊥) → WatchesBy f w told → WatchesBy f w (told ++ x ∷ [])
+stays_by Kept w told x n k = absurd (n refl)
+stays_by (Broke i) w told x n k = (broke_stays w.begin w.heard told x i k.0, broke_by_stays w told x i k.0.0 k.1)
+stays_by (Left i) w told x n k = (left_stays w.begin w.heard told x i k.0, left_by_stays w told x i k.0.0 k.1)
+stays_by TooMany w told x n k = crowded_stays w.begin w.heard told x w.told k
+
+-- what was found of a side that is judged no further stays
+stays : (w n : Watched) (told : List Told) (x : Told) (f : Finding) → w.finding ≡ f → (f ≡ Kept → ⊥) → n ≡ w → Watches w told
+    → Watches n (told ++ x ∷ [])
+stays w n told x f z o e k =
+    subst (λ (y : Watched). Watches y (told ++ x ∷ [])) (sym e)
+    (subst (λ (g : Finding). WatchesBy g w (told ++ x ∷ [])) (sym z)
+    (stays_by f w told x o (subst (λ (g : Finding). WatchesBy g w told) z k)))
+
+pub broke_as : (w n : Watched) (told : List Told) (x : Told) (i : ℕ) → w.finding ≡ Broke i → n ≡ w → Watches w told
+    → Watches n (told ++ x ∷ [])
+broke_as w n told x i f e k = stays w n told x (Broke i) f (λ z. cc) e k
+
+pub left_as : (w n : Watched) (told : List Told) (x : Told) (i : ℕ) → w.finding ≡ Left i → n ≡ w → Watches w told
+    → Watches n (told ++ x ∷ [])
+left_as w n told x i f e k = stays w n told x (Left i) f (λ z. cc) e k
+
+pub too_many_as : (w n : Watched) (told : List Told) (x : Told) → w.finding ≡ TooMany → n ≡ w → Watches w told → Watches n (told ++ x ∷ [])
+too_many_as w n told x f e k = stays w n told x TooMany f (λ z. cc) e k
+
+-- the remarks of one TSDU more
+remarks_more : (told : List Told) (x : Told) (later : List Remark) →
+    remarks (told ++ x ∷ []) ++ later ≡ remarks told ++ (remarks_of x ++ later)
+remarks_more [] x later = ap (λ (z : List Remark). z ++ later) (append-nil (remarks_of x))
+remarks_more (t ∷ told) x later =
+    append_assoc (remarks_of t) (remarks (told ++ x ∷ [])) later ∙ ap (λ (z : List Remark). remarks_of t ++ z) (remarks_more told x later) ∙
+    sym (append_assoc (remarks_of t) (remarks told) (remarks_of x ++ later))
+
+behind_less : (a b : ℕ) (later : List Remark) → a ≤ b → IsBehind b later → IsBehind a later
+behind_less a b [] l h = tt
+behind_less a b (m ∷ ms) l h = omega arith
+
+behind_words : (a : ℕ) (t : Told) (ws : Words) (later : List Remark) → a ≤ t.before → IsBehind t.before later →
+    IsBehind a (map (remark t) ws ++ later)
+behind_words a t [] later l h = behind_less a t.before later l h
+behind_words a t (w ∷ ws) later l h = l
+
+behind_read : (a : ℕ) (t : Told) (came : Result Words SpduFault) (later : List Remark) → a ≤ t.before → IsBehind t.before later →
+    IsBehind a (read_as t came ++ later)
+behind_read a t (Ok words) later l h = behind_words a t (acting_words words) later l h
+behind_read a t (Err fault) later l h = l
+
+-- what the members after a TSDU explain
+abbrev pub Gives : Watched → Told → List Member → Type 0
+Gives w x new =
+    Ever w.heard x.before (λ (us : List (List ℕ)) (later : List Remark). SomeExplains us w.members (remarks_of x ++ later) ↔ SomeExplains us
+    new later)
+
+all_more : (w : Watched) (told : List Told) (x : Told) (new : List Member) → w.before ≤ x.before →
+    AreAll w.begin w.heard w.before w.members told → Gives w x new
+    → AreAll w.begin w.heard x.before new (told ++ x ∷ [])
+all_more w told x new l a g = λ us later e h.
+    let k = a us (remarks_of x ++ later) e (behind_read w.before x (said_at x.octets) later l h) in
+    let i = g us later e h in
+    let same = remarks_more told x later in (
+      λ p. i.0 (k.0 (subst (λ (z : List Remark). Explains us z 0 w.begin) same p)),
+      λ p. subst (λ (z : List Remark). Explains us z 0 w.begin) (sym same) (k.1 (i.1 p)),
+    )
+
+-- ---- what the first TSDU selects
+
+same_offer : (us heard : List (List ℕ)) (x : Told) → Extends us heard → x.before ≤ length heard
+    → selects_outside us (x ∷ []) ≡ selects_outside heard (x ∷ [])
+same_offer us heard x e l = by x.before l
+  where
+    asked : ℕ → List ℕ → Bool
+    asked n cn = nat_lt 0 n && is_outside (in_first offered_in (said_at cn)) (in_first accepted_in (said_at x.octets))
+
+    by : (n : ℕ) → n ≤ length heard → asked n (get_or us 0 []) ≡ asked n (get_or heard 0 [])
+    by zero l = refl
+    by (suc n) l = ap (asked (suc n)) (e 0 (omega arith))
+
+-- whether it selects what the profile leaves out, tested of a first TSDU alone
+abbrev pub OpensBy : Watched → Told → Bool → Type 0
+OpensBy w x b = (w.told ≡ 0 → b ≡ selects_outside w.heard (x ∷ [])) × (0 < w.told → b ≡ false)
+
+opens_by : (w : Watched) (told : List Told) (x : Told) (b : Bool) (us : List (List ℕ)) → Extends us w.heard → x.before ≤ length w.heard
+    → OpensBy w x b → Keeps w told
+    → selects_outside us (told ++ x ∷ []) ≡ b
+opens_by w [] x b us e l o k = same_offer us w.heard x e l ∙ sym (o.0 k.count)
+opens_by w (t ∷ told) x b us e l o k = let c = k.count in k.inside us e ∙ sym (o.1 (omega arith))
+
+-- ---- one TSDU more
+
+some_done : (us : List (List ℕ)) (members : List Member) → is_empty members ≡ false → SomeExplains us members []
+some_done us [] s = absurd (cc)
+some_done us (m ∷ members) s = inl (done m.taken m.standing)
+
+explained_more : (w : Watched) (told : List Told) (x : Told) (new : List Member) (us : List (List ℕ)) → w.before ≤ x.before
+    → Gives w x new → is_empty new ≡ false → Keeps w told → Extends us w.heard
+    → IsExplained w.begin us (told ++ x ∷ [])
+explained_more w told x new us l g s k e =
+    subst (λ (z : List Remark). Explains us z 0 w.begin) (append-nil (remarks (told ++ x ∷ [])))
+    ((all_more w told x new l k.all g us [] e tt).1 (some_done us new s))
+
+pub kept_as : (w n : Watched) (told : List Told) (x : Told) (new : List Member) (b : Bool)
+    → n ≡ record w { members = new; told = w.told + 1; before = x.before } → w.finding ≡ Kept → w.before ≤ x.before
+    → Gives w x new → is_empty new ≡ false → length new ≤ 4096 → x.before ≤ length w.heard → OpensBy w x b → b ≡ false → Keeps w told
+    → Watches n (told ++ x ∷ [])
+kept_as w n told x new b e f l g s y p o z k =
+    let m = length-append told (x ∷ []) in let c = k.count in
+    subst (λ (y : Watched). Watches y (told ++ x ∷ [])) (sym e)
+    (subst (λ (y : Finding). WatchesBy y (record w { members = new; told = w.told + 1; before = x.before }) (told ++ x ∷ [])) (sym f)
+    (record {
+      count = omega arith;
+      all = all_more w told x new l k.all g;
+      some = s;
+      few = y;
+      inside = λ us h. opens_by w told x b us h p o k ∙ z;
+    }))
+
+-- too many sessions explain it
+pub crowds_as : (w n : Watched) (told : List Told) (x : Told) (new : List Member) (b : Bool) → n ≡ record w { finding = TooMany }
+    → w.before ≤ x.before
+    → Gives w x new → is_empty new ≡ false → x.before ≤ length w.heard → OpensBy w x b → b ≡ false → Keeps w told
+    → Watches n (told ++ x ∷ [])
+crowds_as w n told x new b e l g s p o z k =
+    let m = length-append told (x ∷ []) in let c = k.count in
+    let whole = take_whole (told ++ x ∷ []) (w.told + 1) (omega arith) in
+    subst (λ (y : Watched). Watches y (told ++ x ∷ [])) (sym e) (
+      omega arith,
+      λ us h. kept_still w.begin us (take (w.told + 1) (told ++ x ∷ [])) (told ++ x ∷ []) whole
+          (explained_more w told x new us l g s k h, opens_by w told x b us h p o k ∙ z),
+    )
+
+-- ---- a break
+
+explained_so_far : (w : Watched) (told : List Told) (us : List (List ℕ)) → Extends us w.heard → Keeps w told → IsExplained w.begin us told
+explained_so_far w told us e k =
+    subst (λ (z : List Remark). Explains us z 0 w.begin) (append-nil (remarks told)) ((k.all us [] e tt).1 (some_done us w.members k.some))
+
+kept_so_far : (w : Watched) (told : List Told) (us : List (List ℕ)) → Extends us w.heard → Keeps w told → IsKept w.begin us told
+kept_so_far w told us e k = (explained_so_far w told us e k, k.inside us e)
+
+pub broke_here : (w : Watched) (told : List Told) (x : Told) (new : List Member) → w.before ≤ x.before → Gives w x new → new ≡ [] →
+    Keeps w told → BrokeFor w.begin w.heard (told ++ x ∷ []) w.told
+broke_here w told x new l g z k =
+    let m = length-append told (x ∷ []) in let c = k.count in
+    let front = take_front told (x ∷ []) w.told (omega arith) ∙ take_whole told w.told (omega arith) in
+    let whole = take_whole (told ++ x ∷ []) (w.told + 1) (omega arith) in (
+      omega arith,
+      λ us e. (
+        kept_still w.begin us (take w.told (told ++ x ∷ [])) told front (kept_so_far w told us e k),
+        λ h.
+            let p = subst (λ (y : List Told). IsExplained w.begin us y) whole h in
+            let q = (all_more w told x new l k.all g us [] e tt).0
+            (subst (λ (y : List Remark). Explains us y 0 w.begin) (sym (append-nil (remarks (told ++ x ∷ [])))) p) in
+            subst (λ (y : List Member). SomeExplains us y []) z q,
+      ),
+    )
+
+last_told : (told : List Told) (x : Told) (i : ℕ) → i ≡ length told → x ≡ get_or (told ++ x ∷ []) i x
+last_told [] x zero e = refl
+last_told [] x (suc i) e = absurd (omega arith)
+last_told (t ∷ told) x zero e = absurd (omega arith)
+last_told (t ∷ told) x (suc i) e = last_told told x i (omega arith)
+
+-- the sessions that explain what was said before the new TSDU
+stands_here : (w : Watched) (f : Finding) (by : Break) (told : List Told) (x : Told) → x.before ≤ length w.heard → Keeps w told
+    → StandsBefore (record w { finding = f; by = by }) (told ++ x ∷ []) w.told x
+stands_here w f by told x p k =
+    let m = length-append told (x ∷ []) in let c = k.count in
+    let front = take_front told (x ∷ []) w.told (omega arith) ∙ take_whole told w.told (omega arith) in record {
+      is = last_told told x w.told c;
+      passed = p;
+      all = subst (λ (z : List Told). AreAll w.begin w.heard w.before w.members z) (sym front) k.all;
+      some = k.some;
+    }
+
+-- ---- a side that leaves the profile
+
+-- by what it selects
+left_here : (w : Watched) (told : List Told) (x : Told) (b : Bool) → x.before ≤ length w.heard → OpensBy w x b → b ≡ true → Keeps w told
+    → LeftFor w.begin w.heard (told ++ x ∷ []) w.told
+left_here w told x b p o z k =
+    let m = length-append told (x ∷ []) in let c = k.count in
+    let front = take_front told (x ∷ []) w.told (omega arith) ∙ take_whole told w.told (omega arith) in
+    let whole = take_whole (told ++ x ∷ []) (w.told + 1) (omega arith) in (
+      omega arith,
+      λ us e. (
+        kept_still w.begin us (take w.told (told ++ x ∷ [])) told front (kept_so_far w told us e k),
+        astray_still w.begin us (take (w.told + 1) (told ++ x ∷ [])) (told ++ x ∷ []) whole (inr (opens_by w told x b us e p o k ∙ z)),
+      ),
+    )
+
+pub leaves_as : (w n : Watched) (told : List Told) (x : Told) (new : List Member) (b : Bool) → w.before ≤ x.before → Gives w x new
+    → is_empty new ≡ false
+    → n ≡ record w { finding = Left w.told; by = selection_of x.before w.members }
+    → x.before ≤ length w.heard → OpensBy w x b → b ≡ true → Keeps w told
+    → Watches n (told ++ x ∷ [])
+leaves_as w n told x new b l g s e p o z k =
+    let m = length-append told (x ∷ []) in let c = k.count in
+    let by = selection_of x.before w.members in
+    let whole = take_whole (told ++ x ∷ []) (w.told + 1) (omega arith) in
+    subst (λ (y : Watched). Watches y (told ++ x ∷ [])) (sym e) (
+      left_here w told x b p o z k,
+      (
+        x,
+        stands_here w (Left w.told) by told x p k,
+        inr (refl, λ us h. subst (λ (y : List Told). IsExplained w.begin us y) (sym whole) (explained_more w told x new us l g s k h)),
+      ),
+    )
+
+-- by something that no session sends
+left_broken : (begin : Seen) (heard : List (List ℕ)) (told : List Told) (i : ℕ) → BrokeFor begin heard told i → LeftFor begin heard told i
+left_broken begin heard told i k = (k.0, λ us e. let y = k.1 us e in (y.0, inl y.1))
+
+-- it is outside of the profile, or breaks the protocol
+ends_by : (b : Bool) (w : Watched) (by : Break) (told : List Told) (x : Told) (new : List Member) → leaves x.octets by ≡ b
+    → BreaksAt w.heard x.octets x.before w.members by → x.before ≤ length w.heard → w.before ≤ x.before → Gives w x new → new ≡ []
+    → Keeps w told
+    → WatchesBy (ended_at b w.told) (record w { finding = ended_at b w.told; by = by }) (told ++ x ∷ [])
+ends_by true w by told x new e h p l g z k =
+    let broke = broke_here w told x new l g z k in
+    (left_broken w.begin w.heard (told ++ x ∷ []) w.told broke, (x, stands_here w (Left w.told) by told x p k, inl (h, e, broke)))
+ends_by false w by told x new e h p l g z k = (broke_here w told x new l g z k, (x, stands_here w (Broke w.told) by told x p k, h, e))
+
+pub ends_as : (w n : Watched) (told : List Told) (x : Told) (new : List Member) → EndsAt x.octets x.before w n → x.before ≤ length w.heard
+    → w.before ≤ x.before → Gives w x new → new ≡ [] → Keeps w told
+    → Watches n (told ++ x ∷ [])
+ends_as w n told x new e p l g z k =
+    subst (λ (y : Watched). Watches y (told ++ x ∷ [])) (sym e.is) (ends_by (leaves x.octets n.by) w n.by told x new refl e.by p l g z k)
+
+pub ends_ok : {A E : Type 0} (r : Result A E) (w n : Watched) (x : Told) (new : List Member) → x.before ≤ length w.heard
+    → w.before ≤ x.before
+    → Gives w x new → new ≡ [] → OnOk r (EndsAt x.octets x.before w n)
+    → OnOk r ((told : List Told) → Keeps w told → Watches n (told ++ x ∷ []))
+ends_ok (Ok u) w n x new p l g z e = λ told k. ends_as w n told x new e p l g z k
+ends_ok (Err f) w n x new p l g z e = tt
+
+-- ---- the beginning, and what was found
+
+pub begins : (w : Watched) (m : Member) → w.heard ≡ [] → w.members ≡ m ∷ [] → m.taken ≡ 0 → m.standing ≡ w.begin → w.told ≡ 0 →
+    w.finding ≡ Kept → Watches w []
+begins w m h s t b o f = subst (λ (y : Finding). WatchesBy y w []) (sym f) (record {
+  count = o;
+  all = λ us later e k.
+      let there : Explains us later 0 w.begin → SomeExplains us w.members later
+      = λ p. subst (λ (y : List Member). SomeExplains us y later) (sym s)
+      (inl (subst (λ (y : ℕ). Explains us later y m.standing) (sym t) (subst (λ (y : Seen). Explains us later 0 y) (sym b) p))) in
+      let back : SomeExplains us w.members later → Explains us later 0 w.begin
+      = λ p. begin_only us later m w.begin t b (subst (λ (y : List Member). SomeExplains us y later) s p) in
+      (there, back);
+  some = ap is_empty s;
+  few = let n = ap (λ (x : List Member). length x) s in omega (arith, n);
+  inside = λ us e. refl;
+})
+  where
+    begin_only : (us : List (List ℕ)) (later : List Remark) (m : Member) (begin : Seen) → m.taken ≡ 0 → m.standing ≡ begin →
+        SomeExplains us (m ∷ []) later → Explains us later 0 begin
+    begin_only us later m begin t b (inl p) =
+        subst (λ (y : Seen). Explains us later 0 y) b (subst (λ (y : ℕ). Explains us later y m.standing) t p)
+    begin_only us later m begin t b (inr p) = absurd p
+
+found_by : (f : Finding) (w : Watched) (told : List Told) → WatchesBy f w told → IsFound w.begin w.heard told f
+found_by Kept w told k = kept_so_far w told w.heard (λ i l. refl) k
+found_by (Broke i) w told k = let y = k.0.1 w.heard (λ j l. refl) in (record { there = k.0.0; so_far = y.0.0; broke = y.1 }, y.0.1)
+found_by (Left i) w told k = let y = k.0.1 w.heard (λ j l. refl) in (k.0.0, y.0, y.1)
+found_by TooMany w told k = (w.told, k.0, k.1 w.heard (λ j l. refl))
+
+pub few_by : (w : Watched) (told : List Told) → w.finding ≡ Kept → Watches w told → length w.members ≤ 4096
+few_by w told f k = let kept : Keeps w told = subst (λ (g : Finding). WatchesBy g w told) f k in kept.few
+
+-- the rule by which it broke the protocol, or left the profile
+pub broke_by : (w : Watched) (told : List Told) (i : ℕ) → Watches w told → w.finding ≡ Broke i → BrokeBy w told i
+broke_by w told i k f = let b : WatchesBy (Broke i) w told = subst (λ (g : Finding). WatchesBy g w told) f k in b.1
+
+pub left_by : (w : Watched) (told : List Told) (i : ℕ) → Watches w told → w.finding ≡ Left i → LeftBy w told i
+left_by w told i k f = let b : WatchesBy (Left i) w told = subst (λ (g : Finding). WatchesBy g w told) f k in b.1
+
+pub found_as : (w : Watched) (told : List Told) → Watches w told → IsFound w.begin w.heard told w.finding
+found_as w told k = found_by w.finding w told k
+
+-- ---- in memory
+
+pub empty_is : (members : List Member) → (length members == 0) ≡ is_empty members
+empty_is [] = refl
+empty_is (m ∷ members) = grind arith
+
+pub nil_of : (members : List Member) → is_empty members ≡ true → members ≡ []
+nil_of [] e = refl
+nil_of (m ∷ members) e = absurd (cc)
+
+pub gives_as : (w : Watched) (x : Told) (new : List Member) (heard : List (List ℕ)) (members : List Member) → heard ≡ w.heard →
+    members ≡ w.members
+    → Ever heard x.before
+    (λ (us : List (List ℕ)) (later : List Remark). SomeExplains us members (remarks_of x ++ later) ↔ SomeExplains us new later) →
+    Gives w x new
+gives_as w x new heard members h m g =
+    subst (λ (y : List Member). Ever w.heard x.before
+    (λ (us : List (List ℕ)) (later : List Remark). SomeExplains us y (remarks_of x ++ later) ↔ SomeExplains us new later)) m
+    (subst (λ (y : List (List ℕ)). Ever y x.before
+    (λ (us : List (List ℕ)) (later : List Remark). SomeExplains us members (remarks_of x ++ later) ↔ SomeExplains us new later)) h g)
