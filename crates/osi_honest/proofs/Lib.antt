@@ -1,32 +1,13 @@
-pub mod what_class_0_writes_of_a_tsdu
-pub mod a_session_of_class_0_puts_what_it_sends
-pub mod what_a_packet_does_in_class_0
-pub mod what_packets_do_in_class_0
-pub mod what_a_shortage_of_memory_leaves
-pub mod what_a_turn_does_in_class_0
-pub mod what_a_call_does_in_class_0
-pub mod what_a_session_answers_fits
-pub mod what_a_run_does_in_class_0
-pub mod a_history_is_a_run
-pub mod what_is_put_and_taken_is_read
-pub mod what_a_capture_shows_is_a_run
-pub mod what_a_unit_keeps_a_turn_keeps
-pub mod what_was_put_stays_in_front
-pub mod how_a_called_end_opens
-pub mod what_a_shortage_leaves_at_a_waiting_end
-pub mod what_a_waiting_end_does
-pub mod what_an_end_without_class_0_puts
-pub mod how_a_caller_opens
-pub mod what_a_shortage_leaves_at_an_asking_end
-pub mod what_an_asking_end_does
-pub mod what_an_end_that_is_away_puts
-pub mod what_an_idle_end_does
-pub mod two_readings_of_a_stream_agree
-pub mod what_an_end_puts_is_packets
-pub mod what_the_judge_reads_of_a_side
-pub mod how_far_the_other_side_had_come
-pub mod what_an_end_put_was_caused
-pub mod what_a_capture_shows_of_an_end
-pub mod what_a_called_end_did
-pub mod the_session_of_a_request_is_a_caller
-pub mod what_a_calling_end_did
+-- The map of these proofs, in reading order.
+-- What an end puts whose connection is open in class 0.
+pub mod class_0
+-- What stays true of an end over each turn.
+pub mod keeping
+-- How an end comes to its connection of class 0, or to none.
+pub mod opening
+-- What the judge reads of what an end puts and takes.
+pub mod reading
+-- The session of an end is not blamed.
+pub mod sessions
+-- The transport of an end is not blamed, and so the end is not.
+pub mod transport

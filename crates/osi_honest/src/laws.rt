@@ -1,17 +1,19 @@
 //! Laws of an end and its captures. Each function does nothing: its clauses are the laws.
 
-ghost use Rattle.std.specs.Prelude.{◌≡◌, ℕ, Bool, false, true, List, None, length, map};
+ghost use Rattle.std.specs.Prelude.{◌≡◌, ℕ, Bool, false, true, List, Option, None, Some, length, map};
+ghost use Rattle.std.specs.List.{AllByRecursion};
 ghost use Rattle.osi_tpkt.specs.Stream.{Cuts, Ending};
 ghost use Rattle.osi_class.specs.Tsdus.{Part};
 ghost use Rattle.osi_class.specs.declared.terms.Local.{Local};
 ghost use Rattle.osi_judge.specs.Captures.{Capture, stream};
 ghost use Rattle.osi_judge.specs.Explaining.{IsExplained, Told};
 ghost use Rattle.osi_judge.specs.Running.{IsSentFrom};
-ghost use Rattle.osi_judge.specs.Stops.{broke_session};
-ghost use Rattle.osi_judge.specs.Tapping.{IsFoundIn, octets_of};
+ghost use Rattle.osi_judge.specs.Stops.{breaks, broke_session};
+ghost use Rattle.osi_judge.specs.Tapping.{IsFirstIn, IsFoundIn, IsStoppedIn, StandsIn, octets_of};
 ghost use Rattle.osi_judge.specs.Transport.{Handshake, Stage, between, sent_from};
 ghost use Rattle.osi_judge.specs.declared.directions.Direction.{Direction};
 ghost use Rattle.osi_judge.specs.declared.findings.Finding.{Finding};
+ghost use Rattle.osi_judge.specs.declared.stops.Stopped.{Stopped};
 ghost use Rattle.osi_session.specs.Listening.{Listener};
 ghost use Rattle.osi_session.specs.Sessions.{awaits, opens, refusal_of};
 ghost use Rattle.osi_session.specs.Standing.{seen_called, seen_calling};
@@ -23,7 +25,7 @@ ghost use Rattle.osi_stack.specs.declared.connecting.Connect.{Connect};
 ghost use Rattle.osi_honest.specs.Openings.{Asks, AskingTurn, Idles, IdleTurn, Waits, WaitingTurn};
 ghost use Rattle.osi_honest.specs.Parts.{Carry, units_put};
 ghost use Rattle.osi_honest.specs.Reading.{IsReading};
-ghost use Rattle.osi_honest.specs.Seeing.{EndsWithin, IsFresh, IsSeen};
+ghost use Rattle.osi_honest.specs.Seeing.{EndsWithin, HasOneUnit, IsFresh, IsSeen};
 ghost use Rattle.osi_honest.specs.Showing.{AreSame, Shows};
 ghost use Rattle.osi_honest.specs.Stretches.{Brings, GoesAlong, Stands};
 ghost use Rattle.osi_honest.specs.Talking.{History, Said, told_of};
@@ -147,3 +149,60 @@ pub fn what_a_capture_shows_is_packets()
     ensures { (d : Direction) (capture : Capture) (begin end : Holding) (turns : List Turn) (units : List (List ℕ)) (ending : Ending) →
         Run begin turns end → IsSeen d turns capture → Cuts (stream d capture) units ending → EndsWithin ending }
 {}
+
+/// Each of these packets has one unit, and this unit can be read: in either class, and before a class is known.
+pub fn what_a_capture_shows_can_be_read()
+    ensures { (d : Direction) (is_caller : Bool) (local : Local) (begin end : Holding) (turns : List Turn) (capture : Capture)
+        (units : List (List ℕ)) (ending : Ending) → IsFresh is_caller local begin → Run begin turns end → IsSeen d turns capture →
+        Cuts (stream d capture) units ending → AllByRecursion HasOneUnit units }
+{
+    few_octets_fit();
+    serial_digits();
+    what_closes_sends_nothing();
+}
+
+/// Nor is the transport of an end ever blamed. Take the same runs and captures. Then the judge never finds that this side broke the
+/// rules of the transport: with a packet or a unit that can't be read, with a unit that has no place after what had
+/// passed before it, or with a TSDU that is too long. The connection may be refused, or turn out to be of class 2,
+/// which is not judged.
+pub fn the_transport_of_an_end_is_not_blamed()
+    ensures called { (local : Local) (begin end : Holding) (turns : List Turn) (capture : Capture) (stop : Option Stopped) →
+        IsFresh false local begin → Run begin turns end → IsSeen Direction.Right turns capture →
+        IsStoppedIn Direction.Right capture stop → breaks stop ≡ false }
+    ensures calling { (local : Local) (begin end : Holding) (turns : List Turn) (capture : Capture) (stop : Option Stopped) →
+        IsFresh true local begin → Run begin turns end → IsSeen Direction.Left turns capture →
+        IsStoppedIn Direction.Left capture stop → breaks stop ≡ false }
+{
+    few_octets_fit();
+    serial_digits();
+    what_closes_sends_nothing();
+}
+
+/// So an honest end is never blamed. Take any run of an end of this library, from its beginning: any pieces of whatever octets
+/// arrive, any calls of its user, any shortage of memory. Take any capture of it, at a tap anywhere between the two ends
+/// ([`IsSeen`]). Then the judge finds that this side has not broken the protocol, and never says that it broke it first. If
+/// both ends are of this library, the judge says that neither broke it (`both`).
+///
+/// [`IsSeen`]: ../specs/Seeing.antt
+pub fn an_honest_end_is_never_blamed()
+    ensures called { (local : Local) (begin end : Holding) (turns : List Turn) (capture : Capture) (has_broken : Bool) →
+        IsFresh false local begin → Run begin turns end → IsSeen Direction.Right turns capture →
+        StandsIn Direction.Right capture has_broken → has_broken ≡ false }
+    ensures calling { (local : Local) (begin end : Holding) (turns : List Turn) (capture : Capture) (has_broken : Bool) →
+        IsFresh true local begin → Run begin turns end → IsSeen Direction.Left turns capture →
+        StandsIn Direction.Left capture has_broken → has_broken ≡ false }
+    ensures called_is_not_first { (local : Local) (begin end : Holding) (turns : List Turn) (capture : Capture) →
+        IsFresh false local begin → Run begin turns end → IsSeen Direction.Right turns capture →
+        ¬ (IsFirstIn capture (Some Direction.Right)) }
+    ensures calling_is_not_first { (local : Local) (begin end : Holding) (turns : List Turn) (capture : Capture) →
+        IsFresh true local begin → Run begin turns end → IsSeen Direction.Left turns capture →
+        ¬ (IsFirstIn capture (Some Direction.Left)) }
+    ensures both { (mine theirs : Local) (begin end called_begin called_end : Holding) (turns called_turns : List Turn) (capture : Capture)
+        (first : Option Direction) → IsFresh true mine begin → Run begin turns end → IsSeen Direction.Left turns capture →
+        IsFresh false theirs called_begin → Run called_begin called_turns called_end → IsSeen Direction.Right called_turns capture →
+        IsFirstIn capture first → first ≡ None }
+{
+    a_called_end_is_not_blamed();
+    a_calling_end_is_not_blamed();
+    the_transport_of_an_end_is_not_blamed();
+}

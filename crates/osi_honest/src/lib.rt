@@ -1,9 +1,9 @@
 //! What an end of this library puts on the byte connection, in the words in which the judge reads a capture. The crate
 //! has definitions and laws; nothing here runs.
 //!
-//! Read it if you want to know why `osi judge` blames no session of an end of this library. It joins two crates that
-//! know nothing of each other: `osi_stack` says what an end is after octets and calls, and `osi_judge` which runs of a
-//! session explain what a side sent. It speaks of one connection of class 0.
+//! Read it if you want to know why `osi judge` never blames an end of this library. It joins two crates that know nothing
+//! of each other: `osi_stack` says what an end is after octets and calls, and `osi_judge` which runs of a session explain
+//! what a side sent, and which packets have a place in class 0. It speaks of one connection of class 0.
 //!
 //! - A `Turn` (`specs/Turns.antt`) is one thing that the owner of an end does, with the octets that the end used and those
 //!   that it put. A `Run` is turns one after the other.
@@ -16,9 +16,11 @@
 //! - The judge reads these packets as the end does: [`laws::what_is_put_and_taken_is_read`].
 //! - What a tap between the two ends shows of such an end is `IsSeen` (`specs/Seeing.antt`). The session of an end is blamed
 //!   nowhere in any capture of it: [`laws::a_called_end_is_not_blamed`], [`laws::a_calling_end_is_not_blamed`].
-//!
-//! It doesn't say yet that the transport of an end is never blamed, except for bad packets
-//! ([`laws::what_a_capture_shows_is_packets`]).
+//! - What a capture shows of an end is packets with one unit each, which can be read:
+//!   [`laws::what_a_capture_shows_is_packets`], [`laws::what_a_capture_shows_can_be_read`]. Each of them has a place after
+//!   what had passed before it, so the transport of an end is blamed nowhere either:
+//!   [`laws::the_transport_of_an_end_is_not_blamed`].
+//! - So the judge never says that this side broke the protocol first: [`laws::an_honest_end_is_never_blamed`].
 #![tactic(auto)]
 
 pub mod laws;

@@ -1,4 +1,4 @@
-use Rattle.osi_honest.proofs.what_an_end_puts_is_packets.{shown_ends_within}
+use Rattle.osi_honest.proofs.reading.what_an_end_puts_is_packets.{shown_ends_within}
 use Rattle.osi_honest.proofs.laws.what_a_capture_shows_is_packets.Goals as goal
 
 pub returns : goal.returns

@@ -2,7 +2,7 @@ use Rattle.std.proofs.Common.{[]}
 use Rattle.osi_judge.specs.Transport.{between}
 use Rattle.osi_honest.specs.Parts.{units_put}
 use Rattle.osi_honest.specs.Reading.{between_two}
-use Rattle.osi_honest.proofs.what_is_put_and_taken_is_read.{brings_read, carried_bring}
+use Rattle.osi_honest.proofs.reading.what_is_put_and_taken_is_read.{brings_read, carried_bring}
 use Rattle.osi_honest.proofs.laws.what_is_put_and_taken_is_read.Goals as goal
 
 pub returns-clause-put : goal.returns-clause-put

@@ -1,0 +1,163 @@
+-- Whatever happens to a session of class 0, what it sends is put at once, and the connection stays open unless the session closes it.
+-- For the turns of an end.
+use Rattle.std.proofs.Common.{◌≡◌, ◌∙◌, refl, sym, ap, subst, ℕ, Bool, true, false, List, [], Option, Some, None, is_some, IsSome, inl, inr}
+use Rattle.osi_class.specs.declared.terms.Class.{Class}
+use Rattle.osi_class.specs.declared.terms.Class.TheVariants.{Zero}
+use Rattle.osi_carrier.specs.Calls.{closed_on, closed_with, closes, sent_all}
+use Rattle.osi_carrier.specs.Rows.{Rows, put, value_at}
+use Rattle.osi_carrier.specs.State.{State as Carrier}
+use Rattle.osi_carrier.proofs.references.what_a_change_leaves_there.{put_here}
+use Rattle.osi_message.specs.Parting.{tsdus_sent}
+use Rattle.osi_session.specs.Listening.{Input, Listener, react, after_input}
+use Rattle.osi_session.specs.Phases.{is_wait_transport}
+use Rattle.osi_session.proofs.runs.what_every_run_preserves.{input_begun}
+use Rattle.osi_judge.specs.Running.{sends}
+use Rattle.osi_stack.specs.Messages.{AreShort, kept_at}
+use Rattle.osi_stack.specs.Moving.{answers, by_line, carrier_by, limit_for, line_by, to_session}
+use Rattle.osi_stack.specs.State.{End, Line, session_in}
+use Rattle.osi_stack.specs.Transport.{answers_by, hands}
+use Rattle.osi_stack.proofs.called.tsdus_that_are_handed_together.{handed}
+use Rattle.osi_honest.specs.Parts.{IsOpenZero, IsWritten}
+use Rattle.osi_honest.specs.Talking.{Moves, Puts, Talks}
+use Rattle.osi_honest.proofs.class_0.what_class_0_writes_of_a_tsdu.{all_written, none_written, open_is, written_open}
+
+-- ---- the line of a session
+
+record HasLine (r : ℕ) (session : Listener) (lines : Rows Line) : Type 0 where
+  line : Line
+  here : value_at r lines ≡ Some line
+  is : line.session ≡ Some session
+
+line_in : (r : ℕ) (session : Listener) (lines : Rows Line) (o : Option Line) → value_at r lines ≡ o → session_in o ≡ Some session →
+    HasLine r session lines
+line_in r session lines None e h = absurd (cc)
+line_in r session lines (Some line) e h = record { line = line; here = e; is = h }
+
+line_there : (r : ℕ) (session : Listener) (lines : Rows Line) → kept_at r lines ≡ Some session → HasLine r session lines
+line_there r session lines h = line_in r session lines (value_at r lines) refl h
+
+moved_by : (r : ℕ) (session : Listener) (input : Input) (e : End) (h : HasLine r session e.lines) →
+    to_session r input e ≡ record {
+      carrier = answers r (limit_for session input) (react session input) e.carrier;
+      lines = put r
+          (line_by h.line (Some session) input) e.lines;
+    }
+moved_by r session input e h =
+    ap (λ o. by_line r o input e) h.here
+    ∙ ap (λ (o : Option Listener). record { carrier = carrier_by r o input e.carrier; lines = put r (line_by h.line o input) e.lines }) h.is
+
+kept_then : (r : ℕ) (session : Listener) (input : Input) (lines : Rows Line) (h : HasLine r session lines) →
+    kept_at r (put r (line_by h.line (Some session) input) lines) ≡ Some (after_input session input)
+kept_then r session input lines h = ap session_in (put_here r (line_by h.line (Some session) input) h.line lines h.here)
+
+-- ---- the carrier
+
+-- what a session has to be known for: its TSDUs fit, and it sends nothing where it closes its connection
+pub record IsProper (session : Listener) (input : Input) : Type 0 where
+  pub same : tsdus_sent (limit_for session input) (react session input).reply ≡ sends session input
+  pub short : AreShort (sends session input)
+  pub silent : (react session input).closes ≡ true → sends session input ≡ []
+
+still_begun : (session : Listener) (input : Input) → is_wait_transport session.state.phase ≡ false →
+    is_wait_transport (after_input session input).state.phase ≡ false
+still_begun session input w = by (is_wait_transport (after_input session input).state.phase) refl
+  where
+    by : (b : Bool) → is_wait_transport (after_input session input).state.phase ≡ b →
+        is_wait_transport (after_input session input).state.phase ≡ false
+    by false e = e
+    by true e = let k = input_begun session input e in absurd (cc)
+
+written_puts : (tsdus : List (List ℕ)) (old new : Carrier) → AreShort tsdus → IsWritten tsdus old new → Puts tsdus old new
+written_puts tsdus old new short w =
+    record { parts = w.parts; carry = w.carry; short = short; outgoing = ap (λ (c : Carrier). c.outgoing) w.is }
+
+pub closed_ends : (r peer limit : ℕ) (begun : List ℕ) (c : Carrier) → IsOpenZero r peer limit begun c → c.class ≡ Some Zero →
+    IsSome (closed_with r 128 c).ended × ((closed_with r 128 c).outgoing ≡ c.outgoing)
+closed_ends r peer limit begun c h zero =
+    let is : closed_with r 128 c ≡ closes r peer 128 (Some Zero) c =
+    ap (λ o. closed_on r 128 o c) (open_is r peer limit begun c h) ∙ ap (λ (x : Option Class). closes r peer 128 x c) zero in
+    (ap (λ (x : Carrier). is_some x.ended) is, ap (λ (x : Carrier). x.outgoing) is)
+
+-- an open connection of this session, which does not wait for it after the input
+record CanMove (r : ℕ) (session : Listener) (begun : List ℕ) (input : Input) (e : End) : Type 0 where
+  peer : ℕ
+  limit : ℕ
+  is_open : IsOpenZero r peer limit begun e.carrier
+  class : e.carrier.class ≡ Some Zero
+  told : e.carrier.events ≡ []
+  begun_then : is_wait_transport (after_input session input).state.phase ≡ false
+
+-- how the carrier answers a move that closes the connection or not
+answered : (r : ℕ) (session : Listener) (begun : List ℕ) (input : Input) (e : End) (t : CanMove r session begun input e) (b : Bool) →
+    (react session input).closes ≡ b → IsProper session input →
+    (h : HasLine r session e.lines) → Moves r session begun input e (to_session r input e)
+answered r session begun input e t true closes proper h =
+    let is = moved_by r session input e h in
+    let none = proper.silent closes in
+    let carrier : (to_session r input e).carrier ≡ closed_with r 128 e.carrier =
+    ap (λ (x : End). x.carrier) is
+    ∙ ap (λ (x : Bool). answers_by x r (tsdus_sent (limit_for session input) (react session input).reply) e.carrier) closes in
+    let over = closed_ends r t.peer t.limit begun e.carrier t.is_open t.class in
+    let nothing = written_puts [] e.carrier e.carrier tt (none_written e.carrier) in
+    record {
+      puts = subst (λ (x : List (List ℕ)). Puts x e.carrier (to_session r input e).carrier) (sym none)
+          (record {
+            parts = nothing.parts;
+            carry = nothing.carry;
+            short = tt;
+            outgoing = ap (λ (x : Carrier). x.outgoing) carrier
+                ∙ over.1 ∙ nothing.outgoing;
+          });
+      then_is = inr (closes, subst (λ (x : Carrier). IsSome x.ended) (sym carrier) over.0);
+    }
+answered r session begun input e t false closes proper h =
+    let is = moved_by r session input e h in
+    let tsdus = sends session input in
+    let carrier : (to_session r input e).carrier ≡ sent_all r tsdus e.carrier =
+    ap (λ (x : End). x.carrier) is
+    ∙ ap (λ (x : Bool). answers_by x r (tsdus_sent (limit_for session input) (react session input).reply) e.carrier) closes
+    ∙ ap (λ (x : List (List ℕ)). hands r x e.carrier) proper.same ∙ handed r tsdus e.carrier proper.short in
+    let w : IsWritten tsdus e.carrier (to_session r input e).carrier = subst (IsWritten tsdus e.carrier) (sym carrier)
+    (all_written r t.peer t.limit begun tsdus e.carrier t.is_open) in
+    record {
+      puts = written_puts tsdus e.carrier (to_session r input e).carrier proper.short w;
+      then_is = inl (
+        closes,
+        record {
+          peer = t.peer;
+          limit = t.limit;
+          is_open = written_open r t.peer t.limit begun tsdus e.carrier (to_session r input e).carrier w t.is_open;
+          class = ap (λ (x : Carrier). x.class) w.is ∙ t.class;
+          told = ap (λ (x : Carrier). x.events) w.is ∙ t.told;
+          here = ap (λ (x : End). kept_at r x.lines) is ∙ kept_then r session input e.lines h;
+          begun_long_ago = t.begun_then;
+        },
+      );
+    }
+
+pub session_moves : (r : ℕ) (session : Listener) (begun : List ℕ) (input : Input) (e : End) → Talks r session begun e →
+    IsProper session input → Moves r session begun input e (to_session r input e)
+session_moves r session begun input e t proper =
+    answered r session begun input e (record {
+      peer = t.peer;
+      limit = t.limit;
+      is_open = t.is_open;
+      class = t.class;
+      told = t.told;
+      begun_then = still_begun session input t.begun_long_ago;
+    }) (react session input).closes refl proper (line_there r session e.lines t.here)
+
+-- the same of a session that waited for its connection until now
+pub moves_from : (r : ℕ) (session : Listener) (begun : List ℕ) (input : Input) (e : End) (peer limit : ℕ) →
+    IsOpenZero r peer limit begun e.carrier → e.carrier.class ≡ Some Zero → e.carrier.events ≡ [] → kept_at r e.lines ≡ Some session →
+    is_wait_transport (after_input session input).state.phase ≡ false → IsProper session input →
+    Moves r session begun input e (to_session r input e)
+moves_from r session begun input e peer limit is_open class told here then_begun proper =
+    answered r session begun input e (record {
+      peer = peer;
+      limit = limit;
+      is_open = is_open;
+      class = class;
+      told = told;
+      begun_then = then_begun;
+    }) (react session input).closes refl proper (line_there r session e.lines here)

@@ -1,0 +1,266 @@
+-- A call of the user at an end with an open connection of class 0, and any turn of such an end, or of one that is over.
+-- For runs of an end.
+use Rattle.std.proofs.Common.{◌≡◌, ◌≢◌, ◌∙◌, refl, sym, ap, subst, ℕ, ◌==◌, Bool, true, false, if◌then◌else◌, not, List, [], ◌∷◌, ◌++◌}
+use Rattle.std.proofs.Common.{length, map, Option, Some, None, is_some, IsSome, inl, inr, arith}
+use Rattle.std.proofs.lemmas.Bool.{eqb-true, eq-eqb}
+use Rattle.std.proofs.lemmas.List.{append-nil, append_cancel_left}
+use Rattle.osi_class.specs.declared.terms.Class.{Class}
+use Rattle.osi_carrier.specs.Calls.{class_error, closed_on, closed_with, link_of, open_link, or_else, room_error}
+use Rattle.osi_carrier.specs.Rows.{Rows, value_at}
+use Rattle.osi_carrier.specs.State.{Connection, State as Carrier, packets}
+use Rattle.osi_carrier.specs.declared.ends.EndReason.{EndReason}
+use Rattle.osi_carrier.specs.declared.ends.EndReason.TheVariants.{Broken}
+use Rattle.osi_carrier.specs.declared.faults.OpenError.{OpenError}
+use Rattle.osi_carrier.specs.declared.faults.OpenError.TheVariants.{Ended, NotCaller, OneConnection}
+use Rattle.osi_message.specs.Parting.{tsdus_sent}
+use Rattle.osi_session.specs.Calls.{Call as SessionCall, HasSerial}
+use Rattle.osi_session.specs.Listening.{Listener, called, react, after_input}
+use Rattle.osi_session.specs.Sizes.{limit_of}
+use Rattle.osi_judge.specs.Running.{sends}
+use Rattle.osi_stack.specs.Calls.{after_open, breaks, call_error, connect_error, terms_error}
+use Rattle.osi_stack.specs.Disconnecting.{disconnects, gives_up}
+use Rattle.osi_stack.specs.Hearing.{ends}
+use Rattle.osi_stack.specs.Inputs.{IsAccepted}
+use Rattle.osi_stack.specs.Messages.{AreShort, IsGranted, kept_at}
+use Rattle.osi_stack.specs.Moving.{to_session}
+use Rattle.osi_stack.specs.Rounds.{UserCall, user_does}
+use Rattle.osi_stack.specs.Rounds.UserCall.{breaking, calling, connecting, disconnecting}
+use Rattle.osi_stack.specs.Runs.{Call, Calls, carried_in}
+use Rattle.osi_stack.specs.Runs.Call.{carrying, feeding, telling}
+use Rattle.osi_stack.specs.State.{End, Holding, session_in}
+use Rattle.osi_stack.specs.declared.connecting.Connect.{Connect}
+use Rattle.osi_stack.specs.declared.connecting.ConnectError.{ConnectError}
+use Rattle.osi_stack.proofs.given_up.the_invariant_stays.{closed_and_given, disconnect_carrier, disconnect_is, given_other}
+use Rattle.osi_stack.proofs.carried.what_a_move_leaves.{says_is}
+use Rattle.osi_honest.specs.Parts.{Carry, dt}
+use Rattle.osi_honest.specs.Seeing.{put_along}
+use Rattle.osi_honest.specs.Stretches.{Goes, Stands}
+use Rattle.osi_honest.specs.Stretches.Stands.{gone, talking}
+use Rattle.osi_honest.specs.Talking.{History, Moves, Puts, Said, Talks, said_after}
+use Rattle.osi_honest.specs.Talking as history
+use Rattle.osi_honest.specs.Turns.{Act, Acts, HasSerialIn, Run, Takes, Turn, carried_by, used_by}
+use Rattle.osi_honest.specs.Turns.Act.{serving, using}
+use Rattle.osi_honest.proofs.class_0.a_session_of_class_0_puts_what_it_sends.{IsProper, closed_ends, session_moves}
+use Rattle.osi_honest.proofs.class_0.what_a_packet_does_in_class_0.{AllProper}
+use Rattle.osi_honest.proofs.class_0.what_packets_do_in_class_0.{never_lasts, said_by, said_octets}
+use Rattle.osi_honest.proofs.class_0.what_a_turn_does_in_class_0.{nothing_put, over_turn, serving_turn, still_turn}
+
+-- ---- the one reference
+
+-- no other reference has an open connection
+none_other : (q r : ℕ) (x : Connection) (b : Bool) → (r == q) ≡ b → r ≢ q → link_of (value_at q ((r, x) ∷ [])) ≡ None
+none_other q r x true e ne = absurd (ne (eqb-true r q e))
+none_other q r x false e ne = rw e refl
+
+other_link : (q r : ℕ) (session : Listener) (begun : List ℕ) (e : End) → Talks r session begun e → r ≢ q → open_link q e.carrier ≡ None
+other_link q r session begun e t ne =
+    ap (λ (x : Bool). if x then None else link_of (value_at q e.carrier.live)) (ap is_some t.is_open.lasts)
+    ∙ ap (λ (rows : Rows Connection). link_of (value_at q rows)) t.is_open.live ∙ none_other q r _ (r == q) refl ne
+
+the_one : (q r : ℕ) (session : Listener) (begun : List ℕ) (e : End) → Talks r session begun e → IsSome (open_link q e.carrier) → r ≡ q
+the_one q r session begun e t some = by (r == q) refl
+  where
+    by : (b : Bool) → (r == q) ≡ b → r ≡ q
+    by true e0 = eqb-true r q e0
+    by false e0 = absurd (never_lasts (open_link q e.carrier) some
+        (other_link q r session begun e t (λ same. let yes = eq-eqb r q same in let not_both : true ≡ false = sym yes ∙ e0 in cc)))
+
+-- ---- a request for a connection: class 0 has the one
+
+one_only : (b : Bool) (o : Option EndReason) (e : Option OpenError) → (error : Option ConnectError) → o ≡ None →
+    after_open (if not b then Some NotCaller else (if is_some o then Some Ended else or_else (Some OneConnection) e)) error ≡ None → ⊥
+one_only true None e error lasts h = cc
+one_only false None e error lasts h = cc
+one_only b (Some x) e error lasts h = cc
+
+no_request : (c : Connect) (r : ℕ) (session : Listener) (begun : List ℕ) (e : End) → Talks r session begun e → connect_error c e ≡ None → ⊥
+no_request c r session begun e t h =
+    one_only e.carrier.is_caller e.carrier.ended (room_error e.carrier) (terms_error c) t.is_open.lasts
+    (ap (λ (k : Option Class). after_open
+    (if not e.carrier.is_caller then Some NotCaller else
+    (if is_some e.carrier.ended then Some Ended else or_else (class_error k e.carrier.live) (room_error e.carrier))) (terms_error c))
+    (sym t.class) ∙ h)
+
+-- ---- a call of the session
+
+granted_proper : (r : ℕ) (call : SessionCall) (session : Listener) (c : Carrier) → IsGranted r call session c →
+    IsProper session (called call)
+granted_proper r call session c g = record {
+  same = refl;
+  short = subst AreShort (sym (ap (tsdus_sent (limit_of session.state)) g.reply)) g.short;
+  silent = λ closes. let both : true ≡ false = sym closes ∙ g.closes in absurd (cc);
+}
+
+-- what the session of the one connection is granted
+granted_here : (q r : ℕ) (call : SessionCall) (session : Listener) (begun : List ℕ) (e : End) → Talks r session begun e →
+    call_error q call e ≡ None → (r ≡ q) × IsGranted r call session e.carrier
+granted_here q r call session begun e t allowed =
+    let says = says_is q call e allowed in
+    let one = the_one q r session begun e t says.granted.opened in
+    let there : kept_at q e.lines ≡ Some says.acts.session = ap session_in says.acts.here ∙ says.acts.is in
+    let here : Some says.acts.session ≡ Some session = sym there ∙ ap (λ n. kept_at n e.lines) (sym one) ∙ t.here in
+    let same : says.acts.session ≡ session = cc in (
+      one,
+      subst (λ (s : Listener). IsGranted r call s e.carrier) same
+          (subst (λ n. IsGranted n call says.acts.session e.carrier) (sym one) says.granted),
+    )
+
+module _ (begin : Listener) (r : ℕ) (took : List (List ℕ)) (said : List Said) (begun : List ℕ) (session : Listener)
+    (h : History begin took said false session) where
+  moved_turn : (call : SessionCall) (put : List ℕ) (old new : Holding) → HasSerial call →
+      Moves r session begun (called call) old.end new.end → (react session (called call)).closes ≡ false →
+      new.held.octets ≡ old.held.octets → new.end.carrier.outgoing ≡ old.end.carrier.outgoing ++ put →
+      Goes begin r took said begun [] put old new
+  moved_turn call put old new serial m stays same outgoing =
+      let tsdus = sends session (called call) in
+      let now = said_after (length took) tsdus in
+      let next = history.calls took said false session call h serial in
+      let talks : Talks r (after_input session (called call)) begun new.end = elim m.then_is [
+        | inl k ↦ k.1
+        | inr k ↦ absurd (let both : true ≡ false = sym k.0 ∙ stays in cc)
+      ] in
+      record {
+        more = [];
+        told = now;
+        later = begun;
+        stands = subst (λ (x : List (List ℕ)). Stands begin r x (said ++ now) begun new.end) (sym (append-nil took))
+            (talking (after_input session (called call)) next talks);
+        parts = m.puts.parts;
+        carry = subst (λ (x : List (List ℕ)). Carry m.puts.parts x) (sym (said_octets (length took) tsdus)) m.puts.carry;
+        short = subst AreShort (sym (said_octets (length took) tsdus)) m.puts.short;
+        written = append_cancel_left old.end.carrier.outgoing put (packets (map dt m.puts.parts)) (sym outgoing ∙ m.puts.outgoing);
+        counted = said_by (length (took ++ [])) (length took) tsdus (let l = ap length (append-nil took) in omega arith);
+        units = [];
+        rest = old.held.octets ++ [];
+        cut = refl;
+        brings = (refl, refl);
+        held = λ lasts. append-nil old.held.octets ∙ sym same;
+      }
+
+  call_turn : (q : ℕ) (call : SessionCall) (put : List ℕ) (old new : Holding) → Talks r session begun old.end →
+      call_error q call old.end ≡ None → HasSerial call →
+      new ≡ record old { end = to_session q (called call) old.end } → new.end.carrier.outgoing ≡ old.end.carrier.outgoing ++ put →
+      Goes begin r took said begun [] put old new
+  call_turn q call put old new t allowed serial is outgoing =
+      let g = granted_here q r call session begun old.end t allowed in
+      let m = session_moves r session begun (called call) old.end t (granted_proper r call session old.end.carrier g.1) in
+      let there : to_session r (called call) old.end ≡ new.end = ap (λ n. to_session n (called call) old.end) g.0
+      ∙ sym (ap (λ (x : Holding). x.end) is) in
+      moved_turn call put old new serial (subst (Moves r session begun (called call) old.end) there m) g.1.closes
+      (ap (λ (x : Holding). x.held.octets) is) outgoing
+
+  -- ---- a connection is given up
+
+  given_turn : (q : ℕ) (b : Bool) (put : List ℕ) (old new : Holding) → (r == q) ≡ b → Talks r session begun old.end →
+      new ≡ record old { end = disconnects q old.end } →
+      new.end.carrier.outgoing ≡ old.end.carrier.outgoing ++ put → Goes begin r took said begun [] put old new
+  given_turn q true put old new e t is outgoing =
+      let same = eqb-true r q e in
+      let carrier : new.end.carrier ≡ closed_with r 128 old.end.carrier =
+      ap (λ (x : Holding). x.end.carrier) is ∙ disconnect_carrier q old.end ∙ ap (λ n. closed_with n 128 old.end.carrier) (sym same) in
+      let over = closed_ends r t.peer t.limit begun old.end.carrier t.is_open t.class in
+      over_turn begin r took said begun [] put old new false session h (subst (λ (c : Carrier). IsSome c.ended) (sym carrier) over.0)
+      (nothing_put begin r took said begun old.end.carrier.outgoing new.end.carrier.outgoing put outgoing
+      (ap (λ (c : Carrier). c.outgoing) carrier ∙ over.1))
+  given_turn q false put old new e t is outgoing =
+      let ne : r ≢ q = (λ same. let both : true ≡ false = sym (eq-eqb r q same) ∙ e in cc) in
+      let rests : closed_with q 128 old.end.carrier ≡ old.end.carrier = ap (λ o. closed_on q 128 o old.end.carrier)
+      (other_link q r session begun old.end t ne) in
+      let carrier : (disconnects q old.end).carrier ≡ old.end.carrier = disconnect_carrier q old.end ∙ rests in
+      let end_is : disconnects q old.end ≡ closed_and_given q old.end = disconnect_is q old.end
+      (ap (λ (c : Carrier). c.ended) carrier ∙ t.is_open.lasts) in
+      let there : new.end ≡ record { carrier = old.end.carrier; lines = gives_up q old.end.lines } =
+      ap (λ (x : Holding). x.end) is ∙ end_is ∙ (λ i. record { carrier = rests i; lines = gives_up q old.end.lines }) in
+      let talks : Talks r session begun (record { carrier = old.end.carrier; lines = gives_up q old.end.lines }) = record {
+        peer = t.peer;
+        limit = t.limit;
+        is_open = t.is_open;
+        class = t.class;
+        told = t.told;
+        here = ap session_in (given_other r q old.end.lines ne) ∙ t.here;
+        begun_long_ago = t.begun_long_ago;
+      } in
+      still_turn begin r took said begun [] put old new (subst (Stands begin r took said begun) (sym there) (talking session h talks)) refl
+      (nothing_put begin r took said begun old.end.carrier.outgoing new.end.carrier.outgoing put outgoing
+      (ap (λ (x : End). x.carrier.outgoing) there)) (ap (λ (x : Holding). x.held.octets) is)
+
+  -- ---- the byte connection breaks
+
+  broken_is : (e : End) → e.carrier.ended ≡ None → breaks e ≡ ends Broken e
+  broken_is e lasts = ap (λ (b : Bool). if b then e else ends Broken e) (ap is_some lasts)
+
+  break_turn : (put : List ℕ) (old new : Holding) → Talks r session begun old.end → new ≡ record old { end = breaks old.end } →
+      new.end.carrier.outgoing ≡ old.end.carrier.outgoing ++ put → Goes begin r took said begun [] put old new
+  break_turn put old new t is outgoing =
+      let there : new.end ≡ ends Broken old.end = ap (λ (x : Holding). x.end) is ∙ broken_is old.end t.is_open.lasts in
+      over_turn begin r took said begun [] put old new false session h (ap (λ (x : End). is_some x.carrier.ended) there)
+      (nothing_put begin r took said begun old.end.carrier.outgoing new.end.carrier.outgoing put outgoing
+      (ap (λ (x : End). x.carrier.outgoing) there))
+
+  using_turn : (call : UserCall) (put : List ℕ) (old new : Holding) → Talks r session begun old.end → IsAccepted call old.end →
+      HasSerialIn call →
+      new ≡ record old { end = user_does call old.end } → new.end.carrier.outgoing ≡ old.end.carrier.outgoing ++ put →
+      Goes begin r took said begun [] put old new
+  using_turn (connecting c) put old new t allowed serial is outgoing = absurd (no_request c r session begun old.end t allowed)
+  using_turn (calling q call) put old new t allowed serial is outgoing = call_turn q call put old new t allowed serial is outgoing
+  using_turn (disconnecting q) put old new t allowed serial is outgoing = given_turn q (r == q) put old new refl t is outgoing
+  using_turn breaking put old new t allowed serial is outgoing = break_turn put old new t is outgoing
+
+  pub open_turn : AllProper → (turn : Turn) (old new : Holding) → Talks r session begun old.end → Takes old turn new →
+      Goes begin r took said begun turn.used turn.put old new
+  open_turn proper turn old new t takes = subst (λ (x : List ℕ). Goes begin r took said begun x turn.put old new) (sym takes.used)
+      (by takes.act takes.acts takes.put)
+    where
+      by : (act : Act) → Acts old act new → carried_by act ++ new.end.carrier.outgoing ≡ old.end.carrier.outgoing ++ turn.put →
+          Goes begin r took said begun (used_by act) turn.put old new
+      by (serving call) acts put = serving_turn begin r took said begun proper session h call turn.put old new t acts put
+      by (using call) acts put = using_turn call turn.put old new t acts.1 acts.2 acts.3 put
+
+-- ---- an end that is over
+
+over_calls : (call : Call) (put : List ℕ) (old new : Holding) → IsSome old.end.carrier.ended → Calls old call new →
+    carried_in call ++ new.end.carrier.outgoing ≡ old.end.carrier.outgoing ++ put →
+    IsSome new.end.carrier.ended × (put ≡ [])
+over_calls (feeding piece fed) put old new over c outgoing =
+    let same = (c.over over).1 in (
+      subst (λ (x : Holding). IsSome x.end.carrier.ended) (sym same) over,
+      append_cancel_left old.end.carrier.outgoing put []
+          (sym outgoing ∙ ap (λ (x : Holding). x.end.carrier.outgoing) same ∙ sym (append-nil old.end.carrier.outgoing)),
+    )
+over_calls (telling shown) put old new over c outgoing = (
+  subst (λ (x : Holding). IsSome x.end.carrier.ended) (sym c.1) over,
+  append_cancel_left old.end.carrier.outgoing put []
+      (sym outgoing ∙ ap (λ (x : Holding). x.end.carrier.outgoing) c.1 ∙ sym (append-nil old.end.carrier.outgoing)),
+)
+over_calls (carrying octets) put old new over c outgoing = (
+  subst (λ (x : Holding). IsSome x.end.carrier.ended) c over,
+  append_cancel_left old.end.carrier.outgoing put []
+      (sym outgoing ∙ sym (ap (λ (x : Holding). x.end.carrier.outgoing) c) ∙ sym (append-nil old.end.carrier.outgoing)),
+)
+
+pub over_acts : (turn : Turn) (old new : Holding) → IsSome old.end.carrier.ended → Takes old turn new →
+    IsSome new.end.carrier.ended × (turn.put ≡ [])
+over_acts turn old new over takes = by takes.act takes.acts takes.put
+  where
+    by : (act : Act) → Acts old act new → carried_by act ++ new.end.carrier.outgoing ≡ old.end.carrier.outgoing ++ turn.put →
+        IsSome new.end.carrier.ended × (turn.put ≡ [])
+    by (serving call) acts put = over_calls call turn.put old new over acts put
+    by (using call) acts put = absurd (never_lasts old.end.carrier.ended over acts.0)
+
+-- any turn
+pub turn_goes : AllProper →
+    (begin : Listener) (r : ℕ) (took : List (List ℕ)) (said : List Said) (begun : List ℕ) (turn : Turn) (old new : Holding) →
+    Stands begin r took said begun old.end →
+    Takes old turn new → Goes begin r took said begun turn.used turn.put old new
+turn_goes proper begin r took said begun turn old new
+    (talking session h t) takes = open_turn begin r took said begun session h proper turn old new t takes
+turn_goes proper begin r took said begun turn old new (gone closed session h over) takes =
+    let still = over_acts turn old new over takes in
+    over_turn begin r took said begun turn.used turn.put old new closed session h still.0 still.1
+
+-- an end that is over puts nothing in any turn
+pub over_run : (turns : List Turn) (old new : Holding) → IsSome old.end.carrier.ended → Run old turns new → put_along turns ≡ []
+over_run [] old new over run = refl
+over_run (turn ∷ turns) old new over run =
+    let one = over_acts turn old run.0 over run.1 in
+    ap (λ (x : List ℕ). x ++ put_along turns) one.1 ∙ over_run turns run.0 new one.0 run.2

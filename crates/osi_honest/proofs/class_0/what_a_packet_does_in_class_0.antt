@@ -1,0 +1,262 @@
+-- A packet at an open connection of class 0: a part of a TSDU, the last part, which the session takes, or the end is over.
+-- For the turns of an end.
+use Rattle.std.proofs.Common.{◌≡◌, ◌∙◌, refl, sym, ap, subst, ℕ, ◌+◌, Bool, true, false, if◌then◌else◌, nat_lt, List, [], ◌∷◌, ◌++◌}
+use Rattle.std.proofs.Common.{length, map, Option, Some, None, is_some, IsSome, IsTrue, Result, Ok, Err, inl, inr}
+use Rattle.std.proofs.lemmas.List.{append-nil}
+use Rattle.osi_tpkt.specs.Octets.{IsOctets}
+use Rattle.osi_tpdu.specs.Packet.{AreUnits, units_of}
+use Rattle.osi_tpdu.specs.Value.{Value, acknowledge, confirm, data0, data2, disconnect, disconnected, error, may_be_followed, request}
+use Rattle.osi_tpdu.specs.declared.faults.TpduFault.{TpduFault}
+use Rattle.osi_tpdu.proofs.the_units_of_a_packet.{units_found}
+use Rattle.osi_class.specs.Giving.{Drained, drained}
+use Rattle.osi_class.specs.Joining.{joining, with_part}
+use Rattle.osi_class.specs.Limits.{longest_tsdu}
+use Rattle.osi_class.specs.Link.{Standing, unit_of, with_joined, zero_standing}
+use Rattle.osi_class.specs.declared.faults.LinkFault.TheVariants.{TsduTooLong, WrongForm}
+use Rattle.osi_class.specs.declared.terms.Class.{Class}
+use Rattle.osi_class.specs.declared.terms.Class.TheVariants.{Zero}
+use Rattle.osi_carrier.specs.Calls.{closed_on, link_of, open_link, sent_on}
+use Rattle.osi_carrier.specs.Happenings.{Happening, tsdu}
+use Rattle.osi_carrier.specs.Packets as carriers
+use Rattle.osi_carrier.specs.React.{breaks, in_class, in_zero, leaves, react, reacts, taking, to_linked, to_only}
+use Rattle.osi_carrier.specs.Rows.{Rows, put, value_at}
+use Rattle.osi_carrier.specs.State.{Connection, State as Carrier, linked, packets}
+use Rattle.osi_carrier.proofs.effects.units_one_after_the_other.{react_quiet, reacts_over}
+use Rattle.osi_session.specs.Listening.{Listener, came, after_input}
+use Rattle.osi_stack.specs.Hearing.{after_packet, attends, concludes, hears_all, with_carrier}
+use Rattle.osi_stack.specs.Moving.{to_session}
+use Rattle.osi_stack.specs.State.{End}
+use Rattle.osi_stack.proofs.carried.events_one_after_the_other.{all_quiet, concluded_carrier}
+use Rattle.osi_stack.proofs.carried.packets_without_events.{packet_is}
+use Rattle.osi_stack.proofs.carried.what_a_move_leaves.{one_heard}
+use Rattle.osi_stack.proofs.sound.the_invariant_is_kept.{concludes_lasting}
+use Rattle.osi_stack.proofs.carried.what_each_step_preserves.{Carries, events_heard, session_carried}
+use Rattle.osi_honest.specs.Parts.{IsOpenZero, one_open, resting}
+use Rattle.osi_honest.specs.Talking.{IsPart, Moves, Packet, Talks}
+use Rattle.osi_honest.specs.Talking.Packet.{last, over, part}
+use Rattle.osi_honest.proofs.class_0.a_session_of_class_0_puts_what_it_sends.{IsProper, session_moves}
+use Rattle.osi_honest.proofs.class_0.what_class_0_writes_of_a_tsdu.{nothing_left, put_one}
+
+-- ---- a carrier that has ended puts nothing
+
+abbrev pub Over : List ℕ → Carrier → Type 0
+Over octets c = (is_some c.ended ≡ true) × (c.outgoing ≡ octets)
+
+pub no_link : (r : ℕ) (c : Carrier) → is_some c.ended ≡ true → open_link r c ≡ None
+no_link r c gone = ap (λ (b : Bool). if b then None else link_of (value_at r c.live)) gone
+
+pub over_carries : (octets : List ℕ) → Carries (Over octets)
+over_carries octets = record {
+  sends = λ r tsdu c p. subst (Over octets) (sym (ap (λ o. sent_on r tsdu o c) (no_link r c p.0))) p;
+  closes = λ r c p. subst (Over octets) (sym (ap (λ o. closed_on r 128 o c) (no_link r c p.0))) p;
+}
+
+pub attends_over : (octets : List ℕ) (e : End) → Over octets e.carrier → Over octets (attends e).carrier
+attends_over octets e p =
+    subst (Over octets) (sym (concluded_carrier (hears_all e)))
+    (events_heard (λ x. Over octets x.carrier) (λ events x q. q) (record {
+      begins = λ r x none q. q;
+      moves = λ event x q. session_carried (Over octets) (over_carries octets) _ _ x q;
+    }) (length e.carrier.events) e p)
+
+-- ---- one unit
+
+pub data AfterUnit (r peer limit : ℕ) (begun : List ℕ) (v : Value) (old new : Carrier) : Type 0 where
+  adds_part : (octets : List ℕ) → v ≡ data0 false octets → nat_lt longest_tsdu (length begun + length octets) ≡ false →
+      new ≡ record old { live = one_open r peer limit (begun ++ octets) } → AfterUnit r peer limit begun v old new
+  ends_tsdu : (octets : List ℕ) → v ≡ data0 true octets → nat_lt longest_tsdu (length begun + length octets) ≡ false →
+      new ≡ record old { live = one_open r peer limit []; events = tsdu r (begun ++ octets) ∷ [] } → AfterUnit r peer limit begun v old new
+  is_over : Over old.outgoing new → AfterUnit r peer limit begun v old new
+
+module _ (r peer limit : ℕ) (begun : List ℕ) (c : Carrier) (h : IsOpenZero r peer limit begun c) (zero : c.class ≡ Some Zero)
+    (quiet : c.events ≡ []) where
+  link_now : (begun : List ℕ) → Standing
+  link_now begun = zero_standing (resting limit begun)
+
+  settled : (begun : List ℕ) (told : List Happening) →
+      record c {
+        live = put r (linked peer (drained (zero_standing (resting limit begun))).link) c.live;
+        outgoing = c.outgoing ++ packets
+            (map (unit_of peer) (drained (zero_standing (resting limit begun))).units);
+        events = c.events ++ told;
+      }
+      ≡ record c { live = one_open r peer limit begun; events = told }
+  settled begun told =
+      ap (λ (d : Drained). record c {
+        live = put r (linked peer d.link) c.live;
+        outgoing = c.outgoing ++ packets
+            (map (unit_of peer) d.units);
+        events = c.events ++ told;
+      }) (nothing_left limit begun)
+      ∙ (λ i. record c {
+        live = (ap (put r (linked peer (zero_standing (resting limit begun)))) h.live
+            ∙ put_one r (linked peer (zero_standing (resting limit begun))) _) i;
+        outgoing = append-nil c.outgoing i;
+        events = ap (λ (l : List Happening). l ++ told) quiet i;
+      })
+
+  joined_by : (end : Bool) (octets : List ℕ) (b : Bool) → nat_lt longest_tsdu (length begun + length octets) ≡ b →
+      AfterUnit r peer limit begun (data0 end octets) c
+      (taking r peer (with_joined (resting limit begun) None
+      (if b then Err TsduTooLong else Ok (with_part (joining begun []) end octets))) c)
+  joined_by end octets true e = is_over (
+    ap (λ (x : Option Class). is_some (breaks r peer TsduTooLong x c).ended) zero,
+    ap (λ (x : Option Class). (breaks r peer TsduTooLong x c).outgoing) zero,
+  )
+  joined_by false octets false e = adds_part octets refl e (settled (begun ++ octets) []
+      ∙ (λ i. record c { live = one_open r peer limit (begun ++ octets); events = sym quiet i }))
+  joined_by true octets false e = ends_tsdu octets refl e (settled [] (tsdu r (begun ++ octets) ∷ []))
+
+  wrong_form : (v : Value) → AfterUnit r peer limit begun v c (taking r peer (Err WrongForm) c)
+  wrong_form v = is_over (
+    ap (λ (x : Option Class). is_some (breaks r peer WrongForm x c).ended) zero,
+    ap
+        (λ (x : Option Class). (breaks r peer WrongForm x c).outgoing) zero,
+  )
+
+  in_link : (v : Value) → AfterUnit r peer limit begun v c (to_linked r peer (zero_standing (resting limit begun)) v c)
+  in_link (data0 end octets) =
+      subst (λ (x : Bool). AfterUnit r peer limit begun (data0 end octets) c
+      (taking r peer (with_joined (resting limit begun) None
+      (if x then Err TsduTooLong else Ok (with_part (joining begun []) end octets))) c))
+      refl (joined_by end octets (nat_lt longest_tsdu (length begun + length octets)) refl)
+  in_link (disconnect destination source reason user) = is_over (
+    ap (λ (x : Option Class). is_some (leaves r peer reason x c).ended) zero,
+    ap
+        (λ (x : Option Class). (leaves r peer reason x c).outgoing) zero,
+  )
+  in_link (request cr) = wrong_form (request cr)
+  in_link (confirm destination cc0) = wrong_form (confirm destination cc0)
+  in_link (disconnected destination source) = wrong_form (disconnected destination source)
+  in_link (data2 destination number end octets) = wrong_form (data2 destination number end octets)
+  in_link (acknowledge credit destination number) = wrong_form (acknowledge credit destination number)
+  in_link (error destination cause) = wrong_form (error destination cause)
+
+  in_only : (v : Value) → AfterUnit r peer limit begun v c (to_only c.live v c)
+  in_only v = subst (λ (rows : Rows Connection). AfterUnit r peer limit begun v c (to_only rows v c)) (sym h.live) (in_link v)
+
+  by_zero : (b : Bool) (v : Value) → AfterUnit r peer limit begun v c (in_zero b v c)
+  by_zero true (request cr) = is_over (refl, refl)
+  by_zero true (confirm destination cc0) = in_only (confirm destination cc0)
+  by_zero true (disconnect destination source reason user) = in_only (disconnect destination source reason user)
+  by_zero true (disconnected destination source) = in_only (disconnected destination source)
+  by_zero true (data0 end octets) = in_only (data0 end octets)
+  by_zero true (data2 destination number end octets) = in_only (data2 destination number end octets)
+  by_zero true (acknowledge credit destination number) = in_only (acknowledge credit destination number)
+  by_zero true (error destination cause) = in_only (error destination cause)
+  by_zero false v = in_only v
+
+  pub unit_acts : (v : Value) → AfterUnit r peer limit begun v c (react v c)
+  unit_acts v = subst (AfterUnit r peer limit begun v c) (sym (react_quiet v c h.lasts ∙ ap (λ (x : Option Class). in_class x v c) zero))
+      (by_zero c.is_caller v)
+
+-- ---- the units of a packet
+
+-- nothing follows a DT
+pub alone : (v : Value) (vs : List Value) (u : List ℕ) → may_be_followed v ≡ false → AreUnits (v ∷ vs) u → vs ≡ []
+alone v [] u last_of us = refl
+alone v (w ∷ vs) u last_of us = absurd (let may : IsTrue (may_be_followed v) = us.0 in cc)
+
+pub data AfterPacket (r peer limit : ℕ) (begun u : List ℕ) (old new : Carrier) : Type 0 where
+  adds_part : (octets : List ℕ) → IsPart u false octets begun → new ≡ record old { live = one_open r peer limit (begun ++ octets) } →
+      AfterPacket r peer limit begun u old new
+  ends_tsdu : (octets : List ℕ) → IsPart u true octets begun →
+      new ≡ record old { live = one_open r peer limit []; events = tsdu r (begun ++ octets) ∷ [] }
+      → AfterPacket r peer limit begun u old new
+  is_over : Over old.outgoing new → AfterPacket r peer limit begun u old new
+
+module _ (r peer limit : ℕ) (begun u : List ℕ) (c : Carrier) where
+  then_units : (v : Value) (vs : List Value) → units_of u ≡ Ok (v ∷ vs) → AreUnits (v ∷ vs) u →
+      AfterUnit r peer limit begun v c (react v c) →
+      AfterPacket r peer limit begun u c (reacts (v ∷ vs) c)
+  then_units v vs e us (adds_part octets is fits new) =
+      let none = alone v vs u (ap may_be_followed is) us in
+      adds_part octets (record { is = e ∙ (λ i. Ok (is i ∷ none i)); fits = fits })
+      (ap (λ (l : List Value). reacts l (react v c)) none ∙ new)
+  then_units v vs e us (ends_tsdu octets is fits new) =
+      let none = alone v vs u (ap may_be_followed is) us in
+      ends_tsdu octets (record { is = e ∙ (λ i. Ok (is i ∷ none i)); fits = fits })
+      (ap (λ (l : List Value). reacts l (react v c)) none ∙ new)
+  then_units v vs e us (is_over p) = is_over (subst (Over c.outgoing) (sym (reacts_over vs (react v c) p.0)) p)
+
+  by_units : (units : Result (List Value) TpduFault) → units_of u ≡ units → IsOctets u →
+      ((v : Value) → AfterUnit r peer limit begun v c (react v c)) →
+      AfterPacket r peer limit begun u c (carriers.acts_by units c)
+  by_units (Err fault) e octets each = is_over (refl, refl)
+  by_units (Ok []) e octets each = absurd (units_found u [] octets e)
+  by_units (Ok (v ∷ vs)) e octets each = then_units v vs e (units_found u (v ∷ vs) octets e) (each v)
+
+pub acted : (r peer limit : ℕ) (begun u : List ℕ) (c : Carrier) → IsOpenZero r peer limit begun c → c.class ≡ Some Zero → c.events ≡ [] →
+    IsOctets u →
+    AfterPacket r peer limit begun u c (carriers.after_packet c u)
+unfolding carriers.after_packet
+acted r peer limit begun u c h zero quiet octets = by_units r peer limit begun u c (units_of u) refl octets
+    (unit_acts r peer limit begun c h zero quiet)
+
+-- ---- what the session hears of it
+
+-- all that is known of the TSDUs that arrive
+abbrev pub AllProper : Type 0
+AllProper = (session : Listener) (octets : List ℕ) → IsProper session (came octets)
+
+pub lasting : (e : End) → e.carrier.ended ≡ None → concludes e ≡ e
+lasting e h = concludes_lasting e.carrier.ended e h
+
+module _ (r : ℕ) (session : Listener) (begun u : List ℕ) (e : End) (t : Talks r session begun e) where
+  -- the last part has come: the session takes the TSDU
+  taken : AllProper → (octets : List ℕ) → IsPart u true octets begun → (c : Carrier) →
+      c ≡ record e.carrier { live = one_open r t.peer t.limit []; events = tsdu r (begun ++ octets) ∷ [] } →
+      Packet r session begun u e (attends (with_carrier c e))
+  taken proper octets is c new =
+      let mid : End = record { carrier = record e.carrier { live = one_open r t.peer t.limit []; events = [] }; lines = e.lines } in
+      let talks : Talks r session [] mid = record {
+        peer = t.peer;
+        limit = t.limit;
+        is_open = record { some = t.is_open.some; lasts = t.is_open.lasts; live = refl };
+        class = t.class;
+        told = refl;
+        here = t.here;
+        begun_long_ago = t.begun_long_ago;
+      } in
+      let moved = session_moves r session [] (came (begun ++ octets)) mid talks (proper session (begun ++ octets)) in
+      let heard : attends (with_carrier c e) ≡ concludes (to_session r (came (begun ++ octets)) mid) =
+      ap (λ (x : Carrier). attends (with_carrier x e)) new
+      ∙ ap concludes (one_heard
+      (with_carrier (record e.carrier { live = one_open r t.peer t.limit []; events = tsdu r (begun ++ octets) ∷ [] }) e)
+      (tsdu r (begun ++ octets)) refl) in
+      let there = to_session r (came (begun ++ octets)) mid in
+      last octets is (subst (Moves r session [] (came (begun ++ octets)) e) (sym heard) (record {
+        puts = record {
+          parts = moved.puts.parts;
+          carry = moved.puts.carry;
+          short = moved.puts.short;
+          outgoing = ap (λ (x : Carrier). x.outgoing) (concluded_carrier there) ∙ moved.puts.outgoing;
+        };
+        then_is = elim moved.then_is [
+          | inl m ↦ inl (m.0, subst (Talks r (after_input session (came (begun ++ octets))) []) (sym (lasting there m.1.is_open.lasts)) m.1)
+          | inr m ↦ inr (m.0, subst (λ (x : Carrier). IsSome x.ended) (sym (concluded_carrier there)) m.1)
+        ];
+      }))
+
+  heard_by : AllProper → (c : Carrier) → AfterPacket r t.peer t.limit begun u e.carrier c →
+      Packet r session begun u e (attends (with_carrier c e))
+  heard_by proper c (adds_part octets is new) =
+      let there : End = with_carrier (record e.carrier { live = one_open r t.peer t.limit (begun ++ octets) }) e in
+      let heard : attends (with_carrier c e) ≡ there =
+      ap (λ (x : Carrier). attends (with_carrier x e)) new ∙ ap concludes (all_quiet there t.told) ∙ lasting there t.is_open.lasts in
+      part octets is (ap (λ (x : End). x.carrier.outgoing) heard) (subst (Talks r session (begun ++ octets)) (sym heard) (record {
+        peer = t.peer;
+        limit = t.limit;
+        is_open = record { some = t.is_open.some; lasts = t.is_open.lasts; live = refl };
+        class = t.class;
+        told = t.told;
+        here = t.here;
+        begun_long_ago = t.begun_long_ago;
+      }))
+  heard_by proper c (ends_tsdu octets is new) = taken proper octets is c new
+  heard_by proper c (is_over p) = let q = attends_over e.carrier.outgoing (with_carrier c e) p in over q.0 q.1
+
+  pub packet_acts : AllProper → IsOctets u → Packet r session begun u e (after_packet e u)
+  packet_acts proper octets =
+      subst (Packet r session begun u e) (sym (packet_is e u))
+      (heard_by proper (carriers.after_packet e.carrier u) (acted r t.peer t.limit begun u e.carrier t.is_open t.class t.told octets))

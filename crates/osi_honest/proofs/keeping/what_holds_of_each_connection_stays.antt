@@ -1,0 +1,41 @@
+-- What holds of each live connection of a carrier holds still after one of them is replaced, dropped or added.
+-- For what the transport of an end puts.
+use Rattle.std.proofs.Common.{◌≡◌, subst, ℕ, ◌==◌, Bool, true, false, if◌then◌else◌, [], ◌∷◌, ◌++◌, Some}
+use Rattle.osi_carrier.specs.Rows.{Rows, put, value_at, without}
+use Rattle.osi_carrier.specs.State.{Connection}
+
+abbrev pub AllRows : (Connection → Type 0) → Rows Connection → Type 0
+AllRows Q [] = Unit {0}
+AllRows Q ((r, connection) ∷ rows) = Q connection × AllRows Q rows
+
+module _ (Q : Connection → Type 0) where
+  row_by : (b : Bool) (r : ℕ) (x y : Connection) (rows : Rows Connection) → Q y → (value_at r rows ≡ Some x → Q x) →
+      (if b then Some y else value_at r rows) ≡ Some x → Q x
+  row_by true r x y rows here more e = let same : y ≡ x = cc in subst Q same here
+  row_by false r x y rows here more e = more e
+
+  pub row_at : (r : ℕ) (x : Connection) (rows : Rows Connection) → AllRows Q rows → value_at r rows ≡ Some x → Q x
+  row_at r x [] all e = absurd (cc)
+  row_at r x ((q, y) ∷ rows) all e = row_by (q == r) r x y rows all.0 (row_at r x rows all.1) e
+
+  put_by : (b : Bool) (q r : ℕ) (x y : Connection) (rows : Rows Connection) → Q x → Q y → AllRows Q rows → AllRows Q (put r x rows) →
+      AllRows Q (if b then (q, x) ∷ rows else (q, y) ∷ put r x rows)
+  put_by true q r x y rows here there all more = (here, all)
+  put_by false q r x y rows here there all more = (there, more)
+
+  pub row_put : (r : ℕ) (x : Connection) (rows : Rows Connection) → AllRows Q rows → Q x → AllRows Q (put r x rows)
+  row_put r x [] all here = tt
+  row_put r x ((q, y) ∷ rows) all here = put_by (q == r) q r x y rows here all.0 all.1 (row_put r x rows all.1 here)
+
+  without_by : (b : Bool) (q r : ℕ) (y : Connection) (rows : Rows Connection) → Q y → AllRows Q rows → AllRows Q (without r rows) →
+      AllRows Q (if b then rows else (q, y) ∷ without r rows)
+  without_by true q r y rows there all more = all
+  without_by false q r y rows there all more = (there, more)
+
+  pub row_without : (r : ℕ) (rows : Rows Connection) → AllRows Q rows → AllRows Q (without r rows)
+  row_without r [] all = tt
+  row_without r ((q, y) ∷ rows) all = without_by (q == r) q r y rows all.0 all.1 (row_without r rows all.1)
+
+  pub row_more : (r : ℕ) (x : Connection) (rows : Rows Connection) → AllRows Q rows → Q x → AllRows Q (rows ++ (r, x) ∷ [])
+  row_more r x [] all here = (here, tt)
+  row_more r x ((q, y) ∷ rows) all here = (all.0, row_more r x rows all.1 here)

@@ -1,0 +1,183 @@
+-- What an end put stays in front of all that it puts later, whatever arrives and however much memory there is.
+-- For what an end puts first.
+use Rattle.std.proofs.Common.{◌∙◌, sym, ap, ℕ, ◌+◌, Bool, true, false, if◌then◌else◌, List, [], ◌∷◌, ◌++◌}
+use Rattle.std.proofs.Common.{Option, Some, None, is_some, Result, Ok, Err, append_assoc}
+use Rattle.osi_tpdu.specs.Value.{Connect, Value, confirm, data0, disconnect, disconnected, error, request}
+use Rattle.osi_class.specs.Link.{Standing, taken, with_tsdu}
+use Rattle.osi_class.specs.Negotiation.{Selection, accept, refuse, selected_by}
+use Rattle.osi_class.specs.declared.faults.LinkFault.{LinkFault}
+use Rattle.osi_class.specs.declared.terms.Class.{Class}
+use Rattle.osi_class.specs.declared.terms.Class.TheVariants.{Two, Zero}
+use Rattle.osi_carrier.specs.Calls.{closed_on, closes, open_link, sent_on}
+use Rattle.osi_carrier.specs.Negotiation.{acceptance, confirmed}
+use Rattle.osi_carrier.specs.Orderly.{connection_by}
+use Rattle.osi_carrier.specs.Pump.{written_by}
+use Rattle.osi_carrier.specs.React.{answers, before_class, breaks, handed_out, has_peer, in_class, in_two, in_zero}
+use Rattle.osi_carrier.specs.React.{is_full, leaves, opens, react, react_by, reacts, taking, to_asked, to_closing}
+use Rattle.osi_carrier.specs.React.{to_connection, to_linked, to_only, to_reference, to_unknown}
+use Rattle.osi_carrier.specs.Rows.{Rows, value_at}
+use Rattle.osi_carrier.specs.State.{Connection, State as Carrier, asked, closing, linked, packets, writes}
+use Rattle.osi_stack.specs.Feeding.{TakesPackets}
+use Rattle.osi_stack.specs.Hearing.{RunsOut, Starves, attends, with_carrier}
+use Rattle.osi_stack.specs.State.{End}
+use Rattle.osi_stack.proofs.carried.what_each_step_preserves.{Carries}
+use Rattle.osi_honest.specs.Seeing.{IsPrefix}
+use Rattle.osi_honest.proofs.keeping.what_a_unit_keeps_a_turn_keeps.{IsKept, kept_attends, kept_runs_out, kept_starves, kept_takes}
+use Rattle.osi_honest.proofs.keeping.what_a_unit_keeps_a_turn_keeps.{kept_units}
+
+-- What holds of all that was put holds still if more packets are put.
+module _ (Q : List ℕ → Type 0) (on : (out : List ℕ) (units : List Value) → Q out → Q (out ++ packets units)) where
+  -- ---- a unit that arrives
+
+  out_answers : (c : Connect) (selection : Selection) (held : Option Class) (s : Carrier) → Q s.outgoing →
+      Q (answers c selection held s).outgoing
+  out_answers c (refuse reason) held s p = on s.outgoing (disconnect c.source 0 reason [] ∷ []) p
+  out_answers c (accept Zero size) (Some class) s p = on s.outgoing (disconnect c.source 0 136 [] ∷ []) p
+  out_answers c (accept class size) held s p =
+      on s.outgoing (confirm c.source (acceptance class size c s.local (s.given + 1)) ∷ []) p
+
+  out_request : (c : Connect) (s : Carrier) (in_use full : Bool) → Q s.outgoing →
+      Q (if in_use then writes (disconnect c.source 0 131 [] ∷ []) s
+      else (if full then writes (disconnect c.source 0 1 [] ∷ []) s else answers c (selected_by c s.local) s.class s)).outgoing
+  out_request c s true full p = on s.outgoing (disconnect c.source 0 131 [] ∷ []) p
+  out_request c s false true p = on s.outgoing (disconnect c.source 0 1 [] ∷ []) p
+  out_request c s false false p = out_answers c (selected_by c s.local) s.class s p
+
+  out_unknown : (unit : Value) (s : Carrier) → Q s.outgoing → Q (to_unknown unit s).outgoing
+  out_unknown (disconnect destination source reason user) s p = on s.outgoing (disconnected source destination ∷ []) p
+  out_unknown unit s p = p
+
+  out_opens : (r : ℕ) (c : Connect) (class : Option Class) (s : Carrier) → Q s.outgoing → Q (opens r c class s).outgoing
+  out_opens r c None s p = p
+  out_opens r c (Some class) s p = p
+
+  out_asked : (r : ℕ) (unit : Value) (s : Carrier) → Q s.outgoing → Q (to_asked r unit s).outgoing
+  out_asked r (confirm destination c) s p = out_opens r c (confirmed c s.local s.class) s p
+  out_asked r (disconnect destination source reason user) s p = p
+  out_asked r (error destination cause) s p = p
+  out_asked r unit s p = out_unknown unit s p
+
+  out_breaks : (r peer : ℕ) (fault : LinkFault) (held : Option Class) (s : Carrier) → Q s.outgoing →
+      Q (breaks r peer fault held s).outgoing
+  out_breaks r peer fault (Some Two) s p = on s.outgoing (disconnect peer r 133 [] ∷ []) p
+  out_breaks r peer fault held s p = p
+
+  out_taking : (r peer : ℕ) (result : Result Standing LinkFault) (s : Carrier) → Q s.outgoing → Q (taking r peer result s).outgoing
+  out_taking r peer (Ok link) s p = on s.outgoing (written_by peer (handed_out link)) p
+  out_taking r peer (Err fault) s p = out_breaks r peer fault s.class s p
+
+  out_leaves : (r peer reason : ℕ) (held : Option Class) (s : Carrier) → Q s.outgoing → Q (leaves r peer reason held s).outgoing
+  out_leaves r peer reason (Some Two) s p = on s.outgoing (disconnected peer r ∷ []) p
+  out_leaves r peer reason held s p = p
+
+  out_linked : (r peer : ℕ) (link : Standing) (unit : Value) (s : Carrier) → Q s.outgoing → Q (to_linked r peer link unit s).outgoing
+  out_linked r peer link (disconnect destination source reason user) s p = out_leaves r peer reason s.class s p
+  out_linked r peer link unit s p = out_taking r peer (taken link unit) s p
+
+  out_closing : (r : ℕ) (unit : Value) (s : Carrier) → Q s.outgoing → Q (to_closing r unit s).outgoing
+  out_closing r (request c) s p = p
+  out_closing r unit s p = p
+
+  out_connection : (r : ℕ) (at : Option Connection) (unit : Value) (s : Carrier) → Q s.outgoing →
+      Q (to_connection r at unit s).outgoing
+  out_connection r None unit s p = out_unknown unit s p
+  out_connection r (Some asked) unit s p = out_asked r unit s p
+  out_connection r (Some (linked peer link)) unit s p = out_linked r peer link unit s p
+  out_connection r (Some (closing peer)) unit s p = out_closing r unit s p
+
+  out_reference : (r : ℕ) (unit : Value) (s : Carrier) → Q s.outgoing → Q (to_reference r unit s).outgoing
+  out_reference r unit s p = out_connection r (value_at r s.live) unit s p
+
+  out_before : (is_caller : Bool) (unit : Value) (s : Carrier) → Q s.outgoing → Q (before_class is_caller unit s).outgoing
+  out_before true (confirm destination c) s p = out_reference destination (confirm destination c) s p
+  out_before true (disconnect destination source reason user) s p =
+      out_reference destination (disconnect destination source reason user) s p
+  out_before true (error destination cause) s p = out_reference destination (error destination cause) s p
+  out_before false (request c) s p = out_request c s (has_peer c.source s.live) (is_full s) p
+  out_before is_caller unit s p = p
+
+  out_only : (live : Rows Connection) (unit : Value) (s : Carrier) → Q s.outgoing → Q (to_only live unit s).outgoing
+  out_only [] unit s p = p
+  out_only ((r, connection) ∷ rows) unit s p = out_connection r (Some connection) unit s p
+
+  out_zero : (is_caller : Bool) (unit : Value) (s : Carrier) → Q s.outgoing → Q (in_zero is_caller unit s).outgoing
+  out_zero true (request c) s p = p
+  out_zero is_caller unit s p = out_only s.live unit s p
+
+  out_two : (is_caller : Bool) (unit : Value) (s : Carrier) → Q s.outgoing → Q (in_two is_caller unit s).outgoing
+  out_two true (request c) s p = p
+  out_two false (request c) s p = out_request c s (has_peer c.source s.live) (is_full s) p
+  out_two is_caller (data0 end user) s p = p
+  out_two is_caller unit s p = out_reference (connection_by (Some Two) unit s) unit s p
+
+  out_class : (held : Option Class) (unit : Value) (s : Carrier) → Q s.outgoing → Q (in_class held unit s).outgoing
+  out_class None unit s p = out_before s.is_caller unit s p
+  out_class (Some Zero) unit s p = out_zero s.is_caller unit s p
+  out_class (Some Two) unit s p = out_two s.is_caller unit s p
+
+  out_by : (over : Bool) (unit : Value) (s : Carrier) → Q s.outgoing → Q (react_by over unit s).outgoing
+  out_by true unit s p = p
+  out_by false unit s p = out_class s.class unit s p
+
+  out_react : (unit : Value) (s : Carrier) → Q s.outgoing → Q (react unit s).outgoing
+  unfolding react
+  out_react unit s p = out_by (is_some s.ended) unit s p
+
+  -- ---- what a session sends
+
+  out_sent : (r : ℕ) (tsdu : List ℕ) (link : Option (ℕ × Standing)) (s : Carrier) → Q s.outgoing → Q (sent_on r tsdu link s).outgoing
+  out_sent r tsdu None s p = p
+  out_sent r tsdu (Some (peer, link)) s p = on s.outgoing (written_by peer (with_tsdu link tsdu)) p
+
+  out_closes : (r peer reason : ℕ) (held : Option Class) (s : Carrier) → Q s.outgoing → Q (closes r peer reason held s).outgoing
+  out_closes r peer reason (Some Zero) s p = p
+  out_closes r peer reason held s p = on s.outgoing (disconnect peer r reason [] ∷ []) p
+
+  out_closed : (r reason : ℕ) (link : Option (ℕ × Standing)) (s : Carrier) → Q s.outgoing → Q (closed_on r reason link s).outgoing
+  out_closed r reason None s p = p
+  out_closed r reason (Some (peer, link)) s p = out_closes r peer reason s.class s p
+
+  out_carries : Carries (λ c. Q c.outgoing)
+  out_carries = record {
+    sends = λ r tsdu c p. out_sent r tsdu (open_link r c) c p;
+    closes = λ r c p. out_closed r 128 (open_link r c) c p;
+  }
+
+  -- ---- all of it
+
+  pub out_kept : IsKept (λ c. Q c.outgoing)
+  out_kept = record {
+    reacts_to = out_react;
+    carries = out_carries;
+    untold = λ events c p. p;
+    ends_so = λ reason c p. p;
+  }
+
+-- ---- these octets stand in front
+
+abbrev pub Ahead : List ℕ → Carrier → Type 0
+Ahead octets c = IsPrefix octets c.outgoing
+
+prefix_on : (octets out : List ℕ) (units : List Value) → IsPrefix octets out → IsPrefix octets (out ++ packets units)
+prefix_on octets out units p =
+    (p.0 ++ packets units, sym (append_assoc octets p.0 (packets units)) ∙ ap (λ (x : List ℕ). x ++ packets units) p.1)
+
+module _ (octets : List ℕ) where
+  pub ahead_kept : IsKept (Ahead octets)
+  ahead_kept = out_kept (IsPrefix octets) (prefix_on octets)
+
+  pub ahead_reacts : (units : List Value) (s : Carrier) → Ahead octets s → Ahead octets (reacts units s)
+  ahead_reacts units s p = kept_units (Ahead octets) ahead_kept units s p
+
+  pub ahead_attends : (e : End) → Ahead octets e.carrier → Ahead octets (attends e).carrier
+  ahead_attends e p = kept_attends (Ahead octets) ahead_kept e p
+
+  pub ahead_takes : (units : List (List ℕ)) (old new : End) → Ahead octets old.carrier → TakesPackets old units new →
+      Ahead octets new.carrier
+  ahead_takes units old new p takes = kept_takes (Ahead octets) ahead_kept units old new p takes
+
+  pub ahead_runs_out : (c : Carrier) (old new : End) → Ahead octets c → RunsOut (with_carrier c old) new → Ahead octets new.carrier
+  ahead_runs_out c old new p out = kept_runs_out (Ahead octets) ahead_kept c old new p out
+
+  pub ahead_starves : (u : List ℕ) (old new : End) → Ahead octets old.carrier → Starves old u new → Ahead octets new.carrier
+  ahead_starves u old new p starved = kept_starves (Ahead octets) ahead_kept u old new p starved

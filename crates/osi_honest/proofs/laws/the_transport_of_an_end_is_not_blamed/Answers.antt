@@ -1,0 +1,16 @@
+use Rattle.osi_stack.proofs.called.what_is_sent_is_short.{SpduLaws}
+use Rattle.osi_honest.proofs.class_0.what_a_session_answers_fits.{all_proper}
+use Rattle.osi_honest.proofs.opening.what_an_asking_end_does.{can_begin}
+use Rattle.osi_honest.proofs.transport.no_transport_of_an_end_is_blamed.{called_transport, calling_transport}
+use Rattle.osi_honest.proofs.laws.the_transport_of_an_end_is_not_blamed.Goals as goal
+
+pub returns-clause-called : goal.returns-clause-called
+returns-clause-called c = λ local begin end turns capture stop fresh run seen stopped.
+    let law : SpduLaws = record { room = c.few_octets_fit.ensures; digits = c.serial_digits.ensures } in
+    called_transport (all_proper law c.what_closes_sends_nothing.ensures.octets) local begin end turns fresh run capture stop seen stopped
+
+pub returns-clause-calling : goal.returns-clause-calling
+returns-clause-calling c = λ local begin end turns capture stop fresh run seen stopped.
+    let law : SpduLaws = record { room = c.few_octets_fit.ensures; digits = c.serial_digits.ensures } in
+    calling_transport (all_proper law c.what_closes_sends_nothing.ensures.octets) (can_begin law) local begin end turns fresh run capture
+    stop seen stopped

@@ -1,0 +1,83 @@
+-- If memory runs out for the first packet at a calling end whose CR is not answered yet: nothing was put, or first what is no
+-- DT of class 0.
+-- For the turns of a calling end.
+use Rattle.std.proofs.Common.{◌≡◌, ◌∙◌, sym, ap, subst, ℕ, true, List, [], ◌∷◌, ◌++◌, None, is_some, IsSome, inl, inr}
+use Rattle.osi_tpkt.specs.Octets.{IsOctets}
+use Rattle.osi_tpdu.specs.Packet.{AreUnits}
+use Rattle.osi_tpdu.specs.Value.{Value, may_be_followed}
+use Rattle.osi_tpdu.proofs.the_units_of_a_packet.{units_found}
+use Rattle.osi_carrier.specs.Happenings.{opened}
+use Rattle.osi_carrier.specs.Packets as carriers
+use Rattle.osi_carrier.specs.React.{react, reacts}
+use Rattle.osi_carrier.specs.State.{State as Carrier, ends}
+use Rattle.osi_carrier.specs.declared.ends.EndReason.TheVariants.{NoMemory}
+use Rattle.osi_carrier.proofs.effects.units_one_after_the_other.{reacts_over}
+use Rattle.osi_carrier.proofs.stream.a_piece_is_read_packet_by_packet.{acts_cases}
+use Rattle.osi_session.specs.Listening.{Listener}
+use Rattle.osi_stack.specs.Hearing.{RunsOut, Starves, hears_times, with_carrier}
+use Rattle.osi_stack.specs.State.{End}
+use Rattle.osi_honest.specs.Openings.{Asks, over}
+use Rattle.osi_honest.proofs.opening.how_a_caller_opens.{FirstActed, FirstUnit, acted_first, first_range, unit_first}
+use Rattle.osi_honest.proofs.opening.how_a_caller_opens.FirstActed.{confirms_in, elsewhere_in, over_in}
+use Rattle.osi_honest.proofs.opening.how_a_caller_opens.FirstUnit.{at_an_end, confirms, elsewhere}
+use Rattle.osi_honest.proofs.class_0.what_a_packet_does_in_class_0.{alone}
+use Rattle.osi_honest.proofs.opening.what_a_shortage_leaves_at_a_waiting_end.{never_empty}
+use Rattle.osi_honest.proofs.class_0.what_a_shortage_of_memory_leaves.{one_out, starves_same}
+use Rattle.osi_honest.proofs.keeping.what_a_unit_keeps_a_turn_keeps.{kept_attends, kept_runs_out, kept_units}
+use Rattle.osi_honest.proofs.opening.what_an_end_without_class_0_puts.{Elsewhere, elsewhere_kept}
+
+ends_elsewhere : (octets : List ℕ) (c : Carrier) → Elsewhere octets c → Elsewhere octets (ends NoMemory c)
+ends_elsewhere octets c p = (elsewhere_kept octets).ends_so NoMemory c p
+
+module _ (r : ℕ) (session : Listener) (u : List ℕ) (e : End) (w : Asks r session e) where
+  units_out : (done : List Value) (next : Value) (more : List Value) (d : Carrier) → AreUnits (done ++ (next ∷ more)) u →
+      (reacts done e.carrier).ended ≡ None → d ≡ ends NoMemory (reacts done e.carrier) → Elsewhere e.carrier.outgoing d
+  units_out [] next more d us lasts is =
+      inr (over (ap (λ (x : Carrier). is_some x.ended) is), ap (λ (x : Carrier). x.outgoing) is)
+  units_out (v ∷ done) next more d us lasts is =
+      by (unit_first r e.carrier w.lasts w.live w.told w.is_caller w.class v (first_range v (done ++ (next ∷ more)) u us))
+    where
+      by : FirstUnit r v e.carrier (react v e.carrier) → Elsewhere e.carrier.outgoing d
+      by (confirms destination answer request zero a) =
+          absurd (never_empty done next more (alone v (done ++ (next ∷ more)) u (ap may_be_followed request) us))
+      by (elsewhere p) =
+          subst (Elsewhere e.carrier.outgoing) (sym is)
+          (ends_elsewhere e.carrier.outgoing (reacts done (react v e.carrier))
+          (kept_units (Elsewhere e.carrier.outgoing) (elsewhere_kept e.carrier.outgoing) done (react v e.carrier) p))
+      by (at_an_end p) = absurd
+          (let gone : is_some (reacts done (react v e.carrier)).ended ≡ true = ap (λ (x : Carrier). is_some x.ended)
+          (reacts_over done (react v e.carrier) p.0) ∙ p.0 in
+          let none = ap is_some lasts in cc)
+
+  starved_first : (d : Carrier) → IsOctets u → carriers.Starves e.carrier u d → Elsewhere e.carrier.outgoing d
+  starved_first d octets (units, is, out) =
+      units_out out.done out.next out.more d (subst (λ (l : List Value). AreUnits l u) out.all (units_found u units octets is))
+      out.lasts out.ended
+
+  module _ (new : End) (octets : IsOctets u) (ended : IsSome new.carrier.ended) where
+    out_then : (c : Carrier) → Elsewhere e.carrier.outgoing c → RunsOut (with_carrier c e) new → Elsewhere e.carrier.outgoing new.carrier
+    out_then c p out = kept_runs_out (Elsewhere e.carrier.outgoing) (elsewhere_kept e.carrier.outgoing) c e new p out
+
+    acted_out : (c : Carrier) → FirstActed r u e.carrier (carriers.after_packet e.carrier u) → c ≡ carriers.after_packet e.carrier u →
+        RunsOut (with_carrier c e) new → Elsewhere e.carrier.outgoing new.carrier
+    acted_out c (confirms_in destination answer is zero a) same out =
+        let queued = ap (λ (x : Carrier). x.events) same ∙ a.told in
+        inr (
+          over ended,
+          ap (λ (x : End). x.carrier.outgoing) out.starved ∙ starves_same out.more (hears_times out.heard (with_carrier c e))
+              ∙ one_out out.heard (opened r) (with_carrier c e) out.event out.more queued out.waits
+              ∙ ap (λ (x : Carrier). x.outgoing) same ∙ a.outgoing,
+        )
+    acted_out c (elsewhere_in p) same out = out_then c (subst (Elsewhere e.carrier.outgoing) (sym same) p) out
+    acted_out c (over_in p) same out =
+        out_then c (subst (Elsewhere e.carrier.outgoing) (sym same) (inr (over p.0, p.1))) out
+
+    pub starved_asking : Starves e u new → Elsewhere e.carrier.outgoing new.carrier
+    starved_asking (inl (c, starved, is)) =
+        subst (λ (x : End). Elsewhere e.carrier.outgoing x.carrier) (sym is)
+        (kept_attends (Elsewhere e.carrier.outgoing) (elsewhere_kept e.carrier.outgoing) (with_carrier c e)
+        (starved_first c octets starved))
+    starved_asking (inr (c, acts, out)) = elim (acts_cases e.carrier c u acts) [
+      | inl is ↦ acted_out c (acted_first r session u e w octets) is out
+      | inr starved ↦ out_then c (starved_first c octets starved) out
+    ]

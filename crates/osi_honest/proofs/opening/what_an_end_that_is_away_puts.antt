@@ -1,0 +1,126 @@
+-- The turns of a calling end that has no connection of class 0: it puts nothing, or first what is no DT of class 0.
+-- For what a calling end did in all.
+use Rattle.std.proofs.Common.{◌≡◌, ◌∙◌, refl, sym, ap, subst, ℕ, ◌+◌, Bool, true, false, if◌then◌else◌, List, [], ◌∷◌, ◌++◌}
+use Rattle.std.proofs.Common.{is_some, option_map, inl, inr, ◌⊎◌, append_assoc}
+use Rattle.osi_tpkt.specs.Packet.{packet_of}
+use Rattle.osi_tpdu.specs.Limits.{tsap_octets}
+use Rattle.osi_tpdu.specs.Value.{Value, request}
+use Rattle.osi_tpdu.specs.Writing.{written}
+use Rattle.osi_carrier.specs.Negotiation.{proposal}
+use Rattle.osi_carrier.specs.declared.ends.EndReason.TheVariants.{Broken}
+use Rattle.osi_session.specs.Listening.{called}
+use Rattle.osi_stack.specs.Calls.{connects}
+use Rattle.osi_stack.specs.Hearing.{ends}
+use Rattle.osi_stack.specs.Rounds.{UserCall, user_does}
+use Rattle.osi_stack.specs.Rounds.UserCall.{breaking, calling, connecting, disconnecting}
+use Rattle.osi_stack.specs.Runs.{Call, Calls, carried_in, put_back}
+use Rattle.osi_stack.specs.Runs.Call.{carrying, feeding, telling}
+use Rattle.osi_stack.specs.State.{End, Holding}
+use Rattle.osi_stack.proofs.given_up.the_invariant_stays.{disconnect_carrier}
+use Rattle.osi_stack.proofs.carried.what_each_step_preserves.{session_carried}
+use Rattle.osi_honest.specs.Openings.{IsAway, IsNoData, has_none, has_two, over}
+use Rattle.osi_honest.specs.Seeing.{put_along}
+use Rattle.osi_honest.specs.Turns.{Act, Acts, Run, Takes, Turn, carried_by}
+use Rattle.osi_honest.specs.Turns.Act.{serving, using}
+use Rattle.osi_honest.proofs.keeping.what_a_unit_keeps_a_turn_keeps.{kept_feeds}
+use Rattle.osi_honest.proofs.opening.what_an_asking_end_does.{none_put}
+use Rattle.osi_honest.proofs.opening.what_an_end_without_class_0_puts.{Elsewhere, elsewhere_kept, put_first, put_now}
+
+-- these octets begin with a packet that is no DT of class 0
+pub record PutsOther (put : List ℕ) : Type 0 where
+  pub unit : Value
+  pub later : List ℕ
+  pub other : IsNoData unit
+  pub is : put ≡ packet_of (written unit) ++ later
+
+abbrev AwayTurn : List ℕ → Holding → Type 0
+AwayTurn put new = PutsOther put ⊎ (IsAway new.end.carrier × (put ≡ []))
+
+-- what is kept of where the end was before
+from_elsewhere : (put : List ℕ) (old new : Holding) → new.end.carrier.outgoing ≡ old.end.carrier.outgoing ++ put →
+    Elsewhere old.end.carrier.outgoing new.end.carrier → AwayTurn put new
+from_elsewhere put old new is (inl p) =
+    inl (record {
+      unit = p.unit;
+      later = p.ahead.0;
+      other = p.other;
+      is = put_first old.end.carrier.outgoing put p.ahead.0 p.unit (p.ahead.1 ∙ is);
+    })
+from_elsewhere put old new is (inr (away, same)) = inr (away, none_put old new put is same)
+
+-- octets that are handed over play no part
+not_handed : (octets : List ℕ) (e : End) → IsAway (put_back octets e).carrier → IsAway e.carrier
+not_handed octets e (over ended) = over ended
+not_handed octets e (has_none lasts side class live) = has_none lasts side class live
+not_handed octets e (has_two lasts side class all) = has_two lasts side class all
+
+away_call : (call : Call) (put : List ℕ) (old new : Holding) → IsAway old.end.carrier → Calls old call new →
+    carried_in call ++ new.end.carrier.outgoing ≡ old.end.carrier.outgoing ++ put → AwayTurn put new
+away_call (feeding piece fed) put old new away c is =
+    from_elsewhere put old new is
+    (kept_feeds (Elsewhere old.end.carrier.outgoing) (elsewhere_kept old.end.carrier.outgoing) piece fed old new (inr (away, refl)) c)
+away_call (telling shown) put old new away c is =
+    inr (
+      subst (λ (x : Holding). IsAway x.end.carrier) (sym c.1) away,
+      none_put old new put is (ap (λ (x : Holding). x.end.carrier.outgoing) c.1),
+    )
+away_call (carrying octets) put old new away c is =
+    inr (
+      not_handed octets new.end (subst (λ (x : Holding). IsAway x.end.carrier) c away),
+      none_put old (record old { end = put_back octets new.end }) put is (sym (ap (λ (x : Holding). x.end.carrier.outgoing) c)),
+    )
+
+broken_end : (octets : List ℕ) (b : Bool) (e : End) → Elsewhere octets e.carrier → Elsewhere octets (if b then e else ends Broken e).carrier
+broken_end octets true e p = p
+broken_end octets false e p = (elsewhere_kept octets).ends_so Broken e.carrier p
+
+away_user : (call : UserCall) (e : End) → IsAway e.carrier → Elsewhere e.carrier.outgoing (user_does call e).carrier
+away_user (connecting c) e away =
+    put_now e.carrier.outgoing (request (proposal e.carrier.local e.carrier.class (option_map tsap_octets c.calling_tsap)
+    (option_map tsap_octets c.called_tsap) (e.carrier.given + 1))) [] e.carrier
+    (connects c e).carrier tt refl refl
+away_user (calling r call) e away =
+    session_carried (Elsewhere e.carrier.outgoing) (elsewhere_kept e.carrier.outgoing).carries r (called call) e (inr (away, refl))
+away_user (disconnecting r) e away =
+    subst (Elsewhere e.carrier.outgoing) (sym (disconnect_carrier r e))
+    ((elsewhere_kept e.carrier.outgoing).carries.closes r e.carrier (inr (away, refl)))
+away_user breaking e away = broken_end e.carrier.outgoing (is_some e.carrier.ended) e (inr (away, refl))
+
+away_turn : (turn : Turn) (old new : Holding) → IsAway old.end.carrier → Takes old turn new → AwayTurn turn.put new
+away_turn turn old new away takes = by takes.act takes.acts takes.put
+  where
+    by : (act : Act) → Acts old act new → carried_by act ++ new.end.carrier.outgoing ≡ old.end.carrier.outgoing ++ turn.put →
+        AwayTurn turn.put new
+    by (serving call) acts put = away_call call turn.put old new away acts put
+    by (using call) acts put =
+        from_elsewhere turn.put old new put
+        (subst (λ (x : Holding). Elsewhere old.end.carrier.outgoing x.end.carrier) (sym acts.3) (away_user call old.end away))
+
+pub puts_first : (put more : List ℕ) → PutsOther put → PutsOther (put ++ more)
+puts_first put more p = record {
+  unit = p.unit;
+  later = p.later ++ more;
+  other = p.other;
+  is = ap (λ (x : List ℕ). x ++ more) p.is ∙ append_assoc (packet_of (written p.unit)) p.later more;
+}
+
+pub puts_then : (put more : List ℕ) → put ≡ [] → PutsOther more → PutsOther (put ++ more)
+puts_then put more none p = record {
+  unit = p.unit;
+  later = p.later;
+  other = p.other;
+  is = ap (λ (x : List ℕ). x ++ more) none ∙ p.is;
+}
+
+pub away_run : (turns : List Turn) (old new : Holding) → IsAway old.end.carrier → Run old turns new →
+    (put_along turns ≡ []) ⊎ PutsOther (put_along turns)
+away_run [] old new away run = inl refl
+away_run (turn ∷ turns) old new away run = by (away_turn turn old run.0 away run.1) (λ then_away. away_run turns run.0 new then_away run.2)
+  where
+    by : AwayTurn turn.put run.0 → (IsAway run.0.end.carrier → (put_along turns ≡ []) ⊎ PutsOther (put_along turns)) →
+        (put_along (turn ∷ turns) ≡ []) ⊎ PutsOther (put_along (turn ∷ turns))
+    by (inl p) more = inr (puts_first turn.put (put_along turns) p)
+    by (inr (then_away, none)) more = elim (more then_away) [
+      | inl silent ↦ inl (ap (λ (x : List ℕ). x ++ put_along turns) none ∙ silent)
+      | inr p ↦ inr (puts_then turn.put (put_along turns) none p)
+    ]

@@ -1,0 +1,358 @@
+-- A calling end that has no connection of class 0, and asks for none, puts nothing, or first what is no DT of class 0.
+-- For what a calling end puts whose request was refused, or accepted in class 2.
+use Rattle.std.proofs.Common.{◌≡◌, ◌∙◌, refl, sym, ap, subst, ℕ, ◌==◌, ◌&&◌, ◌||◌, not, Bool, true, false, if◌then◌else◌, List, [], ◌∷◌}
+use Rattle.std.proofs.Common.{◌++◌, map, Option, Some, None, is_some, IsSome, Ok, Err, inl, inr, ◌⊎◌}
+use Rattle.std.proofs.Common.{append_assoc}
+use Rattle.std.proofs.lemmas.List.{append-nil, append_cancel_left}
+use Rattle.osi_tpkt.specs.Packet.{packet_of}
+use Rattle.osi_tpdu.specs.Writing.{written}
+use Rattle.osi_tpdu.specs.Value.{Connect, Value, acknowledge, confirm, data0, data2, disconnect, disconnected, error, request}
+use Rattle.osi_class.specs.Giving.{all_given}
+use Rattle.osi_class.specs.Link.{Given, Standing, ack, is_of_two, part0, part2, taken, unit_of, with_tsdu}
+use Rattle.osi_class.specs.Runs.{MovesAlong, give_out, take_in}
+use Rattle.osi_class.specs.declared.faults.LinkFault.{LinkFault}
+use Rattle.osi_class.specs.declared.terms.Class.{Class}
+use Rattle.osi_class.specs.declared.terms.Class.TheVariants.{Two, Zero}
+use Rattle.osi_class.proofs.giving.a_link_gives_finitely_many_units.{drained_leaves, drained_moves, giving_leaves}
+use Rattle.osi_class.proofs.bounds.every_link_keeps_its_bounds.{move_same}
+use Rattle.osi_carrier.specs.Calls.{closed_on, closes, link_of, open_link, sent_on}
+use Rattle.osi_carrier.specs.Happenings.{Happening}
+use Rattle.osi_carrier.specs.Negotiation.{confirmed, opened_link, agreed_size, proposes_two, selects_expedited}
+use Rattle.osi_carrier.specs.Pump.{pumped, written_by}
+use Rattle.osi_carrier.specs.React.{before_class, breaks, handed_out, in_class, in_two, leaves, opens, pumps, react, settles, taking}
+use Rattle.osi_carrier.specs.React.{to_asked, to_closing, to_connection, to_linked, to_reference, to_unknown}
+use Rattle.osi_carrier.specs.Rows.{Rows, put, value_at, without}
+use Rattle.osi_carrier.specs.State.{Connection, State as Carrier, asked, closing, ends, linked, packets}
+use Rattle.osi_carrier.specs.declared.ends.EndReason.{EndReason}
+use Rattle.osi_carrier.proofs.effects.units_one_after_the_other.{react_quiet, reacts_over}
+use Rattle.osi_honest.specs.Openings.{AllHaveFlow, HasFlow, IsAway, IsNoData, has_none, has_two, over}
+use Rattle.osi_honest.proofs.class_0.what_a_packet_does_in_class_0.{no_link}
+use Rattle.osi_honest.proofs.keeping.what_a_unit_keeps_a_turn_keeps.{IsKept}
+use Rattle.osi_honest.proofs.class_0.what_class_0_writes_of_a_tsdu.{packets_joined}
+use Rattle.osi_honest.proofs.keeping.what_was_put_stays_in_front.{Ahead, ahead_kept}
+
+-- ---- class 0 is not confirmed while class 2 holds
+
+never_confirmed : (a b c d : Bool) → (if a then Some Two else (if b && (false && (c || not d)) then Some Zero else None)) ≡ Some Zero → ⊥
+never_confirmed true b c d e = cc
+never_confirmed false true c d e = cc
+never_confirmed false false c d e = cc
+
+-- ---- rows of links of class 2
+
+flow_here : (b : Bool) (r : ℕ) (x y : Connection) (rows : Rows Connection) → HasFlow y → (value_at r rows ≡ Some x → HasFlow x) →
+    (if b then Some y else value_at r rows) ≡ Some x → HasFlow x
+flow_here true r x y rows here more e = let same : y ≡ x = cc in subst HasFlow same here
+flow_here false r x y rows here more e = more e
+
+flow_at : (r : ℕ) (x : Connection) (rows : Rows Connection) → AllHaveFlow rows → value_at r rows ≡ Some x → HasFlow x
+flow_at r x [] all e = absurd (cc)
+flow_at r x ((q, y) ∷ rows) all e = flow_here (q == r) r x y rows all.0 (flow_at r x rows all.1) e
+
+flow_put_by : (b : Bool) (q r : ℕ) (x y : Connection) (rows : Rows Connection) → HasFlow x → HasFlow y → AllHaveFlow rows →
+    AllHaveFlow (put r x rows) → AllHaveFlow (if b then (q, x) ∷ rows else (q, y) ∷ put r x rows)
+flow_put_by true q r x y rows here there all more = (here, all)
+flow_put_by false q r x y rows here there all more = (there, more)
+
+flow_put : (r : ℕ) (x : Connection) (rows : Rows Connection) → AllHaveFlow rows → HasFlow x → AllHaveFlow (put r x rows)
+flow_put r x [] all here = tt
+flow_put r x ((q, y) ∷ rows) all here = flow_put_by (q == r) q r x y rows here all.0 all.1 (flow_put r x rows all.1 here)
+
+flow_without_by : (b : Bool) (q r : ℕ) (y : Connection) (rows : Rows Connection) → HasFlow y → AllHaveFlow rows →
+    AllHaveFlow (without r rows) → AllHaveFlow (if b then rows else (q, y) ∷ without r rows)
+flow_without_by true q r y rows there all more = all
+flow_without_by false q r y rows there all more = (there, more)
+
+flow_without : (r : ℕ) (rows : Rows Connection) → AllHaveFlow rows → AllHaveFlow (without r rows)
+flow_without r [] all = tt
+flow_without r ((q, y) ∷ rows) all = flow_without_by (q == r) q r y rows all.0 all.1 (flow_without r rows all.1)
+
+-- ---- what a link of class 2 gives
+
+abbrev NoneOfZero : List Value → Type 0
+NoneOfZero [] = Unit {0}
+NoneOfZero (v ∷ vs) = IsNoData v
+
+given_two : (peer : ℕ) (g : Given) → is_of_two g ≡ true → IsNoData (unit_of peer g)
+given_two peer (part0 end octets) e = cc
+given_two peer (part2 number end octets) e = tt
+given_two peer (ack number credit) e = tt
+
+gives_two : (peer : ℕ) (units : List Given) (s t : Standing) → is_some s.flow ≡ true → MovesAlong s (map give_out units) t →
+    NoneOfZero (map (unit_of peer) units)
+gives_two peer [] s t flow moves = tt
+gives_two peer (g ∷ units) s t flow moves = given_two peer g ((giving_leaves s moves.0 g moves.1).unit ∙ flow)
+
+-- ---- what was put, and how the end stands
+
+-- since these octets, a packet was put that is no DT of class 0, and perhaps more
+pub record PutOther (octets : List ℕ) (c : Carrier) : Type 0 where
+  pub unit : Value
+  pub other : IsNoData unit
+  pub ahead : Ahead (octets ++ packets (unit ∷ [])) c
+
+-- or nothing was put since
+abbrev pub Elsewhere : List ℕ → Carrier → Type 0
+Elsewhere octets c = PutOther octets c ⊎ (IsAway c × (c.outgoing ≡ octets))
+
+module _ (octets : List ℕ) where
+  pub put_now : (v : Value) (vs : List Value) (c d : Carrier) → IsNoData v → c.outgoing ≡ octets →
+      d.outgoing ≡ c.outgoing ++ packets (v ∷ vs) →
+      Elsewhere octets d
+  put_now v vs c d other same is = inl (record {
+    unit = v;
+    other = other;
+    ahead = (
+      packets vs,
+      append_assoc octets (packets (v ∷ [])) (packets vs) ∙ ap (λ (x : List ℕ). octets ++ x) (sym (packets_joined (v ∷ []) vs))
+          ∙ ap (λ (x : List ℕ). x ++ packets (v ∷ vs)) (sym same) ∙ sym is,
+    );
+  })
+
+  gone : (c d : Carrier) → IsSome d.ended → d.outgoing ≡ c.outgoing → c.outgoing ≡ octets → Elsewhere octets d
+  gone c d ended is same = inr (over ended, is ∙ same)
+
+  -- ---- no connection
+
+  module _ (c : Carrier) (lasts : c.ended ≡ None) (side : c.is_caller ≡ true) (class : c.class ≡ None) (live : c.live ≡ [])
+      (same : c.outgoing ≡ octets) where
+    none_known : (destination : ℕ) (v : Value) → Elsewhere octets (to_unknown v c) → Elsewhere octets (to_reference destination v c)
+    none_known destination v h =
+        subst (λ (rows : Rows Connection). Elsewhere octets (to_connection destination (value_at destination rows) v c)) (sym live) h
+
+    by_side : (v : Value) → Elsewhere octets (before_class true v c)
+    by_side (confirm destination cr) = none_known destination (confirm destination cr) (gone c _ refl refl same)
+    by_side (disconnect destination source reason user) =
+        none_known destination (disconnect destination source reason user)
+        (put_now (disconnected source destination) [] c _ tt same refl)
+    by_side (error destination cause) = none_known destination (error destination cause) (gone c _ refl refl same)
+    by_side (request cr) = gone c _ refl refl same
+    by_side (disconnected destination source) = gone c _ refl refl same
+    by_side (data0 end user) = gone c _ refl refl same
+    by_side (data2 destination number end user) = gone c _ refl refl same
+    by_side (acknowledge credit destination number) = gone c _ refl refl same
+
+    none_reacts : (v : Value) → Elsewhere octets (react v c)
+    none_reacts v =
+        subst (Elsewhere octets)
+        (sym (react_quiet v c lasts ∙ ap (λ (x : Option Class). in_class x v c) class ∙ ap (λ (x : Bool). before_class x v c) side))
+        (by_side v)
+
+    none_open : (r : ℕ) → open_link r c ≡ None
+    none_open r =
+        ap (λ (x : Bool). if x then None else link_of (value_at r c.live)) (ap is_some lasts)
+        ∙ ap (λ (rows : Rows Connection). link_of (value_at r rows)) live
+
+  -- ---- class 2
+
+  module _ (c : Carrier) (lasts : c.ended ≡ None) (side : c.is_caller ≡ true) (class : c.class ≡ Some Two) (all : AllHaveFlow c.live)
+      (same : c.outgoing ≡ octets) where
+    still : Elsewhere octets c
+    still = inr (has_two lasts side class all, same)
+
+    two_fails : (d : Carrier) → IsSome d.ended → d.outgoing ≡ c.outgoing → Elsewhere octets d
+    two_fails d ended is = gone c d ended is same
+
+    two_live : (d : Carrier) → d.ended ≡ c.ended → d.is_caller ≡ c.is_caller → d.class ≡ c.class → AllHaveFlow d.live →
+        d.outgoing ≡ c.outgoing → Elsewhere octets d
+    two_live d ended is_caller known flow is = inr (has_two (ended ∙ lasts) (is_caller ∙ side) (known ∙ class) flow, is ∙ same)
+
+    two_unknown : (v : Value) → Elsewhere octets (to_unknown v c)
+    two_unknown (disconnect destination source reason user) = put_now (disconnected source destination) [] c _ tt same refl
+    two_unknown (disconnected destination source) = still
+    two_unknown (request cr) = two_fails _ refl refl
+    two_unknown (confirm destination cr) = two_fails _ refl refl
+    two_unknown (data0 end user) = two_fails _ refl refl
+    two_unknown (data2 destination number end user) = two_fails _ refl refl
+    two_unknown (acknowledge credit destination number) = two_fails _ refl refl
+    two_unknown (error destination cause) = two_fails _ refl refl
+
+    two_opens : (r : ℕ) (cr : Connect) (o : Option Class) → (o ≡ Some Zero → ⊥) → Elsewhere octets (opens r cr o c)
+    two_opens r cr None never = two_fails _ refl refl
+    two_opens r cr (Some Zero) never = absurd (never refl)
+    two_opens r cr (Some Two) never =
+        let now = linked cr.source (opened_link Two (agreed_size cr.parameters.size c.local) c.local cr.credit) in
+        inr (has_two lasts side refl (flow_put r now c.live all refl), same)
+
+    two_drops : (r : ℕ) (d : Carrier) → d.ended ≡ c.ended → d.is_caller ≡ c.is_caller → d.class ≡ c.class → d.live ≡ without r c.live →
+        d.outgoing ≡ c.outgoing → Elsewhere octets d
+    two_drops r d ended is_caller known live is =
+        two_live d ended is_caller known (subst AllHaveFlow (sym live) (flow_without r c.live all)) is
+
+    two_asked : (r : ℕ) (v : Value) → Elsewhere octets (to_asked r v c)
+    two_asked r (confirm destination cr) = two_opens r cr (confirmed cr c.local c.class) (never_zero cr)
+      where
+        never_zero : (cr : Connect) → confirmed cr c.local c.class ≡ Some Zero → ⊥
+        never_zero cr e =
+            never_confirmed ((cr.class == 2) && (proposes_two c.local && not (selects_expedited cr.parameters.additional))) (cr.class == 0)
+            (c.local.class0) (c.local.class2)
+            (ap (λ (x : Option Class). confirmed cr c.local x) (sym class) ∙ e)
+    two_asked r (disconnect destination source reason user) = two_drops r _ refl refl refl refl refl
+    two_asked r (error destination cause) = two_drops r _ refl refl refl refl refl
+    two_asked r (request cr) = two_unknown (request cr)
+    two_asked r (disconnected destination source) = two_unknown (disconnected destination source)
+    two_asked r (data0 end user) = two_unknown (data0 end user)
+    two_asked r (data2 destination number end user) = two_unknown (data2 destination number end user)
+    two_asked r (acknowledge credit destination number) = two_unknown (acknowledge credit destination number)
+
+    two_breaks : (r peer : ℕ) (fault : LinkFault) → Elsewhere octets (breaks r peer fault c.class c)
+    two_breaks r peer fault =
+        subst (λ (x : Option Class). Elsewhere octets (breaks r peer fault x c)) (sym class)
+        (put_now (disconnect peer r 133 []) [] c _ tt same refl)
+
+    -- what a link gives is put
+    pump_by : (r peer : ℕ) (link : Standing) (vs : List Value) → written_by peer link ≡ vs → NoneOfZero vs →
+        is_some (pumped link).flow ≡ true →
+        (d : Carrier) → d.ended ≡ c.ended → d.is_caller ≡ c.is_caller → d.class ≡ c.class →
+        d.live ≡ put r (linked peer (pumped link)) c.live →
+        d.outgoing ≡ c.outgoing ++ packets (written_by peer link) → Elsewhere octets d
+    pump_by r peer link [] units none flow d ended is_caller known live is =
+        two_live d ended is_caller known (subst AllHaveFlow (sym live) (flow_put r (linked peer (pumped link)) c.live all flow))
+        (is ∙ ap (λ (x : List Value). c.outgoing ++ packets x) units ∙ append-nil c.outgoing)
+    pump_by r peer link (v ∷ vs) units none flow d ended is_caller known live is =
+        put_now v vs c d none same (is ∙ ap (λ (x : List Value). c.outgoing ++ packets x) units)
+
+    two_pumps : (r peer : ℕ) (link : Standing) → is_some link.flow ≡ true →
+        (d : Carrier) → d.ended ≡ c.ended → d.is_caller ≡ c.is_caller → d.class ≡ c.class →
+        d.live ≡ put r (linked peer (pumped link)) c.live →
+        d.outgoing ≡ c.outgoing ++ packets (written_by peer link) → Elsewhere octets d
+    two_pumps r peer link flow d ended is_caller known live is =
+        pump_by r peer link (written_by peer link) refl (gives_two peer (all_given link) link (pumped link) flow (drained_moves link))
+        ((drained_leaves link).2 ∙ flow) d ended is_caller known live is
+
+    two_taking : (r peer : ℕ) (link : Standing) (v : Value) → is_some link.flow ≡ true → (result : _) → taken link v ≡ result →
+        Elsewhere octets (taking r peer result c)
+    two_taking r peer link v flow (Ok after) e =
+        two_pumps r peer (handed_out after) ((move_same (take_in v) link after e).1 ∙ flow) (settles r peer after c)
+        refl refl refl refl refl
+    two_taking r peer link v flow (Err fault) e = two_breaks r peer fault
+
+    two_leaves : (r peer reason : ℕ) → Elsewhere octets (leaves r peer reason c.class c)
+    two_leaves r peer reason =
+        subst (λ (x : Option Class). Elsewhere octets (leaves r peer reason x c)) (sym class)
+        (put_now (disconnected peer r) [] c _ tt same refl)
+
+    two_linked : (r peer : ℕ) (link : Standing) (v : Value) → is_some link.flow ≡ true → Elsewhere octets (to_linked r peer link v c)
+    two_linked r peer link (disconnect destination source reason user) flow = two_leaves r peer reason
+    two_linked r peer link (request cr) flow = two_taking r peer link (request cr) flow _ refl
+    two_linked r peer link (confirm destination cr) flow = two_taking r peer link (confirm destination cr) flow _ refl
+    two_linked r peer link (disconnected destination source) flow = two_taking r peer link (disconnected destination source) flow _ refl
+    two_linked r peer link (data0 end user) flow = two_taking r peer link (data0 end user) flow _ refl
+    two_linked r peer link (data2 destination number end user) flow =
+        two_taking r peer link (data2 destination number end user) flow _ refl
+    two_linked r peer link (acknowledge credit destination number) flow =
+        two_taking r peer link (acknowledge credit destination number) flow _ refl
+    two_linked r peer link (error destination cause) flow = two_taking r peer link (error destination cause) flow _ refl
+
+    two_closing : (r : ℕ) (v : Value) → Elsewhere octets (to_closing r v c)
+    two_closing r (disconnected destination source) = two_drops r _ refl refl refl refl refl
+    two_closing r (disconnect destination source reason user) = two_drops r _ refl refl refl refl refl
+    two_closing r (request cr) = still
+    two_closing r (confirm destination cr) = still
+    two_closing r (data0 end user) = still
+    two_closing r (data2 destination number end user) = still
+    two_closing r (acknowledge credit destination number) = still
+    two_closing r (error destination cause) = still
+
+    two_connection : (r : ℕ) (at : Option Connection) → value_at r c.live ≡ at → (v : Value) → Elsewhere octets (to_connection r at v c)
+    two_connection r None e v = two_unknown v
+    two_connection r (Some asked) e v = two_asked r v
+    two_connection r (Some (linked peer link)) e v = two_linked r peer link v (flow_at r (linked peer link) c.live all e)
+    two_connection r (Some (closing peer)) e v = two_closing r v
+
+    two_reference : (r : ℕ) (v : Value) → Elsewhere octets (to_reference r v c)
+    two_reference r v = two_connection r (value_at r c.live) refl v
+
+    by_two : (v : Value) → Elsewhere octets (in_two true v c)
+    by_two (request cr) = two_fails _ refl refl
+    by_two (confirm destination cr) = two_reference destination (confirm destination cr)
+    by_two (disconnect destination source reason user) = two_reference destination (disconnect destination source reason user)
+    by_two (disconnected destination source) = two_reference destination (disconnected destination source)
+    by_two (data0 end user) = two_fails _ refl refl
+    by_two (data2 destination number end user) = two_reference destination (data2 destination number end user)
+    by_two (acknowledge credit destination number) = two_reference destination (acknowledge credit destination number)
+    by_two (error destination cause) = two_reference destination (error destination cause)
+
+    two_reacts : (v : Value) → Elsewhere octets (react v c)
+    two_reacts v =
+        subst (Elsewhere octets)
+        (sym (react_quiet v c lasts ∙ ap (λ (x : Option Class). in_class x v c) class ∙ ap (λ (x : Bool). in_two x v c) side))
+        (by_two v)
+
+    two_sends : (r : ℕ) (tsdu : List ℕ) (at : Option Connection) → value_at r c.live ≡ at → Elsewhere octets (sent_on r tsdu (link_of at) c)
+    two_sends r tsdu None e = still
+    two_sends r tsdu (Some asked) e = still
+    two_sends r tsdu (Some (linked peer link)) e =
+        two_pumps r peer (with_tsdu link tsdu) (flow_at r (linked peer link) c.live all e) (pumps r peer (with_tsdu link tsdu) c)
+        refl refl refl refl refl
+    two_sends r tsdu (Some (closing peer)) e = still
+
+    two_closes : (r : ℕ) (at : Option Connection) → Elsewhere octets (closed_on r 128 (link_of at) c)
+    two_closes r None = still
+    two_closes r (Some asked) = still
+    two_closes r (Some (linked peer link)) =
+        subst (λ (x : Option Class). Elsewhere octets (closes r peer 128 x c)) (sym class)
+        (put_now (disconnect peer r 128 []) [] c _ tt same refl)
+    two_closes r (Some (closing peer)) = still
+
+    open_by : (r : ℕ) → open_link r c ≡ link_of (value_at r c.live)
+    open_by r = ap (λ (x : Bool). if x then None else link_of (value_at r c.live)) (ap is_some lasts)
+
+  -- ---- all of it
+
+  other_reacts : (v : Value) (c : Carrier) → Elsewhere octets c → Elsewhere octets (react v c)
+  other_reacts v c (inl p) =
+      inl (record { unit = p.unit; other = p.other; ahead = (ahead_kept (octets ++ packets (p.unit ∷ []))).reacts_to v c p.ahead })
+  other_reacts v c (inr (over ended, same)) = subst (Elsewhere octets) (sym (reacts_over (v ∷ []) c ended)) (inr (over ended, same))
+  other_reacts v c (inr (has_none lasts side class live, same)) = none_reacts c lasts side class live same v
+  other_reacts v c (inr (has_two lasts side class all, same)) = two_reacts c lasts side class all same v
+
+  other_sends : (r : ℕ) (tsdu : List ℕ) (c : Carrier) → Elsewhere octets c → Elsewhere octets (sent_on r tsdu (open_link r c) c)
+  other_sends r tsdu c (inl p) =
+      inl (record { unit = p.unit; other = p.other; ahead = (ahead_kept (octets ++ packets (p.unit ∷ []))).carries.sends r tsdu c p.ahead })
+  other_sends r tsdu c (inr (over ended, same)) =
+      subst (Elsewhere octets) (sym (ap (λ o. sent_on r tsdu o c) (no_link r c ended))) (inr (over ended, same))
+  other_sends r tsdu c (inr (has_none lasts side class live, same)) =
+      subst (Elsewhere octets) (sym (ap (λ o. sent_on r tsdu o c) (none_open c lasts side class live same r)))
+      (inr (has_none lasts side class live, same))
+  other_sends r tsdu c (inr (has_two lasts side class all, same)) =
+      subst (Elsewhere octets) (sym (ap (λ o. sent_on r tsdu o c) (open_by c lasts side class all same r)))
+      (two_sends c lasts side class all same r tsdu (value_at r c.live) refl)
+
+  other_closes : (r : ℕ) (c : Carrier) → Elsewhere octets c → Elsewhere octets (closed_on r 128 (open_link r c) c)
+  other_closes r c (inl p) =
+      inl (record { unit = p.unit; other = p.other; ahead = (ahead_kept (octets ++ packets (p.unit ∷ []))).carries.closes r c p.ahead })
+  other_closes r c (inr (over ended, same)) =
+      subst (Elsewhere octets) (sym (ap (λ o. closed_on r 128 o c) (no_link r c ended))) (inr (over ended, same))
+  other_closes r c (inr (has_none lasts side class live, same)) =
+      subst (Elsewhere octets) (sym (ap (λ o. closed_on r 128 o c) (none_open c lasts side class live same r)))
+      (inr (has_none lasts side class live, same))
+  other_closes r c (inr (has_two lasts side class all, same)) =
+      subst (Elsewhere octets) (sym (ap (λ o. closed_on r 128 o c) (open_by c lasts side class all same r)))
+      (two_closes c lasts side class all same r (value_at r c.live))
+
+  other_untold : (events : List Happening) (c : Carrier) → Elsewhere octets c → Elsewhere octets (record c { events = events })
+  other_untold events c (inl p) = inl (record { unit = p.unit; other = p.other; ahead = p.ahead })
+  other_untold events c (inr (over ended, same)) = inr (over ended, same)
+  other_untold events c (inr (has_none lasts side class live, same)) = inr (has_none lasts side class live, same)
+  other_untold events c (inr (has_two lasts side class all, same)) = inr (has_two lasts side class all, same)
+
+  other_ends : (reason : EndReason) (c : Carrier) → Elsewhere octets c → Elsewhere octets (ends reason c)
+  other_ends reason c (inl p) = inl (record { unit = p.unit; other = p.other; ahead = p.ahead })
+  other_ends reason c (inr (away, same)) = inr (over refl, same)
+
+  pub elsewhere_kept : IsKept (Elsewhere octets)
+  elsewhere_kept = record {
+    reacts_to = other_reacts;
+    carries = record { sends = other_sends; closes = other_closes };
+    untold = other_untold;
+    ends_so = other_ends;
+  }
+
+-- what was put first, by what was put after what was there
+pub put_first : (old put later : List ℕ) (unit : Value) → (old ++ packets (unit ∷ [])) ++ later ≡ old ++ put →
+    put ≡ packet_of (written unit) ++ later
+put_first old put later unit is =
+    sym (append_cancel_left old (packet_of (written unit) ++ later) put
+    (ap (λ (l : List ℕ). old ++ (l ++ later)) (sym (append-nil (packet_of (written unit))))
+    ∙ sym (append_assoc old (packets (unit ∷ [])) later) ∙ is))

@@ -1,0 +1,459 @@
+-- Whatever arrives, whatever its user calls and however much memory there is, each unit that an end puts can be written, so that
+-- it is read again.
+-- For what the transport of an end puts.
+use Rattle.std.proofs.Common.{◌≡◌, ◌∙◌, refl, sym, ap, subst, ℕ, ◌+◌, ◌&&◌, ◌≤◌, min, Bool, true, false, if◌then◌else◌}
+use Rattle.std.proofs.Common.{map, List, [], ◌∷◌, ◌++◌, length, take, Option, Some, None, is_some, option_map, Result, Ok, Err}
+use Rattle.std.proofs.Common.{append_assoc, arith}
+use Rattle.std.specs.Prelude.{IfSome}
+use Rattle.std.specs.List.{AllByRecursion}
+use Rattle.std.proofs.lemmas.List.{append-nil, append_cancel_left, length-take}
+use Rattle.osi_tpkt.specs.Octets.{IsOctets}
+use Rattle.osi_tpkt.specs.Stream.{Cuts, Ending}
+use Rattle.osi_tpdu.specs.Limits.{size_code, tsap_octets}
+use Rattle.osi_tpdu.specs.Packet.{units_of}
+use Rattle.osi_tpdu.specs.Value.{Connect, HasFieldsInRange, IsConnect, Value, acknowledge, confirm, data0, data2, disconnect, disconnected}
+use Rattle.osi_tpdu.specs.Value.{error, request}
+use Rattle.osi_tpdu.specs.Writing.{Fits, written}
+use Rattle.osi_tpdu.specs.declared.faults.TpduFault.{TpduFault}
+use Rattle.osi_tpdu.specs.declared.tsaps.Tsap.{Tsap}
+use Rattle.osi_tpdu.proofs.the_units_of_a_packet.{units_fit, units_found}
+use Rattle.osi_class.specs.Link.{Standing, taken, with_tsdu}
+use Rattle.osi_class.specs.Negotiation.{accept, keeps_flow_control, proposes, proposes_zero_alone, refuse, selected_by}
+use Rattle.osi_class.specs.Negotiation.{selected_size}
+use Rattle.osi_class.specs.declared.faults.LinkFault.{LinkFault}
+use Rattle.osi_class.specs.declared.terms.Class.{Class}
+use Rattle.osi_class.specs.declared.terms.Class.TheVariants.{Two, Zero}
+use Rattle.osi_class.specs.declared.terms.Local.{Local}
+use Rattle.osi_carrier.specs.Calls.{asks, closed_on, closes, link_of, sent_on}
+use Rattle.osi_carrier.specs.Negotiation.{acceptance, agreed_size, alternatives, confirmed, opened_link, proposal, proposal_by}
+use Rattle.osi_carrier.specs.Negotiation.{proposes_two, proposes_zero}
+use Rattle.osi_carrier.specs.Orderly.{connection_by}
+use Rattle.osi_carrier.specs.Packets as carriers
+use Rattle.osi_carrier.specs.Pump.{pumped, written_by}
+use Rattle.osi_carrier.specs.React.{accepts, answers, before_class, breaks, denies, handed_out, has_peer, in_class, in_two, in_zero}
+use Rattle.osi_carrier.specs.React.{is_full}
+use Rattle.osi_carrier.specs.React.{leaves, opens, pumps, react, react_by, reacts, settles, taking, to_asked, to_closing, to_connection}
+use Rattle.osi_carrier.specs.React.{to_linked, to_only, to_reference, to_unknown}
+use Rattle.osi_carrier.specs.Rows.{Rows, put, value_at}
+use Rattle.osi_carrier.specs.State.{Connection, State as Carrier, asked, closing, linked, packets}
+use Rattle.osi_carrier.specs.State as states
+use Rattle.osi_carrier.specs.declared.ends.EndReason.{EndReason}
+use Rattle.osi_carrier.specs.declared.ends.EndReason.TheVariants.{NoMemory}
+use Rattle.osi_stack.specs.State.{End, Holding}
+use Rattle.osi_stack.proofs.carried.what_each_step_preserves.{Carries}
+use Rattle.osi_judge.specs.declared.directions.Direction.{Direction}
+use Rattle.osi_judge.specs.Captures.{Capture, stream}
+use Rattle.osi_honest.specs.Seeing.{HasOneUnit, IsFresh, IsSeen, put_along}
+use Rattle.osi_honest.specs.Turns.{Run, Turn}
+use Rattle.osi_honest.proofs.reading.what_a_link_gives_can_be_written.{IsNumbered, gives_written, taken_numbered}
+use Rattle.osi_honest.proofs.class_0.what_a_packet_does_in_class_0.{AllProper}
+use Rattle.osi_honest.proofs.class_0.what_class_0_writes_of_a_tsdu.{packets_joined}
+use Rattle.osi_honest.proofs.keeping.what_each_packet_keeps_a_turn_keeps.{IsTracked, turn_tracked}
+use Rattle.osi_honest.proofs.keeping.what_holds_of_each_connection_stays.{AllRows, row_at, row_more, row_put, row_without}
+use Rattle.osi_honest.proofs.reading.what_is_written_is_read_again.{CanBeWritten, IsPlain, read_again}
+use Rattle.osi_honest.proofs.class_0.what_a_turn_does_in_class_0.{all_octets}
+use Rattle.osi_honest.proofs.reading.two_readings_of_a_stream_agree.{shown_packets}
+
+-- ---- rows of links
+
+abbrev IsNumberedRow : Connection → Type 0
+IsNumberedRow asked = Unit {0}
+IsNumberedRow (linked peer link) = IsNumbered link.flow
+IsNumberedRow (closing peer) = Unit {0}
+
+abbrev pub AreNumbered : Rows Connection → Type 0
+AreNumbered rows = AllRows IsNumberedRow rows
+
+link_opens : (class : Class) (size : Option ℕ) (local : Local) (credit : ℕ) → IsNumbered (opened_link class size local credit).flow
+link_opens Zero size local credit = tt
+link_opens Two size local credit = let most = local.window.at_most in (omega arith, omega arith)
+
+-- ---- CR and CC
+
+size_in_range : (o : Option ℕ) (local : Local) → IfSome o (λ code. (7 ≤ code) × (code ≤ 13)) →
+    IfSome (option_map (λ code. min code (size_code local.size)) o) (λ code. (7 ≤ code) × (code ≤ 13))
+size_in_range None local h = tt
+size_in_range (Some code) local h =
+    let least = local.size.at_least in
+    let most : code ≤ 13 = h.1 in
+    let some : 7 ≤ code = h.0 in
+    (omega arith, omega arith)
+
+selector_fits : (o : Option (List ℕ)) → IfSome o (λ s. (length s ≤ 32) × IsOctets s) → IfSome o (λ s. length s ≤ 32)
+selector_fits None h = tt
+selector_fits (Some s) h = h.0
+
+cc_plain : (class : Class) (size : Option ℕ) (c : Connect) (local : Local) (r : ℕ) → IsConnect c →
+    IfSome size (λ code. (7 ≤ code) × (code ≤ 13)) → IsPlain (acceptance class size c local r)
+cc_plain Zero size c local r h range = record {
+  credit = omega arith;
+  class = omega arith;
+  options = omega arith;
+  size = range;
+  calling = selector_fits c.parameters.calling h.parameters.calling;
+  called = selector_fits c.parameters.called h.parameters.called;
+  additional = tt;
+  alternative = tt;
+  user = refl;
+}
+cc_plain Two size c local r h range = record {
+  credit = let most = local.window.at_most in omega arith;
+  class = omega arith;
+  options = omega arith;
+  size = range;
+  calling = selector_fits c.parameters.calling h.parameters.calling;
+  called = selector_fits c.parameters.called h.parameters.called;
+  additional = omega arith;
+  alternative = tt;
+  user = refl;
+}
+
+tsap_short : (t : Tsap) → length (take t.len t.octets) ≤ 32
+tsap_short t =
+    let few = t.at_most in
+    let size = length-take t.len t.octets in
+    omega arith
+
+tsap_fits : (o : Option Tsap) → IfSome (option_map tsap_octets o) (λ s. length s ≤ 32)
+tsap_fits None = tt
+tsap_fits (Some t) = tsap_short t
+
+pub cr_by : (two : Bool) (local : Local) (held : Option Class) (calling called : Option Tsap) (r : ℕ) →
+    IsPlain (proposal_by two local held (option_map tsap_octets calling) (option_map tsap_octets called) r)
+cr_by true local held calling called r = record {
+  credit = let most = local.window.at_most in omega arith;
+  class = omega arith;
+  options = omega arith;
+  size = (local.size.at_least, local.size.at_most);
+  calling = tsap_fits calling;
+  called = tsap_fits called;
+  additional = omega arith;
+  alternative = by (proposes_zero local held);
+  user = refl;
+}
+  where
+    by : (b : Bool) → IfSome (alternatives b) (λ (s : List ℕ). length s ≤ 1)
+    by true = omega arith
+    by false = tt
+cr_by false local held calling called r = record {
+  credit = omega arith;
+  class = omega arith;
+  options = omega arith;
+  size = (local.size.at_least, local.size.at_most);
+  calling = tsap_fits calling;
+  called = tsap_fits called;
+  additional = tt;
+  alternative = tt;
+  user = refl;
+}
+
+-- ---- what was put since
+
+-- after these octets stand packets with units that can be written; and the links are numbered
+pub record CanBeRead (octets : List ℕ) (c : Carrier) : Type 0 where
+  pub units : List Value
+  pub is : c.outgoing ≡ octets ++ packets units
+  pub written : AllByRecursion CanBeWritten units
+  pub links : AreNumbered c.live
+
+all_more : (some others : List Value) → AllByRecursion CanBeWritten some → AllByRecursion CanBeWritten others →
+    AllByRecursion CanBeWritten (some ++ others)
+all_more [] others a b = b
+all_more (v ∷ some) others a b = (a.0, all_more some others a.1 b)
+
+module _ (octets : List ℕ) where
+  writes_more : (c d : Carrier) (units : List Value) → CanBeRead octets c → AllByRecursion CanBeWritten units →
+      d.outgoing ≡ c.outgoing ++ packets units → AreNumbered d.live → CanBeRead octets d
+  writes_more c d units p can is links = record {
+    units = p.units ++ units;
+    is = is ∙ ap (λ (x : List ℕ). x ++ packets units) p.is ∙ append_assoc octets (packets p.units) (packets units)
+        ∙ ap (λ (x : List ℕ). octets ++ x) (sym (packets_joined p.units units));
+    written = all_more p.units units p.written can;
+    links = links;
+  }
+
+  writes_none : (c d : Carrier) → CanBeRead octets c → d.outgoing ≡ c.outgoing → AreNumbered d.live → CanBeRead octets d
+  writes_none c d p same links = record { units = p.units; is = same ∙ p.is; written = p.written; links = links }
+
+  -- ---- a unit that arrives
+
+  module _ (s : Carrier) (p : CanBeRead octets s) where
+    accepted : (class : Class) (size : Option ℕ) (c : Connect) → IsConnect c → IfSome size (λ code. (7 ≤ code) × (code ≤ 13)) →
+        CanBeRead octets (accepts class size c s)
+    accepted class size c h range =
+        writes_more s _ (confirm c.source (acceptance class size c s.local (s.given + 1)) ∷ []) p
+        (cc_plain class size c s.local (s.given + 1) h range, tt) refl
+        (row_more IsNumberedRow (s.given + 1) (linked c.source (opened_link class size s.local c.credit)) s.live p.links
+        (link_opens class size s.local c.credit))
+
+    denied : (reason peer : ℕ) → CanBeRead octets (denies reason peer s)
+    denied reason peer = writes_more s _ (disconnect peer 0 reason [] ∷ []) p (tt, tt) refl p.links
+
+    by_selection : (a b d : Bool) (size : Option ℕ) (held : Option Class) (c : Connect) → IsConnect c →
+        IfSome size (λ code. (7 ≤ code) × (code ≤ 13)) →
+        CanBeRead octets (answers c
+        (if a then accept Two size else (if b then accept Zero size else (if d then refuse 0 else refuse 130))) held s)
+    by_selection true b d size held c h range = accepted Two size c h range
+    by_selection false true d size None c h range = accepted Zero size c h range
+    by_selection false true d size (Some class) c h range = denied 136 c.source
+    by_selection false false true size held c h range = denied 0 c.source
+    by_selection false false false size held c h range = denied 130 c.source
+
+    by_request : (c : Connect) (in_use full : Bool) → IsConnect c →
+        CanBeRead octets (if in_use then denies 131 c.source s
+        else (if full then denies 1 c.source s else answers c (selected_by c s.local) s.class s))
+    by_request c true full h = denied 131 c.source
+    by_request c false true h = denied 1 c.source
+    by_request c false false h =
+        by_selection (s.local.class2 && (proposes c 2 && keeps_flow_control c)) (s.local.class0 && proposes c 0) (proposes_zero_alone c)
+        (selected_size c s.local) s.class c h (size_in_range c.parameters.size s.local h.parameters.size)
+
+    by_unknown : (unit : Value) → CanBeRead octets (to_unknown unit s)
+    by_unknown (disconnect destination source reason user) =
+        writes_more s _ (disconnected source destination ∷ []) p (tt, tt) refl p.links
+    by_unknown (disconnected destination source) = p
+    by_unknown (request c) = writes_none s _ p refl tt
+    by_unknown (confirm destination c) = writes_none s _ p refl tt
+    by_unknown (data0 end user) = writes_none s _ p refl tt
+    by_unknown (data2 destination number end user) = writes_none s _ p refl tt
+    by_unknown (acknowledge credit destination number) = writes_none s _ p refl tt
+    by_unknown (error destination cause) = writes_none s _ p refl tt
+
+    by_opens : (r : ℕ) (c : Connect) (class : Option Class) → CanBeRead octets (opens r c class s)
+    by_opens r c None = writes_none s _ p refl tt
+    by_opens r c (Some class) =
+        writes_none s _ p refl
+        (row_put IsNumberedRow r (linked c.source (opened_link class (agreed_size c.parameters.size s.local) s.local c.credit)) s.live
+        p.links
+        (link_opens class (agreed_size c.parameters.size s.local) s.local c.credit))
+
+    by_asked : (r : ℕ) (unit : Value) → CanBeRead octets (to_asked r unit s)
+    by_asked r (confirm destination c) = by_opens r c (confirmed c s.local s.class)
+    by_asked r (disconnect destination source reason user) = writes_none s _ p refl (row_without IsNumberedRow r s.live p.links)
+    by_asked r (error destination cause) = writes_none s _ p refl (row_without IsNumberedRow r s.live p.links)
+    by_asked r (request c) = by_unknown (request c)
+    by_asked r (disconnected destination source) = by_unknown (disconnected destination source)
+    by_asked r (data0 end user) = by_unknown (data0 end user)
+    by_asked r (data2 destination number end user) = by_unknown (data2 destination number end user)
+    by_asked r (acknowledge credit destination number) = by_unknown (acknowledge credit destination number)
+
+    by_breaks : (r peer : ℕ) (fault : LinkFault) (held : Option Class) → CanBeRead octets (breaks r peer fault held s)
+    by_breaks r peer fault (Some Two) =
+        writes_more s _ (disconnect peer r 133 [] ∷ []) p (tt, tt) refl (row_put IsNumberedRow r (closing peer) s.live p.links tt)
+    by_breaks r peer fault (Some Zero) = writes_none s _ p refl tt
+    by_breaks r peer fault None = writes_none s _ p refl tt
+
+    pumps_so : (r peer : ℕ) (link : Standing) (d : Carrier) → IsNumbered link.flow →
+        d.outgoing ≡ s.outgoing ++ packets (written_by peer link) → d.live ≡ put r (linked peer (pumped link)) s.live → CanBeRead octets d
+    pumps_so r peer link d numbered outgoing live =
+        let all = gives_written peer link numbered in
+        writes_more s d (written_by peer link) p all.0 outgoing
+        (subst AreNumbered (sym live) (row_put IsNumberedRow r (linked peer (pumped link)) s.live p.links all.1))
+
+    by_taking : (r peer : ℕ) (link : Standing) (unit : Value) (result : Result Standing LinkFault) → IsNumbered link.flow →
+        taken link unit ≡ result → CanBeRead octets (taking r peer result s)
+    by_taking r peer link unit (Ok after) numbered e =
+        pumps_so r peer (handed_out after) (settles r peer after s) (taken_numbered link after unit numbered e) refl refl
+    by_taking r peer link unit (Err fault) numbered e = by_breaks r peer fault s.class
+
+    by_leaves : (r peer reason : ℕ) (held : Option Class) → CanBeRead octets (leaves r peer reason held s)
+    by_leaves r peer reason (Some Two) =
+        writes_more s _ (disconnected peer r ∷ []) p (tt, tt) refl (row_without IsNumberedRow r s.live p.links)
+    by_leaves r peer reason (Some Zero) = writes_none s _ p refl tt
+    by_leaves r peer reason None = writes_none s _ p refl tt
+
+    by_linked : (r peer : ℕ) (link : Standing) (unit : Value) → IsNumbered link.flow → CanBeRead octets (to_linked r peer link unit s)
+    by_linked r peer link (disconnect destination source reason user) numbered = by_leaves r peer reason s.class
+    by_linked r peer link (request c) numbered = by_taking r peer link (request c) _ numbered refl
+    by_linked r peer link (confirm destination c) numbered = by_taking r peer link (confirm destination c) _ numbered refl
+    by_linked r peer link (disconnected destination source) numbered =
+        by_taking r peer link (disconnected destination source) _ numbered refl
+    by_linked r peer link (data0 end user) numbered = by_taking r peer link (data0 end user) _ numbered refl
+    by_linked r peer link (data2 destination number end user) numbered =
+        by_taking r peer link (data2 destination number end user) _ numbered refl
+    by_linked r peer link (acknowledge credit destination number) numbered =
+        by_taking r peer link (acknowledge credit destination number) _ numbered refl
+    by_linked r peer link (error destination cause) numbered = by_taking r peer link (error destination cause) _ numbered refl
+
+    by_closing : (r : ℕ) (unit : Value) → CanBeRead octets (to_closing r unit s)
+    by_closing r (disconnected destination source) = writes_none s _ p refl (row_without IsNumberedRow r s.live p.links)
+    by_closing r (disconnect destination source reason user) = writes_none s _ p refl (row_without IsNumberedRow r s.live p.links)
+    by_closing r (request c) = p
+    by_closing r (confirm destination c) = p
+    by_closing r (data0 end user) = p
+    by_closing r (data2 destination number end user) = p
+    by_closing r (acknowledge credit destination number) = p
+    by_closing r (error destination cause) = p
+
+    by_connection : (r : ℕ) (at : Option Connection) (unit : Value) → ((x : Connection) → at ≡ Some x → IsNumberedRow x) →
+        CanBeRead octets (to_connection r at unit s)
+    by_connection r None unit here = by_unknown unit
+    by_connection r (Some asked) unit here = by_asked r unit
+    by_connection r (Some (linked peer link)) unit here = by_linked r peer link unit (here (linked peer link) refl)
+    by_connection r (Some (closing peer)) unit here = by_closing r unit
+
+    by_reference : (r : ℕ) (unit : Value) → CanBeRead octets (to_reference r unit s)
+    by_reference r unit = by_connection r (value_at r s.live) unit (λ x e. row_at IsNumberedRow r x s.live p.links e)
+
+    ended : (reason : EndReason) → CanBeRead octets (states.ends reason s)
+    ended reason = writes_none s _ p refl tt
+
+    by_before : (is_caller : Bool) (unit : Value) → HasFieldsInRange unit → CanBeRead octets (before_class is_caller unit s)
+    by_before true (confirm destination c) range = by_reference destination (confirm destination c)
+    by_before true (disconnect destination source reason user) range =
+        by_reference destination (disconnect destination source reason user)
+    by_before true (error destination cause) range = by_reference destination (error destination cause)
+    by_before false (request c) range = by_request c (has_peer c.source s.live) (is_full s) range
+    by_before is_caller unit range = writes_none s _ p refl tt
+
+    by_only : (rows : Rows Connection) (unit : Value) → AreNumbered rows → CanBeRead octets (to_only rows unit s)
+    by_only [] unit all = p
+    by_only ((r, connection) ∷ rows) unit all =
+        by_connection r (Some connection) unit (λ x e. let same : connection ≡ x = cc in subst IsNumberedRow same all.0)
+
+    by_zero : (is_caller : Bool) (unit : Value) → CanBeRead octets (in_zero is_caller unit s)
+    by_zero true (request c) = writes_none s _ p refl tt
+    by_zero is_caller unit = by_only s.live unit p.links
+
+    by_two : (is_caller : Bool) (unit : Value) → HasFieldsInRange unit → CanBeRead octets (in_two is_caller unit s)
+    by_two true (request c) range = writes_none s _ p refl tt
+    by_two false (request c) range = by_request c (has_peer c.source s.live) (is_full s) range
+    by_two is_caller (data0 end user) range = writes_none s _ p refl tt
+    by_two is_caller unit range = by_reference (connection_by (Some Two) unit s) unit
+
+    by_class : (held : Option Class) (unit : Value) → HasFieldsInRange unit → CanBeRead octets (in_class held unit s)
+    by_class None unit range = by_before s.is_caller unit range
+    by_class (Some Zero) unit range = by_zero s.is_caller unit
+    by_class (Some Two) unit range = by_two s.is_caller unit range
+
+    by_end : (over : Bool) (unit : Value) → HasFieldsInRange unit → CanBeRead octets (react_by over unit s)
+    by_end true unit range = p
+    by_end false unit range = by_class s.class unit range
+
+    unit_reacts : (unit : Value) → HasFieldsInRange unit → CanBeRead octets (react unit s)
+    unfolding react
+    unit_reacts unit range = by_end (is_some s.ended) unit range
+
+    -- ---- what a session sends, and a request
+
+    sent_by : (r : ℕ) (tsdu : List ℕ) (over : Bool) (at : Option Connection) → ((x : Connection) → at ≡ Some x → IsNumberedRow x) →
+        CanBeRead octets (sent_on r tsdu (if over then None else link_of at) s)
+    sent_by r tsdu true at here = p
+    sent_by r tsdu false None here = p
+    sent_by r tsdu false (Some asked) here = p
+    sent_by r tsdu false (Some (linked peer link)) here =
+        pumps_so r peer (with_tsdu link tsdu) (pumps r peer (with_tsdu link tsdu) s) (here (linked peer link) refl) refl refl
+    sent_by r tsdu false (Some (closing peer)) here = p
+
+    closes_by : (r peer : ℕ) (held : Option Class) → CanBeRead octets (closes r peer 128 held s)
+    closes_by r peer (Some Zero) = writes_none s _ p refl tt
+    closes_by r peer (Some Two) =
+        writes_more s _ (disconnect peer r 128 [] ∷ []) p (tt, tt) refl (row_put IsNumberedRow r (closing peer) s.live p.links tt)
+    closes_by r peer None =
+        writes_more s _ (disconnect peer r 128 [] ∷ []) p (tt, tt) refl (row_put IsNumberedRow r (closing peer) s.live p.links tt)
+
+    closed_by : (r : ℕ) (over : Bool) (at : Option Connection) → CanBeRead octets (closed_on r 128 (if over then None else link_of at) s)
+    closed_by r true at = p
+    closed_by r false None = p
+    closed_by r false (Some asked) = p
+    closed_by r false (Some (linked peer link)) = closes_by r peer s.class
+    closed_by r false (Some (closing peer)) = p
+
+    asks_so : (calling called : Option Tsap) → CanBeRead octets (asks (option_map tsap_octets calling) (option_map tsap_octets called) s)
+    asks_so calling called =
+        writes_more s _
+        (request (proposal s.local s.class (option_map tsap_octets calling) (option_map tsap_octets called) (s.given + 1)) ∷ [])
+        p (cr_by (proposes_two s.local) s.local s.class calling called (s.given + 1), tt) refl
+        (row_more IsNumberedRow (s.given + 1) asked s.live p.links tt)
+
+  -- ---- packets
+
+  all_react : (units : List Value) (c : Carrier) → AllByRecursion Fits units → CanBeRead octets c → CanBeRead octets (reacts units c)
+  all_react [] c fits p = p
+  all_react (v ∷ units) c fits p = all_react units (react v c) fits.1 (unit_reacts c p v fits.0.in_range)
+
+  acts_so : (u : List ℕ) (units : Result (List Value) TpduFault) (c : Carrier) → units_of u ≡ units → IsOctets u → CanBeRead octets c →
+      CanBeRead octets (carriers.acts_by units c)
+  acts_so u (Err fault) c e are p = ended c p _
+  acts_so u (Ok units) c e are p = all_react units c (units_fit units u (units_found u units are e)) p
+
+  packet_so : (u : List ℕ) (c : Carrier) → IsOctets u → CanBeRead octets c → CanBeRead octets (carriers.after_packet c u)
+  unfolding carriers.after_packet
+  packet_so u c are p = acts_so u (units_of u) c refl are p
+
+  front_fits : (some others : List Value) → AllByRecursion Fits (some ++ others) → AllByRecursion Fits some
+  front_fits [] others all = tt
+  front_fits (v ∷ some) others all = (all.0, front_fits some others all.1)
+
+  shortage_so : (u : List ℕ) (c d : Carrier) → IsOctets u → CanBeRead octets c → carriers.Starves c u d → CanBeRead octets d
+  shortage_so u c d are p (units, e, out) =
+      let all = subst (λ (l : List Value). AllByRecursion Fits l) out.all (units_fit units u (units_found u units are e)) in
+      let done = all_react out.done c (front_fits out.done (out.next ∷ out.more) all) p in
+      subst (CanBeRead octets) (sym out.ended) (ended (reacts out.done c) done NoMemory)
+
+  carries_so : Carries (CanBeRead octets)
+  carries_so = record {
+    sends = λ r tsdu c p. sent_by c p r tsdu (is_some c.ended) (value_at r c.live) (λ x e. row_at IsNumberedRow r x c.live p.links e);
+    closes = λ r c p. closed_by c p r (is_some c.ended) (value_at r c.live);
+  }
+
+  read_tracked : IsTracked (λ us. CanBeRead octets)
+  read_tracked = record {
+    packet = λ us u c are p. packet_so u c are p;
+    shortage = λ us u c d are p short. shortage_so u c d are p short;
+    carries = λ us. carries_so;
+    untold = λ us events c p. writes_none c _ p refl p.links;
+    ends_so = λ us reason c p. ended c p reason;
+  }
+
+-- ---- a run
+
+pub record ArePutToRead (put : List ℕ) : Type 0 where
+  pub units : List Value
+  pub is : put ≡ packets units
+  pub written : AllByRecursion CanBeWritten units
+
+none_yet : (c : Carrier) → AreNumbered c.live → CanBeRead c.outgoing c
+none_yet c links = record { units = []; is = sym (append-nil c.outgoing); written = tt; links = links }
+
+put_to_read : AllProper → (turns : List Turn) (old new : Holding) → AreNumbered old.end.carrier.live → Run old turns new →
+    ArePutToRead (put_along turns)
+put_to_read proper [] old new links run = record { units = []; is = refl; written = tt }
+put_to_read proper (turn ∷ turns) old new links run =
+    let t = turn_tracked (λ us. CanBeRead old.end.carrier.outgoing) (read_tracked old.end.carrier.outgoing) proper []
+    (λ calling called c allowed p. asks_so old.end.carrier.outgoing c p calling called) turn old run.0
+    (none_yet old.end.carrier links) run.1 in
+    let there = subst AreNumbered (sym (ap (λ (c : Carrier). c.live) t.same)) t.holds.links in
+    let more = put_to_read proper turns run.0 new there run.2 in
+    let one : turn.put ≡ packets t.holds.units =
+    append_cancel_left old.end.carrier.outgoing turn.put (packets t.holds.units) (sym t.outgoing ∙ t.holds.is) in
+    record {
+      units = t.holds.units ++ more.units;
+      is = (λ i. one i ++ more.is i) ∙ sym (packets_joined t.holds.units more.units);
+      written = all_more t.holds.units more.units t.holds.written more.written;
+    }
+
+pub run_to_read : AllProper → (is_caller : Bool) (local : Local) (begin end : Holding) (turns : List Turn) → IsFresh is_caller local begin →
+    Run begin turns end → ArePutToRead (put_along turns)
+run_to_read proper is_caller local begin end turns fresh run =
+    put_to_read proper turns begin end (subst (λ (e : End). AreNumbered e.carrier.live) (sym fresh.end) tt) run
+
+-- ---- what is shown of it
+
+-- the first of packets with such units, if their numbers are octets
+pub all_one_unit : (vs : List Value) (us back : List (List ℕ)) → map written vs ≡ us ++ back → AllByRecursion CanBeWritten vs →
+    AllByRecursion IsOctets us → AllByRecursion HasOneUnit us
+all_one_unit vs [] back is can octets = tt
+all_one_unit [] (u ∷ us) back is can octets = absurd (cc)
+all_one_unit (v ∷ vs) (u ∷ us) back is can octets =
+    let same : written v ≡ u = cc in
+    let rest : map written vs ≡ us ++ back = cc in
+    ((v, ap units_of (sym same) ∙ read_again v can.0 (subst IsOctets (sym same) octets.0)), all_one_unit vs us back rest can.1 octets.1)
+
+pub shown_units : AllProper → (d : Direction) (is_caller : Bool) (local : Local) (begin end : Holding) (turns : List Turn)
+    (capture : Capture) (units : List (List ℕ)) (ending : Ending) → IsFresh is_caller local begin → Run begin turns end →
+    IsSeen d turns capture → Cuts (stream d capture) units ending → AllByRecursion HasOneUnit units
+shown_units proper d is_caller local begin end turns capture units ending fresh run seen cut =
+    let all = run_to_read proper is_caller local begin end turns fresh run in
+    let shown = shown_packets units all.units (stream d capture) cut.0 seen.own.0 cut.1 (seen.own.1 ∙ all.is) in
+    all_one_unit all.units units shown.0 shown.1 all.written (all_octets units (stream d capture) cut.0 cut.1)

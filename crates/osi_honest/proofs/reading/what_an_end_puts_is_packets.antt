@@ -1,0 +1,178 @@
+-- Whatever arrives, whatever its user calls and however much memory there is, an end puts packets, whole and in order; so the
+-- judge reads of any prefix of them packets, and then perhaps the beginning of one.
+-- For the law that an end puts packets.
+use Rattle.std.proofs.Common.{◌≡◌, ◌∙◌, refl, sym, ap, subst, ℕ, suc, ◌+◌, ◌*◌, ◌/◌, ◌%◌, ◌<◌, ◌≤◌, Bool, true, false, if◌then◌else◌}
+use Rattle.std.proofs.Common.{List, [], ◌∷◌, ◌++◌, length, is_some, option_map, append_assoc, arith}
+use Rattle.std.proofs.lemmas.List.{append-nil, append_cancel_left, length-append}
+use Rattle.osi_tpkt.specs.Packet.{IsBadLength, IsBadVersion, IsFaultOf}
+use Rattle.osi_tpkt.specs.Stream.{ArePackets, Cuts, Ending}
+use Rattle.osi_tpkt.specs.Stream.Ending.{Faulty, Rest}
+use Rattle.osi_tpkt.specs.declared.faults.TpktFault.{TpktFault}
+use Rattle.osi_tpkt.specs.declared.faults.TpktFault.TheVariants.{BadLength, BadVersion, OutOfMemory}
+use Rattle.osi_tpdu.specs.Limits.{tsap_octets}
+use Rattle.osi_tpdu.specs.Value.{Value, acknowledge, confirm, data0, data2, disconnect, disconnected, error, request, user_data}
+use Rattle.osi_tpdu.specs.Writing.{written, written_header}
+use Rattle.osi_carrier.specs.Negotiation.{proposal}
+use Rattle.osi_carrier.specs.State.{State as Carrier, packets}
+use Rattle.osi_carrier.specs.declared.ends.EndReason.TheVariants.{Broken}
+use Rattle.osi_session.specs.Listening.{called}
+use Rattle.osi_stack.specs.Hearing.{ends}
+use Rattle.osi_stack.specs.Rounds.{UserCall, user_does}
+use Rattle.osi_stack.specs.Rounds.UserCall.{breaking, calling, connecting, disconnecting}
+use Rattle.osi_stack.specs.Runs.{Call, Calls, carried_in}
+use Rattle.osi_stack.specs.Runs.Call.{carrying, feeding, telling}
+use Rattle.osi_stack.specs.State.{End, Holding}
+use Rattle.osi_stack.proofs.given_up.the_invariant_stays.{disconnect_carrier}
+use Rattle.osi_stack.proofs.carried.what_each_step_preserves.{session_carried}
+use Rattle.osi_judge.specs.declared.directions.Direction.{Direction}
+use Rattle.osi_judge.specs.Captures.{Capture, stream}
+use Rattle.osi_honest.specs.Seeing.{EndsWithin, IsSeen, put_along}
+use Rattle.osi_honest.specs.Turns.{Act, Acts, Run, Takes, Turn, carried_by}
+use Rattle.osi_honest.specs.Turns.Act.{serving, using}
+use Rattle.osi_honest.proofs.reading.two_readings_of_a_stream_agree.{no_packet_in, packet_again}
+use Rattle.osi_honest.proofs.keeping.what_a_unit_keeps_a_turn_keeps.{IsKept, kept_feeds}
+use Rattle.osi_honest.proofs.class_0.what_class_0_writes_of_a_tsdu.{packets_joined}
+use Rattle.osi_honest.proofs.keeping.what_was_put_stays_in_front.{out_kept}
+
+-- ---- what is put in a turn
+
+-- after these octets stand packets with these units
+pub record PacketsAfter (octets out : List ℕ) : Type 0 where
+  pub units : List Value
+  pub is : out ≡ octets ++ packets units
+
+packets_on : (octets out : List ℕ) (units : List Value) → PacketsAfter octets out → PacketsAfter octets (out ++ packets units)
+packets_on octets out units p = record {
+  units = p.units ++ units;
+  is = ap (λ (x : List ℕ). x ++ packets units) p.is ∙ append_assoc octets (packets p.units) (packets units)
+      ∙ ap (λ (x : List ℕ). octets ++ x) (sym (packets_joined p.units units));
+}
+
+kept : (octets : List ℕ) → IsKept (λ c. PacketsAfter octets c.outgoing)
+kept octets = out_kept (PacketsAfter octets) (packets_on octets)
+
+none_yet : (octets : List ℕ) → PacketsAfter octets octets
+none_yet octets = record { units = []; is = sym (append-nil octets) }
+
+ended_by_break : (octets : List ℕ) (b : Bool) (e : End) → PacketsAfter octets e.carrier.outgoing →
+    PacketsAfter octets (if b then e else ends Broken e).carrier.outgoing
+ended_by_break octets true e p = p
+ended_by_break octets false e p = (kept octets).ends_so Broken e.carrier p
+
+user_packets : (call : UserCall) (e : End) → PacketsAfter e.carrier.outgoing (user_does call e).carrier.outgoing
+user_packets (connecting c) e = record {
+  units = request (proposal e.carrier.local e.carrier.class (option_map tsap_octets c.calling_tsap)
+      (option_map tsap_octets c.called_tsap) (e.carrier.given + 1)) ∷ [];
+  is = refl;
+}
+user_packets (calling r call) e =
+    session_carried (λ c. PacketsAfter e.carrier.outgoing c.outgoing) (kept e.carrier.outgoing).carries r (called call) e
+    (none_yet e.carrier.outgoing)
+user_packets (disconnecting r) e =
+    subst (λ (c : Carrier). PacketsAfter e.carrier.outgoing c.outgoing) (sym (disconnect_carrier r e))
+    ((kept e.carrier.outgoing).carries.closes r e.carrier (none_yet e.carrier.outgoing))
+user_packets breaking e = ended_by_break e.carrier.outgoing (is_some e.carrier.ended) e (none_yet e.carrier.outgoing)
+
+-- packets with some units
+pub record ArePut (put : List ℕ) : Type 0 where
+  pub units : List Value
+  pub is : put ≡ packets units
+
+as_put : (put : List ℕ) (old new : Holding) → new.end.carrier.outgoing ≡ old.end.carrier.outgoing ++ put →
+    PacketsAfter old.end.carrier.outgoing new.end.carrier.outgoing → ArePut put
+as_put put old new is p = record {
+  units = p.units;
+  is = append_cancel_left old.end.carrier.outgoing put (packets p.units) (sym is ∙ p.is);
+}
+
+call_puts : (call : Call) (put : List ℕ) (old new : Holding) → Calls old call new →
+    carried_in call ++ new.end.carrier.outgoing ≡ old.end.carrier.outgoing ++ put → ArePut put
+call_puts (feeding piece fed) put old new c is =
+    as_put put old new is
+    (kept_feeds (λ c. PacketsAfter old.end.carrier.outgoing c.outgoing) (kept old.end.carrier.outgoing) piece fed old new
+    (none_yet old.end.carrier.outgoing) c)
+call_puts (telling shown) put old new c is =
+    as_put put old new is
+    (subst (λ (x : Holding). PacketsAfter old.end.carrier.outgoing x.end.carrier.outgoing) (sym c.1) (none_yet old.end.carrier.outgoing))
+call_puts (carrying octets) put old new c is = record {
+  units = [];
+  is = append_cancel_left old.end.carrier.outgoing put []
+      (sym is ∙ sym (ap (λ (x : Holding). x.end.carrier.outgoing) c) ∙ sym (append-nil old.end.carrier.outgoing));
+}
+
+turn_puts : (turn : Turn) (old new : Holding) → Takes old turn new → ArePut turn.put
+turn_puts turn old new takes = by takes.act takes.acts takes.put
+  where
+    by : (act : Act) → Acts old act new → carried_by act ++ new.end.carrier.outgoing ≡ old.end.carrier.outgoing ++ turn.put →
+        ArePut turn.put
+    by (serving call) acts put = call_puts call turn.put old new acts put
+    by (using call) acts put =
+        as_put turn.put old new put
+        (subst (λ (x : Holding). PacketsAfter old.end.carrier.outgoing x.end.carrier.outgoing) (sym acts.3) (user_packets call old.end))
+
+pub run_puts : (turns : List Turn) (old new : Holding) → Run old turns new → ArePut (put_along turns)
+run_puts [] old new run = record { units = []; is = refl }
+run_puts (turn ∷ turns) old new run =
+    let one = turn_puts turn old run.0 run.1 in
+    let more = run_puts turns run.0 new run.2 in
+    record { units = one.units ++ more.units; is = (λ i. one.is i ++ more.is i) ∙ sym (packets_joined one.units more.units) }
+
+-- ---- a prefix of packets
+
+left_packets : (us : List (List ℕ)) (vs : List Value) (s r later : List ℕ) → ArePackets us s r → s ++ later ≡ packets vs →
+    (back : List Value) × (r ++ later ≡ packets back)
+left_packets [] vs s r later h e = (vs, ap (λ (x : List ℕ). x ++ later) (sym h) ∙ e)
+left_packets (u ∷ us) [] s r later (b, t, p, is, h) e =
+    absurd (no_packet_in u b (t ++ later) p (sym (append_assoc b t later) ∙ ap (λ (x : List ℕ). x ++ later) (sym is) ∙ e))
+left_packets (u ∷ us) (v ∷ vs) s r later (b, t, p, is, h) e =
+    left_packets us vs t r later h (packet_again u (written v) b (t ++ later) (packets vs) p
+    (sym (append_assoc b t later) ∙ ap (λ (x : List ℕ). x ++ later) (sym is) ∙ e)).1
+
+some_header : (v : Value) → 2 ≤ length (written_header v)
+some_header (request c) = omega arith
+some_header (confirm destination c) = omega arith
+some_header (disconnect destination source reason user) = omega arith
+some_header (disconnected destination source) = omega arith
+some_header (data0 last octets) = omega arith
+some_header (data2 destination number last octets) = omega arith
+some_header (acknowledge credit destination number) = omega arith
+some_header (error destination cause) = omega arith
+
+some_octets : (v : Value) → 3 ≤ length (written v)
+some_octets v =
+    let header = some_header v in
+    let whole : length (written v) ≡ suc (length (written_header v ++ user_data v)) = refl in
+    let sum = length-append (written_header v) (user_data v) in
+    omega arith
+
+never_less : (n high low : ℕ) → 3 ≤ n → high ≡ (n + 4) / 256 → low ≡ (n + 4) % 256 → 256 * high + low < 7 → ⊥
+never_less n high low some h l few = omega arith
+
+version_right : (r later : List ℕ) (vs : List Value) → r ++ later ≡ packets vs → IsBadVersion r → ⊥
+version_right [] later vs e bad = let some = bad.0 in absurd (omega arith)
+version_right (a ∷ r) later [] e bad = cc
+version_right (a ∷ r) later (v ∷ vs) e bad = let three : a ≡ 3 = cc in bad.1 three
+
+length_right : (r later : List ℕ) (vs : List Value) → r ++ later ≡ packets vs → IsBadLength r → ⊥
+length_right (a ∷ b ∷ c ∷ d ∷ r) later (v ∷ vs) e bad =
+    let high : c ≡ (length (written v) + 4) / 256 = cc in
+    let low : d ≡ (length (written v) + 4) % 256 = cc in
+    never_less (length (written v)) c d (some_octets v) high low bad.2
+length_right (a ∷ b ∷ c ∷ d ∷ r) later [] e bad = cc
+length_right [] later vs e bad = let long : 4 ≤ 0 = bad.0 in absurd (omega arith)
+length_right (a ∷ []) later vs e bad = let long : 4 ≤ 1 = bad.0 in absurd (omega arith)
+length_right (a ∷ b ∷ []) later vs e bad = let long : 4 ≤ 2 = bad.0 in absurd (omega arith)
+length_right (a ∷ b ∷ c ∷ []) later vs e bad = let long : 4 ≤ 3 = bad.0 in absurd (omega arith)
+
+no_fault : (at : ℕ) (r later : List ℕ) (vs : List Value) (fault : TpktFault) → r ++ later ≡ packets vs → IsFaultOf at r fault → ⊥
+no_fault at r later vs (BadVersion offset) e bad = version_right r later vs e bad.0
+no_fault at r later vs (BadLength offset) e bad = length_right r later vs e bad.0
+no_fault at r later vs OutOfMemory e bad = bad
+
+pub shown_ends_within : (d : Direction) (capture : Capture) (begin end : Holding) (turns : List Turn) (units : List (List ℕ))
+    (ending : Ending) → Run begin turns end → IsSeen d turns capture → Cuts (stream d capture) units ending → EndsWithin ending
+shown_ends_within d capture begin end turns units (Rest n) run seen cut = tt
+shown_ends_within d capture begin end turns units (Faulty fault) run seen cut =
+    let put = run_puts turns begin end run in
+    let left = left_packets units put.units (stream d capture) cut.0 seen.own.0 cut.1 (seen.own.1 ∙ put.is) in
+    no_fault _ cut.0 seen.own.0 left.0 fault left.1 cut.2

@@ -1,0 +1,174 @@
+-- A unit in whose written form each number is an octet is read again as this unit, if the few numbers that share an octet are
+-- in range: credit, class and options, and the numbers of class 2.
+-- For what the transport of an end puts.
+use Rattle.std.proofs.Common.{◌≡◌, sym, subst, ℕ, ◌+◌, ◌/◌, ◌<◌, ◌≤◌, List, [], ◌∷◌, ◌++◌, length, Option, Some, None, Ok, arith}
+use Rattle.std.specs.Prelude.{IfSome}
+use Rattle.std.specs.List.{flat_map}
+use Rattle.std.proofs.lemmas.List.{length-append}
+use Rattle.std.proofs.lemmas.List.Concat.{flat_map-append}
+use Rattle.osi_tpkt.specs.Octets.{IsOctets}
+use Rattle.osi_tpkt.proofs.lists_of_octets_stay_octets.{octets_left, octets_nil, octets_right}
+use Rattle.osi_tpdu.specs.Packet.{units_of}
+use Rattle.osi_tpdu.specs.Spelling.{Item, connect_part, item_octets, single}
+use Rattle.osi_tpdu.specs.Value.{AreParameters, Connect, HasFieldsInRange, IsConnect, Value, acknowledge, confirm, data0, data2}
+use Rattle.osi_tpdu.specs.Value.{disconnect, disconnected, error, request}
+use Rattle.osi_tpdu.specs.Writing.{HasRoom, items_of, written, written_items}
+use Rattle.osi_tpdu.proofs.the_units_of_a_packet.{units_only}
+use Rattle.osi_tpdu.proofs.the_written_form_spells_its_value.{written_spells}
+
+-- ---- what is in range
+
+-- a CR or CC as an end writes it, apart from its reference and the octets of its selectors
+pub record IsPlain (c : Connect) : Type 0 where
+  pub credit : c.credit < 16
+  pub class : c.class < 16
+  pub options : c.options < 16
+  pub size : IfSome c.parameters.size (λ code. (7 ≤ code) × (code ≤ 13))
+  pub calling : IfSome c.parameters.calling (λ s. length s ≤ 32)
+  pub called : IfSome c.parameters.called (λ s. length s ≤ 32)
+  pub additional : IfSome c.parameters.additional (λ n. n < 256)
+  pub alternative : IfSome c.parameters.alternative (λ s. length s ≤ 1)
+  pub user : c.user ≡ []
+
+-- no ER is written
+abbrev pub CanBeWritten : Value → Type 0
+CanBeWritten (request c) = IsPlain c
+CanBeWritten (confirm destination c) = IsPlain c
+CanBeWritten (disconnect destination source reason user) = Unit {0}
+CanBeWritten (disconnected destination source) = Unit {0}
+CanBeWritten (data0 end user) = Unit {0}
+CanBeWritten (data2 destination number end user) = number < 128
+CanBeWritten (acknowledge credit destination number) = (credit < 16) × (number < 128)
+CanBeWritten (error destination cause) = ⊥
+
+-- ---- the octets of parameters
+
+split : (a b : List Item) → IsOctets (flat_map item_octets (a ++ b)) → IsOctets (flat_map item_octets a) × IsOctets (flat_map item_octets b)
+split a b h =
+    let both = subst IsOctets (flat_map-append item_octets a b) h in (
+      octets_left (flat_map item_octets a) (flat_map item_octets b) both,
+      octets_right (flat_map item_octets a) (flat_map item_octets b) both,
+    )
+
+value_octets : (code : ℕ) (s : List ℕ) → IsOctets (flat_map item_octets (items_of code (Some s))) → IsOctets s
+value_octets code s h = octets_left s [] (octets_right (code ∷ length s ∷ []) (s ++ []) h)
+
+selector_is : (code : ℕ) (o : Option (List ℕ)) → IfSome o (λ s. length s ≤ 32) → IsOctets (flat_map item_octets (items_of code o)) →
+    IfSome o (λ s. (length s ≤ 32) × IsOctets s)
+selector_is code None few h = tt
+selector_is code (Some s) few h = (few, value_octets code s h)
+
+classes_are : (code : ℕ) (o : Option (List ℕ)) → IsOctets (flat_map item_octets (items_of code o)) → IfSome o IsOctets
+classes_are code None h = tt
+classes_are code (Some s) h = value_octets code s h
+
+parameters_are : (c : Connect) → IsPlain c → IsOctets (flat_map item_octets (written_items c.parameters)) → AreParameters c.parameters
+parameters_are c plain h =
+    let p = c.parameters in
+    let w = items_of 0xC6 (single p.additional) ++ items_of 0xC7 p.alternative in
+    let x = items_of 0xC2 p.called ++ w in
+    let y = items_of 0xC1 p.calling ++ x in
+    let one = split (items_of 0xC0 (single p.size)) y h in
+    let two = split (items_of 0xC1 p.calling) x one.1 in
+    let three = split (items_of 0xC2 p.called) w two.1 in
+    let four = split (items_of 0xC6 (single p.additional)) (items_of 0xC7 p.alternative) three.1 in
+    record {
+      size = plain.size;
+      calling = selector_is 0xC1 p.calling plain.calling two.0;
+      called = selector_is 0xC2 p.called plain.called three.0;
+      additional = plain.additional;
+      alternative = classes_are 0xC7 p.alternative four.1;
+    }
+
+-- ---- the length of parameters
+
+slot_most : (code : ℕ) (o : Option (List ℕ)) (n : ℕ) → IfSome o (λ s. length s ≤ n) →
+    length (flat_map item_octets (items_of code o)) ≤ 2 + n
+slot_most code None n h = omega arith
+slot_most code (Some s) n h = omega (arith, length-append s [])
+
+single_most : (code : ℕ) (o : Option ℕ) → length (flat_map item_octets (items_of code (single o))) ≤ 3
+single_most code None = omega arith
+single_most code (Some n) = omega arith
+
+items_join : (a b : List Item) → length (flat_map item_octets (a ++ b)) ≡ length (flat_map item_octets a) + length (flat_map item_octets b)
+items_join a b =
+    subst (λ (l : List ℕ). length l ≡ length (flat_map item_octets a) + length (flat_map item_octets b))
+    (sym (flat_map-append item_octets a b))
+    (length-append (flat_map item_octets a) (flat_map item_octets b))
+
+items_most : (c : Connect) → IsPlain c → length (flat_map item_octets (written_items c.parameters)) ≤ 77
+items_most c plain =
+    let p = c.parameters in
+    let a = single_most 0xC0 p.size in
+    let b = slot_most 0xC1 p.calling 32 plain.calling in
+    let d = slot_most 0xC2 p.called 32 plain.called in
+    let e = single_most 0xC6 p.additional in
+    let f = slot_most 0xC7 p.alternative 1 plain.alternative in
+    let w = items_of 0xC6 (single p.additional) ++ items_of 0xC7 p.alternative in
+    let x = items_of 0xC2 p.called ++ w in
+    let y = items_of 0xC1 p.calling ++ x in
+    let i = items_join (items_of 0xC0 (single p.size)) y in
+    let j = items_join (items_of 0xC1 p.calling) x in
+    let k = items_join (items_of 0xC2 p.called) w in
+    let l = items_join (items_of 0xC6 (single p.additional)) (items_of 0xC7 p.alternative) in
+    omega arith
+
+-- ---- CR and CC
+
+connect_is : (code destination counted : ℕ) (c : Connect) → IsPlain c →
+    IsOctets (counted ∷ (connect_part code destination c ++ flat_map item_octets (written_items c.parameters)) ++ c.user) → IsConnect c
+connect_is code destination counted c plain octets =
+    let high : c.source / 256 < 256 = octets 4 in
+    let header = octets_left (connect_part code destination c ++ flat_map item_octets (written_items c.parameters)) c.user
+    (octets_right (counted ∷ [])
+    ((connect_part code destination c ++ flat_map item_octets (written_items c.parameters)) ++ c.user) octets) in
+    let items = octets_right (connect_part code destination c) (flat_map item_octets (written_items c.parameters)) header in
+    record {
+      credit = plain.credit;
+      source = omega arith;
+      class = plain.class;
+      options = plain.options;
+      parameters = parameters_are c plain items;
+      user = subst IsOctets (sym plain.user) octets_nil;
+    }
+
+-- ---- all units
+
+fields_are : (v : Value) → CanBeWritten v → IsOctets (written v) → HasFieldsInRange v
+fields_are (request c) can octets = connect_is 0xE0 0 _ c can octets
+fields_are (confirm destination c) can octets =
+    let high : destination / 256 < 256 = octets 2 in
+    (omega arith, connect_is 0xD0 destination _ c can octets)
+fields_are (disconnect destination source reason user) can octets =
+    let to : destination / 256 < 256 = octets 2 in
+    let from : source / 256 < 256 = octets 4 in
+    let why : reason < 256 = octets 6 in
+    (omega arith, omega arith, why, octets_right (_ ∷ _ ∷ _ ∷ _ ∷ _ ∷ _ ∷ _ ∷ []) user octets)
+fields_are (disconnected destination source) can octets =
+    let to : destination / 256 < 256 = octets 2 in
+    let from : source / 256 < 256 = octets 4 in
+    (omega arith, omega arith)
+fields_are (data0 end user) can octets = octets_right (_ ∷ _ ∷ _ ∷ []) user octets
+fields_are (data2 destination number end user) can octets =
+    let to : destination / 256 < 256 = octets 2 in
+    (omega arith, can, octets_right (_ ∷ _ ∷ _ ∷ _ ∷ _ ∷ []) user octets)
+fields_are (acknowledge credit destination number) can octets =
+    let to : destination / 256 < 256 = octets 2 in
+    (can.0, omega arith, can.1)
+fields_are (error destination cause) can octets = absurd can
+
+has_room : (v : Value) → CanBeWritten v → HasRoom v
+has_room (request c) can = let most = items_most c can in omega arith
+has_room (confirm destination c) can = let most = items_most c can in omega arith
+has_room (disconnect destination source reason user) can = omega arith
+has_room (disconnected destination source) can = omega arith
+has_room (data0 end user) can = omega arith
+has_room (data2 destination number end user) can = omega arith
+has_room (acknowledge credit destination number) can = omega arith
+has_room (error destination cause) can = absurd can
+
+pub read_again : (v : Value) → CanBeWritten v → IsOctets (written v) → units_of (written v) ≡ Ok (v ∷ [])
+read_again v can octets =
+    units_only (written v) (v ∷ [])
+    (written_spells v (record { in_range = fields_are v can octets; counted = has_room v can }))

@@ -1,0 +1,138 @@
+-- If the judge blames neither the session nor the transport of an end in any capture of it, it never says that this side broke the
+-- protocol first.
+-- For the laws that an end is never blamed.
+use Rattle.std.proofs.Common.{◌≡◌, ◌∙◌, refl, sym, ap, subst, ℕ, zero, suc, ◌+◌, ◌<◌, ◌≤◌, ◌||◌, Bool, true, false, List, [], ◌∷◌, ◌++◌}
+use Rattle.std.proofs.Common.{length, Option, Some, None, option_map, append_assoc, arith}
+use Rattle.std.proofs.lemmas.List.{length-append}
+use Rattle.std.proofs.lemmas.List.Concat.{flat_map-append}
+use Rattle.osi_tpkt.specs.Stream.{Ending, offset_of}
+use Rattle.osi_tpkt.specs.Stream.Ending.{Faulty, Rest}
+use Rattle.osi_judge.specs.declared.directions.Direction.{Direction}
+use Rattle.osi_judge.specs.declared.directions.Direction.TheVariants.{Left, Right}
+use Rattle.osi_judge.specs.declared.findings.Finding.{Finding}
+use Rattle.osi_judge.specs.declared.stops.Stopped.{Stopped}
+use Rattle.osi_judge.specs.Captures.{Capture, of, other, own, passed_before, stream}
+use Rattle.osi_judge.specs.Stops.{breaks, broke_session}
+use Rattle.osi_judge.specs.Tapping.{FirstBreak, IsFirstIn, IsFoundIn, IsStoppedIn, StandsIn, or_hasty, stop_in}
+use Rattle.osi_judge.specs.Transport.{Stage, asking, between, met_before, opening, refused, stage_from, stopped, within}
+use Rattle.osi_class.specs.declared.terms.Local.{Local}
+use Rattle.osi_stack.specs.State.{Holding}
+use Rattle.osi_honest.specs.Seeing.{EndsWithin, IsFresh, IsPrefix, IsSeen, PassAfter, put_along}
+use Rattle.osi_honest.specs.Turns.{Run, Turn}
+use Rattle.osi_honest.proofs.transport.when_the_judge_blames_no_transport.{IsClear, IsInnocent}
+
+-- ---- the transport
+
+stop_by : (stage : Stage) (ending : Ending) → IsInnocent stage → EndsWithin ending → breaks (stop_in stage ending) ≡ false
+stop_by (stopped stop at) ending innocent ends = innocent
+stop_by (refused at) ending innocent ends = refl
+stop_by opening (Rest n) innocent ends = refl
+stop_by asking (Rest n) innocent ends = refl
+stop_by between (Rest n) innocent ends = refl
+stop_by (within first octets) (Rest n) innocent ends = refl
+stop_by opening (Faulty fault) innocent ends = absurd ends
+stop_by asking (Faulty fault) innocent ends = absurd ends
+stop_by between (Faulty fault) innocent ends = absurd ends
+stop_by (within first octets) (Faulty fault) innocent ends = absurd ends
+
+-- no break is found in its packets, and it puts packets
+pub clear_stop : (d : Direction) (capture : Capture) (stop : Option Stopped) (s : IsStoppedIn d capture stop) →
+    IsClear d (met_before d capture s.others) opening 0 s.units → EndsWithin s.ending → breaks stop ≡ false
+clear_stop d capture stop s clear ends =
+    ap breaks s.stops
+    ∙ ap (λ (x : Option ℕ). breaks (or_hasty (option_map offset_of x)
+    (stop_in (stage_from d (met_before d capture s.others) opening 0 s.units) s.ending))) clear.calm
+    ∙ stop_by (stage_from d (met_before d capture s.others) opening 0 s.units) s.ending clear.stands ends
+
+-- ---- a front of a capture
+
+stream_parts : (d : Direction) (front back : Capture) → stream d (front ++ back) ≡ stream d front ++ stream d back
+stream_parts d front back = flat_map-append (own d) front back
+
+same_before : (d : Direction) (front back : Capture) (k : ℕ) → k < length (stream d front) →
+    passed_before d (front ++ back) k ≡ passed_before d front k
+same_before d [] back k below = absurd (let none : k < 0 = below in omega arith)
+same_before Left (of Left octet ∷ front) back zero below = refl
+same_before Left (of Left octet ∷ front) back (suc k) below = same_before Left front back k (omega arith)
+same_before Left (of Right octet ∷ front) back k below = ap (λ (n : ℕ). n + 1) (same_before Left front back k below)
+same_before Right (of Right octet ∷ front) back zero below = refl
+same_before Right (of Right octet ∷ front) back (suc k) below = same_before Right front back k (omega arith)
+same_before Right (of Left octet ∷ front) back k below = ap (λ (n : ℕ). n + 1) (same_before Right front back k below)
+
+front_after : (d : Direction) (front back : Capture) (used put : ℕ) (turns : List Turn) → PassAfter d (front ++ back) used put turns →
+    PassAfter d front used put turns
+front_after d front back used put [] after = tt
+front_after d front back used put (turn ∷ turns) after = (
+  λ k low high below.
+      let whole = ap (λ (x : List ℕ). length x) (stream_parts d front back) in
+      let sum = length-append (stream d front) (stream d back) in
+      subst (λ (n : ℕ). used + length turn.used ≤ n) (same_before d front back k below) (after.0 k low high (omega arith)),
+  front_after d front back (used + length turn.used) (put + length turn.put) turns after.1,
+)
+
+front_prefix : (d : Direction) (front back : Capture) (all : List ℕ) → IsPrefix (stream d (front ++ back)) all →
+    IsPrefix (stream d front) all
+front_prefix d front back all (later, is) = (
+  stream d back ++ later,
+  sym (append_assoc (stream d front) (stream d back) later)
+      ∙ ap (λ (x : List ℕ). x ++ later) (sym (stream_parts d front back)) ∙ is,
+)
+
+-- a front of a capture of an end is a capture of it
+pub front_seen : (d : Direction) (turns : List Turn) (front back : Capture) → IsSeen d turns (front ++ back) → IsSeen d turns front
+front_seen d turns front back seen = record {
+  own = front_prefix d front back (put_along turns) seen.own;
+  coming = seen.coming;
+  shown = front_prefix (other d) front back seen.coming seen.shown;
+  used = seen.used;
+  after = front_after d front back 0 0 turns seen.after;
+}
+
+-- ---- the side
+
+neither : (a b : Bool) → a ≡ false → b ≡ false → (a || b) ≡ false
+neither true b e f = absurd (cc)
+neither false b e f = f
+
+-- in no capture of an end is its session or its transport blamed
+pub record IsBlameless (d : Direction) (turns : List Turn) : Type 0 where
+  pub session : (capture : Capture) (finding : Finding) → IsSeen d turns capture → IsFoundIn d capture finding →
+      broke_session finding ≡ false
+  pub transport : (capture : Capture) (stop : Option Stopped) → IsSeen d turns capture → IsStoppedIn d capture stop → breaks stop ≡ false
+
+-- that this holds of each end that begins so
+abbrev pub SessionLaw : Direction → (is_caller : Bool) → Type 0
+SessionLaw d is_caller = (local : Local) (begin end : Holding) (turns : List Turn) (capture : Capture) (finding : Finding) →
+    IsFresh is_caller local begin → Run begin turns end → IsSeen d turns capture → IsFoundIn d capture finding →
+    broke_session finding ≡ false
+
+abbrev pub TransportLaw : Direction → (is_caller : Bool) → Type 0
+TransportLaw d is_caller = (local : Local) (begin end : Holding) (turns : List Turn) (capture : Capture) (stop : Option Stopped) →
+    IsFresh is_caller local begin → Run begin turns end → IsSeen d turns capture → IsStoppedIn d capture stop → breaks stop ≡ false
+
+pub blameless : (d : Direction) (is_caller : Bool) → SessionLaw d is_caller → TransportLaw d is_caller → (local : Local)
+    (begin end : Holding) (turns : List Turn) → IsFresh is_caller local begin → Run begin turns end → IsBlameless d turns
+blameless d is_caller session transport local begin end turns fresh run = record {
+  session = λ capture finding seen found. session local begin end turns capture finding fresh run seen found;
+  transport = λ capture stop seen stopped_so. transport local begin end turns capture stop fresh run seen stopped_so;
+}
+
+pub side_stands : (d : Direction) (turns : List Turn) → IsBlameless d turns → (capture : Capture) (has_broken : Bool) →
+    IsSeen d turns capture → StandsIn d capture has_broken → has_broken ≡ false
+side_stands d turns b capture has_broken seen s =
+    s.broken ∙ neither (broke_session s.finding) (breaks s.stop) (b.session capture s.finding seen s.found)
+    (b.transport capture s.stop seen s.is_stopped)
+
+pub never_first : (d : Direction) (turns : List Turn) → IsBlameless d turns → (capture : Capture) → IsSeen d turns capture →
+    FirstBreak d capture → ⊥
+never_first d turns b capture seen first =
+    let front = front_seen d turns first.front first.back (subst (IsSeen d turns) first.parts seen) in
+    let none : true ≡ false = side_stands d turns b first.front true front first.broke in
+    cc
+
+-- if neither side did so first, the judge says that neither did
+pub neither_first : (capture : Capture) → (FirstBreak Left capture → ⊥) → (FirstBreak Right capture → ⊥) → (first : Option Direction) →
+    IsFirstIn capture first → first ≡ None
+neither_first capture left right None f = refl
+neither_first capture left right (Some Left) f = absurd (left f)
+neither_first capture left right (Some Right) f = absurd (right f)

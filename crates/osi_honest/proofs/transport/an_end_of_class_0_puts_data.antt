@@ -1,0 +1,182 @@
+-- Once class 0 holds, a carrier puts nothing but DTs of class 0, whatever arrives.
+-- For what the transport of a calling end puts.
+use Rattle.std.proofs.Common.{◌≡◌, ◌∙◌, refl, sym, ap, subst, ℕ, Bool, true, false, if◌then◌else◌, List, [], ◌∷◌, ◌++◌}
+use Rattle.std.proofs.Common.{Option, Some, None, is_some, IsSome, Result, Ok, Err, inl, inr, ◌⊎◌, append_assoc}
+use Rattle.std.specs.List.{AllByRecursion}
+use Rattle.osi_tpdu.specs.Packet.{units_of}
+use Rattle.osi_tpdu.specs.Value.{Value, acknowledge, confirm, data0, data2, disconnect, disconnected, error, request}
+use Rattle.osi_tpdu.specs.declared.faults.TpduFault.{TpduFault}
+use Rattle.osi_class.specs.Link.{Standing, taken, with_tsdu}
+use Rattle.osi_class.specs.declared.faults.LinkFault.{LinkFault}
+use Rattle.osi_class.specs.declared.terms.Class.{Class}
+use Rattle.osi_class.specs.declared.terms.Class.TheVariants.{Zero}
+use Rattle.osi_carrier.specs.Calls.{closed_on, closes, link_of, open_link, sent_on}
+use Rattle.osi_carrier.specs.Happenings.{Happening}
+use Rattle.osi_carrier.specs.Packets as carriers
+use Rattle.osi_carrier.specs.Pump.{pumped, written_by}
+use Rattle.osi_carrier.specs.React.{breaks, handed_out, in_class, in_zero, leaves, pumps, react, reacts, settles, taking, to_linked}
+use Rattle.osi_carrier.specs.React.{to_only}
+use Rattle.osi_carrier.specs.Rows.{Rows, put, value_at}
+use Rattle.osi_carrier.specs.State.{Connection, State as Carrier, asked, closing, linked, packets}
+use Rattle.osi_carrier.specs.State as states
+use Rattle.osi_carrier.specs.declared.ends.EndReason.{EndReason}
+use Rattle.osi_carrier.proofs.effects.units_one_after_the_other.{react_quiet, reacts_over}
+use Rattle.osi_stack.proofs.carried.what_each_step_preserves.{Carries}
+use Rattle.osi_honest.proofs.reading.what_a_link_gives_can_be_written.{IsData, gives_data, taken_zero}
+use Rattle.osi_honest.proofs.class_0.what_class_0_writes_of_a_tsdu.{packets_joined}
+use Rattle.osi_honest.proofs.keeping.what_holds_of_each_connection_stays.{AllRows, row_at, row_put}
+
+-- ---- rows of links of class 0
+
+abbrev IsZeroRow : Connection → Type 0
+IsZeroRow asked = ⊥
+IsZeroRow (linked peer link) = link.flow ≡ None
+IsZeroRow (closing peer) = ⊥
+
+abbrev pub AreZero : Rows Connection → Type 0
+AreZero rows = AllRows IsZeroRow rows
+
+-- ---- what was put since
+
+-- after these octets stand DTs of class 0; and the carrier is over, or class 0 holds
+pub record PutsData (octets : List ℕ) (c : Carrier) : Type 0 where
+  pub units : List Value
+  pub is : c.outgoing ≡ octets ++ packets units
+  pub are_data : AllByRecursion IsData units
+  pub rest : IsSome c.ended ⊎ ((c.class ≡ Some Zero) × AreZero c.live)
+
+all_data : (some others : List Value) → AllByRecursion IsData some → AllByRecursion IsData others → AllByRecursion IsData (some ++ others)
+all_data [] others a b = b
+all_data (v ∷ some) others a b = (a.0, all_data some others a.1 b)
+
+module _ (octets : List ℕ) where
+  data_more : (c d : Carrier) (units : List Value) → PutsData octets c → AllByRecursion IsData units →
+      d.outgoing ≡ c.outgoing ++ packets units → d.class ≡ Some Zero → AreZero d.live → PutsData octets d
+  data_more c d units p are is class live = record {
+    units = p.units ++ units;
+    is = is ∙ ap (λ (x : List ℕ). x ++ packets units) p.is ∙ append_assoc octets (packets p.units) (packets units)
+        ∙ ap (λ (x : List ℕ). octets ++ x) (sym (packets_joined p.units units));
+    are_data = all_data p.units units p.are_data are;
+    rest = inr (class, live);
+  }
+
+  data_over : (c d : Carrier) → PutsData octets c → d.outgoing ≡ c.outgoing → IsSome d.ended → PutsData octets d
+  data_over c d p same over = record { units = p.units; is = same ∙ p.is; are_data = p.are_data; rest = inl over }
+
+  module _ (c : Carrier) (p : PutsData octets c) (class : c.class ≡ Some Zero) (live : AreZero c.live) where
+    pumps_data : (r peer : ℕ) (link : Standing) (d : Carrier) → link.flow ≡ None →
+        d.outgoing ≡ c.outgoing ++ packets (written_by peer link) → d.class ≡ c.class →
+        d.live ≡ put r (linked peer (pumped link)) c.live → PutsData octets d
+    pumps_data r peer link d none outgoing same rows =
+        let all = gives_data link none in
+        data_more c d (written_by peer link) p (all.0 peer) outgoing (same ∙ class)
+        (subst AreZero (sym rows) (row_put IsZeroRow r (linked peer (pumped link)) c.live live all.1))
+
+    breaks_over : (r peer : ℕ) (fault : LinkFault) → PutsData octets (breaks r peer fault c.class c)
+    breaks_over r peer fault =
+        subst (λ (x : Option Class). PutsData octets (breaks r peer fault x c)) (sym class) (data_over c _ p refl refl)
+
+    taking_data : (r peer : ℕ) (link : Standing) (unit : Value) (result : Result Standing LinkFault) → link.flow ≡ None →
+        taken link unit ≡ result → PutsData octets (taking r peer result c)
+    taking_data r peer link unit (Ok after) none e =
+        pumps_data r peer (handed_out after) (settles r peer after c) (taken_zero link after unit none e) refl refl refl
+    taking_data r peer link unit (Err fault) none e = breaks_over r peer fault
+
+    linked_data : (r peer : ℕ) (link : Standing) (unit : Value) → link.flow ≡ None → PutsData octets (to_linked r peer link unit c)
+    linked_data r peer link (disconnect destination source reason user) none =
+        subst (λ (x : Option Class). PutsData octets (leaves r peer reason x c)) (sym class) (data_over c _ p refl refl)
+    linked_data r peer link (request cr) none = taking_data r peer link (request cr) _ none refl
+    linked_data r peer link (confirm destination cr) none = taking_data r peer link (confirm destination cr) _ none refl
+    linked_data r peer link (disconnected destination source) none = taking_data r peer link (disconnected destination source) _ none refl
+    linked_data r peer link (data0 end user) none = taking_data r peer link (data0 end user) _ none refl
+    linked_data r peer link (data2 destination number end user) none =
+        taking_data r peer link (data2 destination number end user) _ none refl
+    linked_data r peer link (acknowledge credit destination number) none =
+        taking_data r peer link (acknowledge credit destination number) _ none refl
+    linked_data r peer link (error destination cause) none = taking_data r peer link (error destination cause) _ none refl
+
+    only_data : (rows : Rows Connection) (unit : Value) → AreZero rows → PutsData octets (to_only rows unit c)
+    only_data [] unit all = p
+    only_data ((r, linked peer link) ∷ rows) unit all = linked_data r peer link unit all.0
+    only_data ((r, asked) ∷ rows) unit all = absurd all.0
+    only_data ((r, closing peer) ∷ rows) unit all = absurd all.0
+
+    zero_data : (is_caller : Bool) (unit : Value) → PutsData octets (in_zero is_caller unit c)
+    zero_data true (request cr) = data_over c _ p refl refl
+    zero_data is_caller unit = only_data c.live unit live
+
+    lasting_data : c.ended ≡ None → (unit : Value) → PutsData octets (react unit c)
+    lasting_data lasts unit =
+        subst (PutsData octets) (sym (react_quiet unit c lasts ∙ ap (λ (x : Option Class). in_class x unit c) class))
+        (zero_data c.is_caller unit)
+
+    sent_data : (r : ℕ) (tsdu : List ℕ) (over : Bool) (at : Option Connection) → ((x : Connection) → at ≡ Some x → IsZeroRow x) →
+        PutsData octets (sent_on r tsdu (if over then None else link_of at) c)
+    sent_data r tsdu true at here = p
+    sent_data r tsdu false None here = p
+    sent_data r tsdu false (Some asked) here = p
+    sent_data r tsdu false (Some (linked peer link)) here =
+        pumps_data r peer (with_tsdu link tsdu) (pumps r peer (with_tsdu link tsdu) c) (here (linked peer link) refl) refl refl refl
+    sent_data r tsdu false (Some (closing peer)) here = p
+
+    closed_data : (r : ℕ) (over : Bool) (at : Option Connection) →
+        PutsData octets (closed_on r 128 (if over then None else link_of at) c)
+    closed_data r true at = p
+    closed_data r false None = p
+    closed_data r false (Some asked) = p
+    closed_data r false (Some (linked peer link)) =
+        subst (λ (x : Option Class). PutsData octets (closes r peer 128 x c)) (sym class) (data_over c _ p refl refl)
+    closed_data r false (Some (closing peer)) = p
+
+  -- ---- whatever arrives
+
+  data_reacts : (unit : Value) (c : Carrier) → PutsData octets c → PutsData octets (react unit c)
+  data_reacts unit c p = by p.rest c.ended refl
+    where
+      by : IsSome c.ended ⊎ ((c.class ≡ Some Zero) × AreZero c.live) → (o : Option EndReason) → c.ended ≡ o → PutsData octets (react unit c)
+      by (inl over) o e = subst (PutsData octets) (sym (reacts_over (unit ∷ []) c over)) p
+      by (inr (class, live)) (Some reason) e =
+          subst (PutsData octets) (sym (reacts_over (unit ∷ []) c (ap is_some e))) p
+      by (inr (class, live)) None e = lasting_data c p class live e unit
+
+  pub data_units : (units : List Value) (c : Carrier) → PutsData octets c → PutsData octets (reacts units c)
+  data_units [] c p = p
+  data_units (v ∷ units) c p = data_units units (react v c) (data_reacts v c p)
+
+  pub data_ends : (reason : EndReason) (c : Carrier) → PutsData octets c → PutsData octets (states.ends reason c)
+  data_ends reason c p = data_over c _ p refl refl
+
+  data_acts : (units : Result (List Value) TpduFault) (c : Carrier) → PutsData octets c → PutsData octets (carriers.acts_by units c)
+  data_acts (Ok units) c p = data_units units c p
+  data_acts (Err fault) c p = data_over c _ p refl refl
+
+  pub data_packet : (u : List ℕ) (c : Carrier) → PutsData octets c → PutsData octets (carriers.after_packet c u)
+  unfolding carriers.after_packet
+  data_packet u c p = data_acts (units_of u) c p
+
+  pub data_shortage : (u : List ℕ) (c d : Carrier) → PutsData octets c → carriers.Starves c u d → PutsData octets d
+  data_shortage u c d p (units, e, out) =
+      subst (PutsData octets) (sym out.ended) (data_ends _ (reacts out.done c) (data_units out.done c p))
+
+  data_sends : (r : ℕ) (tsdu : List ℕ) (c : Carrier) → PutsData octets c → PutsData octets (sent_on r tsdu (open_link r c) c)
+  data_sends r tsdu c p = by p.rest
+    where
+      by : IsSome c.ended ⊎ ((c.class ≡ Some Zero) × AreZero c.live) → PutsData octets (sent_on r tsdu (open_link r c) c)
+      by (inl over) =
+          subst (λ (b : Bool). PutsData octets (sent_on r tsdu (if b then None else link_of (value_at r c.live)) c)) (sym over) p
+      by (inr (class, live)) =
+          sent_data c p class live r tsdu (is_some c.ended) (value_at r c.live) (λ x e. row_at IsZeroRow r x c.live live e)
+
+  data_closes : (r : ℕ) (c : Carrier) → PutsData octets c → PutsData octets (closed_on r 128 (open_link r c) c)
+  data_closes r c p = by p.rest
+    where
+      by : IsSome c.ended ⊎ ((c.class ≡ Some Zero) × AreZero c.live) → PutsData octets (closed_on r 128 (open_link r c) c)
+      by (inl over) =
+          subst (λ (b : Bool). PutsData octets (closed_on r 128 (if b then None else link_of (value_at r c.live)) c)) (sym over) p
+      by (inr (class, live)) = closed_data c p class live r (is_some c.ended) (value_at r c.live)
+
+  pub data_carries : Carries (PutsData octets)
+  data_carries = record { sends = data_sends; closes = data_closes }
+
+  pub data_untold : (events : List Happening) (c : Carrier) → PutsData octets c → PutsData octets (record c { events = events })
+  data_untold events c p = record { units = p.units; is = p.is; are_data = p.are_data; rest = p.rest }

@@ -1,0 +1,74 @@
+-- From the time at which its connection is open in class 0, an end puts whole TSDUs and nothing else: after what it put, the judge
+-- stands between two TSDUs.
+-- For what the transport of an end puts.
+use Rattle.std.proofs.Common.{◌≡◌, ◌∙◌, refl, sym, ap, ℕ, ◌+◌, List, [], ◌∷◌, ◌++◌, map, append_assoc, arith}
+use Rattle.std.proofs.lemmas.List.{map-append}
+use Rattle.osi_class.specs.Tsdus.{Part}
+use Rattle.osi_carrier.specs.State.{packets}
+use Rattle.osi_session.specs.Listening.{Listener}
+use Rattle.osi_stack.specs.State.{Holding}
+use Rattle.osi_judge.specs.declared.directions.Direction.{Direction}
+use Rattle.osi_judge.specs.Transport.{Handshake, Stage, between, packet_length, packets_length, stage_behind, stage_from}
+use Rattle.osi_honest.specs.Parts.{dt, units_put}
+use Rattle.osi_honest.specs.Seeing.{put_along}
+use Rattle.osi_honest.specs.Stretches.{Stands, octets_said}
+use Rattle.osi_honest.specs.Stretches.Stands.{gone, talking}
+use Rattle.osi_honest.specs.Talking.{Said}
+use Rattle.osi_honest.specs.Turns.{Run, Turn}
+use Rattle.osi_honest.proofs.class_0.what_a_call_does_in_class_0.{turn_goes}
+use Rattle.osi_honest.proofs.class_0.what_a_packet_does_in_class_0.{AllProper}
+use Rattle.osi_honest.proofs.class_0.what_class_0_writes_of_a_tsdu.{packets_joined}
+use Rattle.osi_honest.proofs.class_0.what_a_call_does_in_class_0.{over_run}
+use Rattle.osi_honest.proofs.reading.what_is_put_and_taken_is_read.{parts_read}
+
+-- after these parts the judge stands between two TSDUs
+abbrev pub AreWhole : List Part → Type 0
+AreWhole parts = (d : Direction) (met : ℕ → Handshake) (at : ℕ) → stage_from d met between at (units_put parts) ≡ between
+
+stage_then : (d : Direction) (met : ℕ → Handshake) (s : Stage) (at : ℕ) (us vs : List (List ℕ)) →
+    stage_from d met s at (us ++ vs) ≡ stage_from d met (stage_from d met s at us) (at + packets_length us) vs
+stage_then d met s at [] vs = ap (λ (n : ℕ). stage_from d met s n vs) (nothing at)
+  where
+    nothing : (n : ℕ) → n ≡ n + 0
+    nothing n = omega arith
+stage_then d met s at (u ∷ us) vs =
+    stage_then d met (stage_behind d (met at) s at u) (at + packet_length u) us vs
+    ∙ ap (λ (n : ℕ). stage_from d met (stage_from d met s at (u ∷ us)) n vs) (grouped at (packet_length u) (packets_length us))
+  where
+    grouped : (a b c : ℕ) → a + b + c ≡ a + (b + c)
+    grouped a b c = omega arith
+
+pub whole_more : (some others : List Part) → AreWhole some → AreWhole others → AreWhole (some ++ others)
+whole_more some others a b d met at =
+    ap (stage_from d met between at) (map-append _ some others) ∙ stage_then d met between at (units_put some) (units_put others)
+    ∙ ap (λ (s : Stage). stage_from d met s (at + packets_length (units_put some)) (units_put others)) (a d met at)
+    ∙ b d met (at + packets_length (units_put some))
+
+pub record SpeaksOn (turns : List Turn) : Type 0 where
+  pub parts : List Part
+  pub put : put_along turns ≡ packets (map dt parts)
+  pub whole : AreWhole parts
+
+-- a turn, and then more of them
+pub speaks_then : (put : List ℕ) (turns : List Turn) (parts : List Part) (front : List ℕ) → put ≡ front ++ packets (map dt parts) →
+    AreWhole parts → (s : SpeaksOn turns) → put ++ put_along turns ≡ front ++ packets (map dt (parts ++ s.parts))
+speaks_then put turns parts front is whole s =
+    (λ i. is i ++ s.put i) ∙ append_assoc front (packets (map dt parts)) (packets (map dt s.parts))
+    ∙ ap (λ (x : List ℕ). front ++ x)
+    (sym (packets_joined (map dt parts) (map dt s.parts)) ∙ ap packets (sym (map-append dt parts s.parts)))
+
+module _ (proper : AllProper) (begin : Listener) (r : ℕ) where
+  pub run_speaks : (turns : List Turn) (old new : Holding) (took : List (List ℕ)) (said : List Said) (begun : List ℕ) →
+      Stands begin r took said begun old.end → Run old turns new → SpeaksOn turns
+  run_speaks turns old new took said begun (gone closed session h over) run =
+      record { parts = []; put = over_run turns old new over run; whole = λ d met at. refl }
+  run_speaks [] old new took said begun (talking session h t) run = record { parts = []; put = refl; whole = λ d met at. refl }
+  run_speaks (turn ∷ turns) old new took said begun (talking session h t) run =
+      let g = turn_goes proper begin r took said begun turn old run.0 (talking session h t) run.1 in
+      let more = run_speaks turns run.0 new (took ++ g.more) (said ++ g.told) g.later g.stands run.2 in
+      let whole : AreWhole g.parts = (λ d met at. (parts_read d met at g.parts (octets_said g.told) g.carry g.short).then_is) in
+      record {
+        parts = g.parts ++ more.parts;
+        put = speaks_then turn.put turns g.parts [] g.written whole more;
+        whole = whole_more g.parts more.parts whole more.whole;
+      }
