@@ -10,11 +10,13 @@ use Rattle.osi_judge.specs.declared.rules.Break.{Break}
 use Rattle.osi_judge.specs.Breaking.{BreaksWith, selection_of}
 use Rattle.osi_judge.specs.Captures.{Capture, other}
 use Rattle.osi_judge.specs.Explaining.{Told, IsExplained}
+use Rattle.osi_judge.specs.KeptIn.{AreKeptIn, IsRuledIn}
 use Rattle.osi_judge.specs.Profiles.{leaves}
 use Rattle.osi_judge.specs.Stops.{broke_session, is_judged, place_of}
-use Rattle.osi_judge.specs.Tapping.{begin_of, IsFoundIn, IsBrokenBy, IsLeftBy, IsRuleIn, heard, told}
+use Rattle.osi_judge.specs.Tapping.{begin_of, IsFoundIn, IsBrokenBy, IsLeftBy, heard, told}
 use Rattle.osi_judge.specs.Transport.{Sent, IsSent}
 use Rattle.osi_judge.proofs.told.a_tsdu_is_broken_by_one_rule.{one_break}
+use Rattle.osi_judge.proofs.told.a_side_strays_at_one_place.{one_list}
 use Rattle.osi_dispute.proofs.a_capture_has_one_finding.{HasOneList}
 
 -- a side of a capture breaks the protocol or leaves the profile at one place
@@ -45,14 +47,13 @@ same_tsdu : (said others : List Told) (i : ℕ) (x y : Told) → said ≡ others
 same_tsdu said others i x y e l h k =
     one_element others i x y (subst (λ (z : List Told). i < length z) e l) (subst (λ (z : List Told). x ≡ get_or z i x) e h) k
 
-break_same : (us vs : List (List ℕ)) (x y : Told) (m n at o : List Member) (b e : Break) → us ≡ vs → x ≡ y → m ≡ n → at ≡ o
+break_same : (us vs : List (List ℕ)) (x y : Told) (m n at o : List Member) (b e : Break) → us ≡ vs → x ≡ y → m ≡ n
     → BreaksWith us x.octets x.before m at b → BreaksWith vs y.octets y.before n o e → b ≡ e
-break_same us vs x y m n at o b e u t p q h k =
-    one_break vs y.octets y.before n o b e
-    (subst (λ (z : List Member). BreaksWith vs y.octets y.before n z b) q
+break_same us vs x y m n at o b e u t p h k =
+    (one_break vs y.octets y.before n at o b e
     (subst (λ (z : List Member). BreaksWith vs y.octets y.before z at b) p
     (subst (λ (z : Told). BreaksWith vs z.octets z.before m at b) t
-    (subst (λ (z : List (List ℕ)). BreaksWith z x.octets x.before m at b) u h)))) k
+    (subst (λ (z : List (List ℕ)). BreaksWith z x.octets x.before m at b) u h))) k).1
 
 -- the lists of TSDUs of both sides, and the TSDU at which the side strays
 pub record Strays (d : Direction) (c : Capture) (i : ℕ) : Type 0 where
@@ -114,10 +115,10 @@ explained_same d us vs said others i u e h =
     (subst (λ (z : List (List ℕ)). IsExplained (begin_of d) z (take (i + 1) said)) u h)
 
 one_broken : HasOneList → (d : Direction) (c : Capture) (m n at o : List Member) (i : ℕ) (b e : Break) → IsFoundIn d c (Broke i)
-    → IsBrokenBy d c m at i b → IsBrokenBy d c n o i e → m ≡ n → at ≡ o → b ≡ e
-one_broken one d c m n at o i b e f h k p q =
+    → IsBrokenBy d c m at i b → IsBrokenBy d c n o i e → m ≡ n → b ≡ e
+one_broken one d c m n at o i b e f h k p =
     let s = one_strays one d c i (broke_at one d c m at i b f h) (broke_at one d c n o i e f k) in
-    break_same (heard h.others) (heard k.others) h.tsdu k.tsdu m n at o b e s.1 s.2 p q h.near k.near
+    break_same (heard h.others) (heard k.others) h.tsdu k.tsdu m n at o b e s.1 s.2 p h.near k.near
 
 -- how a side left the profile
 abbrev Leaves : Direction → List (List ℕ) → List Told → (i : ℕ) → Told → (members at : List Member) → Break → Type 0
@@ -126,80 +127,78 @@ Leaves d us said i x m at b =
     ⊎ ((b ≡ selection_of x.before m) × IsExplained (begin_of d) us (take (i + 1) said))
 
 left_same : (d : Direction) (us vs : List (List ℕ)) (said others : List Told) (i : ℕ) (x y : Told) (m n at o : List Member) (b e : Break)
-    → said ≡ others → us ≡ vs → x ≡ y → m ≡ n → at ≡ o → Leaves d us said i x m at b → Leaves d vs others i y n o e → b ≡ e
-left_same d us vs said others i x y m n at o b e s u t p q (inl h) (inl k) = break_same us vs x y m n at o b e u t p q h.0 k.0
-left_same d us vs said others i x y m n at o b e s u t p q (inl h) (inr k) =
+    → said ≡ others → us ≡ vs → x ≡ y → m ≡ n → Leaves d us said i x m at b → Leaves d vs others i y n o e → b ≡ e
+left_same d us vs said others i x y m n at o b e s u t p (inl h) (inl k) = break_same us vs x y m n at o b e u t p h.0 k.0
+left_same d us vs said others i x y m n at o b e s u t p (inl h) (inr k) =
     absurd (h.2 (explained_same d vs us others said i (sym u) (sym s) k.1))
-left_same d us vs said others i x y m n at o b e s u t p q (inr h) (inl k) = absurd (k.2 (explained_same d us vs said others i u s h.1))
-left_same d us vs said others i x y m n at o b e s u t p q (inr h) (inr k) = h.0 ∙ (λ j. selection_of (t j).before (p j)) ∙ sym k.0
+left_same d us vs said others i x y m n at o b e s u t p (inr h) (inl k) = absurd (k.2 (explained_same d us vs said others i u s h.1))
+left_same d us vs said others i x y m n at o b e s u t p (inr h) (inr k) = h.0 ∙ (λ j. selection_of (t j).before (p j)) ∙ sym k.0
 
 one_left : HasOneList → (d : Direction) (c : Capture) (m n at o : List Member) (i : ℕ) (b e : Break) → IsFoundIn d c (Left i)
-    → IsLeftBy d c m at i b → IsLeftBy d c n o i e → m ≡ n → at ≡ o → b ≡ e
-one_left one d c m n at o i b e f h k p q =
+    → IsLeftBy d c m at i b → IsLeftBy d c n o i e → m ≡ n → b ≡ e
+one_left one d c m n at o i b e f h k p =
     let s = one_strays one d c i (left_at one d c m at i b f h) (left_at one d c n o i e f k) in
     left_same d (heard h.others) (heard k.others) (told d c h.mine h.others) (told d c k.mine k.others) i h.tsdu k.tsdu m n at o b e s.0
-    s.1 s.2 p q
+    s.1 s.2 p
     h.near k.near
 
-pub one_rule : HasOneList → (d : Direction) (c : Capture) (f : Finding) (m n at o : List Member) (b e : Break) → IsFoundIn d c f
-    → IsRuleIn d c m at f b → IsRuleIn d c n o f e → m ≡ n → at ≡ o → broke_session f ≡ true → b ≡ e
-one_rule one d c Kept m n at o b e f h k p q x = absurd (cc)
-one_rule one d c (Broke i) m n at o b e f h k p q x = one_broken one d c m n at o i b e f h k p q
-one_rule one d c (Left i) m n at o b e f h k p q x = one_left one d c m n at o i b e f h k p q
-one_rule one d c TooMany m n at o b e f h k p q x = absurd (cc)
+pub one_rule : HasOneList → (d : Direction) (c : Capture) (f : Finding) (b e : Break) → IsFoundIn d c f
+    → IsRuledIn d c f b → IsRuledIn d c f e → broke_session f ≡ true → b ≡ e
+one_rule one d c Kept b e f h k x = absurd (cc)
+one_rule one d c (Broke i) b e f (m, at, s, h) (n, o, t, k) x = one_broken one d c m n at o i b e f h k (one_list one d c (Some i) m n s t)
+one_rule one d c (Left i) b e f (m, at, s, h) (n, o, t, k) x = one_left one d c m n at o i b e f h k (one_list one d c (Some i) m n s t)
+one_rule one d c TooMany b e f h k x = absurd (cc)
 
 -- ---- one finding
 
 -- a side that broke the protocol did not leave the profile there
 left_broken : (d : Direction) (us vs : List (List ℕ)) (said others : List Told) (i : ℕ) (x y : Told) (m n at o : List Member) (b e : Break)
-    → said ≡ others → us ≡ vs → x ≡ y → m ≡ n → at ≡ o → BreaksWith us x.octets x.before m at b → leaves x.octets b ≡ false
+    → said ≡ others → us ≡ vs → x ≡ y → m ≡ n → BreaksWith us x.octets x.before m at b → leaves x.octets b ≡ false
     → (IsExplained (begin_of d) us (take (i + 1) said) → ⊥) → Leaves d vs others i y n o e → ⊥
-left_broken d us vs said others i x y m n at o b e s u t p q h l z (inl k) =
-    let same = break_same us vs x y m n at o b e u t p q h k.0 in
+left_broken d us vs said others i x y m n at o b e s u t p h l z (inl k) =
+    let same = break_same us vs x y m n at o b e u t p h k.0 in
     not_both (leaves y.octets e) k.1 (subst (λ (w : Break). leaves y.octets w ≡ false) same
     (subst (λ (w : Told). leaves w.octets b ≡ false) t l))
-left_broken d us vs said others i x y m n at o b e s u t p q h l z (inr k) = z (explained_same d vs us others said i (sym u) (sym s) k.1)
+left_broken d us vs said others i x y m n at o b e s u t p h l z (inr k) = z (explained_same d vs us others said i (sym u) (sym s) k.1)
 
 broke_or_left : HasOneList → (d : Direction) (c : Capture) (m n at o : List Member) (i : ℕ) (b e : Break) → IsFoundIn d c (Broke i)
-    → IsFoundIn d c (Left i) → IsBrokenBy d c m at i b → IsLeftBy d c n o i e → m ≡ n → at ≡ o → ⊥
-broke_or_left one d c m n at o i b e f g h k p q =
+    → IsFoundIn d c (Left i) → IsBrokenBy d c m at i b → IsLeftBy d c n o i e → m ≡ n → ⊥
+broke_or_left one d c m n at o i b e f g h k p =
     let s = one_strays one d c i (broke_at one d c m at i b f h) (left_at one d c n o i e g k) in
     let said = same_told d c h.mine h.others f.mine f.others (one d c h.mine f.mine h.stand.is_mine f.is_mine)
     (one (other d) c h.others f.others h.stand.is_others f.is_others) in
     let us = ap heard (one (other d) c h.others f.others h.stand.is_others f.is_others) in
     left_broken d (heard h.others) (heard k.others) (told d c h.mine h.others) (told d c k.mine k.others) i h.tsdu k.tsdu m n at o b e s.0
-    s.1 s.2 p q
+    s.1 s.2 p
     h.near h.breaks
     (λ x. f.found.0.broke (explained_same d (heard h.others) (heard f.others) (told d c h.mine h.others) (told d c f.mine f.others) i us
     said x))
     k.near
 
--- what is found of a side, if the sessions are the same that explain what it sent before
-pub same_found : HasOneList → HasOnePlace → (d : Direction) (c : Capture) (f g : Finding) (m n at o : List Member) (b e : Break)
-    → IsFoundIn d c f
-    → IsFoundIn d c g → IsRuleIn d c m at f b → IsRuleIn d c n o g e → is_judged f ≡ is_judged g → m ≡ n
-    → (broke_session f ≡ true → at ≡ o) → f ≡ g
-same_found one place d c Kept Kept m n at o b e h k p q j s t = refl
-same_found one place d c Kept (Broke i) m n at o b e h k p q j s t = let x = place d c Kept (Broke i) refl refl h k in absurd (cc)
-same_found one place d c Kept (Left i) m n at o b e h k p q j s t = let x = place d c Kept (Left i) refl refl h k in absurd (cc)
-same_found one place d c Kept TooMany m n at o b e h k p q j s t = absurd (cc)
-same_found one place d c (Broke i) Kept m n at o b e h k p q j s t = let x = place d c (Broke i) Kept refl refl h k in absurd (cc)
-same_found one place d c (Broke i) (Broke l) m n at o b e h k p q j s t =
-    ap Broke (some_same i l (place d c (Broke i) (Broke l) refl refl h k))
-same_found one place d c (Broke i) (Left l) m n at o b e h k p q j s t =
+-- what is found of a side, by the sessions that are kept of it
+pub same_found : HasOneList → HasOnePlace → (d : Direction) (c : Capture) (f g : Finding) (b e : Break)
+    → IsFoundIn d c f → IsFoundIn d c g → IsRuledIn d c f b → IsRuledIn d c g e → is_judged f ≡ is_judged g → f ≡ g
+same_found one place d c Kept Kept b e h k p q j = refl
+same_found one place d c Kept (Broke i) b e h k p q j = let x = place d c Kept (Broke i) refl refl h k in absurd (cc)
+same_found one place d c Kept (Left i) b e h k p q j = let x = place d c Kept (Left i) refl refl h k in absurd (cc)
+same_found one place d c Kept TooMany b e h k p q j = absurd (cc)
+same_found one place d c (Broke i) Kept b e h k p q j = let x = place d c (Broke i) Kept refl refl h k in absurd (cc)
+same_found one place d c (Broke i) (Broke l) b e h k p q j = ap Broke (some_same i l (place d c (Broke i) (Broke l) refl refl h k))
+same_found one place d c (Broke i) (Left l) b e h k (m, at, s, p) (n, o, t, q) j =
     let here = sym (some_same i l (place d c (Broke i) (Left l) refl refl h k)) in
     absurd (broke_or_left one d c m n at o i b e h (subst (λ (x : ℕ). IsFoundIn d c (Left x)) here k) p
-    (subst (λ (x : ℕ). IsLeftBy d c n o x e) here q) s (t refl))
-same_found one place d c (Broke i) TooMany m n at o b e h k p q j s t = absurd (cc)
-same_found one place d c (Left i) Kept m n at o b e h k p q j s t = let x = place d c (Left i) Kept refl refl h k in absurd (cc)
-same_found one place d c (Left i) (Broke l) m n at o b e h k p q j s t =
+    (subst (λ (x : ℕ). IsLeftBy d c n o x e) here q)
+    (one_list one d c (Some i) m n s (subst (λ (x : ℕ). AreKeptIn d c (Some x) n) here t)))
+same_found one place d c (Broke i) TooMany b e h k p q j = absurd (cc)
+same_found one place d c (Left i) Kept b e h k p q j = let x = place d c (Left i) Kept refl refl h k in absurd (cc)
+same_found one place d c (Left i) (Broke l) b e h k (m, at, s, p) (n, o, t, q) j =
     let here = some_same i l (place d c (Left i) (Broke l) refl refl h k) in
     absurd (broke_or_left one d c n m o at l e b k (subst (λ (x : ℕ). IsFoundIn d c (Left x)) here h) q
     (subst (λ (x : ℕ). IsLeftBy d c m at x b) here p)
-    (sym s) (sym (t refl)))
-same_found one place d c (Left i) (Left l) m n at o b e h k p q j s t = ap Left (some_same i l (place d c (Left i) (Left l) refl refl h k))
-same_found one place d c (Left i) TooMany m n at o b e h k p q j s t = absurd (cc)
-same_found one place d c TooMany Kept m n at o b e h k p q j s t = absurd (cc)
-same_found one place d c TooMany (Broke i) m n at o b e h k p q j s t = absurd (cc)
-same_found one place d c TooMany (Left i) m n at o b e h k p q j s t = absurd (cc)
-same_found one place d c TooMany TooMany m n at o b e h k p q j s t = refl
+    (one_list one d c (Some l) n m t (subst (λ (x : ℕ). AreKeptIn d c (Some x) m) here s)))
+same_found one place d c (Left i) (Left l) b e h k p q j = ap Left (some_same i l (place d c (Left i) (Left l) refl refl h k))
+same_found one place d c (Left i) TooMany b e h k p q j = absurd (cc)
+same_found one place d c TooMany Kept b e h k p q j = absurd (cc)
+same_found one place d c TooMany (Broke i) b e h k p q j = absurd (cc)
+same_found one place d c TooMany (Left i) b e h k p q j = absurd (cc)
+same_found one place d c TooMany TooMany b e h k p q j = refl

@@ -1,4 +1,4 @@
--- Two verdicts on one capture are one, if they choose the same where the definitions leave a choice: for the laws.
+-- Two verdicts on one capture are one, if they tell the same side as the first: for the laws.
 use Rattle.std.proofs.Common.{◌≡◌, ◌∙◌, refl, sym, ap, subst, ℕ, ◌-◌, Bool, true, false, is_some, ◌||◌, List, length, Option, Some, None}
 use Rattle.std.proofs.Common.{option_map}
 use Rattle.osi_tpkt.specs.Stream.{Ending, offset_of}
@@ -15,20 +15,21 @@ use Rattle.osi_judge.specs.declared.stops.Stopped.{Stopped}
 use Rattle.osi_judge.specs.Captures.{Capture, other, stream}
 use Rattle.osi_judge.specs.Stops.{breaks, broke_session}
 use Rattle.osi_judge.specs.Transport.{met_before, opening, reference_in, Sent, packets_length, last_packet, stage_from, hasty_from, IsSent}
-use Rattle.osi_judge.specs.Tapping.{IsFoundIn, IsReadIn, IsReferenceIn, IsStoppedIn, IsPlaceIn, IsCountIn, stop_in, or_hasty, IsRuleIn}
-use Rattle.osi_judge.specs.Tapping.{IsStandingIn, heard}
+use Rattle.osi_judge.specs.Tapping.{IsFoundIn, IsReadIn, IsReferenceIn, IsStoppedIn, IsPlaceIn, IsCountIn, stop_in, or_hasty, heard}
 use Rattle.osi_dispute.specs.declared.verdicts.Told.{Told}
 use Rattle.osi_dispute.specs.declared.verdicts.Told.TheVariants as told
 use Rattle.osi_dispute.specs.declared.verdicts.Verdict.{Verdict}
 use Rattle.osi_dispute.specs.Facts.{Determined, is_broken, IsFirstOf, Facts, AreFacts, told_by, told_of, is_refused, is_unanswered}
 use Rattle.osi_dispute.specs.Facts.{connection_by, left_first, outcome_by, verdict_by, IsToldBy, StandsIn}
 use Rattle.osi_judge.specs.Foremost.{foremost}
+use Rattle.osi_judge.specs.KeptIn.{IsRuledIn, IsKeptStanding}
+use Rattle.osi_judge.proofs.told.a_side_strays_at_one_place.{one_judged, one_list}
 use Rattle.osi_judge.specs.Onward.{StandsBehind}
 use Rattle.osi_judge.proofs.told.a_session_stands_in_one_way.{one_stands}
 use Rattle.osi_dispute.specs.declared.verdicts.Connection.TheVariants.{Session}
 use Rattle.osi_dispute.specs.Disputes.{IsJudgement}
 use Rattle.osi_dispute.specs.Texts.{verdict_text, verdict_status}
-use Rattle.osi_dispute.specs.Laws.{ChooseSame, SameChoices}
+use Rattle.osi_dispute.specs.Laws.{SameFirst}
 use Rattle.osi_dispute.proofs.a_capture_has_one_finding.{HasOneList}
 use Rattle.osi_dispute.proofs.a_rule_tells_a_break_from_leaving.{HasOnePlace, one_rule, same_found}
 use Rattle.osi_dispute.proofs.a_text_is_one_capture.{one_text}
@@ -90,16 +91,14 @@ pub record Same (f g : Facts) : Type 0 where
   pub reference : f.reference ≡ g.reference
   pub stopped : f.stopped ≡ g.stopped
   pub found : f.found ≡ g.found
-  pub members : f.members ≡ g.members
   pub told : told_of f ≡ told_by g.found g.count g.offset f.stands g.by
 
-alike : HasOneList → HasOnePlace → (d : Direction) (c : Capture) (f g : Facts) → AreFacts d c f → AreFacts d c g → ChooseSame f g → Same f g
-alike one place d c f g h k e =
-    let found = same_found one place d c f.found g.found f.members g.members f.at g.at f.by g.by h.found k.found h.rule k.rule e.judged
-    e.members e.at in
-    let rule = subst (λ (x : Finding). IsRuleIn d c g.members g.at x g.by) (sym found) k.rule in
-    let by = λ (x : broke_session f.found ≡ true).
-    one_rule one d c f.found f.members g.members f.at g.at f.by g.by h.found h.rule rule e.members (e.at x) x in
+alike : HasOneList → HasOnePlace → (d : Direction) (c : Capture) (f g : Facts) → AreFacts d c f → AreFacts d c g → Same f g
+alike one place d c f g h k =
+    let judged = one_judged one d c f.found g.found h.found k.found h.room k.room in
+    let found = same_found one place d c f.found g.found f.by g.by h.found k.found h.rule k.rule judged in
+    let rule = subst (λ (x : Finding). IsRuledIn d c x g.by) (sym found) k.rule in
+    let by = one_rule one d c f.found f.by g.by h.found h.rule rule in
     let count = subst (λ (x : Finding). x ≡ Kept → IsCountIn d c g.count) (sym found) k.count in
     let offset = subst (λ (x : Finding). IsPlaceIn d c x g.offset) (sym found) k.offset in
     record {
@@ -107,40 +106,40 @@ alike one place d c f g h k e =
       reference = one_reference d c f.reference g.reference h.reference k.reference;
       stopped = one_stop d c f.stopped g.stopped h.stopped k.stopped;
       found = found;
-      members = e.members;
       told = one_told one d c f.found f.count g.count f.offset g.offset f.stands f.by g.by h.count count h.offset offset by
           ∙ ap (λ (x : Finding). told_by x g.count g.offset f.stands g.by) found;
     }
 
 -- ---- the session that stands for a side
 
-one_standing : HasOneList → (d : Direction) (c : Capture) (m : List Member) (s t : Stands) → IsStandingIn d c m s → IsStandingIn d c m t
-    → s ≡ t
-one_standing one d c m s t h k =
+one_standing : HasOneList → (d : Direction) (c : Capture) (s t : Stands) → IsKeptStanding d c s → IsKeptStanding d c t → s ≡ t
+one_standing one d c s t (m, a, h) (n, b, k) =
     let others = one (other d) c k.others h.others k.stand.is_others h.stand.is_others in
-    one_stands (heard h.others) (foremost m) s t h.behind (subst (λ (z : List Sent). StandsBehind (heard z) (foremost m) t) others k.behind)
+    let members = one_list one d c None n m b a in
+    one_stands (heard h.others) (foremost m) s t h.behind (subst (λ (z : List Member). StandsBehind (heard h.others) (foremost z) t) members
+    (subst (λ (z : List Sent). StandsBehind (heard z) (foremost n) t) others k.behind))
 
-one_session : HasOneList → (d : Direction) (c : Capture) (m : List Member) (r : ℕ) (f : Finding) (n o : ℕ) (s t : Stands) (b : Break)
-    → StandsIn d c m (Session r (told_by f n o s b)) → StandsIn d c m (Session r (told_by f n o t b))
+one_session : HasOneList → (d : Direction) (c : Capture) (r : ℕ) (f : Finding) (n o : ℕ) (s t : Stands) (b : Break)
+    → StandsIn d c (Session r (told_by f n o s b)) → StandsIn d c (Session r (told_by f n o t b))
     → Session r (told_by f n o s b) ≡ Session r (told_by f n o t b)
-one_session one d c m r Kept n o s t b h k = ap (λ (x : Stands). Session r (told.Kept n x)) (one_standing one d c m s t h k)
-one_session one d c m r (Broke i) n o s t b h k = refl
-one_session one d c m r (Left i) n o s t b h k = refl
-one_session one d c m r TooMany n o s t b h k = refl
+one_session one d c r Kept n o s t b h k = ap (λ (x : Stands). Session r (told.Kept n x)) (one_standing one d c s t h k)
+one_session one d c r (Broke i) n o s t b h k = refl
+one_session one d c r (Left i) n o s t b h k = refl
+one_session one d c r TooMany n o s t b h k = refl
 
 one_connection : HasOneList
-    → (d : Direction) (c : Capture) (m : List Member) (dropped : Bool) (r : Option ℕ) (blamed refused unanswered : Bool)
+    → (d : Direction) (c : Capture) (dropped : Bool) (r : Option ℕ) (blamed refused unanswered : Bool)
     (f : Finding) (n o : ℕ) (s t : Stands) (b : Break)
-    → StandsIn d c m (connection_by dropped r blamed refused unanswered (told_by f n o s b))
-    → StandsIn d c m (connection_by dropped r blamed refused unanswered (told_by f n o t b))
+    → StandsIn d c (connection_by dropped r blamed refused unanswered (told_by f n o s b))
+    → StandsIn d c (connection_by dropped r blamed refused unanswered (told_by f n o t b))
     → connection_by dropped r blamed refused unanswered (told_by f n o s b) ≡ connection_by dropped r blamed refused unanswered
     (told_by f n o t b)
-one_connection one d c m true r blamed refused unanswered f n o s t b h k = refl
-one_connection one d c m false None blamed refused unanswered f n o s t b h k = refl
-one_connection one d c m false (Some r) true refused unanswered f n o s t b h k = one_session one d c m r f n o s t b h k
-one_connection one d c m false (Some r) false true unanswered f n o s t b h k = refl
-one_connection one d c m false (Some r) false false true f n o s t b h k = refl
-one_connection one d c m false (Some r) false false false f n o s t b h k = one_session one d c m r f n o s t b h k
+one_connection one d c true r blamed refused unanswered f n o s t b h k = refl
+one_connection one d c false None blamed refused unanswered f n o s t b h k = refl
+one_connection one d c false (Some r) true refused unanswered f n o s t b h k = one_session one d c r f n o s t b h k
+one_connection one d c false (Some r) false true unanswered f n o s t b h k = refl
+one_connection one d c false (Some r) false false true f n o s t b h k = refl
+one_connection one d c false (Some r) false false false f n o s t b h k = one_session one d c r f n o s t b h k
 
 -- ---- the side that is told as the first
 
@@ -199,16 +198,16 @@ verdicts_same first l r m s a b =
 
 -- two sets of facts that differ in the session that stands for a side, and tell of it as the capture has it
 stands_same : HasOneList → (c : Capture) (first : Option Direction) (m s : Facts) (x y : Stands)
-    → StandsIn side.Left c m.members (verdict_by first (standing_by m x) (standing_by s y)).left.connection
-    → StandsIn side.Left c m.members (verdict_by first m s).left.connection
-    → StandsIn side.Right c s.members (verdict_by first (standing_by m x) (standing_by s y)).right.connection
-    → StandsIn side.Right c s.members (verdict_by first m s).right.connection
+    → StandsIn side.Left c (verdict_by first (standing_by m x) (standing_by s y)).left.connection
+    → StandsIn side.Left c (verdict_by first m s).left.connection
+    → StandsIn side.Right c (verdict_by first (standing_by m x) (standing_by s y)).right.connection
+    → StandsIn side.Right c (verdict_by first m s).right.connection
     → verdict_by first (standing_by m x) (standing_by s y) ≡ verdict_by first m s
 stands_same one c first m s x y h k p q =
-    let left = one_connection one side.Left c m.members (left_first first side.Right s.found) m.reference (broke_session m.found)
+    let left = one_connection one side.Left c (left_first first side.Right s.found) m.reference (broke_session m.found)
     (is_refused s.stopped)
     (is_unanswered s.reference s.stopped) m.found m.count m.offset x m.stands m.by h k in
-    let right = one_connection one side.Right c s.members (left_first first side.Left m.found) s.reference (broke_session s.found)
+    let right = one_connection one side.Right c (left_first first side.Left m.found) s.reference (broke_session s.found)
     (is_refused s.stopped)
     (is_unanswered s.reference s.stopped) s.found s.count s.offset y s.stands s.by p q in
     λ i. record {
@@ -218,23 +217,21 @@ stands_same one c first m s x y h k p q =
     }
 
 pub one_verdict : HasOneList → HasOnePlace → (c : Capture) (v w : Verdict) (a : Determined c v) (b : Determined c w)
-    → SameChoices a.first b.first a.left a.right b.left b.right → v ≡ w
+    → SameFirst a.first b.first a.left a.right → v ≡ w
 one_verdict one place c v w a b e =
     let h = a.told in
     let k = b.told in
-    let l = alike one place side.Left c a.left b.left h.of_left k.of_left e.of_left in
-    let r = alike one place side.Right c a.right b.right h.of_right k.of_right e.of_right in
+    let l = alike one place side.Left c a.left b.left h.of_left k.of_left in
+    let r = alike one place side.Right c a.right b.right h.of_right k.of_right in
     let first = one_first a.first b.first a.left a.right b.left b.right h.first_of k.first_of (same_broken a.left b.left l)
-    (same_broken a.right b.right r) e.of_first in
+    (same_broken a.right b.right r) e in
     let one_side = h.tells ∙ verdicts_same a.first a.left a.right b.left b.right l r
     ∙ ap (λ (x : Option Direction). verdict_by x (standing_by b.left a.left.stands) (standing_by b.right a.right.stands)) first in
     one_side ∙ stands_same one c b.first b.left b.right a.left.stands a.right.stands
-    (subst (λ (x : Verdict). StandsIn side.Left c b.left.members x.left.connection) one_side
-    (subst (λ (x : List Member). StandsIn side.Left c x v.left.connection) l.members a.left_stands))
-    (subst (λ (x : Verdict). StandsIn side.Left c b.left.members x.left.connection) k.tells b.left_stands)
-    (subst (λ (x : Verdict). StandsIn side.Right c b.right.members x.right.connection) one_side
-    (subst (λ (x : List Member). StandsIn side.Right c x v.right.connection) r.members a.right_stands))
-    (subst (λ (x : Verdict). StandsIn side.Right c b.right.members x.right.connection) k.tells b.right_stands)
+    (subst (λ (x : Verdict). StandsIn side.Left c x.left.connection) one_side a.left_stands)
+    (subst (λ (x : Verdict). StandsIn side.Left c x.left.connection) k.tells b.left_stands)
+    (subst (λ (x : Verdict). StandsIn side.Right c x.right.connection) one_side a.right_stands)
+    (subst (λ (x : Verdict). StandsIn side.Right c x.right.connection) k.tells b.right_stands)
     ∙ sym k.tells
 
 -- ---- of a text
@@ -246,13 +243,13 @@ determined_in v c e p a = record {
   left = a.left;
   right = a.right;
   told = subst (λ (x : Capture). IsToldBy x v a.first a.left a.right) p a.told;
-  left_stands = subst (λ (x : Capture). StandsIn side.Left x a.left.members v.left.connection) p a.left_stands;
-  right_stands = subst (λ (x : Capture). StandsIn side.Right x a.right.members v.right.connection) p a.right_stands;
+  left_stands = subst (λ (x : Capture). StandsIn side.Left x v.left.connection) p a.left_stands;
+  right_stands = subst (λ (x : Capture). StandsIn side.Right x v.right.connection) p a.right_stands;
 }
 
 pub one_judgement : HasOneList → HasOnePlace → (text lines others : List ℕ) (status other : ℕ) (one : IsJudgement text lines status)
     (two : IsJudgement text others other) (a : Determined one.capture one.judged.verdict) (b : Determined two.capture two.judged.verdict)
-    → SameChoices a.first b.first a.left a.right b.left b.right → (lines ≡ others) × (status ≡ other)
+    → SameFirst a.first b.first a.left a.right → (lines ≡ others) × (status ≡ other)
 one_judgement has place text lines others status other one two a b same =
     let v = one.judged.verdict in
     let w = two.judged.verdict in

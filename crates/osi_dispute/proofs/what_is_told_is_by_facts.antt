@@ -7,7 +7,6 @@ use Rattle.osi_judge.specs.declared.findings.Finding.{Finding}
 use Rattle.osi_judge.specs.declared.findings.Finding.TheVariants.{Kept, Broke, Left, TooMany}
 use Rattle.osi_judge.specs.declared.judge.Judge.{Judge}
 use Rattle.osi_judge.specs.declared.judge.Reading.{Reading}
-use Rattle.osi_judge.specs.declared.members.Member.{Member}
 use Rattle.osi_judge.specs.declared.rules.Break.{Break}
 use Rattle.osi_judge.specs.declared.standings.Stands.{Stands}
 use Rattle.osi_judge.specs.declared.stops.Stopped.{Stopped}
@@ -147,37 +146,33 @@ accounted d t right r c s e f k = record {
 
 -- ---- of the capture
 
--- with the sessions before the unit at which the side broke the protocol
-abbrev facts_at : Tapped → Stands → List Member → Facts
-facts_at t s at = record (facts_of t s) { at = at }
-
-facts_known : (d : Direction) (c : Capture) (j : Judged) (s : Stands) (t : Taps j c)
-    → AreFacts d c (facts_at (half_of d j) s (known_in d c j t).rule.0)
+facts_known : (d : Direction) (c : Capture) (j : Judged) (s : Stands) → Taps j c → AreFacts d c (facts_of (half_of d j) s)
 facts_known d c j s t = let k = known_in d c j t in record {
   reading = k.read;
   reference = k.given;
   stopped = k.stops;
   found = k.found;
+  room = k.room;
   count = k.count;
   offset = k.place;
-  rule = k.rule.1;
+  rule = k.rule;
 }
 
-first_known : (first : Option Direction) (j : Judged) (c : Capture) (s u : Stands) (m n : List Member) → FirstIs first j c
-    → IsFirstOf first (facts_at j.left s m) (facts_at j.right u n)
-first_known None j c s u m n h = h
-first_known (Some side.Left) j c s u m n h = h.1
-first_known (Some side.Right) j c s u m n h = h.1
+first_known : (first : Option Direction) (j : Judged) (c : Capture) (s u : Stands) → FirstIs first j c
+    → IsFirstOf first (facts_of j.left s) (facts_of j.right u)
+first_known None j c s u h = h
+first_known (Some side.Left) j c s u h = h.1
+first_known (Some side.Right) j c s u h = h.1
 
 stands_session : (d : Direction) (c : Capture) (j : Judged) (r : ℕ) (x : Told) → Taps j c → StandsBy (half_of d j) (Session r x)
-    → StandsIn d c (half_of d j).side.members (Session r x)
+    → StandsIn d c (Session r x)
 stands_session d c j r (told.Kept n s) t h = is_standing d c j t h.0 s h.1
 stands_session d c j r (told.Broke o b) t h = tt
 stands_session d c j r (told.Left o b) t h = tt
 stands_session d c j r told.TooMany t h = tt
 
 pub stands_in : (d : Direction) (c : Capture) (j : Judged) (x : Connection) → Taps j c → StandsBy (half_of d j) x
-    → StandsIn d c (half_of d j).side.members x
+    → StandsIn d c x
 stands_in d c j Silent t h = tt
 stands_in d c j (Refused r) t h = tt
 stands_in d c j (Unanswered r) t h = tt
@@ -190,14 +185,13 @@ pub determined : (j : Judge) (c : Capture) (l r : Account) (o : Outcome) → Kno
 unfolding IsDetermined
 determined j c l r o k a b e = record {
   first = first_in j;
-  left = facts_at (judged j).left a.stands (known_in side.Left c (judged j) k.taps).rule.0;
-  right = facts_at (judged j).right b.stands (known_in side.Right c (judged j) k.taps).rule.0;
+  left = facts_of (judged j).left a.stands;
+  right = facts_of (judged j).right b.stands;
   told = record {
     of_left = facts_known side.Left c (judged j) a.stands k.taps;
     of_right = facts_known side.Right c (judged j) b.stands k.taps;
     is_first = is_first_in (first_in j) (judged j) c k.taps k.first;
-    first_of = first_known (first_in j) (judged j) c a.stands b.stands (known_in side.Left c (judged j) k.taps).rule.0
-        (known_in side.Right c (judged j) k.taps).rule.0 k.first;
+    first_of = first_known (first_in j) (judged j) c a.stands b.stands k.first;
     tells = λ i. record { left = a.is i; right = b.is i; outcome = e i };
   };
   left_stands = stands_in side.Left c (judged j) l.connection k.taps a.standing;

@@ -1,11 +1,10 @@
 -- What a verdict is made of: what is known of both sides of a capture, and what is told by it.
-use Rattle.std.specs.Prelude.{◌≡◌, ℕ, Bool, true, false, not, ◌&&◌, ◌||◌, is_some, List, [], Option, Some, None}
+use Rattle.std.specs.Prelude.{◌≡◌, ℕ, Bool, true, false, not, ◌&&◌, ◌||◌, is_some, List, Option, Some, None}
 use Rattle.osi_judge.specs.declared.directions.Direction.{Direction}
 use Rattle.osi_judge.specs.declared.directions.Direction.TheVariants.{Left, Right}
 use Rattle.osi_judge.specs.declared.findings.Finding.{Finding}
 use Rattle.osi_judge.specs.declared.findings.Finding.TheVariants as finding
 use Rattle.osi_judge.specs.declared.judge.Reading.{Reading}
-use Rattle.osi_judge.specs.declared.members.Member.{Member}
 use Rattle.osi_judge.specs.declared.rules.Break.{Break}
 use Rattle.osi_judge.specs.declared.standings.Stands.{Stands}
 use Rattle.osi_judge.specs.declared.stops.Stop.{Stop}
@@ -17,9 +16,9 @@ use Rattle.osi_judge.specs.Judging.{Keeps}
 use Rattle.osi_judge.specs.Onward.{StandsFor}
 use Rattle.osi_judge.specs.Feeding.{Tapped, reading_of, stopped_of}
 use Rattle.osi_judge.specs.Following.{Judged as Both, half_of}
+use Rattle.osi_judge.specs.KeptIn.{HasRoomIn, IsRuledIn, IsKeptStanding}
 use Rattle.osi_judge.specs.Stops.{breaks, broke_session}
-use Rattle.osi_judge.specs.Tapping.{IsFoundIn, IsStoppedIn, IsReadIn, IsReferenceIn, IsPlaceIn, IsCountIn, IsRuleIn, IsStandingIn}
-use Rattle.osi_judge.specs.Tapping.{IsFirstIn}
+use Rattle.osi_judge.specs.Tapping.{IsFoundIn, IsStoppedIn, IsReadIn, IsReferenceIn, IsPlaceIn, IsCountIn, IsFirstIn}
 use Rattle.osi_dispute.specs.declared.verdicts.Told.{Told}
 use Rattle.osi_dispute.specs.declared.verdicts.Told.TheVariants as told
 use Rattle.osi_dispute.specs.declared.verdicts.Connection.{Connection}
@@ -34,9 +33,8 @@ use Rattle.osi_dispute.specs.declared.verdicts.Verdict.{Verdict}
 -- ---- what is known of a side
 
 -- What was read, the reference that it gave the connection, where its transport is looked at no further, what is found of it,
--- how many TSDUs it sent, and in which packet the one ended at which it broke the protocol. The sessions that explain what it
--- sent, or what it sent before the TSDU at which it broke the protocol, and before the unit of that TSDU (`at`); by which of
--- them it stands that kept the protocol, and by which rule it broke it.
+-- how many TSDUs it sent, and in which packet the one ended at which it broke the protocol; how it stands that kept the protocol,
+-- and by which rule it broke it.
 pub record Facts : Type 0 where
   pub reading : Reading
   pub reference : Option ℕ
@@ -44,8 +42,6 @@ pub record Facts : Type 0 where
   pub found : Finding
   pub count : ℕ
   pub offset : ℕ
-  pub members : List Member
-  pub at : List Member
   pub stands : Stands
   pub by : Break
 
@@ -55,9 +51,10 @@ pub record AreFacts (d : Direction) (capture : Capture) (f : Facts) : Type 0 whe
   pub reference : IsReferenceIn d capture f.reference
   pub stopped : IsStoppedIn d capture f.stopped
   pub found : IsFoundIn d capture f.found
+  pub room : HasRoomIn d capture f.found
   pub count : f.found ≡ finding.Kept → IsCountIn d capture f.count
   pub offset : IsPlaceIn d capture f.found f.offset
-  pub rule : IsRuleIn d capture f.members f.at f.found f.by
+  pub rule : IsRuledIn d capture f.found f.by
 
 -- by its session or by its transport
 abbrev pub is_broken : Facts → Bool
@@ -173,17 +170,17 @@ pub record IsToldBy (capture : Capture) (v : Verdict) (first : Option Direction)
   pub tells : v ≡ verdict_by first left right
 
 -- so a session of this side stands, where one is told of that kept the protocol
-abbrev pub StandsIn : Direction → Capture → List Member → Connection → Type 0
-StandsIn d capture members (Session reference (told.Kept count stands)) = IsStandingIn d capture members stands
-StandsIn d capture members connection = Unit {0}
+abbrev pub StandsIn : Direction → Capture → Connection → Type 0
+StandsIn d capture (Session reference (told.Kept count stands)) = IsKeptStanding d capture stands
+StandsIn d capture connection = Unit {0}
 
 pub record Determined (capture : Capture) (v : Verdict) : Type 0 where
   pub first : Option Direction
   pub left : Facts
   pub right : Facts
   pub told : IsToldBy capture v first left right
-  pub left_stands : StandsIn Left capture left.members v.left.connection
-  pub right_stands : StandsIn Right capture right.members v.right.connection
+  pub left_stands : StandsIn Left capture v.left.connection
+  pub right_stands : StandsIn Right capture v.right.connection
 
 -- folded, so that a search for what else a verdict says does not look into it
 unfoldable pub IsDetermined : Capture → Verdict → Type 0
@@ -191,7 +188,7 @@ IsDetermined capture v = Determined capture v
 
 -- ---- what a judge knows
 
--- the facts of a side, by what is kept of it; the sessions before the unit at which it broke the protocol are not
+-- the facts of a side, by what is kept of it
 abbrev pub facts_of : Tapped → Stands → Facts
 facts_of t stands = record {
   reading = reading_of t;
@@ -200,8 +197,6 @@ facts_of t stands = record {
   found = t.side.finding;
   count = t.side.told;
   offset = t.line.last;
-  members = t.side.members;
-  at = [];
   stands = stands;
   by = t.side.by;
 }

@@ -8,7 +8,7 @@ ghost use Rattle.osi_judge.specs.Tapping.{IsFoundIn};
 ghost use Rattle.osi_dispute.specs.declared.verdicts.Verdict.{Verdict};
 ghost use Rattle.osi_dispute.specs.Disputes.{IsJudgement};
 ghost use Rattle.osi_dispute.specs.Facts.{Determined, IsDetermined};
-ghost use Rattle.osi_dispute.specs.Laws.{IsDecided, SameChoices};
+ghost use Rattle.osi_dispute.specs.Laws.{IsDecided, SameFirst};
 ghost use Rattle.osi_dispute.specs.Rows.{IsCaptureOf};
 ghost use Rattle.osi_dispute.specs.Texts.{outcome_line};
 
@@ -24,16 +24,15 @@ pub fn a_text_has_one_finding()
     a_capture_has_one_reading();
 }
 
-/// A capture has one verdict, and a text one judgement, but for what the definitions leave open. Of a side that is whether
-/// too many sessions explain it; and which of the sessions that explain it are kept, and in which order. If both sides broke
-/// the protocol, it is also which was first. Judgements that choose the same there have the same lines and the same status.
+/// A capture has one verdict, and a text one judgement, but for one thing: if both sides broke the protocol, the
+/// definitions leave open which was first. Judgements that tell the same side as the first have the same lines and the same status.
 pub fn a_text_has_one_judgement()
     ensures verdict { (capture : Capture) (v w : Verdict) (a : Determined capture v) (b : Determined capture w)
-        → SameChoices a.first b.first a.left a.right b.left b.right → v ≡ w }
+        → SameFirst a.first b.first a.left a.right → v ≡ w }
     ensures text { (text lines others : List ℕ) (status other : ℕ)
         (one : IsJudgement text lines status) (two : IsJudgement text others other)
         (a : Determined one.capture one.judged.verdict) (b : Determined two.capture two.judged.verdict)
-        → SameChoices a.first b.first a.left a.right b.left b.right → (lines ≡ others) × (status ≡ other) }
+        → SameFirst a.first b.first a.left a.right → (lines ≡ others) × (status ≡ other) }
 {
     a_capture_has_one_reading();
     a_side_is_found_in_one_way();

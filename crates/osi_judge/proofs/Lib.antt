@@ -1,6 +1,7 @@
 -- The proofs, in reading order.
-pub mod kept
+pub mod walked
 pub mod told
 pub mod outlined
 pub mod captured
 pub mod honest
+pub mod kept

@@ -1,12 +1,11 @@
--- Which sessions are kept of those that explain a side, and that they lose nothing.
-pub mod one_more_session
-pub mod a_walk_loses_no_explanation
-pub mod the_first_place_is_enough
-pub mod sessions_after_a_unit
-pub mod restarts_are_alike
-pub mod a_restart_waits
-pub mod a_walk_to_a_restart_keeps_two
-pub mod what_is_taken_between
-pub mod what_is_said_between
-pub mod what_ends_alike
-pub mod what_lies_between
+-- Which sessions are kept is a function of what was heard and told.
+pub mod two_sessions_are_compared
+pub mod a_session_takes_one_tsdu_at_a_time
+pub mod a_session_is_sought_among_the_last
+pub mod a_session_goes_on_by_one_function
+pub mod a_walk_keeps_who_sends_on_the_way
+pub mod a_restart_is_shown_by_its_number
+pub mod a_walk_to_a_restart_is_one_function
+pub mod all_sessions_are_walked_from
+pub mod what_is_kept_is_of_what_had_passed
+pub mod what_is_kept_follows_what_is_told

@@ -1,5 +1,5 @@
 -- The break of a side at a TSDU: at the first of its units that no session sends.
-use Rattle.std.specs.Prelude.{◌≡◌, ◌↔◌, ℕ, false, List, [], ◌∷◌, ◌++◌, length, Some, Result, Ok, Err}
+use Rattle.std.specs.Prelude.{◌≡◌, ℕ, false, List, [], ◌∷◌, ◌++◌, length, Some, Result, Ok, Err}
 use Rattle.osi_spdu.specs.declared.faults.SpduFault.{SpduFault}
 use Rattle.osi_spdu.specs.Known.{Contents, Units}
 use Rattle.osi_spdu.specs.Reading.{tsdu_at}
@@ -12,24 +12,24 @@ use Rattle.osi_judge.specs.declared.rules.Rule.TheVariants.{Breach}
 use Rattle.osi_session.specs.declared.breaches.Breach.TheVariants.{Outside}
 use Rattle.osi_spdu.specs.declared.kinds.Kind.TheVariants.{Accept}
 use Rattle.osi_judge.specs.Foremost.{foremost}
-use Rattle.osi_judge.specs.Members.{SomeExplains, is_empty}
+use Rattle.osi_judge.specs.Kept.{after_word}
+use Rattle.osi_judge.specs.Members.{is_empty}
 use Rattle.osi_judge.specs.Nearest.{a_unit, unread, break_of}
-use Rattle.osi_judge.specs.Walking.{the_remark, Ever}
 
--- the members behind a unit explain what those before it explain with this unit first
+-- these are the sessions that are kept after a unit of a TSDU of so many octets
 abbrev pub Leads : (heard : List (List ℕ)) → (octets before : ℕ) → List Member → Contents → List Member → Type 0
-Leads heard octets before members unit next =
-    Ever heard before (λ us later. SomeExplains us members (the_remark (word unit) octets before ∷ later) ↔ SomeExplains us next later)
+Leads heard octets before members unit next = next ≡ after_word heard octets before members (word unit)
 
--- what is left behind a unit
+-- what is left after a unit
 abbrev pub LeavesBehind : (heard : List (List ℕ)) → (octets before : ℕ) → List Member → Contents → Behind → Type 0
 LeavesBehind heard octets before members unit (behind.Members next) =
     Leads heard octets before members unit next.items × (is_empty next.items ≡ false)
 LeavesBehind heard octets before members unit (behind.Break by) =
     Leads heard octets before members unit [] × (by ≡ break_of (a_unit unit octets) heard before members)
 
--- The break within these units of a TSDU of so many octets, before which `before` TSDUs had passed: from the sessions that
--- explain what was sent before these units, to those that explain what was sent before the unit that no session sends.
+-- The break within these units of a TSDU of so many octets, before which `before` TSDUs had passed: from the sessions that are
+-- kept of those that explain what was sent before these units, to those that explain what was sent before the unit that no
+-- session sends.
 pub data BreaksIn (heard : List (List ℕ)) (octets before : ℕ) : List Member → Units → List Member → Break → Type 0 where
   -- no session sends this one
   here : (members : List Member) (unit : Contents) (units : Units) (by : Break) → Leads heard octets before members unit []
@@ -52,7 +52,7 @@ abbrev pub BreaksAs : (heard : List (List ℕ)) → (octets before : ℕ) → Li
 BreaksAs heard octets before members (Ok units) at by = BreaksIn heard octets before members (in_effect units) at by
 BreaksAs heard octets before members (Err fault) at by = (at ≡ members) × (by ≡ break_of (unread fault) heard before members)
 
--- the break at a TSDU, of a side that these members explain up to there
+-- the break at a TSDU, of a side that these sessions explain up to there
 abbrev pub BreaksWith : (heard : List (List ℕ)) → (tsdu : List ℕ) → (before : ℕ) → List Member → (at : List Member) → Break → Type 0
 BreaksWith heard tsdu before members at by = BreaksAs heard (length tsdu) before members (tsdu_at tsdu) at by
 

@@ -9,11 +9,13 @@ pub mod Profiles
 pub mod Members
 pub mod Foremost
 pub mod Nearest
+pub mod Kept
 pub mod Walking
 pub mod Breaking
 pub mod Judging
 pub mod Sides
 pub mod Tapping
+pub mod KeptIn
 pub mod Running
 pub mod Feeding
 pub mod Onward

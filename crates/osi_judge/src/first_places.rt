@@ -5,6 +5,8 @@ ghost use Rattle.osi_message.specs.Reading.{word};
 ghost use Rattle.osi_session.specs.Steady.{is_steady};
 ghost use Rattle.osi_spdu.specs.Units.{said_by};
 ghost use Rattle.osi_judge.specs.Explaining.{Explains};
+ghost use Rattle.osi_judge.specs.Kept.{sends, quietly, StepsAs, first_sender};
+ghost use Rattle.osi_judge.specs.Nearest.{next_of, reached};
 ghost use Rattle.osi_judge.specs.Walking.{the_remark, SaysTo, HearsTo, MovesTo, StepsTo, IsNext, OneExplains, Ever};
 
 use crate::heard::Heard;
@@ -30,7 +32,8 @@ pub(crate) fn hears(
     standing: Standing,
     tsdu: &[u8],
 ) -> Result<Option<Standing>, AllocError>
-    ensures { IfOk result (λ t. HearsTo standing tsdu.now t) }
+    ensures hears { IfOk result (λ t. HearsTo standing tsdu.now t) }
+    ensures value { IfOk result (λ t. t ≡ quietly standing tsdu.now) }
 {
     let Some(taking) = standing.take(alloc, tsdu)? else {
         return Ok(None);
@@ -44,7 +47,8 @@ pub(crate) fn hears(
 /// The member after it took the next TSDU and sent nothing, if it can.
 pub(crate) fn moves(alloc: Global, heard: &Heard, at: &Member) -> Result<Option<Member>, AllocError>
     requires { at.now.taken < length heard.now }
-    ensures { IfOk result (λ r. MovesTo heard.now at.now r) }
+    ensures moves { IfOk result (λ r. MovesTo heard.now at.now r) }
+    ensures value { IfOk result (λ r. r ≡ next_of heard.now at.now) }
 {
     let tsdu = tsdu_at(heard, at.taken);
     match hears(alloc, at.standing, tsdu)? {
@@ -58,7 +62,8 @@ pub(crate) fn moves(alloc: Global, heard: &Heard, at: &Member) -> Result<Option<
 
 /// The member after it sent the unit now, if it may.
 pub(crate) fn says(unit: &Spdu, octets: usize, at: &Member) -> Option<Member>
-    ensures { SaysTo at.now (word (said_by unit.now)) octets result }
+    ensures says { SaysTo at.now (word (said_by unit.now)) octets result }
+    ensures value { result ≡ sends (word (said_by unit.now)) octets at.now }
 {
     match at.standing.say(unit, octets) {
         Ok(standing) => Some(Member {
@@ -91,6 +96,7 @@ fn next_step(
     requires { at.now.taken < length heard.now }
     ensures does { IfOk result (λ s. StepsTo heard.now (word (said_by unit.now)) octets at.now s) }
     ensures moved { IfOk result (λ s. IsNext at.now s) }
+    ensures value { IfOk result (λ s. StepsAs heard.now (word (said_by unit.now)) octets at.now s) }
 {
     if let Some(said) = says(unit, octets, at) {
         return Ok(Step::Said(said));
@@ -114,8 +120,9 @@ pub(crate) fn first_place(
 ) -> Result<Option<Member>, AllocError>
     requires passed { before ≤ length heard.now }
     requires steady { is_steady (word (said_by unit.now)) ≡ true }
-    ensures { IfOk result (λ r. Ever heard.now before (λ us later.
+    ensures explains { IfOk result (λ r. Ever heard.now before (λ us later.
         Explains us (the_remark (word (said_by unit.now)) octets before ∷ later) member.taken member.standing ↔ OneExplains us later r)) }
+    ensures value { IfOk result (λ r. r ≡ first_sender (word (said_by unit.now)) octets (reached heard.now before member)) }
 {
     let mut at = member;
     'takes: while at.taken < before {

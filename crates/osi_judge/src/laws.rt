@@ -1,6 +1,6 @@
 //! Laws of captures. Each function does nothing: its contract is the law.
 
-ghost use Rattle.std.specs.Prelude.{◌≡◌, ◌≤◌, ◌+◌, ◌++◌, ◌∷◌, ◌⊎◌, [], ℕ, List, None, Ok, Some, true, false, length, replicate};
+ghost use Rattle.std.specs.Prelude.{◌≡◌, ◌≤◌, ◌+◌, ◌++◌, ◌∷◌, ◌⊎◌, [], ℕ, List, Option, None, Ok, Some, true, false, length, replicate};
 ghost use Rattle.osi_message.specs.declared.places.Place.{Place};
 ghost use Rattle.osi_message.specs.Meanings.{Meaning, DT};
 ghost use Rattle.osi_message.specs.Reading.{said_at};
@@ -19,6 +19,7 @@ ghost use Rattle.osi_judge.specs.declared.members.Member.{Member};
 ghost use Rattle.osi_judge.specs.declared.standings.Stands.{Stands};
 ghost use Rattle.osi_judge.specs.Explaining.{Remark, Told, Explains, IsExplained};
 ghost use Rattle.osi_judge.specs.Foremost.{foremost, IsForemost};
+ghost use Rattle.osi_judge.specs.KeptIn.{AreKeptIn, HasRoomIn};
 ghost use Rattle.osi_judge.specs.Members.{is_empty};
 ghost use Rattle.osi_judge.specs.Nearest.{Unsaid, reached, far, nearest};
 ghost use Rattle.osi_judge.specs.Onward.{IsNearest, StandsBehind};
@@ -42,6 +43,18 @@ pub fn a_capture_has_one_reading()
 pub fn a_side_is_found_in_one_way()
     ensures { (d : Direction) (capture : Capture) (f g : Finding) → is_judged f ≡ true → is_judged g ≡ true
         → IsFoundIn d capture f → IsFoundIn d capture g → place_of f ≡ place_of g }
+{
+    a_capture_has_one_reading();
+}
+
+/// Which of the sessions that explain a side of a capture are kept, and in which order, depends on the capture alone: those
+/// that explain all that it sent, or what it sent before one of its TSDUs. And of the side it is either found that they
+/// became too many, or one of the other findings.
+pub fn a_side_has_one_list_of_sessions()
+    ensures sessions { (d : Direction) (capture : Capture) (place : Option ℕ) (some others : List Member)
+        → AreKeptIn d capture place some → AreKeptIn d capture place others → some ≡ others }
+    ensures judged { (d : Direction) (capture : Capture) (f g : Finding) → IsFoundIn d capture f → IsFoundIn d capture g
+        → HasRoomIn d capture f → HasRoomIn d capture g → is_judged f ≡ is_judged g }
 {
     a_capture_has_one_reading();
 }

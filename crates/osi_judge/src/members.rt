@@ -1,8 +1,9 @@
 //! Members: the sessions that still explain what a side sent.
 
-ghost use Rattle.std.specs.Prelude.{◌≡◌, ◌↔◌, ◌⊎◌, true, IfOk, OnOk, List, ℕ};
+ghost use Rattle.std.specs.Prelude.{◌≡◌, ◌↔◌, ◌⊎◌, ◌-◌, true, IfOk, OnOk, List, ℕ, drop, length};
 ghost use Rattle.osi_judge.specs.Explaining.{Remark, Explains};
 ghost use Rattle.osi_judge.specs.Judging.{is_empty};
+ghost use Rattle.osi_judge.specs.Kept.{same_member, is_among, added};
 ghost use Rattle.osi_judge.specs.Members.{SomeExplains};
 
 use osi_session::Standing;
@@ -21,7 +22,8 @@ const NEAR: usize = 256;
 
 /// Whether two members are one. Most of those at one place differ in V(A), so that is looked at first.
 fn is_same_member(one: &Member, other: &Member) -> bool
-    ensures { result ≡ true → (one.now.taken ≡ other.now.taken) × (one.now.standing ≡ other.now.standing) }
+    ensures same { result ≡ true → (one.now.taken ≡ other.now.taken) × (one.now.standing ≡ other.now.standing) }
+    ensures value { result ≡ same_member one.now other.now }
 {
     if one.taken != other.taken {
         return false;
@@ -34,7 +36,9 @@ fn is_same_member(one: &Member, other: &Member) -> bool
 
 /// Whether it is one of the last of these.
 fn is_among(members: &[Member], member: &Member) -> bool
-    ensures { (us : List (List ℕ)) (later : List Remark) → result ≡ true → Explains us later member.now.taken member.now.standing → SomeExplains us members.now later }
+    ensures explained { (us : List (List ℕ)) (later : List Remark) → result ≡ true
+        → Explains us later member.now.taken member.now.standing → SomeExplains us members.now later }
+    ensures value { result ≡ is_among member.now (drop (length members.now - 256) members.now) }
 {
     let first = members.len().saturating_sub(NEAR);
     let mut at = members.len();
@@ -49,8 +53,9 @@ fn is_among(members: &[Member], member: &Member) -> bool
 
 /// Adds one, unless it is there already, among the last.
 pub(crate) fn add(members: &mut Vec<Member>, member: Member) -> Result<(), AllocError>
-    ensures { OnOk result ((us : List (List ℕ)) (later : List Remark) →
+    ensures explained { OnOk result ((us : List (List ℕ)) (later : List Remark) →
         (SomeExplains us members.old.items later ⊎ Explains us later member.taken member.standing) ↔ SomeExplains us members.new.items later) }
+    ensures value { OnOk result (members.new.items ≡ added members.old.items member) }
 {
     if is_among(members, &member) {
         return Ok(());

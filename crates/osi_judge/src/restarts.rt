@@ -5,7 +5,9 @@
 //! confirmation of a minor point before, which sets V(A). Of the sessions of one walk that differ in V(A) alone the first
 //! and the last are kept, which have the lowest and the highest V(A).
 
-ghost use Rattle.std.specs.Prelude.{◌≡◌, ◌<◌, ◌≤◌, ◌+◌, ◌↔◌, ◌⊎◌, ◌∷◌, IfOk, OnOk, IfSome, length, true, [], get_or, List, ℕ};
+ghost use Rattle.std.specs.Prelude.{◌≡◌, ◌<◌, ◌≤◌, ◌+◌, ◌↔◌, ◌⊎◌, ◌∷◌, ◌-◌, suc, IfOk, OnOk, IfSome, MatchOption, length, true, []};
+ghost use Rattle.std.specs.Prelude.{get_or, List, ℕ, Some, None};
+ghost use Rattle.std.specs.List.{fold};
 ghost use Rattle.osi_message.specs.Reading.{word};
 ghost use Rattle.osi_message.specs.Words.{Word};
 ghost use Rattle.osi_session.specs.Joining.{is_restart_word};
@@ -13,6 +15,9 @@ ghost use Rattle.osi_session.specs.Phases.{is_restarting};
 ghost use Rattle.osi_session.specs.Steady.{Hears};
 ghost use Rattle.osi_spdu.specs.Units.{said_by};
 ghost use Rattle.osi_judge.specs.Explaining.{Remark, Explains};
+ghost use Rattle.osi_judge.specs.Kept.{added, quietly, restart_at, an_abort, way_of, way_to, both_of, is_between, joined, asks, is_still};
+ghost use Rattle.osi_judge.specs.Kept.{waits, waited};
+ghost use Rattle.osi_judge.specs.Kept.{askers, askers_from};
 ghost use Rattle.osi_judge.specs.Members.{SomeExplains, IsBehind};
 ghost use Rattle.osi_judge.specs.Walking.{the_remark, SaidHere, Ever};
 ghost use Rattle.osi_judge.specs.Waiting.{Waits, is_abort_word, Restarted, MayBeAsked, AskerIsAsked, Known, StillOpen};
@@ -20,7 +25,7 @@ ghost use Rattle.osi_judge.specs.Waiting.{Waits, is_abort_word, Restarted, MayBe
 use crate::first_places::{hears, moves, says, tsdu_at};
 use crate::heard::Heard;
 use crate::members::{Member, add};
-use osi_session::{Phase, Reply, Standing, is_restart_unit};
+use osi_session::{Phase, Standing};
 use osi_spdu::{ResyncType, Serial, Spdu, TokenSetting, Wish};
 use std::alloc::{AllocError, Global};
 
@@ -53,10 +58,11 @@ pub(crate) struct Asking<'a> {
     pub(crate) abort: Spdu<'a>,
 }
 
-/// A restart at this number, with all tokens to the other side.
+/// A restart at this number, with all tokens to the other side; `None` if no unit has this number.
 fn restart_at<'a>(number: u32) -> Option<Spdu<'a>>
-    ensures { IfSome result (λ u. is_restart_word (word (said_by u)) ≡ true) }
+    ensures { MatchOption result (999999 < number) (λ u. (number ≤ 999999) × (word (said_by u) ≡ restart_at number)) }
 {
+    osi_spdu::laws::serial_digits();
     let number = Serial::new(number)?;
     let sides = TokenSetting {
         data_token: Wish::Answerer,
@@ -65,26 +71,21 @@ fn restart_at<'a>(number: u32) -> Option<Spdu<'a>>
         release: Wish::Answerer,
     };
     let unit = Spdu::resynchronize(sides, ResyncType::Restart, number, &[]);
-    if is_restart_unit(&unit) {
-        return Some(unit);
-    }
-    None
+    Some(unit)
 }
 
 /// An abort of a provider.
-fn an_abort<'a>() -> Option<Spdu<'a>>
-    ensures { IfSome result (λ u. is_abort_word (word (said_by u)) ≡ true) }
+fn an_abort<'a>() -> Spdu<'a>
+    ensures { word (said_by result) ≡ an_abort }
 {
-    let unit = Spdu::abort(RELEASES, &[]);
-    if Reply::ProtocolError.is_said_by(&unit) {
-        return Some(unit);
-    }
-    None
+    osi_spdu::laws::serial_digits();
+    Spdu::abort(RELEASES, &[])
 }
 
 /// Whether the session remains as it is when it takes this TSDU.
 fn stays(alloc: Global, standing: Standing, tsdu: &[u8]) -> Result<bool, AllocError>
-    ensures { IfOk result (λ b. b ≡ true → Hears standing tsdu.now standing) }
+    ensures hears { IfOk result (λ b. b ≡ true → Hears standing tsdu.now standing) }
+    ensures value { IfOk result (λ b. b ≡ is_still standing (quietly standing tsdu.now)) }
 {
     match hears(alloc, standing, tsdu)? {
         Some(next) => Ok(next.is_same(&standing)),
@@ -101,7 +102,8 @@ fn is_restarting(phase: Phase) -> bool
 /// Whether the session waits for the answer to its restart, and discards this TSDU, also if it aborts first.
 fn waits(alloc: Global, abort: &Spdu, standing: Standing, tsdu: &[u8]) -> Result<bool, AllocError>
     requires { is_abort_word (word (said_by abort.now)) ≡ true }
-    ensures { IfOk result (λ b. b ≡ true → Waits standing tsdu.now) }
+    ensures holds { IfOk result (λ b. b ≡ true → Waits standing tsdu.now) }
+    ensures value { IfOk result (λ b. b ≡ waits (word (said_by abort.now)) standing tsdu.now) }
 {
     if !is_restarting(standing.phase()) {
         return Ok(false);
@@ -120,8 +122,9 @@ fn waits(alloc: Global, abort: &Spdu, standing: Standing, tsdu: &[u8]) -> Result
 
 /// Keeps those that wait as members that took so many TSDUs.
 fn keep(taken: usize, asked: Option<Asked>, next: &mut Vec<Member>) -> Result<(), AllocError>
-    ensures { OnOk result ((us : List (List ℕ)) (later : List Remark) →
+    ensures explains { OnOk result ((us : List (List ℕ)) (later : List Remark) →
         Known us later taken next.old.items asked ↔ SomeExplains us next.new.items later) }
+    ensures value { OnOk result (next.new.items ≡ fold added next.old.items (both_of taken asked)) }
 {
     let Some(asked) = asked else {
         return Ok(());
@@ -144,8 +147,9 @@ fn keep(taken: usize, asked: Option<Asked>, next: &mut Vec<Member>) -> Result<()
 
 /// Whether the V(A) of the last lies between that of the first and that of this one.
 fn lies_between(asked: &Asked, said: &Standing) -> bool
-    ensures { result ≡ true → (asked.now.first.state.numbers.confirmed ≤ asked.now.last.state.numbers.confirmed)
+    ensures holds { result ≡ true → (asked.now.first.state.numbers.confirmed ≤ asked.now.last.state.numbers.confirmed)
         × (asked.now.last.state.numbers.confirmed ≤ said.now.state.numbers.confirmed) }
+    ensures value { result ≡ is_between asked.now said.now }
 {
     let last = asked.last.numbers().confirmed;
     asked.first.numbers().confirmed <= last && last <= said.numbers().confirmed
@@ -163,6 +167,8 @@ fn join(
         → MayBeAsked restart other octets asked → Restarted restart other octets said shown
         → MayBeAsked restart other octets r × ((us : List (List ℕ)) (later : List Remark) →
         (Known us later taken next.old.items asked ⊎ Explains us later taken said) ↔ Known us later taken next.new.items r)) }
+    ensures value { IfOk result (λ r. (r ≡ (joined taken asked said shown).waiting)
+        × (next.new.items ≡ fold added next.old.items (joined taken asked said shown).kept)) }
 {
     let one = Asked {
         first: said,
@@ -208,6 +214,8 @@ fn ask(
     ensures gives { IfOk result (λ r. (us : List (List ℕ)) (later : List Remark) →
         (Known us later asker.at.taken next.old.items asker.asked ⊎ SaidHere us later (word (said_by asking.now.restart)) octets asker.at)
         ↔ Known us later asker.at.taken next.new.items r) }
+    ensures value { IfOk result (λ r. (r ≡ (asks (way_of asking.now octets) asker.asked asker.at).waiting)
+        × (next.new.items ≡ fold added next.old.items (asks (way_of asking.now octets) asker.asked asker.at).kept)) }
 {
     let Some(said) = says(&asking.restart, octets, &asker.at) else {
         return Ok(asker.asked);
@@ -240,6 +248,8 @@ fn wait(
     ensures gives { IfOk result (λ r. (us : List (List ℕ)) (later : List Remark) (before : ℕ)
         → taken < before → IsBehind before later → tsdu.now ≡ get_or us taken []
         → Known us later taken next.old.items asked ↔ Known us later (taken + 1) next.new.items r) }
+    ensures value { IfOk result (λ r. (r ≡ (waited (word (said_by abort.now)) taken asked tsdu.now).waiting)
+        × (next.new.items ≡ fold added next.old.items (waited (word (said_by abort.now)) taken asked tsdu.now).kept)) }
 {
     let Some(waiting) = asked else {
         return Ok(None);
@@ -275,6 +285,8 @@ fn step(
         ↔ StillOpen us later (the_remark (word (said_by asking.now.restart)) octets before) next.new.items r)) }
     ensures asked { IfOk result (λ r. AskerIsAsked (word (said_by asking.now.restart)) (word (said_by asking.now.shown)) octets r) }
     ensures moved { IfOk result (λ r. IfSome r (λ a. a.at.taken ≡ asker.at.taken + 1)) }
+    ensures value { IfOk result (λ r. (n : ℕ) → fold added next.new.items (askers_from heard.now (way_of asking.now octets) n r)
+        ≡ fold added next.old.items (askers_from heard.now (way_of asking.now octets) (suc n) (Some asker))) }
 {
     let asked = ask(asking, octets, asker, next)?;
     let taken = asker.at.taken;
@@ -301,10 +313,12 @@ pub(crate) fn walk_with(
     requires restart { is_restart_word (word (said_by asking.now.restart)) ≡ true }
     requires shown { is_restart_word (word (said_by asking.now.shown)) ≡ true }
     requires abort { is_abort_word (word (said_by asking.now.abort)) ≡ true }
-    ensures { OnOk result (Ever heard.now before (λ us later.
+    ensures explains { OnOk result (Ever heard.now before (λ us later.
         (SomeExplains us next.old.items later
         ⊎ Explains us (the_remark (word (said_by asking.now.restart)) octets before ∷ later) member.taken member.standing)
         ↔ SomeExplains us next.new.items later)) }
+    ensures value { OnOk result (next.new.items
+        ≡ fold added next.old.items (askers heard.now (way_of asking.now octets) (before - member.taken) None (Some member))) }
 {
     let mut asker = Asker {
         at: member,
@@ -325,11 +339,14 @@ pub(crate) fn walk_with(
 /// The units of a walk to this restart, from a session in this state. `None` if the state has no V(R) that a unit can
 /// name.
 pub(crate) fn restart_units<'a>(restart: Spdu<'a>, standing: &Standing) -> Option<Asking<'a>>
-    ensures { IfSome result (λ a. (a.restart ≡ restart.entry)
+    ensures words { IfSome result (λ a. (a.restart ≡ restart.entry)
         × (is_restart_word (word (said_by a.shown)) ≡ true) × (is_abort_word (word (said_by a.abort)) ≡ true)) }
+    ensures value { MatchOption result (999999 < standing.now.state.numbers.lowest) (λ a.
+        (standing.now.state.numbers.lowest ≤ 999999)
+        × ((octets : ℕ) → way_of a octets ≡ way_to (word (said_by restart.entry)) octets standing.now)) }
 {
     let shown = restart_at(standing.numbers().lowest)?;
-    let abort = an_abort()?;
+    let abort = an_abort();
     Some(Asking {
         restart,
         shown,

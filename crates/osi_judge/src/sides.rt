@@ -1,10 +1,11 @@
 //! One side of a connection, judged by what it sent and by what it may have taken.
 
-ghost use Rattle.std.specs.Prelude.{◌≡◌, ◌<◌, ◌≤◌, ◌⊎◌, ◌++◌, ◌∷◌, ◌+◌, [], false, Err, IfOk, OnOk, OnErr, List, ℕ, length, take, ◌-◌};
+ghost use Rattle.std.specs.Prelude.{◌≡◌, ◌<◌, ◌≤◌, ◌⊎◌, ◌++◌, ◌∷◌, ◌+◌, [], false, Err, IfOk, OnOk, OnErr, MatchBool, List, ℕ, length};
+ghost use Rattle.std.specs.Prelude.{take, ◌-◌};
 ghost use Rattle.osi_session.specs.Standing.{seen_called, seen_calling};
 ghost use Rattle.osi_judge.specs.Explaining.{Told};
 ghost use Rattle.osi_judge.specs.Breaking.{selection_of};
-ghost use Rattle.osi_judge.specs.Judging.{Watches, Keeps, BrokeBy, LeftBy, IsFound, FoundNext};
+ghost use Rattle.osi_judge.specs.Judging.{Watches, Keeps, BrokeBy, LeftBy, IsFound, HasRoom, FoundNext};
 ghost use Rattle.osi_judge.specs.Keeping.{once};
 ghost use Rattle.osi_judge.specs.Onward.{StandsFor};
 ghost use Rattle.osi_judge.specs.Outlines.{outline, outlines};
@@ -51,6 +52,13 @@ pub struct Side {
     before: usize,
     finding: Finding,
     by: Break,
+}
+
+/// Whether these are more sessions than are kept.
+fn is_crowd(members: &[Member]) -> bool
+    ensures { MatchBool result (4096 < length members.now) (length members.now ≤ 4096) }
+{
+    members.len() > MOST_MEMBERS
 }
 
 impl Side {
@@ -173,6 +181,9 @@ impl Side {
         ensures watches { OnOk result ((told : List Told) → Keeps (watched self.old) told → Watches (watched self.new) (told ++ record { octets = tsdu.now; before = before } ∷ [])) }
         ensures err { OnErr result (watched self.new ≡ watched self.old) }
     {
+        if self.told == usize::MAX {
+            return Err(AllocError);
+        }
         let members = behind_tsdu(self.alloc, &self.heard, tsdu, before, &self.members)?;
         if none_is_left(members.as_slice()) {
             return self.end(tsdu, before);
@@ -181,7 +192,7 @@ impl Side {
             self.leave(before);
             return Ok(());
         }
-        if self.is_crowd(members.as_slice()) {
+        if is_crowd(members.as_slice()) {
             self.finding = Finding::TooMany;
             return Ok(());
         }
@@ -189,14 +200,6 @@ impl Side {
         self.told += 1;
         self.before = before;
         Ok(())
-    }
-
-    /// Whether these are more sessions than are kept, or TSDUs are no more to be counted.
-    fn is_crowd(&self, members: &[Member]) -> bool
-        ensures few { result ≡ false → length members.now ≤ 4096 }
-        ensures counted { result ≡ false → (watched self.now).told + 1 < 18446744073709551616 }
-    {
-        members.len() > MOST_MEMBERS || self.told == usize::MAX
     }
 
     /// Whether a TSDU of this side is its first, and selects what is not selected here.
@@ -292,6 +295,8 @@ impl Side {
     pub fn finding(&self) -> Finding
         ensures value { result ≡ (watched self.now).finding }
         ensures found { (told : List Told) → Watches (watched self.now) told → IsFound (watched self.now).begin (watched self.now).heard told result }
+        ensures room { (told : List Told) → Watches (watched self.now) told → HasRoom (watched self.now).begin
+            (watched self.now).heard told result }
         ensures found_of { (us : List (List ℕ)) (told : List Told) → (watched self.now).heard ≡ outlines us → Watches (watched self.now) told
             → IsFound (watched self.now).begin us told result }
     {

@@ -6,6 +6,7 @@ ghost use Rattle.osi_session.specs.Joining.{acting_words};
 ghost use Rattle.osi_spdu.specs.Groups.{units_of};
 ghost use Rattle.osi_spdu.specs.Units.{said_by};
 ghost use Rattle.osi_judge.specs.Explaining.{Remark, Told, remarks_of};
+ghost use Rattle.osi_judge.specs.Kept.{after_word, after_words, after_tsdu};
 ghost use Rattle.osi_judge.specs.Members.{SomeExplains};
 ghost use Rattle.osi_judge.specs.Walking.{the_remark, remarked, Ever};
 
@@ -26,8 +27,9 @@ pub(crate) fn behind_unit(
     members: &[Member],
 ) -> Result<Vec<Member>, AllocError>
     requires { before ≤ length heard.now }
-    ensures { IfOk result (λ next. Ever heard.now before (λ us later.
+    ensures explains { IfOk result (λ next. Ever heard.now before (λ us later.
         SomeExplains us members.now (the_remark (word (said_by unit.now)) octets before ∷ later) ↔ SomeExplains us next.items later)) }
+    ensures value { IfOk result (λ next. next.items ≡ after_word heard.now octets before members.now (word (said_by unit.now))) }
 {
     let mut next = Vec::new(alloc);
     'members: for member in members {
@@ -53,8 +55,10 @@ fn behind_units(
     members: &[Member],
 ) -> Result<Vec<Member>, AllocError>
     requires { before ≤ length heard.now }
-    ensures { IfOk result (λ next. Ever heard.now before (λ us later.
+    ensures explains { IfOk result (λ next. Ever heard.now before (λ us later.
         SomeExplains us members.now (map (remarked octets before) (acting_words (said_by_units (units_of group.now))) ++ later) ↔ SomeExplains us next.items later)) }
+    ensures value { IfOk result (λ next. next.items
+        ≡ after_words heard.now octets before members.now (acting_words (said_by_units (units_of group.now)))) }
 {
     let first = *group.first();
     let mut behind = group.behind();
@@ -81,8 +85,10 @@ pub(crate) fn behind_tsdu(
     members: &[Member],
 ) -> Result<Vec<Member>, AllocError>
     requires { before ≤ length heard.now }
-    ensures { IfOk result (λ next. Ever heard.now before (λ us later.
+    ensures explains { IfOk result (λ next. Ever heard.now before (λ us later.
         SomeExplains us members.now (remarks_of (record { octets = tsdu.now; before = before }) ++ later) ↔ SomeExplains us next.items later)) }
+    ensures value { IfOk result (λ next. next.items
+        ≡ after_tsdu heard.now members.now (record { octets = tsdu.now; before = before })) }
 {
     match read_tsdu(tsdu) {
         Ok(group) => behind_units(alloc, heard, &group, tsdu.len(), before, members),

@@ -1,12 +1,15 @@
 //! How a session continues to the next unit that its side sent: it sends the unit now, or takes TSDUs of the other
 //! side first.
 
-ghost use Rattle.std.specs.Prelude.{◌≡◌, ◌<◌, ◌≤◌, ◌+◌, ◌↔◌, ◌⊎◌, ◌∷◌, IfOk, OnOk, IfSome, length, true, List, ℕ, Some};
+ghost use Rattle.std.specs.Prelude.{◌≡◌, ◌<◌, ◌≤◌, ◌+◌, ◌↔◌, ◌⊎◌, ◌∷◌, ◌-◌, suc, IfOk, OnOk, IfSome, length, true, List, ℕ, Some, None};
+ghost use Rattle.std.specs.List.{fold};
 ghost use Rattle.osi_message.specs.Reading.{word};
 ghost use Rattle.osi_session.specs.Joining.{is_restart_word};
 ghost use Rattle.osi_session.specs.Steps.{reply_of};
 ghost use Rattle.osi_spdu.specs.Units.{said_by};
 ghost use Rattle.osi_judge.specs.Explaining.{Remark, Explains};
+ghost use Rattle.osi_judge.specs.Kept.{added, sends, is_covered, anew, latest, follows, if_answer, senders, senders_from, restarters};
+ghost use Rattle.osi_judge.specs.Kept.{places_of};
 ghost use Rattle.osi_judge.specs.Members.{SomeExplains};
 ghost use Rattle.osi_judge.specs.Walking.{the_remark, SaysIt, Answers, MayFollow, Turns, Ever};
 
@@ -29,7 +32,8 @@ pub(crate) struct Walker {
 
 /// Whether a session that sent the unit earlier is in this state by now.
 fn is_covered(said_before: Option<Standing>, said: &Standing) -> bool
-    ensures { result ≡ true → said_before ≡ Some said.now }
+    ensures same { result ≡ true → said_before ≡ Some said.now }
+    ensures value { result ≡ is_covered said_before said.now }
 {
     match said_before {
         Some(before) => before.is_same(said),
@@ -44,7 +48,11 @@ fn say_it(
     walker: Walker,
     next: &mut Vec<Member>,
 ) -> Result<Walker, AllocError>
-    ensures { IfOk result (λ w. (us : List (List ℕ)) (later : List Remark) → SaysIt us later (word (said_by unit.now)) octets next.old.items next.new.items walker w) }
+    ensures says { IfOk result (λ w. (us : List (List ℕ)) (later : List Remark) → SaysIt us later (word
+        (said_by unit.now)) octets next.old.items next.new.items walker w) }
+    ensures value { IfOk result (λ w.
+        (next.new.items ≡ fold added next.old.items (anew walker.said_before (sends (word (said_by unit.now)) octets walker.at)))
+        × (w ≡ record { at = walker.at; said_before = latest walker.said_before (sends (word (said_by unit.now)) octets walker.at) })) }
 {
     let at = walker.at;
     let Ok(said) = at.standing.say(unit, octets) else {
@@ -69,7 +77,10 @@ fn say_it(
 
 /// Counts the answer to a TSDU that was taken, if the unit is this answer.
 fn answer(unit: &Spdu, reply: Reply, at: Member, next: &mut Vec<Member>) -> Result<(), AllocError>
-    ensures { OnOk result ((us : List (List ℕ)) (later : List Remark) → Answers us later (word (said_by unit.now)) (reply_of reply) at next.old.items next.new.items) }
+    ensures answers { OnOk result ((us : List (List ℕ)) (later : List Remark) → Answers us later (word (said_by unit.now))
+        (reply_of reply) at next.old.items next.new.items) }
+    ensures value { OnOk result (next.new.items
+        ≡ fold added next.old.items (if_answer (word (said_by unit.now)) (Some (reply_of reply)) at)) }
 {
     if !reply.is_said_by(unit) {
         return Ok(());
@@ -83,7 +94,8 @@ fn follow(
     said_before: Option<Standing>,
     tsdu: &[u8],
 ) -> Result<Option<Standing>, AllocError>
-    ensures { IfOk result (λ t. MayFollow said_before tsdu.now t) }
+    ensures follows { IfOk result (λ t. MayFollow said_before tsdu.now t) }
+    ensures value { IfOk result (λ t. t ≡ follows said_before tsdu.now) }
 {
     match said_before {
         Some(standing) => hears(alloc, standing, tsdu),
@@ -105,6 +117,9 @@ fn turn(
     ensures turns { IfOk result (λ r. (before : ℕ) → walker.at.taken < before →
         Ever heard.now before (λ us later. Turns us later (the_remark (word (said_by unit.now)) octets before) next.old.items next.new.items walker r)) }
     ensures moved { IfOk result (λ r. IfSome r (λ w. w.at.taken ≡ walker.at.taken + 1)) }
+    ensures value { IfOk result (λ r. (n : ℕ) →
+        fold added next.new.items (senders_from heard.now (word (said_by unit.now)) octets n r)
+        ≡ fold added next.old.items (senders_from heard.now (word (said_by unit.now)) octets (suc n) (Some walker))) }
 {
     let said = say_it(unit, octets, walker, next)?;
     let taken = walker.at.taken;
@@ -137,8 +152,10 @@ fn walk_through(
     next: &mut Vec<Member>,
 ) -> Result<(), AllocError>
     requires { before ≤ length heard.now }
-    ensures { OnOk result (Ever heard.now before (λ us later.
+    ensures explains { OnOk result (Ever heard.now before (λ us later.
         (SomeExplains us next.old.items later ⊎ Explains us (the_remark (word (said_by unit.now)) octets before ∷ later) member.taken member.standing) ↔ SomeExplains us next.new.items later)) }
+    ensures value { OnOk result (next.new.items
+        ≡ fold added next.old.items (senders heard.now (word (said_by unit.now)) octets (before - member.taken) None (Some member))) }
 {
     let mut walker = Walker {
         at: member,
@@ -166,10 +183,12 @@ fn walk_to_restart(
 ) -> Result<(), AllocError>
     requires passed { before ≤ length heard.now }
     requires restart { is_restart_word (word (said_by unit.now)) ≡ true }
-    ensures { OnOk result (Ever heard.now before (λ us later.
+    ensures explains { OnOk result (Ever heard.now before (λ us later.
         (SomeExplains us next.old.items later
         ⊎ Explains us (the_remark (word (said_by unit.now)) octets before ∷ later) member.taken member.standing)
         ↔ SomeExplains us next.new.items later)) }
+    ensures value { OnOk result (next.new.items
+        ≡ fold added next.old.items (restarters heard.now (word (said_by unit.now)) octets before member)) }
 {
     match restart_units(*unit, &member.standing) {
         Some(asking) => walk_with(alloc, heard, &asking, octets, before, member, next),
@@ -188,8 +207,10 @@ pub(crate) fn walk(
     next: &mut Vec<Member>,
 ) -> Result<(), AllocError>
     requires { before ≤ length heard.now }
-    ensures { OnOk result (Ever heard.now before (λ us later.
+    ensures explains { OnOk result (Ever heard.now before (λ us later.
         (SomeExplains us next.old.items later ⊎ Explains us (the_remark (word (said_by unit.now)) octets before ∷ later) member.taken member.standing) ↔ SomeExplains us next.new.items later)) }
+    ensures value { OnOk result (next.new.items
+        ≡ fold added next.old.items (places_of heard.now (word (said_by unit.now)) octets before member)) }
 {
     if is_restart_unit(unit) {
         return walk_to_restart(alloc, heard, unit, octets, before, member, next);

@@ -19,7 +19,10 @@ use Rattle.osi_judge.specs.Captures.{Capture, other, stream}
 use Rattle.osi_judge.specs.Explaining.{Told, remarks, Explains, IsExplained}
 use Rattle.osi_judge.specs.Breaking.{BreaksWith}
 use Rattle.osi_judge.specs.Foremost.{foremost}
-use Rattle.osi_judge.specs.Judging.{Watched, AreAll, Keeps, BrokeBy, LeftBy, WatchesBy, Watches}
+use Rattle.osi_judge.specs.Judging.{Watched, AreAll, Keeps, BrokeBy, LeftBy, WatchesBy, Watches, up_to, HasRoom}
+use Rattle.osi_judge.specs.Kept.{kept}
+use Rattle.osi_judge.specs.KeptIn.{AreKeptIn, HasRoomIn, IsRuledIn, IsKeptStanding}
+use Rattle.osi_judge.proofs.told.what_is_known_of_a_side.{room_as}
 use Rattle.osi_judge.specs.Onward.{StandsFor, StandsBehind}
 use Rattle.osi_judge.specs.Walking.{Ever}
 use Rattle.osi_judge.specs.Transport.{Handshake, silent, asked, asked_again, agreed, denied, astray, first_unit, packet_length, met_before}
@@ -29,7 +32,7 @@ use Rattle.osi_judge.specs.Transport.{given_by, reference_in, Stage, opening, as
 use Rattle.osi_judge.specs.Transport.{stopped, moved, stage_behind}
 use Rattle.osi_judge.specs.Transport.{Sent, brought, sent_by, sent_from, ArePacketsOf, IsSent}
 use Rattle.osi_judge.specs.Tapping.{begin_of, heard, told, IsFoundIn, IsStoppedIn, IsReadIn, IsReferenceIn, IsPlaceIn, IsCountIn}
-use Rattle.osi_judge.specs.Tapping.{StandIn, IsStandingIn, IsRuleIn, IsFirstIn}
+use Rattle.osi_judge.specs.Tapping.{StandIn, IsStandingIn, IsFirstIn}
 use Rattle.osi_judge.specs.Feeding.{Tapped, reading_of, stopped_of}
 use Rattle.osi_judge.specs.Following.{Follows, Judged, half_of, Taps, FirstIs}
 use Rattle.osi_judge.proofs.captured.what_was_found_of_a_capture.{cut_as, packets_of, is_sent, is_read, is_given, is_stopped, is_found}
@@ -38,6 +41,8 @@ use Rattle.osi_judge.proofs.captured.which_side_broke_the_protocol_first.{first_
 use Rattle.osi_judge.proofs.captured.what_is_told_beside_is_of_the_capture.{count_kept, count_told, opening_given}
 use Rattle.osi_judge.proofs.outlined.a_rule_of_outlines_is_one_of_tsdus.{all_of_tsdus, explained_of_outlines, rule_of_tsdus}
 use Rattle.osi_judge.proofs.outlined.a_rule_of_outlines_is_one_of_tsdus.{stands_of_outlines}
+use Rattle.osi_judge.proofs.outlined.a_rule_of_outlines_is_one_of_tsdus.{kept_of_tsdus}
+use Rattle.osi_judge.proofs.outlined.a_rule_of_outlines_is_one_of_tsdus.{room_of_tsdus}
 use Rattle.osi_judge.proofs.outlined.alike_tsdus_explain_the_same.{said_of_tsdus}
 
 -- ---- a side that kept the protocol
@@ -102,18 +107,37 @@ standing_as d c t u us bs mine others f g e s k =
       behind = stands_of_outlines (heard others) m s (subst (λ (x : List (List ℕ)). StandsBehind x m s) f.heard h.behind);
     }
 
-pub is_standing : (d : Direction) (c : Capture) (j : Judged) → Taps j c → (half_of d j).side.finding ≡ Kept → (s : Stands)
-    → StandsHere (half_of d j).side s → IsStandingIn d c (half_of d j).side.members s
-is_standing side.Left c j h e s k = standing_as side.Left c j.left j.right h.left_units h.right_units h.left h.right h.of_left h.of_right e
-    s k
-is_standing side.Right c j h e s k = standing_as side.Right c j.right j.left h.right_units h.left_units h.right h.left h.of_right h.of_left
-    e s k
-
 -- ---- the rule by which a side broke the protocol
 
--- some sessions before the unit at which the side broke the protocol
 abbrev pub HasRule : Direction → Capture → Tapped → Finding → Type 0
-HasRule d c t found = (at : List Member) × IsRuleIn d c t.side.members at found t.side.by
+HasRule d c t found = IsRuledIn d c found t.side.by
+
+-- the sessions that are kept of a side before its break
+kept_in : (d : Direction) (c : Capture) (t u : Tapped) (us bs : List (List ℕ)) (mine others : List Sent) (place : Option ℕ)
+    → Follows d c t us bs mine others → Follows (other d) c u bs us others mine
+    → t.side.members ≡ kept t.side.begin t.side.heard (up_to place (told d c mine others)) → AreKeptIn d c place t.side.members
+kept_in d c t u us bs mine others place f g e =
+    let a = f.begin in
+    let b = f.heard in
+    let said = up_to place (told d c mine others) in record {
+      mine = mine;
+      others = others;
+      is_mine = is_sent d c t us bs mine others f (cut_as (other d) c u bs us others mine g);
+      is_others = is_sent (other d) c u bs us others mine g (packets_of d c us (cut_as d c t us bs mine others f));
+      kept = e ∙ (λ i. kept (a i) (b i) said) ∙ kept_of_tsdus (heard others) (begin_of d) said;
+    }
+
+-- all that is kept of what a side said
+any_kept : (d : Direction) (c : Capture) (t u : Tapped) (us bs : List (List ℕ)) (mine others : List Sent) (place : Option ℕ)
+    → Follows d c t us bs mine others → Follows (other d) c u bs us others mine
+    → AreKeptIn d c place (kept (begin_of d) (heard others) (up_to place (told d c mine others)))
+any_kept d c t u us bs mine others place f g = record {
+  mine = mine;
+  others = others;
+  is_mine = is_sent d c t us bs mine others f (cut_as (other d) c u bs us others mine g);
+  is_others = is_sent (other d) c u bs us others mine g (packets_of d c us (cut_as d c t us bs mine others f));
+  kept = refl;
+}
 
 rule_in : (d : Direction) (c : Capture) (t : Tapped) (us bs : List (List ℕ)) (mine others : List Sent) (x : Told) (at : List Member)
     → Follows d c t us bs mine others → BreaksWith t.side.heard x.octets x.before t.side.members at t.side.by
@@ -125,7 +149,9 @@ broken_as : (d : Direction) (c : Capture) (t u : Tapped) (us bs : List (List ℕ
     Follows d c t us bs mine others
     → Follows (other d) c u bs us others mine → BrokeBy t.side (told d c mine others) i → HasRule d c t (Broke i)
 broken_as d c t u us bs mine others i f g (x, s, b, l) = (
+  t.side.members,
   b.0,
+  kept_in d c t u us bs mine others (Some i) f g (s.kept t.side.heard (λ j p. refl)),
   record {
     mine = mine;
     others = others;
@@ -152,7 +178,9 @@ left_as : (d : Direction) (c : Capture) (t u : Tapped) (us bs : List (List ℕ))
     Follows d c t us bs mine others
     → Follows (other d) c u bs us others mine → LeftBy t.side (told d c mine others) i → HasRule d c t (Left i)
 left_as d c t u us bs mine others i f g (x, s, inl (b, l, k)) = (
+  t.side.members,
   b.0,
+  kept_in d c t u us bs mine others (Some i) f g (s.kept t.side.heard (λ j p. refl)),
   record {
     mine = mine;
     others = others;
@@ -167,7 +195,9 @@ left_as d c t u us bs mine others i f g (x, s, inl (b, l, k)) = (
   },
 )
 left_as d c t u us bs mine others i f g (x, s, inr (b, k)) = (
+  t.side.members,
   [],
+  kept_in d c t u us bs mine others (Some i) f g (s.kept t.side.heard (λ j p. refl)),
   record {
     mine = mine;
     others = others;
@@ -181,10 +211,10 @@ left_as d c t u us bs mine others i f g (x, s, inr (b, k)) = (
 rule_by : (found : Finding) (d : Direction) (c : Capture) (t u : Tapped) (us bs : List (List ℕ)) (mine others : List Sent) →
     Follows d c t us bs mine others
     → Follows (other d) c u bs us others mine → WatchesBy found t.side (told d c mine others) → HasRule d c t found
-rule_by Kept d c t u us bs mine others f g k = ([], tt)
+rule_by Kept d c t u us bs mine others f g k = (_, [], any_kept d c t u us bs mine others None f g, tt)
 rule_by (Broke i) d c t u us bs mine others f g k = broken_as d c t u us bs mine others i f g k.1
 rule_by (Left i) d c t u us bs mine others f g k = left_as d c t u us bs mine others i f g k.1
-rule_by TooMany d c t u us bs mine others f g k = ([], tt)
+rule_by TooMany d c t u us bs mine others f g k = (_, [], any_kept d c t u us bs mine others None f g, tt)
 
 -- what is known of the rule by which a side broke the protocol
 pub has_rule : (d : Direction) (c : Capture) (j : Judged) → Taps j c → HasRule d c (half_of d j) (half_of d j).side.finding
@@ -193,6 +223,42 @@ has_rule side.Left c j h = rule_by j.left.side.finding side.Left c j.left j.righ
 has_rule side.Right c j h = rule_by j.right.side.finding side.Right c j.right j.left h.right_units h.left_units h.right h.left h.of_right
     h.of_left h.of_right.watches
 
+-- how it stands that kept the protocol
+kept_standing : (d : Direction) (c : Capture) (t u : Tapped) (us bs : List (List ℕ)) (mine others : List Sent)
+    → Follows d c t us bs mine others
+    → Follows (other d) c u bs us others mine → t.side.finding ≡ Kept
+    → (s : Stands) → StandsHere t.side s → IsKeptStanding d c s
+kept_standing d c t u us bs mine others f g e s k = (
+  t.side.members,
+  kept_in d c t u us bs mine others None f g ((keeps_as t.side (told d c mine others) f.watches e).kept t.side.heard (λ j p. refl)),
+  standing_as d c t u us bs mine others f g e s k,
+)
+
+pub is_standing : (d : Direction) (c : Capture) (j : Judged) → Taps j c → (half_of d j).side.finding ≡ Kept → (s : Stands)
+    → StandsHere (half_of d j).side s → IsKeptStanding d c s
+is_standing side.Left c j h e s k = kept_standing side.Left c j.left j.right h.left_units h.right_units h.left h.right h.of_left
+    h.of_right e s k
+is_standing side.Right c j h e s k = kept_standing side.Right c j.right j.left h.right_units h.left_units h.right h.left h.of_right
+    h.of_left e s k
+
+-- whether the sessions became too many
+room_in : (d : Direction) (c : Capture) (t u : Tapped) (us bs : List (List ℕ)) (mine others : List Sent) → Follows d c t us bs mine others
+    → Follows (other d) c u bs us others mine → HasRoomIn d c t.side.finding
+room_in d c t u us bs mine others f g = record {
+  mine = mine;
+  others = others;
+  is_mine = is_sent d c t us bs mine others f (cut_as (other d) c u bs us others mine g);
+  is_others = is_sent (other d) c u bs us others mine g (packets_of d c us (cut_as d c t us bs mine others f));
+  room = subst (λ (b : Seen). HasRoom b (heard others) (told d c mine others) t.side.finding) f.begin
+      (room_of_tsdus (heard others) t.side.begin (told d c mine others) t.side.finding
+      (subst (λ (x : List (List ℕ)). HasRoom t.side.begin x (told d c mine others) t.side.finding) f.heard (room_as t.side
+      (told d c mine others) f.watches)));
+}
+
+has_room : (d : Direction) (c : Capture) (j : Judged) → Taps j c → HasRoomIn d c (half_of d j).side.finding
+has_room side.Left c j h = room_in side.Left c j.left j.right h.left_units h.right_units h.left h.right h.of_left h.of_right
+has_room side.Right c j h = room_in side.Right c j.right j.left h.right_units h.left_units h.right h.left h.of_right h.of_left
+
 -- ---- what is known of a side
 
 pub record KnownIn (d : Direction) (c : Capture) (t : Tapped) : Type 0 where
@@ -200,6 +266,7 @@ pub record KnownIn (d : Direction) (c : Capture) (t : Tapped) : Type 0 where
   pub given : IsReferenceIn d c t.line.reference
   pub stops : IsStoppedIn d c (stopped_of t)
   pub found : IsFoundIn d c t.side.finding
+  pub room : HasRoomIn d c t.side.finding
   pub count : t.side.finding ≡ Kept → IsCountIn d c t.side.told
   pub place : IsPlaceIn d c t.side.finding t.line.last
   pub rule : HasRule d c t t.side.finding
@@ -210,6 +277,7 @@ known_in d c j h = record {
   given = is_given d c j h;
   stops = is_stopped d c j h;
   found = is_found d c j h;
+  room = has_room d c j h;
   count = λ e. is_counted d c j h e (half_of d j).side.told (λ said k f. count_kept (half_of d j).side said k f);
   place = is_placed d c j h;
   rule = has_rule d c j h;

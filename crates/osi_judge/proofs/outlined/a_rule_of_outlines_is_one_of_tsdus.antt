@@ -1,52 +1,46 @@
 -- Which sessions explain a side, and which of them came nearest to what it sent: the same where outlines were heard as where the
 -- TSDUs themselves were. For the judge, which keeps outlines, and tells the rule by which a side of a capture broke the protocol.
-use Rattle.std.proofs.Common.{◌≡◌, ◌∙◌, refl, sym, ap, ap₂, subst, ℕ, zero, suc, ◌+◌, ◌-◌, ◌<◌, ◌↔◌, ◌⊎◌, inl, inr, Bool, false, List, []}
-use Rattle.std.proofs.Common.{◌∷◌, ◌++◌}
-use Rattle.std.proofs.Common.{get_or, replicate, length, Option, Some, None, option_map, Result, Ok, Err, if◌then◌else◌}
+use Rattle.std.proofs.Common.{◌≡◌, ◌∙◌, refl, sym, ap, ap₂, subst, ℕ, ◌+◌, ◌-◌, ◌<◌, ◌≤◌, ◌↔◌, ◌⊎◌, inl, inr, List, [], ◌∷◌, ◌++◌}
+use Rattle.std.proofs.Common.{replicate, length, take, Some, option_map, Result, Ok, Err, arith}
 use Rattle.std.specs.List.{fold, flat_map}
 use Rattle.osi_spdu.specs.declared.faults.SpduFault.{SpduFault}
 use Rattle.osi_spdu.specs.Known.{Contents, Units}
 use Rattle.osi_spdu.specs.Reading.{tsdu_at}
 use Rattle.osi_message.specs.Reading.{word}
-use Rattle.osi_session.specs.Standing.{Seen, Count, listens}
+use Rattle.osi_session.specs.Standing.{Seen}
 use Rattle.osi_judge.specs.declared.members.Member.{Member}
 use Rattle.osi_judge.specs.declared.rules.Break.{Break}
 use Rattle.osi_judge.specs.declared.rules.Near.{Near}
 use Rattle.osi_judge.specs.Breaking.{Leads, BreaksIn, here, last, later, BreaksAs, BreaksWith, in_effect}
 use Rattle.osi_judge.specs.Explaining.{Told, Remark, remarks, Explains, IsExplained}
-use Rattle.osi_judge.specs.Judging.{AreAll}
-use Rattle.osi_judge.specs.Members.{SomeExplains, is_empty}
-use Rattle.osi_judge.specs.Nearest.{Unsaid, a_unit, unread, count_at, quiet_by, next_of, becomes, reached, last_in, far, tried, nearest}
-use Rattle.osi_judge.specs.Nearest.{break_by, break_of}
+use Rattle.osi_judge.specs.declared.findings.Finding.{Finding}
+use Rattle.osi_judge.specs.declared.findings.Finding.TheVariants.{Kept, Broke, Left, TooMany}
+use Rattle.osi_judge.specs.Judging.{AreAll, IsFew, HasRoom}
+use Rattle.osi_judge.specs.Kept.{kept}
+use Rattle.osi_judge.specs.Members.{SomeExplains}
+use Rattle.osi_judge.specs.Nearest.{Unsaid, a_unit, unread, count_at, becomes, reached, last_in, far, tried, nearest, break_by, break_of}
 use Rattle.osi_judge.specs.declared.standings.Stands.{Stands}
 use Rattle.osi_judge.specs.Onward.{StandsBehind}
 use Rattle.osi_judge.specs.Outlines.{AreAlike, outlines}
-use Rattle.osi_judge.specs.Walking.{the_remark, Ever}
 use Rattle.osi_judge.proofs.outlined.alike_tsdus_explain_the_same.{Alike, back, explains_as, outlines_alike, extends_as, length_outlines}
 use Rattle.osi_judge.proofs.outlined.alike_tsdus_explain_the_same.{stands_of_tsdus}
+use Rattle.osi_judge.proofs.outlined.alike_tsdus_explain_the_same.{kept_of_tsdus as protocol_of_tsdus}
+use Rattle.osi_judge.proofs.kept.what_is_kept_is_of_what_had_passed.{ActAlike, becomes_alike, word_alike, kept_alike}
 
 -- ---- the sessions that one becomes
 
-count_as : (s : Seen) (a b : List ℕ) → AreAlike a b → count_at s a ≡ count_at s b
+pub all_alike : (us vs : List (List ℕ)) → Alike us vs → (n : ℕ) → ActAlike us vs n
 unfolding count_at
-count_as s a b h = h (record { state = s.state; joined = option_map (λ n. replicate n 0) s.joined })
+all_alike us vs h n = λ i l s. h i (record { state = s.state; joined = option_map (λ n. replicate n 0) s.joined })
 
-next_as : (us vs : List (List ℕ)) → Alike us vs → (m : Member) → next_of us m ≡ next_of vs m
-next_as us vs h m =
-    ap (λ (c : Count). if listens m.standing then quiet_by m c else None)
-    (count_as m.standing (get_or us m.taken []) (get_or vs m.taken []) (h m.taken))
-
-becomes_as : (us vs : List (List ℕ)) → Alike us vs → (n : ℕ) (m : Option Member) → becomes us n m ≡ becomes vs n m
-becomes_as us vs h n None = refl
-becomes_as us vs h zero (Some m) = refl
-becomes_as us vs h (suc n) (Some m) =
-    ap (λ (ms : List Member). m ∷ ms) (ap (λ (o : Option Member). becomes us n o) (next_as us vs h m) ∙ becomes_as us vs h n (next_of vs m))
+becomes_as : (us vs : List (List ℕ)) → Alike us vs → (n : ℕ) (m : Member) → becomes us n (Some m) ≡ becomes vs n (Some m)
+becomes_as us vs h n m = becomes_alike us vs (m.taken + n) (all_alike us vs h (m.taken + n)) n (Some m) (λ p. omega arith)
 
 reached_as : (us vs : List (List ℕ)) → Alike us vs → (before : ℕ) (members : List Member)
     → flat_map (reached us before) members ≡ flat_map (reached vs before) members
 reached_as us vs h before [] = refl
 reached_as us vs h before (m ∷ members) =
-    ap₂ (λ (a b : List Member). a ++ b) (becomes_as us vs h (before - m.taken) (Some m)) (reached_as us vs h before members)
+    ap₂ (λ (a b : List Member). a ++ b) (becomes_as us vs h (before - m.taken) m) (reached_as us vs h before members)
 
 -- ---- the session that came nearest
 
@@ -61,7 +55,7 @@ break_as us vs h u before members = ap (break_by u before) (nearest_as us vs h u
 
 pub stands_of_outlines : (us : List (List ℕ)) (m : Member) (s : Stands) → StandsBehind (outlines us) m s → StandsBehind us m s
 stands_of_outlines us m s h =
-    let b = becomes_as (outlines us) us (outlines_alike us) (length (outlines us) - m.taken) (Some m) in
+    let b = becomes_as (outlines us) us (outlines_alike us) (length (outlines us) - m.taken) m in
     stands_of_tsdus us m s h (h.goes ∙ ap (last_in m) b
     ∙ ap (λ (n : ℕ). last_in m (becomes us (n - m.taken) (Some m))) (length_outlines us))
 
@@ -101,13 +95,30 @@ all_of_tsdus begin heard before members told h = λ us later x b.
 
 leads_of_tsdus : (heard : List (List ℕ)) (octets before : ℕ) (members : List Member) (unit : Contents) (next : List Member)
     → Leads (outlines heard) octets before members unit next → Leads heard octets before members unit next
-leads_of_tsdus heard octets before members unit next h = λ us later x b.
-    let k = h (outlines us) later (extends_as us heard x) b in
-    let a = of_outlines us members (the_remark (word unit) octets before ∷ later) in
-    let s = of_outlines us next later in (
-      λ p. s.0 (k.0 (a.1 p)),
-      λ p. a.0 (k.1 (s.1 p)),
-    )
+leads_of_tsdus heard octets before members unit next h =
+    h ∙ word_alike (outlines heard) heard before (all_alike (outlines heard) heard (outlines_alike heard) before) octets members (word unit)
+
+-- the sessions that are kept
+pub kept_of_tsdus : (heard : List (List ℕ)) (begin : Seen) (told : List Told) → kept begin (outlines heard) told ≡ kept begin heard told
+kept_of_tsdus heard begin told = kept_alike (outlines heard) heard begin told (all_alike (outlines heard) heard (outlines_alike heard))
+
+few_of_tsdus : (heard : List (List ℕ)) (begin : Seen) (told : List Told) → IsFew begin (outlines heard) told → IsFew begin heard told
+few_of_tsdus heard begin told h = λ n. subst (λ (ms : List Member). length ms ≤ 4096) (kept_of_tsdus heard begin (take n told)) (h n)
+
+pub room_of_tsdus : (heard : List (List ℕ)) (begin : Seen) (told : List Told) (f : Finding) → HasRoom begin (outlines heard) told f
+    → HasRoom begin heard told f
+room_of_tsdus heard begin told Kept h = few_of_tsdus heard begin told h
+room_of_tsdus heard begin told (Broke i) h = few_of_tsdus heard begin (take i told) h
+room_of_tsdus heard begin told (Left i) h = few_of_tsdus heard begin (take i told) h
+room_of_tsdus heard begin told TooMany (i, l, k, c) = (
+  i,
+  l,
+  protocol_of_tsdus begin heard (take (i + 1) told) k,
+  (
+    few_of_tsdus heard begin (take i told) c.0,
+    subst (λ (ms : List Member). 4096 < length ms) (kept_of_tsdus heard begin (take (i + 1) told)) c.1,
+  ),
+)
 
 -- ---- the rule
 

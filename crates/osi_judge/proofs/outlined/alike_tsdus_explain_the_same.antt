@@ -152,7 +152,7 @@ same_selection us (t ∷ told) =
 
 -- ---- what is found
 
-kept_of_tsdus : (begin : Seen) (us : List (List ℕ)) (told : List Told) → IsKept begin (outlines us) told → IsKept begin us told
+pub kept_of_tsdus : (begin : Seen) (us : List (List ℕ)) (told : List Told) → IsKept begin (outlines us) told → IsKept begin us told
 kept_of_tsdus begin us told h = (explains_as (outlines us) us (outlines_alike us) _ _ _ h.0, sym (same_selection us told) ∙ h.1)
 
 not_explained : (begin : Seen) (us : List (List ℕ)) (told : List Told) → (IsExplained begin (outlines us) told → ⊥)

@@ -11,7 +11,7 @@ use Rattle.osi_session.specs.Standing.{Seen, Count}
 use Rattle.osi_judge.specs.declared.members.Member.{Member}
 use Rattle.osi_judge.specs.declared.standings.Stands.{Stands}
 use Rattle.osi_judge.specs.Onward.{StopsBy, IsAtEnd, standing_of, StandsBehind}
-use Rattle.osi_judge.proofs.kept.a_walk_loses_no_explanation.{takes_one}
+use Rattle.osi_judge.proofs.walked.a_walk_loses_no_explanation.{takes_one}
 
 -- answers that are sent alike are the same: they differ in what they are, or in their reason
 abbrev mark : Meaning → ℕ

@@ -1,7 +1,7 @@
 -- A side keeps the protocol, or strays from it at one TSDU: those before it are kept, and no more.
 -- For the law that a side is found in one way.
-use Rattle.std.proofs.Common.{◌≡◌, refl, sym, ap, subst, ℕ, suc, zero, ◌+◌, ◌<◌, ◌≤◌, ◌⊎◌, inl, inr, Bool, true, false, List, [], ◌∷◌, take}
-use Rattle.std.proofs.Common.{drop, Some, arith}
+use Rattle.std.proofs.Common.{◌≡◌, ◌∙◌, refl, sym, ap, subst, ℕ, suc, zero, ◌+◌, ◌<◌, ◌≤◌, ◌⊎◌, inl, inr, Bool, true, false, List, []}
+use Rattle.std.proofs.Common.{◌∷◌, length, take, drop, Option, Some, arith}
 use Rattle.std.proofs.lemmas.List.{take-append-drop}
 use Rattle.osi_session.specs.Standing.{Seen}
 use Rattle.osi_judge.specs.declared.directions.Direction.{Direction}
@@ -9,11 +9,14 @@ use Rattle.osi_judge.specs.declared.findings.Finding.{Finding}
 use Rattle.osi_judge.specs.declared.findings.Finding.TheVariants.{Kept, Broke, Left, TooMany}
 use Rattle.osi_judge.specs.Captures.{Capture, other}
 use Rattle.osi_judge.specs.Explaining.{Told, IsExplained}
-use Rattle.osi_judge.specs.Judging.{IsKept, IsAstray, IsFound}
+use Rattle.osi_judge.specs.declared.members.Member.{Member}
+use Rattle.osi_judge.specs.Judging.{IsKept, IsAstray, IsFound, IsFew, HasRoom, up_to}
+use Rattle.osi_judge.specs.Kept.{kept}
+use Rattle.osi_judge.specs.KeptIn.{AreKeptIn, HasRoomIn}
 use Rattle.osi_judge.specs.Profiles.{selects_outside}
 use Rattle.osi_judge.specs.Stops.{is_judged, place_of}
 use Rattle.osi_judge.specs.Tapping.{IsFoundIn, begin_of, heard, told}
-use Rattle.osi_judge.specs.Transport.{Sent}
+use Rattle.osi_judge.specs.Transport.{Sent, IsSent}
 use Rattle.osi_judge.proofs.honest.a_caller_is_explained.{front_told}
 use Rattle.osi_judge.proofs.honest.an_honest_side_is_kept.{OneReading}
 
@@ -122,3 +125,68 @@ one_way one d capture f g a b k h =
     one_found (begin_of d) (heard k.others) (told d capture k.mine k.others) f g
     (says (begin_of d) (heard k.others) (told d capture k.mine k.others) f a k.found)
     (says (begin_of d) (heard k.others) (told d capture k.mine k.others) g b found)
+
+-- ---- whether there were too many sessions
+
+too_many : (n : ℕ) → 4096 < n → n ≤ 4096 → ⊥
+too_many n h k = omega arith
+
+-- a side strayed, and up to there there were not too many sessions
+no_crowd : (begin : Seen) (us : List (List ℕ)) (said : List Told) (j : ℕ) → Strays begin us said j → IsFew begin us (take j said)
+    → HasRoom begin us said TooMany → ⊥
+no_crowd begin us said j s r (i, l, h, c) = elim (compare i j) [
+  | inl b ↦ too_many (length (kept begin us (take (i + 1) said))) c.1
+      (subst (λ (z : List Told). length (kept begin us z) ≤ 4096) (take_less said (i + 1) j (omega (arith, b))) (r (i + 1)))
+  | inr k ↦ (let m : j + 1 ≤ i + 1 = elim k [ inl b ↦ omega (arith, b) | inr e ↦ omega (arith, e) ] in
+      kept_or_astray begin us (take (j + 1) said)
+      (subst (λ (z : List Told). IsKept begin us z) (take_less said (j + 1) (i + 1) m) (front_kept begin us (take (i + 1) said)
+      (j + 1) h)) s.astray)
+]
+
+not_crowded : (begin : Seen) (us : List (List ℕ)) (said : List Told) (f : Finding) → is_judged f ≡ true → IsFound begin us said f
+    → HasRoom begin us said f → HasRoom begin us said TooMany → ⊥
+not_crowded begin us said Kept j k r (i, l, h, c) = too_many (length (kept begin us (take (i + 1) said))) c.1 (r (i + 1))
+not_crowded begin us said (Broke i) j k r h = no_crowd begin us said i (says begin us said (Broke i) j k) r h
+not_crowded begin us said (Left i) j k r h = no_crowd begin us said i (says begin us said (Left i) j k) r h
+not_crowded begin us said TooMany j k r h = absurd (cc)
+
+one_room : (begin : Seen) (us : List (List ℕ)) (said : List Told) (f g : Finding) (a b : Bool) → is_judged f ≡ a → is_judged g ≡ b
+    → IsFound begin us said f → IsFound begin us said g → HasRoom begin us said f → HasRoom begin us said g → a ≡ b
+one_room begin us said f g true true a b k h r s = refl
+one_room begin us said f g false false a b k h r s = refl
+one_room begin us said f TooMany true false a b k h r s = absurd (not_crowded begin us said f a k r s)
+one_room begin us said TooMany g false true a b k h r s = absurd (not_crowded begin us said g b h s r)
+one_room begin us said f Kept true false a b k h r s = absurd (cc)
+one_room begin us said f (Broke i) true false a b k h r s = absurd (cc)
+one_room begin us said f (Left i) true false a b k h r s = absurd (cc)
+one_room begin us said Kept g false true a b k h r s = absurd (cc)
+one_room begin us said (Broke i) g false true a b k h r s = absurd (cc)
+one_room begin us said (Left i) g false true a b k h r s = absurd (cc)
+
+-- what is said of the lists of TSDUs of both sides is said of any others
+same_lists : OneReading → (d : Direction) (capture : Capture) (mine others yours theirs : List Sent)
+    → IsSent d capture mine → IsSent (other d) capture others → IsSent d capture yours → IsSent (other d) capture theirs
+    → (P : List Sent → List Sent → Type 0) → P yours theirs → P mine others
+same_lists one d capture mine others yours theirs m o y t P h =
+    let a = one d capture yours mine y m in
+    let b = one (other d) capture theirs others t o in
+    subst (λ (z : List Sent × List Sent). P z.0 z.1) (λ i. (a i, b i)) h
+
+pub one_judged : OneReading → (d : Direction) (capture : Capture) (f g : Finding) → IsFoundIn d capture f → IsFoundIn d capture g
+    → HasRoomIn d capture f → HasRoomIn d capture g → is_judged f ≡ is_judged g
+one_judged one d capture f g k h r s =
+    one_room (begin_of d) (heard k.others) (told d capture k.mine k.others) f g (is_judged f) (is_judged g) refl refl k.found
+    (same_lists one d capture k.mine k.others h.mine h.others k.is_mine k.is_others h.is_mine h.is_others
+    (λ m o. IsFound (begin_of d) (heard o) (told d capture m o) g) h.found)
+    (same_lists one d capture k.mine k.others r.mine r.others k.is_mine k.is_others r.is_mine r.is_others
+    (λ m o. HasRoom (begin_of d) (heard o) (told d capture m o) f) r.room)
+    (same_lists one d capture k.mine k.others s.mine s.others k.is_mine k.is_others s.is_mine s.is_others
+    (λ m o. HasRoom (begin_of d) (heard o) (told d capture m o) g) s.room)
+
+-- ---- the sessions that are kept
+
+pub one_list : OneReading → (d : Direction) (capture : Capture) (place : Option ℕ) (members others : List Member)
+    → AreKeptIn d capture place members → AreKeptIn d capture place others → members ≡ others
+one_list one d capture place members others k h =
+    k.kept ∙ sym (same_lists one d capture k.mine k.others h.mine h.others k.is_mine k.is_others h.is_mine h.is_others
+    (λ m o. others ≡ kept (begin_of d) (heard o) (up_to place (told d capture m o))) h.kept)

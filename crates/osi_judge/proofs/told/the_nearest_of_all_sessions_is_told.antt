@@ -58,14 +58,14 @@ next_stops us m (Some reply) h = next_owes us m reply h
 
 -- ---- the sessions that one becomes
 
-becomes_none : (us : List (List ℕ)) (n : ℕ) → becomes us n None ≡ []
+pub becomes_none : (us : List (List ℕ)) (n : ℕ) → becomes us n None ≡ []
 becomes_none us zero = refl
 becomes_none us (suc n) = refl
 
-reached_end : (us : List (List ℕ)) (before : ℕ) (m : Member) → before ≤ m.taken → reached us before m ≡ m ∷ []
+pub reached_end : (us : List (List ℕ)) (before : ℕ) (m : Member) → before ≤ m.taken → reached us before m ≡ m ∷ []
 reached_end us before m l = let e : before - m.taken ≡ 0 = omega arith in ap (λ (n : ℕ). becomes us n (Some m)) e
 
-reached_some : (us : List (List ℕ)) (before : ℕ) (m : Member) → m.taken < before
+pub reached_some : (us : List (List ℕ)) (before : ℕ) (m : Member) → m.taken < before
     → reached us before m ≡ m ∷ becomes us (before - (m.taken + 1)) (next_of us m)
 reached_some us before m l =
     let e : before - m.taken ≡ suc (before - (m.taken + 1)) = omega arith in ap (λ (n : ℕ). becomes us n (Some m)) e

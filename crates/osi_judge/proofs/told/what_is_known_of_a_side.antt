@@ -18,8 +18,12 @@ use Rattle.osi_judge.specs.Breaking.{BreaksAt, selection_of}
 use Rattle.osi_judge.specs.Sides.{ended_at, EndsAt}
 use Rattle.osi_judge.specs.Profiles.{offered_in, accepted_in, in_first, is_outside, selects_outside, leaves}
 use Rattle.osi_judge.specs.Judging.{Watched, is_empty, StandsBefore, BrokeBy, LeftBy, IsKept, IsAstray, BrokeFor, LeftFor, CrowdedFor}
-use Rattle.osi_judge.specs.Judging.{AreAll, Keeps, WatchesBy, Watches, IsFound}
+use Rattle.osi_judge.specs.Judging.{AreAll, AreKept, AreFew, Keeps, WatchesBy, Watches, IsFound, HasRoom, up_to}
+use Rattle.osi_judge.specs.Kept.{after_tsdu, kept}
+use Rattle.osi_judge.specs.Stops.{is_judged, place_of}
 use Rattle.osi_judge.proofs.told.a_break_stays_the_break.{extends_front, breaks_heard}
+use Rattle.osi_judge.proofs.kept.what_is_kept_follows_what_is_told.{take_front, take_whole, kept_more, kept_begins, few_begins, few_more}
+use Rattle.osi_judge.proofs.kept.what_is_kept_follows_what_is_told.{crowd_more, crowd_still, few_members}
 
 -- ---- the TSDUs of the other side become more
 
@@ -31,7 +35,9 @@ stands_heard w x told i t k =
       is = k.is;
       passed = omega arith;
       all = λ us later e h. k.all us later (extends_front us w.heard x e) h;
+      kept = λ us e. k.kept us (extends_front us w.heard x e);
       some = k.some;
+      few = λ us e. k.few us (extends_front us w.heard x e);
     }
 
 broke_heard : (w : Watched) (x : List ℕ) (told : List Told) (i : ℕ) → BrokeBy w told i
@@ -57,8 +63,9 @@ heard_by : (f : Finding) (w : Watched) (x : List ℕ) (told : List Told) → Wat
 heard_by Kept w x told k = record {
   count = k.count;
   all = λ us later e h. k.all us later (extends_front us w.heard x e) h;
+  kept = λ us e. k.kept us (extends_front us w.heard x e);
   some = k.some;
-  few = k.few;
+  few = λ us e. k.few us (extends_front us w.heard x e);
   inside = λ us e. k.inside us (extends_front us w.heard x e);
 }
 heard_by (Broke i) w x told k = ((k.0.0, λ us e. k.0.1 us (extends_front us w.heard x e)), broke_heard w x told i k.1)
@@ -74,17 +81,6 @@ pub hears_as : (w n : Watched) (x : List ℕ) (told : List Told) → n ≡ recor
 hears_as w n x told e k = subst (λ (y : Watched). Watches y told) (sym e) (hears w x told k)
 
 -- ---- its own TSDUs become more
-
-take_front : (xs ys : List Told) (n : ℕ) → n ≤ length xs → take n (xs ++ ys) ≡ take n xs
-take_front xs ys zero l = refl
-take_front [] ys (suc n) l = absurd (omega arith)
-take_front (x ∷ xs) ys (suc n) l = ap (λ (z : List Told). x ∷ z) (take_front xs ys n (omega arith))
-
-take_whole : (xs : List Told) (n : ℕ) → length xs ≤ n → take n xs ≡ xs
-take_whole [] zero l = refl
-take_whole [] (suc n) l = refl
-take_whole (x ∷ xs) zero l = absurd (omega arith)
-take_whole (x ∷ xs) (suc n) l = ap (λ (z : List Told). x ∷ z) (take_whole xs n (omega arith))
 
 -- what is said of the front part of what was told stays
 kept_still : (begin : Seen) (us : List (List ℕ)) (a b : List Told) → a ≡ b → IsKept begin us b → IsKept begin us a
@@ -127,8 +123,15 @@ crowded_stays : (begin : Seen) (heard : List (List ℕ)) (told : List Told) (x :
 crowded_stays begin heard told x i k =
     let n = length-append told (x ∷ []) in
     let there = k.0 in
-    let b = take_front told (x ∷ []) (i + 1) (omega arith) in
-    (omega arith, λ us e. kept_still begin us (take (i + 1) (told ++ x ∷ [])) (take (i + 1) told) b (k.1 us e))
+    let a = take_front told (x ∷ []) i (omega arith) in
+    let b = take_front told (x ∷ []) (i + 1) (omega arith) in (
+      omega arith,
+      λ us e. let y = k.1 us e in (
+        kept_still begin us (take (i + 1) (told ++ x ∷ [])) (take (i + 1) told) b y.0,
+        crowd_still begin us
+            (told ++ x ∷ []) told i a b y.1,
+      ),
+    )
 
 told_front : (xs ys : List Told) (i : ℕ) (t : Told) → i < length xs → get_or (xs ++ ys) i t ≡ get_or xs i t
 told_front [] ys i t l = absurd (omega arith)
@@ -138,12 +141,15 @@ told_front (x ∷ xs) ys (suc i) t l = told_front xs ys i t (omega arith)
 -- what is known of the sessions that explain what was said before stays
 stood_stays : (w : Watched) (told : List Told) (x : Told) (i : ℕ) (t : Told) → i < length told → StandsBefore w told i t
     → StandsBefore w (told ++ x ∷ []) i t
-stood_stays w told x i t l k = record {
-  is = k.is ∙ sym (told_front told (x ∷ []) i t l);
-  passed = k.passed;
-  all = subst (λ (z : List Told). AreAll w.begin w.heard w.before w.members z) (sym (take_front told (x ∷ []) i (omega arith))) k.all;
-  some = k.some;
-}
+stood_stays w told x i t l k =
+    let front = sym (take_front told (x ∷ []) i (omega arith)) in record {
+      is = k.is ∙ sym (told_front told (x ∷ []) i t l);
+      passed = k.passed;
+      all = subst (λ (z : List Told). AreAll w.begin w.heard w.before w.members z) front k.all;
+      kept = subst (λ (z : List Told). AreKept w.begin w.heard z w.members) front k.kept;
+      some = k.some;
+      few = subst (λ (z : List Told). AreFew w.begin w.heard z) front k.few;
+    }
 
 broke_by_stays : (w : Watched) (told : List Told) (x : Told) (i : ℕ) → i < length told → BrokeBy w told i → BrokeBy w (told ++ x ∷ []) i
 broke_by_stays w told x i l k = (k.0, stood_stays w told x i k.0 l k.1, k.2, k.3)
@@ -256,32 +262,38 @@ explained_more w told x new us l g s k e =
 
 pub kept_as : (w n : Watched) (told : List Told) (x : Told) (new : List Member) (b : Bool)
     → n ≡ record w { members = new; told = w.told + 1; before = x.before } → w.finding ≡ Kept → w.before ≤ x.before
-    → Gives w x new → is_empty new ≡ false → length new ≤ 4096 → x.before ≤ length w.heard → OpensBy w x b → b ≡ false → Keeps w told
-    → Watches n (told ++ x ∷ [])
-kept_as w n told x new b e f l g s y p o z k =
+    → Gives w x new → new ≡ after_tsdu w.heard w.members x → is_empty new ≡ false → length new ≤ 4096 → x.before ≤ length w.heard
+    → OpensBy w x b → b ≡ false → Keeps w told → Watches n (told ++ x ∷ [])
+kept_as w n told x new b e f l g v s y p o z k =
     let m = length-append told (x ∷ []) in let c = k.count in
     subst (λ (y : Watched). Watches y (told ++ x ∷ [])) (sym e)
     (subst (λ (y : Finding). WatchesBy y (record w { members = new; told = w.told + 1; before = x.before }) (told ++ x ∷ [])) (sym f)
     (record {
       count = omega arith;
       all = all_more w told x new l k.all g;
+      kept = kept_more w.begin w.heard told x w.members new k.kept p v;
       some = s;
-      few = y;
+      few = λ us h. few_more w.begin us told x (k.few us h)
+          (subst (λ (ms : List Member). length ms ≤ 4096) (kept_more w.begin w.heard told x w.members new k.kept p v us h) y);
       inside = λ us h. opens_by w told x b us h p o k ∙ z;
     }))
 
 -- too many sessions explain it
 pub crowds_as : (w n : Watched) (told : List Told) (x : Told) (new : List Member) (b : Bool) → n ≡ record w { finding = TooMany }
     → w.before ≤ x.before
-    → Gives w x new → is_empty new ≡ false → x.before ≤ length w.heard → OpensBy w x b → b ≡ false → Keeps w told
-    → Watches n (told ++ x ∷ [])
-crowds_as w n told x new b e l g s p o z k =
+    → Gives w x new → new ≡ after_tsdu w.heard w.members x → is_empty new ≡ false → 4096 < length new → x.before ≤ length w.heard
+    → OpensBy w x b → b ≡ false → Keeps w told → Watches n (told ++ x ∷ [])
+crowds_as w n told x new b e l g v s y p o z k =
     let m = length-append told (x ∷ []) in let c = k.count in
     let whole = take_whole (told ++ x ∷ []) (w.told + 1) (omega arith) in
     subst (λ (y : Watched). Watches y (told ++ x ∷ [])) (sym e) (
       omega arith,
-      λ us h. kept_still w.begin us (take (w.told + 1) (told ++ x ∷ [])) (told ++ x ∷ []) whole
-          (explained_more w told x new us l g s k h, opens_by w told x b us h p o k ∙ z),
+      λ us h. (
+        kept_still w.begin us (take (w.told + 1) (told ++ x ∷ [])) (told ++ x ∷ []) whole
+            (explained_more w told x new us l g s k h, opens_by w told x b us h p o k ∙ z),
+        crowd_more w.begin us told x w.told c (k.few us h)
+            (subst (λ (ms : List Member). 4096 < length ms) (kept_more w.begin w.heard told x w.members new k.kept p v us h) y),
+      ),
     )
 
 -- ---- a break
@@ -325,7 +337,9 @@ stands_here w f by told x p k =
       is = last_told told x w.told c;
       passed = p;
       all = subst (λ (z : List Told). AreAll w.begin w.heard w.before w.members z) (sym front) k.all;
+      kept = subst (λ (z : List Told). AreKept w.begin w.heard z w.members) (sym front) k.kept;
       some = k.some;
+      few = subst (λ (z : List Told). AreFew w.begin w.heard z) (sym front) k.few;
     }
 
 -- ---- a side that leaves the profile
@@ -402,8 +416,9 @@ begins w m h s t b o f = subst (λ (y : Finding). WatchesBy y w []) (sym f) (rec
       let back : SomeExplains us w.members later → Explains us later 0 w.begin
       = λ p. begin_only us later m w.begin t b (subst (λ (y : List Member). SomeExplains us y later) s p) in
       (there, back);
+  kept = λ us e. kept_begins w.begin us w.members m s t b;
   some = ap is_empty s;
-  few = let n = ap (λ (x : List Member). length x) s in omega (arith, n);
+  few = λ us e. few_begins w.begin us;
   inside = λ us e. refl;
 })
   where
@@ -417,10 +432,34 @@ found_by : (f : Finding) (w : Watched) (told : List Told) → WatchesBy f w told
 found_by Kept w told k = kept_so_far w told w.heard (λ i l. refl) k
 found_by (Broke i) w told k = let y = k.0.1 w.heard (λ j l. refl) in (record { there = k.0.0; so_far = y.0.0; broke = y.1 }, y.0.1)
 found_by (Left i) w told k = let y = k.0.1 w.heard (λ j l. refl) in (k.0.0, y.0, y.1)
-found_by TooMany w told k = (w.told, k.0, k.1 w.heard (λ j l. refl))
+found_by TooMany w told k = (w.told, k.0, (k.1 w.heard (λ i l. refl)).0)
+
+-- whether there were too many sessions
+room_by : (f : Finding) (w : Watched) (told : List Told) → WatchesBy f w told → HasRoom w.begin w.heard told f
+room_by Kept w told k = k.few w.heard (λ i l. refl)
+room_by (Broke i) w told k = k.1.1.few w.heard (λ i l. refl)
+room_by (Left i) w told (k, (x, s, h)) = s.few w.heard (λ i l. refl)
+room_by TooMany w told k = let y = k.1 w.heard (λ i l. refl) in (w.told, k.0, y.0, y.1)
+
+pub room_as : (w : Watched) (told : List Told) → Watches w told → HasRoom w.begin w.heard told w.finding
+room_as w told k = room_by w.finding w told k
+
+-- the sessions that are kept of what it said before its break
+kept_by : (f : Finding) (w : Watched) (told : List Told) → is_judged f ≡ true → WatchesBy f w told
+    → w.members ≡ kept w.begin w.heard (up_to (place_of f) told)
+kept_by Kept w told j k = k.kept w.heard (λ i l. refl)
+kept_by (Broke i) w told j k = k.1.1.kept w.heard (λ i l. refl)
+kept_by (Left i) w told j (k, (x, s, h)) = s.kept w.heard (λ i l. refl)
+kept_by TooMany w told j k = absurd (cc)
+
+pub members_as : (w : Watched) (told : List Told) → is_judged w.finding ≡ true → Watches w told
+    → w.members ≡ kept w.begin w.heard (up_to (place_of w.finding) told)
+members_as w told j k = kept_by w.finding w told j k
 
 pub few_by : (w : Watched) (told : List Told) → w.finding ≡ Kept → Watches w told → length w.members ≤ 4096
-few_by w told f k = let kept : Keeps w told = subst (λ (g : Finding). WatchesBy g w told) f k in kept.few
+few_by w told f k =
+    let h : Keeps w told = subst (λ (g : Finding). WatchesBy g w told) f k in
+    few_members w.begin w.heard told w.members (h.kept w.heard (λ i l. refl)) (h.few w.heard (λ i l. refl))
 
 -- the rule by which it broke the protocol, or left the profile
 pub broke_by : (w : Watched) (told : List Told) (i : ℕ) → Watches w told → w.finding ≡ Broke i → BrokeBy w told i
@@ -441,6 +480,10 @@ empty_is (m ∷ members) = grind arith
 pub nil_of : (members : List Member) → is_empty members ≡ true → members ≡ []
 nil_of [] e = refl
 nil_of (m ∷ members) e = absurd (cc)
+
+pub after_as : (w : Watched) (x : Told) (new members : List Member) → members ≡ w.members → new ≡ after_tsdu w.heard members x
+    → new ≡ after_tsdu w.heard w.members x
+after_as w x new members m e = e ∙ ap (λ (ms : List Member). after_tsdu w.heard ms x) m
 
 pub gives_as : (w : Watched) (x : Told) (new : List Member) (heard : List (List ℕ)) (members : List Member) → heard ≡ w.heard →
     members ≡ w.members

@@ -3,17 +3,18 @@ use Rattle.osi_session.specs.declared.standing.Taking.{Taking}
 use Rattle.osi_session.specs.Standing.{listens, Takes, after_count}
 use Rattle.osi_session.specs.Steps.{reply_of}
 use Rattle.osi_session.specs.Taking.{count_taken}
-use Rattle.osi_judge.proofs.kept.a_walk_loses_no_explanation.{at_some, at_none}
-use Rattle.osi_judge.proofs.kept.the_first_place_is_enough.{heard_one, not_heard, answers_it}
+use Rattle.osi_judge.proofs.walked.a_walk_loses_no_explanation.{at_some, at_none}
+use Rattle.osi_judge.proofs.kept.a_session_goes_on_by_one_function.{quiet_deaf, quiet_takes, quiet_answers}
+use Rattle.osi_judge.proofs.walked.the_first_place_is_enough.{heard_one, not_heard, answers_it}
 use Rattle.osi_judge.proofs.first_places.hears.Goals as goal
 
-pub returns-in_default : goal.returns-in_default
-returns-in_default c =
+pub returns-in_default-clause-hears : goal.returns-in_default-clause-hears
+returns-in_default-clause-hears c =
     not_heard c.args.standing c.args.tsdu.now
     (at_none (listens c.args.standing ≡ false) c.in_ok-taking.field-0 c.in_default.not-Some c.in_ok-taking.ensures.deaf)
 
-pub returns-in-None : goal.returns-in-None
-returns-in-None c =
+pub returns-in-None-clause-hears : goal.returns-in-None-clause-hears
+returns-in-None-clause-hears c =
     let s = c.args.standing in
     let o = c.in_ok-taking.field-0 in
     let k = c.in_ok-taking.ensures in
@@ -23,10 +24,35 @@ returns-in-None c =
     (at_some (λ (x : Taking). Takes s c.args.tsdu.now (count_taken x)) o t e k.counted) (ap (option_map reply_of) c.in-None.is)
     (at_some (λ (x : Taking). x.next ≡ after_count s (count_taken x)) o t e k.sent)
 
-pub returns-in-Some-reply : goal.returns-in-Some-reply
-returns-in-Some-reply c =
+pub returns-in-Some-reply-clause-hears : goal.returns-in-Some-reply-clause-hears
+returns-in-Some-reply-clause-hears c =
     let s = c.args.standing in
     let t = c.in-Some.taking in
     answers_it s c.args.tsdu.now (count_taken t) (reply_of c.in-Some-reply.field-0)
+    (at_some (λ (x : Taking). Takes s c.args.tsdu.now (count_taken x)) c.in_ok-taking.field-0 t c.in-Some.is c.in_ok-taking.ensures.counted)
+    (ap (option_map reply_of) c.in-Some-reply.is)
+
+pub returns-in_default-clause-value : goal.returns-in_default-clause-value
+returns-in_default-clause-value c =
+    quiet_deaf c.args.standing c.args.tsdu.now
+    (at_none (listens c.args.standing ≡ false) c.in_ok-taking.field-0 c.in_default.not-Some c.in_ok-taking.ensures.deaf)
+
+pub returns-in-None-clause-value : goal.returns-in-None-clause-value
+returns-in-None-clause-value c =
+    let s = c.args.standing in
+    let o = c.in_ok-taking.field-0 in
+    let k = c.in_ok-taking.ensures in
+    let t = c.in-Some.taking in
+    let e = c.in-Some.is in
+    quiet_takes s t.next c.args.tsdu.now (count_taken t) (at_some (λ (x : Taking). listens s ≡ true) o t e k.listens)
+    (at_some (λ (x : Taking). Takes s c.args.tsdu.now (count_taken x)) o t e k.counted) (ap (option_map reply_of) c.in-None.is)
+    (at_some (λ (x : Taking). x.next ≡ after_count s (count_taken x)) o t e k.sent)
+
+pub returns-in-Some-reply-clause-value : goal.returns-in-Some-reply-clause-value
+returns-in-Some-reply-clause-value c =
+    let s = c.args.standing in
+    let t = c.in-Some.taking in
+    quiet_answers s c.args.tsdu.now (count_taken t) (reply_of c.in-Some-reply.field-0)
+    (at_some (λ (x : Taking). listens s ≡ true) c.in_ok-taking.field-0 t c.in-Some.is c.in_ok-taking.ensures.listens)
     (at_some (λ (x : Taking). Takes s c.args.tsdu.now (count_taken x)) c.in_ok-taking.field-0 t c.in-Some.is c.in_ok-taking.ensures.counted)
     (ap (option_map reply_of) c.in-Some-reply.is)

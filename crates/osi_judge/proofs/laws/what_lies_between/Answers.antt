@@ -1,6 +1,6 @@
 use Rattle.std.proofs.Common.{refl}
 use Rattle.osi_judge.specs.Between.{seen_to}
-use Rattle.osi_judge.proofs.kept.what_lies_between.{lies_between}
+use Rattle.osi_judge.proofs.walked.what_lies_between.{lies_between}
 use Rattle.osi_judge.proofs.laws.what_lies_between.Goals as goal
 
 pub returns : goal.returns

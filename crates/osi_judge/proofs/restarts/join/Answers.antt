@@ -1,20 +1,44 @@
-use Rattle.osi_judge.proofs.kept.a_walk_to_a_restart_keeps_two.{joins_apart, joins_between, joins_after}
+use Rattle.std.proofs.Common.{◌∙◌, sym}
+use Rattle.osi_judge.proofs.walked.a_walk_to_a_restart_keeps_two.{joins_apart, joins_between, joins_after}
+use Rattle.osi_judge.proofs.kept.two_sessions_are_compared.{seen_told}
+use Rattle.osi_judge.proofs.kept.a_walk_to_a_restart_is_one_function.{joined_first, joined_apart, joined_between, joined_after}
 use Rattle.osi_judge.proofs.restarts.join.Goals as goal
 
-pub returns-then-not-is_same : goal.returns-then-not-is_same
-returns-then-not-is_same c = record {
-  gives = joins_apart c.args.taken c.args.next.now.items c.keep.new.next.items c.args.asked c.args.said c.args.shown c.in-Some.before
-      c.in-Some.is c.in_ok-keep.ensures;
-}
+pub returns-in_default-clause-value : goal.returns-in_default-clause-value
+returns-in_default-clause-value c =
+    joined_first c.args.taken c.args.asked c.args.said c.args.shown c.args.next.now.items c.in_default.not-Some
 
-pub returns-then-lies_between : goal.returns-then-lies_between
-returns-then-lies_between c = record {
-  gives = joins_between c.args.taken c.args.next.now.items c.args.asked c.args.said c.args.shown c.in-Some.before c.in-Some.is
-      c.if-not-is_same.ensures (c.lies_between.ensures c.if-lies_between.true);
-}
+pub returns-then-not-is_same-clause-gives : goal.returns-then-not-is_same-clause-gives
+returns-then-not-is_same-clause-gives c =
+    joins_apart c.args.taken c.args.next.now.items c.keep.new.next.items c.args.asked c.args.said c.args.shown c.in-Some.before
+    c.in-Some.is c.in_ok-keep.ensures.explains
 
-pub returns : goal.returns
-returns c = record {
-  gives = joins_after c.args.taken c.args.next.now.items c.add.new.members.items c.args.asked c.args.said c.args.shown c.in-Some.before
-      c.in-Some.is c.if-not-is_same.ensures c.in_ok-add.ensures;
-}
+pub returns-then-not-is_same-clause-value : goal.returns-then-not-is_same-clause-value
+returns-then-not-is_same-clause-value c =
+    joined_apart c.args.taken c.args.asked c.in-Some.before c.args.said c.args.shown c.args.next.now.items c.keep.new.next.items
+    c.in-Some.is
+    (sym c.if-not-is_same.true ∙ seen_told c.is_same.result c.in-Some.before.shown c.args.shown c.is_same.ensures)
+    c.in_ok-keep.ensures.value
+
+pub returns-then-lies_between-clause-gives : goal.returns-then-lies_between-clause-gives
+returns-then-lies_between-clause-gives c =
+    joins_between c.args.taken c.args.next.now.items c.args.asked c.args.said c.args.shown c.in-Some.before c.in-Some.is
+    c.if-not-is_same.ensures (c.lies_between.ensures.holds c.if-lies_between.true)
+
+pub returns-then-lies_between-clause-value : goal.returns-then-lies_between-clause-value
+returns-then-lies_between-clause-value c =
+    joined_between c.args.taken c.args.asked c.in-Some.before c.args.said c.args.shown c.args.next.now.items c.in-Some.is
+    (sym c.if-not-is_same.false ∙ seen_told c.is_same.result c.in-Some.before.shown c.args.shown c.is_same.ensures)
+    (sym c.if-lies_between.true ∙ c.lies_between.ensures.value)
+
+pub returns-clause-gives : goal.returns-clause-gives
+returns-clause-gives c =
+    joins_after c.args.taken c.args.next.now.items c.add.new.members.items c.args.asked c.args.said c.args.shown c.in-Some.before
+    c.in-Some.is c.if-not-is_same.ensures c.in_ok-add.ensures.explained
+
+pub returns-clause-value : goal.returns-clause-value
+returns-clause-value c =
+    joined_after c.args.taken c.args.asked c.in-Some.before c.args.said c.args.shown c.args.next.now.items c.add.new.members.items
+    c.in-Some.is
+    (sym c.if-not-is_same.false ∙ seen_told c.is_same.result c.in-Some.before.shown c.args.shown c.is_same.ensures)
+    (sym c.if-lies_between.false ∙ c.lies_between.ensures.value) c.in_ok-add.ensures.value

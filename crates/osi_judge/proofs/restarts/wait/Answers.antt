@@ -1,14 +1,38 @@
-use Rattle.std.proofs.Common.{◌↔◌, ◌+◌, List, ℕ, Option, Some, subst, sym}
+use Rattle.std.proofs.Common.{◌↔◌, ◌+◌, List, ℕ, Option, Some, subst, sym, ◌∙◌}
+use Rattle.osi_message.specs.Reading.{word}
+use Rattle.osi_spdu.specs.Units.{said_by}
 use Rattle.osi_judge.specs.declared.restarts.Asked.{Asked}
 use Rattle.osi_judge.specs.Waiting.{Waits, Known}
-use Rattle.osi_judge.proofs.kept.a_walk_to_a_restart_keeps_two.{still_wait}
+use Rattle.osi_judge.proofs.walked.a_walk_to_a_restart_keeps_two.{still_wait}
+use Rattle.osi_judge.proofs.kept.a_walk_to_a_restart_is_one_function.{waited_none, waited_first, waited_last, waited_both}
 use Rattle.osi_judge.proofs.restarts.wait.Goals as goal
 
 pub returns-clause-gives : goal.returns-clause-gives
 returns-clause-gives c = λ us later before b h e.
     let a = c.in-Some.waiting in
-    let first = subst (λ (u : List ℕ). Waits a.first u) e (c.in_ok-waits.ensures c.if-not-branch.false) in
-    let last = subst (λ (u : List ℕ). Waits a.last u) e (c.in_ok-waits-2.ensures c.if-not-branch-2.false) in
+    let first = subst (λ (u : List ℕ). Waits a.first u) e (c.in_ok-waits.ensures.holds c.if-not-branch.false) in
+    let last = subst (λ (u : List ℕ). Waits a.last u) e (c.in_ok-waits-2.ensures.holds c.if-not-branch-2.false) in
     subst (λ (x : Option Asked). Known us later c.args.taken c.args.next.now.items x ↔ Known us later (c.args.taken + 1)
     c.args.next.now.items (Some a)) (sym c.in-Some.is)
     (still_wait us later before c.args.taken c.args.next.now.items a b h first last)
+
+pub returns-in_default-clause-value : goal.returns-in_default-clause-value
+returns-in_default-clause-value c =
+    waited_none (word (said_by c.args.abort.now)) c.args.taken c.args.asked c.args.tsdu.now c.args.next.now.items c.in_default.not-Some
+
+pub returns-then-not-branch-clause-value : goal.returns-then-not-branch-clause-value
+returns-then-not-branch-clause-value c =
+    waited_first (word (said_by c.args.abort.now)) c.args.taken c.args.asked c.in-Some.waiting c.args.tsdu.now c.args.next.now.items
+    c.keep.new.next.items c.in-Some.is (sym c.if-not-branch.true ∙ c.in_ok-waits.ensures.value) c.in_ok-keep.ensures.value
+
+pub returns-then-not-branch-2-clause-value : goal.returns-then-not-branch-2-clause-value
+returns-then-not-branch-2-clause-value c =
+    waited_last (word (said_by c.args.abort.now)) c.args.taken c.args.asked c.in-Some.waiting c.args.tsdu.now c.args.next.now.items
+    c.keep-then-not-branch-2.new.next.items c.in-Some.is (sym c.if-not-branch-2.true
+    ∙ c.in_ok-waits-2.ensures.value) c.in_ok-keep-2.ensures.value
+
+pub returns-clause-value : goal.returns-clause-value
+returns-clause-value c =
+    waited_both (word (said_by c.args.abort.now)) c.args.taken c.args.asked c.in-Some.waiting c.args.tsdu.now c.args.next.now.items
+    c.in-Some.is
+    (sym c.if-not-branch.false ∙ c.in_ok-waits.ensures.value) (sym c.if-not-branch-2.false ∙ c.in_ok-waits-2.ensures.value)

@@ -1,12 +1,30 @@
-use Rattle.std.proofs.Common.{ap}
+use Rattle.std.proofs.Common.{◌∙◌, sym, ap, length, Result}
+use Rattle.osi_spdu.specs.declared.faults.SpduFault.{SpduFault}
 use Rattle.osi_message.specs.Reading.{said_at, said_if_read}
+use Rattle.osi_message.specs.Words.{Words}
 use Rattle.osi_judge.specs.Explaining.{Told}
-use Rattle.osi_judge.proofs.kept.sessions_after_a_unit.{unread_came}
+use Rattle.osi_judge.specs.Kept.{after_read}
+use Rattle.osi_judge.proofs.walked.sessions_after_a_unit.{unread_came}
+use Rattle.osi_judge.proofs.kept.all_sessions_are_walked_from.{if_ok_as}
 use Rattle.osi_judge.proofs.telling.behind_tsdu.Goals as goal
 
-pub returns-in-Err : goal.returns-in-Err
+pub returns-in-Err-clause-explains : goal.returns-in-Err-clause-explains
 unfolding said_at
-returns-in-Err c = λ us later x h.
+returns-in-Err-clause-explains c = λ us later x h.
     let t : Told = record { octets = c.args.tsdu.now; before = c.args.before } in
     unread_came us c.args.members.now c.new.result.items t (said_at c.args.tsdu.now) c.in-Err.field-0 later
     (ap said_if_read c.in-Err.ensures.exact) c.new.ensures.items
+
+pub returns-in-Err-clause-value : goal.returns-in-Err-clause-value
+unfolding said_at
+returns-in-Err-clause-value c =
+    c.new.ensures.items
+    ∙ sym (ap (λ (r : Result Words SpduFault). after_read c.args.heard.now (length c.args.tsdu.now) c.args.before c.args.members.now r)
+    (ap said_if_read c.in-Err.ensures.exact))
+
+pub returns-in-Ok-clause-value : goal.returns-in-Ok-clause-value
+unfolding said_at
+returns-in-Ok-clause-value c =
+    if_ok_as (λ v. v.items) c.behind_units.result _ _
+    (ap (λ (r : Result Words SpduFault). after_read c.args.heard.now (length c.args.tsdu.now) c.args.before c.args.members.now r)
+    (sym (ap said_if_read c.in-Ok.ensures.exact))) c.behind_units.ensures.value

@@ -1,11 +1,17 @@
-use Rattle.std.proofs.Common.{ℕ, List}
+use Rattle.std.proofs.Common.{◌≡◌, ℕ, List, drop}
 use Rattle.osi_message.specs.Reading.{word}
 use Rattle.osi_spdu.specs.Units.{said_by}
 use Rattle.osi_judge.specs.Explaining.{Remark}
+use Rattle.osi_judge.specs.Kept.{after_word}
 use Rattle.osi_judge.specs.Walking.{the_remark, Ever}
-use Rattle.osi_judge.proofs.kept.sessions_after_a_unit.{SoFar}
+use Rattle.osi_judge.proofs.walked.sessions_after_a_unit.{SoFar}
+use Rattle.osi_judge.proofs.kept.all_sessions_are_walked_from.{rest_of}
 use Rattle.osi_judge.proofs.telling.behind_unit.Given as goal
 
 abbrev pub invariant-members : goal.invariant-members
-invariant-members l = Ever l.heard l.before (λ (us : List (List ℕ)) (later : List Remark).
-    SoFar us later (the_remark (word (said_by l.unit)) l.octets l.before) l.members l.next.items l.member-index)
+invariant-members l = record {
+  explains : Ever l.heard l.before (λ (us : List (List ℕ)) (later : List Remark).
+      SoFar us later (the_remark (word (said_by l.unit)) l.octets l.before) l.members l.next.items l.member-index);
+  value : rest_of l.heard (word (said_by l.unit)) l.octets l.before l.next.items (drop l.member-index l.members)
+      ≡ after_word l.heard l.octets l.before l.members (word (said_by l.unit));
+}

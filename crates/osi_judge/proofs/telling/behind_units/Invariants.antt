@@ -2,12 +2,18 @@ use Rattle.std.proofs.Common.{length, map}
 use Rattle.osi_message.specs.Reading.{word, said_by_units}
 use Rattle.osi_spdu.specs.Groups.{units_behind, units_of}
 use Rattle.osi_spdu.specs.Units.{said_by}
-use Rattle.osi_judge.proofs.kept.sessions_after_a_unit.{UnitsSoFar}
+use Rattle.osi_judge.proofs.walked.sessions_after_a_unit.{UnitsSoFar}
+use Rattle.osi_judge.proofs.kept.all_sessions_are_walked_from.{LeadsOn}
 use Rattle.osi_judge.proofs.telling.behind_units.Given as goal
 
 abbrev pub invariant-units : goal.invariant-units
-invariant-units l = UnitsSoFar l.heard l.octets l.before l.members (said_by_units (units_of l.fn.group)) l.now.items l.restarts
-    (word (said_by l.first)) (map word (units_behind l.behind))
+invariant-units l = record {
+  explains : UnitsSoFar l.heard l.octets l.before l.members (said_by_units (units_of l.fn.group)) l.now.items l.restarts (word
+      (said_by l.first))
+      (map word (units_behind l.behind));
+  value : LeadsOn l.heard l.octets l.before l.members (said_by_units (units_of l.fn.group)) l.now.items l.restarts (word (said_by l.first))
+      (map word (units_behind l.behind));
+}
 
 abbrev pub decreases-units : goal.decreases-units
 decreases-units l = length (units_behind l.behind)

@@ -1,7 +1,7 @@
 use Rattle.std.proofs.Common.{subst, ℕ, List}
 use Rattle.osi_judge.specs.Judging.{IsFound}
 use Rattle.osi_judge.specs.Sides.{watched}
-use Rattle.osi_judge.proofs.told.what_is_known_of_a_side.{found_as}
+use Rattle.osi_judge.proofs.told.what_is_known_of_a_side.{found_as, room_as}
 use Rattle.osi_judge.proofs.outlined.alike_tsdus_explain_the_same.{found_of_tsdus}
 use Rattle.osi_judge.proofs.sides.Side.finding.Goals as goal
 
@@ -13,3 +13,6 @@ pub returns-clause-found_of : goal.returns-clause-found_of
 returns-clause-found_of c = λ us told e k.
     let w = watched c.args.self.now in
     found_of_tsdus w.begin us told w.finding (subst (λ (x : List (List ℕ)). IsFound w.begin x told w.finding) e (found_as w told k))
+
+pub returns-clause-room : goal.returns-clause-room
+returns-clause-room c = λ told k. room_as (watched c.args.self.now) told k

@@ -1,10 +1,10 @@
-use Rattle.std.proofs.Common.{◌∙◌, ◌≡◌, ◌+◌, List, refl, sym, ap, [], false, ◌≤◌, subst, length}
+use Rattle.std.proofs.Common.{◌∙◌, ◌≡◌, ◌+◌, List, refl, sym, ap, [], false, ◌<◌, ◌≤◌, subst, length}
 use Rattle.osi_judge.specs.declared.members.Member.{Member}
 use Rattle.osi_judge.specs.declared.findings.Finding.TheVariants.{TooMany}
 use Rattle.osi_judge.specs.Explaining.{Told}
 use Rattle.osi_judge.specs.Judging.{is_empty}
 use Rattle.osi_judge.specs.Sides.{watched}
-use Rattle.osi_judge.proofs.told.what_is_known_of_a_side.{ends_ok, leaves_as, crowds_as, kept_as, gives_as, nil_of}
+use Rattle.osi_judge.proofs.told.what_is_known_of_a_side.{ends_ok, leaves_as, crowds_as, kept_as, gives_as, after_as, nil_of}
 use Rattle.osi_judge.proofs.sides.Side.tell_kept.Goals as goal
 
 pub returns-then-none_is_left-clause-watches : goal.returns-then-none_is_left-clause-watches
@@ -14,7 +14,7 @@ returns-then-none_is_left-clause-watches c =
     let new = c.in_ok-members.members.items in
     let none : new ≡ [] = nil_of new (ap is_empty (sym c.as_slice.ensures.value) ∙ sym c.none_is_left.ensures ∙ c.if-none_is_left.true) in
     ends_ok c.end.result w (watched c.end.new.self) x new c.requires.passed c.requires.order
-    (gives_as w x new w.heard c.deref.result.now refl c.deref.ensures.value c.in_ok-members.ensures) none c.end.ensures.ends
+    (gives_as w x new w.heard c.deref.result.now refl c.deref.ensures.value c.in_ok-members.ensures.explains) none c.end.ensures.ends
 
 pub returns-then-opens_outside-clause-watches : goal.returns-then-opens_outside-clause-watches
 returns-then-opens_outside-clause-watches c = λ told k.
@@ -23,7 +23,7 @@ returns-then-opens_outside-clause-watches c = λ told k.
     let new = c.in_ok-members.members.items in
     let some : is_empty new ≡ false = ap is_empty (sym c.as_slice.ensures.value) ∙ sym c.none_is_left.ensures ∙ c.if-none_is_left.false in
     leaves_as w (watched c.leave.new.self) told x new c.opens_outside.result c.requires.order
-    (gives_as w x new w.heard c.deref.result.now refl c.deref.ensures.value c.in_ok-members.ensures) some
+    (gives_as w x new w.heard c.deref.result.now refl c.deref.ensures.value c.in_ok-members.ensures.explains) some
     c.leave.ensures c.requires.passed (c.opens_outside.ensures.first, c.opens_outside.ensures.later) c.if-opens_outside.true k
 
 pub returns-then-is_crowd-clause-watches : goal.returns-then-is_crowd-clause-watches
@@ -32,8 +32,10 @@ returns-then-is_crowd-clause-watches c = λ told k.
     let x : Told = record { octets = c.args.tsdu.now; before = c.args.before } in
     let new = c.in_ok-members.members.items in
     let some : is_empty new ≡ false = ap is_empty (sym c.as_slice.ensures.value) ∙ sym c.none_is_left.ensures ∙ c.if-none_is_left.false in
+    let many : 4096 < length new = subst (λ (m : List Member). 4096 < length m) c.as_slice-2.ensures.value c.if-is_crowd.ensures in
     crowds_as w (record w { finding = TooMany }) told x new c.opens_outside.result refl c.requires.order
-    (gives_as w x new w.heard c.deref.result.now refl c.deref.ensures.value c.in_ok-members.ensures) some
+    (gives_as w x new w.heard c.deref.result.now refl c.deref.ensures.value c.in_ok-members.ensures.explains)
+    (after_as w x new c.deref.result.now c.deref.ensures.value c.in_ok-members.ensures.value) some many
     c.requires.passed (c.opens_outside.ensures.first, c.opens_outside.ensures.later) c.if-opens_outside.false k
 
 pub returns-clause-watches : goal.returns-clause-watches
@@ -42,9 +44,9 @@ returns-clause-watches c = λ told k.
     let x : Told = record { octets = c.args.tsdu.now; before = c.args.before } in
     let new = c.in_ok-members.members.items in
     let some : is_empty new ≡ false = ap is_empty (sym c.as_slice.ensures.value) ∙ sym c.none_is_left.ensures ∙ c.if-none_is_left.false in
-    let few : length new ≤ 4096 =
-    subst (λ (m : List Member). length m ≤ 4096) c.as_slice-2.ensures.value (c.is_crowd.ensures.few c.if-is_crowd.false) in
+    let few : length new ≤ 4096 = subst (λ (m : List Member). length m ≤ 4096) c.as_slice-2.ensures.value c.if-is_crowd.ensures in
     kept_as w (record w { members = new; told = w.told + 1; before = c.args.before }) told x new c.opens_outside.result refl c.requires.kept
     c.requires.order
-    (gives_as w x new w.heard c.deref.result.now refl c.deref.ensures.value c.in_ok-members.ensures) some few
+    (gives_as w x new w.heard c.deref.result.now refl c.deref.ensures.value c.in_ok-members.ensures.explains)
+    (after_as w x new c.deref.result.now c.deref.ensures.value c.in_ok-members.ensures.value) some few
     c.requires.passed (c.opens_outside.ensures.first, c.opens_outside.ensures.later) c.if-opens_outside.false k

@@ -28,7 +28,7 @@ use Rattle.osi_session.proofs.sent.what_a_side_may_send.{so_many, so_many_are, o
 use Rattle.osi_session.proofs.ahead.the_state_after_a_word.{within, call_leaves, if_state, mapped}
 use Rattle.osi_session.proofs.tables.messages_act_as_the_table_says.{word_at}
 use Rattle.osi_judge.proofs.told.a_tsdu_leaves_one_count.{then_words, by_reply, one_count}
-use Rattle.osi_judge.proofs.kept.what_is_said_between.{can_say}
+use Rattle.osi_judge.proofs.walked.what_is_said_between.{can_say}
 
 -- the connection is over for both, in the same way
 pub record SameEnd (s t : State) : Type 0 where

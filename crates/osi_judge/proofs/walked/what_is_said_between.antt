@@ -33,7 +33,7 @@ use Rattle.osi_session.specs.Units.{functional_units}
 unfoldable use Rattle.osi_session.specs.Units.{both_units, has_data}
 use Rattle.osi_session.proofs.ahead.the_state_after_a_word.{within, CallLeaves, call_leaves, if_state, mapped}
 use Rattle.osi_judge.specs.Between.{confirmed_to, seen_to}
-use Rattle.osi_judge.proofs.kept.what_is_taken_between.{confirms, lower_rises}
+use Rattle.osi_judge.proofs.walked.what_is_taken_between.{confirms, lower_rises}
 
 -- ---- calls
 

@@ -26,8 +26,8 @@ use Rattle.osi_session.proofs.ahead.the_state_after_a_word.{within, call_leaves,
 use Rattle.osi_judge.specs.Explaining.{Remark, Explains, done, takes, answers, says}
 use Rattle.osi_judge.specs.Members.{IsBehind}
 use Rattle.osi_judge.specs.Waiting.{Waits, aborted, is_abort_word}
-use Rattle.osi_judge.proofs.kept.a_walk_loses_no_explanation.{takes_one, none_or_some, before_it}
-use Rattle.osi_judge.proofs.kept.what_ends_alike.{SameEnd, says_alike}
+use Rattle.osi_judge.proofs.walked.a_walk_loses_no_explanation.{takes_one, none_or_some, before_it}
+use Rattle.osi_judge.proofs.walked.what_ends_alike.{SameEnd, says_alike}
 
 neither : (b : Bool) → b ≡ true → b ≡ false → ⊥
 neither true h k = cc

@@ -12,7 +12,7 @@ use Rattle.osi_judge.specs.declared.members.Member.{Member}
 use Rattle.osi_judge.specs.Explaining.{Remark, Explains, takes, answers, says}
 use Rattle.osi_judge.specs.Members.{IsBehind}
 use Rattle.osi_judge.specs.Walking.{the_remark, SaysTo, HearsTo, MovesTo, OneExplains}
-use Rattle.osi_judge.proofs.kept.a_walk_loses_no_explanation.{takes_one, none_or_some, ways, said_on, before_it}
+use Rattle.osi_judge.proofs.walked.a_walk_loses_no_explanation.{takes_one, none_or_some, ways, said_on, before_it}
 
 -- ---- what it takes
 

@@ -9,9 +9,9 @@ use Rattle.osi_session.specs.Standing.{Seen, Count, CanSay, Takes, listens, afte
 use Rattle.osi_session.proofs.tables.what_is_true_of_each_phase.{excluded}
 use Rattle.osi_judge.specs.Between.{confirmed_to, seen_to}
 use Rattle.osi_judge.specs.Explaining.{Remark, Explains, done, takes, answers, says}
-use Rattle.osi_judge.proofs.kept.what_ends_alike.{SameEnd, TakesAlike, takes_alike, says_alike}
-use Rattle.osi_judge.proofs.kept.what_is_said_between.{SaysThree, SaysBetween, says_between}
-use Rattle.osi_judge.proofs.kept.what_is_taken_between.{count_to, TakesThree, TakesOver, TakesOne, TakesBetween, takes_between}
+use Rattle.osi_judge.proofs.walked.what_ends_alike.{SameEnd, TakesAlike, takes_alike, says_alike}
+use Rattle.osi_judge.proofs.walked.what_is_said_between.{SaysThree, SaysBetween, says_between}
+use Rattle.osi_judge.proofs.walked.what_is_taken_between.{count_to, TakesThree, TakesOver, TakesOne, TakesBetween, takes_between}
 
 -- ---- the connection is over
 

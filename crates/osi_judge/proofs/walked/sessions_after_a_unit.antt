@@ -26,13 +26,13 @@ first_so_far us later m members next e = (λ h. inr h, back)
     back (inl h) = let none : ⊥ = subst (λ (x : List Member). SomeExplains us x later) e h in absurd none
     back (inr h) = h
 
-drop_here : (members : List Member) (i : ℕ) (x : Member) → i < length members → x ≡ get_or members i x →
-    drop i members ≡ x ∷ drop (i + 1) members
+pub drop_here : (members : List Member) (i : ℕ) (x : Member) → i < length members → x ≡ get_or members i x
+    → drop i members ≡ x ∷ drop (i + 1) members
 drop_here [] i x l e = absurd (omega arith)
 drop_here (n ∷ members) zero x l e = ap (λ (y : Member). y ∷ members) (sym e)
 drop_here (n ∷ members) (suc i) x l e = let k : suc i + 1 ≡ suc (i + 1) = omega arith in rw k (drop_here members i x (omega arith) e)
 
-drop_end : (members : List Member) (i : ℕ) → length members ≤ i → drop i members ≡ []
+pub drop_end : (members : List Member) (i : ℕ) → length members ≤ i → drop i members ≡ []
 drop_end [] zero l = refl
 drop_end [] (suc i) l = refl
 drop_end (n ∷ members) zero l = absurd (omega arith)

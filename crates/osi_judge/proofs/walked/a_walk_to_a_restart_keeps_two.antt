@@ -15,10 +15,10 @@ use Rattle.osi_judge.specs.Explaining.{Remark, Explains}
 use Rattle.osi_judge.specs.Members.{SomeExplains, IsBehind}
 use Rattle.osi_judge.specs.Waiting.{Waits, Restarted, AreAsked, MayBeAsked, Known, StillOpen}
 use Rattle.osi_judge.specs.Walking.{the_remark, SaidHere, SaysTo, MovesTo, HearsTo}
-use Rattle.osi_judge.proofs.kept.a_walk_loses_no_explanation.{takes_one, TakenOn, ways, said_on, before_it}
-use Rattle.osi_judge.proofs.kept.a_restart_waits.{waits_both}
-use Rattle.osi_judge.proofs.kept.restarts_are_alike.{IsRestart, a_restart, alike}
-use Rattle.osi_judge.proofs.kept.what_lies_between.{lies_between}
+use Rattle.osi_judge.proofs.walked.a_walk_loses_no_explanation.{takes_one, TakenOn, ways, said_on, before_it}
+use Rattle.osi_judge.proofs.walked.a_restart_waits.{waits_both}
+use Rattle.osi_judge.proofs.walked.restarts_are_alike.{IsRestart, a_restart, alike}
+use Rattle.osi_judge.proofs.walked.what_lies_between.{lies_between}
 
 pub both : {A B C : Type 0} → (A ↔ B) → (B ↔ C) → (A ↔ C)
 both f g = (λ a. g.0 (f.0 a), λ c. f.1 (g.1 c))

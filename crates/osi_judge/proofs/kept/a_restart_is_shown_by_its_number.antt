@@ -1,0 +1,52 @@
+-- The units of a walk to a restart have these words: for the functions of `restarts` that make them.
+use Rattle.std.proofs.Common.{◌≡◌, ◌∙◌, refl, sym, ap, ℕ, ◌≤◌, List, [], ◌∷◌}
+use Rattle.std.specs.Borrow.{Bor}
+use Rattle.osi_spdu.specs.declared.fields.ResyncType.TheVariants.{Restart}
+use Rattle.osi_spdu.specs.declared.kinds.Kind.TheVariants.{Abort, Resynchronize}
+use Rattle.osi_spdu.specs.declared.serials.Serial.{Serial}
+use Rattle.osi_spdu.specs.declared.settings.TokenSetting.{TokenSetting}
+use Rattle.osi_spdu.specs.declared.settings.Wish.TheVariants.{Answerer}
+use Rattle.osi_spdu.specs.Known.{Contents, Known}
+use Rattle.osi_spdu.specs.Made.{made, abort_params, resynchronize_params}
+use Rattle.osi_message.specs.Meanings.{Meaning, AB, RS}
+use Rattle.osi_message.specs.Reading.{meaning, word}
+use Rattle.osi_message.specs.Words.{Word, says}
+use Rattle.osi_message.specs.Written.{unit_of, unit_with, with_data}
+use Rattle.osi_message.proofs.what_is_written_means_it.{HaveDigits, meaning_again}
+use Rattle.osi_message.proofs.a_unit_is_made_of_its_meaning.{abort_known, restart_known}
+use Rattle.osi_judge.specs.Kept.{restart_at, an_abort}
+
+-- a unit of these kinds is no part of a Data
+says_abort : (known : Known) → word (unit_with Abort known) ≡ says (meaning (unit_with Abort known))
+unfolding word
+says_abort known = refl
+
+says_restart : (known : Known) → word (unit_with Resynchronize known) ≡ says (meaning (unit_with Resynchronize known))
+unfolding word
+says_restart known = refl
+
+made_abort : (b : Bor (List ℕ)) → b.now ≡ [] → made Abort (abort_params 1 b) ≡ unit_of (AB 1 [])
+unfolding unit_of
+made_abort b e = ap (unit_with Abort) (abort_known 1 b) ∙ ap (λ (octets : List ℕ). unit_of (AB 1 octets)) e
+
+pub abort_word : HaveDigits → (u : Contents) (b : Bor (List ℕ)) → u ≡ made Abort (abort_params 1 b) → b.now ≡ [] → word u ≡ an_abort
+abort_word digits u b e n =
+    ap word e ∙ says_abort _ ∙ ap (λ (x : Contents). says (meaning x)) (made_abort b n) ∙ ap says (meaning_again digits (AB 1 []) refl tt)
+
+abbrev all_away : TokenSetting
+all_away = record { data_token = Answerer; minor = Answerer; major = Answerer; release = Answerer }
+
+made_restart : (n : Serial) (b : Bor (List ℕ)) → b.now ≡ []
+    → made Resynchronize (resynchronize_params all_away Restart n b) ≡ unit_of (RS Restart n.number all_away [])
+unfolding unit_of
+made_restart n b e =
+    ap (unit_with Resynchronize) (restart_known all_away Restart n b) ∙ ap (λ (octets : List ℕ). unit_of
+    (RS Restart n.number all_away octets)) e
+
+pub restart_word : HaveDigits → (u : Contents) (number : ℕ) (n : Serial) (b : Bor (List ℕ))
+    → u ≡ made Resynchronize (resynchronize_params all_away Restart n b) → b.now ≡ [] → n.number ≡ number → number ≤ 999999
+    → word u ≡ restart_at number
+restart_word digits u number n b e d s l =
+    ap word e ∙ says_restart _ ∙ ap (λ (x : Contents). says (meaning x)) (made_restart n b d)
+    ∙ ap (λ (k : ℕ). says (meaning (unit_of (RS Restart k all_away [])))) s
+    ∙ ap says (meaning_again digits (RS Restart number all_away []) refl l)

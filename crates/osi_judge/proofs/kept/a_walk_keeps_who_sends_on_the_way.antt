@@ -1,0 +1,225 @@
+-- A walk keeps the sessions that send a word on the way, or answer by it: for the functions of `walks`.
+use Rattle.std.proofs.Common.{◌≡◌, ◌∙◌, refl, sym, ap, subst, ℕ, suc, zero, ◌+◌, ◌-◌, ◌<◌, ◌≤◌, Bool, true, false, List, [], ◌∷◌, ◌++◌}
+use Rattle.std.proofs.Common.{nat_lt, get_or, Option, Some, None, option_map, if◌then◌else◌, arith}
+use Rattle.std.proofs.lemmas.Bool.{lt-ltb}
+use Rattle.std.proofs.lemmas.List.{append-nil}
+use Rattle.std.proofs.lemmas.List.Sums.{fold-append}
+use Rattle.std.specs.List.{fold}
+use Rattle.osi_message.specs.Meanings.{Meaning}
+use Rattle.osi_message.specs.Words.{Word}
+use Rattle.osi_session.specs.declared.reactions.Reply.{Reply}
+use Rattle.osi_session.specs.Joining.{is_restart_word}
+use Rattle.osi_session.specs.Standing.{Seen, Count, Takes, listens, after_count, answers_word, said}
+use Rattle.osi_session.specs.Steady.{is_steady}
+use Rattle.osi_session.specs.Steps.{reply_of}
+use Rattle.osi_judge.specs.declared.members.Member.{Member}
+use Rattle.osi_judge.specs.declared.walks.Walker.{Walker}
+use Rattle.osi_judge.specs.Kept.{added, member, sends, first_sender, listed, is_covered, anew, latest, follows, if_answer, answer_by}
+use Rattle.osi_judge.specs.Kept.{answering, senders, senders_from, way_to, askers, restarters, places_of}
+use Rattle.osi_judge.specs.Nearest.{count_at, next_of, reached}
+use Rattle.osi_judge.specs.Onward.{Quietly, OwesTo}
+use Rattle.osi_judge.proofs.told.the_nearest_of_all_sessions_is_told.{count_is, next_goes, next_stops}
+
+-- ---- it sends the word here, or not
+
+abbrev pub SendsAs : Word → ℕ → List Member → List Member → Walker → Walker → Type 0
+SendsAs w octets old new from to =
+    (new ≡ fold added old (anew from.said_before (sends w octets from.at)))
+    × (to ≡ record { at = from.at; said_before = latest from.said_before (sends w octets from.at) })
+
+sends_is : (w : Word) (octets : ℕ) (m : Member) (o : Option Seen) → said m.standing w octets ≡ o
+    → sends w octets m ≡ option_map (member m.taken) o
+sends_is w octets m o e = ap (option_map (member m.taken)) e
+
+pub said_not : (w : Word) (octets : ℕ) (old : List Member) (from : Walker) → said from.at.standing w octets ≡ None
+    → SendsAs w octets old old from from
+said_not w octets old from h =
+    let k = sends_is w octets from.at None h in (
+      sym (ap (λ (o : Option Member). fold added old
+          (anew from.said_before o)) k),
+      λ i. record { at = from.at; said_before = latest from.said_before (sym k i) },
+    )
+
+pub said_covered : (w : Word) (octets : ℕ) (old : List Member) (from : Walker) (s : Seen) → said from.at.standing w octets ≡ Some s
+    → true ≡ is_covered from.said_before s → from.said_before ≡ Some s → SendsAs w octets old old from from
+said_covered w octets old from s h c e =
+    let k = sends_is w octets from.at (Some s) h in (
+      sym (ap (λ (o : Option Member). fold added old (anew from.said_before o)) k
+          ∙ ap (λ (b : Bool). fold added old (if b then [] else member from.at.taken s ∷ [])) (sym c)),
+      λ i. record { at = from.at; said_before = (e ∙ ap (latest from.said_before) (sym k)) i },
+    )
+
+pub said_anew : (w : Word) (octets : ℕ) (old new : List Member) (from : Walker) (s : Seen) → said from.at.standing w octets ≡ Some s
+    → false ≡ is_covered from.said_before s → new ≡ added old (member from.at.taken s)
+    → SendsAs w octets old new from (record { at = from.at; said_before = Some s })
+said_anew w octets old new from s h c e =
+    let k = sends_is w octets from.at (Some s) h in (
+      e ∙ sym (ap (λ (o : Option Member). fold added old (anew from.said_before o)) k
+          ∙ ap (λ (b : Bool). fold added old (if b then [] else member from.at.taken s ∷ [])) (sym c)),
+      λ i. record { at = from.at; said_before = ap (latest from.said_before) (sym k) i },
+    )
+
+-- ---- an answer
+
+pub answered_not : (w : Word) (reply : Meaning) (m : Member) (old : List Member) → false ≡ answers_word reply w
+    → old ≡ fold added old (if_answer w (Some reply) m)
+answered_not w reply m old e = ap (λ (b : Bool). fold added old (if b then m ∷ [] else [])) e
+
+pub answered_one : (w : Word) (reply : Meaning) (m : Member) (old new : List Member) → true ≡ answers_word reply w → new ≡ added old m
+    → new ≡ fold added old (if_answer w (Some reply) m)
+answered_one w reply m old new e h = h ∙ ap (λ (b : Bool). fold added old (if b then m ∷ [] else [])) e
+
+-- ---- one step
+
+-- what is kept here, the answer, and the rest of the walk
+step_split : (us : List (List ℕ)) (w : Word) (octets n : ℕ) (from to : Walker) (old mid : List Member) → SendsAs w octets old mid from to
+    → fold added old (senders us w octets (suc n) from.said_before (Some from.at))
+    ≡ fold added (fold added mid (answering us w from.at))
+    (senders us w octets n (follows to.said_before (get_or us from.at.taken [])) (next_of us from.at))
+step_split us w octets n from to old mid h =
+    let here = anew from.said_before (sends w octets from.at) in
+    let on = answering us w from.at in
+    let rest = senders us w octets n (follows (latest from.said_before (sends w octets from.at)) (get_or us from.at.taken []))
+    (next_of us from.at) in
+    fold-append added old here (on ++ rest) ∙ fold-append added (fold added old here) on rest
+    ∙ ap (λ (ms : List Member). fold added (fold added ms on) rest) (sym h.0)
+    ∙ ap (λ (x : Walker). fold added (fold added mid on)
+    (senders us w octets n (follows x.said_before (get_or us from.at.taken [])) (next_of us from.at))) (sym h.1)
+
+senders_none : (us : List (List ℕ)) (w : Word) (octets n : ℕ) (earlier : Option Seen) → senders us w octets n earlier None ≡ []
+senders_none us w octets zero earlier = refl
+senders_none us w octets (suc n) earlier = refl
+
+ends_here : (us : List (List ℕ)) (w : Word) (octets n : ℕ) (earlier : Option Seen) (next : Option Member) (mid on : List Member)
+    → next ≡ None
+    → fold added (fold added mid on) (senders us w octets n earlier next) ≡ fold added mid on
+ends_here us w octets n earlier next mid on e =
+    ap (λ (o : Option Member). fold added (fold added mid on) (senders us w octets n earlier o)) e
+    ∙ ap (fold added (fold added mid on)) (senders_none us w octets n earlier)
+
+answering_deaf : (us : List (List ℕ)) (w : Word) (m : Member) → listens m.standing ≡ false → answering us w m ≡ []
+answering_deaf us w m l = ap (λ (b : Bool). if b then answer_by w m (count_at m.standing (get_or us m.taken [])) else []) l
+
+answering_as : (us : List (List ℕ)) (w : Word) (m : Member) (c : Count) (o : Option Meaning) → listens m.standing ≡ true
+    → Takes m.standing (get_or us m.taken []) c → c.reply ≡ o
+    → answering us w m ≡ if_answer w o (member (m.taken + 1) (after_count m.standing c))
+answering_as us w m c o l t r =
+    ap (λ (b : Bool). if b then answer_by w m (count_at m.standing (get_or us m.taken [])) else []) l
+    ∙ ap (answer_by w m) (count_is m.standing (get_or us m.taken []) c t)
+    ∙ ap (λ (x : Option Meaning). if_answer w x (member (m.taken + 1) (after_count m.standing c))) r
+
+pub turn_deaf : (us : List (List ℕ)) (w : Word) (octets n : ℕ) (from to : Walker) (old mid : List Member) → SendsAs w octets old mid from to
+    → listens from.at.standing ≡ false
+    → fold added mid (senders_from us w octets n None) ≡ fold added old (senders_from us w octets (suc n) (Some from))
+turn_deaf us w octets n from to old mid h l =
+    sym (step_split us w octets n from to old mid h
+    ∙ ends_here us w octets n (follows to.said_before (get_or us from.at.taken [])) (next_of us from.at) mid (answering us w from.at)
+    (next_stops us from.at None l)
+    ∙ ap (fold added mid) (answering_deaf us w from.at l))
+
+pub turn_answers : (us : List (List ℕ)) (w : Word) (octets n : ℕ) (from to : Walker) (old mid new : List Member) (next : Seen) (c : Count)
+    (reply : Reply) → SendsAs w octets old mid from to → listens from.at.standing ≡ true
+    → Takes from.at.standing (get_or us from.at.taken []) c → next ≡ after_count from.at.standing c → c.reply ≡ Some (reply_of reply)
+    → new ≡ fold added mid (if_answer w (Some (reply_of reply)) (member (from.at.taken + 1) next))
+    → fold added new (senders_from us w octets n None) ≡ fold added old (senders_from us w octets (suc n) (Some from))
+turn_answers us w octets n from to old mid new next c reply h l t e r g =
+    let owes : OwesTo from.at.standing (get_or us from.at.taken []) reply = record { count = c; listening = l; taken = t; sent = r } in
+    sym (step_split us w octets n from to old mid h
+    ∙ ends_here us w octets n (follows to.said_before (get_or us from.at.taken [])) (next_of us from.at) mid (answering us w from.at)
+    (next_stops us from.at (Some reply) owes)
+    ∙ ap (fold added mid) (answering_as us w from.at c (Some (reply_of reply)) l t r
+    ∙ ap (λ (s : Seen). if_answer w (Some (reply_of reply)) (member (from.at.taken + 1) s)) (sym e))
+    ∙ sym g)
+
+pub turn_on : (us : List (List ℕ)) (w : Word) (octets n : ℕ) (from to : Walker) (old mid : List Member) (next : Seen) (c : Count)
+    (u : List ℕ)
+    (earlier : Option Seen) → SendsAs w octets old mid from to → listens from.at.standing ≡ true → u ≡ get_or us from.at.taken []
+    → Takes from.at.standing (get_or us from.at.taken []) c → next ≡ after_count from.at.standing c → c.reply ≡ None
+    → earlier ≡ follows to.said_before u
+    → fold added mid (senders_from us w octets n (Some (record { at = member (from.at.taken + 1) next; said_before = earlier })))
+    ≡ fold added old (senders_from us w octets (suc n) (Some from))
+turn_on us w octets n from to old mid next c u earlier h l k t e r f =
+    let on = member (from.at.taken + 1) next in
+    let goes : Quietly us from.at on = record {
+      taken = refl;
+      follows = record { count = c; listening = l; taken = t; quiet = r; next = e };
+    } in
+    sym (step_split us w octets n from to old mid h
+    ∙ ap (λ (ms : List Member). fold added (fold added mid ms)
+    (senders us w octets n (follows to.said_before (get_or us from.at.taken [])) (next_of us from.at)))
+    (answering_as us w from.at c None l t r)
+    ∙ ap (λ (x : Option Member). fold added mid (senders us w octets n (follows to.said_before (get_or us from.at.taken [])) x))
+    (next_goes us from.at on goes)
+    ∙ ap (λ (x : List ℕ). fold added mid (senders us w octets n (follows to.said_before x) (Some on))) (sym k)
+    ∙ ap (λ (x : Option Seen). fold added mid (senders us w octets n x (Some on))) (sym f))
+
+-- ---- a walk
+
+abbrev pub Steps : List (List ℕ) → Word → ℕ → List Member → List Member → Walker → Option Walker → Type 0
+Steps us w octets old new from to =
+    (n : ℕ) → fold added new (senders_from us w octets n to) ≡ fold added old (senders_from us w octets (suc n) (Some from))
+
+abbrev pub rest_of : List (List ℕ) → Word → ℕ → ℕ → List Member → Walker → List Member
+rest_of us w octets before members at = fold added members (senders us w octets (before - at.at.taken) at.said_before (Some at.at))
+
+pub walk_on : (us : List (List ℕ)) (w : Word) (octets before : ℕ) (old new all : List Member) (from to : Walker) → from.at.taken < before
+    → to.at.taken ≡ from.at.taken + 1 → Steps us w octets old new from (Some to) → rest_of us w octets before old from ≡ all
+    → rest_of us w octets before new to ≡ all
+walk_on us w octets before old new all from to l p s h =
+    let n : before - from.at.taken ≡ suc (before - to.at.taken) = omega (arith, l, p) in
+    s (before - to.at.taken) ∙ sym (ap (λ (k : ℕ). fold added old (senders us w octets k from.said_before (Some from.at))) n) ∙ h
+
+pub walk_stops : (us : List (List ℕ)) (w : Word) (octets before : ℕ) (old new all : List Member) (from : Walker) → from.at.taken < before
+    → Steps us w octets old new from None → rest_of us w octets before old from ≡ all → new ≡ all
+walk_stops us w octets before old new all from l s h =
+    let n : before - from.at.taken ≡ suc (before - (from.at.taken + 1)) = omega (arith, l) in
+    s (before - (from.at.taken + 1)) ∙ sym (ap (λ (k : ℕ). fold added old (senders us w octets k from.said_before (Some from.at))) n) ∙ h
+
+pub walk_ends : (us : List (List ℕ)) (w : Word) (octets before : ℕ) (old new all : List Member) (from to : Walker) → before ≤ from.at.taken
+    → SendsAs w octets old new from to → rest_of us w octets before old from ≡ all → new ≡ all
+walk_ends us w octets before old new all from to l s h =
+    let n : before - from.at.taken ≡ 0 = omega (arith, l) in
+    s.0 ∙ sym (ap (λ (k : ℕ). fold added old (senders us w octets k from.said_before (Some from.at))) n) ∙ h
+
+-- ---- which walk it is
+
+pub restarts_with : (us : List (List ℕ)) (w : Word) (octets before : ℕ) (m : Member) → m.standing.state.numbers.lowest ≤ 999999
+    → askers us (way_to w octets m.standing) (before - m.taken) None (Some m) ≡ restarters us w octets before m
+restarts_with us w octets before m l =
+    let low : nat_lt 999999 m.standing.state.numbers.lowest ≡ false = not_lt (nat_lt 999999 m.standing.state.numbers.lowest) refl in
+    sym (ap (λ (b : Bool). if b then senders us w octets (before - m.taken) None (Some m)
+    else askers us (way_to w octets m.standing) (before - m.taken) None (Some m)) low)
+  where
+    not_lt : (b : Bool) → nat_lt 999999 m.standing.state.numbers.lowest ≡ b → nat_lt 999999 m.standing.state.numbers.lowest ≡ false
+    not_lt false e = e
+    not_lt true e = grind arith
+
+pub restarts_without : (us : List (List ℕ)) (w : Word) (octets before : ℕ) (m : Member) → 999999 < m.standing.state.numbers.lowest
+    → senders us w octets (before - m.taken) None (Some m) ≡ restarters us w octets before m
+restarts_without us w octets before m l =
+    sym (ap (λ (b : Bool). if b then senders us w octets (before - m.taken) None (Some m)
+    else askers us (way_to w octets m.standing) (before - m.taken) None (Some m)) (lt-ltb 999999 m.standing.state.numbers.lowest l))
+
+abbrev place_by : Bool → Bool → List (List ℕ) → Word → ℕ → ℕ → Member → List Member
+place_by restart steady us w octets before m =
+    if restart then restarters us w octets before m
+    else if steady then listed (first_sender w octets (reached us before m))
+    else senders us w octets (before - m.taken) None (Some m)
+
+pub place_restart : (us : List (List ℕ)) (w : Word) (octets before : ℕ) (m : Member) → is_restart_word w ≡ true
+    → restarters us w octets before m ≡ places_of us w octets before m
+unfolding places_of
+place_restart us w octets before m r = sym (ap (λ (b : Bool). place_by b (is_steady w) us w octets before m) r)
+
+pub place_other : (us : List (List ℕ)) (w : Word) (octets before : ℕ) (m : Member) → is_restart_word w ≡ false → is_steady w ≡ false
+    → senders us w octets (before - m.taken) None (Some m) ≡ places_of us w octets before m
+unfolding places_of
+place_other us w octets before m r s =
+    sym (ap (λ (b : Bool). place_by b (is_steady w) us w octets before m) r ∙ ap (λ (b : Bool). place_by false b us w octets before m) s)
+
+pub place_steady : (us : List (List ℕ)) (w : Word) (octets before : ℕ) (m : Member) (r : Option Member) → is_restart_word w ≡ false
+    → is_steady w ≡ true → r ≡ first_sender w octets (reached us before m) → listed r ≡ places_of us w octets before m
+unfolding places_of
+place_steady us w octets before m p r s e =
+    ap listed e
+    ∙ sym (ap (λ (b : Bool). place_by b (is_steady w) us w octets before m) r ∙ ap (λ (b : Bool). place_by false b us w octets before m) s)

@@ -1,0 +1,264 @@
+-- Which sessions a walk to a restart keeps is a function of where it begins and of what passed: for the functions of `restarts`.
+use Rattle.std.proofs.Common.{◌≡◌, ◌∙◌, refl, sym, ap, subst, ℕ, suc, zero, ◌+◌, ◌-◌, ◌<◌, ◌≤◌, Bool, true, false, ◌&&◌, List, [], ◌∷◌}
+use Rattle.std.proofs.Common.{◌++◌, get_or, Option, Some, None, Result, Ok, Err, OnOk, if◌then◌else◌, arith}
+use Rattle.std.proofs.lemmas.List.Sums.{fold-append}
+use Rattle.std.specs.List.{fold}
+use Rattle.osi_message.specs.Words.{Word}
+use Rattle.osi_session.specs.Phases.{is_restarting}
+use Rattle.osi_session.specs.Standing.{Seen, SaysAs, said}
+use Rattle.osi_judge.specs.declared.members.Member.{Member}
+use Rattle.osi_judge.specs.declared.restarts.Asked.{Asked}
+use Rattle.osi_judge.specs.declared.restarts.Asker.{Asker}
+use Rattle.osi_judge.specs.Kept.{added, member, sends, same_seen, quietly, is_still, remain, waits, Way, Halt, both_of, is_between, unless}
+use Rattle.osi_judge.specs.Kept.{joined, asked_by, asks, waited, passed, halted, stepped, askers, askers_from}
+use Rattle.osi_judge.specs.Nearest.{next_of}
+
+-- ---- in memory
+
+pub none_is : {A : Type 0} (o r : Option A) → ((x : A) → o ≡ Some x → ⊥) → o ≡ r → r ≡ None
+none_is None r n e = sym e
+none_is (Some x) r n e = absurd (n x refl)
+
+pub unsaid : {E : Type 0} (r : Result Seen E) (left : Option Seen) → ((s : Seen) → r ≡ Ok s → ⊥) → SaysAs r left → left ≡ None
+unsaid (Ok s) left n h = absurd (n s refl)
+unsaid (Err e) left n h = h
+
+pub on_ok : {A E : Type 0} (r : Result A E) (old new xs ys : List Member) → xs ≡ ys → OnOk r (new ≡ fold added old xs)
+    → OnOk r (new ≡ fold added old ys)
+on_ok (Ok a) old new xs ys e h = h ∙ ap (fold added old) e
+on_ok (Err f) old new xs ys e h = tt
+
+-- ---- one that waits
+
+and_false : (b : Bool) → (b && false) ≡ false
+and_false true = refl
+and_false false = refl
+
+pub waits_not : (w : Word) (s : Seen) (u : List ℕ) → is_restarting s.state.phase ≡ false → false ≡ waits w s u
+unfolding waits
+waits_not w s u e = sym (ap (λ (b : Bool). b && remain s (said s w 0) u) e)
+
+remains_not : (w : Word) (s : Seen) (u : List ℕ) → false ≡ remain s (said s w 0) u → false ≡ waits w s u
+unfolding waits
+remains_not w s u e = sym (and_false (is_restarting s.state.phase)) ∙ ap (λ (b : Bool). is_restarting s.state.phase && b) e
+
+pub waits_unsaid : (w : Word) (s : Seen) (u : List ℕ) → said s w 0 ≡ None → false ≡ waits w s u
+waits_unsaid w s u e = remains_not w s u (sym (ap (λ (o : Option Seen). remain s o u) e))
+
+pub waits_moved : (w : Word) (s a : Seen) (u : List ℕ) → said s w 0 ≡ Some a → false ≡ is_still s (quietly s u) → false ≡ waits w s u
+waits_moved w s a u e h =
+    remains_not w s u (ap (λ (b : Bool). b && is_still a (quietly a u)) h ∙ sym (ap (λ (o : Option Seen). remain s o u) e))
+
+pub waits_moved_after : (w : Word) (s a : Seen) (u : List ℕ) → said s w 0 ≡ Some a → false ≡ is_still a (quietly a u) → false ≡ waits w s u
+waits_moved_after w s a u e h =
+    remains_not w s u (sym (and_false (is_still s (quietly s u))) ∙ ap (λ (b : Bool). is_still s (quietly s u) && b) h
+    ∙ sym (ap (λ (o : Option Seen). remain s o u) e))
+
+pub waits_so : (w : Word) (s a : Seen) (u : List ℕ) → is_restarting s.state.phase ≡ true → said s w 0 ≡ Some a
+    → true ≡ is_still s (quietly s u) → true ≡ is_still a (quietly a u) → true ≡ waits w s u
+unfolding waits
+waits_so w s a u p e h k =
+    sym (ap (λ (b : Bool). b && remain s (said s w 0) u) p ∙ ap (λ (o : Option Seen). remain s o u) e
+    ∙ ap (λ (b : Bool). b && is_still a (quietly a u)) (sym h) ∙ sym k)
+
+-- ---- one more sends it
+
+abbrev pub JoinsAs : ℕ → Option Asked → Seen → Seen → List Member → List Member → Option Asked → Type 0
+JoinsAs taken asked s shown old new r =
+    (r ≡ (joined taken asked s shown).waiting) × (new ≡ fold added old (joined taken asked s shown).kept)
+
+joins_by : (taken : ℕ) (asked : Option Asked) (b : Asked) (s shown : Seen) (old new : List Member) (r : Option Asked) → asked ≡ Some b
+    → JoinsAs taken (Some b) s shown old new r → JoinsAs taken asked s shown old new r
+joins_by taken asked b s shown old new r e h = subst (λ (o : Option Asked). JoinsAs taken o s shown old new r) (sym e) h
+
+pub joined_first : (taken : ℕ) (asked : Option Asked) (s shown : Seen) (old : List Member) → ((a : Asked) → asked ≡ Some a → ⊥)
+    → JoinsAs taken asked s shown old old (Some (record { first = s; last = s; shown = shown }))
+joined_first taken None s shown old n = (refl, refl)
+joined_first taken (Some a) s shown old n = absurd (n a refl)
+
+abbrev joined_if : Bool → ℕ → Asked → Seen → Seen → Halt
+joined_if same taken a s shown =
+    if same
+    then record {
+      kept = unless (is_between a s) (member taken a.last);
+      waiting = Some
+          (record { first = a.first; last = s; shown = a.shown });
+    }
+    else record { kept = both_of taken (Some a); waiting = Some (record { first = s; last = s; shown = shown }) }
+
+pub joined_apart : (taken : ℕ) (asked : Option Asked) (b : Asked) (s shown : Seen) (old new : List Member) → asked ≡ Some b
+    → false ≡ same_seen b.shown shown → new ≡ fold added old (both_of taken (Some b))
+    → JoinsAs taken asked s shown old new (Some (record { first = s; last = s; shown = shown }))
+joined_apart taken asked b s shown old new e d h =
+    let k : joined_if false taken b s shown ≡ joined taken (Some b) s shown = ap (λ (x : Bool). joined_if x taken b s shown) d in
+    joins_by taken asked b s shown old new _ e
+    (ap (λ (x : Halt). x.waiting) k, h ∙ ap (λ (x : Halt). fold added old x.kept) k)
+
+abbrev joined_with : Bool → ℕ → Asked → Seen → Halt
+joined_with between taken a s = record {
+  kept = unless between (member taken a.last);
+  waiting = Some (record { first = a.first; last = s; shown = a.shown });
+}
+
+joined_is : (taken : ℕ) (b : Asked) (s shown : Seen) (between : Bool) → true ≡ same_seen b.shown shown → between ≡ is_between b s
+    → joined_with between taken b s ≡ joined taken (Some b) s shown
+joined_is taken b s shown between d m =
+    ap (λ (x : Bool). joined_with x taken b s) m ∙ ap (λ (x : Bool). joined_if x taken b s shown) d
+
+pub joined_between : (taken : ℕ) (asked : Option Asked) (b : Asked) (s shown : Seen) (old : List Member) → asked ≡ Some b
+    → true ≡ same_seen b.shown shown → true ≡ is_between b s
+    → JoinsAs taken asked s shown old old (Some (record { first = b.first; last = s; shown = b.shown }))
+joined_between taken asked b s shown old e d m =
+    let k = joined_is taken b s shown true d m in
+    joins_by taken asked b s shown old old _ e (ap (λ (x : Halt). x.waiting) k, ap (λ (x : Halt). fold added old x.kept) k)
+
+pub joined_after : (taken : ℕ) (asked : Option Asked) (b : Asked) (s shown : Seen) (old new : List Member) → asked ≡ Some b
+    → true ≡ same_seen b.shown shown → false ≡ is_between b s → new ≡ added old (member taken b.last)
+    → JoinsAs taken asked s shown old new (Some (record { first = b.first; last = s; shown = b.shown }))
+joined_after taken asked b s shown old new e d m h =
+    let k = joined_is taken b s shown false d m in
+    joins_by taken asked b s shown old new _ e (ap (λ (x : Halt). x.waiting) k, h ∙ ap (λ (x : Halt). fold added old x.kept) k)
+
+-- ---- a session sends it here
+
+abbrev pub AsksAs : Way → Option Asked → Member → List Member → List Member → Option Asked → Type 0
+AsksAs way asked m old new r = (r ≡ (asks way asked m).waiting) × (new ≡ fold added old (asks way asked m).kept)
+
+abbrev HaltsAs : List Member → List Member → Option Asked → Halt → Type 0
+HaltsAs old new r h = (r ≡ h.waiting) × (new ≡ fold added old h.kept)
+
+pub asks_not : (way : Way) (asked : Option Asked) (m : Member) (old : List Member) → sends way.restart way.octets m ≡ None
+    → AsksAs way asked m old old asked
+asks_not way asked m old e =
+    subst (HaltsAs old old asked) (sym (ap (λ (o : Option Member). asked_by m.taken asked o (sends way.shown way.octets m)) e)) (refl, refl)
+
+pub asks_alone : (way : Way) (asked : Option Asked) (m one : Member) (old new : List Member) → Some one ≡ sends way.restart way.octets m
+    → sends way.shown way.octets m ≡ None → new ≡ added old one → AsksAs way asked m old new asked
+asks_alone way asked m one old new e n h =
+    subst (HaltsAs old new asked)
+    (ap (λ (o : Option Member). asked_by m.taken asked (Some one) o) (sym n)
+    ∙ ap (λ (o : Option Member). asked_by m.taken asked o (sends way.shown way.octets m)) e) (refl, h)
+
+pub asks_joined : (way : Way) (asked : Option Asked) (m one shown : Member) (old new : List Member) (r : Option Asked)
+    → Some one ≡ sends way.restart way.octets m → Some shown ≡ sends way.shown way.octets m
+    → JoinsAs m.taken asked one.standing shown.standing old new r → AsksAs way asked m old new r
+asks_joined way asked m one shown old new r e n h =
+    subst (HaltsAs old new r)
+    (ap (λ (o : Option Member). asked_by m.taken asked (Some one) o) n
+    ∙ ap (λ (o : Option Member). asked_by m.taken asked o (sends way.shown way.octets m)) e) h
+
+-- ---- those that wait take a TSDU
+
+abbrev pub WaitsAs : Word → ℕ → Option Asked → List ℕ → List Member → List Member → Option Asked → Type 0
+WaitsAs abort taken asked u old new r = (r ≡ (waited abort taken asked u).waiting) × (new ≡ fold added old
+    (waited abort taken asked u).kept)
+
+abbrev waited_if : Bool → ℕ → Asked → Halt
+waited_if b taken a =
+    if b then record { kept = []; waiting = Some a } else record { kept = both_of taken (Some a); waiting = None }
+
+waited_by : (abort : Word) (taken : ℕ) (asked : Option Asked) (a : Asked) (u : List ℕ) (old new : List Member) (r : Option Asked) (b : Bool)
+    → asked ≡ Some a → b ≡ (waits abort a.first u && waits abort a.last u) → HaltsAs old new r (waited_if b taken a)
+    → WaitsAs abort taken asked u old new r
+waited_by abort taken asked a u old new r b e d h =
+    subst (HaltsAs old new r)
+    (ap (λ (x : Bool). waited_if x taken a) d ∙ sym (ap (λ (o : Option Asked). waited abort taken o u) e)) h
+
+pub waited_none : (abort : Word) (taken : ℕ) (asked : Option Asked) (u : List ℕ) (old : List Member) → ((a : Asked) → asked ≡ Some a → ⊥)
+    → WaitsAs abort taken asked u old old None
+waited_none abort taken None u old n = (refl, refl)
+waited_none abort taken (Some a) u old n = absurd (n a refl)
+
+pub waited_first : (abort : Word) (taken : ℕ) (asked : Option Asked) (a : Asked) (u : List ℕ) (old new : List Member) → asked ≡ Some a
+    → false ≡ waits abort a.first u → new ≡ fold added old (both_of taken (Some a)) → WaitsAs abort taken asked u old new None
+waited_first abort taken asked a u old new e d h =
+    waited_by abort taken asked a u old new None false e (ap (λ (x : Bool). x && waits abort a.last u) d) (refl, h)
+
+pub waited_last : (abort : Word) (taken : ℕ) (asked : Option Asked) (a : Asked) (u : List ℕ) (old new : List Member) → asked ≡ Some a
+    → false ≡ waits abort a.last u → new ≡ fold added old (both_of taken (Some a)) → WaitsAs abort taken asked u old new None
+waited_last abort taken asked a u old new e d h =
+    waited_by abort taken asked a u old new None false e
+    (sym (and_false (waits abort a.first u)) ∙ ap (λ (x : Bool). waits abort a.first u && x) d) (refl, h)
+
+pub waited_both : (abort : Word) (taken : ℕ) (asked : Option Asked) (a : Asked) (u : List ℕ) (old : List Member) → asked ≡ Some a
+    → true ≡ waits abort a.first u → true ≡ waits abort a.last u → WaitsAs abort taken asked u old old (Some a)
+waited_both abort taken asked a u old e d k =
+    waited_by abort taken asked a u old old (Some a) true e
+    (k ∙ ap (λ (x : Bool). x && waits abort a.last u) d) (refl, refl)
+
+-- ---- one step
+
+abbrev rest_with : List (List ℕ) → Way → ℕ → Member → Option Member → List Member → Option Asked → List Member
+rest_with us way n m next old asked =
+    fold added (fold added old (passed us way.abort m.taken asked next).kept) (askers us way n
+    (passed us way.abort m.taken asked next).waiting next)
+
+step_split : (us : List (List ℕ)) (way : Way) (n : ℕ) (asked r : Option Asked) (m : Member) (old mid : List Member)
+    → AsksAs way asked m old mid r → fold added old (askers us way (suc n) asked (Some m)) ≡ rest_with us way n m (next_of us m) mid r
+step_split us way n asked r m old mid h =
+    let a = asks way asked m in
+    let next = next_of us m in
+    let p = passed us way.abort m.taken a.waiting next in
+    let rest = askers us way n p.waiting next in
+    fold-append added old (a.kept ++ p.kept) rest
+    ∙ ap (λ (ms : List Member). fold added ms rest) (fold-append added old a.kept p.kept)
+    ∙ ap (λ (ms : List Member). rest_with us way n m next ms a.waiting) (sym h.1)
+    ∙ ap (rest_with us way n m next mid) (sym h.0)
+
+askers_none : (us : List (List ℕ)) (way : Way) (n : ℕ) (asked : Option Asked) → askers us way n asked None ≡ []
+askers_none us way zero asked = refl
+askers_none us way (suc n) asked = refl
+
+pub step_stops : (us : List (List ℕ)) (way : Way) (n : ℕ) (from : Asker) (r : Option Asked) (old mid new : List Member)
+    → AsksAs way from.asked from.at old mid r → next_of us from.at ≡ None → new ≡ fold added mid (both_of from.at.taken r)
+    → fold added new (askers_from us way n None) ≡ fold added old (askers_from us way (suc n) (Some from))
+step_stops us way n from r old mid new h e k =
+    sym (step_split us way n from.asked r from.at old mid h
+    ∙ ap (λ (o : Option Member). rest_with us way n from.at o mid r) e
+    ∙ ap (fold added (fold added mid (both_of from.at.taken r))) (askers_none us way n None)
+    ∙ sym k)
+
+pub step_on : (us : List (List ℕ)) (way : Way) (n : ℕ) (from : Asker) (on : Member) (u : List ℕ) (r s : Option Asked)
+    (old mid new : List Member) → AsksAs way from.asked from.at old mid r → next_of us from.at ≡ Some on → u ≡ get_or us from.at.taken []
+    → WaitsAs way.abort from.at.taken r u mid new s
+    → fold added new (askers_from us way n (Some (record { at = on; asked = s }))) ≡ fold added old (askers_from us way (suc n) (Some from))
+step_on us way n from on u r s old mid new h e t k =
+    let w = waited way.abort from.at.taken r in
+    sym (step_split us way n from.asked r from.at old mid h
+    ∙ ap (λ (o : Option Member). rest_with us way n from.at o mid r) e
+    ∙ ap (λ (x : List ℕ). fold added (fold added mid (w x).kept) (askers us way n (w x).waiting (Some on))) (sym t)
+    ∙ ap (λ (ms : List Member). fold added ms (askers us way n (w u).waiting (Some on))) (sym k.1)
+    ∙ ap (λ (x : Option Asked). fold added new (askers us way n x (Some on))) (sym k.0))
+
+-- ---- a walk
+
+abbrev pub StepsAs : List (List ℕ) → Way → List Member → List Member → Asker → Option Asker → Type 0
+StepsAs us way old new from to =
+    (n : ℕ) → fold added new (askers_from us way n to) ≡ fold added old (askers_from us way (suc n) (Some from))
+
+abbrev pub rest_of : List (List ℕ) → Way → ℕ → List Member → Asker → List Member
+rest_of us way before members at = fold added members (askers us way (before - at.at.taken) at.asked (Some at.at))
+
+pub walk_on : (us : List (List ℕ)) (way : Way) (before : ℕ) (old new all : List Member) (from to : Asker) → from.at.taken < before
+    → to.at.taken ≡ from.at.taken + 1 → StepsAs us way old new from (Some to) → rest_of us way before old from ≡ all
+    → rest_of us way before new to ≡ all
+walk_on us way before old new all from to l p s h =
+    let n : before - from.at.taken ≡ suc (before - to.at.taken) = omega (arith, l, p) in
+    s (before - to.at.taken) ∙ sym (ap (λ (k : ℕ). fold added old (askers us way k from.asked (Some from.at))) n) ∙ h
+
+pub walk_stops : (us : List (List ℕ)) (way : Way) (before : ℕ) (old new all : List Member) (from : Asker) → from.at.taken < before
+    → StepsAs us way old new from None → rest_of us way before old from ≡ all → new ≡ all
+walk_stops us way before old new all from l s h =
+    let n : before - from.at.taken ≡ suc (before - (from.at.taken + 1)) = omega (arith, l) in
+    s (before - (from.at.taken + 1)) ∙ sym (ap (λ (k : ℕ). fold added old (askers us way k from.asked (Some from.at))) n) ∙ h
+
+pub walk_ends : (us : List (List ℕ)) (way : Way) (before : ℕ) (old mid new all : List Member) (from : Asker) (r : Option Asked)
+    → before ≤ from.at.taken → AsksAs way from.asked from.at old mid r → new ≡ fold added mid (both_of from.at.taken r)
+    → rest_of us way before old from ≡ all → new ≡ all
+walk_ends us way before old mid new all from r l s k h =
+    let n : before - from.at.taken ≡ 0 = omega (arith, l) in
+    let a = asks way from.asked from.at in
+    k ∙ ap (λ (ms : List Member). fold added ms (both_of from.at.taken r)) s.1
+    ∙ ap (λ (o : Option Asked). fold added (fold added old a.kept) (both_of from.at.taken o)) s.0
+    ∙ sym (fold-append added old a.kept (both_of from.at.taken a.waiting))
+    ∙ sym (ap (λ (j : ℕ). fold added old (askers us way j from.asked (Some from.at))) n) ∙ h

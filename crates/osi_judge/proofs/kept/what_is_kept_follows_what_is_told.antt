@@ -1,0 +1,95 @@
+-- The sessions that are kept of a side follow what it tells, and how many they are: for what is known of a side.
+use Rattle.std.proofs.Common.{◌≡◌, ◌∙◌, refl, sym, ap, subst, ℕ, suc, zero, ◌+◌, ◌<◌, ◌≤◌, Bool, true, false, nat_le, List, [], ◌∷◌, ◌++◌}
+use Rattle.std.proofs.Common.{length, take, arith}
+use Rattle.std.proofs.lemmas.Bool.{leb-true}
+use Rattle.std.proofs.lemmas.List.{length-append}
+use Rattle.std.proofs.lemmas.List.Sums.{fold-append}
+use Rattle.osi_session.specs.Standing.{Seen}
+use Rattle.osi_judge.specs.declared.members.Member.{Member}
+use Rattle.osi_judge.specs.Explaining.{Told}
+use Rattle.osi_judge.specs.Judging.{AreKept, IsFew, IsCrowd}
+use Rattle.osi_judge.specs.Kept.{member, after_tsdu, kept}
+use Rattle.osi_judge.proofs.kept.what_is_kept_is_of_what_had_passed.{extends_alike, tsdu_alike}
+
+-- ---- the first of some TSDUs
+
+pub take_front : (xs ys : List Told) (n : ℕ) → n ≤ length xs → take n (xs ++ ys) ≡ take n xs
+take_front xs ys zero l = refl
+take_front [] ys (suc n) l = absurd (omega arith)
+take_front (x ∷ xs) ys (suc n) l = ap (λ (z : List Told). x ∷ z) (take_front xs ys n (omega arith))
+
+pub take_whole : (xs : List Told) (n : ℕ) → length xs ≤ n → take n xs ≡ xs
+take_whole [] zero l = refl
+take_whole [] (suc n) l = refl
+take_whole (x ∷ xs) zero l = absurd (omega arith)
+take_whole (x ∷ xs) (suc n) l = ap (λ (z : List Told). x ∷ z) (take_whole xs n (omega arith))
+
+-- ---- the sessions
+
+kept_of_more : (begin : Seen) (us : List (List ℕ)) (told : List Told) (x : Told)
+    → kept begin us (told ++ x ∷ []) ≡ after_tsdu us (kept begin us told) x
+unfolding kept
+kept_of_more begin us told x = fold-append (after_tsdu us) (member 0 begin ∷ []) told (x ∷ [])
+
+pub kept_more : (begin : Seen) (heard : List (List ℕ)) (told : List Told) (x : Told) (members new : List Member)
+    → AreKept begin heard told members → x.before ≤ length heard → new ≡ after_tsdu heard members x
+    → AreKept begin heard (told ++ x ∷ []) new
+kept_more begin heard told x members new k l e = λ us h.
+    e ∙ sym (tsdu_alike us heard members x (extends_alike us heard x.before h l))
+    ∙ ap (λ (ms : List Member). after_tsdu us ms x) (k us h) ∙ sym (kept_of_more begin us told x)
+
+pub kept_begins : (begin : Seen) (us : List (List ℕ)) (members : List Member) (m : Member) → members ≡ m ∷ [] → m.taken ≡ 0
+    → m.standing ≡ begin → members ≡ kept begin us []
+unfolding kept
+kept_begins begin us members m e t s = e ∙ (λ i. let one : Member = record { taken = t i; standing = s i } in one ∷ [])
+
+-- ---- how many they are
+
+few_at : (begin : Seen) (us : List (List ℕ)) (a b : List Told) → a ≡ b → length (kept begin us b) ≤ 4096 → length (kept begin us a) ≤ 4096
+few_at begin us a b e l = subst (λ (z : List Told). length (kept begin us z) ≤ 4096) (sym e) l
+
+pub few_begins : (begin : Seen) (us : List (List ℕ)) → IsFew begin us []
+unfolding kept
+few_begins begin us = λ n. by n
+  where
+    by : (n : ℕ) → length (kept begin us (take n [])) ≤ 4096
+    by zero = omega arith
+    by (suc n) = omega arith
+
+above : (n m : ℕ) → nat_le n m ≡ false → m < n
+above n m h = grind (arith, leb-true)
+
+pub few_more : (begin : Seen) (us : List (List ℕ)) (told : List Told) (x : Told) → IsFew begin us told
+    → length (kept begin us (told ++ x ∷ [])) ≤ 4096 → IsFew begin us (told ++ x ∷ [])
+few_more begin us told x f l = λ n. by n (nat_le n (length told)) refl
+  where
+    by : (n : ℕ) (b : Bool) → nat_le n (length told) ≡ b → length (kept begin us (take n (told ++ x ∷ []))) ≤ 4096
+    by n true e = few_at begin us (take n (told ++ x ∷ [])) (take n told) (take_front told (x ∷ []) n (leb-true n (length told) e)) (f n)
+    by n false e =
+        let m = length-append told (x ∷ []) in
+        let o = above n (length told) e in
+        few_at begin us (take n (told ++ x ∷ [])) (told ++ x ∷ []) (take_whole (told ++ x ∷ []) n (omega (arith, m, o))) l
+
+pub crowd_more : (begin : Seen) (us : List (List ℕ)) (told : List Told) (x : Told) (i : ℕ) → i ≡ length told → IsFew begin us told
+    → 4096 < length (kept begin us (told ++ x ∷ [])) → IsCrowd begin us (told ++ x ∷ []) i
+crowd_more begin us told x i e f l =
+    let m = length-append told (x ∷ []) in
+    let front = take_front told (x ∷ []) i (omega (arith, e)) ∙ take_whole told i (omega (arith, e)) in
+    let whole = take_whole (told ++ x ∷ []) (i + 1) (omega (arith, e, m)) in (
+      subst (λ (z : List Told). IsFew begin us z) (sym front) f,
+      subst (λ (z : List Told). 4096 < length (kept begin us z)) (sym whole) l,
+    )
+
+pub crowd_still : (begin : Seen) (us : List (List ℕ)) (a b : List Told) (i : ℕ) → take i a ≡ take i b → take (i + 1) a ≡ take (i + 1) b
+    → IsCrowd begin us b i → IsCrowd begin us a i
+crowd_still begin us a b i e f k = (
+  subst (λ (z : List Told). IsFew begin us z) (sym e) k.0,
+  subst (λ (z : List Told). 4096 < length (kept begin us z)) (sym f) k.1,
+)
+
+-- the kept list itself
+pub few_members : (begin : Seen) (us : List (List ℕ)) (told : List Told) (members : List Member) → members ≡ kept begin us told
+    → IsFew begin us told → length members ≤ 4096
+few_members begin us told members e f =
+    subst (λ (ms : List Member). length ms ≤ 4096) (sym e)
+    (few_at begin us told (take (length told) told) (sym (take_whole told (length told) (omega arith))) (f (length told)))
