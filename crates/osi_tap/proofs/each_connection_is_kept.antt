@@ -1,0 +1,135 @@
+-- What is kept of the connections stays what passed of them, as one is changed, added or given up, and as all begin a packet:
+-- for the connections of a byte connection.
+use Rattle.std.proofs.Common.{◌≡◌, ℕ, zero, suc, ◌+◌, ◌<◌, ◌≤◌, List, [], ◌∷◌, ◌++◌, length, take, drop, map, get_or, set, arith, refl}
+use Rattle.std.proofs.Common.{ap, subst, sym, Option, Some, None, ◌∙◌, add-one}
+use Rattle.std.specs.Option.{option_map}
+use Rattle.osi_tap.specs.Courses.{number_of}
+use Rattle.std.specs.Prelude.{slice_get}
+use Rattle.osi_tap.specs.declared.connections.Connection.{Connection}
+use Rattle.osi_tap.specs.Connections.{Joined, Sessions, changed, placed}
+use Rattle.osi_tap.specs.Holding.{HoldsJoined, HoldAll}
+
+pub all_length : (cs : List Connection) (js : List Joined) → HoldAll cs js → length cs ≡ length js
+all_length [] [] h = refl
+all_length [] (j ∷ js) h = absurd h
+all_length (c ∷ cs) [] h = absurd h
+all_length (c ∷ cs) (j ∷ js) h = ap suc (all_length cs js h.1)
+
+pub all_more : (cs : List Connection) (js : List Joined) (c : Connection) (j : Joined) → HoldAll cs js → HoldsJoined c j
+    → HoldAll (cs ++ c ∷ []) (js ++ j ∷ [])
+all_more [] [] c j h e = (e, tt)
+all_more [] (i ∷ js) c j h e = absurd h
+all_more (d ∷ cs) [] c j h e = absurd h
+all_more (d ∷ cs) (i ∷ js) c j h e = (h.0, all_more cs js c j h.1 e)
+
+-- the one at a place, and the list after it is changed
+record HasElement (cs : List Connection) (js : List Joined) (i : ℕ) (c : Connection) : Type 0 where
+  joined : Joined
+  there : slice_get js i ≡ Some joined
+  holds : HoldsJoined c joined
+  next : (d : Connection) (j : Joined) → HoldsJoined d j → HoldAll (set cs i d) (set js i j)
+
+element : (cs : List Connection) (js : List Joined) (i : ℕ) (c : Connection) → i < length cs → HoldAll cs js
+    → HasElement cs js i (get_or cs i c)
+element [] js i c lt h = absurd (omega arith)
+element (c ∷ cs) [] i d lt h = absurd h
+element (c ∷ cs) (j ∷ js) zero d lt h = record { joined = j; there = refl; holds = h.0; next = λ e k holds. (holds, h.1) }
+element (c ∷ cs) (j ∷ js) (suc i) d lt h =
+    let r = element cs js i d (omega arith) h.1 in
+    record { joined = r.joined; there = r.there; holds = r.holds; next = λ e k holds. (h.0, r.next e k holds) }
+
+-- one of them is changed
+pub one_changed : (cs ds : List Connection) (s : Sessions) (i : ℕ) (c d : Connection) (f : Joined → Joined) → i < length cs
+    → ((j : Joined) → HoldsJoined (get_or cs i c) j → HoldsJoined d (f j)) → HoldAll cs s.live → HoldAll ds s.done
+    → HoldAll (set cs i d) (changed i f s (slice_get s.live i)).live × HoldAll ds (changed i f s (slice_get s.live i)).done
+one_changed cs ds s i c d f lt step live done =
+    let r = element cs s.live i c lt live in
+    subst (λ (o : Option Joined). HoldAll (set cs i d) (changed i f s o).live × HoldAll ds (changed i f s o).done) (sym r.there)
+    (r.next d (f r.joined) (step r.joined r.holds), done)
+
+none_there : (js : List Joined) (i : ℕ) → length js ≤ i → slice_get js i ≡ None
+none_there [] i le = refl
+none_there (j ∷ js) zero le = absurd (omega arith)
+none_there (j ∷ js) (suc i) le = none_there js i (omega arith)
+
+-- none is at a place beyond them
+pub none_changed : (cs ds : List Connection) (s : Sessions) (i : ℕ) (f : Joined → Joined) → length cs ≤ i → HoldAll cs s.live
+    → HoldAll ds s.done
+    → HoldAll cs (changed i f s (slice_get s.live i)).live × HoldAll ds (changed i f s (slice_get s.live i)).done
+none_changed cs ds s i f le live done =
+    let e = all_length cs s.live live in
+    subst (λ (o : Option Joined). HoldAll cs (changed i f s o).live × HoldAll ds (changed i f s o).done) (sym (none_there s.live i
+    (omega arith)))
+    (live, done)
+
+-- one more is requested, at a place of its own
+pub one_more : (cs ds : List Connection) (s : Sessions) (i : ℕ) (c : Connection) (j : Joined) → length cs ≤ i → HoldsJoined c j
+    → HoldAll cs s.live → HoldAll ds s.done
+    → HoldAll (cs ++ c ∷ []) (placed i j s (slice_get s.live i)).live × HoldAll ds (placed i j s (slice_get s.live i)).done
+one_more cs ds s i c j le holds live done =
+    let e = all_length cs s.live live in
+    subst (λ (o : Option Joined). HoldAll (cs ++ c ∷ []) (placed i j s o).live × HoldAll ds (placed i j s o).done) (sym
+    (none_there s.live i (omega arith)))
+    (all_more cs s.live c j live holds, done)
+
+-- one more is requested, and gets the place of another
+pub one_replaced : (cs ds : List Connection) (s : Sessions) (i : ℕ) (c d : Connection) (j : Joined) → i < length cs → HoldsJoined d j
+    → HoldAll cs s.live → HoldAll ds s.done
+    → HoldAll (set cs i d) (placed i j s (slice_get s.live i)).live × HoldAll (ds ++ get_or cs i c ∷ []) (placed i j s
+    (slice_get s.live i)).done
+one_replaced cs ds s i c d j lt holds live done =
+    let r = element cs s.live i c lt live in
+    subst (λ (o : Option Joined). HoldAll (set cs i d) (placed i j s o).live × HoldAll (ds ++ get_or cs i c ∷ [])
+    (placed i j s o).done) (sym r.there)
+    (r.next d j holds, all_more ds s.done (get_or cs i c) r.joined done r.holds)
+
+-- ---- a packet begins for each in turn
+
+step_at : (f : Joined → Joined) (cs : List Connection) (js : List Joined) (i : ℕ) (d new : Connection) → i < length cs
+    → HoldAll cs (map f (take i js) ++ drop i js) → ((j : Joined) → HoldsJoined (get_or cs i d) j → HoldsJoined new (f j))
+    → HoldAll (set cs i new) (map f (take (suc i) js) ++ drop (suc i) js)
+step_at f [] js i d new lt h step = absurd (omega arith)
+step_at f (c ∷ cs) [] zero d new lt h step = absurd h
+step_at f (c ∷ cs) [] (suc i) d new lt h step = absurd h
+step_at f (c ∷ cs) (j ∷ js) zero d new lt h step = (step j h.0, h.1)
+step_at f (c ∷ cs) (j ∷ js) (suc i) d new lt h step = (h.0, step_at f cs js i d new (omega arith) h.1 step)
+
+pub begun_step : (f : Joined → Joined) (cs : List Connection) (js : List Joined) (i : ℕ) (d new : Connection) → i < length cs
+    → HoldAll cs (map f (take i js) ++ drop i js) → ((j : Joined) → HoldsJoined (get_or cs i d) j → HoldsJoined new (f j))
+    → HoldAll (set cs i new) (map f (take (i + 1) js) ++ drop (i + 1) js)
+begun_step f cs js i d new lt h step =
+    let next = step_at f cs js i d new lt h step in
+    let Holding : ℕ → Type 0 = λ (n : ℕ). HoldAll (set cs i new) (map f (take n js) ++ drop n js) in
+    subst Holding (sym (add-one i)) next
+
+all_taken : (f : Joined → Joined) (js : List Joined) (n : ℕ) → n ≡ length js → map f (take n js) ++ drop n js ≡ map f js
+all_taken f [] zero e = refl
+all_taken f [] (suc n) e = absurd (omega arith)
+all_taken f (j ∷ js) zero e = absurd (omega arith)
+all_taken f (j ∷ js) (suc n) e = ap (λ (l : List Joined). f j ∷ l) (all_taken f js n (omega arith))
+
+pub begun_all : (f : Joined → Joined) (cs ds : List Connection) (js : List Joined) (n : ℕ) → n ≡ length cs → HoldAll cs js
+    → HoldAll ds (map f (take n js) ++ drop n js) → HoldAll ds (map f js)
+begun_all f cs ds js n e before h =
+    let same = all_length cs js before in
+    let full : n ≡ length js = e ∙ same in
+    subst (λ (l : List Joined). HoldAll ds l) (all_taken f js n full) h
+
+-- ---- the number of one
+
+pub number_there : (cs : List Connection) (js : List Joined) (i : ℕ) (c : Connection) → i < length cs → HoldAll cs js
+    → Some (get_or cs i c).number ≡ option_map number_of (slice_get js i)
+number_there cs js i c lt h =
+    let r = element cs js i c lt h in ap Some r.holds.number ∙ ap (option_map number_of) (sym r.there)
+
+pub number_nowhere : (cs : List Connection) (js : List Joined) (i : ℕ) → length cs ≤ i → HoldAll cs js
+    → None ≡ option_map number_of (slice_get js i)
+number_nowhere cs js i le h = let e = all_length cs js h in ap (option_map number_of) (sym (none_there js i (omega arith)))
+
+-- one of them changes, and stays what passed of it
+pub one_kept : (cs : List Connection) (js : List Joined) (i : ℕ) (c d : Connection) → i < length cs
+    → ((j : Joined) → HoldsJoined (get_or cs i c) j → HoldsJoined d j) → HoldAll cs js → HoldAll (set cs i d) js
+one_kept [] js i c d lt step h = absurd (omega arith)
+one_kept (b ∷ cs) [] i c d lt step h = absurd h
+one_kept (b ∷ cs) (j ∷ js) zero c d lt step h = (step j h.0, h.1)
+one_kept (b ∷ cs) (j ∷ js) (suc i) c d lt step h = (h.0, one_kept cs js i c d (omega arith) step h.1)

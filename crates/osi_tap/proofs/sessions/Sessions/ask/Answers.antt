@@ -1,0 +1,22 @@
+use Rattle.std.proofs.Common.{◌≤◌, ℕ, length, ap, subst, arith}
+use Rattle.osi_tap.specs.Connections.{asked}
+use Rattle.osi_tap.specs.Holding.{HoldsJoined}
+use Rattle.osi_tap.proofs.what_holds_of_a_result.{on_ok}
+use Rattle.osi_tap.proofs.sessions.Sessions.ask.Goals as goal
+
+pub returns-then-place-count_of-clause-ok : goal.returns-then-place-count_of-clause-ok
+returns-then-place-count_of-clause-ok c =
+    on_ok c.ask_new.result c.ask_new.ensures.ok (λ k s h.
+    let same = ap length c.deref.ensures.value in
+    let le : length c.args.self.now.live.items ≤ c.args.place = omega arith in
+    k s _ c.args.place h (subst (λ (n : ℕ). HoldsJoined c.in_ok-connection.connection (asked n c.args.calling))
+    (c.count-number.ensures s h) c.in_ok-connection.ensures) le)
+
+pub ask_over-requires : goal.ask_over-requires
+ask_over-requires c = let same = ap length c.deref.ensures.value in omega arith
+
+pub returns-clause-ok : goal.returns-clause-ok
+returns-clause-ok c =
+    on_ok c.ask_over.result c.ask_over.ensures.ok (λ k s h.
+    k s _ h (subst (λ (n : ℕ). HoldsJoined c.in_ok-connection.connection (asked n c.args.calling))
+    (c.count-number.ensures s h) c.in_ok-connection.ensures))

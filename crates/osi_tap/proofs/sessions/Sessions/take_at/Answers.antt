@@ -1,0 +1,37 @@
+use Rattle.std.proofs.Common.{◌<◌, ◌≤◌, length, ap, subst, sym, arith}
+use Rattle.osi_tpdu.specs.View.{value}
+use Rattle.osi_tap.specs.declared.connections.Connection.{Connection}
+use Rattle.osi_tap.specs.Connections.{meant}
+use Rattle.osi_tap.specs.Holding.{HoldsJoined}
+use Rattle.osi_tap.proofs.what_holds_of_a_result.{on_ok, on_err}
+use Rattle.osi_tap.proofs.each_connection_is_kept.{none_changed, one_changed, one_kept}
+use Rattle.osi_tap.proofs.sessions.Sessions.take_at.Goals as goal
+
+pub returns-then-place-count_of-clause-ok : goal.returns-then-place-count_of-clause-ok
+returns-then-place-count_of-clause-ok c s h =
+    let same = ap length c.deref.ensures.value in
+    let le : length c.args.self.now.live.items ≤ c.args.place = omega arith in
+    let r = none_changed c.args.self.now.live.items c.args.self.now.done.items s c.args.place
+    (meant c.args.direction c.args.at (value c.args.unit.now) c.args.meaning) le h.live h.done in
+    record { live = r.0; done = r.1 }
+
+pub returns-clause-ok : goal.returns-clause-ok
+returns-clause-ok c =
+    on_ok c.mean.result c.mean.ensures.ok (λ k s h.
+    let same = ap length c.deref.ensures.value in
+    let lt : c.args.place < length c.args.self.now.live.items = omega arith in
+    let r = one_changed c.args.self.now.live.items c.args.self.now.done.items s c.args.place c.index_mut.result.now c.mean.new.connection
+    (meant c.args.direction c.args.at (value c.args.unit.now) c.args.meaning) lt
+    (λ j hj. k j (subst (λ (x : Connection). HoldsJoined x j) (sym c.index_mut.ensures.value) hj)) h.live h.done in
+    record { live = r.0; done = r.1 })
+
+pub returns-clause-err : goal.returns-clause-err
+returns-clause-err c =
+    on_err c.mean.result c.mean.ensures.err (λ k s h.
+    let same = ap length c.deref.ensures.value in
+    let lt : c.args.place < length c.args.self.now.live.items = omega arith in
+    record {
+      live = one_kept c.args.self.now.live.items s.live c.args.place c.index_mut.result.now c.mean.new.connection lt
+          (λ j hj. k j (subst (λ (x : Connection). HoldsJoined x j) (sym c.index_mut.ensures.value) hj)) h.live;
+      done = h.done;
+    })

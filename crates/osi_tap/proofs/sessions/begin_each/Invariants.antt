@@ -1,0 +1,8 @@
+use Rattle.std.proofs.Common.{◌++◌, List, map, take, drop}
+use Rattle.osi_tap.specs.Connections.{Joined, packet_begins}
+use Rattle.osi_tap.specs.Holding.{HoldAll}
+use Rattle.osi_tap.proofs.sessions.begin_each.Given as goal
+
+abbrev pub invariant-loop-connection : goal.invariant-loop-connection
+invariant-loop-connection l = (js : List Joined) → HoldAll l.fn.live.items js
+    → HoldAll l.connection-items (map (packet_begins l.direction) (take l.connection-index js) ++ drop l.connection-index js)

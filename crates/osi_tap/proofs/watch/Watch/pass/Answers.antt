@@ -1,0 +1,54 @@
+use Rattle.std.proofs.Common.{◌∙◌, ◌+◌, ap, subst, Option, None}
+use Rattle.osi_rules.specs.declared.findings.Told.{Told}
+use Rattle.osi_tpdu.specs.View.{value}
+use Rattle.osi_tap.specs.Courses.{Course}
+use Rattle.osi_tap.specs.Connections.{taken}
+use Rattle.osi_tap.specs.Holding.{HoldsCourse, unit_due}
+use Rattle.osi_tap.proofs.what_holds_of_a_result.{any_err}
+use Rattle.osi_tap.proofs.watch.Watch.pass.Goals as goal
+
+pub returns-in_err-told-clause-err : goal.returns-in_err-told-clause-err
+returns-in_err-told-clause-err c =
+    any_err c.from_residual.result (λ k h. record {
+      by_now = k;
+      holds = c.in_err-told.ensures.err k h;
+      comes = ap (λ (o : Option Told). unit_due o c.args.direction c.args.at (value c.args.unit.now) k) c.in_err-told.ensures.untold;
+    })
+
+pub returns-in_err-told-clause-as_many : goal.returns-in_err-told-clause-as_many
+returns-in_err-told-clause-as_many c = any_err c.from_residual.result c.in_err-told.ensures.passed
+
+pub returns-in_err-take-clause-err : goal.returns-in_err-take-clause-err
+returns-in_err-take-clause-err c =
+    any_err c.from_residual-in_err-take.result (λ k h.
+    let t = c.in_ok-told.ensures.ok c.args.at k h in
+    record {
+      by_now = t.by_now;
+      holds = record {
+        traffic = t.holds.traffic;
+        sessions = c.in_err-take.ensures.err _ t.holds.sessions;
+        left = t.holds.left;
+        right = t.holds.right;
+      };
+      comes = ap (λ (o : Option Told). unit_due o c.args.direction c.args.at (value c.args.unit.now) t.by_now) c.in_ok-told.ensures.told
+          ∙ t.comes;
+    })
+
+pub returns-in_err-take-clause-as_many : goal.returns-in_err-take-clause-as_many
+returns-in_err-take-clause-as_many c = any_err c.from_residual-in_err-take.result c.in_ok-told.ensures.passed
+
+pub returns-clause-ok : goal.returns-clause-ok
+returns-clause-ok c k h =
+    let t = c.in_ok-told.ensures.ok c.args.at k h in
+    let r = c.note.ensures.holds (record t.by_now {
+      sessions = taken c.args.direction c.args.at
+          (value c.args.unit.now) c.in_ok-told.told.meaning c.in_ok-told.told.place t.by_now.sessions;
+    })
+    (record {
+      traffic = t.holds.traffic;
+      sessions = c.in_ok-take.ensures.ok _ t.holds.sessions;
+      left = t.holds.left;
+      right = t.holds.right;
+    }) in
+    subst (λ (x : Course). HoldsCourse (record c.note.new.self { told = None; passed = c.note.new.self.passed + 1 }) x) t.comes
+    (record { traffic = r.traffic; sessions = r.sessions; left = r.left; right = r.right })

@@ -1,0 +1,253 @@
+-- What is kept of both sides of a connection stays what passed of them, as DTs pass and TSDUs are handed over: for what is
+-- kept of a connection.
+use Rattle.std.proofs.Common.{◌≡◌, ◌∙◌, refl, sym, ap, subst, ℕ, ◌+◌, List, [], ◌∷◌, ◌++◌, length, Bool, true, false, Option, Some}
+use Rattle.std.proofs.lemmas.List.{append-nil, map-append, length-map, length-append}
+use Rattle.osi_tpkt.specs.Stream.{offset_of}
+use Rattle.osi_session.specs.Standing.{Seen}
+use Rattle.osi_judge.specs.Explaining.{Told}
+use Rattle.osi_judge.specs.Feeding.{Tells}
+use Rattle.osi_judge.specs.Judging.{Watched, Watches}
+use Rattle.osi_judge.specs.Outlines.{outline, outlines}
+use Rattle.osi_tap.specs.declared.lines.Stage.{Stage}
+use Rattle.osi_tap.specs.declared.lines.Stage.TheVariants.{Between, Within, Unheard}
+use Rattle.osi_session.specs.Standing.{seen_calling, seen_called}
+use Rattle.osi_judge.specs.Captures.{other}
+use Rattle.osi_judge.specs.Tapping.{begin_of}
+use Rattle.osi_judge.specs.declared.directions.Direction.{Direction}
+use Rattle.osi_judge.specs.declared.directions.Direction.TheVariants.{Left, Right}
+use Rattle.osi_tap.specs.declared.connections.Connection.{Connection}
+use Rattle.osi_tap.specs.declared.lines.Line.{Line}
+use Rattle.osi_tap.specs.Connections.{Joined, adds, spoken}
+use Rattle.osi_tap.specs.Holding.{lined, line_in, HoldsJoined, IsSettled}
+use Rattle.osi_tap.specs.Lines.{Begun, Spoken, told, told_of, octets_of, heard, begun_octets, begun_before, before, added, begins}
+use Rattle.osi_tap.specs.Lines.{silent}
+use Rattle.osi_tap.specs.Holding.{Lined, unheard, unheard_at, begun_at, begun_in, is_unheard, IsClear, Holds, HoldsBoth}
+
+abbrev line : Watched → List ℕ → Stage → (begun_since since last : ℕ) → Lined
+line w x stage n m last = record { side = w; begun = x; stage = stage; begun_since = n; since = m; last = last }
+
+pub flipped : {s t : Seen} {own other : Lined} {a b : Spoken} → HoldsBoth s t own other a b → HoldsBoth t s other own b a
+flipped h = record { this = h.that; that = h.this }
+
+-- ---- a TSDU is handed over
+
+unheard_stage : (stage : Stage) → is_unheard stage ≡ true → stage ≡ Unheard
+unheard_stage Between e = cc
+unheard_stage Within e = cc
+unheard_stage Unheard e = refl
+
+handed_unheard : (s t : Seen) (w v v2 : Watched) (x x2 y : List ℕ) (stage : Stage) (n m l n2 m2 l2 : ℕ) (a b : Spoken) → x2 ≡ []
+    → v2.begin ≡ v.begin → v2.heard ≡ v.heard ++ outline x ∷ [] → ((told : List Told) → Watches v told → Watches v2 told)
+    → HoldsBoth s t (line w x Unheard n m l) (line v y stage n2 m2 l2) a b
+    → HoldsBoth s t (line w x2 Between n m l) (line v2 y stage n2 m2 l2) a b
+handed_unheard s t w v v2 x x2 y stage n m l n2 m2 l2 a b none begin heard watches h = record {
+  this = record {
+    begins_so = h.this.begins_so;
+    says = h.this.says;
+    hears = h.this.hears;
+    unfinished = h.this.unfinished;
+    clear = none;
+    known = h.this.known;
+  };
+  that = record {
+    begins_so = begin ∙ h.that.begins_so;
+    says = watches (told b) h.that.says;
+    hears = append-nil v2.heard ∙ heard ∙ h.that.hears;
+    unfinished = h.that.unfinished;
+    clear = h.that.clear;
+    known = h.that.known;
+  };
+}
+
+pub handed : (s t : Seen) (w v v2 : Watched) (x x2 y : List ℕ) (mine stage : Stage) (n m l n2 m2 l2 : ℕ) (a b : Spoken)
+    → is_unheard mine ≡ true → x2 ≡ [] → v2.begin ≡ v.begin → v2.heard ≡ v.heard ++ outline x ∷ []
+    → ((told : List Told) → Watches v told → Watches v2 told)
+    → HoldsBoth s t (line w x mine n m l) (line v y stage n2 m2 l2) a b
+    → HoldsBoth s t (line w x2 Between n m l) (line v2 y stage n2 m2 l2) a b
+handed s t w v v2 x x2 y mine stage n m l n2 m2 l2 a b is none begin heard watches h =
+    handed_unheard s t w v v2 x x2 y stage n m l n2 m2 l2 a b none begin heard watches
+    (subst (λ (z : Stage). HoldsBoth s t (line w x z n m l) (line v y stage n2 m2 l2) a b) (unheard_stage mine is) h)
+
+-- ---- a part of a TSDU
+
+begun_same : (stage : Stage) (x : List ℕ) (n : ℕ) → is_unheard stage ≡ false → IsClear stage x → x ≡ begun_octets (begun_at stage x n)
+begun_same Between x n e clear = clear
+begun_same Within x n e clear = refl
+begun_same Unheard x n e clear = cc
+
+none_unheard : (stage : Stage) (x : List ℕ) → is_unheard stage ≡ false → unheard_at stage x ≡ []
+none_unheard Between x e = refl
+none_unheard Within x e = refl
+none_unheard Unheard x e = cc
+
+-- what is kept of the unfinished TSDU of a side is what passed of it
+pub begun_holds : (s : Seen) (own other : Lined) (a b : Spoken) → is_unheard own.stage ≡ false → Holds s own other a b
+    → own.begun ≡ begun_octets a.begun
+begun_holds s own other a b e h =
+    begun_same own.stage own.begun own.begun_since e h.clear ∙ ap begun_octets h.unfinished
+
+pub before_holds : (s : Seen) (own other : Lined) (a b : Spoken) → Holds s own other a b
+    → begun_before (begun_in own) own.since ≡ before a
+before_holds s own other a b h =
+    ap (λ (z : Option Begun). begun_before z own.since) h.unfinished ∙ ap (λ (z : ℕ). begun_before a.begun z) h.known
+
+heard_by_other : (s t : Seen) (own other : Lined) (a b : Spoken) → is_unheard own.stage ≡ false → HoldsBoth s t own other a b
+    → other.side.heard ≡ outlines (heard a)
+heard_by_other s t own other a b e h =
+    sym (append-nil other.side.heard) ∙ ap (λ (z : List (List ℕ)). other.side.heard ++ z) (sym (none_unheard own.stage own.begun e))
+    ∙ h.that.hears
+
+pub part_added : (s t : Seen) (own new other : Lined) (a b : Spoken) (at since : ℕ) (octets : List ℕ) → is_unheard own.stage ≡ false
+    → since ≡ begun_before (begun_in own) own.since → new ≡ record own { begun = own.begun ++ octets; stage = Within; begun_since = since }
+    → HoldsBoth s t own other a b → HoldsBoth s t new other (added at false octets a) b
+part_added s t own new other a b at since octets e since_is is h =
+    subst (λ (z : Lined). HoldsBoth s t z other (added at false octets a) b) (sym is) (record {
+      this = record {
+        begins_so = h.this.begins_so;
+        says = h.this.says;
+        hears = h.this.hears;
+        unfinished = ap (λ (z : List ℕ). Some (record { octets = z ++ octets; before = since })) (begun_holds s own other a b e h.this)
+            ∙ ap (λ (z : ℕ). Some (record { octets = begun_octets a.begun ++ octets; before = z })) (since_is
+            ∙ before_holds s own other a b h.this);
+        clear = tt;
+        known = h.this.known;
+      };
+      that = record {
+        begins_so = h.that.begins_so;
+        says = h.that.says;
+        hears = append-nil other.side.heard ∙ heard_by_other s t own other a b e h;
+        unfinished = h.that.unfinished;
+        clear = h.that.clear;
+        known = h.that.known;
+      };
+    })
+
+-- ---- the end of a TSDU
+
+told_more : (a : Spoken) (at : ℕ) (octets : List ℕ)
+    → told (added at true octets a) ≡ told a ++ record { octets = begun_octets a.begun ++ octets; before = before a } ∷ []
+told_more a at octets = map-append told_of a.said (record { octets = begun_octets a.begun ++ octets; before = before a; at = at } ∷ [])
+
+heard_more : (a : Spoken) (at : ℕ) (octets : List ℕ)
+    → outlines (heard (added at true octets a)) ≡ outlines (heard a) ++ outline (begun_octets a.begun ++ octets) ∷ []
+heard_more a at octets =
+    ap outlines (map-append octets_of a.said (record { octets = begun_octets a.begun ++ octets; before = before a; at = at } ∷ []))
+    ∙ map-append outline (heard a) ((begun_octets a.begun ++ octets) ∷ [])
+
+pub end_added : (s t : Seen) (own new other : Lined) (a b : Spoken) (at since last : ℕ) (w : Watched) (octets : List ℕ)
+    → is_unheard own.stage ≡ false → since ≡ begun_before (begun_in own) own.since
+    → new ≡ record own { side = w; begun = own.begun ++ octets; stage = Unheard; last = last }
+    → Tells (own.begun ++ octets) since own.side w → HoldsBoth s t own other a b → HoldsBoth s t new other (added at true octets a) b
+end_added s t own new other a b at since last w octets e since_is is tells h =
+    let same = begun_holds s own other a b e h.this in
+    subst (λ (z : Lined). HoldsBoth s t z other (added at true octets a) b) (sym is) (record {
+      this = record {
+        begins_so = tells.begin ∙ h.this.begins_so;
+        says = subst (λ (z : List Told). Watches w z) (sym (told_more a at octets))
+            (subst (λ (z : ℕ). Watches w (told a ++ record { octets = begun_octets a.begun ++ octets; before = z } ∷ []))
+            (since_is ∙ before_holds s own other a b h.this)
+            (subst (λ (z : List ℕ). Watches w (told a ++ record { octets = z ++ octets; before = since } ∷ [])) same
+            (tells.watches (told a) h.this.says)));
+        hears = ap (λ (z : List (List ℕ)). z ++ unheard other) tells.heard ∙ h.this.hears;
+        unfinished = refl;
+        clear = tt;
+        known = h.this.known;
+      };
+      that = record {
+        begins_so = h.that.begins_so;
+        says = h.that.says;
+        hears = ap (λ (z : List (List ℕ)). z ++ outline (own.begun ++ octets) ∷ []) (heard_by_other s t own other a b e h)
+            ∙ ap (λ (z : List ℕ). outlines (heard a) ++ outline (z ++ octets) ∷ []) same ∙ sym (heard_more a at octets);
+        unfinished = h.that.unfinished;
+        clear = h.that.clear;
+        known = h.that.known;
+      };
+    })
+
+-- ---- the beginning of a connection, and of a packet
+
+pub fresh_both : (s t : Seen) (own other : Lined) (w v : Watched) → own ≡ line w [] Between 0 0 0 → other ≡ line v [] Between 0 0 0
+    → w.begin ≡ s → v.begin ≡ t → w.heard ≡ [] → v.heard ≡ [] → Watches w [] → Watches v [] → HoldsBoth s t own other silent silent
+fresh_both s t own other w v is other_is begin other_begin none other_none watches other_watches =
+    subst (λ (z : Lined). HoldsBoth s t z other silent silent) (sym is)
+    (subst (λ (z : Lined). HoldsBoth s t (line w [] Between 0 0 0) z silent silent) (sym other_is) (record {
+      this = record { begins_so = begin; says = watches; hears = append-nil w.heard ∙ none; unfinished = refl; clear = refl; known = refl };
+      that = record {
+        begins_so = other_begin;
+        says = other_watches;
+        hears = append-nil v.heard
+            ∙ other_none;
+        unfinished = refl;
+        clear = refl;
+        known = refl;
+      };
+    }))
+
+said_count : (xs ys : List (List ℕ)) (b : Spoken) → xs ++ ys ≡ outlines (heard b) → length xs + length ys ≡ length b.said
+said_count xs ys b e =
+    sym (length-append xs ys) ∙ ap length e ∙ length-map (heard b) outline ∙ length-map b.said octets_of
+
+pub begun_both : (s t : Seen) (own new other : Lined) (a b : Spoken)
+    → new ≡ record own { since = offset_of (length own.side.heard + length (unheard other)) }
+    → HoldsBoth s t own other a b → HoldsBoth s t new other (begins b a) b
+begun_both s t own new other a b is h =
+    subst (λ (z : Lined). HoldsBoth s t z other (begins b a) b) (sym is) (record {
+      this = record {
+        begins_so = h.this.begins_so;
+        says = h.this.says;
+        hears = h.this.hears;
+        unfinished = h.this.unfinished;
+        clear = h.this.clear;
+        known = ap offset_of (said_count own.side.heard (unheard other) b h.this.hears);
+      };
+      that = record {
+        begins_so = h.that.begins_so;
+        says = h.that.says;
+        hears = h.that.hears;
+        unfinished = h.that.unfinished;
+        clear = h.that.clear;
+        known = h.that.known;
+      };
+    })
+
+-- ---- what is found of a session is right
+
+settled_heard : (s : Seen) (own other : Lined) (a b : Spoken) → is_unheard other.stage ≡ false → Holds s own other a b
+    → own.side.heard ≡ outlines (heard b)
+settled_heard s own other a b e h =
+    sym (append-nil own.side.heard) ∙ ap (λ (z : List (List ℕ)). own.side.heard ++ z) (sym (none_unheard other.stage other.begun e))
+    ∙ h.hears
+
+-- a session that was given all that passed: how it began, and what it heard and was told
+pub record WasGiven (d : Direction) (c : Connection) (j : Joined) : Type 0 where
+  pub begins_so : (line_in d c).side.begin ≡ begin_of d
+  pub hears : (line_in d c).side.heard ≡ outlines (heard (spoken (other d) j))
+  pub says : Watches (line_in d c).side (told (spoken d j))
+
+pub was_given : (d : Direction) (c : Connection) (j : Joined) → HoldsJoined c j → IsSettled c → WasGiven d c j
+was_given Left c j h settled = record {
+  begins_so = h.sides.this.begins_so;
+  hears = settled_heard seen_calling (lined c.left) (lined c.right) j.left j.right settled.1 h.sides.this;
+  says = h.sides.this.says;
+}
+was_given Right c j h settled = record {
+  begins_so = h.sides.that.begins_so;
+  hears = settled_heard seen_called (lined c.right) (lined c.left) j.right j.left settled.0 h.sides.that;
+  says = h.sides.that.says;
+}
+
+-- ---- a DT on a connection
+
+pub left_added : (d : Direction) (c : Connection) (own other : Line) (j : Joined) (at : ℕ) (end : Bool) (octets : List ℕ) → d ≡ Left
+    → HoldsJoined c j → HoldsBoth seen_calling seen_called (lined own) (lined other) (added at end octets j.left) j.right
+    → HoldsJoined (record c { left = own; right = other }) (adds d at end octets j)
+left_added d c own other j at end octets e h k =
+    subst (λ (z : Direction). HoldsJoined (record c { left = own; right = other }) (adds z at end octets j)) (sym e)
+    (record { number = h.number; calling = h.calling; called = h.called; class = h.class; closed = h.closed; sides = k })
+
+pub right_added : (d : Direction) (c : Connection) (own other : Line) (j : Joined) (at : ℕ) (end : Bool) (octets : List ℕ) → d ≡ Right
+    → HoldsJoined c j → HoldsBoth seen_called seen_calling (lined own) (lined other) (added at end octets j.right) j.left
+    → HoldsJoined (record c { left = other; right = own }) (adds d at end octets j)
+right_added d c own other j at end octets e h k =
+    subst (λ (z : Direction). HoldsJoined (record c { left = other; right = own }) (adds z at end octets j)) (sym e)
+    (record { number = h.number; calling = h.calling; called = h.called; class = h.class; closed = h.closed; sides = flipped k })

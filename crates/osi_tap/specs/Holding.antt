@@ -1,0 +1,151 @@
+-- What is kept in memory of the connections that passed: for each side a session of `osi_judge` that was told and heard what
+-- passed of that side and of the other.
+use Rattle.std.specs.Prelude.{◌≡◌, ℕ, Bool, true, false, List, [], ◌∷◌, ◌++◌, Option, Some, None}
+use Rattle.osi_session.specs.Standing.{Seen, seen_calling, seen_called}
+use Rattle.osi_judge.specs.Judging.{Watched, Watches}
+use Rattle.osi_judge.specs.Outlines.{outline, outlines}
+use Rattle.osi_judge.specs.Sides.{watched}
+use Rattle.osi_tap.specs.declared.lines.Line.{Line}
+use Rattle.osi_tap.specs.declared.lines.Stage.{Stage}
+use Rattle.osi_tap.specs.declared.lines.Stage.TheVariants.{Between, Within, Unheard}
+use Rattle.osi_tap.specs.declared.connections.Connection.{Connection}
+use Rattle.osi_tap.specs.Lines.{Spoken, Begun, told, heard}
+use Rattle.osi_tap.specs.Connections.{Joined, Sessions}
+use Rattle.osi_tap.specs.Streams.{Front, partial, faulty, whole, Streamed}
+use Rattle.osi_tap.specs.declared.streams.Shape.{Shape}
+use Rattle.osi_tap.specs.declared.streams.Shape.TheVariants.{Partial, Faulty, Whole}
+use Rattle.osi_tap.specs.declared.streams.Stream.{Stream}
+use Rattle.osi_tap.specs.Courses.{Course, applied, unit_passes}
+use Rattle.osi_tap.specs.declared.sessions.Sessions.{Sessions as Kept}
+use Rattle.osi_tap.specs.declared.watch.Watch.{Watch}
+use Rattle.osi_tpdu.specs.Value.{Value}
+use Rattle.osi_judge.specs.declared.directions.Direction.{Direction}
+use Rattle.osi_judge.specs.declared.directions.Direction.TheVariants.{Left, Right}
+use Rattle.osi_rules.specs.declared.findings.Told.{Told as Found}
+
+-- a side of a connection, as it is kept
+pub record Lined : Type 0 where
+  pub side : Watched
+  pub begun : List ℕ
+  pub stage : Stage
+  pub begun_since : ℕ
+  pub since : ℕ
+  pub last : ℕ
+
+abbrev pub lined : Line → Lined
+lined l = record {
+  side = watched l.side;
+  begun = l.begun.items;
+  stage = l.stage;
+  begun_since = l.begun_since;
+  since = l.since;
+  last = l.last;
+}
+
+-- the TSDU that the other session has still to be given
+abbrev pub unheard_at : Stage → List ℕ → List (List ℕ)
+unheard_at Between octets = []
+unheard_at Within octets = []
+unheard_at Unheard octets = outline octets ∷ []
+
+abbrev pub unheard : Lined → List (List ℕ)
+unheard l = unheard_at l.stage l.begun
+
+abbrev pub is_unheard : Stage → Bool
+is_unheard Unheard = true
+is_unheard stage = false
+
+-- the unfinished TSDU
+abbrev pub begun_at : Stage → List ℕ → ℕ → Option Begun
+begun_at Between octets before = None
+begun_at Within octets before = Some (record { octets = octets; before = before })
+begun_at Unheard octets before = None
+
+abbrev pub begun_in : Lined → Option Begun
+begun_in l = begun_at l.stage l.begun l.begun_since
+
+-- between two TSDUs no octets are kept
+abbrev pub IsClear : Stage → List ℕ → Type 0
+IsClear Between octets = octets ≡ []
+IsClear Within octets = Unit {0}
+IsClear Unheard octets = Unit {0}
+
+-- What is kept of a side, whose session began so, and of the other side holds what passed of both: its session was told its
+-- TSDUs, and heard those of the other side, but for one that it is still to be given.
+pub record Holds (begin : Seen) (own other : Lined) (mine theirs : Spoken) : Type 0 where
+  pub begins_so : own.side.begin ≡ begin
+  pub says : Watches own.side (told mine)
+  pub hears : own.side.heard ++ unheard other ≡ outlines (heard theirs)
+  pub unfinished : begun_in own ≡ mine.begun
+  pub clear : IsClear own.stage own.begun
+  pub known : own.since ≡ mine.since
+
+-- of both sides
+pub record HoldsBoth (own_begin other_begin : Seen) (own other : Lined) (mine theirs : Spoken) : Type 0 where
+  pub this : Holds own_begin own other mine theirs
+  pub that : Holds other_begin other own theirs mine
+
+-- of a connection
+pub record HoldsJoined (c : Connection) (j : Joined) : Type 0 where
+  pub number : c.number ≡ j.number
+  pub calling : c.calling ≡ j.calling
+  pub called : c.called ≡ j.called
+  pub class : c.class ≡ j.class
+  pub closed : c.closed ≡ j.closed
+  pub sides : HoldsBoth seen_calling seen_called (lined c.left) (lined c.right) j.left j.right
+
+abbrev pub line_in : Direction → Connection → Lined
+line_in Left c = lined c.left
+line_in Right c = lined c.right
+
+-- both sessions were given all that passed
+abbrev pub IsSettled : Connection → Type 0
+IsSettled c = (is_unheard c.left.stage ≡ false) × (is_unheard c.right.stage ≡ false)
+
+-- of connections, one after the other
+abbrev pub HoldAll : List Connection → List Joined → Type 0
+HoldAll [] [] = Unit {0}
+HoldAll (c ∷ cs) (j ∷ js) = HoldsJoined c j × HoldAll cs js
+HoldAll [] (j ∷ js) = ⊥
+HoldAll (c ∷ cs) [] = ⊥
+
+-- of all connections
+pub record HoldsSessions (k : Kept) (s : Sessions) : Type 0 where
+  pub live : HoldAll k.live.items s.live
+  pub done : HoldAll k.done.items s.done
+
+-- of a byte connection
+pub record HoldsCourse (w : Watch) (c : Course) : Type 0 where
+  pub traffic : w.traffic ≡ c.traffic
+  pub sessions : HoldsSessions w.sessions c.sessions
+  pub left : w.left ≡ c.left
+  pub right : w.right ≡ c.right
+
+-- ---- a packet of which some has passed, and the rest waits for memory
+
+-- what the next unit comes to, of which this is told already, or nothing
+abbrev pub unit_due : Option Found → Direction → (at : ℕ) → Value → Course → Course
+unit_due None d at v c = unit_passes d at v c
+unit_due (Some told) d at v c = applied d at v told c
+
+-- of the next unit this is told, and it comes to this
+pub record IsTold (w : Watch) (d : Direction) (at : ℕ) (v : Value) (told : Found) (c : Course) : Type 0 where
+  pub by_now : Course
+  pub holds : HoldsCourse w by_now
+  pub comes : applied d at v told by_now ≡ c
+
+-- a unit is still to pass, and then it comes to this
+pub record IsDue (w : Watch) (d : Direction) (at : ℕ) (v : Value) (c : Course) : Type 0 where
+  pub by_now : Course
+  pub holds : HoldsCourse w by_now
+  pub comes : unit_due w.told d at v by_now ≡ c
+
+-- ---- the packets of one direction
+
+abbrev pub streamed : Stream → Streamed
+streamed t = record { packets = t.packets; octets = t.octets; at = t.at; held = t.held.items; spent = t.spent }
+
+abbrev pub look_as : Shape → Front
+look_as Partial = partial
+look_as (Faulty fault) = faulty fault
+look_as (Whole unit) = whole unit.now

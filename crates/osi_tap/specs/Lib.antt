@@ -1,0 +1,6 @@
+pub mod Lines
+pub mod Connections
+pub mod Courses
+pub mod Streams
+pub mod Tapping
+pub mod Holding

@@ -1,0 +1,157 @@
+//! One connection on the byte connection.
+
+ghost use Rattle.std.specs.Prelude.{◌≡◌, IfOk, OnOk, OnErr};
+ghost use Rattle.osi_judge.specs.Sides.{watched};
+ghost use Rattle.osi_judge.specs.Captures.{other};
+ghost use Rattle.osi_judge.specs.Judging.{IsFound};
+ghost use Rattle.osi_judge.specs.Tapping.{begin_of};
+ghost use Rattle.osi_tap.specs.Lines.{told, heard};
+ghost use Rattle.osi_tap.specs.Connections.{Joined, asked, packet_begins, opened, shut, adds, spoken, reference_of};
+ghost use Rattle.osi_tap.specs.Holding.{lined, line_in, HoldsJoined, IsSettled};
+
+use crate::lines::{Line, add};
+use osi_class::Class;
+use osi_judge::{Direction, Finding, Side};
+use std::alloc::{AllocError, Global};
+
+/// A connection: its references, its class, and the session of each side.
+#[derive(Drop)]
+pub struct Connection {
+    pub(crate) number: usize,
+    pub(crate) calling: u16,
+    pub(crate) called: Option<u16>,
+    pub(crate) class: Option<Class>,
+    pub(crate) closed: bool,
+    pub(crate) left: Line,
+    pub(crate) right: Line,
+}
+
+impl Connection {
+    /// A connection that a CR with this reference requests.
+    pub(crate) fn new(alloc: Global, number: usize, calling: u16) -> Result<Connection, AllocError>
+        ensures { IfOk result (λ c. HoldsJoined c (asked number calling)) }
+    {
+        let left = Side::caller(alloc)?;
+        let right = Side::called(alloc)?;
+        Ok(Connection {
+            number,
+            calling,
+            called: None,
+            class: None,
+            closed: false,
+            left: Line::new(alloc, left),
+            right: Line::new(alloc, right),
+        })
+    }
+
+    /// A packet of a side begins.
+    pub(crate) fn begin(&mut self, direction: Direction)
+        ensures { (j : Joined) → HoldsJoined self.old j → HoldsJoined self.new (packet_begins direction j) }
+    {
+        match direction {
+            Direction::Left => self.left.begin(&self.right),
+            Direction::Right => self.right.begin(&self.left),
+        }
+    }
+
+    /// A CC opens it.
+    pub(crate) fn open(&mut self, called: u16, class: Class)
+        ensures { (j : Joined) → HoldsJoined self.old j → HoldsJoined self.new (opened called class j) }
+    {
+        self.called = Some(called);
+        self.class = Some(class);
+    }
+
+    /// A DR or an ER refuses or closes it.
+    pub(crate) fn shut(&mut self)
+        ensures { (j : Joined) → HoldsJoined self.old j → HoldsJoined self.new (shut j) }
+    {
+        self.closed = true;
+    }
+
+    /// A DT of a side passes, in the packet at this offset. `Err` changes nothing.
+    pub(crate) fn add(
+        &mut self,
+        direction: Direction,
+        at: u64,
+        end: bool,
+        octets: &[u8],
+    ) -> Result<(), AllocError>
+        ensures ok { OnOk result ((j : Joined) → HoldsJoined self.old j → HoldsJoined self.new (adds direction at end octets.now j)) }
+        ensures err { OnErr result ((j : Joined) → HoldsJoined self.old j → HoldsJoined self.new j) }
+    {
+        match direction {
+            Direction::Left => add(&mut self.left, &mut self.right, at, end, octets),
+            Direction::Right => add(&mut self.right, &mut self.left, at, end, octets),
+        }
+    }
+
+    fn line(&self, direction: Direction) -> &Line
+        ensures { lined result.now ≡ line_in direction self.now }
+    {
+        match direction {
+            Direction::Left => &self.left,
+            Direction::Right => &self.right,
+        }
+    }
+
+    /// Its place in the order of the CRs, counted from 0.
+    pub fn number(&self) -> usize
+        ensures { (j : Joined) → HoldsJoined self.now j → result ≡ j.number }
+    {
+        self.number
+    }
+
+    /// The reference that a side gave it: that of its CR or CC.
+    pub fn reference(&self, direction: Direction) -> Option<u16>
+        ensures { (j : Joined) → HoldsJoined self.now j → result ≡ reference_of direction j }
+    {
+        match direction {
+            Direction::Left => Some(self.calling),
+            Direction::Right => self.called,
+        }
+    }
+
+    /// The class that its CC selects; `None` if it was not accepted.
+    pub fn class(&self) -> Option<Class>
+        ensures { (j : Joined) → HoldsJoined self.now j → result ≡ j.class }
+    {
+        self.class
+    }
+
+    /// Whether a DR or an ER passed that refuses it or closes it.
+    pub fn is_closed(&self) -> bool
+        ensures { (j : Joined) → HoldsJoined self.now j → result ≡ j.closed }
+    {
+        self.closed
+    }
+
+    /// The session of a side.
+    pub fn side(&self, direction: Direction) -> &Side
+        ensures { watched result.now ≡ (line_in direction self.now).side }
+    {
+        &self.line(direction).side
+    }
+
+    /// What was found of the session of a side, by what both sides sent.
+    pub fn finding(&self, direction: Direction) -> Finding
+        ensures { (j : Joined) → HoldsJoined self.now j → IsSettled self.now
+            → IsFound (begin_of direction) (heard (spoken (other direction) j)) (told (spoken direction j)) result }
+    {
+        self.side(direction).finding()
+    }
+
+    /// Where the session of a side broke the protocol or left the profile: the offset, in its direction, of the packet in
+    /// which that TSDU ended. Of a side that did neither it says nothing.
+    pub fn offset(&self, direction: Direction) -> u64 {
+        self.line(direction).last
+    }
+
+    /// Whether the session of a side broke the protocol or left the profile.
+    pub(crate) fn has_broken(&self, direction: Direction) -> bool {
+        matches!(
+            self.finding(direction),
+            Finding::Broke(_) | Finding::Left(_)
+        )
+    }
+}

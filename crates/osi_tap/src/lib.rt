@@ -1,0 +1,46 @@
+//! Which side of a byte connection broke the protocol first, and where: for both classes of transport (X.224 classes 0 and
+//! 2), and for any number of session connections on it.
+//!
+//! A [`Tap`] only observes. You feed it a capture, the octets of both directions in the order in which they passed. It
+//! reads packets and transport units, judges the transport of each side by `osi_rules`, joins the TSDUs of each connection,
+//! and gives them to the two sessions of that connection, which `osi_judge` judges.
+//!
+//! ```text
+//! let mut tap = Tap::new(alloc);
+//! let mut rest = piece;                                // of left, the side that calls
+//! while !rest.is_empty() {
+//!     let used = tap.feed(Direction::Left, rest)?;     // up to the end of a header or a packet
+//!     rest = &rest[used..];
+//! }
+//! tap.settle()?;                                       // only if an allocation may have failed
+//! for number in 0..tap.count() {                       // the connections, in the order of their CRs
+//!     let connection = tap.connection(number)?;
+//!     let finding = connection.side(Direction::Left).finding();
+//! }
+//! let broke = tap.broke(Direction::Left);              // where left's transport first broke a rule
+//! let first = tap.first();                             // whose break passed first, of session or of transport
+//! ```
+//!
+//! A TSDU counts as known to the other side if its last octet had passed before the first octet of the packet in which the
+//! other side's TSDU begins. So for each connection and side the number of TSDUs is kept that had passed when the current
+//! packet of that side began.
+//!
+//! **Memory.** The tap holds the octets of at most one packet of each direction. Of each connection it keeps the unfinished
+//! TSDU of each side, and what `osi_judge` keeps of a session: outlines of the TSDUs that passed, and the sessions that
+//! explain them. At most 128 connections are looked at together. A connection that is over stays in the list of results
+//! with all that is kept of it, so the memory grows with the number of connections.
+#![tactic(auto)]
+
+mod connections;
+pub mod laws;
+mod lines;
+mod marks;
+mod sessions;
+mod streams;
+mod tap;
+mod watch;
+
+pub use connections::Connection;
+pub use marks::{Cause, First, Layer, Mark, UnitKind};
+pub use osi_judge::{Direction, Reading};
+pub use tap::Tap;

@@ -1,0 +1,241 @@
+//! The TSDUs of one side of a connection.
+
+ghost use Rattle.std.specs.Prelude.{◌≡◌, ◌+◌, ◌++◌, [], false, length, OnOk, OnErr};
+ghost use Rattle.osi_session.specs.Standing.{Seen};
+ghost use Rattle.osi_tpkt.specs.Stream.{offset_of};
+ghost use Rattle.osi_judge.specs.Feeding.{Tells};
+ghost use Rattle.osi_judge.specs.Sides.{watched};
+ghost use Rattle.osi_tap.specs.Lines.{Spoken, added, begun_before};
+ghost use Rattle.osi_tap.specs.Holding.{lined, unheard, begun_in, is_unheard, Lined, HoldsBoth};
+
+use osi_judge::{Finding, Side};
+use std::alloc::{AllocError, Global};
+
+/// How far a side is with its current TSDU.
+#[derive(Clone, Copy)]
+pub(crate) enum Stage {
+    /// It is between two TSDUs.
+    Between,
+    /// It is within a TSDU.
+    Within,
+    /// It has ended a TSDU that the other side's session has still to be given.
+    Unheard,
+}
+
+/// One side of a connection: its session, and its TSDUs as far as they passed.
+#[derive(Drop)]
+pub(crate) struct Line {
+    pub(crate) side: Side,
+    /// The octets of the unfinished TSDU, or of the one that is unheard.
+    pub(crate) begun: Vec<u8>,
+    pub(crate) stage: Stage,
+    /// How many TSDUs of the other side had passed before the first packet of the unfinished one.
+    pub(crate) begun_since: usize,
+    /// How many had passed before the current packet.
+    pub(crate) since: usize,
+    /// The offset of the packet in which the TSDU ended at which the session broke the protocol; of the last TSDU while it
+    /// keeps it.
+    pub(crate) last: u64,
+}
+
+/// The packet that ended the TSDU at which a session broke the protocol, or the last while it keeps it.
+fn last_place(finding: Finding, at: u64, last: u64) -> u64 {
+    match finding {
+        Finding::Kept => at,
+        Finding::Broke(_) | Finding::Left(_) | Finding::TooMany => last,
+    }
+}
+
+impl Line {
+    pub(crate) fn new(alloc: Global, side: Side) -> Line
+        ensures { lined result ≡ record { side = watched side; begun = []; stage = Stage.Between; begun_since = 0; since = 0; last = 0 } }
+    {
+        Line {
+            side,
+            begun: Vec::new(alloc),
+            stage: Stage::Between,
+            begun_since: 0,
+            since: 0,
+            last: 0,
+        }
+    }
+
+    /// Whether it has ended a TSDU that the other session has still to be given.
+    fn is_unheard(&self) -> bool
+        ensures { result ≡ is_unheard self.now.stage }
+    {
+        match self.stage {
+            Stage::Between => false,
+            Stage::Within => false,
+            Stage::Unheard => true,
+        }
+    }
+
+    /// How many of its TSDUs the other session has still to be given.
+    fn unheard(&self) -> usize
+        ensures { result ≡ length (unheard (lined self.now)) }
+    {
+        match self.stage {
+            Stage::Between => 0,
+            Stage::Within => 0,
+            Stage::Unheard => 1,
+        }
+    }
+
+    /// How many TSDUs of the other side had passed before the TSDU to which the current packet adds.
+    fn since_first(&self) -> usize
+        ensures { result ≡ begun_before (begun_in (lined self.now)) self.now.since }
+    {
+        match self.stage {
+            Stage::Within => self.begun_since,
+            Stage::Between => self.since,
+            Stage::Unheard => self.since,
+        }
+    }
+
+    /// A packet of this side begins.
+    pub(crate) fn begin(&mut self, other: &Line)
+        ensures { lined self.new ≡ record (lined self.old) {
+          since = offset_of (length (lined self.old).side.heard + length (unheard
+              (lined other.now)));
+        } }
+    {
+        self.since = self.side.heard().saturating_add(other.unheard());
+    }
+
+    /// A part of an unfinished TSDU passes. `Err` changes nothing.
+    fn add_part(&mut self, octets: &[u8], since: usize) -> Result<(), AllocError>
+        ensures ok { OnOk result (lined self.new ≡ record (lined self.old) {
+          begun = (lined self.old).begun ++ octets.now;
+          stage = Stage.Within;
+          begun_since = since;
+        }) }
+        ensures err { OnErr result (lined self.new ≡ lined self.old) }
+    {
+        self.begun.extend_from_slice(octets)?;
+        self.stage = Stage::Within;
+        self.begun_since = since;
+        Ok(())
+    }
+
+    /// The last part of a TSDU passes, in the packet at this offset. `Err` changes nothing.
+    fn end_part(&mut self, at: u64, octets: &[u8], since: usize) -> Result<(), AllocError>
+        ensures ok { OnOk result (lined self.new ≡ record (lined self.old) {
+          side = watched self.new.side;
+          begun = (lined self.old).begun ++ octets.now;
+          stage = Stage.Unheard;
+          last = self.new.last;
+        }) }
+        ensures tells { OnOk result (Tells ((lined self.old).begun ++ octets.now) since (watched self.old.side) (watched self.new.side)) }
+        ensures err { OnErr result (lined self.new ≡ lined self.old) }
+    {
+        let begun = self.begun.len();
+        let last = last_place(self.side.finding(), at, self.last);
+        self.begun.extend_from_slice(octets)?;
+        match self.side.tell(self.begun.as_slice(), since) {
+            Ok(()) => {
+                self.stage = Stage::Unheard;
+                self.last = last;
+                Ok(())
+            }
+            Err(_) => {
+                self.begun.truncate(begun);
+                Err(AllocError)
+            }
+        }
+    }
+}
+
+/// The other session is given the TSDU that it has not heard yet, if there is one. `Err` changes nothing.
+pub(crate) fn hand_over(own: &mut Line, other: &mut Line) -> Result<(), AllocError>
+    ensures holds { (s t : Seen) (a b : Spoken) → HoldsBoth s t (lined own.old) (lined other.old) a b
+        → HoldsBoth s t (lined own.new) (lined other.new) a b }
+    ensures heard { OnOk result (is_unheard own.new.stage ≡ false) }
+    ensures stage { other.new.stage ≡ other.old.stage }
+{
+    if !own.is_unheard() {
+        return Ok(());
+    }
+    other.side.hear(own.begun.as_slice())?;
+    own.begun.clear();
+    own.stage = Stage::Between;
+    Ok(())
+}
+
+/// A DT of a side passes, in the packet at this offset; the other session has heard all TSDUs before it. `Err` changes
+/// nothing.
+fn add_heard(own: &mut Line, at: u64, end: bool, octets: &[u8]) -> Result<(), AllocError>
+    requires { is_unheard own.old.stage ≡ false }
+    ensures ok { OnOk result ((s t : Seen) (other : Lined) (a b : Spoken) → HoldsBoth s t (lined own.old) other a b
+        → HoldsBoth s t (lined own.new) other (added at end octets.now a) b) }
+    ensures err { OnErr result (lined own.new ≡ lined own.old) }
+{
+    let since = own.since_first();
+    if end {
+        return own.end_part(at, octets, since);
+    }
+    own.add_part(octets, since)
+}
+
+/// The same, and the TSDU that it may end is handed over. If memory is short, the other session is given it before its next
+/// one.
+fn add_last(
+    own: &mut Line,
+    other: &mut Line,
+    at: u64,
+    end: bool,
+    octets: &[u8],
+) -> Result<(), AllocError>
+    requires { is_unheard own.old.stage ≡ false }
+    ensures ok { OnOk result ((s t : Seen) (a b : Spoken) → HoldsBoth s t (lined own.old) (lined other.old) a b
+        → HoldsBoth s t (lined own.new) (lined other.new) (added at end octets.now a) b) }
+    ensures err { OnErr result ((s t : Seen) (a b : Spoken) → HoldsBoth s t (lined own.old) (lined other.old) a b
+        → HoldsBoth s t (lined own.new) (lined other.new) a b) }
+{
+    match add_heard(own, at, end, octets) {
+        Ok(()) => {
+            let _ = hand_over(own, other);
+            Ok(())
+        }
+        Err(refused) => Err(refused),
+    }
+}
+
+/// The same, once this session has heard all TSDUs of the other side.
+fn add_known(
+    own: &mut Line,
+    other: &mut Line,
+    at: u64,
+    end: bool,
+    octets: &[u8],
+) -> Result<(), AllocError>
+    requires { is_unheard own.old.stage ≡ false }
+    ensures ok { OnOk result ((s t : Seen) (a b : Spoken) → HoldsBoth s t (lined own.old) (lined other.old) a b
+        → HoldsBoth s t (lined own.new) (lined other.new) (added at end octets.now a) b) }
+    ensures err { OnErr result ((s t : Seen) (a b : Spoken) → HoldsBoth s t (lined own.old) (lined other.old) a b
+        → HoldsBoth s t (lined own.new) (lined other.new) a b) }
+{
+    match hand_over(other, own) {
+        Ok(()) => add_last(own, other, at, end, octets),
+        Err(refused) => Err(refused),
+    }
+}
+
+/// A DT of a side passes, in the packet at this offset. `Err` changes nothing.
+pub(crate) fn add(
+    own: &mut Line,
+    other: &mut Line,
+    at: u64,
+    end: bool,
+    octets: &[u8],
+) -> Result<(), AllocError>
+    ensures ok { OnOk result ((s t : Seen) (a b : Spoken) → HoldsBoth s t (lined own.old) (lined other.old) a b
+        → HoldsBoth s t (lined own.new) (lined other.new) (added at end octets.now a) b) }
+    ensures err { OnErr result ((s t : Seen) (a b : Spoken) → HoldsBoth s t (lined own.old) (lined other.old) a b
+        → HoldsBoth s t (lined own.new) (lined other.new) a b) }
+{
+    match hand_over(own, other) {
+        Ok(()) => add_known(own, other, at, end, octets),
+        Err(refused) => Err(refused),
+    }
+}

@@ -1,0 +1,243 @@
+//! The connections of a byte connection, by their places.
+
+ghost use Rattle.std.specs.Prelude.{◌≡◌, ◌≤◌, ◌<◌, ℕ, List, Some, OnOk, OnErr, length, map, option_map, slice_get};
+ghost use Rattle.osi_tpdu.specs.View.{value};
+ghost use Rattle.osi_tap.specs.Connections.{Joined, Sessions as Passed, none, count, all_begin, packet_begins, source_of, class_of};
+ghost use Rattle.osi_tap.specs.Connections.{user_of, meant, taken, asked_at, placed, changed};
+ghost use Rattle.osi_tpkt.specs.Stream.{offset_of};
+ghost use Rattle.osi_tap.specs.Courses.{number_at, number_of};
+ghost use Rattle.osi_tap.specs.Holding.{HoldAll, HoldsJoined, HoldsSessions};
+
+use crate::connections::Connection;
+use osi_class::Class;
+use osi_judge::Direction;
+use osi_rules::{Meaning, Told};
+use osi_tpdu::Tpdu;
+use std::alloc::{AllocError, Global};
+
+/// The connections that may still get units, each at the place that `osi_rules` gives it, and those whose place was given
+/// to another.
+#[derive(Drop)]
+pub(crate) struct Sessions {
+    alloc: Global,
+    pub(crate) live: Vec<Connection>,
+    pub(crate) done: Vec<Connection>,
+}
+
+/// The reference of the sender of a CR or CC.
+fn source_of(unit: &Tpdu<'_>) -> u16
+    ensures { result ≡ source_of (value unit.now) }
+{
+    match unit {
+        Tpdu::Cr(request) => request.fields.source,
+        Tpdu::Cc(answer) => answer.fields.source,
+        _ => 0,
+    }
+}
+
+/// The class that a CC selects.
+fn class_of(unit: &Tpdu<'_>) -> Class
+    ensures { result ≡ class_of (value unit.now) }
+{
+    match unit {
+        Tpdu::Cc(answer) => {
+            if answer.fields.class == 2 {
+                Class::Two
+            } else {
+                Class::Zero
+            }
+        }
+        _ => Class::Zero,
+    }
+}
+
+/// The user data of a DT.
+fn user_of<'a>(unit: &Tpdu<'a>) -> &'a [u8]
+    ensures { result.now ≡ user_of (value unit.now) }
+{
+    match unit {
+        Tpdu::Dt0(data) => data.user,
+        Tpdu::Dt2(data) => data.user,
+        _ => &[],
+    }
+}
+
+/// How many connections there are.
+fn count_of(connections: &[Connection]) -> usize
+    ensures { result ≡ length connections.now }
+{
+    connections.len()
+}
+
+/// The number of the connection at a place.
+fn number_in(live: &[Connection], place: usize) -> Option<usize>
+    ensures { (js : List Joined) → HoldAll live.now js → result ≡ option_map number_of (slice_get js place) }
+{
+    if place >= live.len() {
+        return None;
+    }
+    let number = live[place].number;
+    Some(number)
+}
+
+/// A packet of a side begins.
+fn begin_each(direction: Direction, live: &mut Vec<Connection>)
+    ensures { (js : List Joined) → HoldAll live.old.items js → HoldAll live.new.items (map (packet_begins direction) js) }
+{
+    for connection in live.iter_mut() {
+        connection.begin(direction);
+    }
+}
+
+impl Sessions {
+    pub(crate) fn new(alloc: Global) -> Sessions
+        ensures { HoldsSessions result none }
+    {
+        Sessions {
+            alloc,
+            live: Vec::new(alloc),
+            done: Vec::new(alloc),
+        }
+    }
+
+    /// How many connections were requested.
+    pub(crate) fn count(&self) -> usize
+        ensures { (s : Passed) → HoldsSessions self.now s → result ≡ offset_of (count s) }
+    {
+        let live = count_of(&self.live);
+        let done = count_of(&self.done);
+        live.saturating_add(done)
+    }
+
+    /// The connection at a place.
+    pub(crate) fn at(&self, place: usize) -> Option<&Connection> {
+        self.live.get(place)
+    }
+
+    /// The number of the connection at a place.
+    pub(crate) fn number_at(&self, place: usize) -> Option<usize>
+        ensures { (s : Passed) → HoldsSessions self.now s → result ≡ number_at (Some place) s }
+    {
+        number_in(&self.live, place)
+    }
+
+    /// The connection with a number.
+    pub(crate) fn numbered(&self, number: usize) -> Option<&Connection> {
+        if let Some(connection) = self.live.iter().find(|c| c.number == number) {
+            return Some(connection);
+        }
+        self.done.iter().find(|c| c.number == number)
+    }
+
+    /// A packet of a side begins.
+    pub(crate) fn begin(&mut self, direction: Direction)
+        ensures { (s : Passed) → HoldsSessions self.old s → HoldsSessions self.new (all_begin direction s) }
+    {
+        begin_each(direction, &mut self.live);
+    }
+
+    /// A CR with this reference requests a connection, which gets this place. `Err` changes nothing.
+    fn ask(&mut self, place: usize, calling: u16) -> Result<(), AllocError>
+        ensures ok { OnOk result ((s : Passed) → HoldsSessions self.old s → HoldsSessions self.new (asked_at place calling s)) }
+        ensures err { OnErr result ((s : Passed) → HoldsSessions self.old s → HoldsSessions self.new s) }
+    {
+        let number = self.count();
+        let connection = Connection::new(self.alloc, number, calling)?;
+        if place >= count_of(&self.live) {
+            return self.ask_new(connection);
+        }
+        self.ask_over(place, connection)
+    }
+
+    /// The connection is requested, and gets a new place. `Err` changes nothing.
+    fn ask_new(&mut self, connection: Connection) -> Result<(), AllocError>
+        ensures ok { OnOk result ((s : Passed) (j : Joined) (place : ℕ) → HoldsSessions self.old s → HoldsJoined connection j
+            → length self.old.live.items ≤ place → HoldsSessions self.new (placed place j s (slice_get s.live place))) }
+        ensures err { OnErr result ((s : Passed) → HoldsSessions self.old s → HoldsSessions self.new s) }
+    {
+        self.live.push(connection)?;
+        Ok(())
+    }
+
+    /// The connection is requested, and gets the place of one that is over. `Err` changes nothing.
+    fn ask_over(&mut self, place: usize, connection: Connection) -> Result<(), AllocError>
+        requires { place < length self.old.live.items }
+        ensures ok { OnOk result ((s : Passed) (j : Joined) → HoldsSessions self.old s → HoldsJoined connection j
+            → HoldsSessions self.new (placed place j s (slice_get s.live place))) }
+        ensures err { OnErr result ((s : Passed) → HoldsSessions self.old s → HoldsSessions self.new s) }
+    {
+        self.done.reserve(1)?;
+        let over = std::mem::replace(&mut self.live[place], connection);
+        let Ok(()) = self.done.push(over) else {
+            unreachable!()
+        };
+        Ok(())
+    }
+
+    /// A unit of a side passes, in the packet at this offset, and means this. `Err` changes nothing.
+    pub(crate) fn take(
+        &mut self,
+        direction: Direction,
+        at: u64,
+        unit: &Tpdu<'_>,
+        told: &Told,
+    ) -> Result<(), AllocError>
+        ensures ok { OnOk result ((s : Passed) → HoldsSessions self.old s
+            → HoldsSessions self.new (taken direction at (value unit.now) told.now.meaning told.now.place s)) }
+        ensures err { OnErr result ((s : Passed) → HoldsSessions self.old s → HoldsSessions self.new s) }
+    {
+        let Some(place) = told.place else {
+            return Ok(());
+        };
+        if let Meaning::Asks = told.meaning {
+            return self.ask(place, source_of(unit));
+        }
+        self.take_at(direction, at, unit, told.meaning, place)
+    }
+
+    /// It asks for no connection, and is for the one at this place, if there is one.
+    fn take_at(
+        &mut self,
+        direction: Direction,
+        at: u64,
+        unit: &Tpdu<'_>,
+        meaning: Meaning,
+        place: usize,
+    ) -> Result<(), AllocError>
+        ensures ok { OnOk result ((s : Passed) → HoldsSessions self.old s
+            → HoldsSessions self.new (changed place (meant direction at (value unit.now) meaning) s (slice_get s.live place))) }
+        ensures err { OnErr result ((s : Passed) → HoldsSessions self.old s → HoldsSessions self.new s) }
+    {
+        if place >= count_of(&self.live) {
+            return Ok(());
+        }
+        mean(&mut self.live[place], direction, at, unit, meaning)
+    }
+}
+
+/// A unit for a connection means this. `Err` changes nothing.
+fn mean(
+    connection: &mut Connection,
+    direction: Direction,
+    at: u64,
+    unit: &Tpdu<'_>,
+    meaning: Meaning,
+) -> Result<(), AllocError>
+    ensures ok { OnOk result ((j : Joined) → HoldsJoined connection.old j
+        → HoldsJoined connection.new (meant direction at (value unit.now) meaning j)) }
+    ensures err { OnErr result ((j : Joined) → HoldsJoined connection.old j → HoldsJoined connection.new j) }
+{
+    match meaning {
+        Meaning::Opens => {
+            connection.open(source_of(unit), class_of(unit));
+            Ok(())
+        }
+        Meaning::Closes => {
+            connection.shut();
+            Ok(())
+        }
+        Meaning::Adds(end) => connection.add(direction, at, end, user_of(unit)),
+        Meaning::Asks => Ok(()),
+        Meaning::Nothing => Ok(()),
+    }
+}

@@ -1,0 +1,325 @@
+//! What passes on a byte connection: its transport, its sessions, and what was found of both.
+
+ghost use Rattle.std.specs.Prelude.{◌≡◌, ◌+◌, ℕ, None, Some, IfOk, OnOk, OnErr};
+ghost use Rattle.osi_tpdu.specs.View.{value};
+ghost use Rattle.osi_tap.specs.Connections.{Sessions as Passed};
+ghost use Rattle.osi_tap.specs.Courses.{Course, fresh, way_of, cause_of, packet_begins, number_at, noted, marked, reached, changes};
+ghost use Rattle.osi_tap.specs.Courses.{breaks, unread, unit_passes, marks_of};
+ghost use Rattle.osi_tap.specs.Holding.{HoldsCourse, HoldsSessions, IsDue, IsTold, unit_due};
+
+use crate::marks::{Cause, First, Layer, Mark, Marks, UnitKind};
+use crate::sessions::Sessions;
+use osi_judge::Direction;
+use osi_rules::{Direction as Way, Finding, Reach, Told, Traffic};
+use osi_tpdu::{Tpdu, read_units};
+use std::alloc::{AllocError, Global};
+
+/// What has passed, packet by packet.
+#[derive(Drop)]
+pub(crate) struct Watch {
+    traffic: Traffic,
+    pub(crate) sessions: Sessions,
+    left: Marks,
+    right: Marks,
+    pub(crate) first: Option<First>,
+    /// How many units of the whole packet under way have passed.
+    passed: usize,
+    /// What was found of the next one, if its transport is judged already.
+    told: Option<Told>,
+}
+
+/// A direction as `osi_rules` names it.
+fn way(direction: Direction) -> Way
+    ensures { result ≡ way_of direction }
+{
+    match direction {
+        Direction::Left => Way::Left,
+        Direction::Right => Way::Right,
+    }
+}
+
+/// What a finding is a mark of, if it is of one.
+fn cause_of(finding: Finding) -> Option<Cause>
+    ensures { result ≡ cause_of finding }
+{
+    match finding {
+        Finding::Kept => None,
+        Finding::NotJudged => None,
+        Finding::Broke(rule) => Some(Cause::Broke(rule)),
+        Finding::Outside => Some(Cause::Outside),
+        Finding::TooMany => Some(Cause::TooMany),
+    }
+}
+
+/// The units of the whole packet at this offset pass, those that have not passed yet. After `Err` those that passed have
+/// passed, and the next call goes on with the others.
+pub(crate) fn pass_packet(
+    watch: &mut Watch,
+    direction: Direction,
+    at: u64,
+    packet: &[u8],
+) -> Result<(), AllocError> {
+    let units = match read_units(packet) {
+        Ok(units) => units,
+        Err(fault) => {
+            watch.refuse(direction, at, Cause::BadUnit(fault));
+            return Ok(());
+        }
+    };
+    let mut left = watch.passed;
+    'units: for unit in units {
+        if left > 0 {
+            left -= 1;
+        } else {
+            watch.pass(direction, at, &unit)?;
+        }
+    }
+    watch.passed = 0;
+    Ok(())
+}
+
+impl Watch {
+    /// Nothing has passed.
+    pub(crate) fn new(alloc: Global) -> Watch
+        ensures holds { HoldsCourse result fresh }
+        ensures told { result.told ≡ None }
+        ensures passed { result.passed ≡ 0 }
+    {
+        Watch {
+            traffic: Traffic::new(alloc),
+            sessions: Sessions::new(alloc),
+            left: Marks::new(),
+            right: Marks::new(),
+            first: None,
+            passed: 0,
+            told: None,
+        }
+    }
+
+    pub(crate) fn marks(&self, direction: Direction) -> &Marks
+        ensures { (c : Course) → HoldsCourse self.now c → result.now ≡ marks_of direction c }
+    {
+        match direction {
+            Direction::Left => &self.left,
+            Direction::Right => &self.right,
+        }
+    }
+
+    /// The first octet of a packet of a side passes.
+    pub(crate) fn begin(&mut self, direction: Direction)
+        ensures holds { (c : Course) → HoldsCourse self.old c → HoldsCourse self.new (packet_begins direction c) }
+        ensures told { self.new.told ≡ self.old.told }
+        ensures passed { self.new.passed ≡ self.old.passed }
+    {
+        self.traffic.begin(way(direction));
+        self.sessions.begin(direction);
+    }
+
+    /// A unit of a side passes, in the packet at this offset. After `Err` it has still to pass, or its session has.
+    fn pass(&mut self, direction: Direction, at: u64, unit: &Tpdu<'_>) -> Result<(), AllocError>
+        ensures ok { OnOk result ((c : Course) → HoldsCourse self.old c
+            → HoldsCourse self.new (unit_due self.old.told direction at (value unit.now) c)) }
+        ensures told { OnOk result (self.new.told ≡ None) }
+        ensures passed { OnOk result (self.new.passed ≡ self.old.passed + 1) }
+        ensures err { OnErr result ((c : Course) → HoldsCourse self.old c
+            → IsDue self.new direction at (value unit.now) (unit_due self.old.told direction at (value unit.now) c)) }
+        ensures as_many { OnErr result (self.new.passed ≡ self.old.passed) }
+    {
+        if self.passed == usize::MAX {
+            return Err(AllocError);
+        }
+        let told = self.tell(direction, unit)?;
+        self.sessions.take(direction, at, unit, &told)?;
+        self.note(direction, at, unit, &told);
+        self.told = None;
+        self.passed += 1;
+        Ok(())
+    }
+
+    /// What is told of the next unit. `Err` changes nothing.
+    fn tell(&mut self, direction: Direction, unit: &Tpdu<'_>) -> Result<Told, AllocError>
+        ensures ok { IfOk result (λ told. (at : ℕ) (c : Course) → HoldsCourse self.old c
+            → IsTold self.new direction at (value unit.now) told (unit_due self.old.told direction at (value unit.now) c)) }
+        ensures told { IfOk result (λ told. self.new.told ≡ Some told) }
+        ensures err { OnErr result ((c : Course) → HoldsCourse self.old c → HoldsCourse self.new c) }
+        ensures untold { OnErr result (self.new.told ≡ self.old.told) }
+        ensures passed { self.new.passed ≡ self.old.passed }
+    {
+        match self.told {
+            Some(told) => Ok(told),
+            None => self.tell_anew(direction, unit),
+        }
+    }
+
+    /// What is told of a unit that is new. `Err` changes nothing.
+    fn tell_anew(&mut self, direction: Direction, unit: &Tpdu<'_>) -> Result<Told, AllocError>
+        ensures ok { IfOk result (λ told. (at : ℕ) (c : Course) → HoldsCourse self.old c
+            → IsTold self.new direction at (value unit.now) told (unit_passes direction at (value unit.now) c)) }
+        ensures told { IfOk result (λ told. self.new.told ≡ Some told) }
+        ensures err { OnErr result ((c : Course) → HoldsCourse self.old c → HoldsCourse self.new c) }
+        ensures untold { OnErr result (self.new.told ≡ self.old.told) }
+        ensures passed { self.new.passed ≡ self.old.passed }
+    {
+        let told = self.traffic.take(way(direction), unit)?;
+        self.told = Some(told);
+        Ok(told)
+    }
+
+    /// What was found of a unit.
+    fn note(&mut self, direction: Direction, at: u64, unit: &Tpdu<'_>, told: &Told)
+        ensures holds { (c : Course) → HoldsCourse self.old c → HoldsCourse self.new (noted direction at (value unit.now) told.now c) }
+        ensures told { self.new.told ≡ self.old.told }
+        ensures passed { self.new.passed ≡ self.old.passed }
+    {
+        let connection = self.number_at(told.place);
+        self.note_transport(direction, at, unit, told, connection);
+        self.note_session(direction, told.place, connection);
+    }
+
+    /// What was found of its transport; it is of the connection with this number.
+    fn note_transport(
+        &mut self,
+        direction: Direction,
+        at: u64,
+        unit: &Tpdu<'_>,
+        told: &Told,
+        connection: Option<usize>,
+    )
+        ensures holds { (c : Course) → HoldsCourse self.old c → connection ≡ number_at told.now.place c.sessions
+            → HoldsCourse self.new (noted direction at (value unit.now) told.now c) }
+        ensures told { self.new.told ≡ self.old.told }
+        ensures passed { self.new.passed ≡ self.old.passed }
+    {
+        let kind = UnitKind::of(unit);
+        match cause_of(told.finding) {
+            None => {}
+            Some(cause) => {
+                let mark = Mark {
+                    direction,
+                    offset: at,
+                    unit: Some(kind),
+                    connection,
+                    cause,
+                };
+                self.mark(mark, told.reach);
+            }
+        }
+    }
+
+    /// The session of a side of the connection at this place may have broken the protocol.
+    fn note_session(
+        &mut self,
+        direction: Direction,
+        place: Option<usize>,
+        connection: Option<usize>,
+    )
+        ensures holds { (c : Course) → HoldsCourse self.old c → HoldsCourse self.new c }
+        ensures told { self.new.told ≡ self.old.told }
+        ensures passed { self.new.passed ≡ self.old.passed }
+    {
+        if self.first.is_none() && self.session_broke(direction, place) {
+            self.first = Some(First {
+                direction,
+                layer: Layer::Session,
+                connection,
+            });
+        }
+    }
+
+    /// The number of the connection at a place.
+    fn number_at(&self, place: Option<usize>) -> Option<usize>
+        ensures { (s : Passed) → HoldsSessions self.now.sessions s → result ≡ number_at place s }
+    {
+        let Some(place) = place else {
+            return None;
+        };
+        self.sessions.number_at(place)
+    }
+
+    /// Whether the session of a side of the connection at a place has broken the protocol.
+    fn session_broke(&self, direction: Direction, place: Option<usize>) -> bool {
+        let Some(place) = place else {
+            return false;
+        };
+        let Some(connection) = self.sessions.at(place) else {
+            return false;
+        };
+        connection.has_broken(direction)
+    }
+
+    /// The mark is the first of all breaks, if there was none before it.
+    fn mark_first(&mut self, mark: Mark)
+        ensures holds { (c : Course) → HoldsCourse self.old c → HoldsCourse self.new c }
+        ensures told { self.new.told ≡ self.old.told }
+        ensures passed { self.new.passed ≡ self.old.passed }
+    {
+        if self.first.is_none() && mark.cause.is_break() {
+            self.first = Some(First {
+                direction: mark.direction,
+                layer: Layer::Transport,
+                connection: mark.connection,
+            });
+        }
+    }
+
+    /// What was found of the transport of a side, and how much is not judged any more.
+    fn mark(&mut self, mark: Mark, reach: Reach)
+        ensures holds { (c : Course) → HoldsCourse self.old c → HoldsCourse self.new (marked mark reach c) }
+        ensures told { self.new.told ≡ self.old.told }
+        ensures passed { self.new.passed ≡ self.old.passed }
+    {
+        self.mark_first(mark);
+        self.breaks(mark);
+        self.halt(mark, reach);
+    }
+
+    /// The side that sent the packet broke a rule, or left the profile.
+    fn breaks(&mut self, mark: Mark)
+        ensures holds { (c : Course) → HoldsCourse self.old c → HoldsCourse self.new (changes mark.direction (breaks mark) c) }
+        ensures told { self.new.told ≡ self.old.told }
+        ensures passed { self.new.passed ≡ self.old.passed }
+    {
+        match mark.direction {
+            Direction::Left => self.left.breaks(mark),
+            Direction::Right => self.right.breaks(mark),
+        }
+    }
+
+    /// So much is not judged any more.
+    fn halt(&mut self, mark: Mark, reach: Reach)
+        ensures holds { (c : Course) → HoldsCourse self.old c → HoldsCourse self.new (reached mark reach c) }
+        ensures told { self.new.told ≡ self.old.told }
+        ensures passed { self.new.passed ≡ self.old.passed }
+    {
+        match (reach, mark.direction) {
+            (Reach::Nothing, _) => {}
+            (Reach::Connection, _) => {}
+            (Reach::Side, Direction::Left) => self.left.halts(mark),
+            (Reach::Side, Direction::Right) => self.right.halts(mark),
+            (Reach::Everything, _) => {
+                self.left.halts(mark);
+                self.right.halts(mark);
+            }
+        }
+    }
+
+    /// What a side sends at this offset can't be read.
+    pub(crate) fn refuse(&mut self, direction: Direction, at: u64, cause: Cause)
+        ensures holds { (c : Course) → HoldsCourse self.old c → HoldsCourse self.new (unread direction at cause c) }
+        ensures told { self.new.told ≡ self.old.told }
+        ensures passed { self.new.passed ≡ self.old.passed }
+    {
+        if self.marks(direction).halted.is_some() {
+            return;
+        }
+        let reach = self.traffic.refuse(way(direction));
+        let mark = Mark {
+            direction,
+            offset: at,
+            unit: None,
+            connection: None,
+            cause,
+        };
+        self.mark(mark, reach);
+    }
+}
