@@ -7,3 +7,4 @@ pub mod parameters_one_after_the_other
 pub mod one_level_is_read
 pub mod lengths_are_stored_in_order
 pub mod a_group_is_counted_once
+pub mod a_number_alone_is_read
