@@ -1,6 +1,7 @@
 pub mod a_connection_is_the_one_named
 pub mod a_slot_holds_a_box
 pub mod a_watch_is_boxed
-pub mod no_verdict_is_due_of_either_side
+pub mod verdicts_are_fetched_in_turn
 pub mod octets_are_followed_by_zeros
 pub mod a_piece_passes_turn_by_turn
+pub mod what_is_told_is_by_facts

@@ -1,11 +1,11 @@
 //! What C is told of a side of a connection that it watches.
 
 ghost use Rattle.std.specs.Prelude.{◌≡◌, Some};
-ghost use Rattle.osi_judge.specs.Captures.{Capture};
-ghost use Rattle.osi_judge.specs.Tapping.{IsFoundIn, IsStoppedIn};
-ghost use Rattle.osi_judge.specs.declared.findings.Finding.TheVariants as finding;
-ghost use Rattle.osi_dispute.specs.Verdicts.{Knows};
-ghost use Rattle.osi_c.specs.Verdicts.{Tells, is_certain, kind_code, IsRuleOf, said_in, offset_in, Shows, nothing};
+ghost use Rattle.osi_judge.specs.Following.{judged, half_of, first_in};
+ghost use Rattle.osi_dispute.specs.Facts.{is_first, is_left, is_refusal, other_left};
+ghost use Rattle.osi_c.specs.Verdicts.{told_at, told_of_kept, told_of_found, told_of_half, told_in, is_certain, kind_code};
+ghost use Rattle.osi_c.specs.Verdicts.{IsRuleOf, said_in, offset_in};
+ghost use Rattle.osi_c.specs.Verdicts.{reference_in, reference_code, Shows, nothing};
 ghost use Rattle.osi_c.specs.Watched.{side_of};
 
 use crate::rules::{rule_code, said_code, stop_code, stopped_at_code};
@@ -84,38 +84,60 @@ fn side_code(side: Direction) -> u32
     }
 }
 
-/// Whether the other side left the profile first: then this one is judged no further.
-fn is_unwatched(judge: &Judge, side: Direction) -> bool {
-    match judge.first() {
-        None => false,
-        Some(first) => first != side && matches!(judge.finding(first), Finding::Left(_)),
+fn is_first(first: Option<Direction>, side: Direction) -> bool
+    ensures { result ≡ is_first first side }
+{
+    match (first, side) {
+        (Some(Direction::Left), Direction::Left) => true,
+        (Some(Direction::Right), Direction::Right) => true,
+        _ => false,
     }
 }
 
-/// What is told of a side by where its transport was stopped.
-fn told_by(watch: &Watch, side: Direction, stopped: Stopped) -> Told
-    requires found { (capture : Capture) → Knows watch.now.judge capture → IsFoundIn side capture finding.Kept }
-    requires stopped { (capture : Capture) → Knows watch.now.judge capture → IsStoppedIn side capture (Some stopped) }
-    ensures { Tells side watch.now result }
+fn is_left(finding: Finding) -> bool
+    ensures { result ≡ is_left finding }
+{
+    matches!(finding, Finding::Left(_))
+}
+
+/// Whether the other side left the profile first: then this one is judged no further.
+fn is_unwatched(judge: &Judge, side: Direction) -> bool
+    ensures { result ≡ other_left side (first_in judge.now) (judged judge.now) }
+{
+    let other = side.other();
+    if !is_first(judge.first(), other) {
+        return false;
+    }
+    is_left(judge.finding(other))
+}
+
+fn is_refusal(stop: Stop) -> bool
+    ensures { result ≡ is_refusal stop }
+{
+    matches!(stop, Stop::Refused)
+}
+
+/// What is told of a side whose transport is looked at no further.
+fn told_at(stopped: Stopped) -> Told
+    ensures { result ≡ told_at stopped }
 {
     if stopped.stop.is_break() {
         return Told::Stopped(stopped);
     }
-    match stopped.stop {
-        Stop::Refused => Told::Kept,
-        _ => Told::Unjudged(stopped),
+    if is_refusal(stopped.stop) {
+        return Told::Kept;
     }
+    Told::Unjudged(stopped)
 }
 
 /// What is told of a side of which every TSDU is explained.
-fn told_of_kept(watch: &Watch, side: Direction) -> Told
-    requires { (capture : Capture) → Knows watch.now.judge capture → IsFoundIn side capture finding.Kept }
-    ensures { Tells side watch.now result }
+fn told_of_kept(is_full: bool, stopped: Option<Stopped>) -> Told
+    ensures { result ≡ told_of_kept is_full stopped }
 {
-    match watch.judge.stopped(side) {
-        Some(stopped) => told_by(watch, side, stopped),
+    match stopped {
+        Some(stopped) => told_at(stopped),
         None => {
-            if watch.is_full {
+            if is_full {
                 return Told::Full;
             }
             Told::Kept
@@ -123,20 +145,49 @@ fn told_of_kept(watch: &Watch, side: Direction) -> Told
     }
 }
 
+/// What is told of a side of which this is known.
+fn told_of_found(
+    is_full: bool,
+    finding: Finding,
+    stopped: Option<Stopped>,
+    offset: u64,
+    by: Break,
+) -> Told
+    ensures { result ≡ told_of_found is_full finding stopped offset by }
+{
+    match finding {
+        Finding::Kept => told_of_kept(is_full, stopped),
+        Finding::Broke(_) => Told::Broke(offset, by),
+        Finding::Left(_) => Told::Leaves(offset, by),
+        Finding::TooMany => Told::TooMany,
+    }
+}
+
+/// What is told of a side, unless it is judged no further after the other side left the profile.
+fn told_of_half(watch: &Watch, side: Direction) -> Told
+    ensures { result ≡ told_of_half watch.now.is_full (half_of side (judged watch.now.judge)) }
+{
+    let judge = &watch.judge;
+    let finding = judge.finding(side);
+    let stopped = judge.stopped(side);
+    let offset = judge.offset(side);
+    told_of_found(
+        watch.is_full,
+        finding,
+        stopped,
+        offset,
+        judge.side(side).by(),
+    )
+}
+
 /// What is told of a side.
 pub(crate) fn told_of(watch: &Watch, side: Direction) -> Told
-    ensures { Tells side watch.now result }
+    ensures { result ≡ told_in side watch.now }
 {
     if is_unwatched(&watch.judge, side) {
         return Told::Unwatched;
     }
-    let offset = watch.judge.offset(side);
-    match watch.judge.finding(side) {
-        Finding::Kept => told_of_kept(watch, side),
-        Finding::Broke(_) => Told::Broke(offset, watch.judge.side(side).by()),
-        Finding::Left(_) => Told::Leaves(offset, watch.judge.side(side).by()),
-        Finding::TooMany => Told::TooMany,
-    }
+    told_of_half(watch, side)
 }
 
 /// Whether it stays so, whatever passes.
@@ -198,9 +249,19 @@ fn offset_in(told: &Told) -> u64
     }
 }
 
+/// The number of a reference: 0 if there is none.
+fn reference_code(reference: Option<u16>) -> u16
+    ensures { result ≡ reference_code reference }
+{
+    match reference {
+        Some(reference) => reference,
+        None => 0,
+    }
+}
+
 /// What is told of a side, in the numbers of C, with the reference that the side gave the connection; 0 if it gave none.
-pub(crate) fn shown(told: &Told, side: Direction, reference: Option<u16>) -> OsiVerdict
-    ensures { Shows side told.now result }
+pub(crate) fn shown(told: &Told, side: Direction, watch: &Watch) -> OsiVerdict
+    ensures { Shows side told.now (reference_in side watch.now) result }
 {
     OsiVerdict {
         offset: offset_in(told),
@@ -208,6 +269,6 @@ pub(crate) fn shown(told: &Told, side: Direction, reference: Option<u16>) -> Osi
         side: side_code(side),
         rule: rule_of(told),
         said: said_in(told),
-        reference: reference.unwrap_or(0),
+        reference: reference_code(watch.judge.reference(side)),
     }
 }

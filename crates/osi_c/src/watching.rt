@@ -2,9 +2,12 @@
 
 ghost use types.Logic.{sem};
 ghost use Rattle.std.specs.Prelude.{◌≡◌, IfOk, IfSome, IfNone};
+ghost use Rattle.osi_judge.specs.Following.{first_in};
 ghost use Rattle.osi_c.specs.LentJudge.{KeepsSlot};
 ghost use Rattle.osi_c.specs.Watched.{feeding_of};
-ghost use Rattle.osi_c.specs.Watching.{is_told, with_told, IsDue, HasNone, Gives, Fetches, Asks, IsTextOf, Writes, last_text};
+ghost use Rattle.osi_c.specs.Verdicts.{reference_in};
+ghost use Rattle.osi_c.specs.Watching.{is_told, with_told, IsDue, HasNone, leading, GivesOf, Gives, Fetches, ShowsOf, Asks};
+ghost use Rattle.osi_c.specs.Watching.{IsTextOf, Writes, last_text};
 
 use crate::codes::{BAD_ARGUMENT, CLOSED, NO_MEMORY, OK};
 use crate::judges::OsiJudge;
@@ -34,7 +37,7 @@ fn set_told(watch: &mut Watch, side: Direction)
 
 /// What is certain of a side, and was not fetched.
 fn due(watch: &Watch, side: Direction) -> Option<Told>
-    ensures some { IfSome result (λ t. IsDue side watch.now t) }
+    ensures some { IfSome result (λ t. IsDue side watch.now t (reference_in side watch.now)) }
     ensures none { IfNone result (HasNone side watch.now) }
 {
     if is_told(watch, side) {
@@ -49,13 +52,23 @@ fn due(watch: &Watch, side: Direction) -> Option<Told>
 
 /// Fetches the verdict on a side, if it is due.
 fn fetch_of(watch: &mut Watch, side: Direction) -> Option<OsiVerdict>
-    ensures some { IfSome result (λ v. Gives watch.old v watch.new) }
+    ensures some { IfSome result (λ v. GivesOf side watch.old v watch.new) }
     ensures none { IfNone result (HasNone side watch.old × (watch.new ≡ watch.old)) }
 {
     let told = due(watch, side)?;
-    let verdict = shown(&told, side, watch.judge.reference(side));
+    let verdict = shown(&told, side, watch);
     set_told(watch, side);
     Some(verdict)
+}
+
+/// The side whose break passed first, or left.
+fn leading(first: Option<Direction>) -> Direction
+    ensures { result ≡ leading first }
+{
+    match first {
+        Some(first) => first,
+        None => Direction::Left,
+    }
 }
 
 /// Fetches a verdict: first that on the side whose break passed first.
@@ -63,7 +76,7 @@ fn fetch(watch: &mut Watch) -> Option<OsiVerdict>
     ensures some { IfSome result (λ v. Gives watch.old v watch.new) }
     ensures none { IfNone result (HasNone Direction.Left watch.old × HasNone Direction.Right watch.old × (watch.new ≡ watch.old)) }
 {
-    let first = watch.judge.first().unwrap_or(Direction::Left);
+    let first = leading(watch.judge.first());
     match fetch_of(watch, first) {
         Some(verdict) => Some(verdict),
         None => fetch_of(watch, first.other()),
@@ -88,6 +101,14 @@ pub extern "C" fn osi_judge_next(judge: &mut OsiJudge, verdict: &mut OsiVerdict)
     }
 }
 
+/// The verdict on a side by what has passed so far.
+fn verdict_on(watch: &Watch, side: Direction) -> OsiVerdict
+    ensures { ShowsOf side watch.now result }
+{
+    let told = told_of(watch, side);
+    shown(&told, side, watch)
+}
+
 /// Shows the verdict on a side, 0 for left and 1 for right, by what has passed so far.
 #[unsafe(no_mangle)]
 pub extern "C" fn osi_judge_verdict(
@@ -105,8 +126,7 @@ pub extern "C" fn osi_judge_verdict(
         return CLOSED;
     }
     let watch = judge.get_mut();
-    let told = told_of(watch, direction);
-    *verdict = shown(&told, direction, watch.judge.reference(direction));
+    *verdict = verdict_on(watch, direction);
     OK
 }
 

@@ -4,6 +4,7 @@ pub mod packets_are_taken_in_turn
 pub mod pieces_are_fed_in_turn
 pub mod few_indications_are_pending
 pub mod a_carry_is_deliveries
+pub mod each_entry_is_counted
 pub mod pieces_are_one_carry
 pub mod nothing_holds_up_a_carry
 pub mod pending_indications_one_by_one

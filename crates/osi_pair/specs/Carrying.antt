@@ -40,13 +40,6 @@ CarriesPieces side most [] old new = new ≡ old
 CarriesPieces side most (used ∷ before) old new =
     (between : Crossing) × CarriesPieces side most before old between × CarriesPiece side (most - sum before) between used new
 
--- an end was fed last, and took nothing
-pub record TakesNothing (side : Side) (new : Crossing) : Type 0 where
-  pub old : Crossing
-  pub most : ℕ
-  pub some : 0 < most
-  pub piece : CarriesPiece side most old 0 new
-
 -- after some pieces an indication was still pending at the end that is fed
 pub record IsHeldUp (side : Side) (most : ℕ) (old : Crossing) : Type 0 where
   pub pieces : List ℕ

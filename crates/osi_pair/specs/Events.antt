@@ -7,6 +7,7 @@ use Rattle.osi_stack.specs.State.{Holding, waits}
 use Rattle.osi_pair.specs.Carrying.{CarriesFrom, IsHeldUp, crossing}
 use Rattle.osi_pair.specs.Ends.{TwoEnds, end_at, after_connect, after_call, after_break, reachable}
 use Rattle.osi_pair.specs.Entries.{Entry}
+use Rattle.osi_pair.specs.Pairings.{Pairing, IsFull}
 use Rattle.osi_pair.specs.Sides.{other}
 use Rattle.osi_pair.specs.Telling.{ShowsFirst, told_entries}
 use Rattle.osi_pair.specs.declared.events.Applied.{Applied}
@@ -105,6 +106,16 @@ NotesWhereQuiet (Carry side most) old applied new =
     applied.is_cut_short ≡ true →
     (length old.journal < length new.journal) ⊎ IsHeldUp (other side) (min most (reachable side old)) (crossing side old)
 NotesWhereQuiet event old applied new = Unit {0}
+
+-- A carry is cut short only if the journal is full: it was given no memory for the entries that more octets may cause.
+abbrev pub IsFullIfCutShort : Applied → Pairing → Type 0
+IsFullIfCutShort applied new = applied.is_cut_short ≡ true → IsFull new
+
+-- the same, but the end that is fed may have pending indications
+abbrev pub IsFullWhereQuiet : Event → TwoEnds → Applied → Pairing → Type 0
+IsFullWhereQuiet (Carry side most) old applied new =
+    applied.is_cut_short ≡ true → IsFull new ⊎ IsHeldUp (other side) (min most (reachable side old)) (crossing side old)
+IsFullWhereQuiet event old applied new = Unit {0}
 
 -- the journal keeps its entries, and may get more
 pub record Adds (old new : List Entry) : Type 0 where

@@ -3,6 +3,7 @@ pub mod Asked
 pub mod Entries
 pub mod Reaching
 pub mod Ends
+pub mod Pairings
 pub mod Telling
 pub mod Carrying
 pub mod Events

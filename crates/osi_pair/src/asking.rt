@@ -1,6 +1,6 @@
 //! A user's requests, and their entries in the journal.
 
-ghost use Rattle.std.specs.Prelude.{◌≡◌, ◌+◌, ◌++◌, ◌∷◌, [], map, IfOk, IfErr, OnOk, OnErr};
+ghost use Rattle.std.specs.Prelude.{◌≡◌, ◌+◌, ◌≤◌, ◌++◌, ◌∷◌, [], map, vec_capacity, IfOk, IfErr, OnOk, OnErr};
 ghost use Rattle.osi_session.specs.Calls.{called_by};
 ghost use Rattle.osi_stack.specs.Calls.{connect_error, call_error};
 ghost use Rattle.osi_pair.specs.Asked.{asked_of};
@@ -64,6 +64,7 @@ pub(crate) fn connect(
     ensures memory { IfErr result (λ error. error ≡ PairError.OutOfMemory) }
     ensures err { OnErr result (stack.new ≡ stack.old) }
     ensures silent { OnErr result (journal.new.items ≡ journal.old.items) }
+    ensures capacity { vec_capacity journal.old ≤ vec_capacity journal.new }
 {
     let Ok(asked) = OwnedConnect::boxed(alloc, connect) else {
         return Err(PairError::OutOfMemory);
@@ -92,6 +93,7 @@ pub(crate) fn call(
     ensures memory { IfErr result (λ error. error ≡ PairError.OutOfMemory) }
     ensures err { OnErr result (stack.new ≡ stack.old) }
     ensures silent { OnErr result (journal.new.items ≡ journal.old.items) }
+    ensures capacity { vec_capacity journal.old ≤ vec_capacity journal.new }
 {
     let Ok(asked) = OwnedRequest::copy(alloc, request) else {
         return Err(PairError::OutOfMemory);

@@ -1,6 +1,6 @@
 //! Telling an end that the byte connection is broken.
 
-ghost use Rattle.std.specs.Prelude.{◌≡◌, None, map, OnOk, OnErr, IfErr};
+ghost use Rattle.std.specs.Prelude.{◌≡◌, ◌≤◌, None, map, vec_capacity, OnOk, OnErr, IfErr};
 ghost use Rattle.osi_pair.specs.Entries.{entry_by};
 ghost use Rattle.osi_pair.specs.Events.{IsToldOfBreak};
 
@@ -21,6 +21,7 @@ pub(crate) fn tell_break(
     ensures lasts { OnErr result (stack.old.end.carrier.ended ≡ None) }
     ensures err { OnErr result (stack.new ≡ stack.old) }
     ensures silent { OnErr result (journal.new.items ≡ journal.old.items) }
+    ensures capacity { vec_capacity journal.old ≤ vec_capacity journal.new }
 {
     let before = stack.ended();
     if before.is_some() {

@@ -3,7 +3,7 @@
 ghost use Rattle.std.specs.Prelude.{◌≡◌, ◌+◌, ◌<◌, ◌≤◌, ◌⊎◌, true, false, not, length, map, vec_len, vec_capacity, IfOk, IfErr, OnErr};
 ghost use Rattle.osi_stack.specs.Calls.{carried};
 ghost use Rattle.osi_stack.specs.State.{waits};
-ghost use Rattle.osi_pair.specs.Carrying.{FeedsFirst, CarriesPiece, Carries, IsHeldUp, TakesNothing};
+ghost use Rattle.osi_pair.specs.Carrying.{FeedsFirst, CarriesPiece, Carries, IsHeldUp};
 ghost use Rattle.osi_pair.specs.Entries.{entry_by};
 ghost use Rattle.osi_pair.specs.Events.{Moves};
 
@@ -44,6 +44,7 @@ fn carry_piece(
     ensures left { length from.new.end.carrier.outgoing + result ≡ length from.old.end.carrier.outgoing }
     ensures notes { (vec_len journal.new + 81 < vec_capacity journal.new)
         ⊎ (length (map entry_by journal.old.items) < length (map entry_by journal.new.items)) }
+    ensures capacity { vec_capacity journal.old ≤ vec_capacity journal.new }
     ensures progress { waits to.old.end.lines ≡ false → 0 < most → 0 < result }
 {
     let before = to.ended();
@@ -67,9 +68,9 @@ pub(crate) fn carry(
         (record { from = from.old; to = to.old; journal = map entry_by journal.old.items }) applied.carried
         (record { from = from.new; to = to.new; journal = map entry_by journal.new.items })) }
     ensures moves { IfOk result (λ applied. Moves (not (waits to.old.end.lines)) octets applied) }
-    ensures short { IfOk result (λ applied. applied.is_cut_short ≡ true →
-        (vec_capacity journal.new ≤ vec_len journal.new + 81)
-        ⊎ TakesNothing side (record { from = from.new; to = to.new; journal = map entry_by journal.new.items })) }
+    ensures full { IfOk result (λ applied. applied.is_cut_short ≡ true →
+        (vec_capacity journal.new < length (map entry_by journal.new.items) + 82)
+        ⊎ IsHeldUp side octets (record { from = from.old; to = to.old; journal = map entry_by journal.old.items })) }
     ensures cut { IfOk result (λ applied. applied.is_cut_short ≡ true →
         (length (map entry_by journal.old.items) < length (map entry_by journal.new.items))
         ⊎ IsHeldUp side octets (record { from = from.old; to = to.old; journal = map entry_by journal.old.items })) }
@@ -78,6 +79,7 @@ pub(crate) fn carry(
     ensures from { OnErr result (from.new ≡ from.old) }
     ensures to { OnErr result (to.new ≡ to.old) }
     ensures journal { OnErr result (journal.new.items ≡ journal.old.items) }
+    ensures capacity { vec_capacity journal.old ≤ vec_capacity journal.new }
 {
     if octets == 0 {
         return Ok(DONE);

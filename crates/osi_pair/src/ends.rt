@@ -25,14 +25,16 @@ pub(crate) struct Ends {
 }
 
 impl Ends {
-    ghost use Rattle.std.specs.Prelude.{◌≡◌, ◌<◌, ◌≤◌, ◌⊎◌, None, true, false, not, length, min, is_some, IfOk, IfErr, OnOk, OnErr, IsOk};
+    ghost use Rattle.std.specs.Prelude.{◌≡◌, ◌+◌, ◌<◌, ◌≤◌, ◌⊎◌, None, true, false, not, length, min, is_some, vec_capacity, IfOk, IfErr};
+    ghost use Rattle.std.specs.Prelude.{OnOk, OnErr, IsOk};
     ghost use Rattle.osi_session.specs.Calls.{called_by};
     ghost use Rattle.osi_stack.specs.State.{waits};
     ghost use Rattle.osi_pair.specs.Carrying.{CarriesFrom, IsHeldUp, crossing};
     ghost use Rattle.osi_pair.specs.Ends.{fresh_ends, end_at, after_connect, after_call, after_break, sent_by, reachable};
     ghost use Rattle.osi_pair.specs.Events.{misfit, misfit_told, error_by_rule, WantsMemory, TellsBreak, Does, CarriesWhereQuiet, Moves};
-    ghost use Rattle.osi_pair.specs.Events.{NotesWhereQuiet};
-    ghost use Rattle.osi_pair.specs.Memory.{ends_in};
+    ghost use Rattle.osi_pair.specs.Events.{NotesWhereQuiet, IsFullWhereQuiet};
+    ghost use Rattle.osi_pair.specs.Memory.{ends_in, pairing_in};
+    ghost use Rattle.osi_pair.specs.Pairings.{IsFull};
     ghost use Rattle.osi_pair.specs.Sides.{other};
 
     /// Two fresh ends.
@@ -52,6 +54,9 @@ impl Ends {
     pub(crate) fn reserve(&mut self, entries: usize) -> Result<(), PairError>
         ensures memory { IfErr result (λ error. error ≡ PairError.OutOfMemory) }
         ensures same { ends_in self.new ≡ ends_in self.old }
+        ensures ok { OnOk result (length (ends_in self.new).journal + entries ≤ vec_capacity self.new.journal) }
+        ensures needed { OnErr result (vec_capacity self.old.journal < length (ends_in self.old).journal + entries) }
+        ensures capacity { vec_capacity self.old.journal ≤ vec_capacity self.new.journal }
         ensures none { entries ≡ 0 → IsOk result }
     {
         match self.journal.reserve(entries) {
@@ -64,6 +69,7 @@ impl Ends {
         ensures ok { OnOk result (ends_in self.new ≡ after_connect asked.now (ends_in self.old)) }
         ensures memory { IfErr result (λ error. error ≡ PairError.OutOfMemory) }
         ensures err { OnErr result (ends_in self.new ≡ ends_in self.old) }
+        ensures capacity { vec_capacity self.old.journal ≤ vec_capacity self.new.journal }
     {
         connect(self.alloc, &mut self.left, asked, &mut self.journal)?;
         Ok(())
@@ -73,6 +79,7 @@ impl Ends {
         ensures ok { OnOk result (ends_in self.new ≡ after_call side reference.0 (called_by request.entry) (ends_in self.old)) }
         ensures memory { IfErr result (λ error. error ≡ PairError.OutOfMemory) }
         ensures err { OnErr result (ends_in self.new ≡ ends_in self.old) }
+        ensures capacity { vec_capacity self.old.journal ≤ vec_capacity self.new.journal }
     {
         let journal = &mut self.journal;
         match side {
@@ -114,9 +121,12 @@ impl Ends {
         ensures cut { IfOk result (λ applied. applied.is_cut_short ≡ true →
             (length (ends_in self.old).journal < length (ends_in self.new).journal)
             ⊎ IsHeldUp (other side) (min octets (reachable side (ends_in self.old))) (crossing side (ends_in self.old))) }
+        ensures full { IfOk result (λ applied. applied.is_cut_short ≡ true → IsFull (pairing_in self.new)
+            ⊎ IsHeldUp (other side) (min octets (reachable side (ends_in self.old))) (crossing side (ends_in self.old))) }
         ensures memory { IfErr result (λ error. error ≡ PairError.OutOfMemory) }
         ensures some { OnErr result (0 < min octets (reachable side (ends_in self.old))) }
         ensures err { OnErr result (ends_in self.new ≡ ends_in self.old) }
+        ensures capacity { vec_capacity self.old.journal ≤ vec_capacity self.new.journal }
     {
         let most = octets.min(self.reachable(side));
         let journal = &mut self.journal;
@@ -139,6 +149,7 @@ impl Ends {
         ensures first { OnOk result (is_some self.old.reach ≡ false) }
         ensures refused { IfErr result (λ error. (error ≡ PairError.AlreadyBroken) × (is_some self.old.reach ≡ true)) }
         ensures err { OnErr result (ends_in self.new ≡ ends_in self.old) }
+        ensures capacity { vec_capacity self.old.journal ≤ vec_capacity self.new.journal }
     {
         if self.reach.is_some() {
             return Err(PairError::AlreadyBroken);
@@ -156,6 +167,7 @@ impl Ends {
         ensures refused { IfErr result (λ error. error_by_rule error ≡ misfit_told self.old.reach) }
         ensures lasts { IfErr result (λ error. error ≡ PairError.OutOfMemory → (end_at side (ends_in self.old)).end.carrier.ended ≡ None) }
         ensures err { OnErr result (ends_in self.new ≡ ends_in self.old) }
+        ensures capacity { vec_capacity self.old.journal ≤ vec_capacity self.new.journal }
     {
         if self.reach.is_none() {
             return Err(PairError::NotBroken);
@@ -174,8 +186,10 @@ impl Ends {
         ensures refused { IfErr result (λ error. error_by_rule error ≡ misfit event.now (ends_in self.old)) }
         ensures needed { IfErr result (λ error. error ≡ PairError.OutOfMemory → WantsMemory event.now (ends_in self.old)) }
         ensures err { OnErr result (ends_in self.new ≡ ends_in self.old) }
+        ensures capacity { vec_capacity self.old.journal ≤ vec_capacity self.new.journal }
         ensures carried { IfOk result (λ applied. CarriesWhereQuiet event.now (ends_in self.old) applied) }
         ensures cut { IfOk result (λ applied. NotesWhereQuiet event.now (ends_in self.old) applied (ends_in self.new)) }
+        ensures full { IfOk result (λ applied. IsFullWhereQuiet event.now (ends_in self.old) applied (pairing_in self.new)) }
     {
         match *event {
             Event::Connect(asked) => {

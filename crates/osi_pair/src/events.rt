@@ -27,7 +27,8 @@ pub struct Applied {
     /// The number of octets carried; 0 for all events but a carry.
     pub carried: usize,
     /// Whether a carry stopped early, because memory ran out for the entries that more octets may cause. Only a carry
-    /// that has noted something stops early. `false` for all other events.
+    /// that has noted something stops early, and only if the journal has no room for 82 more entries. `false` for all
+    /// other events.
     pub is_cut_short: bool,
 }
 

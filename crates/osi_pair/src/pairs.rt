@@ -29,25 +29,26 @@ pub struct Pair {
 }
 
 impl Model for Pair {
-    ghost use Rattle.osi_pair.specs.Ends.{TwoEnds};
+    ghost use Rattle.osi_pair.specs.Pairings.{Pairing};
 
-    ghost Value = { TwoEnds };
+    ghost Value = { Pairing };
 
-    ghost use Rattle.osi_pair.specs.Memory.{ends_in};
+    ghost use Rattle.osi_pair.specs.Memory.{ends_in, pairing_in};
     ghost use Rattle.osi_pair.specs.Reached.{IsReached};
 
-    ghost view = { λ p. ends_in p.ends };
+    ghost view = { λ p. pairing_in p.ends };
 
     ghost invariant = { λ p. IsReached (ends_in p.ends) };
 }
 
 impl Pair {
-    ghost use Rattle.std.specs.Prelude.{◌≡◌, List, [], None, map, IfOk, IfErr, OnOk, OnErr, IsOk};
+    ghost use Rattle.std.specs.Prelude.{◌≡◌, ◌+◌, ◌<◌, ◌≤◌, List, [], None, length, map, IfOk, IfErr, OnOk, OnErr, IsOk};
     ghost use Rattle.osi_machine.specs.Machine.{Step};
     ghost use Rattle.osi_pair.specs.Advancing.{StandsAfter};
     ghost use Rattle.osi_pair.specs.Ends.{fresh_ends, end_at};
     ghost use Rattle.osi_pair.specs.Entries.{entry_by};
     ghost use Rattle.osi_pair.specs.Events.{misfit, error_by_rule, WantsMemory, Does, CarriesAsMuch, NotesIfCutShort, Adds};
+    ghost use Rattle.osi_pair.specs.Events.{IsFullIfCutShort};
     ghost use Rattle.osi_pair.specs.Promises.{AgreeUnlessDuplex, AllWereAskedFor, ConfirmedIsSeen, EndsForFewReasons, HasNoFault};
     ghost use Rattle.osi_pair.specs.Promises.{HaveOneHolder, IsLegalJournal, IsSafe, IsShownAsAsked, LoseAsTheyEnd};
     ghost use Rattle.osi_pair.specs.Promises.{OfEachConnection, TakeWhatWasSent};
@@ -57,9 +58,9 @@ impl Pair {
 
     /// Two fresh ends.
     pub fn new(alloc: Global, left: Local, right: Local) -> Self
-        ensures value { result ≡ fresh_ends left right }
-        ensures stands { StandsAt result [] }
-        ensures safe { IsSafe result }
+        ensures value { result.ends ≡ fresh_ends left right }
+        ensures stands { StandsAt result.ends [] }
+        ensures safe { IsSafe result.ends }
     {
         how_two_ends_stand();
         what_two_ends_tell();
@@ -68,14 +69,24 @@ impl Pair {
         }
     }
 
-    /// Makes room in the journal for this many more entries; for 0 nothing is allocated. Neither success nor an error
-    /// changes anything else.
+    /// How many entries the journal has memory for, those that it holds included.
+    pub fn capacity(&self) -> usize
+        ensures { result ≡ self.now.capacity }
+    {
+        self.ends.journal.capacity()
+    }
+
+    /// Makes room in the journal for this many more entries; if there is room for them, nothing is allocated. Neither
+    /// success nor an error changes anything else.
     ///
-    /// An event makes the room that it needs. If you know how many events will come, this call saves the journal from
-    /// growing with them.
+    /// An event makes the room that it needs. If you know how many entries will come, this call saves the journal from
+    /// growing with them. A carry is cut short only if fewer than 82 of them are left.
     pub fn reserve(&mut self, entries: usize) -> Result<(), PairError>
         ensures memory { IfErr result (λ error. error ≡ PairError.OutOfMemory) }
-        ensures same { self.new ≡ self.old }
+        ensures same { self.new.ends ≡ self.old.ends }
+        ensures ok { OnOk result (length self.new.ends.journal + entries ≤ self.new.capacity) }
+        ensures needed { OnErr result (self.old.capacity < length self.old.ends.journal + entries) }
+        ensures capacity { self.old.capacity ≤ self.new.capacity }
         ensures none { entries ≡ 0 → IsOk result }
     {
         self.ends.reserve(entries)
@@ -83,22 +94,23 @@ impl Pair {
 
     /// The invariant of two ends between any two calls. The function does nothing.
     fn is_safe(&self)
-        ensures reached { IsReached self.now }
-        ensures safe { IsSafe self.now }
+        ensures reached { IsReached self.now.ends }
+        ensures safe { IsSafe self.now.ends }
     {
         what_two_ends_tell();
         // For the proof: looking at the ends gives the invariant of their type.
         let _ends = &self.ends;
     }
 
-    /// Applies an event. An error changes nothing. An allocation can fail only if the journal gets an entry, or octets
-    /// are carried.
+    /// Applies an event. An error changes nothing but the memory that the journal has. An allocation can fail only if the
+    /// journal gets an entry, or octets are carried.
     ///
     /// Octets that a side has sent and the other has not been fed are in flight. An [`Event::Carry`] carries the first
     /// of them, and the users of the other end receive the indications that these cause. If memory runs out for the
-    /// entries that more octets may cause, the carry is cut short, as [`Applied`] tells; that is so only after it has
-    /// noted something. After an [`Event::Break`] only the octets that it leaves can be carried, and an [`Event::Told`]
-    /// ends an end that has not ended.
+    /// entries that more octets may cause, the carry is cut short, as [`Applied`] tells. That is so only after it has
+    /// noted something, and only if the journal is left without room for 82 more entries: as many as one packet may
+    /// cause. The journal keeps the memory that it has. After an [`Event::Break`] only the octets that it leaves can be
+    /// carried, and an [`Event::Told`] ends an end that has not ended.
     ///
     /// If the two ends matched a list of steps of the machine, they match that list followed by the steps of this
     /// event. The steps of a carry are the deliveries of what arrived, and the end of the other side if it ran out of
@@ -108,16 +120,19 @@ impl Pair {
     /// [`IsSafe`]: ../specs/Promises.antt
     #[tactic(auto, using(crate::proofs::event::the_journal_only_grows::does_add))]
     pub fn apply(&mut self, event: &Event) -> Result<Applied, PairError>
-        ensures does { IfOk result (λ applied. Does event.now self.old applied.carried self.new) }
-        ensures carried { IfOk result (λ applied. CarriesAsMuch event.now self.old applied) }
-        ensures cut { IfOk result (λ applied. NotesIfCutShort self.old applied self.new) }
-        ensures fits { OnOk result (misfit event.now self.old ≡ None) }
-        ensures refused { IfErr result (λ error. error_by_rule error ≡ misfit event.now self.old) }
-        ensures needed { IfErr result (λ error. error ≡ PairError.OutOfMemory → WantsMemory event.now self.old) }
-        ensures err { OnErr result (self.new ≡ self.old) }
-        ensures journal { OnOk result (Adds self.old.journal self.new.journal) }
-        ensures stands { OnOk result ((steps : List Step) → StandsAt self.old steps → StandsAfter event.now self.old self.new steps) }
-        ensures safe { IsSafe self.new }
+        ensures does { IfOk result (λ applied. Does event.now self.old.ends applied.carried self.new.ends) }
+        ensures carried { IfOk result (λ applied. CarriesAsMuch event.now self.old.ends applied) }
+        ensures cut { IfOk result (λ applied. NotesIfCutShort self.old.ends applied self.new.ends) }
+        ensures full { IfOk result (λ applied. IsFullIfCutShort applied self.new) }
+        ensures capacity { self.old.capacity ≤ self.new.capacity }
+        ensures fits { OnOk result (misfit event.now self.old.ends ≡ None) }
+        ensures refused { IfErr result (λ error. error_by_rule error ≡ misfit event.now self.old.ends) }
+        ensures needed { IfErr result (λ error. error ≡ PairError.OutOfMemory → WantsMemory event.now self.old.ends) }
+        ensures err { OnErr result (self.new.ends ≡ self.old.ends) }
+        ensures journal { OnOk result (Adds self.old.ends.journal self.new.ends.journal) }
+        ensures stands { OnOk result ((steps : List Step) → StandsAt self.old.ends steps →
+            StandsAfter event.now self.old.ends self.new.ends steps) }
+        ensures safe { IsSafe self.new.ends }
     {
         can_happen(event);
         how_two_ends_stand();
@@ -136,7 +151,7 @@ impl Pair {
     pub fn run(&mut self, events: &[Event]) -> Result<bool, RunError>
         ensures all { IfOk result (λ is_cut. RunsThrough events.now self.old is_cut self.new) }
         ensures stops { IfErr result (λ error. StopsAt events.now self.old error self.new) }
-        ensures safe { IsSafe self.new }
+        ensures safe { IsSafe self.new.ends }
     {
         let mut is_cut_short = false;
         'events: for (place, event) in events.iter().enumerate() {
@@ -151,13 +166,13 @@ impl Pair {
 
     /// What the users asked for, how they were answered and what they received, the oldest entry first.
     pub fn journal(&self) -> &[Entry]
-        ensures value { map entry_by result.now ≡ self.now.journal }
-        ensures legal_journal { IsLegalJournal self.now }
-        ensures asked { AllWereAskedFor self.now }
-        ensures agreement { OfEachConnection AgreeUnlessDuplex self.now }
-        ensures duplex { OfEachConnection IsShownAsAsked self.now }
-        ensures no_fault { HasNoFault self.now }
-        ensures losses { LoseAsTheyEnd self.now }
+        ensures value { map entry_by result.now ≡ self.now.ends.journal }
+        ensures legal_journal { IsLegalJournal self.now.ends }
+        ensures asked { AllWereAskedFor self.now.ends }
+        ensures agreement { OfEachConnection AgreeUnlessDuplex self.now.ends }
+        ensures duplex { OfEachConnection IsShownAsAsked self.now.ends }
+        ensures no_fault { HasNoFault self.now.ends }
+        ensures losses { LoseAsTheyEnd self.now.ends }
     {
         self.is_safe();
         self.ends.journal.as_slice()
@@ -165,12 +180,12 @@ impl Pair {
 
     /// The end of a side.
     pub fn stack(&self, side: Side) -> &Stack
-        ensures value { result.now ≡ end_at side self.now }
-        ensures reached { IsReached self.now }
-        ensures one_holder { HaveOneHolder self.now }
-        ensures confirmed_is_seen { OfEachConnection (ConfirmedIsSeen self.now) self.now }
-        ensures ends { EndsForFewReasons self.now }
-        ensures taken { TakeWhatWasSent self.now }
+        ensures value { result.now ≡ end_at side self.now.ends }
+        ensures reached { IsReached self.now.ends }
+        ensures one_holder { HaveOneHolder self.now.ends }
+        ensures confirmed_is_seen { OfEachConnection (ConfirmedIsSeen self.now.ends) self.now.ends }
+        ensures ends { EndsForFewReasons self.now.ends }
+        ensures taken { TakeWhatWasSent self.now.ends }
     {
         self.is_safe();
         match side {

@@ -35,6 +35,7 @@ pub(crate) fn show(side: Side, stack: &mut Stack, journal: &mut Vec<Entry>)
     requires { vec_len journal.old + 81 < vec_capacity journal.old }
     ensures tells { Tells side stack.old (map entry_by journal.old.items) stack.new (map entry_by journal.new.items) }
     ensures room { vec_len journal.new < vec_capacity journal.new }
+    ensures capacity { vec_capacity journal.old ≤ vec_capacity journal.new }
     ensures notes { (vec_len journal.new + 81 < vec_capacity journal.new)
         ⊎ (length (map entry_by journal.old.items) < length (map entry_by journal.new.items)) }
 {
@@ -63,6 +64,7 @@ pub(crate) fn note_end(
 )
     requires { vec_len journal.old < vec_capacity journal.old }
     ensures says { map entry_by journal.new.items ≡ map entry_by journal.old.items ++ end_entries side before after }
+    ensures capacity { vec_capacity journal.old ≤ vec_capacity journal.new }
     ensures notes { (journal.new ≡ journal.old)
         ⊎ (length (map entry_by journal.old.items) < length (map entry_by journal.new.items)) }
 {

@@ -55,8 +55,8 @@ fn fault(error: PairError) -> Option<LineFault>
 /// Whether a side has ended because memory ran out.
 #[tactic(auto, using(crate::proofs::the_lines_of_entries_in_order::found_memory))]
 fn has_starved(pair: &Pair) -> bool
-    ensures found { result ≡ false → FoundMemory pair.now }
-    ensures reached { IsReached pair.now }
+    ensures found { result ≡ false → FoundMemory pair.now.ends }
+    ensures reached { IsReached pair.now.ends }
 {
     is_starved(pair.stack(Side::Left)) || is_starved(pair.stack(Side::Right))
 }
@@ -79,7 +79,7 @@ fn play_event(
     number: u64,
     event: &Event,
 ) -> Result<bool, AllocError>
-    ensures { IfOk result (λ goes_on. PlaysEvent goes_on number event.now pair.old out.old.items pair.new out.new.items) }
+    ensures { IfOk result (λ goes_on. PlaysEvent goes_on number event.now pair.old.ends out.old.items pair.new.ends out.new.items) }
 {
     let before = pair.journal().len();
     match pair.apply(event) {
@@ -117,7 +117,7 @@ fn play_line(
     number: u64,
     line: &[u8],
 ) -> Result<bool, AllocError>
-    ensures { IfOk result (λ goes_on. PlaysOne goes_on number line.now pair.old out.old.items pair.new out.new.items) }
+    ensures { IfOk result (λ goes_on. PlaysOne goes_on number line.now pair.old.ends out.old.items pair.new.ends out.new.items) }
 {
     let line = Line::read(alloc, line)?;
     let Some(command) = line.command() else {
@@ -144,7 +144,7 @@ pub(crate) fn play(
     script: &mut Walk,
 ) -> Result<u8, AllocError>
     requires { IsSmall script.old }
-    ensures played { IfOk result (λ status. PlaysAll (lines_in script.old) pair.old out.old.items out.new.items status) }
+    ensures played { IfOk result (λ status. PlaysAll (lines_in script.old) pair.old.ends out.old.items out.new.items status) }
     ensures status { IfOk result (λ status. status < 2) }
 {
     'lines: while let Some((number, line)) = script.next_line() {

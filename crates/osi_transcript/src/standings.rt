@@ -67,7 +67,7 @@ pub(crate) fn push_standings(
     out: &mut Vec<u8>,
     pair: &Pair,
 ) -> Result<(), AllocError>
-    ensures { OnOk result (out.new.items ≡ out.old.items ++ all_standings pair.now) }
+    ensures { OnOk result (out.new.items ≡ out.old.items ++ all_standings pair.now.ends) }
 {
     push_side(alloc, out, Side::Left, pair.stack(Side::Left))?;
     push_side(alloc, out, Side::Right, pair.stack(Side::Right))

@@ -1,6 +1,6 @@
 //! The transcript of a script of two ends.
 
-ghost use Rattle.std.specs.Prelude.{◌≡◌, ◌<◌, ◌^◌, length, IfOk};
+ghost use Rattle.std.specs.Prelude.{◌≡◌, ◌<◌, ◌^◌, length, option_map, IfOk};
 ghost use Rattle.osi_script.specs.Commands.{command_of};
 ghost use Rattle.osi_script.specs.Scripts.{lines_of};
 ghost use Rattle.osi_transcript.specs.Playing.{Transcribes};
@@ -27,7 +27,7 @@ pub struct Transcript {
 
 /// The two ends that a line declares; none for any other line.
 fn ends_of(alloc: Global, line: &[u8]) -> Result<Option<Pair>, AllocError>
-    ensures { IfOk result (λ pair. StartsWith (command_of line.now) pair) }
+    ensures { IfOk result (λ pair. StartsWith (command_of line.now) (option_map (λ p. p.ends) pair)) }
 {
     let line = Line::read(alloc, line)?;
     match line.command() {

@@ -5,7 +5,8 @@ use Rattle.osi_pair.proofs.Vocabulary.{TwoEnds, end_at, reachable, Moves, Carrie
 use Rattle.osi_pair.proofs.Vocabulary.{other, Applied, Event, Carry, Side, Left, Right, CarriesFrom, CarriesPieces, Crossing, crossing}
 use Rattle.osi_pair.proofs.Vocabulary.{reach_after}
 use Rattle.osi_pair.specs.Carrying.{IsHeldUp}
-use Rattle.osi_pair.specs.Events.{NotesIfCutShort, NotesWhereQuiet}
+use Rattle.osi_pair.specs.Events.{NotesIfCutShort, NotesWhereQuiet, IsFullIfCutShort, IsFullWhereQuiet}
+use Rattle.osi_pair.specs.Pairings.{Pairing}
 use Rattle.osi_pair.proofs.carry.packets_are_taken_in_turn.{still_waits}
 use Rattle.osi_pair.proofs.carry.pieces_are_fed_in_turn.{crossed, crossed_twice, crossed_reach}
 use Rattle.osi_pair.proofs.event.what_an_event_does.{EventLaws}
@@ -49,3 +50,12 @@ cut_by_notes laws (Carry side most) p applied new is moves h short = elim (h sho
   | inr held ↦ absurd (held_up_not laws side most p is held)
 ]
 cut_by_notes laws event p applied new is moves h short = let no : true ≡ false = sym short ∙ moves.all in absurd (cc)
+
+-- and only a full journal does
+pub cut_when_full : EventLaws → (event : Event) (p : TwoEnds) (applied : Applied) (new : Pairing) → IsReached p →
+    CarriesWhereQuiet event p applied → IsFullWhereQuiet event p applied new → IsFullIfCutShort applied new
+cut_when_full laws (Carry side most) p applied new is moves h short = elim (h short) [
+  | inl full ↦ full
+  | inr held ↦ absurd (held_up_not laws side most p is held)
+]
+cut_when_full laws event p applied new is moves h short = let no : true ≡ false = sym short ∙ moves.all in absurd (cc)

@@ -3,8 +3,9 @@
 use Rattle.osi_pair.proofs.Vocabulary.{◌≡◌, List, Result, Ok, Err, OnOk, OnErr, IfOk, None, sym, subst, PairError, Step, CanHappen}
 use Rattle.osi_pair.proofs.Vocabulary.{StandsAfter, TwoEnds, misfit, Does, CarriesAsMuch, CarriesWhereQuiet, IsReached, StandsAt, Applied}
 use Rattle.osi_pair.proofs.Vocabulary.{Event}
-use Rattle.osi_pair.specs.Events.{NotesIfCutShort, NotesWhereQuiet}
-use Rattle.osi_pair.proofs.carry.nothing_holds_up_a_carry.{carries_as_much, cut_by_notes}
+use Rattle.osi_pair.specs.Events.{NotesIfCutShort, NotesWhereQuiet, IsFullIfCutShort, IsFullWhereQuiet}
+use Rattle.osi_pair.specs.Pairings.{Pairing}
+use Rattle.osi_pair.proofs.carry.nothing_holds_up_a_carry.{carries_as_much, cut_by_notes, cut_when_full}
 use Rattle.osi_pair.proofs.event.two_ends_after_an_event.{reached_event}
 use Rattle.osi_pair.proofs.event.what_an_event_does.{EventLaws, event_stands}
 
@@ -31,3 +32,9 @@ pub result_cut : EventLaws → (event : Event) (old new : TwoEnds) (result : Res
     IfOk result (λ applied. NotesIfCutShort old applied new)
 result_cut laws event old new (Ok applied) at moves h = cut_by_notes laws event old applied new at moves h
 result_cut laws event old new (Err error) at moves h = tt
+
+pub result_full : EventLaws → (event : Event) (old : TwoEnds) (new : Pairing) (result : Result Applied PairError) → IsReached old →
+    IfOk result (λ applied. CarriesWhereQuiet event old applied) → IfOk result (λ applied. IsFullWhereQuiet event old applied new) →
+    IfOk result (λ applied. IsFullIfCutShort applied new)
+result_full laws event old new (Ok applied) at moves h = cut_when_full laws event old applied new at moves h
+result_full laws event old new (Err error) at moves h = tt

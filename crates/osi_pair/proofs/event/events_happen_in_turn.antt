@@ -6,6 +6,7 @@ use Rattle.osi_pair.proofs.Vocabulary.{Some, None, refl, sym, ap, subst, Applied
 use Rattle.osi_pair.proofs.Vocabulary.{connects, calls, breaks, ends, told_of_break, called_by, StandsAfter, asked_of, TwoEnds, end_at}
 use Rattle.osi_pair.proofs.Vocabulary.{Happens, HappenAll, AreStepsOf, StandsBehind, RunsThrough, side_in, offer_in, StandsAt, StandsAtTold}
 use Rattle.osi_pair.proofs.Vocabulary.{Event, Connect, Carry, Break, Told, Side}
+use Rattle.osi_pair.specs.Pairings.{Pairing}
 
 or_false : (b : Bool) → b ≡ (b || false)
 or_false true = refl
@@ -16,7 +17,7 @@ or_later true b c = refl
 or_later false b c = refl
 
 -- one more event happens
-pub happen_more : (events : List Event) (event : Event) (applied : Applied) (is_cut : Bool) (old mid new : TwoEnds) →
+pub happen_more : (events : List Event) (event : Event) (applied : Applied) (is_cut : Bool) (old mid new : Pairing) →
     HappenAll events old is_cut mid → Happens event mid applied new →
     HappenAll (events ++ event ∷ []) old (is_cut || applied.is_cut_short) new
 happen_more [] event applied is_cut old mid new h more = (
@@ -24,7 +25,7 @@ happen_more [] event applied is_cut old mid new h more = (
   applied,
   false,
   ap (λ (b : Bool). b || applied.is_cut_short) h.0 ∙ or_false applied.is_cut_short,
-  subst (λ (p : TwoEnds). Happens event p applied new) h.1 more,
+  subst (λ (p : Pairing). Happens event p applied new) h.1 more,
   (refl, refl),
 )
 happen_more (first ∷ events) event applied is_cut old mid new h more = (
@@ -67,22 +68,23 @@ one_behind (Break left right) old new steps s = record { more = breaks s.keep_le
 one_behind (Told side) old new steps s = told_behind (end_at side old).end.carrier.ended side new steps s
 
 -- the steps of all of them
-all_behind : (events : List Event) (is_cut : Bool) (old new : TwoEnds) (steps : List Step) → HappenAll events old is_cut new →
-    StandsAt old steps → StandsBehind events new steps
+all_behind : (events : List Event) (is_cut : Bool) (old new : Pairing) (steps : List Step) → HappenAll events old is_cut new →
+    StandsAt old.ends steps → StandsBehind events new.ends steps
 all_behind [] is_cut old new steps h s = record {
   more = [];
   are = refl;
-  stands = subst (λ (l : List Step). StandsAt new l) (sym (append-nil steps)) (subst (λ (p : TwoEnds). StandsAt p steps) (sym h.1) s);
+  stands = subst (λ (l : List Step). StandsAt new.ends l) (sym (append-nil steps))
+      (subst (λ (p : Pairing). StandsAt p.ends steps) (sym h.1) s);
 }
 all_behind (event ∷ events) is_cut old new steps h s =
-    let one = one_behind event old h.0 steps (h.4.stands steps s) in
+    let one = one_behind event old.ends h.0.ends steps (h.4.stands steps s) in
     let rest = all_behind events h.2 h.0 new (steps ++ one.more) h.5 one.stands in
     record {
       more = one.more ++ rest.more;
       are = (record { first = one.more; rest = rest.more }, refl, one.are, rest.are);
-      stands = subst (λ (l : List Step). StandsAt new l) (append_assoc steps one.more rest.more) rest.stands;
+      stands = subst (λ (l : List Step). StandsAt new.ends l) (append_assoc steps one.more rest.more) rest.stands;
     }
 
-pub runs_through : (events : List Event) (is_cut : Bool) (old new : TwoEnds) → HappenAll events old is_cut new →
+pub runs_through : (events : List Event) (is_cut : Bool) (old new : Pairing) → HappenAll events old is_cut new →
     RunsThrough events old is_cut new
 runs_through events is_cut old new h = record { all = h; stands = λ steps s. all_behind events is_cut old new steps h s }

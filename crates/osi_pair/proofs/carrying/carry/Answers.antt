@@ -1,6 +1,6 @@
-use Rattle.osi_pair.specs.declared.entries.Entry.{Entry}
-use Rattle.osi_pair.proofs.Vocabulary.{◌≡◌, ◌∙◌, ℕ, ◌+◌, ◌-◌, ◌<◌, ◌≤◌, List, inl, inr, map, sym, ap, subst, arith, vec_len, vec_capacity}
-use Rattle.osi_pair.proofs.Vocabulary.{vec_items, ltb-true, CarriesPiece, entry_by, Crossing, length, waits}
+use Rattle.osi_pair.proofs.Vocabulary.{◌≡◌, ◌∙◌, ◌+◌, ◌-◌, ◌<◌, ◌≤◌, inl, inr, map, ap, arith, vec_len, vec_capacity}
+use Rattle.osi_pair.proofs.Vocabulary.{vec_items, ltb-true, entry_by, Crossing, length, waits}
+use Rattle.osi_pair.proofs.carry.each_entry_is_counted.{entries_of}
 use Rattle.osi_pair.proofs.carry.pieces_are_one_carry.{carries_then, not_refused, was_refused, held_up, refused_late}
 use Rattle.osi_pair.proofs.event.the_journal_only_grows.{pieces_add, no_shorter}
 use Rattle.osi_pair.proofs.carrying.carry.Goals as goal
@@ -36,33 +36,23 @@ pieces-preserved c =
       omega arith,
       omega arith,
       inl (omega arith),
+      omega arith,
     )
 
-pub returns-then-used-eq0-clause-short : goal.returns-then-used-eq0-clause-short
-returns-then-used-eq0-clause-short c is =
+pub returns-then-used-eq0-clause-full : goal.returns-then-used-eq0-clause-full
+returns-then-used-eq0-clause-full c is =
     let less = ltb-true (c.pieces.carried + c.carry_piece-used.result) c.args.octets is in
     elim c.then-used-eq0.branch [
       | then-used-eq0-via-then-used-eq0 w ↦
           (let none : c.carry_piece-used.result ≡ 0 = omega arith in
-          let same : c.then-used-eq0.journal.items ≡ c.carry_piece-used.new.journal.items = ap vec_items w.journal-is in
-          let some : 0 < c.args.octets - c.pieces.carried = omega (arith, less, none) in
           inr (record {
-            old = record { from = c.pieces.from; to = c.pieces.to; journal = map entry_by c.pieces.journal.items };
-            most = c.args.octets - c.pieces.carried;
-            some = some;
-            piece = subst (λ (n : ℕ). CarriesPiece c.args.side (c.args.octets - c.pieces.carried)
-                (record { from = c.pieces.from; to = c.pieces.to; journal = map entry_by c.pieces.journal.items }) n
-                (record {
-                  from = c.carry_piece-used.new.from;
-                  to = c.carry_piece-used.new.to;
-                  journal = map entry_by c.then-used-eq0.journal.items;
-                })) none
-                (subst (λ (l : List Entry). CarriesPiece c.args.side (c.args.octets - c.pieces.carried)
-                (record { from = c.pieces.from; to = c.pieces.to; journal = map entry_by c.pieces.journal.items }) c.carry_piece-used.result
-                (record { from = c.carry_piece-used.new.from; to = c.carry_piece-used.new.to; journal = map entry_by l }))
-                (sym same) c.carry_piece-used.ensures.carries);
+            pieces = c.pieces.invariant.0.pieces;
+            between = record { from = c.pieces.from; to = c.pieces.to; journal = map entry_by c.pieces.journal.items };
+            each = c.pieces.invariant.0.each;
+            waiting = held_up (waits c.pieces.to.end.lines) (c.args.octets - c.pieces.carried) c.carry_piece-used.result
+                c.carry_piece-used.ensures.progress (omega (arith, less, none)) none;
           }))
-      | then-used-eq0-via-else-used-eq0+then-carried-octets w ↦ inl (omega (arith, less, w.if-carried-octets.true))
+      | then-used-eq0-via-else-used-eq0+then-carried-octets w ↦ absurd (omega (arith, less, w.if-carried-octets.true))
       | then-used-eq0-via-else-used-eq0+else-carried-octets+then-is_err w ↦
           (let full = was_refused _ w.reserve-else-carried-octets.result w.is_err.result w.is_err.ensures.value w.if-is_err.true
           w.reserve-else-carried-octets.ensures.full in
@@ -71,7 +61,8 @@ returns-then-used-eq0-clause-short c is =
           let len = w.reserve-else-carried-octets.ensures.len in
           let capacity_now = ap vec_capacity w.journal-is in
           let len_now = ap vec_len w.journal-is in
-          inl (omega (arith, full, rests, len, capacity_now, len_now)))
+          let counted = entries_of (vec_len c.then-used-eq0.journal) c.then-used-eq0.journal.items c.then-used-eq0.journal.ok.0 in
+          inl (omega (arith, full, rests, len, capacity_now, len_now, counted)))
     ]
 
 pub returns-then-used-eq0-clause-cut : goal.returns-then-used-eq0-clause-cut
@@ -97,3 +88,13 @@ returns-then-used-eq0-clause-cut c is =
           inl (refused_late (vec_len c.carry_piece-used.new.journal) (vec_capacity c.carry_piece-used.new.journal) _ _ _ _ full
           c.carry_piece-used.ensures.notes grown same))
     ]
+
+pub returns-then-used-eq0-clause-capacity : goal.returns-then-used-eq0-clause-capacity
+returns-then-used-eq0-clause-capacity c = elim c.then-used-eq0.branch [
+  | then-used-eq0-via-then-used-eq0 w ↦ (let now = ap vec_capacity w.journal-is in omega (arith, now))
+  | then-used-eq0-via-else-used-eq0+then-carried-octets w ↦ (let now = ap vec_capacity w.journal-is in omega (arith, now))
+  | then-used-eq0-via-else-used-eq0+else-carried-octets+then-is_err w ↦
+      (let now = ap vec_capacity w.journal-is in
+      let room = w.reserve-else-carried-octets.ensures.capacity in
+      omega (arith, now, room))
+]

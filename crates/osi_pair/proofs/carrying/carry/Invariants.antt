@@ -11,6 +11,7 @@ invariant-pieces l =
     × (l.octets ≤ length l.from.end.carrier.outgoing + l.carried)
     × (vec_len l.journal + 81 < vec_capacity l.journal)
     × ((0 < l.carried) ⊎ (l.to ≡ l.fn.to))
+    × (vec_capacity l.fn.journal ≤ vec_capacity l.journal)
 
 abbrev pub decreases-pieces : goal.decreases-pieces
 decreases-pieces l = l.octets - l.carried

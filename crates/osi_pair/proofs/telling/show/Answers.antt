@@ -26,4 +26,5 @@ shown-preserved c = (
       ∙ map-append entry_by c.shown.journal.items (Indication c.args.side c.in-Some.reference c.in-Some.indication ∷ [])),
   omega arith,
   omega arith,
+  omega arith,
 )

@@ -4,13 +4,13 @@ use Rattle.osi_transcript.proofs.playing.play_event.Goals as goal
 
 pub split_at-requires : goal.split_at-requires
 split_at-requires c =
-    let grows = journal_grows c.args.pair.now c.apply.new.self c.journal-before.result.now c.journal.result.now
+    let grows = journal_grows c.args.pair.now.ends c.apply.new.self.ends c.journal-before.result.now c.journal.result.now
     c.journal-before.ensures.value c.journal.ensures.value c.in-Ok.ensures.journal in
     omega arith
 
 pub returns-in_ok-push_entries-in-Ok : goal.returns-in_ok-push_entries-in-Ok
 returns-in_ok-push_entries-in-Ok c =
-    event_done c.args.event.now c.args.pair.now c.apply.new.self c.in-Ok.applied c.args.out.now.items c.push_event.new.out.items
+    event_done c.args.event.now c.args.pair.now.ends c.apply.new.self.ends c.in-Ok.applied c.args.out.now.items c.push_event.new.out.items
     c.push_entries.new.out.items c.journal-before.result.now c.journal.result.now c.split_at.result.1.now
     c.in-Ok.ensures.fits c.in-Ok.ensures.does c.in-Ok.ensures.carried c.if-applied.false
     (c.has_starved.ensures.found c.if-has_starved.false) c.has_starved.ensures.reached

@@ -9,7 +9,7 @@ pub returns-in-Some-Ends : goal.returns-in-Some-Ends
 returns-in-Some-Ends c =
     let whole : c.command.result ≡ Some (Ends c.in-Some-Ends.caller c.in-Some-Ends.called c.in-Some-Ends.size c.in-Some-Ends.window) = cc in
     let read = sym c.in_ok-line.ensures ∙ sym c.command.ensures ∙ ap (option_map command_by) whole in
-    subst (λ (o : Option Command). IsStart o c.new.result) (sym read) (record {
+    subst (λ (o : Option Command). IsStart o c.new.result.ends) (sym read) (record {
       left = c.local.result;
       right = c.local-in-Some-Ends.result;
       is_left = record {

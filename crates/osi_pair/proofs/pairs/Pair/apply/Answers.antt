@@ -1,6 +1,8 @@
-use Rattle.osi_pair.proofs.Vocabulary.{List, OnOk, IfOk, subst, ends_in, Step, StandsAfter, TwoEnds, CarriesAsMuch, StandsAt}
+use Rattle.osi_pair.proofs.Vocabulary.{List, OnOk, IfOk, subst, ends_in, Step, StandsAfter, CarriesAsMuch, StandsAt}
 use Rattle.osi_pair.specs.Events.{NotesIfCutShort}
-use Rattle.osi_pair.proofs.event.an_event_is_applied_or_refused.{result_reached, result_stands, result_carries, result_cut}
+use Rattle.osi_pair.specs.Memory.{pairing_in}
+use Rattle.osi_pair.specs.Pairings.{Pairing}
+use Rattle.osi_pair.proofs.event.an_event_is_applied_or_refused.{result_reached, result_stands, result_carries, result_cut, result_full}
 use Rattle.osi_pair.proofs.event.what_an_event_does.{EventLaws}
 use Rattle.osi_pair.proofs.pairs.Pair.apply.Goals as goal
 
@@ -13,22 +15,28 @@ invariant_of-self c =
 pub returns-clause-stands : goal.returns-clause-stands
 returns-clause-stands c =
     let laws : EventLaws = assumption in
-    subst (λ (p : TwoEnds). OnOk c.apply.result
-    ((steps : List Step) → StandsAt p steps → StandsAfter c.args.event.now p (ends_in c.apply.new.self) steps)) c.self.view_is
+    subst (λ (p : Pairing). OnOk c.apply.result
+    ((steps : List Step) → StandsAt p.ends steps → StandsAfter c.args.event.now p.ends (ends_in c.apply.new.self) steps)) c.self.view_is
     (result_stands laws c.args.event.now (ends_in c.self.inside.ends) (ends_in c.apply.new.self) c.apply.result c.can_happen.ensures
     c.apply.ensures.fits c.apply.ensures.does)
 
 pub returns-clause-carried : goal.returns-clause-carried
 returns-clause-carried c =
-    subst (λ (p : TwoEnds). IfOk c.apply.result (λ applied. CarriesAsMuch c.args.event.now p applied)) c.self.view_is
+    subst (λ (p : Pairing). IfOk c.apply.result (λ applied. CarriesAsMuch c.args.event.now p.ends applied)) c.self.view_is
     (result_carries c.args.event.now (ends_in c.self.inside.ends) c.apply.result c.self.invariant c.apply.ensures.carried)
 
 pub returns-clause-cut : goal.returns-clause-cut
 returns-clause-cut c =
     let laws : EventLaws = assumption in
-    subst (λ (p : TwoEnds). IfOk c.apply.result (λ applied. NotesIfCutShort p applied (ends_in c.apply.new.self))) c.self.view_is
+    subst (λ (p : Pairing). IfOk c.apply.result (λ applied. NotesIfCutShort p.ends applied (ends_in c.apply.new.self))) c.self.view_is
     (result_cut laws c.args.event.now (ends_in c.self.inside.ends) (ends_in c.apply.new.self) c.apply.result c.self.invariant
     c.apply.ensures.carried c.apply.ensures.cut)
+
+pub returns-clause-full : goal.returns-clause-full
+returns-clause-full c =
+    let laws : EventLaws = assumption in
+    result_full laws c.args.event.now (ends_in c.self.inside.ends) (pairing_in c.apply.new.self) c.apply.result c.self.invariant
+    c.apply.ensures.carried c.apply.ensures.full
 
 pub returns-clause-safe : goal.returns-clause-safe
 returns-clause-safe c =

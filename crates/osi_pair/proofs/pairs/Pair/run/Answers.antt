@@ -19,6 +19,8 @@ events-preserved c =
       does = c.in-Ok.ensures.does;
       carried = c.in-Ok.ensures.carried;
       cut = c.in-Ok.ensures.cut;
+      full = c.in-Ok.ensures.full;
+      capacity = c.apply.ensures.capacity;
       stands = c.in-Ok.ensures.stands;
       safe = c.in-Ok.ensures.safe;
     })))
@@ -29,15 +31,17 @@ returns-in-Err-clause-stops c =
     record {
       within = within;
       is_cut = c.events.is_cut_short;
-      before = runs_through (take c.events.place c.args.events.now) c.events.is_cut_short c.args.self.now c.apply.new.self
-          (subst (λ (p : TwoEnds). HappenAll (take c.events.place c.args.events.now) c.args.self.now c.events.is_cut_short p)
-          (sym c.in-Err.ensures.err) c.events.invariant);
-      refused = subst (λ (o : Option Event). IfSome o (λ event. error_by_rule c.in-Err.error ≡ misfit event c.apply.new.self))
+      between = c.events.self;
+      before = runs_through (take c.events.place c.args.events.now) c.events.is_cut_short c.args.self.now c.events.self
+          c.events.invariant;
+      same = c.in-Err.ensures.err;
+      capacity = c.apply.ensures.capacity;
+      refused = subst (λ (o : Option Event). IfSome o (λ event. error_by_rule c.in-Err.error ≡ misfit event c.apply.new.self.ends))
           (sym (slice_get_read c.args.events.now
           (length c.args.events.now) c.events.place c.index-events-place.result refl within c.index-events-place.is))
           (subst (λ (p : TwoEnds). error_by_rule c.in-Err.error ≡ misfit c.index-events-place.result p)
           (sym c.in-Err.ensures.err) c.in-Err.ensures.refused);
-      needed = subst (λ (o : Option Event). IfSome o (λ event. c.in-Err.error ≡ OutOfMemory → WantsMemory event c.apply.new.self))
+      needed = subst (λ (o : Option Event). IfSome o (λ event. c.in-Err.error ≡ OutOfMemory → WantsMemory event c.apply.new.self.ends))
           (sym (slice_get_read c.args.events.now
           (length c.args.events.now) c.events.place c.index-events-place.result refl within c.index-events-place.is))
           (subst (λ (p : TwoEnds). c.in-Err.error ≡ OutOfMemory → WantsMemory c.index-events-place.result p)
