@@ -17,9 +17,9 @@ pub use Rattle.std.proofs.lemmas.Option.{slice_get_read}
 pub use Rattle.std.specs.Int.RustNames.{bit_and}
 pub use Rattle.std.specs.List.{AllByRecursion, flat_map, list_any, slice_get}
 pub use Rattle.std.specs.Prelude.{IfSome, List, None, nat_le, ◌≡◌}
-pub use Rattle.osi_tpkt.proofs.Fronts.{completed_partial, empty_partial, partial_not_whole}
-pub use Rattle.osi_tpkt.proofs.PacketLaws.{one_packet}
-pub use Rattle.osi_tpkt.proofs.Streams.{one_list}
+pub use Rattle.osi_tpkt.proofs.a_prefix_of_a_packet.{completed_partial, empty_partial, partial_not_whole}
+pub use Rattle.osi_tpkt.proofs.no_packet_is_a_prefix_of_another.{one_packet}
+pub use Rattle.osi_tpkt.proofs.a_stream_is_cut_in_one_way.{one_list}
 pub use Rattle.osi_tpkt.specs.Held.{Held}
 pub use Rattle.osi_tpkt.specs.Octets.{IsOctets}
 pub use Rattle.osi_tpkt.specs.Packet.{IsFaultOf, IsPacket, IsPartial, packet_of}
@@ -34,12 +34,12 @@ pub use Rattle.osi_class.specs.Link.{Given, unit_of, Standing as Link}
 pub use Rattle.osi_class.specs.declared.terms.Class.{Class}
 pub use Rattle.osi_class.specs.declared.terms.Class.TheVariants.{Two, Zero}
 pub use Rattle.osi_class.specs.declared.terms.Local.{Local}
-pub use Rattle.osi_carrier.proofs.Apart.{absent, beyond, push_here, put_here}
-pub use Rattle.osi_carrier.proofs.AtReferences.{push_other, put_other, put_rise, put_up, without_other}
-pub use Rattle.osi_carrier.proofs.Coming.{unit_packet}
-pub use Rattle.osi_carrier.proofs.Effects.{free_of, orderly_same, orderly_unit}
-pub use Rattle.osi_carrier.proofs.Lasting.{PacketLaws}
-pub use Rattle.osi_carrier.proofs.Reacts.{none_of}
+pub use Rattle.osi_carrier.proofs.references.what_a_change_leaves_there.{absent, beyond, push_here, put_here}
+pub use Rattle.osi_carrier.proofs.references.rows_after_a_change.{push_other, put_other, put_rise, put_up, without_other}
+pub use Rattle.osi_carrier.proofs.stream.what_was_written_is_read.{unit_packet}
+pub use Rattle.osi_carrier.proofs.effects.a_unit_touches_one_connection.{free_of, orderly_same, orderly_unit}
+pub use Rattle.osi_carrier.proofs.stream.all_pieces_last_alike.{PacketLaws}
+pub use Rattle.osi_carrier.proofs.effects.units_one_after_the_other.{none_of}
 pub use Rattle.osi_carrier.specs.Calls.{begun_by, closed_with, ended_by, kept_in, may_connect, open_link, or_else, sent, sent_all, sent_on}
 pub use Rattle.osi_carrier.specs.Happenings.{Happening, closed, tsdu, opened as told_opened, refused as told_refused}
 pub use Rattle.osi_carrier.specs.Orderly.{AreUpTo, IsOrderly, RiseFrom}
@@ -92,13 +92,13 @@ pub use Rattle.osi_message.specs.Words.{Words, part_octets, says, word_octets}
 pub use Rattle.osi_message.specs.Written.{written}
 pub use Rattle.osi_message.specs.declared.places.Place.{Place as PartPlace}
 pub use Rattle.osi_message.specs.declared.places.Place.TheVariants.{First, Last, Middle}
-pub use Rattle.osi_session.proofs.JoinedLaws.{inputs_kept, joined_holds}
-pub use Rattle.osi_session.proofs.KeptLaws.{call_keeps, first_arrives, gone_is, last_arrives, middle_arrives}
-pub use Rattle.osi_session.proofs.MoveLaws.{taken_is}
-pub use Rattle.osi_session.proofs.PhaseLaws.{excluded, implied}
-pub use Rattle.osi_session.proofs.SentLaws.{limit_sized}
-pub use Rattle.osi_session.proofs.ShownLaws.{words_show}
-pub use Rattle.osi_session.proofs.WordLaws.{kept_none, moves_as_whole, others, word_behind, words_of_message}
+pub use Rattle.osi_session.proofs.tsdu.what_is_joined.{inputs_kept, joined_holds}
+pub use Rattle.osi_session.proofs.tsdu.what_a_receiver_keeps.{call_keeps, first_arrives, gone_is, last_arrives, middle_arrives}
+pub use Rattle.osi_session.proofs.moves.the_move_of_each_input.{taken_is}
+pub use Rattle.osi_session.proofs.tables.what_is_true_of_each_phase.{excluded, implied}
+pub use Rattle.osi_session.proofs.sent.what_an_accepted_call_sends.{limit_sized}
+pub use Rattle.osi_session.proofs.tsdu.how_many_indications.{words_show}
+pub use Rattle.osi_session.proofs.tables.messages_act_as_the_table_says.{kept_none, moves_as_whole, others, word_behind, words_of_message}
 pub use Rattle.osi_session.specs.Allowed.{AllHold, Answer, Passed, needs, octets_of, sends, Step as SessionStep}
 unfoldable pub use Rattle.osi_session.specs.Allowed.{allowed}
 pub use Rattle.osi_session.specs.Calls.{Abort, Accept, Call, HasSerial, Refuse, called_by, Unspecified, Congestion, WithData}
@@ -126,12 +126,12 @@ pub use Rattle.osi_session.specs.declared.faults.CallError.{CallError}
 pub use Rattle.osi_session.specs.declared.phases.Phase.{Phase}
 pub use Rattle.osi_session.specs.declared.requests.Request.{Request}
 pub use Rattle.osi_session.specs.declared.state.State.{State as SessionState}
-pub use Rattle.osi_machine.proofs.CalmLaws.{called_calm, left_is, over_calm}
-pub use Rattle.osi_machine.proofs.CoreLaws.{SessionLaws}
-pub use Rattle.osi_machine.proofs.Places.{cut_count, cut_there, none_there, with_count, with_other, with_same}
-pub use Rattle.osi_machine.proofs.TableLines.{SaysItsUnit}
-pub use Rattle.osi_machine.proofs.TableRuns.{At, line_there, all_follow}
-pub use Rattle.osi_machine.proofs.Tokens.{none_held}
+pub use Rattle.osi_machine.proofs.tables.data_behind_is_no_fault.{called_calm, left_is, over_calm}
+pub use Rattle.osi_machine.proofs.invariant.each_step_keeps_one_side.{SessionLaws}
+pub use Rattle.osi_machine.proofs.basics.what_stands_at_a_reference.{cut_count, cut_there, none_there, with_count, with_other, with_same}
+pub use Rattle.osi_machine.proofs.tables.a_line_is_a_connection.{SaysItsUnit}
+pub use Rattle.osi_machine.proofs.tables.the_tables_are_the_machine.{At, line_there, all_follow}
+pub use Rattle.osi_machine.proofs.channels.a_held_token_keeps_units_out.{none_held}
 pub use Rattle.osi_machine.specs.AsTables.{AreAgreed, AreOffered, AreSendable, AreSoundLines, AtEachSide, HoldNoneTwice, IsOverWhenLeft}
 pub use Rattle.osi_machine.specs.AsTables.{IsSeenInBoth, IsSoundLine, IsSoundSeat, IsTableRun, LosesAsItEnds, OfEachLine, TellsNoFault}
 pub use Rattle.osi_machine.specs.AsTables.{is_leaving, offers_in}
@@ -151,24 +151,24 @@ pub use Rattle.osi_machine.specs.Tables.{shortened, shown_in_order, side_of, sta
 pub use Rattle.osi_machine.specs.Tables.{without_first, noted as noted_in}
 pub use Rattle.osi_machine.specs.Views.{is_side}
 pub use Rattle.osi_machine.specs.Worlds.{Message, Transport, World, accepts, agree, ask, bye, deny, over, put, replied, unit, waiting}
-pub use Rattle.osi_stack.proofs.Alike.{quieted_at}
-pub use Rattle.osi_stack.proofs.Endings.{stops_not, in_room, pieces_end}
-pub use Rattle.osi_stack.proofs.Events.{never_starved, starved_over}
-pub use Rattle.osi_stack.proofs.FirstShown.{quiet_none}
-pub use Rattle.osi_stack.proofs.Folds.{came_moves, came_numbers, session_all}
-pub use Rattle.osi_stack.proofs.Handing.{handed, hands_none, puts_words, sent_by_itself}
-pub use Rattle.osi_stack.proofs.InLive.{kept_first, quieted_apart, quieted_up}
-pub use Rattle.osi_stack.proofs.Joinings.{came_by}
-pub use Rattle.osi_stack.proofs.Keeping.{hears_keep}
-pub use Rattle.osi_stack.proofs.Lifting.{both, or_second, packet_is, quiet_attends}
-pub use Rattle.osi_stack.proofs.Linking.{Stays, apart_push, apart_put, used_at, used_by}
-pub use Rattle.osi_stack.proofs.Moves.{Readings, are_lost, came_is, used_live, one_heard}
-pub use Rattle.osi_stack.proofs.Opened.{first_here}
-pub use Rattle.osi_stack.proofs.Rising.{rise_joins, rise_push}
-pub use Rattle.osi_stack.proofs.Rooms.{found_how}
-pub use Rattle.osi_stack.proofs.Runs.{calls_read, pieces_alike}
-pub use Rattle.osi_stack.proofs.Shortness.{SpduLaws, sent_short}
-pub use Rattle.osi_stack.proofs.Soundness.{packet_rises, up_more}
+pub use Rattle.osi_stack.proofs.in_step.what_is_seen_is_the_same.{quieted_at}
+pub use Rattle.osi_stack.proofs.stream.how_calls_end_an_end.{stops_not, in_room, pieces_end}
+pub use Rattle.osi_stack.proofs.carried.events_one_after_the_other.{never_starved, starved_over}
+pub use Rattle.osi_stack.proofs.each_line.the_first_that_indicates.{quiet_none}
+pub use Rattle.osi_stack.proofs.each_line.what_stays_true_of_each_session.{came_moves, came_numbers, session_all}
+pub use Rattle.osi_stack.proofs.called.tsdus_that_are_handed_together.{handed, hands_none, puts_words, sent_by_itself}
+pub use Rattle.osi_stack.proofs.in_step.lines_that_are_gone_do_not_matter.{kept_first, quieted_apart, quieted_up}
+pub use Rattle.osi_stack.proofs.each_session.what_has_joined_is_open.{came_by}
+pub use Rattle.osi_stack.proofs.carried.what_sessions_leave_of_the_carrier.{hears_keep}
+pub use Rattle.osi_stack.proofs.carried.packets_without_events.{both, or_second, packet_is, quiet_attends}
+pub use Rattle.osi_stack.proofs.carried.open_connections_stay_open.{Stays, apart_push, apart_put, used_at, used_by}
+pub use Rattle.osi_stack.proofs.carried.what_a_move_leaves.{Readings, are_lost, came_is, used_live, one_heard}
+pub use Rattle.osi_stack.proofs.opening.connections_that_units_open.{first_here}
+pub use Rattle.osi_stack.proofs.each_line.references_rise.{rise_joins, rise_push}
+pub use Rattle.osi_stack.proofs.stream.the_room_for_a_packet.{found_how}
+pub use Rattle.osi_stack.proofs.stream.an_end_is_what_its_packets_make.{calls_read, pieces_alike}
+pub use Rattle.osi_stack.proofs.called.what_is_sent_is_short.{SpduLaws, sent_short}
+pub use Rattle.osi_stack.proofs.sound.the_invariant_is_kept.{packet_rises, up_more}
 pub use Rattle.osi_stack.specs.Calls.{after_open, call_error, calls_with, carried, connect_error, first_shown, has_given, held_by, is_long}
 pub use Rattle.osi_stack.specs.Calls.{numbers_of, session_error, session_refusal, table_error}
 pub use Rattle.osi_stack.specs.Coming.{after_unit, carries_out}

@@ -1,6 +1,7 @@
 -- A script has one transcript: after each line, the two ends of one run and those of another have the same state.
 -- For the law of the same name.
-use Rattle.std.proofs.Common.{◌≡◌, ◌∙◌, ℕ, List, [], ◌∷◌, ◌++◌, length, drop, min, Option, Some, None, inl, inr, refl, sym, ap, ap₂, subst, arith}
+use Rattle.std.proofs.Common.{◌≡◌, ◌∙◌, ℕ, List, [], ◌∷◌, ◌++◌, length, drop, min, Option, Some, None, inl, inr, refl, sym, ap, ap₂, subst}
+use Rattle.std.proofs.Common.{arith}
 use Rattle.osi_class.specs.declared.terms.Local.{Local}
 use Rattle.osi_stack.specs.State.{End}
 use Rattle.osi_pair.specs.Ends.{TwoEnds, fresh_ends, reachable}
@@ -24,7 +25,8 @@ use Rattle.osi_script.specs.declared.answers.LineFault.{LineFault}
 use Rattle.osi_script.specs.declared.commands.Classes.{Classes}
 use Rattle.osi_transcript.specs.Asking.{IsEvent}
 use Rattle.osi_transcript.specs.Entries.{entry_texts}
-use Rattle.osi_transcript.specs.Playing.{Lines, Rest, IsApplied, FailsAt, RefusesLine, Applies, PlaysLine, Plays, IsLocal, Starts, BeginsWith, Transcribes, carried_by, event_text, new_texts, fault_of}
+use Rattle.osi_transcript.specs.Playing.{Lines, Rest, IsApplied, FailsAt, RefusesLine, Applies, PlaysLine, Plays, IsLocal, Starts}
+use Rattle.osi_transcript.specs.Playing.{BeginsWith, Transcribes, carried_by, event_text, new_texts, fault_of}
 use Rattle.osi_transcript.specs.Standings.{standing_texts}
 use Rattle.osi_transcript.proofs.one_line_has_one_effect.{AreOneEvent, one_event}
 use Rattle.osi_transcript.proofs.the_same_numbers_are_one_configuration.{one_local}

@@ -1,6 +1,7 @@
 -- A script is read line by line.
 -- For `Walk`: what is left of the octets after each line.
-use Rattle.std.proofs.Common.{◌≡◌, ◌∙◌, ℕ, ◌+◌, ◌<◌, ◌^◌, Bool, true, false, not, List, [], ◌∷◌, length, Option, Some, None, option_map, refl, sym, ap, arith, if◌then◌else◌}
+use Rattle.std.proofs.Common.{◌≡◌, ◌∙◌, ℕ, ◌+◌, ◌<◌, ◌^◌, Bool, true, false, not, List, [], ◌∷◌, length, Option, Some, None, option_map}
+use Rattle.std.proofs.Common.{refl, sym, ap, arith, if◌then◌else◌}
 use Rattle.std.specs.Option.{option_map_or}
 use Rattle.std.proofs.lemmas.List.Splits.{length-slice_split}
 use Rattle.std.proofs.lemmas.List.Sums.{count_by-le-length}
@@ -15,7 +16,8 @@ few_lines text h =
     let ends = count_by-le-length is_line_feed text in
     omega (arith, lines, ends)
 
-pub same_left : {A : Type 0} (now : A → List ℕ) (rest : Option A) → option_map_or (λ r. lines_of (now r)) rest [] ≡ lines_left (option_map now rest)
+pub same_left : {A : Type 0} (now : A → List ℕ) (rest : Option A) →
+    option_map_or (λ r. lines_of (now r)) rest [] ≡ lines_left (option_map now rest)
 same_left now None = refl
 same_left now (Some text) = refl
 
@@ -25,12 +27,14 @@ unfolding numbered
 by_test number line lines b e = ap (λ (c : Bool). if c then numbered (number + 1) lines else (number, line) ∷ numbered (number + 1) lines) e
 
 -- a line that asks for something is the next
-pub asked_next : (all : List (ℕ × List ℕ)) (number : ℕ) (text line : List ℕ) (rest : List (List ℕ)) → numbered number (lines_of text) ≡ all →
+pub asked_next : (all : List (ℕ × List ℕ)) (number : ℕ) (text line : List ℕ) (rest : List (List ℕ)) →
+    numbered number (lines_of text) ≡ all →
     lines_of text ≡ line ∷ rest → is_skipped line ≡ false → all ≡ (number, line) ∷ numbered (number + 1) rest
 asked_next all number text line rest h cut asks = sym h ∙ ap (numbered number) cut ∙ by_test number line rest false asks
 
 -- a line that asks for nothing is skipped
-pub skipped_next : (all : List (ℕ × List ℕ)) (number : ℕ) (text line : List ℕ) (rest : List (List ℕ)) → numbered number (lines_of text) ≡ all →
+pub skipped_next : (all : List (ℕ × List ℕ)) (number : ℕ) (text line : List ℕ) (rest : List (List ℕ)) →
+    numbered number (lines_of text) ≡ all →
     lines_of text ≡ line ∷ rest → is_skipped line ≡ true → numbered (number + 1) rest ≡ all
 skipped_next all number text line rest h cut asks = sym (by_test number line rest true asks) ∙ sym (ap (numbered number) cut) ∙ h
 

@@ -24,16 +24,19 @@ by_command number (Told side) event lines p text status is h = (event, is, h)
 
 -- the event of a line is applied, or does not fit
 plays_event : (number : ℕ) (line : List ℕ) (c : Command) (event : Event) (lines : Lines) (p : TwoEnds) (text : List ℕ) (status : ℕ) →
-    command_of line ≡ Some c → IsEvent c event → Applies number event (Plays lines) p text status → Plays ((number, line) ∷ lines) p text status
+    command_of line ≡ Some c → IsEvent c event → Applies number event (Plays lines) p text status →
+    Plays ((number, line) ∷ lines) p text status
 plays_event number line c event lines p text status read is h =
-    subst (λ (o : Option Command). PlaysLine number o (Plays lines) p text status) (sym read) (by_command number c event lines p text status is h)
+    subst (λ (o : Option Command). PlaysLine number o (Plays lines) p text status) (sym read)
+    (by_command number c event lines p text status is h)
 
 pub done : (number : ℕ) (line : List ℕ) (c : Command) (event : Event) (old new : TwoEnds) (before after : List ℕ) →
     command_of line ≡ Some c → IsEvent c event → DoesEvent event old before new after → GoesBehind number line old before new after
 done number line c event old new before after read is h = record {
   text = event_text event (carried_by event old) ++ new_texts old new;
   says = h.says ∙ append_assoc before (event_text event (carried_by event old)) (new_texts old new);
-  plays = λ lines more status rest. plays_event number line c event lines old ((event_text event (carried_by event old) ++ new_texts old new) ++ more) status read is
+  plays = λ lines more status rest. plays_event number line c event lines old
+      ((event_text event (carried_by event old) ++ new_texts old new) ++ more) status read is
       (inl (new, more, h.applied, refl, rest));
 }
 
@@ -65,7 +68,8 @@ no_event number (Break left right) lines p is = absurd is
 no_event number (Told side) lines p is = absurd is
 
 -- a line that declares two ends after the first
-pub misplaced : (number : ℕ) (line : List ℕ) (c : Command) (old : TwoEnds) (before after : List ℕ) → command_of line ≡ Some c → IsNoEvent c →
+pub misplaced : (number : ℕ) (line : List ℕ) (c : Command) (old : TwoEnds) (before after : List ℕ) → command_of line ≡ Some c →
+    IsNoEvent c →
     after ≡ before ++ answer_line (LineRefused number) → StopsAtLine number line old before after
 misplaced number line c old before after read is says = record {
   text = answer_line (LineRefused number);
@@ -85,17 +89,22 @@ pub record HasPlayed (all : Lines) (old : TwoEnds) (before : List ℕ) (left : L
 pub played_none : (all : Lines) (old : TwoEnds) (before : List ℕ) → HasPlayed all old before all old before
 played_none all old before = record { text = []; says = sym (append-nil before); plays = λ more status rest. rest }
 
-pub played_more : (all : Lines) (old : TwoEnds) (before : List ℕ) (number : ℕ) (line : List ℕ) (left lines : Lines) (mid new : TwoEnds) (said after : List ℕ) →
-    HasPlayed all old before lines mid said → lines ≡ (number, line) ∷ left → GoesBehind number line mid said new after → HasPlayed all old before left new after
+pub played_more : (all : Lines) (old : TwoEnds) (before : List ℕ) (number : ℕ) (line : List ℕ) (left lines : Lines) (mid new : TwoEnds)
+    (said after : List ℕ) →
+    HasPlayed all old before lines mid said → lines ≡ (number, line) ∷ left → GoesBehind number line mid said new after →
+    HasPlayed all old before left new after
 played_more all old before number line left lines mid new said after h next more = record {
   text = h.text ++ more.text;
   says = more.says ∙ ap (λ (t : List ℕ). t ++ more.text) h.says ∙ append_assoc before h.text more.text;
   plays = λ rest status behind. subst (λ (t : List ℕ). Plays all old t status) (sym (append_assoc h.text more.text rest))
-      (h.plays (more.text ++ rest) status (subst (λ (ls : Lines). Plays ls mid (more.text ++ rest) status) (sym next) (more.plays left rest status behind)));
+      (h.plays (more.text ++ rest) status
+      (subst (λ (ls : Lines). Plays ls mid (more.text ++ rest) status) (sym next) (more.plays left rest status behind)));
 }
 
-pub played_last : (all : Lines) (old : TwoEnds) (before : List ℕ) (number : ℕ) (line : List ℕ) (left lines : Lines) (mid : TwoEnds) (said after : List ℕ) →
-    HasPlayed all old before lines mid said → lines ≡ (number, line) ∷ left → StopsAtLine number line mid said after → PlaysAll all old before after 1
+pub played_last : (all : Lines) (old : TwoEnds) (before : List ℕ) (number : ℕ) (line : List ℕ) (left lines : Lines) (mid : TwoEnds)
+    (said after : List ℕ) →
+    HasPlayed all old before lines mid said → lines ≡ (number, line) ∷ left → StopsAtLine number line mid said after →
+    PlaysAll all old before after 1
 played_last all old before number line left lines mid said after h next more = record {
   text = h.text ++ more.text;
   says = more.says ∙ ap (λ (t : List ℕ). t ++ more.text) h.says ∙ append_assoc before h.text more.text;
@@ -107,7 +116,8 @@ pub played_all : (all : Lines) (old : TwoEnds) (before : List ℕ) (lines : Line
 played_all all old before lines new said after h none says = record {
   text = h.text ++ all_standings new;
   says = says ∙ ap (λ (t : List ℕ). t ++ all_standings new) h.says ∙ append_assoc before h.text (all_standings new);
-  plays = h.plays (all_standings new) 0 (subst (λ (ls : Lines). Plays ls new (all_standings new) 0) (sym none) (record { stands = refl; good = refl }));
+  plays = h.plays (all_standings new) 0
+      (subst (λ (ls : Lines). Plays ls new (all_standings new) 0) (sym none) (record { stands = refl; good = refl }));
 }
 
 -- ---- the effect of a line, by whether the next is to be read
@@ -130,7 +140,8 @@ event_stops b number event old before new after e h = subst (λ (x : Bool). Play
 
 -- ---- a whole script
 
-begins : (number : ℕ) (command : Option Command) (lines : Lines) (p : TwoEnds) (text : List ℕ) (status : ℕ) → IsStart command p → Plays lines p text status →
+begins : (number : ℕ) (command : Option Command) (lines : Lines) (p : TwoEnds) (text : List ℕ) (status : ℕ) → IsStart command p →
+    Plays lines p text status →
     BeginsWith number command lines text status
 begins number None lines p text status starts plays = absurd starts
 begins number (Some (Ends caller called size window)) lines p text status starts plays = (p, starts, plays)
@@ -140,7 +151,8 @@ begins number (Some (Carry side octets)) lines p text status starts plays = absu
 begins number (Some (Break left right)) lines p text status starts plays = absurd starts
 begins number (Some (Told side)) lines p text status starts plays = absurd starts
 
-refused : (number : ℕ) (command : Option Command) (lines : Lines) (text : List ℕ) → IsNoStart command → text ≡ answer_line (LineRefused number) →
+refused : (number : ℕ) (command : Option Command) (lines : Lines) (text : List ℕ) → IsNoStart command →
+    text ≡ answer_line (LineRefused number) →
     BeginsWith number command lines text 1
 refused number None lines text starts says = record { says = says; bad = refl }
 refused number (Some (Ends caller called size window)) lines text starts says = absurd starts
@@ -151,7 +163,8 @@ refused number (Some (Break left right)) lines text starts says = record { says 
 refused number (Some (Told side)) lines text starts says = record { says = says; bad = refl }
 
 -- the two ends are there, and the lines after the first were played
-pub transcribed : (lines left : Lines) (number : ℕ) (line : List ℕ) (p : TwoEnds) (before text : List ℕ) (status : ℕ) → lines ≡ (number, line) ∷ left →
+pub transcribed : (lines left : Lines) (number : ℕ) (line : List ℕ) (p : TwoEnds) (before text : List ℕ) (status : ℕ) →
+    lines ≡ (number, line) ∷ left →
     IsStart (command_of line) p → before ≡ [] → PlaysAll left p before text status → Transcribes lines text status
 transcribed lines left number line p before text status is starts none h =
     let said : text ≡ h.text = h.says ∙ ap (λ (t : List ℕ). t ++ h.text) none in
@@ -159,7 +172,8 @@ transcribed lines left number line p before text status is starts none h =
     (begins number (command_of line) left p text status starts (subst (λ (t : List ℕ). Plays left p t status) (sym said) h.plays))
 
 -- the first line is another
-pub not_begun : (lines left : Lines) (number : ℕ) (line : List ℕ) (text : List ℕ) → lines ≡ (number, line) ∷ left → IsNoStart (command_of line) →
+pub not_begun : (lines left : Lines) (number : ℕ) (line : List ℕ) (text : List ℕ) → lines ≡ (number, line) ∷ left →
+    IsNoStart (command_of line) →
     text ≡ answer_line (LineRefused number) → Transcribes lines text 1
 not_begun lines left number line text is starts says =
     subst (λ (ls : Lines). Transcribes ls text 1) (sym is) (refused number (command_of line) left text starts says)

@@ -1,6 +1,7 @@
 -- Two events in memory for the same line of a script have the same effect, carry as many octets and give the same text.
 -- For a_script_has_one_transcript.
-use Rattle.std.proofs.Common.{◌≡◌, ◌∙◌, ℕ, ◌+◌, ◌||◌, Bool, true, not, List, [], ◌∷◌, ◌++◌, length, Option, Some, None, refl, sym, ap, ap₂, subst, if◌then◌else◌}
+use Rattle.std.proofs.Common.{◌≡◌, ◌∙◌, ℕ, ◌+◌, ◌||◌, Bool, true, not, List, [], ◌∷◌, ◌++◌, length, Option, Some, None, refl, sym, ap, ap₂}
+use Rattle.std.proofs.Common.{subst, if◌then◌else◌}
 use Rattle.std.specs.Prelude.{nat_le}
 use Rattle.osi_carrier.specs.Calls.{may_connect, asks}
 use Rattle.osi_carrier.specs.declared.events.Ref.{Ref}

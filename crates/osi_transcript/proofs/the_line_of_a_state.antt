@@ -1,6 +1,7 @@
 -- The line of a connection's state in memory.
 -- For `push_side`, which writes the states of one end.
-use Rattle.std.proofs.Common.{◌≡◌, ◌∙◌, ◌+◌, ◌-◌, ◌<◌, ◌++◌, ◌&&◌, Bool, true, false, List, [], ℕ, zero, suc, refl, sym, ap, subst, add-one, arith}
+use Rattle.std.proofs.Common.{◌≡◌, ◌∙◌, ◌+◌, ◌-◌, ◌<◌, ◌++◌, ◌&&◌, Bool, true, false, List, [], ℕ, zero, suc, refl, sym, ap, subst, add-one}
+use Rattle.std.proofs.Common.{arith}
 use Rattle.std.specs.Prelude.{Some, None, nat_lt, nat_le, if◌then◌else◌}
 use Rattle.std.proofs.lemmas.Bool.Decides.{nat_tests}
 use Rattle.std.proofs.lemmas.List.{append-nil}
@@ -23,9 +24,11 @@ unfolding standing_texts
 no_standings side e = refl
 
 -- one connection more
-pub standings_more : (side : Side) (e : End) (n : ℕ) → standing_texts side e (n + 1) ≡ standing_texts side e n ++ standing_text side (n + 1) e
+pub standings_more : (side : Side) (e : End) (n : ℕ) → standing_texts side e (n + 1) ≡ standing_texts side e n ++
+    standing_text side (n + 1) e
 unfolding standing_texts
-standings_more side e n = subst (λ (m : ℕ). standing_texts side e m ≡ standing_texts side e n ++ standing_text side m e) (sym (add-one n)) refl
+standings_more side e n = subst (λ (m : ℕ). standing_texts side e m ≡ standing_texts side e n ++ standing_text side m e) (sym (add-one n))
+    refl
 
 -- ---- references that were never given
 
@@ -43,7 +46,8 @@ no_phase : (r : ℕ) (e : End) → e.carrier.given < r → phase_at r e ≡ None
 no_phase r e h = ap (λ (b : Bool). if b then Some (phase_of (session_at r e)) else None) (not_given r e.carrier.given h)
 
 last_given : (r : ℕ) (e : End) → 0 < r → phase_at r e ≡ None → e.carrier.given < r
-last_given r e some h = given_before r e.carrier.given some (none_alone (nat_lt 0 r && nat_le r e.carrier.given) (phase_of (session_at r e)) h)
+last_given r e some h =
+    given_before r e.carrier.given some (none_alone (nat_lt 0 r && nat_le r e.carrier.given) (phase_of (session_at r e)) h)
 
 no_standing : (side : Side) (r : ℕ) (e : End) → e.carrier.given < r → standing_text side r e ≡ []
 unfolding standing_text
@@ -62,7 +66,8 @@ none_behind side e n (suc k) m few same =
 pub standings_end : (side : Side) (e : End) (n : ℕ) (before after : List ℕ) → phase_at (n + 1) e ≡ None → n < 65535 →
     after ≡ before ++ standing_texts side e n → after ≡ before ++ standing_texts side e 65535
 standings_end side e n before after none within h =
-    h ∙ ap (λ (t : List ℕ). before ++ t) (sym (none_behind side e n (65535 - n) 65535 (last_given (n + 1) e (omega arith) none) (omega arith)))
+    h ∙ ap (λ (t : List ℕ). before ++ t)
+    (sym (none_behind side e n (65535 - n) 65535 (last_given (n + 1) e (omega arith) none) (omega arith)))
 
 -- the line of one that was given
 pub standing_here : (side : Side) (e : End) (r : ℕ) (p : Phase) → phase_at r e ≡ Some p → standing_text side r e ≡ phase_text side r e p

@@ -1,6 +1,7 @@
 -- The lines of entries, one after the other.
 -- For `push_entries` and all that adds entries to a transcript.
-use Rattle.std.proofs.Common.{◌≡◌, ◌≢◌, ◌∙◌, ℕ, ◌+◌, ◌<◌, false, List, [], ◌∷◌, ◌++◌, get_or, length, map, take, drop, Some, None, refl, sym, ap, ap₂, subst, arith, ◌≤◌}
+use Rattle.std.proofs.Common.{◌≡◌, ◌≢◌, ◌∙◌, ℕ, ◌+◌, ◌<◌, false, List, [], ◌∷◌, ◌++◌, get_or, length, map, take, drop, Some, None, refl}
+use Rattle.std.proofs.Common.{sym, ap, ap₂, subst, arith, ◌≤◌}
 use Rattle.std.proofs.lemmas.Grind.{flat_map-append}
 use Rattle.std.proofs.lemmas.List.{append_assoc, append-nil, length-append, map-append, drop-map, length-map, take_more}
 use Rattle.osi_carrier.specs.declared.ends.EndReason.TheVariants.{NoMemory}
@@ -24,7 +25,8 @@ use Rattle.osi_transcript.specs.Playing.{carried_by, event_text, new_texts, faul
 use Rattle.osi_transcript.specs.Steps.{DoesEvent, FailsEvent}
 
 -- one more entry
-pub texts_more : (before mid after : List ℕ) (entries : List Entry) (i : ℕ) (entry : Entry) → i < length entries → entry ≡ get_or entries i entry →
+pub texts_more : (before mid after : List ℕ) (entries : List Entry) (i : ℕ) (entry : Entry) → i < length entries →
+    entry ≡ get_or entries i entry →
     mid ≡ before ++ entry_texts (map entry_by (take i entries)) → after ≡ mid ++ entry_text (entry_by entry) →
     after ≡ before ++ entry_texts (map entry_by (take (i + 1) entries))
 texts_more before mid after entries i entry within is h says =
@@ -65,9 +67,11 @@ all_carried (Told side) p applied h e = h.nothing
 
 -- an event is applied, and its text is added
 pub event_done : (event : Event) (old new : TwoEnds) (applied : Applied) (before mid after : List ℕ) (xs ys shown : List Entry) →
-    misfit event old ≡ None → Does event old applied.carried new → CarriesAsMuch event old applied → applied.is_cut_short ≡ false → FoundMemory new → IsReached new →
+    misfit event old ≡ None → Does event old applied.carried new → CarriesAsMuch event old applied → applied.is_cut_short ≡ false →
+    FoundMemory new → IsReached new →
     map entry_by xs ≡ old.journal → map entry_by ys ≡ new.journal → shown ≡ drop (length xs) ys →
-    mid ≡ before ++ event_text event applied.carried → after ≡ mid ++ entry_texts (map entry_by shown) → DoesEvent event old before new after
+    mid ≡ before ++ event_text event applied.carried → after ≡ mid ++ entry_texts (map entry_by shown) →
+    DoesEvent event old before new after
 event_done event old new applied before mid after xs ys shown fits does much whole memory reached h k from says more =
     let all = all_carried event old applied much whole in
     record {

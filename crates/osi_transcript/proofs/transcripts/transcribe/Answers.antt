@@ -13,9 +13,11 @@ use Rattle.osi_transcript.proofs.transcripts.transcribe.Goals as goal
 pub returns-clause-told : goal.returns-clause-told
 returns-clause-told c =
     transcribed (numbered 1 (lines_of c.args.script.now)) (lines_in c.next_line.new.self) c.in-Some.number c.in-Some.line.now
-    c.in-Some-2.pair.ends c.in_ok-lines.lines.items c.play.new.out.items c.in_ok-status.status (sym c.new-script.ensures.value ∙ c.in-Some.ensures.some)
+    c.in-Some-2.pair.ends c.in_ok-lines.lines.items c.play.new.out.items c.in_ok-status.status
+    (sym c.new-script.ensures.value ∙ c.in-Some.ensures.some)
     (subst (λ (o : Option Pairing). StartsWith (command_of c.in-Some.line.now) (option_map (λ p. p.ends) o)) c.in-Some-2.is
     c.in_ok-pair.ensures)
     c.in_ok-lines.ensures.items
-    (subst (λ (p : TwoEnds). PlaysAll (lines_in c.next_line.new.self) p c.in_ok-lines.lines.items c.play.new.out.items c.in_ok-status.status)
+    (subst (λ (p : TwoEnds). PlaysAll (lines_in c.next_line.new.self) p c.in_ok-lines.lines.items c.play.new.out.items
+    c.in_ok-status.status)
     c.reserve.ensures.same c.in_ok-status.ensures.played)

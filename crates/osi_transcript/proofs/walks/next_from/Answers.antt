@@ -16,7 +16,8 @@ returns-then-not-is_skipped-clause-some c =
 pub returns-in_default-clause-none : goal.returns-in_default-clause-none
 returns-in_default-clause-none c =
     let on : c.is_skipped.result ≡ true = first_of (cc, grind (arith, flip_true)) in
-    sym (skipped_next (numbered c.args.number (lines_of c.args.text.now)) c.lines.number c.lines.text.now c.first_line.result.0.now [] c.lines.invariant.0
+    sym (skipped_next (numbered c.args.number (lines_of c.args.text.now)) c.lines.number c.lines.text.now c.first_line.result.0.now []
+    c.lines.invariant.0
     (c.first_line.ensures ∙ ap (λ r. c.first_line.result.0.now ∷ option_map_or (λ rest. lines_of rest.now) r []) c.in_default.is)
     (sym c.is_skipped.ensures ∙ on))
     ∙ none_numbered (c.lines.number + 1)

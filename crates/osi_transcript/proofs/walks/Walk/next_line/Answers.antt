@@ -5,4 +5,5 @@ use Rattle.osi_transcript.proofs.walks.Walk.next_line.Goals as goal
 
 pub returns-in_default-clause-none : goal.returns-in_default-clause-none
 returns-in_default-clause-none c =
-    ap (λ r. numbered c.args.self.now.number (lines_left (option_map (λ t. t.now) r))) c.in_default.is ∙ none_numbered c.args.self.now.number
+    ap (λ r. numbered c.args.self.now.number (lines_left (option_map (λ t. t.now) r))) c.in_default.is ∙
+    none_numbered c.args.self.now.number
