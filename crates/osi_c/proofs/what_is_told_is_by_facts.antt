@@ -6,7 +6,6 @@ use Rattle.osi_judge.specs.declared.directions.Direction.{Direction}
 use Rattle.osi_judge.specs.declared.directions.Direction.TheVariants as side
 use Rattle.osi_judge.specs.declared.findings.Finding.{Finding}
 use Rattle.osi_judge.specs.declared.findings.Finding.TheVariants.{Kept, Broke, Left, TooMany}
-use Rattle.osi_judge.specs.declared.members.Member.{Member}
 use Rattle.osi_judge.specs.declared.rules.Break.{Break}
 use Rattle.osi_judge.specs.declared.standings.Stands.{Stands}
 use Rattle.osi_judge.specs.declared.stops.Stopped.{Stopped}
@@ -31,25 +30,26 @@ use Rattle.osi_c.specs.declared.watches.Watch.{Watch}
 no_stands : Stands
 no_stands = record { taken = 0; standing = seen_called; owes = None }
 
-abbrev facts_at : Tapped → List Member → Facts
-facts_at h at = record (facts_of h no_stands) { at = at }
+abbrev facts_at : Tapped → Facts
+facts_at h = facts_of h no_stands
 
-facts_known : (d : Direction) (c : Capture) (j : Judged) (t : Taps j c) → AreFacts d c (facts_at (half_of d j) (known_in d c j t).rule.0)
+facts_known : (d : Direction) (c : Capture) (j : Judged) (t : Taps j c) → AreFacts d c (facts_at (half_of d j))
 facts_known d c j t = let k = known_in d c j t in record {
   reading = k.read;
   reference = k.given;
   stopped = k.stops;
   found = k.found;
+  room = k.room;
   count = k.count;
   offset = k.place;
-  rule = k.rule.1;
+  rule = k.rule;
 }
 
-first_known : (first : Option Direction) (j : Judged) (c : Capture) (m n : List Member) → FirstIs first j c
-    → IsFirstOf first (facts_at j.left m) (facts_at j.right n)
-first_known None j c m n h = h
-first_known (Some side.Left) j c m n h = h.1
-first_known (Some side.Right) j c m n h = h.1
+first_known : (first : Option Direction) (j : Judged) (c : Capture) → FirstIs first j c
+    → IsFirstOf first (facts_at j.left) (facts_at j.right)
+first_known None j c h = h
+first_known (Some side.Left) j c h = h.1
+first_known (Some side.Right) j c h = h.1
 
 -- ---- what is told by them was found
 
@@ -82,15 +82,14 @@ pub tells_in : (d : Direction) (w : Watch) → Tells d w (told_in d w) (referenc
 tells_in side.Left w c k =
     let j = judged w.judge in
     let known = known_in side.Left c j k.taps in
-    let at = (known_in side.Right c j k.taps).rule.0 in
     record {
       first = first_in w.judge;
-      left = facts_at j.left known.rule.0;
-      right = facts_at j.right at;
+      left = facts_at j.left;
+      right = facts_at j.right;
       of_left = facts_known side.Left c j k.taps;
       of_right = facts_known side.Right c j k.taps;
       is_first = is_first_in (first_in w.judge) j c k.taps k.first;
-      first_of = first_known (first_in w.judge) j c known.rule.0 at k.first;
+      first_of = first_known (first_in w.judge) j c k.first;
       tells = refl;
       gives = refl;
       is_true = unless_true side.Left c w.is_full _ _ (found_true side.Left c w.is_full j.left.side.finding _ _ _ known.found known.stops);
@@ -98,15 +97,14 @@ tells_in side.Left w c k =
 tells_in side.Right w c k =
     let j = judged w.judge in
     let known = known_in side.Right c j k.taps in
-    let at = (known_in side.Left c j k.taps).rule.0 in
     record {
       first = first_in w.judge;
-      left = facts_at j.left at;
-      right = facts_at j.right known.rule.0;
+      left = facts_at j.left;
+      right = facts_at j.right;
       of_left = facts_known side.Left c j k.taps;
       of_right = facts_known side.Right c j k.taps;
       is_first = is_first_in (first_in w.judge) j c k.taps k.first;
-      first_of = first_known (first_in w.judge) j c at known.rule.0 k.first;
+      first_of = first_known (first_in w.judge) j c k.first;
       tells = refl;
       gives = refl;
       is_true = unless_true side.Right c w.is_full _ _
