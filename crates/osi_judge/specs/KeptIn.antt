@@ -1,4 +1,4 @@
--- The sessions that are kept of a side of a capture, and whether they became too many.
+-- The sessions that are kept of a side of a capture, and what is told by them.
 use Rattle.std.specs.Prelude.{◌≡◌, ℕ, List, Option, None}
 use Rattle.osi_judge.specs.declared.directions.Direction.{Direction}
 use Rattle.osi_judge.specs.declared.findings.Finding.{Finding}
@@ -6,11 +6,12 @@ use Rattle.osi_judge.specs.declared.members.Member.{Member}
 use Rattle.osi_judge.specs.declared.rules.Break.{Break}
 use Rattle.osi_judge.specs.declared.standings.Stands.{Stands}
 use Rattle.osi_judge.specs.Captures.{Capture, other}
-use Rattle.osi_judge.specs.Judging.{up_to, HasRoom}
+use Rattle.osi_judge.specs.Judging.{up_to}
 use Rattle.osi_judge.specs.Kept.{kept}
 use Rattle.osi_judge.specs.Stops.{place_of}
 use Rattle.osi_judge.specs.Tapping.{begin_of, heard, told, IsRuleIn, IsStandingIn}
 use Rattle.osi_judge.specs.Transport.{Sent, IsSent}
+pub use Rattle.osi_judge.specs.Tapping.{HasRoomIn}
 
 -- these are kept of the sessions that explain what a side of a capture sent before this TSDU, or all that it sent
 pub record AreKeptIn (d : Direction) (capture : Capture) (place : Option ℕ) (members : List Member) : Type 0 where
@@ -19,14 +20,6 @@ pub record AreKeptIn (d : Direction) (capture : Capture) (place : Option ℕ) (m
   pub is_mine : IsSent d capture mine
   pub is_others : IsSent (other d) capture others
   pub kept : members ≡ kept (begin_of d) (heard others) (up_to place (told d capture mine others))
-
--- there were too many sessions or not, as was found
-pub record HasRoomIn (d : Direction) (capture : Capture) (finding : Finding) : Type 0 where
-  pub mine : List Sent
-  pub others : List Sent
-  pub is_mine : IsSent d capture mine
-  pub is_others : IsSent (other d) capture others
-  pub room : HasRoom (begin_of d) (heard others) (told d capture mine others) finding
 
 -- the rule by which a side of a capture broke the protocol or left the profile: that of the sessions that are kept
 abbrev pub IsRuledIn : Direction → Capture → Finding → Break → Type 0

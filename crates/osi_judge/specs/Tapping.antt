@@ -25,7 +25,7 @@ use Rattle.osi_judge.specs.Profiles.{leaves}
 use Rattle.osi_judge.specs.declared.rules.Break.{Break}
 use Rattle.osi_judge.specs.declared.members.Member.{Member}
 use Rattle.osi_judge.specs.declared.standings.Stands.{Stands}
-use Rattle.osi_judge.specs.Judging.{AreAll, IsFound}
+use Rattle.osi_judge.specs.Judging.{AreAll, IsFound, HasRoom}
 
 -- left calls
 abbrev pub begin_of : Direction → Seen
@@ -56,6 +56,14 @@ pub record IsFoundIn (d : Direction) (capture : Capture) (finding : Finding) : T
   pub is_mine : IsSent d capture mine
   pub is_others : IsSent (other d) capture others
   pub found : IsFound (begin_of d) (heard others) (told d capture mine others) finding
+
+-- there were too many sessions or not, as was found
+pub record HasRoomIn (d : Direction) (capture : Capture) (finding : Finding) : Type 0 where
+  pub mine : List Sent
+  pub others : List Sent
+  pub is_mine : IsSent d capture mine
+  pub is_others : IsSent (other d) capture others
+  pub room : HasRoom (begin_of d) (heard others) (told d capture mine others) finding
 
 -- Where the transport of a side of a capture first broke its rules, or is not read any further: at a DT before the connection
 -- was open; at a packet that has no place in class 0 after what had passed before it; at a refusal; or at octets with which
@@ -174,6 +182,7 @@ pub record StandsIn (d : Direction) (capture : Capture) (has_broken : Bool) : Ty
   pub finding : Finding
   pub stop : Option StoppedAt
   pub found : IsFoundIn d capture finding
+  pub room : HasRoomIn d capture finding
   pub is_stopped : IsStoppedIn d capture stop
   pub broken : has_broken ≡ (broke_session finding || breaks stop)
 

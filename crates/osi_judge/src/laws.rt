@@ -1,6 +1,6 @@
 //! Laws of captures. Each function does nothing: its contract is the law.
 
-ghost use Rattle.std.specs.Prelude.{◌≡◌, ◌≤◌, ◌+◌, ◌++◌, ◌∷◌, ◌⊎◌, [], ℕ, List, Option, None, Ok, Some, true, false, length, replicate};
+ghost use Rattle.std.specs.Prelude.{◌≡◌, ◌≤◌, ◌+◌, ◌++◌, ◌∷◌, ◌⊎◌, [], ℕ, Bool, List, Option, None, Ok, Some, true, false, length, replicate};
 ghost use Rattle.osi_message.specs.declared.places.Place.{Place};
 ghost use Rattle.osi_message.specs.Meanings.{Meaning, DT};
 ghost use Rattle.osi_message.specs.Reading.{said_at};
@@ -27,7 +27,7 @@ ghost use Rattle.osi_judge.specs.Following.{Judged, Taps, half_of, kept_of};
 ghost use Rattle.osi_judge.specs.Outlines.{AreAlike, bare, outline};
 ghost use Rattle.osi_judge.specs.Stops.{broke_session, is_judged, place_of};
 ghost use Rattle.osi_judge.specs.Running.{IsSentFrom, IsHonestIn};
-ghost use Rattle.osi_judge.specs.Tapping.{IsFoundIn};
+ghost use Rattle.osi_judge.specs.Tapping.{IsFirstIn, IsFoundIn, StandsIn};
 ghost use Rattle.osi_judge.specs.Transport.{Sent, IsSent};
 
 /// A side of a capture has one list of TSDUs. Pieces of a side that pass one after the other are one piece: the pieces
@@ -58,6 +58,15 @@ pub fn a_side_has_one_list_of_sessions()
 {
     a_capture_has_one_reading();
 }
+
+/// What a side of a capture broke when a prefix had passed, it has still broken in the whole. So a capture has one first break:
+/// one side whose break passed first, or neither broke the protocol.
+pub fn a_capture_has_one_first_break()
+    ensures stays { (d : Direction) (front back : Capture) (has_broken : Bool) → StandsIn d front true → StandsIn d (front ++ back) has_broken
+        → has_broken ≡ true }
+    ensures first { (capture : Capture) (first second : Option Direction) → IsFirstIn capture first → IsFirstIn capture second
+        → first ≡ second }
+{}
 
 /// Of a side that kept the protocol the foremost of the sessions that explain it is told: no other comes before it. Of a side
 /// that broke the protocol the nearest is told, of all sessions that those become which explain what it sent before: none is

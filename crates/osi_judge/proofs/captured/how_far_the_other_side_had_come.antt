@@ -20,7 +20,7 @@ complete_one : (n : ℕ) (u : List ℕ) (us : List (List ℕ)) → packet_length
     → complete_in n (u ∷ us) ≡ u ∷ complete_in (n - packet_length u) us
 complete_one n u us l = ap (λ (b : Bool). cond b (u ∷ complete_in (n - packet_length u) us) []) (le-leb (packet_length u) n l)
 
-complete_none : (n : ℕ) (u : List ℕ) (us : List (List ℕ)) → n < packet_length u → complete_in n (u ∷ us) ≡ []
+pub complete_none : (n : ℕ) (u : List ℕ) (us : List (List ℕ)) → n < packet_length u → complete_in n (u ∷ us) ≡ []
 complete_none n u us l = ap (λ (b : Bool). cond b (u ∷ complete_in (n - packet_length u) us) []) (lt-leb (packet_length u) n l)
 
 complete_all : (n : ℕ) (us : List (List ℕ)) → packets_length us ≤ n → complete_in n us ≡ us
@@ -28,7 +28,7 @@ complete_all n [] l = refl
 complete_all n (u ∷ us) l =
     complete_one n u us (omega arith) ∙ ap (λ (x : List (List ℕ)). u ∷ x) (complete_all (n - packet_length u) us (omega arith))
 
-complete_by : (n : ℕ) (u : List ℕ) (xs ys : List (List ℕ))
+pub complete_by : (n : ℕ) (u : List ℕ) (xs ys : List (List ℕ))
     → (packet_length u ≤ n → complete_in (n - packet_length u) xs ≡ complete_in (n - packet_length u) ys)
     → ((leb (packet_length u) n ≡ true) × (packet_length u ≤ n)) ⊎ ((leb (packet_length u) n ≡ false) × (n < packet_length u))
     → complete_in n (u ∷ xs) ≡ complete_in n (u ∷ ys)
@@ -71,7 +71,7 @@ met_now d c octets others k l m h =
 -- ---- what packets mean
 
 -- packets end behind where they begin
-offset_more : (at : ℕ) (us : List (List ℕ)) → at ≤ offset_from at us
+pub offset_more : (at : ℕ) (us : List (List ℕ)) → at ≤ offset_from at us
 offset_more at [] = omega arith
 offset_more at (u ∷ us) = let h = offset_more (at + packet_length u) us in omega arith
 
@@ -107,7 +107,7 @@ hasty_same d m p n e s hasty at (u ∷ us) l =
 abbrev pub MeetAlike : ℕ → (m p : ℕ → Handshake) → Type 0
 MeetAlike n m p = (k : ℕ) → k < n → m k ≡ p k
 
-end_within : (d : Direction) (c : Capture) (us : List (List ℕ)) (rest : List ℕ) → ArePackets us (stream d c) rest
+pub end_within : (d : Direction) (c : Capture) (us : List (List ℕ)) (rest : List ℕ) → ArePackets us (stream d c) rest
     → offset_from 0 us ≤ length (stream d c)
 end_within d c us rest h = let e = offset_of_rest 0 us (stream d c) rest h in omega arith
 

@@ -19,10 +19,9 @@ use Rattle.osi_judge.specs.Captures.{Capture, other, stream}
 use Rattle.osi_judge.specs.Explaining.{Told, remarks, Explains, IsExplained}
 use Rattle.osi_judge.specs.Breaking.{BreaksWith}
 use Rattle.osi_judge.specs.Foremost.{foremost}
-use Rattle.osi_judge.specs.Judging.{Watched, AreAll, Keeps, BrokeBy, LeftBy, WatchesBy, Watches, up_to, HasRoom}
+use Rattle.osi_judge.specs.Judging.{Watched, AreAll, Keeps, BrokeBy, LeftBy, WatchesBy, Watches, up_to}
 use Rattle.osi_judge.specs.Kept.{kept}
 use Rattle.osi_judge.specs.KeptIn.{AreKeptIn, HasRoomIn, IsRuledIn, IsKeptStanding}
-use Rattle.osi_judge.proofs.told.what_is_known_of_a_side.{room_as}
 use Rattle.osi_judge.specs.Onward.{StandsFor, StandsBehind}
 use Rattle.osi_judge.specs.Walking.{Ever}
 use Rattle.osi_judge.specs.Transport.{Handshake, silent, asked, asked_again, agreed, denied, astray, first_unit, packet_length, met_before}
@@ -37,12 +36,12 @@ use Rattle.osi_judge.specs.Feeding.{Tapped, reading_of, stopped_of}
 use Rattle.osi_judge.specs.Following.{Follows, Judged, half_of, Taps, FirstIs}
 use Rattle.osi_judge.proofs.captured.what_was_found_of_a_capture.{cut_as, packets_of, is_sent, is_read, is_given, is_stopped, is_found}
 use Rattle.osi_judge.proofs.captured.what_was_found_of_a_capture.{is_placed}
+use Rattle.osi_judge.proofs.captured.whether_the_sessions_became_too_many.{has_room}
 use Rattle.osi_judge.proofs.captured.which_side_broke_the_protocol_first.{first_told}
 use Rattle.osi_judge.proofs.captured.what_is_told_beside_is_of_the_capture.{count_kept, count_told, opening_given}
 use Rattle.osi_judge.proofs.outlined.a_rule_of_outlines_is_one_of_tsdus.{all_of_tsdus, explained_of_outlines, rule_of_tsdus}
 use Rattle.osi_judge.proofs.outlined.a_rule_of_outlines_is_one_of_tsdus.{stands_of_outlines}
 use Rattle.osi_judge.proofs.outlined.a_rule_of_outlines_is_one_of_tsdus.{kept_of_tsdus}
-use Rattle.osi_judge.proofs.outlined.a_rule_of_outlines_is_one_of_tsdus.{room_of_tsdus}
 use Rattle.osi_judge.proofs.outlined.alike_tsdus_explain_the_same.{said_of_tsdus}
 
 -- ---- a side that kept the protocol
@@ -240,24 +239,6 @@ is_standing side.Left c j h e s k = kept_standing side.Left c j.left j.right h.l
     h.of_right e s k
 is_standing side.Right c j h e s k = kept_standing side.Right c j.right j.left h.right_units h.left_units h.right h.left h.of_right
     h.of_left e s k
-
--- whether the sessions became too many
-room_in : (d : Direction) (c : Capture) (t u : Tapped) (us bs : List (List ℕ)) (mine others : List Sent) → Follows d c t us bs mine others
-    → Follows (other d) c u bs us others mine → HasRoomIn d c t.side.finding
-room_in d c t u us bs mine others f g = record {
-  mine = mine;
-  others = others;
-  is_mine = is_sent d c t us bs mine others f (cut_as (other d) c u bs us others mine g);
-  is_others = is_sent (other d) c u bs us others mine g (packets_of d c us (cut_as d c t us bs mine others f));
-  room = subst (λ (b : Seen). HasRoom b (heard others) (told d c mine others) t.side.finding) f.begin
-      (room_of_tsdus (heard others) t.side.begin (told d c mine others) t.side.finding
-      (subst (λ (x : List (List ℕ)). HasRoom t.side.begin x (told d c mine others) t.side.finding) f.heard (room_as t.side
-      (told d c mine others) f.watches)));
-}
-
-has_room : (d : Direction) (c : Capture) (j : Judged) → Taps j c → HasRoomIn d c (half_of d j).side.finding
-has_room side.Left c j h = room_in side.Left c j.left j.right h.left_units h.right_units h.left h.right h.of_left h.of_right
-has_room side.Right c j h = room_in side.Right c j.right j.left h.right_units h.left_units h.right h.left h.of_right h.of_left
 
 -- ---- what is known of a side
 

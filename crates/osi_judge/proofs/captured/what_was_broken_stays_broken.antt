@@ -70,7 +70,7 @@ noted_stays : (h : Option ℕ) (at : ℕ) (m : Move) (p : ℕ) → h ≡ Some p 
 noted_stays (Some q) at m p e = e
 noted_stays None at m p e = absurd (cc)
 
-hasty_stays : (d : Direction) (come : Handshake) (s : Stage) (h : Option ℕ) (at : ℕ) (u : List ℕ) (p : ℕ) → h ≡ Some p
+pub hasty_stays : (d : Direction) (come : Handshake) (s : Stage) (h : Option ℕ) (at : ℕ) (u : List ℕ) (p : ℕ) → h ≡ Some p
     → hasty_behind d come s h at u ≡ Some p
 hasty_stays d come opening h at u p e = noted_stays h at (step_of d opening come (first_unit (units_of u))) p e
 hasty_stays d come asking h at u p e = noted_stays h at (step_of d asking come (first_unit (units_of u))) p e

@@ -13,6 +13,7 @@ use Rattle.osi_judge.specs.Tapping.{StandsIn, IsFirstIn}
 use Rattle.osi_judge.specs.Feeding.{Tapped, Passes, Settles, goes_on, faulty, whole, Feeds, ignored, looked_at, stopped_of, has_broken}
 use Rattle.osi_judge.specs.Following.{Judged, half_of, Taps, first_after, BrokeFirst, FirstIs}
 use Rattle.osi_judge.proofs.captured.what_was_found_of_a_capture.{fresh_half, is_found, is_stopped}
+use Rattle.osi_judge.proofs.captured.whether_the_sessions_became_too_many.{has_room}
 
 -- ---- octets of one side change nothing that was found of the other
 
@@ -99,6 +100,7 @@ stands_in d c j t =
       finding = (half_of d j).side.finding;
       stop = stopped_of (half_of d j);
       found = is_found d c j t;
+      room = has_room d c j t;
       is_stopped = is_stopped d c j t;
       broken = refl;
     }

@@ -47,9 +47,9 @@ kept_or_astray begin us said k (inr o) = not_both (selects_outside us said) o k.
 -- ---- where it strays
 
 -- it is kept up to its i-th TSDU, and no further
-record Strays (begin : Seen) (us : List (List ℕ)) (said : List Told) (i : ℕ) : Type 0 where
-  so_far : IsKept begin us (take i said)
-  astray : IsAstray begin us (take (i + 1) said)
+pub record Strays (begin : Seen) (us : List (List ℕ)) (said : List Told) (i : ℕ) : Type 0 where
+  pub so_far : IsKept begin us (take i said)
+  pub astray : IsAstray begin us (take (i + 1) said)
 
 take_less : (xs : List Told) (n m : ℕ) → n ≤ m → take n (take m xs) ≡ take n xs
 take_less xs zero m l = refl
@@ -95,7 +95,7 @@ says begin us said (Broke i) j k = record { so_far = (k.0.so_far, k.1); astray =
 says begin us said (Left i) j k = record { so_far = k.1; astray = k.2 }
 says begin us said TooMany j k = absurd (cc)
 
-never_strays : (begin : Seen) (us : List (List ℕ)) (said : List Told) (i : ℕ) → IsKept begin us said → Strays begin us said i → ⊥
+pub never_strays : (begin : Seen) (us : List (List ℕ)) (said : List Told) (i : ℕ) → IsKept begin us said → Strays begin us said i → ⊥
 never_strays begin us said i k s = kept_or_astray begin us (take (i + 1) said) (front_kept begin us said (i + 1) k) s.astray
 
 one_found : (begin : Seen) (us : List (List ℕ)) (said : List Told) (f g : Finding) → Says begin us said f → Says begin us said g
@@ -132,7 +132,7 @@ too_many : (n : ℕ) → 4096 < n → n ≤ 4096 → ⊥
 too_many n h k = omega arith
 
 -- a side strayed, and up to there there were not too many sessions
-no_crowd : (begin : Seen) (us : List (List ℕ)) (said : List Told) (j : ℕ) → Strays begin us said j → IsFew begin us (take j said)
+pub no_crowd : (begin : Seen) (us : List (List ℕ)) (said : List Told) (j : ℕ) → Strays begin us said j → IsFew begin us (take j said)
     → HasRoom begin us said TooMany → ⊥
 no_crowd begin us said j s r (i, l, h, c) = elim (compare i j) [
   | inl b ↦ too_many (length (kept begin us (take (i + 1) said))) c.1
@@ -164,7 +164,7 @@ one_room begin us said (Broke i) g false true a b k h r s = absurd (cc)
 one_room begin us said (Left i) g false true a b k h r s = absurd (cc)
 
 -- what is said of the lists of TSDUs of both sides is said of any others
-same_lists : OneReading → (d : Direction) (capture : Capture) (mine others yours theirs : List Sent)
+pub same_lists : OneReading → (d : Direction) (capture : Capture) (mine others yours theirs : List Sent)
     → IsSent d capture mine → IsSent (other d) capture others → IsSent d capture yours → IsSent (other d) capture theirs
     → (P : List Sent → List Sent → Type 0) → P yours theirs → P mine others
 same_lists one d capture mine others yours theirs m o y t P h =

@@ -1,0 +1,139 @@
+-- A side that strayed from the protocol has still strayed when both sides have said more.
+-- For the law that a capture has one first break.
+use Rattle.std.proofs.Common.{◌≡◌, ◌∙◌, refl, sym, ap, subst, ℕ, suc, zero, ◌+◌, ◌<◌, ◌≤◌, inl, inr, Bool, true, ◌&&◌, nat_lt, List, []}
+use Rattle.std.proofs.Common.{◌∷◌, ◌++◌}
+use Rattle.std.proofs.Common.{length, map, take, get_or, Result, Ok, Err, arith}
+use Rattle.std.proofs.lemmas.List.{take-append-le}
+use Rattle.std.specs.List.{fold}
+use Rattle.osi_spdu.specs.declared.faults.SpduFault.{SpduFault}
+use Rattle.osi_message.specs.Reading.{said_at}
+use Rattle.osi_message.specs.Words.{Words}
+use Rattle.osi_session.specs.Joining.{acting_words}
+use Rattle.osi_session.specs.Standing.{Seen, Takes, after_count}
+use Rattle.osi_judge.specs.declared.findings.Finding.{Finding}
+use Rattle.osi_judge.specs.declared.findings.Finding.TheVariants.{Kept, Broke, Left, TooMany}
+use Rattle.osi_judge.specs.declared.members.Member.{Member}
+use Rattle.osi_judge.specs.Explaining.{Remark, remark, Told, read_as, remarks_of, remarks, Explains, done, takes, answers, says}
+use Rattle.osi_judge.specs.Judging.{IsKept, IsAstray, IsFound, IsFew, HasRoom}
+use Rattle.osi_judge.specs.Kept.{after_tsdu, kept}
+use Rattle.osi_judge.specs.Nearest.{count_at}
+use Rattle.osi_judge.specs.Profiles.{in_first, offered_in, accepted_in, is_outside, selects_outside}
+use Rattle.osi_judge.specs.Stops.{broke_session}
+use Rattle.osi_judge.proofs.captured.a_capture_that_goes_on_is_read_alike.{AreBefore}
+use Rattle.osi_judge.proofs.kept.what_is_kept_is_of_what_had_passed.{tsdu_alike}
+use Rattle.osi_judge.proofs.told.a_side_strays_at_one_place.{Strays, never_strays, no_crowd}
+
+-- ---- what is said was said after no more than this
+
+abbrev AreWithin : ℕ → List Remark → Type 0
+AreWithin n [] = Unit {0}
+AreWithin n (m ∷ ms) = (m.before ≤ n) × AreWithin n ms
+
+within_both : (n : ℕ) (xs ys : List Remark) → AreWithin n xs → AreWithin n ys → AreWithin n (xs ++ ys)
+within_both n [] ys h k = k
+within_both n (x ∷ xs) ys h k = (h.0, within_both n xs ys h.1 k)
+
+within_words : (n : ℕ) (t : Told) (words : Words) → t.before ≤ n → AreWithin n (map (remark t) words)
+within_words n t [] l = tt
+within_words n t (w ∷ words) l = (l, within_words n t words l)
+
+within_read : (n : ℕ) (t : Told) (read : Result Words SpduFault) → t.before ≤ n → AreWithin n (read_as t read)
+within_read n t (Ok words) l = within_words n t (acting_words words) l
+within_read n t (Err fault) l = (l, tt)
+
+within_remarks : (n : ℕ) (said : List Told) → AreBefore n said → AreWithin n (remarks said)
+within_remarks n [] h = tt
+within_remarks n (t ∷ said) h =
+    within_both n (remarks_of t) (remarks said) (within_read n t (said_at t.octets) h.0) (within_remarks n said h.1)
+
+before_front : (n i : ℕ) (said : List Told) → AreBefore n said → AreBefore n (take i said)
+before_front n zero said h = tt
+before_front n (suc i) [] h = tt
+before_front n (suc i) (t ∷ said) h = (h.0, before_front n i said h.1)
+
+-- ---- the first TSDUs of the other side are the same
+
+abbrev Agree : ℕ → List (List ℕ) → List (List ℕ) → Type 0
+Agree n us vs = (i : ℕ) → i < n → get_or us i [] ≡ get_or vs i []
+
+back : (n : ℕ) (us vs : List (List ℕ)) → Agree n us vs → Agree n vs us
+back n us vs a = λ i l. sym (a i l)
+
+module _ (n : ℕ) (us vs : List (List ℕ)) (a : Agree n us vs) where
+  explains_alike : (ms : List Remark) (taken : ℕ) (s : Seen) → AreWithin n ms → Explains us ms taken s → Explains vs ms taken s
+  explains_alike [] taken s w d = done taken s
+  explains_alike (m ∷ ms) taken s w (takes _ _ _ _ c l h t q d) =
+      let within = w.0 in
+      takes m ms taken s c l h (subst (λ (x : List ℕ). Takes s x c) (a taken (omega (arith, l, within))) t) q
+      (explains_alike (m ∷ ms) (taken + 1) (after_count s c) w d)
+  explains_alike (m ∷ ms) taken s w (answers _ _ _ _ c reply word l h t q k g d) =
+      let within = w.0 in
+      answers m ms taken s c reply word l h (subst (λ (x : List ℕ). Takes s x c) (a taken (omega (arith, l, within))) t) q k g
+      (explains_alike ms (taken + 1) (after_count s c) w.1 d)
+  explains_alike (m ∷ ms) taken s w (says _ _ _ _ next word k g d) =
+      says m ms taken s next word k g (explains_alike ms taken next w.1 d)
+
+  selects_alike : (said : List Told) → AreBefore n said → selects_outside us said ≡ selects_outside vs said
+  selects_alike [] h = refl
+  selects_alike (t ∷ said) h = by t.before h.0
+    where
+      asked : ℕ → List ℕ → Bool
+      asked k cn = nat_lt 0 k && is_outside (in_first offered_in (said_at cn)) (in_first accepted_in (said_at t.octets))
+
+      by : (k : ℕ) → k ≤ n → asked k (get_or us 0 []) ≡ asked k (get_or vs 0 [])
+      by zero l = refl
+      by (suc k) l = ap (asked (suc k)) (a 0 (omega (arith, l)))
+
+  same_fold : (members : List Member) (said : List Told) → AreBefore n said
+      → fold (after_tsdu us) members said ≡ fold (after_tsdu vs) members said
+  same_fold members [] h = refl
+  same_fold members (t ∷ said) h =
+      let within = h.0 in
+      let one = tsdu_alike us vs members t (λ i b s. ap (count_at s) (a i (omega (arith, b, within)))) in
+      ap (λ (ms : List Member). fold (after_tsdu us) ms said) one ∙ same_fold (after_tsdu vs members t) said h.1
+
+  kept_alike : (begin : Seen) (said : List Told) → AreBefore n said → kept begin us said ≡ kept begin vs said
+  unfolding kept
+  kept_alike begin said h = same_fold _ said h
+
+  is_kept : (begin : Seen) (said : List Told) → AreBefore n said → IsKept begin us said → IsKept begin vs said
+  is_kept begin said h k =
+      (explains_alike (remarks said) 0 begin (within_remarks n said h) k.0, sym (selects_alike said h) ∙ k.1)
+
+is_astray : (n : ℕ) (us vs : List (List ℕ)) → Agree n us vs → (begin : Seen) (said : List Told) → AreBefore n said
+    → IsAstray begin us said → IsAstray begin vs said
+is_astray n us vs a begin said h (inl none) =
+    inl (λ k. none (explains_alike n vs us (back n us vs a) (remarks said) 0 begin (within_remarks n said h) k))
+is_astray n us vs a begin said h (inr outside) = inr (sym (selects_alike n us vs a said h) ∙ outside)
+
+-- ---- the side strayed at one of the first TSDUs
+
+module _ (begin : Seen) (us vs : List (List ℕ)) (said more : List Told) (a : Agree (length us) us vs) (b : AreBefore (length us) said) where
+  strays_on : (i : ℕ) → i < length said → Strays begin us said i → Strays begin vs (said ++ more) i
+  strays_on i l s = record {
+    so_far = subst (λ (z : List Told). IsKept begin vs z) (sym (take-append-le i said more (omega (arith, l))))
+        (is_kept (length us) us vs a begin (take i said) (before_front (length us) i said b) s.so_far);
+    astray = subst (λ (z : List Told). IsAstray begin vs z) (sym (take-append-le (i + 1) said more (omega (arith, l))))
+        (is_astray (length us) us vs a begin (take (i + 1) said) (before_front (length us) (i + 1) said b) s.astray);
+  }
+
+  few_on : (i : ℕ) → i < length said → IsFew begin us (take i said) → IsFew begin vs (take i (said ++ more))
+  few_on i l f m =
+      let front = before_front (length us) m (take i said) (before_front (length us) i said b) in
+      subst (λ (z : List Told). length (kept begin vs (take m z)) ≤ 4096) (sym (take-append-le i said more (omega (arith, l))))
+      (subst (λ (x : List Member). length x ≤ 4096) (kept_alike (length us) us vs a begin (take m (take i said)) front) (f m))
+
+  -- whatever is found of the side later, it is a break
+  still : (i : ℕ) (g : Finding) → i < length said → Strays begin us said i → IsFew begin us (take i said)
+      → IsFound begin vs (said ++ more) g → HasRoom begin vs (said ++ more) g → broke_session g ≡ true
+  still i Kept l s f k r = absurd (never_strays begin vs (said ++ more) i k (strays_on i l s))
+  still i (Broke j) l s f k r = refl
+  still i (Left j) l s f k r = refl
+  still i TooMany l s f k r = absurd (no_crowd begin vs (said ++ more) i (strays_on i l s) (few_on i l f) r)
+
+  pub break_stays : (f g : Finding) → broke_session f ≡ true → IsFound begin us said f → HasRoom begin us said f
+      → IsFound begin vs (said ++ more) g → HasRoom begin vs (said ++ more) g → broke_session g ≡ true
+  break_stays Kept g e h r k q = absurd (cc)
+  break_stays TooMany g e h r k q = absurd (cc)
+  break_stays (Broke i) g e h r k q = still i g h.0.there (record { so_far = (h.0.so_far, h.1); astray = inl h.0.broke }) r k q
+  break_stays (Left i) g e h r k q = still i g h.0 (record { so_far = h.1; astray = h.2 }) r k q

@@ -1,0 +1,281 @@
+-- What is known of a side stays known as octets pass that end no packet of it, and as a TSDU of the other side reaches it.
+-- For what a judge is fed.
+use Rattle.std.proofs.Common.{◌≡◌, ◌∙◌, refl, sym, ap, subst, ℕ, suc, ◌+◌, ◌-◌, ◌<◌, ◌≤◌, min}
+use Rattle.std.proofs.Common.{List, [], ◌∷◌, ◌++◌, length, Option, None}
+use Rattle.std.proofs.Common.{option_map, arith}
+use Rattle.std.proofs.lemmas.List.{length-append, map-append}
+use Rattle.osi_tpkt.specs.Packet.{IsPartial}
+use Rattle.osi_tpkt.specs.Stream.{ArePackets, offset_of}
+use Rattle.osi_tpkt.specs.declared.faults.TpktFault.{TpktFault}
+use Rattle.osi_judge.specs.declared.directions.Direction.{Direction}
+use Rattle.osi_judge.specs.declared.directions.Direction.TheVariants.{Left, Right}
+use Rattle.osi_judge.specs.Captures.{Capture, other, piece, stream}
+use Rattle.osi_judge.specs.Explaining.{Told}
+use Rattle.osi_judge.specs.Judging.{Watches}
+use Rattle.osi_judge.specs.Transport.{Handshake, silent, handshake_from, packet_length, met_before}
+use Rattle.osi_judge.specs.Transport.{Stage, opening, asking, between, within, refused, stopped, Sent}
+use Rattle.osi_judge.specs.Transport.{packets_length, stage_from}
+use Rattle.osi_judge.specs.Outlines.{outline, outlines}
+use Rattle.osi_judge.specs.Tapping.{had_passed, octets_of, heard, told}
+use Rattle.osi_judge.specs.Feeding.{Tapped, hears}
+use Rattle.osi_judge.specs.Feeding.{since_in, since_of, met_in, met_of}
+use Rattle.osi_judge.specs.Following.{shown, IsRest, EndBy, IsSince, Follows}
+use Rattle.osi_judge.proofs.captured.a_capture_goes_on.{stream_fed, stream_beside}
+use Rattle.osi_judge.proofs.captured.how_many_tsdus_had_passed.{stays_passed, not_yet_passed, all_had_passed, told_stays, told_beside}
+use Rattle.osi_judge.proofs.captured.how_many_tsdus_had_passed.{begin_later, end_later}
+use Rattle.osi_judge.proofs.captured.one_more_packet_passes.{packets_on, offset_from, offset_of_rest}
+use Rattle.osi_judge.proofs.captured.how_far_the_other_side_had_come.{met_stays, met_not_yet, met_now, MeetAlike}
+use Rattle.osi_judge.proofs.captured.how_far_the_other_side_had_come.{stage_stays, sent_stays, hasty_stays}
+use Rattle.osi_judge.proofs.told.what_is_known_of_a_side as side
+use Rattle.osi_judge.proofs.outlined.alike_tsdus_explain_the_same.{length_outlines}
+
+-- ---- positions
+
+min_twice : (m a n : ℕ) → min (min a m + n) m ≡ min (a + n) m
+min_twice m a n = omega arith
+
+pub offset_on : (a n : ℕ) → offset_of (offset_of a + n) ≡ offset_of (a + n)
+offset_on a n = min_twice _ a n
+
+pub less_none : (n : ℕ) → n ≡ n - 0
+less_none n = omega arith
+
+-- the offset of the current packet
+pub place : (d : Direction) (c : Capture) (us : List (List ℕ)) (r : List ℕ) → ArePackets us (stream d c) r →
+    offset_from 0 us + length r ≡ length (stream d c)
+place d c us r h = let e = offset_of_rest 0 us (stream d c) r h in omega arith
+
+pub length_fed : (d : Direction) (c : Capture) (octets : List ℕ)
+    → length (stream d (c ++ piece d octets)) ≡ length (stream d c) + length octets
+length_fed d c octets = ap (λ (x : List ℕ). length x) (stream_fed d c octets) ∙ length-append (stream d c) octets
+
+since_case : (rest : List ℕ) (n since x : ℕ) → (rest ≡ [] → n ≡ x) → (0 < length rest → since ≡ x) → since_in rest n since ≡ x
+since_case [] n since x a b = a refl
+since_case (o ∷ rest) n since x a b = b (omega arith)
+
+length_heard : (others : List Sent) → length (heard others) ≡ length others
+length_heard [] = refl
+length_heard (t ∷ others) = ap (λ (n : ℕ). suc n) (length_heard others)
+
+pub held_rest : (t : Tapped) (rest : List ℕ) → t.fault ≡ None → IsRest t.fault t.held rest → (t.held ≡ rest) × IsPartial rest
+held_rest t rest e h = subst (λ (x : Option TpktFault). IsRest x t.held rest) e h
+
+-- how many had passed before the current packet, or before the one that begins
+pub since_known : (d : Direction) (c : Capture) (octets : List ℕ) (t : Tapped) (us bs : List (List ℕ)) (mine others : List Sent)
+    (f : Follows d c t us bs mine others) → EndBy (length (stream (other d) c)) others → t.fault ≡ None
+    → 0 < length (f.rest ++ octets) → since_of t ≡ had_passed d (c ++ piece d octets) (length (stream d c) - length f.rest) others
+since_known d c octets t us bs mine others f e n l =
+    let h = held_rest t f.rest n f.is_rest in
+    let p = place d c us f.rest f.packets in
+    let m = length-append f.rest octets in
+    let k = length (stream d c) - length f.rest in
+    let x = had_passed d (c ++ piece d octets) k others in
+    let fresh : f.rest ≡ [] → length t.side.heard ≡ x
+    = λ z. let y = ap (λ (w : List ℕ). length w) z in
+    ap (λ (w : List (List ℕ)). length w) f.heard ∙ length_outlines (heard others) ∙ length_heard others ∙
+    sym (all_had_passed d c octets k others (omega arith) (omega arith) e) in
+    let going : 0 < length f.rest → t.line.since ≡ x
+    = λ z. f.since n z ∙ sym (stays_passed d c (piece d octets) k others (omega arith)) in
+    ap (λ (w : List ℕ). since_in w (length t.side.heard) t.line.since) h.0 ∙ since_case f.rest (length t.side.heard) t.line.since x fresh
+    going
+
+met_case : (rest : List ℕ) (now known x : Handshake) → (rest ≡ [] → now ≡ x) → (0 < length rest → known ≡ x) → met_in rest now known ≡ x
+met_case [] now known x a b = a refl
+met_case (o ∷ rest) now known x a b = b (omega arith)
+
+-- how far the other side had come before the current packet, or before the one that begins
+pub met_known : (d : Direction) (c : Capture) (octets : List ℕ) (t : Tapped) (us bs : List (List ℕ)) (mine others : List Sent)
+    (f : Follows d c t us bs mine others) (now : Handshake)
+    → packets_length bs ≤ length (stream (other d) c) → now ≡ handshake_from silent bs → t.fault ≡ None
+    → 0 < length (f.rest ++ octets) → met_of now t ≡ met_before d (c ++ piece d octets) bs (length (stream d c) - length f.rest)
+met_known d c octets t us bs mine others f now e i n l =
+    let h = held_rest t f.rest n f.is_rest in
+    let p = place d c us f.rest f.packets in
+    let m = length-append f.rest octets in
+    let k = length (stream d c) - length f.rest in
+    let x = met_before d (c ++ piece d octets) bs k in
+    let fresh : f.rest ≡ [] → now ≡ x
+    = λ z. let y = ap (λ (w : List ℕ). length w) z in i ∙ sym (met_now d c octets bs k (omega arith) (omega arith) e) in
+    let going : 0 < length f.rest → t.line.met ≡ x
+    = λ z. f.met n z ∙ sym (met_stays d c (piece d octets) bs k (omega arith)) in
+    ap (λ (w : List ℕ). met_in w now t.line.met) h.0 ∙ met_case f.rest now t.line.met x fresh going
+
+since_stays : (d : Direction) (c e : Capture) (others : List Sent) (s : Stage) (since : ℕ) →
+    length (stream d c) ≤ length (stream d (c ++ e)) → IsSince d c others s since → IsSince d (c ++ e) others s since
+since_stays d c e others opening since l h = tt
+since_stays d c e others asking since l h = tt
+since_stays d c e others between since l h = tt
+since_stays d c e others (refused at) since l h = tt
+since_stays d c e others (within first octets) since l h = let k = h.0 in (omega arith, h.1 ∙ sym (stays_passed d c e first others h.0))
+since_stays d c e others (stopped stop at) since l h = tt
+
+-- ---- no packet becomes complete
+
+abbrev pub with_front : Tapped → ℕ → List ℕ → Option TpktFault → ℕ → Handshake → Tapped
+with_front t n held fault since h =
+    record t { held = held; octets = offset_of (t.octets + n); fault = fault; line = record t.line { since = since; met = h } }
+
+pub octets_fed : (d : Direction) (c : Capture) (octets : List ℕ) (count : ℕ) → count ≡ offset_of (length (stream d c)) →
+    offset_of (count + length octets) ≡ offset_of (length (stream d (c ++ piece d octets)))
+octets_fed d c octets count e =
+    ap (λ (x : ℕ). offset_of (x + length octets)) e ∙ offset_on (length (stream d c)) (length octets) ∙
+    ap offset_of (sym (length_fed d c octets))
+
+same_place : (a b o r : ℕ) → a ≡ b + o → b - r ≡ a - (r + o)
+same_place a b o r e = omega arith
+
+pub front_follows : (d : Direction) (c : Capture) (octets : List ℕ) (t : Tapped) (us bs : List (List ℕ)) (mine others : List Sent)
+    (f : Follows d c t us bs mine others) (held : List ℕ) (fault : Option TpktFault) (since : ℕ)
+    (h : Handshake) → IsRest fault held (f.rest ++ octets)
+    → (fault ≡ None → 0 < length (f.rest ++ octets) →
+    since ≡ had_passed d (c ++ piece d octets) (length (stream d c) - length f.rest) others)
+    → (fault ≡ None → 0 < length (f.rest ++ octets) → h ≡ met_before d (c ++ piece d octets) bs (length (stream d c) - length f.rest))
+    → Follows d (c ++ piece d octets) (with_front t (length octets) held fault since h) us bs mine others
+front_follows d c octets t us bs mine others f held fault since h r k j =
+    let c2 = c ++ piece d octets in
+    let n = length_fed d c octets in
+    let m = length-append f.rest octets in
+    let longer : length (stream d c) ≤ length (stream d c2) = omega arith in
+    let there : length (stream d c) - length f.rest ≡ length (stream d c2) - length (f.rest ++ octets)
+    = same_place _ _ _ (length f.rest) n ∙ ap (λ (x : ℕ). length (stream d c2) - x) (sym m) in
+    let alike : MeetAlike (length (stream d c)) (met_before d c bs) (met_before d c2 bs) =
+    λ k l. sym (met_stays d c (piece d octets) bs k l) in
+    let same = stage_stays d c us f.rest f.packets (met_before d c bs) (met_before d c2 bs) alike in record {
+      rest = f.rest ++ octets;
+      packets = subst (λ (x : List ℕ). ArePackets us x (f.rest ++ octets)) (sym (stream_fed d c octets))
+          (packets_on us (stream d c) f.rest octets f.packets);
+      is_rest = r;
+      at = f.at ∙ ap offset_of there;
+      handshake = f.handshake;
+      met = λ e l. j e l ∙ ap (λ (x : ℕ). met_before d c2 bs x) there;
+      sent = f.sent ∙ sent_stays d c us f.rest f.packets (met_before d c bs) (met_before d c2 bs) alike;
+      stage = f.stage ∙ ap shown same;
+      hasty = f.hasty ∙ ap (option_map offset_of) (hasty_stays d c us f.rest f.packets (met_before d c bs) (met_before d c2 bs) alike);
+      since = λ e l. k e l ∙ ap (λ (x : ℕ). had_passed d c2 x others) there;
+      begun = subst (λ (x : Stage). IsSince d c2 others x t.line.begun_since) same
+          (since_stays d c (piece d octets) others (stage_from d (met_before d c bs) opening 0 us) t.line.begun_since longer f.begun);
+      octets = octets_fed d c octets t.octets f.octets;
+      counted = f.counted;
+      reference = f.reference;
+      place = f.place;
+      begins = begin_later (length (stream d c)) (length (stream d c2)) mine longer f.begins;
+      ends = end_later (length (stream d c)) (length (stream d c2)) mine longer f.ends;
+      begin = f.begin;
+      heard = f.heard;
+      watches = subst (λ (x : List Told). Watches t.side x) (sym (told_stays d c (piece d octets) mine others f.begins)) f.watches;
+    }
+
+-- ---- the other side
+
+stream_past : (d : Direction) (c : Capture) (octets : List ℕ) → stream d (c ++ piece (other d) octets) ≡ stream d c
+stream_past Left c octets = stream_beside Right c octets
+stream_past Right c octets = stream_beside Left c octets
+
+-- octets of the other side are no TSDU for a side
+pub beside_follows : (d : Direction) (c : Capture) (octets : List ℕ) (t : Tapped) (us bs : List (List ℕ)) (mine others : List Sent)
+    → Follows d c t us bs mine others
+    → Follows d (c ++ piece (other d) octets) t us bs mine others
+beside_follows d c octets t us bs mine others f =
+    let c2 = c ++ piece (other d) octets in
+    let e = stream_past d c octets in
+    let n = ap (λ (x : List ℕ). length x) e in
+    let longer : length (stream d c) ≤ length (stream d c2) = omega arith in
+    let there = ap (λ (x : ℕ). x - length f.rest) (sym n) in
+    let p = place d c us f.rest f.packets in
+    let alike : MeetAlike (length (stream d c)) (met_before d c bs) (met_before d c2 bs) =
+    λ k l. sym (met_stays d c (piece (other d) octets) bs k l) in
+    let same = stage_stays d c us f.rest f.packets (met_before d c bs) (met_before d c2 bs) alike in record {
+      rest = f.rest;
+      packets = subst (λ (x : List ℕ). ArePackets us x f.rest) (sym e) f.packets;
+      is_rest = f.is_rest;
+      at = f.at ∙ ap offset_of there;
+      handshake = f.handshake;
+      met = λ z l. f.met z l ∙ sym (met_stays d c (piece (other d) octets) bs (length (stream d c) - length f.rest) (omega arith))
+          ∙ ap (λ (x : ℕ). met_before d c2 bs x) there;
+      sent = f.sent ∙ sent_stays d c us f.rest f.packets (met_before d c bs) (met_before d c2 bs) alike;
+      stage = f.stage ∙ ap shown same;
+      hasty = f.hasty ∙ ap (option_map offset_of) (hasty_stays d c us f.rest f.packets (met_before d c bs) (met_before d c2 bs) alike);
+      since = λ z l. f.since z l ∙
+          sym (stays_passed d c (piece (other d) octets) (length (stream d c) - length f.rest) others (omega arith))
+          ∙ ap (λ (x : ℕ). had_passed d c2 x others) there;
+      begun = subst (λ (x : Stage). IsSince d c2 others x t.line.begun_since) same
+          (since_stays d c (piece (other d) octets) others (stage_from d (met_before d c bs) opening 0 us) t.line.begun_since longer
+          f.begun);
+      octets = f.octets ∙ ap offset_of (sym n);
+      counted = f.counted;
+      reference = f.reference;
+      place = f.place;
+      begins = begin_later (length (stream d c)) (length (stream d c2)) mine longer f.begins;
+      ends = end_later (length (stream d c)) (length (stream d c2)) mine longer f.ends;
+      begin = f.begin;
+      heard = f.heard;
+      watches = subst (λ (x : List Told). Watches t.side x) (sym (told_stays d c (piece (other d) octets) mine others f.begins)) f.watches;
+    }
+
+-- nor is a packet of it that ends after all that had passed
+pub passing_follows : (d : Direction) (c : Capture) (t : Tapped) (us bs : List (List ℕ)) (mine others : List Sent) (u : List ℕ)
+    → Follows d c t us bs mine others
+    → length (stream (other d) c) < packets_length bs + packet_length u → Follows d c t us (bs ++ u ∷ []) mine others
+passing_follows d c t us bs mine others u f l =
+    let more = bs ++ u ∷ [] in
+    let alike : MeetAlike (length (stream d c)) (met_before d c bs) (met_before d c more) = λ k n. sym (met_not_yet d c bs u k l) in
+    let same = stage_stays d c us f.rest f.packets (met_before d c bs) (met_before d c more) alike in record {
+      rest = f.rest;
+      packets = f.packets;
+      is_rest = f.is_rest;
+      at = f.at;
+      handshake = f.handshake;
+      met = λ z k. f.met z k ∙ sym (met_not_yet d c bs u (length (stream d c) - length f.rest) l);
+      sent = f.sent ∙ sent_stays d c us f.rest f.packets (met_before d c bs) (met_before d c more) alike;
+      stage = f.stage ∙ ap shown same;
+      hasty = f.hasty ∙ ap (option_map offset_of) (hasty_stays d c us f.rest f.packets (met_before d c bs) (met_before d c more) alike);
+      since = f.since;
+      begun = subst (λ (x : Stage). IsSince d c others x t.line.begun_since) same f.begun;
+      octets = f.octets;
+      counted = f.counted;
+      reference = f.reference;
+      place = f.place;
+      begins = f.begins;
+      ends = f.ends;
+      begin = f.begin;
+      heard = f.heard;
+      watches = f.watches;
+    }
+
+since_beside : (d : Direction) (c : Capture) (others : List Sent) (u : Sent) (s : Stage) (since : ℕ) →
+    length (stream (other d) c) < u.behind → IsSince d c others s since → IsSince d c (others ++ u ∷ []) s since
+since_beside d c others u opening since l h = tt
+since_beside d c others u asking since l h = tt
+since_beside d c others u between since l h = tt
+since_beside d c others u (refused at) since l h = tt
+since_beside d c others u (within first octets) since l h = (h.0, h.1 ∙ sym (not_yet_passed d c first others u l))
+since_beside d c others u (stopped stop at) since l h = tt
+
+-- one more TSDU, which ends after all that had passed, reaches it
+pub hearing_follows : (d : Direction) (c : Capture) (t : Tapped) (us bs : List (List ℕ)) (mine others : List Sent) (u : Sent)
+    → Follows d c t us bs mine others → length (stream (other d) c) < u.behind
+    → Follows d c (record t { side = hears t.side u.octets }) us bs mine (others ++ u ∷ [])
+hearing_follows d c t us bs mine others u f l = record {
+  rest = f.rest;
+  packets = f.packets;
+  is_rest = f.is_rest;
+  at = f.at;
+  handshake = f.handshake;
+  met = f.met;
+  sent = f.sent;
+  stage = f.stage;
+  hasty = f.hasty;
+  since = λ z k. f.since z k ∙ sym (not_yet_passed d c (length (stream d c) - length f.rest) others u l);
+  begun = since_beside d c others u (stage_from d (met_before d c bs) opening 0 us) t.line.begun_since l f.begun;
+  octets = f.octets;
+  counted = f.counted;
+  reference = f.reference;
+  place = f.place;
+  begins = f.begins;
+  ends = f.ends;
+  begin = f.begin;
+  heard = ap (λ (x : List (List ℕ)). x ++ outline u.octets ∷ []) f.heard ∙ sym (map-append outline (heard others) (u.octets ∷ []))
+      ∙ ap outlines (sym (map-append octets_of others (u ∷ [])));
+  watches = subst (λ (x : List Told). Watches (hears t.side u.octets) x) (sym (told_beside d c mine others u l))
+      (side.hears t.side (outline u.octets) (told d c mine others) f.watches);
+}
