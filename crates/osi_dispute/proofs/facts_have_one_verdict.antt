@@ -1,6 +1,5 @@
--- Two verdicts on one capture are one, if they tell the same side as the first: for the laws.
-use Rattle.std.proofs.Common.{◌≡◌, ◌∙◌, refl, sym, ap, subst, ℕ, ◌-◌, Bool, true, false, is_some, ◌||◌, List, length, Option, Some, None}
-use Rattle.std.proofs.Common.{option_map}
+-- Two verdicts on one capture are one: for the laws.
+use Rattle.std.proofs.Common.{◌≡◌, ◌∙◌, refl, sym, ap, subst, ℕ, ◌-◌, Bool, true, false, List, length, Option, Some, None, option_map}
 use Rattle.osi_tpkt.specs.Stream.{Ending, offset_of}
 use Rattle.osi_tpkt.proofs.a_stream_is_cut_in_one_way.{one_cut}
 use Rattle.osi_judge.specs.declared.directions.Direction.{Direction}
@@ -13,14 +12,13 @@ use Rattle.osi_judge.specs.declared.rules.Break.{Break}
 use Rattle.osi_judge.specs.declared.standings.Stands.{Stands}
 use Rattle.osi_judge.specs.declared.stops.Stopped.{Stopped}
 use Rattle.osi_judge.specs.Captures.{Capture, other, stream}
-use Rattle.osi_judge.specs.Stops.{breaks, broke_session}
-use Rattle.osi_judge.specs.Transport.{met_before, opening, reference_in, Sent, packets_length, last_packet, stage_from, hasty_from, IsSent}
-use Rattle.osi_judge.specs.Tapping.{IsFoundIn, IsReadIn, IsReferenceIn, IsStoppedIn, IsPlaceIn, IsCountIn, stop_in, or_hasty, heard}
-use Rattle.osi_dispute.specs.declared.verdicts.Told.{Told}
+use Rattle.osi_judge.specs.Stops.{broke_session}
+use Rattle.osi_judge.specs.Transport.{met_before, opening, reference_in, Sent, packets_length, last_packet, stage_from, hasty_from}
+use Rattle.osi_judge.specs.Tapping.{IsReadIn, IsReferenceIn, IsStoppedIn, IsPlaceIn, IsCountIn, IsFirstIn, stop_in, or_hasty, heard}
 use Rattle.osi_dispute.specs.declared.verdicts.Told.TheVariants as told
 use Rattle.osi_dispute.specs.declared.verdicts.Verdict.{Verdict}
-use Rattle.osi_dispute.specs.Facts.{Determined, is_broken, IsFirstOf, Facts, AreFacts, told_by, told_of, is_refused, is_unanswered}
-use Rattle.osi_dispute.specs.Facts.{connection_by, left_first, outcome_by, verdict_by, IsToldBy, StandsIn}
+use Rattle.osi_dispute.specs.Facts.{Determined, IsDetermined, Facts, AreFacts, told_by, told_of, is_refused, is_unanswered}
+use Rattle.osi_dispute.specs.Facts.{connection_by, left_first, outcome_by, verdict_by, StandsIn}
 use Rattle.osi_judge.specs.Foremost.{foremost}
 use Rattle.osi_judge.specs.KeptIn.{IsRuledIn, IsKeptStanding}
 use Rattle.osi_judge.proofs.told.a_side_strays_at_one_place.{one_judged, one_list}
@@ -29,7 +27,6 @@ use Rattle.osi_judge.proofs.told.a_session_stands_in_one_way.{one_stands}
 use Rattle.osi_dispute.specs.declared.verdicts.Connection.TheVariants.{Session}
 use Rattle.osi_dispute.specs.Disputes.{IsJudgement}
 use Rattle.osi_dispute.specs.Texts.{verdict_text, verdict_status}
-use Rattle.osi_dispute.specs.Laws.{SameFirst}
 use Rattle.osi_dispute.proofs.a_capture_has_one_finding.{HasOneList}
 use Rattle.osi_dispute.proofs.a_rule_tells_a_break_from_leaving.{HasOnePlace, one_rule, same_found}
 use Rattle.osi_dispute.proofs.a_text_is_one_capture.{one_text}
@@ -141,26 +138,6 @@ one_connection one d c false (Some r) false true unanswered f n o s t b h k = re
 one_connection one d c false (Some r) false false true f n o s t b h k = refl
 one_connection one d c false (Some r) false false false f n o s t b h k = one_session one d c r f n o s t b h k
 
--- ---- the side that is told as the first
-
-same_broken : (f g : Facts) → Same f g → is_broken f ≡ is_broken g
-same_broken f g h = let a = h.found in let b = h.stopped in λ i. broke_session (a i) || breaks (b i)
-
-not_both : (b : Bool) → b ≡ true → b ≡ false → ⊥
-not_both b h k = cc
-
-one_first : (first second : Option Direction) (l r m s : Facts) → IsFirstOf first l r → IsFirstOf second m s → is_broken l ≡ is_broken m
-    → is_broken r ≡ is_broken s → (is_broken l ≡ true → is_broken r ≡ true → first ≡ second) → first ≡ second
-one_first None None l r m s h k a b g = refl
-one_first (Some side.Left) (Some side.Left) l r m s h k a b g = refl
-one_first (Some side.Right) (Some side.Right) l r m s h k a b g = refl
-one_first None (Some side.Left) l r m s h k a b g = absurd (not_both (is_broken m) k (sym a ∙ h.0))
-one_first None (Some side.Right) l r m s h k a b g = absurd (not_both (is_broken s) k (sym b ∙ h.1))
-one_first (Some side.Left) None l r m s h k a b g = absurd (not_both (is_broken l) h (a ∙ k.0))
-one_first (Some side.Right) None l r m s h k a b g = absurd (not_both (is_broken r) h (b ∙ k.1))
-one_first (Some side.Left) (Some side.Right) l r m s h k a b g = g h (b ∙ k)
-one_first (Some side.Right) (Some side.Left) l r m s h k a b g = g (a ∙ k) h
-
 -- ---- of both sides
 
 -- the facts with the session of others
@@ -216,15 +193,17 @@ stands_same one c first m s x y h k p q =
       outcome = outcome_by first m.found s.found m.stopped s.stopped;
     }
 
-pub one_verdict : HasOneList → HasOnePlace → (c : Capture) (v w : Verdict) (a : Determined c v) (b : Determined c w)
-    → SameFirst a.first b.first a.left a.right → v ≡ w
-one_verdict one place c v w a b e =
+-- a capture has one first break
+abbrev pub HasOneFirst : Type 0
+HasOneFirst = (capture : Capture) (first second : Option Direction) → IsFirstIn capture first → IsFirstIn capture second → first ≡ second
+
+one_determined : HasOneList → HasOnePlace → HasOneFirst → (c : Capture) (v w : Verdict) → Determined c v → Determined c w → v ≡ w
+one_determined one place only c v w a b =
     let h = a.told in
     let k = b.told in
     let l = alike one place side.Left c a.left b.left h.of_left k.of_left in
     let r = alike one place side.Right c a.right b.right h.of_right k.of_right in
-    let first = one_first a.first b.first a.left a.right b.left b.right h.first_of k.first_of (same_broken a.left b.left l)
-    (same_broken a.right b.right r) e in
+    let first = only c a.first b.first h.is_first k.is_first in
     let one_side = h.tells ∙ verdicts_same a.first a.left a.right b.left b.right l r
     ∙ ap (λ (x : Option Direction). verdict_by x (standing_by b.left a.left.stands) (standing_by b.right a.right.stands)) first in
     one_side ∙ stands_same one c b.first b.left b.right a.left.stands a.right.stands
@@ -234,26 +213,19 @@ one_verdict one place c v w a b e =
     (subst (λ (x : Verdict). StandsIn side.Right c x.right.connection) k.tells b.right_stands)
     ∙ sym k.tells
 
+pub one_verdict : HasOneList → HasOnePlace → HasOneFirst → (c : Capture) (v w : Verdict) → IsDetermined c v → IsDetermined c w → v ≡ w
+unfolding IsDetermined
+one_verdict one place only c v w a b = one_determined one place only c v w a b
+
 -- ---- of a text
 
--- the same facts of a capture that is the same
-abbrev determined_in : (v : Verdict) (c e : Capture) → c ≡ e → Determined c v → Determined e v
-determined_in v c e p a = record {
-  first = a.first;
-  left = a.left;
-  right = a.right;
-  told = subst (λ (x : Capture). IsToldBy x v a.first a.left a.right) p a.told;
-  left_stands = subst (λ (x : Capture). StandsIn side.Left x v.left.connection) p a.left_stands;
-  right_stands = subst (λ (x : Capture). StandsIn side.Right x v.right.connection) p a.right_stands;
-}
-
-pub one_judgement : HasOneList → HasOnePlace → (text lines others : List ℕ) (status other : ℕ) (one : IsJudgement text lines status)
-    (two : IsJudgement text others other) (a : Determined one.capture one.judged.verdict) (b : Determined two.capture two.judged.verdict)
-    → SameFirst a.first b.first a.left a.right → (lines ≡ others) × (status ≡ other)
-one_judgement has place text lines others status other one two a b same =
+pub one_judgement : HasOneList → HasOnePlace → HasOneFirst → (text lines others : List ℕ) (status other : ℕ)
+    → IsJudgement text lines status → IsJudgement text others other → (lines ≡ others) × (status ≡ other)
+one_judgement has place only text lines others status other one two =
     let v = one.judged.verdict in
     let w = two.judged.verdict in
     let capture = one_text text one.capture two.capture one.reads two.reads in
-    let e = one_verdict has place two.capture v w (determined_in v one.capture two.capture capture a) b same in
+    let e = one_verdict has place only two.capture v w (subst (λ (x : Capture). IsDetermined x v) capture one.judged.judged.determined)
+    two.judged.judged.determined in
     let answered = ap (λ (x : Verdict). verdict_status x.outcome) e in
     (one.judged.told ∙ ap verdict_text e ∙ sym two.judged.told, one.judged.answered ∙ answered ∙ sym two.judged.answered)

@@ -7,12 +7,14 @@ ghost use Rattle.osi_judge.specs.Captures.{Capture};
 ghost use Rattle.osi_judge.specs.Tapping.{IsFoundIn};
 ghost use Rattle.osi_dispute.specs.declared.verdicts.Verdict.{Verdict};
 ghost use Rattle.osi_dispute.specs.Disputes.{IsJudgement};
-ghost use Rattle.osi_dispute.specs.Facts.{Determined, IsDetermined};
-ghost use Rattle.osi_dispute.specs.Laws.{IsDecided, SameFirst};
+ghost use Rattle.osi_dispute.specs.Facts.{IsDetermined};
+ghost use Rattle.osi_dispute.specs.Laws.{IsDecided};
 ghost use Rattle.osi_dispute.specs.Rows.{IsCaptureOf};
 ghost use Rattle.osi_dispute.specs.Texts.{outcome_line};
 
-use osi_judge::laws::{a_capture_has_one_reading, a_side_is_found_in_one_way};
+use osi_judge::laws::{
+    a_capture_has_one_first_break, a_capture_has_one_reading, a_side_is_found_in_one_way,
+};
 
 /// A text is one capture, and one thing is found of each side of a capture: that it kept the protocol, or broke it
 /// with one of its TSDUs.
@@ -24,18 +26,15 @@ pub fn a_text_has_one_finding()
     a_capture_has_one_reading();
 }
 
-/// A capture has one verdict, and a text one judgement, but for one thing: if both sides broke the protocol, the
-/// definitions leave open which was first. Judgements that tell the same side as the first have the same lines and the same status.
+/// A capture has one verdict, and a text one judgement: the lines and the status are a function of the text.
 pub fn a_text_has_one_judgement()
-    ensures verdict { (capture : Capture) (v w : Verdict) (a : Determined capture v) (b : Determined capture w)
-        → SameFirst a.first b.first a.left a.right → v ≡ w }
-    ensures text { (text lines others : List ℕ) (status other : ℕ)
-        (one : IsJudgement text lines status) (two : IsJudgement text others other)
-        (a : Determined one.capture one.judged.verdict) (b : Determined two.capture two.judged.verdict)
-        → SameFirst a.first b.first a.left a.right → (lines ≡ others) × (status ≡ other) }
+    ensures verdict { (capture : Capture) (v w : Verdict) → IsDetermined capture v → IsDetermined capture w → v ≡ w }
+    ensures text { (text lines others : List ℕ) (status other : ℕ) → IsJudgement text lines status → IsJudgement text others other
+        → (lines ≡ others) × (status ≡ other) }
 {
     a_capture_has_one_reading();
     a_side_is_found_in_one_way();
+    a_capture_has_one_first_break();
 }
 
 /// A verdict says who is to blame, that both sides kept the protocol, or why it isn't judged: its last line is never

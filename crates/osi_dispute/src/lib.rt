@@ -18,9 +18,9 @@
 //! read, its [`Connection`], and where its transport was stopped), and the [`Outcome`]. [`push_verdict`] writes
 //! a verdict as lines, and [`status_of`] says which status the program ends with.
 //!
-//! A verdict is a function of facts of the capture (`specs/Facts`), but for what the definitions leave open,
-//! such as the rule of a break (`laws::a_text_has_one_judgement`). Numbers, offsets and names are those of the
-//! listing of that side (`osi_listing`) and of transcripts (`osi_script`).
+//! A verdict is a function of facts of the capture (`specs/Facts`), so a capture has one verdict
+//! (`laws::a_text_has_one_judgement`). Numbers, offsets and names are those of the listing of that side
+//! (`osi_listing`) and of transcripts (`osi_script`).
 //!
 //! It leaves the judgement to `osi_judge`, and standard input and output to the program.
 #![tactic(auto)]
