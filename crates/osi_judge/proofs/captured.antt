@@ -5,6 +5,7 @@ pub mod one_more_packet_passes
 pub mod how_far_the_other_side_had_come
 pub mod what_is_told_beside_is_of_the_capture
 pub mod what_a_line_keeps
+pub mod a_stream_that_goes_on_keeps_its_packets
 pub mod what_is_known_stays_known_within_a_packet
 pub mod what_is_known_stays_known_as_a_packet_ends
 pub mod what_is_known_of_both_sides_stays_known
@@ -13,7 +14,6 @@ pub mod whether_the_sessions_became_too_many
 pub mod what_is_known_of_a_side_is_of_the_capture
 pub mod what_was_broken_stays_broken
 pub mod which_side_broke_the_protocol_first
-pub mod a_stream_that_goes_on_keeps_its_packets
 pub mod a_capture_that_goes_on_is_read_alike
 pub mod what_is_found_stays_as_more_passes
 pub mod a_capture_has_one_first_break

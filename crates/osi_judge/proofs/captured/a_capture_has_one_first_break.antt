@@ -67,18 +67,17 @@ broken_at hasty s ending = breaks (or_hasty (option_map offset_of hasty) (stop_i
 
 -- if octets begin no packet, none follows
 abbrev Closes : Ending → List (List ℕ) → Ending → Type 0
-Closes (Faulty f) us last = (us ≡ []) × ((g : TpktFault) × (last ≡ Faulty g))
+Closes (Faulty f) us last = (us ≡ []) × (last ≡ Faulty f)
 Closes (Rest n) us last = Unit {0}
 
 module _ (d : Direction) (met : ℕ → Handshake) (at : ℕ) (us : List (List ℕ)) (last : Ending) where
   abbrev broken_later : Option ℕ → Stage → Bool
   broken_later hasty s = broken_at (hasty_from d met s hasty at us) (stage_from d met s at us) last
 
-  closed : (s : Stage) (f : TpktFault) → ((g : TpktFault) → broken_at None s (Faulty g) ≡ true) → Closes (Faulty f) us last
-      → broken_later None s ≡ true
-  closed s f h (none, (g, e)) =
+  closed : (s : Stage) (f : TpktFault) → broken_at None s (Faulty f) ≡ true → Closes (Faulty f) us last → broken_later None s ≡ true
+  closed s f h (none, e) =
       ap (λ (x : List (List ℕ)). broken_at (hasty_from d met s None at x) (stage_from d met s at x) last) none
-      ∙ ap (broken_at None s) e ∙ h g
+      ∙ ap (broken_at None s) e ∙ h
 
   stays_broken : (hasty : Option ℕ) (s : Stage) (ending : Ending) → broken_at hasty s ending ≡ true → Closes ending us last
       → broken_later hasty s ≡ true
@@ -92,10 +91,10 @@ module _ (d : Direction) (met : ℕ → Handshake) (at : ℕ) (us : List (List �
   stays_broken None asking (Rest n) b h = absurd (cc)
   stays_broken None between (Rest n) b h = absurd (cc)
   stays_broken None (within first octets) (Rest n) b h = absurd (cc)
-  stays_broken None opening (Faulty f) b h = closed opening f (λ g. refl) h
-  stays_broken None asking (Faulty f) b h = closed asking f (λ g. refl) h
-  stays_broken None between (Faulty f) b h = closed between f (λ g. refl) h
-  stays_broken None (within first octets) (Faulty f) b h = closed (within first octets) f (λ g. refl) h
+  stays_broken None opening (Faulty f) b h = closed opening f b h
+  stays_broken None asking (Faulty f) b h = closed asking f b h
+  stays_broken None between (Faulty f) b h = closed between f b h
+  stays_broken None (within first octets) (Faulty f) b h = closed (within first octets) f b h
 
 none_follow : (us vs more : List (List ℕ)) → us ≡ vs → vs ≡ us ++ more → more ≡ []
 none_follow us vs more e f = sym (append_cancel_left us [] more (append-nil us ∙ e ∙ f))
@@ -104,7 +103,7 @@ closes : (d : Direction) (c e : Capture) (us vs more : List (List ℕ)) (ending 
     → Cuts (stream d (c ++ e)) vs last → vs ≡ us ++ more → Closes ending more last
 closes d c e us vs more (Rest n) last h k f = tt
 closes d c e us vs more (Faulty t) last h k f =
-    let s = fault_stays d c e us vs t last h k in (none_follow us vs more s.same f, (s.fault, s.stays))
+    let s = fault_stays d c e us vs t last h k in (none_follow us vs more s.0 f, sym s.1)
 
 transport_stays : (d : Direction) (c e : Capture) (s t : Option Stopped) → breaks s ≡ true → IsStoppedIn d c s → IsStoppedIn d (c ++ e) t
     → breaks t ≡ true

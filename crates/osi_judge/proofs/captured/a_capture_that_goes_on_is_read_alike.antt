@@ -1,6 +1,6 @@
 -- The TSDUs of a side of a capture are the first of those of a capture that goes on, and as many had passed before each of them.
 -- For the law that a capture has one first break.
-use Rattle.std.proofs.Common.{◌≡◌, ◌∙◌, refl, sym, ap, subst, ℕ, ◌+◌, ◌-◌, ◌<◌, ◌≤◌, inl, inr, Bool, true, false, cond, leb, suc, List}
+use Rattle.std.proofs.Common.{◌≡◌, ◌∙◌, refl, sym, ap, subst, ℕ, ◌+◌, ◌-◌, ◌<◌, ◌≤◌, inl, inr, Bool, true, false, cond, leb, List}
 use Rattle.std.proofs.Common.{[], ◌∷◌, ◌++◌, length, arith}
 use Rattle.std.proofs.Common.{Option}
 use Rattle.std.specs.List.{filter}
@@ -22,6 +22,7 @@ use Rattle.osi_judge.proofs.captured.how_far_the_other_side_had_come.{complete_b
 use Rattle.osi_judge.proofs.captured.how_far_the_other_side_had_come.{MeetAlike, sent_stays}
 use Rattle.osi_judge.proofs.captured.how_many_tsdus_had_passed.{has_ended, told_stays}
 use Rattle.osi_judge.proofs.captured.one_more_packet_passes.{offset_from, offset_of_rest, OneOrNone, sent_one, since_behind}
+use Rattle.osi_judge.proofs.captured.what_is_known_stays_known_within_a_packet.{length_heard}
 use Rattle.osi_judge.proofs.captured.what_is_told_beside_is_of_the_capture.{offset_sum}
 
 -- ---- how far the other side had come
@@ -192,10 +193,6 @@ filter_fewer n (t ∷ others) = fewer (leb t.behind n) (filter_fewer n others)
         → length (cond b (t ∷ filter (has_ended n) others) (filter (has_ended n) others)) ≤ length (t ∷ others)
     fewer true l = omega (arith, l)
     fewer false l = omega (arith, l)
-
-length_heard : (others : List Sent) → length (heard others) ≡ length others
-length_heard [] = refl
-length_heard (t ∷ others) = ap (λ (n : ℕ). suc n) (length_heard others)
 
 told_before : (d : Direction) (c : Capture) (mine others : List Sent) → AreBefore (length (heard others)) (told d c mine others)
 told_before d c [] others = tt

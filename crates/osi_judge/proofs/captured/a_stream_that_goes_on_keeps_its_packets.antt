@@ -86,29 +86,27 @@ cut_on d c e us vs (ending, (r, h, end)) (last, (q, k, close)) = record {
 
 -- ---- a fault stays
 
-fault_on : (at to : ℕ) (r more : List ℕ) (f : TpktFault) → IsFaultOf at r f → (g : TpktFault) × IsFaultOf to (r ++ more) g
-fault_on at to r more (BadVersion o) ((some, bad), e) =
+-- if octets begin no packet, more octets make no packet of them
+pub faulty_on : (at : ℕ) (r more : List ℕ) (f : TpktFault) → IsFaultOf at r f → IsFaultOf at (r ++ more) f
+faulty_on at r more (BadVersion o) ((some, bad), e) =
     let n = length-append r more in
-    (BadVersion to, ((omega (arith, some, n), λ h. bad (sym (get_or_append_left r more 0 0 some) ∙ h)), refl))
-fault_on at to r more (BadLength o) ((long, version, low), e) =
+    ((omega (arith, some, n), λ h. bad (sym (get_or_append_left r more 0 0 some) ∙ h)), e)
+faulty_on at r more (BadLength o) ((long, version, low), e) =
     let n = length-append r more in
     let stated = stated_length-append r more long in
     let kept = get_or_append_left r more 0 0 (omega (arith, long)) in
-    (BadLength to, ((omega (arith, long, n), kept ∙ version, omega (arith, stated, low)), refl))
-fault_on at to r more OutOfMemory h = absurd h
+    ((omega (arith, long, n), kept ∙ version, omega (arith, stated, low)), e)
+faulty_on at r more OutOfMemory h = absurd h
 
--- a stream that ended with a fault has no further packets
-pub record FaultStays (us vs : List (List ℕ)) (last : Ending) : Type 0 where
-  pub fault : TpktFault
-  pub same : us ≡ vs
-  pub stays : last ≡ Faulty fault
-
+-- a stream that ended with a fault has no further packets, and ends with it
 pub fault_stays : (d : Direction) (c e : Capture) (us vs : List (List ℕ)) (f : TpktFault) (last : Ending) → Cuts (stream d c) us (Faulty f)
-    → Cuts (stream d (c ++ e)) vs last → FaultStays us vs last
+    → Cuts (stream d (c ++ e)) vs last → (us ≡ vs) × (Faulty f ≡ last)
 fault_stays d c e us vs f last (r, h, end) k =
     let s = stream d c ++ stream d e in
     let rest = r ++ stream d e in
-    let g = fault_on _ (offset_of (0 + (length s - length rest))) r (stream d e) f end in
-    let cut : Cuts s us (Faulty g.0) = (rest, packets_on us (stream d c) r (stream d e) h, g.1) in
-    let one = one_cut s us vs (Faulty g.0) last cut (subst (λ (x : List ℕ). Cuts x vs last) (stream_more d c e) k) in
-    record { fault = g.0; same = one.0; stays = sym one.1 }
+    let n = length-append (stream d c) (stream d e) in
+    let m = length-append r (stream d e) in
+    let place : 0 + (length (stream d c) - length r) ≡ 0 + (length s - length rest) = omega (arith, n, m) in
+    let fault = subst (λ (x : ℕ). IsFaultOf (offset_of x) rest f) place (faulty_on _ r (stream d e) f end) in
+    let cut : Cuts s us (Faulty f) = (rest, packets_on us (stream d c) r (stream d e) h, fault) in
+    one_cut s us vs (Faulty f) last cut (subst (λ (x : List ℕ). Cuts x vs last) (stream_more d c e) k)

@@ -1,25 +1,21 @@
 -- What is known of both sides of a capture stays known as octets of either pass: for what a judge is fed.
 -- Octets go on with a packet, begin none, or end one.
 use Rattle.std.proofs.Common.{◌≡◌, ◌∙◌, refl, sym, ap, subst, ℕ, ◌+◌, ◌-◌, ◌<◌, ◌≤◌}
-use Rattle.std.proofs.Common.{List, [], ◌∷◌, ◌++◌, length, take, Option, Some, None}
-use Rattle.std.proofs.Common.{arith}
-use Rattle.osi_tpkt.specs.Packet.{IsPacket, IsPartial, IsBadVersion, IsBadLength, IsFaultOf}
+use Rattle.std.proofs.Common.{List, [], ◌∷◌, ◌++◌, length, take, Option, Some, None, arith}
+use Rattle.osi_tpkt.specs.Packet.{IsPacket, IsPartial, IsFaultOf}
 use Rattle.osi_tpkt.specs.declared.faults.TpktFault.{TpktFault}
-use Rattle.osi_tpkt.specs.declared.faults.TpktFault.TheVariants.{BadVersion, BadLength, OutOfMemory}
 use Rattle.osi_judge.specs.declared.directions.Direction.{Direction}
 use Rattle.osi_judge.specs.declared.directions.Direction.TheVariants.{Left, Right}
 use Rattle.osi_judge.specs.Captures.{Capture, other, piece, stream}
 use Rattle.osi_judge.specs.Judging.{Watched}
-use Rattle.osi_judge.specs.Transport.{Handshake, packet_length, met_before}
-use Rattle.osi_judge.specs.Transport.{Sent}
-use Rattle.osi_judge.specs.Transport.{packets_length, sent_by}
+use Rattle.osi_judge.specs.Transport.{Handshake, packet_length, met_before, Sent, packets_length, sent_by}
 use Rattle.osi_judge.specs.Tapping.{had_passed}
 use Rattle.osi_judge.specs.Feeding.{Tapped, since_at, with_count}
 use Rattle.osi_judge.specs.Feeding.{Settles, goes_on, faulty, whole, since_of, met_of}
 use Rattle.osi_judge.specs.Feeding.{IsWithin, with_octets, Feeds, ignored, looked_at}
 use Rattle.osi_judge.specs.Following.{IsRest, EndBy, Follows, Judged, Taps}
-use Rattle.osi_judge.proofs.captured.one_more_packet_passes.{offset_from}
-use Rattle.osi_judge.proofs.captured.one_more_packet_passes.{sent_one}
+use Rattle.osi_judge.proofs.captured.a_stream_that_goes_on_keeps_its_packets.{faulty_on}
+use Rattle.osi_judge.proofs.captured.one_more_packet_passes.{offset_from, sent_one}
 use Rattle.osi_judge.proofs.captured.what_is_told_beside_is_of_the_capture.{offset_sum}
 use Rattle.osi_judge.proofs.captured.what_is_known_stays_known_within_a_packet.{place, length_fed, held_rest, since_known, met_known}
 use Rattle.osi_judge.proofs.captured.what_is_known_stays_known_within_a_packet.{with_front, front_follows, beside_follows, passing_follows}
@@ -82,23 +78,6 @@ front_fed d e o c octets t u new new_o us bs mine others f g held fault since h 
   of_other = subst (λ (x : Watched). Follows e (c ++ piece d octets) (record u { side = x }) bs us others mine) (sym w)
       (beside d e o c octets u us bs mine others g);
 }
-
--- if octets begin no packet, more octets make no packet of them
-version_on : (r more : List ℕ) → IsBadVersion r → IsBadVersion (r ++ more)
-version_on [] more h = let k = h.0 in absurd (omega arith)
-version_on (x ∷ r) more h = (omega arith, h.1)
-
-length_on : (r more : List ℕ) → IsBadLength r → IsBadLength (r ++ more)
-length_on [] more h = let k = h.0 in absurd (omega arith)
-length_on (a ∷ []) more h = let k = h.0 in absurd (omega arith)
-length_on (a ∷ b ∷ []) more h = let k = h.0 in absurd (omega arith)
-length_on (a ∷ b ∷ x ∷ []) more h = let k = h.0 in absurd (omega arith)
-length_on (a ∷ b ∷ x ∷ y ∷ r) more h = (omega arith, h.1, h.2)
-
-faulty_on : (r more : List ℕ) (f : TpktFault) → IsFaultOf 0 r f → IsFaultOf 0 (r ++ more) f
-faulty_on r more (BadVersion o) h = (version_on r more h.0, h.1)
-faulty_on r more (BadLength o) h = (length_on r more h.0, h.1)
-faulty_on r more OutOfMemory h = absurd h
 
 settled : (d e : Direction) → AreOthers d e
     → (c : Capture) (octets : List ℕ) (t u new : Tapped) (new_o : Watched) (us bs : List (List ℕ)) (mine others : List Sent)
@@ -169,7 +148,7 @@ fed d e o c octets t u new new_o us bs mine others f g (ignored x n i j) =
     let r = subst (λ (y : Option TpktFault). IsRest y t.held f.rest) n f.is_rest in
     front_fed d e o c octets t u new new_o us bs mine others f g t.held (Some x) t.line.since t.line.met
     (i ∙ with_same t (length octets) x n) j
-    (faulty_on f.rest octets x r) (λ z l. absurd (cc)) (λ z l. absurd (cc))
+    (faulty_on 0 f.rest octets x r) (λ z l. absurd (cc)) (λ z l. absurd (cc))
 fed d e o c octets t u new new_o us bs mine others f g (looked_at n w s) = settled d e o c octets t u new new_o us bs mine others f g n w s
 
 pub fed_left : (c : Capture) (octets : List ℕ) (j : Judged) (new : Tapped) (new_o : Watched)

@@ -53,7 +53,7 @@ since_case : (rest : List ℕ) (n since x : ℕ) → (rest ≡ [] → n ≡ x) �
 since_case [] n since x a b = a refl
 since_case (o ∷ rest) n since x a b = b (omega arith)
 
-length_heard : (others : List Sent) → length (heard others) ≡ length others
+pub length_heard : (others : List Sent) → length (heard others) ≡ length others
 length_heard [] = refl
 length_heard (t ∷ others) = ap (λ (n : ℕ). suc n) (length_heard others)
 
