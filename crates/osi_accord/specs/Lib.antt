@@ -1,0 +1,4 @@
+pub mod Pairs
+pub mod Accords
+pub mod Taps
+pub mod Liberties

@@ -1,0 +1,50 @@
+//! Laws of two sides of a capture. Each function does nothing: its clauses are the laws.
+
+ghost use Rattle.std.specs.Prelude.{◌≡◌, ℕ, true, List, length, map};
+ghost use Rattle.osi_message.specs.Meanings.{Meaning};
+ghost use Rattle.osi_message.specs.Words.{says};
+ghost use Rattle.osi_message.specs.Written.{written};
+ghost use Rattle.osi_session.specs.Standing.{CanSay, Seen, is_in_size};
+ghost use Rattle.osi_judge.specs.declared.directions.Direction.{Direction};
+ghost use Rattle.osi_judge.specs.declared.findings.Finding.{Finding};
+ghost use Rattle.osi_judge.specs.Captures.{Capture};
+ghost use Rattle.osi_judge.specs.Explaining.{IsExplained};
+ghost use Rattle.osi_judge.specs.Tapping.{IsFoundIn};
+ghost use Rattle.osi_accord.specs.Accords.{Accords, AreInOrder, Turn, sending_of, told_by, tsdus_by};
+ghost use Rattle.osi_accord.specs.Liberties.{IsCall, as_called, is_called};
+ghost use Rattle.osi_accord.specs.Pairs.{pair_of};
+ghost use Rattle.osi_accord.specs.Taps.{IsAccord, Passage};
+
+use osi_judge::laws::a_capture_has_one_reading;
+
+/// Two sides are each explained apart from the other, by what had passed of the other before each TSDU. Then there is one run
+/// of both: they send these TSDUs in this order, and each takes a TSDU only after the other has sent it.
+pub fn two_explained_sides_are_a_pair()
+    ensures { (left right : Seen) (turns : List Turn) → AreInOrder 0 0 turns →
+        IsExplained left (tsdus_by Direction.Right turns) (told_by Direction.Left turns) →
+        IsExplained right (tsdus_by Direction.Left turns) (told_by Direction.Right turns) →
+        Accords (map sending_of turns) (pair_of left right) }
+{}
+
+/// Of both sides of a capture the judge finds that they kept the protocol. Then there are two sessions, a caller and a called
+/// one, that send all whole TSDUs of this capture in the order in which their first octets passed, and each takes what the
+/// other has sent.
+pub fn two_kept_sides_are_a_pair()
+    ensures { (capture : Capture) → IsFoundIn Direction.Left capture Finding.Kept → IsFoundIn Direction.Right capture Finding.Kept →
+        (passages : List Passage) × IsAccord capture passages }
+{
+    a_capture_has_one_reading();
+}
+
+/// What a side may send after so much is what an allowed call of a session of this product sends from there, and leaves the
+/// side as that call does. There are these liberties ([`as_called`], [`is_called`]): a CN and an AC; a GT or a PT that names no
+/// token; with duplex, an FN of the called side; any reason in an RF; settings of tokens that are not available in an RS or an
+/// RA; and any bits of a provider in an AB. And a TSDU that is written shorter than this product writes it may be within a size
+/// within which the product's is not.
+///
+/// [`as_called`]: ../specs/Liberties.antt
+/// [`is_called`]: ../specs/Liberties.antt
+pub fn what_may_be_said_is_called()
+    ensures { (s next : Seen) (m : Meaning) (octets : ℕ) → CanSay s (says m) octets next → is_called s.state m ≡ true →
+        is_in_size s.state (length (written (as_called s.state m))) ≡ true → IsCall s (as_called s.state m) next }
+{}
