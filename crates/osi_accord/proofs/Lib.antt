@@ -9,3 +9,4 @@ pub mod tsdus_of_both_sides_in_order
 pub mod what_had_passed_stands_before
 -- What a side may send is what a call sends, but for liberties.
 pub mod what_may_be_said_is_called
+pub mod a_run_without_liberties_is_one_of_the_machine

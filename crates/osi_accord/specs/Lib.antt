@@ -2,3 +2,4 @@ pub mod Pairs
 pub mod Accords
 pub mod Taps
 pub mod Liberties
+pub mod Machines

@@ -1,10 +1,13 @@
 //! Laws of two sides of a capture. Each function does nothing: its clauses are the laws.
 
 ghost use Rattle.std.specs.Prelude.{◌≡◌, ℕ, true, List, length, map};
+ghost use Rattle.std.specs.List.{AllByRecursion};
 ghost use Rattle.osi_message.specs.Meanings.{Meaning};
+ghost use Rattle.osi_message.specs.Sendable.{IsSendable};
 ghost use Rattle.osi_message.specs.Words.{says};
 ghost use Rattle.osi_message.specs.Written.{written};
 ghost use Rattle.osi_session.specs.Standing.{CanSay, Seen, is_in_size};
+ghost use Rattle.osi_machine.specs.Core.{Offer, core_start, offer_sent};
 ghost use Rattle.osi_judge.specs.declared.directions.Direction.{Direction};
 ghost use Rattle.osi_judge.specs.declared.findings.Finding.{Finding};
 ghost use Rattle.osi_judge.specs.Captures.{Capture};
@@ -12,10 +15,13 @@ ghost use Rattle.osi_judge.specs.Explaining.{IsExplained};
 ghost use Rattle.osi_judge.specs.Tapping.{IsFoundIn};
 ghost use Rattle.osi_accord.specs.Accords.{Accords, AreInOrder, Turn, sending_of, told_by, tsdus_by};
 ghost use Rattle.osi_accord.specs.Liberties.{IsCall, as_called, is_called};
+ghost use Rattle.osi_accord.specs.Machines.{IsMessage, Plays, TakesNoLiberty, Utterance, asking, sending_as};
 ghost use Rattle.osi_accord.specs.Pairs.{pair_of};
 ghost use Rattle.osi_accord.specs.Taps.{IsAccord, Passage};
 
 use osi_judge::laws::a_capture_has_one_reading;
+use osi_message::laws::what_is_sent_is_read;
+use osi_session::laws::{an_empty_token_item_changes_nothing, messages_do_what_they_did};
 
 /// Two sides are each explained apart from the other, by what had passed of the other before each TSDU. Then there is one run
 /// of both: they send these TSDUs in this order, and each takes a TSDU only after the other has sent it.
@@ -48,3 +54,18 @@ pub fn what_may_be_said_is_called()
     ensures { (s next : Seen) (m : Meaning) (octets : ℕ) → CanSay s (says m) octets next → is_called s.state m ≡ true →
         is_in_size s.state (length (written (as_called s.state m))) ≡ true → IsCall s (as_called s.state m) next }
 {}
+
+/// A run of two sessions from a CN in flight on, in which each TSDU is one message as this product writes it. If no liberty is
+/// taken ([`TakesNoLiberty`]), it is a run of the machine of two sides: its calls are allowed, and they send the same messages
+/// in the same order. So what is proved of that machine holds of these sessions: no token is held by both, and neither takes
+/// a fault. The machine has no refusal, no answer to a release and no abort, and so has the run.
+///
+/// [`TakesNoLiberty`]: ../specs/Machines.antt
+pub fn without_liberties_it_is_a_run_of_the_machine()
+    ensures { (o : Offer) (messages : List Utterance) (run : Accords (map sending_as messages) (asking o)) → IsSendable (offer_sent o) →
+        AllByRecursion IsMessage messages → TakesNoLiberty run → Plays (core_start o) messages }
+{
+    what_is_sent_is_read();
+    messages_do_what_they_did();
+    an_empty_token_item_changes_nothing();
+}

@@ -1,0 +1,427 @@
+-- A run of two sessions in which no liberty is taken is a run of the machine of two sides that exchange whole messages.
+-- For the law of that name.
+use Rattle.std.proofs.Common.{◌≡◌, ◌∙◌, refl, sym, ap, subst, ℕ, ◌⊎◌, inl, inr, Bool, true, false, if◌then◌else◌, List, [], ◌∷◌, ◌++◌, length, map}
+use Rattle.std.proofs.Common.{Option, Some, None, option_map, Ok, Err, append-nil, append_assoc, is_none, not, ◌||◌, ◌&&◌}
+use Rattle.std.specs.List.{AllByRecursion, list_any}
+use Rattle.osi_spdu.specs.declared.faults.SpduFault.{SpduFault}
+use Rattle.osi_message.specs.Meanings.{Meaning, GT}
+use Rattle.osi_message.specs.Reading.{Said, said_at}
+use Rattle.osi_message.specs.Sendable.{IsSendable, said_of, words_of}
+use Rattle.osi_message.specs.Tokens.{is_empty, no_token}
+use Rattle.osi_message.specs.Words.{Word, Words, says}
+use Rattle.osi_message.specs.Written.{is_second, written}
+use Rattle.osi_session.specs.declared.state.State.{State}
+use Rattle.osi_session.specs.Allowed.{Answer, Step, allowed}
+use Rattle.osi_session.specs.Calls.{Call, HasSerial}
+use Rattle.osi_session.specs.Joining.{Hearing, acting_words, drops_parts, heard, is_restart_word, respond_came, respond_tsdu}
+use Rattle.osi_session.specs.Respond.{has_no_effect, respond, respond_unit}
+use Rattle.osi_session.specs.Standing.{CanSay, Count, Seen, Takes, after_count, begins, counted, goes, is_in_size, listens, said, said_within, seen_called}
+use Rattle.osi_machine.specs.Core.{Core, CoreStep, Offer, call_at, called, core_start, core_step, offer_sent, offering, stays_in_core, take_at, taking, turned}
+use Rattle.osi_machine.specs.Core as machine
+use Rattle.osi_machine.specs.Parties.{IsNumberedStep}
+use Rattle.osi_judge.specs.declared.directions.Direction.{Direction}
+use Rattle.osi_judge.specs.declared.directions.Direction.TheVariants.{Left, Right}
+use Rattle.osi_judge.specs.Captures.{other}
+use Rattle.osi_accord.specs.Accords.{Accords, Sending, sending, words_in, words_read}
+use Rattle.osi_accord.specs.Accords as accord
+use Rattle.osi_accord.specs.Liberties.{IsCall}
+use Rattle.osi_accord.specs.Machines.{IsByCall, IsCoreCall, IsMessage, Plays, TakesNoLiberty, Utterance, asking, sending_as, sent_at, sent_in, side_at, state_at, utters}
+use Rattle.osi_accord.specs.Pairs.{Pair, channel_of, has_taken, session_of, with_channel, with_session}
+
+-- what is known of messages in octets, and of what a session does with them
+pub record AsMessages : Type 0 where
+  pub read : (m : Meaning) → IsSendable m → said_at (written m) ≡ Ok (words_of m)
+  pub does : (s : State) (said : Said) → respond_tsdu (record { state = s; joined = None }) (map says said) ≡ heard None (respond s said)
+  pub alone : (s : State) (u : Meaning) → respond s (said_of u) ≡ respond_unit s u
+
+-- ---- what is taken
+
+none_kept : (b : Bool) → option_map (length {A = ℕ}) (if b then None else None) ≡ None
+none_kept true = refl
+none_kept false = refl
+
+-- a session that has joined nothing, and takes a message
+record IsTaken (s : Seen) (u : Meaning) (c : Count) : Type 0 where
+  state : c.state ≡ (respond_unit s.state u).next
+  joined : c.joined ≡ None
+
+is_taken : AsMessages → (s : Seen) (u : Meaning) (c : Count) → IsSendable u → s.joined ≡ None → Takes s (written u) c → IsTaken s u c
+is_taken k s u c send none taken =
+    let came : counted (respond_came (record { state = s.state; joined = None }) (said_at (written u))) ≡ c = taken None (sym none) in
+    let does : counted (heard None (respond_unit s.state u)) ≡ c =
+        ap counted (sym (ap (respond_came (record { state = s.state; joined = None })) (k.read u send) ∙ k.does s.state (said_of u)
+        ∙ ap (heard None) (k.alone s.state u))) ∙ came in
+    record {
+      state = sym (ap (λ (x : Count). x.state) does);
+      joined = sym (ap (λ (x : Count). x.joined) does) ∙ none_kept (drops_parts (respond_unit s.state u).next.phase);
+    }
+
+-- ---- the words of a message
+
+-- nothing is left of it to send, or the GT that names no token
+abbrev IsRest : List (Option Word) → Type 0
+IsRest words = (words ≡ []) ⊎ (words ≡ Some (says (GT no_token)) ∷ [])
+
+-- its words: it comes first
+record BeginsWith (m : Meaning) (words : List (Option Word)) : Type 0 where
+  rest : List (Option Word)
+  is : words ≡ Some (says m) ∷ rest
+  rests : IsRest rest
+
+either_acts : (b : Bool) (m : Meaning) → BeginsWith m (map Some (if b then says m ∷ [] else says m ∷ says (GT no_token) ∷ []))
+either_acts true m = record { rest = []; is = refl; rests = inl refl }
+either_acts false m = record { rest = Some (says (GT no_token)) ∷ []; is = refl; rests = inr refl }
+
+acts_first : (b : Bool) (m : Meaning) → BeginsWith m (map Some (acting_words (map says (if b then GT no_token ∷ m ∷ [] else m ∷ []))))
+unfolding acting_words
+acts_first true m = either_acts (list_any is_restart_word (says m ∷ [])) m
+acts_first false m = record { rest = []; is = refl; rests = inl refl }
+
+message_first : AsMessages → (m : Meaning) → IsSendable m → BeginsWith m (words_in (written m))
+message_first k m send = rw (k.read m send) (acts_first (is_second m) m)
+
+same_said : (v w : Meaning) → says v ≡ says w → v ≡ w
+same_said v w e = cc
+
+-- a GT that names no token changes nothing
+within_rests : (s next : Seen) → said_within s (says (GT no_token)) ≡ Some next → next ≡ s
+unfolding is_empty
+within_rests s next h = let e : Some s ≡ Some next = h in cc
+
+if_seen : (b : Bool) (o : Option Seen) (n : Seen) → (if b then o else None) ≡ Some n → o ≡ Some n
+if_seen true o n h = h
+if_seen false o n h = absurd (cc)
+
+says_nothing : (s next : Seen) (octets : ℕ) → CanSay s (says (GT no_token)) octets next → next ≡ s
+unfolding said
+says_nothing s next octets h =
+    within_rests s next (if_seen (not s.closed && is_in_size s.state octets) (said_within s (says (GT no_token))) next h)
+
+-- ---- a side of the machine, and a side of the pair
+
+-- it is in the same state, and the same is in flight from it; ahead are messages that are sent and whose TSDU is not yet in flight
+record IsParty (x : machine.Party) (s : Seen) (channel : List (List ℕ)) (ahead : List Meaning) : Type 0 where
+  state : x.session ≡ s.state
+  joined : s.joined ≡ None
+  flight : channel ++ map written ahead ≡ map written x.sent
+  sendable : AllByRecursion IsSendable x.sent
+
+abbrev party_at : Direction → Core → machine.Party
+party_at Left w = w.own
+party_at Right w = w.peer
+
+-- both sides, seen from one of them
+record Stands (w : Core) (p : Pair) (d : Direction) (ahead others : List Meaning) : Type 0 where
+  own : IsParty (party_at d w) (session_of d p) (channel_of d p) ahead
+  peer : IsParty (party_at (other d) w) (session_of (other d) p) (channel_of (other d) p) others
+
+turned_about : (w : Core) (p : Pair) (d : Direction) (ahead others : List Meaning) → Stands w p d ahead others → Stands w p (other d) others ahead
+turned_about w p Left ahead others s = record { own = s.peer; peer = s.own }
+turned_about w p Right ahead others s = record { own = s.peer; peer = s.own }
+
+all_and_one : (ms : List Meaning) (m : Meaning) → AllByRecursion IsSendable ms → IsSendable m → AllByRecursion IsSendable (ms ++ m ∷ [])
+all_and_one [] m a i = (i, tt)
+all_and_one (x ∷ ms) m a i = (a.0, all_and_one ms m a.1 i)
+
+written_more : (ms : List Meaning) (m : Meaning) → map written (ms ++ m ∷ []) ≡ map written ms ++ written m ∷ []
+written_more [] m = refl
+written_more (x ∷ ms) m = ap (λ (y : List (List ℕ)). written x ∷ y) (written_more ms m)
+
+-- ---- a call
+
+called_own : (v : Core) (c : Call) (g : Step) → stays_in_core c ≡ true → allowed v.own.session c ≡ Ok g → called v c ≡ machine.answered v c (Ok g)
+called_own v c g stays allows = rw (stays, allows) refl
+
+kept_none : (b : Bool) (n : Option ℕ) → n ≡ None → (if b then None else n) ≡ None
+kept_none true n e = refl
+kept_none false n e = e
+
+-- the side sends a message by it
+party_calls : (x y : machine.Party) (s next : Seen) (channel : List (List ℕ)) (state : State) (m : Meaning) → IsParty x s channel [] →
+    IsSendable m → next ≡ goes s state → y.session ≡ state → y.sent ≡ x.sent ++ m ∷ [] → IsParty y next channel (m ∷ [])
+party_calls x y s next channel state m i send goes_on at sent = record {
+  state = at ∙ sym (ap (λ (z : Seen). z.state) goes_on);
+  joined = ap (λ (z : Seen). z.joined) goes_on ∙ kept_none (drops_parts state.phase) s.joined i.joined;
+  flight = ap (λ (z : List (List ℕ)). z ++ written m ∷ []) (sym (append-nil channel) ∙ i.flight) ∙ sym (written_more x.sent m)
+      ∙ ap (map written) (sym sent);
+  sendable = subst (AllByRecursion IsSendable) (sym sent) (all_and_one x.sent m i.sendable send);
+}
+
+calls_on : (w : Core) (p : Pair) (d : Direction) (next : Seen) (m : Meaning) (call : IsCoreCall (session_of d p) m next) → IsSendable m →
+    Stands w p d [] [] →
+    Stands (core_step w (call_at (side_at d) call.is.call)) (with_session d next p) d (m ∷ []) []
+calls_on w p Left next m call send s =
+    let allows : allowed w.own.session call.is.call ≡ Ok (record { next = call.is.state; sent = m }) =
+        ap (λ (x : State). allowed x call.is.call) s.own.state ∙ call.is.allows in
+    let is = called_own w call.is.call _ call.stays allows in
+    record {
+      own = party_calls _ _ _ next _ call.is.state m s.own send call.is.goes_on (ap (λ (x : Core). x.own.session) is)
+          (ap (λ (x : Core). x.own.sent) is);
+      peer = subst (λ (x : machine.Party). IsParty x p.right.session p.right.channel []) (sym (ap (λ (x : Core). x.peer) is)) s.peer;
+    }
+calls_on w p Right next m call send s =
+    let allows : allowed w.peer.session call.is.call ≡ Ok (record { next = call.is.state; sent = m }) =
+        ap (λ (x : State). allowed x call.is.call) s.own.state ∙ call.is.allows in
+    let is = called_own (turned w) call.is.call _ call.stays allows in
+    record {
+      own = party_calls _ _ _ next _ call.is.state m s.own send call.is.goes_on (ap (λ (x : Core). x.own.session) is)
+          (ap (λ (x : Core). x.own.sent) is);
+      peer = subst (λ (x : machine.Party). IsParty x p.left.session p.left.channel []) (sym (ap (λ (x : Core). x.peer) is)) s.peer;
+    }
+
+call_sends : (w : Core) (p : Pair) (d : Direction) (next : Seen) (m : Meaning) (call : IsCoreCall (session_of d p) m next) →
+    Stands w p d [] [] → sent_at w (call_at (side_at d) call.is.call) ≡ utters d m ∷ []
+call_sends w p Left next m call s = rw (call.stays, s.own.state, call.is.allows) refl
+call_sends w p Right next m call s = rw (call.stays, s.own.state, call.is.allows) refl
+
+-- ---- a delivery
+
+-- what is in flight to a side that takes this TSDU
+record Comes (sent : List Meaning) (tsdu : List ℕ) (rest : List (List ℕ)) : Type 0 where
+  u : Meaning
+  us : List Meaning
+  is : sent ≡ u ∷ us
+  first : written u ≡ tsdu
+  later : rest ≡ map written us
+
+comes : (sent : List Meaning) (tsdu : List ℕ) (rest : List (List ℕ)) → tsdu ∷ rest ≡ map written sent → Comes sent tsdu rest
+comes [] tsdu rest e = absurd (cc)
+comes (u ∷ us) tsdu rest e = record { u = u; us = us; is = refl; first = cc; later = cc }
+
+party_takes : (x y : machine.Party) (s : Seen) (channel : List (List ℕ)) (ahead : List Meaning) (u : Meaning) (c : Count) → IsTaken s u c →
+    IsParty x s channel ahead → y.session ≡ (respond_unit x.session u).next → y.sent ≡ x.sent → IsParty y (after_count s c) channel ahead
+party_takes x y s channel ahead u c did i at sent = record {
+  state = at ∙ ap (λ (z : State). (respond_unit z u).next) i.state ∙ sym did.state;
+  joined = did.joined;
+  flight = i.flight ∙ ap (map written) (sym sent);
+  sendable = subst (AllByRecursion IsSendable) (sym sent) i.sendable;
+}
+
+party_gives : (x y : machine.Party) (s : Seen) (channel rest : List (List ℕ)) (others us : List Meaning) → IsParty x s channel others →
+    y.session ≡ x.session → y.sent ≡ us → rest ++ map written others ≡ map written us → AllByRecursion IsSendable us →
+    IsParty y s rest others
+party_gives x y s channel rest others us i at sent later all = record {
+  state = at ∙ i.state;
+  joined = i.joined;
+  flight = later ∙ ap (map written) (sym sent);
+  sendable = subst (AllByRecursion IsSendable) (sym sent) all;
+}
+
+taking_own : (v : Core) (u : Meaning) (us : List Meaning) → v.peer.sent ≡ u ∷ us → machine.takes v ≡ taking v (u ∷ us)
+taking_own v u us e = ap (taking v) e
+
+takes_on : AsMessages → (w : Core) (p : Pair) (d : Direction) (c : Count) (tsdu : List ℕ) (rest : List (List ℕ)) (ahead others : List Meaning) →
+    channel_of (other d) p ≡ tsdu ∷ rest → Takes (session_of d p) tsdu c → Stands w p d ahead others →
+    Stands (core_step w (take_at (side_at d))) (has_taken d c rest p) d ahead others
+takes_on k w p Left c tsdu rest ahead others there taken s =
+    let m = comes w.peer.sent tsdu (rest ++ map written others) (ap (λ (x : List (List ℕ)). x ++ map written others) (sym there) ∙ s.peer.flight) in
+    let all : AllByRecursion IsSendable (m.u ∷ m.us) = subst (AllByRecursion IsSendable) m.is s.peer.sendable in
+    let is = taking_own w m.u m.us m.is in
+    let did = is_taken k p.left.session m.u c all.0 s.own.joined (subst (λ (x : List ℕ). Takes p.left.session x c) (sym m.first) taken) in
+    record {
+      own = party_takes w.own (machine.takes w).own p.left.session p.left.channel ahead m.u c did s.own (ap (λ (x : Core). x.own.session) is)
+          (ap (λ (x : Core). x.own.sent) is);
+      peer = party_gives w.peer (machine.takes w).peer p.right.session p.right.channel rest others m.us s.peer
+          (ap (λ (x : Core). x.peer.session) is) (ap (λ (x : Core). x.peer.sent) is) m.later all.1;
+    }
+takes_on k w p Right c tsdu rest ahead others there taken s =
+    let m = comes w.own.sent tsdu (rest ++ map written others) (ap (λ (x : List (List ℕ)). x ++ map written others) (sym there) ∙ s.peer.flight) in
+    let all : AllByRecursion IsSendable (m.u ∷ m.us) = subst (AllByRecursion IsSendable) m.is s.peer.sendable in
+    let is = taking_own (turned w) m.u m.us m.is in
+    let did = is_taken k p.right.session m.u c all.0 s.own.joined (subst (λ (x : List ℕ). Takes p.right.session x c) (sym m.first) taken) in
+    record {
+      own = party_takes w.peer (machine.takes (turned w)).own p.right.session p.right.channel ahead m.u c did s.own
+          (ap (λ (x : Core). x.own.session) is) (ap (λ (x : Core). x.own.sent) is);
+      peer = party_gives w.own (machine.takes (turned w)).peer p.left.session p.left.channel rest others m.us s.peer
+          (ap (λ (x : Core). x.peer.session) is) (ap (λ (x : Core). x.peer.sent) is) m.later all.1;
+    }
+
+-- whichever side takes it
+takes_any : AsMessages → (w : Core) (p : Pair) (d e : Direction) (c : Count) (tsdu : List ℕ) (rest : List (List ℕ)) (ahead : List Meaning) →
+    channel_of (other d) p ≡ tsdu ∷ rest → Takes (session_of d p) tsdu c → Stands w p e ahead [] →
+    Stands (core_step w (take_at (side_at d))) (has_taken d c rest p) e ahead []
+takes_any k w p Left Left c tsdu rest ahead there taken s = takes_on k w p Left c tsdu rest ahead [] there taken s
+takes_any k w p Right Right c tsdu rest ahead there taken s = takes_on k w p Right c tsdu rest ahead [] there taken s
+takes_any k w p Left Right c tsdu rest ahead there taken s =
+    turned_about _ _ Left [] ahead (takes_on k w p Left c tsdu rest [] ahead there taken (turned_about w p Right ahead [] s))
+takes_any k w p Right Left c tsdu rest ahead there taken s =
+    turned_about _ _ Right [] ahead (takes_on k w p Right c tsdu rest [] ahead there taken (turned_about w p Left ahead [] s))
+
+-- ---- the TSDU is in flight
+
+party_sends : (x : machine.Party) (s : Seen) (channel : List (List ℕ)) (m : Meaning) → IsParty x s channel (m ∷ []) →
+    IsParty x s (channel ++ written m ∷ []) []
+party_sends x s channel m i = record {
+  state = i.state;
+  joined = i.joined;
+  flight = append-nil (channel ++ written m ∷ []) ∙ i.flight;
+  sendable = i.sendable;
+}
+
+sends_on : (w : Core) (p : Pair) (d : Direction) (m : Meaning) → Stands w p d (m ∷ []) [] →
+    Stands w (with_channel d (channel_of d p ++ written m ∷ []) p) d [] []
+sends_on w p Left m s = record { own = party_sends w.own p.left.session p.left.channel m s.own; peer = s.peer }
+sends_on w p Right m s = record { own = party_sends w.peer p.right.session p.right.channel m s.own; peer = s.peer }
+
+-- ---- a run
+
+abbrev words_in_head : List Sending → List (Option Word)
+words_in_head [] = []
+words_in_head (sending d own words ∷ later) = words
+
+-- of the first message nothing is sent
+abbrev IsFresh : List Sending → List Utterance → List Meaning → Type 0
+IsFresh sent messages ahead = (sent ≡ map sending_as messages) × (ahead ≡ [])
+
+-- a message of this side is sent, and its TSDU is not yet in flight
+record IsBegun (sent : List Sending) (messages : List Utterance) (d : Direction) (ahead : List Meaning) : Type 0 where
+  m : Meaning
+  words : List (Option Word)
+  is : sent ≡ sending d (written m) words ∷ map sending_as messages
+  one : ahead ≡ m ∷ []
+  rests : IsRest words
+
+abbrev IsDue : List Sending → List Utterance → Direction → List Meaning → Type 0
+IsDue sent messages d ahead = IsFresh sent messages ahead ⊎ IsBegun sent messages d ahead
+
+takes_step : (w : Core) (d : Direction) (messages : List Utterance) → Plays (core_step w (take_at (side_at d))) messages → Plays w messages
+takes_step w d messages s = record { steps = take_at (side_at d) ∷ s.steps; numbered = (tt, s.numbered); sent = s.sent }
+
+call_step : (w : Core) (d : Direction) (c : Call) (m : Meaning) (messages : List Utterance) → HasSerial c →
+    sent_at w (call_at (side_at d) c) ≡ utters d m ∷ [] → Plays (core_step w (call_at (side_at d) c)) messages → Plays w (utters d m ∷ messages)
+call_step w d c m messages small sent s = record {
+  steps = call_at (side_at d) c ∷ s.steps;
+  numbered = (small, s.numbered);
+  sent = ap (λ (x : List Utterance). x ++ sent_in (core_step w (call_at (side_at d) c)) s.steps) sent
+      ∙ ap (λ (x : List Utterance). utters d m ∷ x) s.sent;
+}
+
+-- nothing is left
+nothing_due : (messages : List Utterance) (d : Direction) (ahead : List Meaning) → IsDue [] messages d ahead → [] ≡ messages
+nothing_due [] d ahead due = refl
+nothing_due (utters e m ∷ messages) d ahead (inl due) = let e = due.0 in absurd (cc)
+nothing_due (utters e m ∷ messages) d ahead (inr due) = let e = due.is in absurd (cc)
+
+-- nothing is ahead of either side
+calm : (w : Core) (p : Pair) (d e : Direction) → Stands w p d [] [] → Stands w p e [] []
+calm w p Left Left s = s
+calm w p Right Right s = s
+calm w p Left Right s = turned_about w p Left [] [] s
+calm w p Right Left s = turned_about w p Right [] [] s
+
+same_pair : (d : Direction) (p : Pair) → with_session d (session_of d p) p ≡ p
+same_pair Left p = refl
+same_pair Right p = refl
+
+-- the first words of a TSDU
+record FirstWord (d e : Direction) (own : List ℕ) (w : Word) (words : List (Option Word)) (later : List Sending) (m : Meaning)
+    (messages : List Utterance) : Type 0 where
+  side : d ≡ e
+  octets : own ≡ written m
+  word : w ≡ says m
+  rests : IsRest words
+  others : later ≡ map sending_as messages
+
+first_word : AsMessages → (d e : Direction) (own : List ℕ) (w : Word) (words : List (Option Word)) (later : List Sending) (m : Meaning)
+    (messages : List Utterance) → IsSendable m → sending d own (Some w ∷ words) ∷ later ≡ map sending_as (utters e m ∷ messages) →
+    FirstWord d e own w words later m messages
+first_word k d e own w words later m messages send is =
+    let first = message_first k m send in
+    let all : Some w ∷ words ≡ Some (says m) ∷ first.rest = ap words_in_head is ∙ first.is in
+    record {
+      side = cc;
+      octets = cc;
+      word = cc;
+      rests = subst IsRest (let h : first.rest ≡ words = cc in h) first.rests;
+      others = cc;
+    }
+
+effect_of : (m : Meaning) → has_no_effect m ≡ false → m ≡ GT no_token → ⊥
+unfolding is_empty
+effect_of m e is = let f : true ≡ false = ap has_no_effect (sym is) ∙ e in cc
+
+-- the call by which it is sent
+call_of : (s next : Seen) (w : Word) (m : Meaning) → IsByCall s w next → w ≡ says m → has_no_effect m ≡ false → IsCoreCall s m next
+call_of s next w m (inl is) e effect = absurd (effect_of m effect (same_said m (GT no_token) (sym e ∙ is)))
+call_of s next w m (inr (n, is, call)) e effect = subst (λ (x : Meaning). IsCoreCall s x next) (same_said n m (sym is ∙ e)) call
+
+-- a word is sent
+says_due : AsMessages → (w : Core) (p : Pair) (e : Direction) (own : List ℕ) (x : Word) (words : List (Option Word)) (later : List Sending)
+    (next : Seen) (messages : List Utterance) (d : Direction) (ahead : List Meaning) → IsByCall (session_of e p) x next →
+    CanSay (session_of e p) x (length own) next → AllByRecursion IsMessage messages →
+    IsDue (sending e own (Some x ∷ words) ∷ later) messages d ahead → Stands w p d ahead [] →
+    ((messages : List Utterance) → AllByRecursion IsMessage messages → (w : Core) (d : Direction) (ahead : List Meaning) →
+        IsDue (sending e own words ∷ later) messages d ahead → Stands w (with_session e next p) d ahead [] → Plays w messages) →
+    Plays w messages
+says_due k w p e own x words later next [] d ahead by can all (inl due) s on = let q = due.0 in absurd (cc)
+says_due k w p e own x words later next (utters f m ∷ messages) d ahead by can all (inl due) s on =
+    let h = first_word k e f own x words later m messages all.0.0 due.0 in
+    let call = call_of (session_of e p) next x m by h.word all.0.1 in
+    let still : Stands w p e [] [] = calm w p d e (subst (λ (a : List Meaning). Stands w p d a []) due.1 s) in
+    subst (λ (z : Direction). Plays w (utters z m ∷ messages)) h.side
+    (call_step w e call.is.call m messages call.numbered (call_sends w p e next m call still)
+    (on messages all.1 (core_step w (call_at (side_at e) call.is.call)) e (m ∷ [])
+    (inr (record { m = m; words = words; is = λ i. sending e (h.octets i) words ∷ h.others i; one = refl; rests = h.rests }))
+    (calls_on w p e next m call all.0.0 still)))
+says_due k w p e own x words later next messages d ahead by can all (inr due) s on = by_rest due.rests
+  where
+    by_rest : IsRest due.words → Plays w messages
+    by_rest (inl none) =
+        let q : sending e own (Some x ∷ words) ∷ later ≡ sending d (written due.m) due.words ∷ map sending_as messages = due.is in absurd (cc)
+    by_rest (inr one) =
+        let q : sending e own (Some x ∷ words) ∷ later ≡ sending d (written due.m) due.words ∷ map sending_as messages = due.is in
+        let side : e ≡ d = cc in
+        let octets : own ≡ written due.m = cc in
+        let others : later ≡ map sending_as messages = cc in
+        let word : x ≡ says (GT no_token) = cc in
+        let none : words ≡ [] = cc in
+        let still = says_nothing (session_of e p) next (length own)
+            (subst (λ (v : Word). CanSay (session_of e p) v (length own) next) word can) in
+        on messages all w d ahead
+        (inr (record { m = due.m; words = words; is = λ i. sending (side i) (octets i) words ∷ others i; one = due.one; rests = inl none }))
+        (subst (λ (y : Pair). Stands w y d ahead []) (sym (ap (λ (z : Seen). with_session e z p) still ∙ same_pair e p)) s)
+
+-- all words of a TSDU are sent
+sends_due : AsMessages → (w : Core) (p : Pair) (e : Direction) (own : List ℕ) (later : List Sending) (messages : List Utterance) (d : Direction)
+    (ahead : List Meaning) → AllByRecursion IsMessage messages → IsDue (sending e own [] ∷ later) messages d ahead → Stands w p d ahead [] →
+    ((w : Core) (d : Direction) (ahead : List Meaning) → IsDue later messages d ahead →
+        Stands w (with_channel e (channel_of e p ++ own ∷ []) p) d ahead [] → Plays w messages) → Plays w messages
+sends_due k w p e own later [] d ahead all (inl due) s on = let q = due.0 in absurd (cc)
+sends_due k w p e own later (utters f m ∷ messages) d ahead all (inl due) s on =
+    let first = message_first k m all.0.0 in
+    let none : [] ≡ Some (says m) ∷ first.rest = ap words_in_head due.0 ∙ first.is in
+    absurd (cc)
+sends_due k w p e own later messages d ahead all (inr due) s on =
+    let q : sending e own [] ∷ later ≡ sending d (written due.m) due.words ∷ map sending_as messages = due.is in
+    let side : e ≡ d = cc in
+    let octets : own ≡ written due.m = cc in
+    let others : later ≡ map sending_as messages = cc in
+    let one : Stands w p d (due.m ∷ []) [] = subst (λ (a : List Meaning). Stands w p d a []) due.one s in
+    let here : Stands w p e (due.m ∷ []) [] = subst (λ (z : Direction). Stands w p z (due.m ∷ []) []) (sym side) one in
+    on w e [] (inl (others, refl))
+    (subst (λ (o : List ℕ). Stands w (with_channel e (channel_of e p ++ o ∷ []) p) e [] []) (sym octets) (sends_on w p e due.m here))
+
+run_of : (k : AsMessages) {sent : List Sending} {p : Pair} (run : Accords sent p) → TakesNoLiberty run → (messages : List Utterance) →
+    AllByRecursion IsMessage messages → (w : Core) (d : Direction) (ahead : List Meaning) → IsDue sent messages d ahead →
+    Stands w p d ahead [] → Plays w messages
+run_of k (accord.done p) free messages all w d ahead due s =
+    subst (Plays w) (nothing_due messages d ahead due) (record { steps = []; numbered = tt; sent = refl })
+run_of k (accord.takes e later p tsdu rest c there hears taken quiet run) free messages all w d ahead due s =
+    takes_step w e messages
+    (run_of k run free messages all (core_step w (take_at (side_at e))) d ahead due (takes_any k w p e d c tsdu rest ahead there taken s))
+run_of k (accord.answers e later p tsdu rest c reply own x words there hears taken replied is run) free messages all w d ahead due s =
+    absurd free
+run_of k (accord.says e later p own x words next can run) free messages all w d ahead due s =
+    says_due k w p e own x words later next messages d ahead free.0 can all due s
+    (λ more al v f a du st. run_of k run free.1 more al v f a du st)
+run_of k (accord.sends e later p own run) free messages all w d ahead due s =
+    sends_due k w p e own later messages d ahead all due s (λ v f a du st. run_of k run free messages all v f a du st)
+
+pub machine_run : AsMessages → (o : Offer) (messages : List Utterance) (run : Accords (map sending_as messages) (asking o)) →
+    IsSendable (offer_sent o) → AllByRecursion IsMessage messages → TakesNoLiberty run → Plays (core_start o) messages
+machine_run k o messages run send all free =
+    run_of k run free messages all (core_start o) Left [] (inl (refl, refl))
+    (record {
+      own = record { state = refl; joined = refl; flight = refl; sendable = (send, tt) };
+      peer = record { state = refl; joined = refl; flight = refl; sendable = tt };
+    })

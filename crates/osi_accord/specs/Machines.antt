@@ -1,0 +1,94 @@
+-- Runs of two sessions in which no liberty is taken, and the machine of two sides that exchange whole messages.
+use Rattle.std.specs.Prelude.{◌≡◌, ◌⊎◌, ℕ, false, true, List, [], ◌∷◌, ◌++◌, if◌then◌else◌, Ok, Err}
+use Rattle.std.specs.List.{AllByRecursion}
+use Rattle.osi_message.specs.Meanings.{Meaning, GT}
+use Rattle.osi_message.specs.Sendable.{IsSendable}
+use Rattle.osi_message.specs.Tokens.{no_token}
+use Rattle.osi_message.specs.Words.{Word, says}
+use Rattle.osi_message.specs.Written.{written}
+use Rattle.osi_session.specs.declared.state.State.{State}
+use Rattle.osi_session.specs.Allowed.{Answer, allowed}
+use Rattle.osi_session.specs.Calls.{HasSerial}
+use Rattle.osi_session.specs.Respond.{has_no_effect}
+use Rattle.osi_session.specs.Standing.{Seen, begins, seen_called}
+use Rattle.osi_machine.specs.Core.{Core, CoreStep, Offer, Side, call_at, core_step, offer_sent, offering, stays_in_core, take_at}
+use Rattle.osi_machine.specs.Core as machine
+use Rattle.osi_machine.specs.Parties.{IsNumberedStep}
+use Rattle.osi_judge.specs.declared.directions.Direction.{Direction}
+use Rattle.osi_judge.specs.declared.directions.Direction.TheVariants.{Left, Right}
+use Rattle.osi_accord.specs.Accords.{Accords, Sending, sending, words_in}
+use Rattle.osi_accord.specs.Accords as accord
+use Rattle.osi_accord.specs.Liberties.{IsCall}
+use Rattle.osi_accord.specs.Pairs.{Pair, session_of}
+
+-- ---- messages
+
+-- a message of a side
+pub data Utterance : Type 0 where
+  utters : Direction → Meaning → Utterance
+
+-- it can be sent, and has an effect
+abbrev pub IsMessage : Utterance → Type 0
+IsMessage (utters d m) = IsSendable m × (has_no_effect m ≡ false)
+
+-- its TSDU, as this product writes it
+abbrev pub sending_as : Utterance → Sending
+sending_as (utters d m) = sending d (written m) (words_in (written m))
+
+-- ---- a run that takes no liberty
+
+-- a call that neither refuses, releases nor aborts sends the message, and leaves the side so
+pub record IsCoreCall (s : Seen) (m : Meaning) (next : Seen) : Type 0 where
+  pub is : IsCall s m next
+  pub numbered : HasSerial is.call
+  pub stays : stays_in_core is.call ≡ true
+
+-- Such a call sends the word; or it is the GT that names no token and stands beside data and all about points.
+abbrev pub IsByCall : Seen → Word → Seen → Type 0
+IsByCall s w next = (w ≡ says (GT no_token)) ⊎ ((m : Meaning) × (w ≡ says m) × IsCoreCall s m next)
+
+-- Each word is sent by such a call. No session answers by itself, as it does to an abort, a fault and a CN that it refuses.
+abbrev pub TakesNoLiberty : {sent : List Sending} {p : Pair} → Accords sent p → Type 0
+TakesNoLiberty (accord.done p) = Unit {0}
+TakesNoLiberty (accord.takes d later p tsdu rest c there hears taken quiet run) = TakesNoLiberty run
+TakesNoLiberty (accord.answers d later p tsdu rest c reply own w words there hears taken replied is run) = ⊥
+TakesNoLiberty (accord.says d later p own w words next can run) = IsByCall (session_of d p) w next × TakesNoLiberty run
+TakesNoLiberty (accord.sends d later p own run) = TakesNoLiberty run
+
+-- the CN of a caller is in flight
+abbrev pub asking : Offer → Pair
+asking o = record {
+  left = record { session = begins (offering o); channel = written (offer_sent o) ∷ [] };
+  right = record { session = seen_called; channel = [] };
+}
+
+-- ---- what is sent in a run of the machine
+
+abbrev pub side_at : Direction → Side
+side_at Left = machine.Left
+side_at Right = machine.Right
+
+abbrev pub state_at : Side → Core → State
+state_at machine.Left w = w.own.session
+state_at machine.Right w = w.peer.session
+
+abbrev pub uttered : Side → Answer → List Utterance
+uttered machine.Left (Ok granted) = utters Left granted.sent ∷ []
+uttered machine.Right (Ok granted) = utters Right granted.sent ∷ []
+uttered side (Err e) = []
+
+-- a call that is allowed sends its message, and what is taken is not answered
+abbrev pub sent_at : Core → CoreStep → List Utterance
+sent_at w (call_at side c) = if stays_in_core c then uttered side (allowed (state_at side w) c) else []
+sent_at w (take_at side) = []
+
+-- the messages of both sides, in order
+abbrev pub sent_in : Core → List CoreStep → List Utterance
+sent_in w [] = []
+sent_in w (step ∷ steps) = sent_at w step ++ sent_in (core_step w step) steps
+
+-- steps of the machine in which these messages are sent, in this order
+pub record Plays (w : Core) (messages : List Utterance) : Type 0 where
+  pub steps : List CoreStep
+  pub numbered : AllByRecursion IsNumberedStep steps
+  pub sent : sent_in w steps ≡ messages
