@@ -25,7 +25,7 @@ use Rattle.osi_judge.specs.Captures.{other}
 use Rattle.osi_accord.specs.Accords.{Accords, Sending, sending, words_in, words_read}
 use Rattle.osi_accord.specs.Accords as accord
 use Rattle.osi_accord.specs.Liberties.{IsCall}
-use Rattle.osi_accord.specs.Machines.{IsByCall, IsCoreCall, IsMessage, Plays, TakesNoLiberty, Utterance, asking, sending_as, sent_at, sent_in, side_at, state_at, utters}
+use Rattle.osi_accord.specs.Machines.{AreWritten, IsByCall, IsCoreCall, IsMessage, Plays, TakesNoLiberty, Utterance, asking, sent_at, sent_in, side_at, state_at, utters}
 use Rattle.osi_accord.specs.Pairs.{Pair, channel_of, has_taken, session_of, with_channel, with_session}
 
 -- what is known of messages in octets, and of what a session does with them
@@ -265,21 +265,19 @@ sends_on w p Right m s = record { own = party_sends w.peer p.right.session p.rig
 
 -- ---- a run
 
-abbrev words_in_head : List Sending → List (Option Word)
-words_in_head [] = []
-words_in_head (sending d own words ∷ later) = words
-
 -- of the first message nothing is sent
 abbrev IsFresh : List Sending → List Utterance → List Meaning → Type 0
-IsFresh sent messages ahead = (sent ≡ map sending_as messages) × (ahead ≡ [])
+IsFresh sent messages ahead = AreWritten sent messages × (ahead ≡ [])
 
 -- a message of this side is sent, and its TSDU is not yet in flight
+abbrev HasBegun : List Sending → List Utterance → Direction → Meaning → Type 0
+HasBegun [] messages d m = ⊥
+HasBegun (sending e own before words ∷ later) messages d m = (e ≡ d) × (own ≡ written m) × IsRest words × AreWritten later messages
+
 record IsBegun (sent : List Sending) (messages : List Utterance) (d : Direction) (ahead : List Meaning) : Type 0 where
   m : Meaning
-  words : List (Option Word)
-  is : sent ≡ sending d (written m) words ∷ map sending_as messages
+  is : HasBegun sent messages d m
   one : ahead ≡ m ∷ []
-  rests : IsRest words
 
 abbrev IsDue : List Sending → List Utterance → Direction → List Meaning → Type 0
 IsDue sent messages d ahead = IsFresh sent messages ahead ⊎ IsBegun sent messages d ahead
@@ -299,8 +297,8 @@ call_step w d c m messages small sent s = record {
 -- nothing is left
 nothing_due : (messages : List Utterance) (d : Direction) (ahead : List Meaning) → IsDue [] messages d ahead → [] ≡ messages
 nothing_due [] d ahead due = refl
-nothing_due (utters e m ∷ messages) d ahead (inl due) = let e = due.0 in absurd (cc)
-nothing_due (utters e m ∷ messages) d ahead (inr due) = let e = due.is in absurd (cc)
+nothing_due (utters e m ∷ messages) d ahead (inl due) = absurd due.0
+nothing_due (utters e m ∷ messages) d ahead (inr due) = absurd due.is
 
 -- nothing is ahead of either side
 calm : (w : Core) (p : Pair) (d e : Direction) → Stands w p d [] [] → Stands w p e [] []
@@ -314,27 +312,17 @@ same_pair Left p = refl
 same_pair Right p = refl
 
 -- the first words of a TSDU
-record FirstWord (d e : Direction) (own : List ℕ) (w : Word) (words : List (Option Word)) (later : List Sending) (m : Meaning)
-    (messages : List Utterance) : Type 0 where
-  side : d ≡ e
-  octets : own ≡ written m
+record FirstWord (m : Meaning) (w : Word) (words : List (Option Word)) : Type 0 where
   word : w ≡ says m
   rests : IsRest words
-  others : later ≡ map sending_as messages
 
-first_word : AsMessages → (d e : Direction) (own : List ℕ) (w : Word) (words : List (Option Word)) (later : List Sending) (m : Meaning)
-    (messages : List Utterance) → IsSendable m → sending d own (Some w ∷ words) ∷ later ≡ map sending_as (utters e m ∷ messages) →
-    FirstWord d e own w words later m messages
-first_word k d e own w words later m messages send is =
+first_word : AsMessages → (m : Meaning) (w : Word) (words : List (Option Word)) → IsSendable m → Some w ∷ words ≡ words_in (written m) →
+    FirstWord m w words
+first_word k m w words send is =
     let first = message_first k m send in
-    let all : Some w ∷ words ≡ Some (says m) ∷ first.rest = ap words_in_head is ∙ first.is in
-    record {
-      side = cc;
-      octets = cc;
-      word = cc;
-      rests = subst IsRest (let h : first.rest ≡ words = cc in h) first.rests;
-      others = cc;
-    }
+    let all : Some w ∷ words ≡ Some (says m) ∷ first.rest = is ∙ first.is in
+    let rest : first.rest ≡ words = cc in
+    record { word = cc; rests = subst IsRest rest first.rests }
 
 effect_of : (m : Meaning) → has_no_effect m ≡ false → m ≡ GT no_token → ⊥
 unfolding is_empty
@@ -346,81 +334,73 @@ call_of s next w m (inl is) e effect = absurd (effect_of m effect (same_said m (
 call_of s next w m (inr (n, is, call)) e effect = subst (λ (x : Meaning). IsCoreCall s x next) (same_said n m (sym is ∙ e)) call
 
 -- a word is sent
-says_due : AsMessages → (w : Core) (p : Pair) (e : Direction) (own : List ℕ) (x : Word) (words : List (Option Word)) (later : List Sending)
-    (next : Seen) (messages : List Utterance) (d : Direction) (ahead : List Meaning) → IsByCall (session_of e p) x next →
-    CanSay (session_of e p) x (length own) next → AllByRecursion IsMessage messages →
-    IsDue (sending e own (Some x ∷ words) ∷ later) messages d ahead → Stands w p d ahead [] →
+says_due : AsMessages → (w : Core) (p : Pair) (e : Direction) (own : List ℕ) (before : ℕ) (x : Word) (words : List (Option Word))
+    (later : List Sending) (next : Seen) (messages : List Utterance) (d : Direction) (ahead : List Meaning) →
+    IsByCall (session_of e p) x next → CanSay (session_of e p) x (length own) next → AllByRecursion IsMessage messages →
+    IsDue (sending e own before (Some x ∷ words) ∷ later) messages d ahead → Stands w p d ahead [] →
     ((messages : List Utterance) → AllByRecursion IsMessage messages → (w : Core) (d : Direction) (ahead : List Meaning) →
-        IsDue (sending e own words ∷ later) messages d ahead → Stands w (with_session e next p) d ahead [] → Plays w messages) →
+        IsDue (sending e own before words ∷ later) messages d ahead → Stands w (with_session e next p) d ahead [] → Plays w messages) →
     Plays w messages
-says_due k w p e own x words later next [] d ahead by can all (inl due) s on = let q = due.0 in absurd (cc)
-says_due k w p e own x words later next (utters f m ∷ messages) d ahead by can all (inl due) s on =
-    let h = first_word k e f own x words later m messages all.0.0 due.0 in
+says_due k w p e own before x words later next [] d ahead by can all (inl due) s on = absurd due.0
+says_due k w p e own before x words later next (utters f m ∷ messages) d ahead by can all (inl due) s on =
+    let h = first_word k m x words all.0.0 due.0.2 in
     let call = call_of (session_of e p) next x m by h.word all.0.1 in
     let still : Stands w p e [] [] = calm w p d e (subst (λ (a : List Meaning). Stands w p d a []) due.1 s) in
-    subst (λ (z : Direction). Plays w (utters z m ∷ messages)) h.side
+    subst (λ (z : Direction). Plays w (utters z m ∷ messages)) due.0.0
     (call_step w e call.is.call m messages call.numbered (call_sends w p e next m call still)
     (on messages all.1 (core_step w (call_at (side_at e) call.is.call)) e (m ∷ [])
-    (inr (record { m = m; words = words; is = λ i. sending e (h.octets i) words ∷ h.others i; one = refl; rests = h.rests }))
+    (inr (record { m = m; is = (refl, due.0.1, h.rests, due.0.3); one = refl }))
     (calls_on w p e next m call all.0.0 still)))
-says_due k w p e own x words later next messages d ahead by can all (inr due) s on = by_rest due.rests
+says_due k w p e own before x words later next messages d ahead by can all (inr due) s on = by_rest due.is.2
   where
-    by_rest : IsRest due.words → Plays w messages
-    by_rest (inl none) =
-        let q : sending e own (Some x ∷ words) ∷ later ≡ sending d (written due.m) due.words ∷ map sending_as messages = due.is in absurd (cc)
+    by_rest : IsRest (Some x ∷ words) → Plays w messages
+    by_rest (inl none) = absurd (cc)
     by_rest (inr one) =
-        let q : sending e own (Some x ∷ words) ∷ later ≡ sending d (written due.m) due.words ∷ map sending_as messages = due.is in
-        let side : e ≡ d = cc in
-        let octets : own ≡ written due.m = cc in
-        let others : later ≡ map sending_as messages = cc in
         let word : x ≡ says (GT no_token) = cc in
         let none : words ≡ [] = cc in
         let still = says_nothing (session_of e p) next (length own)
             (subst (λ (v : Word). CanSay (session_of e p) v (length own) next) word can) in
-        on messages all w d ahead
-        (inr (record { m = due.m; words = words; is = λ i. sending (side i) (octets i) words ∷ others i; one = due.one; rests = inl none }))
+        on messages all w d ahead (inr (record { m = due.m; is = (due.is.0, due.is.1, inl none, due.is.3); one = due.one }))
         (subst (λ (y : Pair). Stands w y d ahead []) (sym (ap (λ (z : Seen). with_session e z p) still ∙ same_pair e p)) s)
 
 -- all words of a TSDU are sent
-sends_due : AsMessages → (w : Core) (p : Pair) (e : Direction) (own : List ℕ) (later : List Sending) (messages : List Utterance) (d : Direction)
-    (ahead : List Meaning) → AllByRecursion IsMessage messages → IsDue (sending e own [] ∷ later) messages d ahead → Stands w p d ahead [] →
+sends_due : AsMessages → (w : Core) (p : Pair) (e : Direction) (own : List ℕ) (before : ℕ) (later : List Sending) (messages : List Utterance)
+    (d : Direction) (ahead : List Meaning) → AllByRecursion IsMessage messages → IsDue (sending e own before [] ∷ later) messages d ahead →
+    Stands w p d ahead [] →
     ((w : Core) (d : Direction) (ahead : List Meaning) → IsDue later messages d ahead →
         Stands w (with_channel e (channel_of e p ++ own ∷ []) p) d ahead [] → Plays w messages) → Plays w messages
-sends_due k w p e own later [] d ahead all (inl due) s on = let q = due.0 in absurd (cc)
-sends_due k w p e own later (utters f m ∷ messages) d ahead all (inl due) s on =
+sends_due k w p e own before later [] d ahead all (inl due) s on = absurd due.0
+sends_due k w p e own before later (utters f m ∷ messages) d ahead all (inl due) s on =
     let first = message_first k m all.0.0 in
-    let none : [] ≡ Some (says m) ∷ first.rest = ap words_in_head due.0 ∙ first.is in
+    let none : [] ≡ Some (says m) ∷ first.rest = due.0.2 ∙ first.is in
     absurd (cc)
-sends_due k w p e own later messages d ahead all (inr due) s on =
-    let q : sending e own [] ∷ later ≡ sending d (written due.m) due.words ∷ map sending_as messages = due.is in
-    let side : e ≡ d = cc in
-    let octets : own ≡ written due.m = cc in
-    let others : later ≡ map sending_as messages = cc in
+sends_due k w p e own before later messages d ahead all (inr due) s on =
     let one : Stands w p d (due.m ∷ []) [] = subst (λ (a : List Meaning). Stands w p d a []) due.one s in
-    let here : Stands w p e (due.m ∷ []) [] = subst (λ (z : Direction). Stands w p z (due.m ∷ []) []) (sym side) one in
-    on w e [] (inl (others, refl))
-    (subst (λ (o : List ℕ). Stands w (with_channel e (channel_of e p ++ o ∷ []) p) e [] []) (sym octets) (sends_on w p e due.m here))
+    let here : Stands w p e (due.m ∷ []) [] = subst (λ (z : Direction). Stands w p z (due.m ∷ []) []) (sym due.is.0) one in
+    on w e [] (inl (due.is.3, refl))
+    (subst (λ (o : List ℕ). Stands w (with_channel e (channel_of e p ++ o ∷ []) p) e [] []) (sym due.is.1) (sends_on w p e due.m here))
 
 run_of : (k : AsMessages) {sent : List Sending} {p : Pair} (run : Accords sent p) → TakesNoLiberty run → (messages : List Utterance) →
     AllByRecursion IsMessage messages → (w : Core) (d : Direction) (ahead : List Meaning) → IsDue sent messages d ahead →
     Stands w p d ahead [] → Plays w messages
 run_of k (accord.done p) free messages all w d ahead due s =
     subst (Plays w) (nothing_due messages d ahead due) (record { steps = []; numbered = tt; sent = refl })
-run_of k (accord.takes e later p tsdu rest c there hears taken quiet run) free messages all w d ahead due s =
+run_of k (accord.takes e later p own before words tsdu rest c passed there hears taken quiet run) free messages all w d ahead due s =
     takes_step w e messages
     (run_of k run free messages all (core_step w (take_at (side_at e))) d ahead due (takes_any k w p e d c tsdu rest ahead there taken s))
-run_of k (accord.answers e later p tsdu rest c reply own x words there hears taken replied is run) free messages all w d ahead due s =
-    absurd free
-run_of k (accord.says e later p own x words next can run) free messages all w d ahead due s =
-    says_due k w p e own x words later next messages d ahead free.0 can all due s
+run_of k (accord.answers e later p own before x words tsdu rest c reply passed there hears taken replied is run) free messages all w d
+    ahead due s = absurd free
+run_of k (accord.says e later p own before x words next can run) free messages all w d ahead due s =
+    says_due k w p e own before x words later next messages d ahead free.0 can all due s
     (λ more al v f a du st. run_of k run free.1 more al v f a du st)
-run_of k (accord.sends e later p own run) free messages all w d ahead due s =
-    sends_due k w p e own later messages d ahead all due s (λ v f a du st. run_of k run free messages all v f a du st)
+run_of k (accord.sends e later p own before run) free messages all w d ahead due s =
+    sends_due k w p e own before later messages d ahead all due s (λ v f a du st. run_of k run free messages all v f a du st)
 
-pub machine_run : AsMessages → (o : Offer) (messages : List Utterance) (run : Accords (map sending_as messages) (asking o)) →
-    IsSendable (offer_sent o) → AllByRecursion IsMessage messages → TakesNoLiberty run → Plays (core_start o) messages
-machine_run k o messages run send all free =
-    run_of k run free messages all (core_start o) Left [] (inl (refl, refl))
+pub machine_run : AsMessages → (o : Offer) (sent : List Sending) (messages : List Utterance) (run : Accords sent (asking o)) →
+    IsSendable (offer_sent o) → AllByRecursion IsMessage messages → AreWritten sent messages → TakesNoLiberty run →
+    Plays (core_start o) messages
+machine_run k o sent messages run send all written free =
+    run_of k run free messages all (core_start o) Left [] (inl (written, refl))
     (record {
       own = record { state = refl; joined = refl; flight = refl; sendable = (send, tt) };
       peer = record { state = refl; joined = refl; flight = refl; sendable = tt };

@@ -15,7 +15,7 @@ use Rattle.osi_judge.specs.Tapping.{had_passed, heard, tell, told}
 use Rattle.osi_judge.specs.Transport.{IsSent, Sent}
 use Rattle.osi_accord.specs.Accords.{Accords, AreInOrder, Sending, Turn, sending_of, told_by, tsdus_by, turn}
 use Rattle.osi_accord.specs.Pairs.{pair_of}
-use Rattle.osi_accord.specs.Taps.{AllFrom, ArePassed, IsAccord, Passage, passage, place, sending_in, sent_by}
+use Rattle.osi_accord.specs.Taps.{AllFrom, ArePassed, IsAccord, Passage, passage, place, sending_in, sendings_in, sent_by}
 use Rattle.osi_accord.proofs.the_tsdus_of_a_side_rise.{Rise, sent_rise}
 use Rattle.osi_accord.proofs.tsdus_of_both_sides_in_order.{merged}
 use Rattle.osi_accord.proofs.two_runs_are_one.{accord_of}
@@ -156,12 +156,12 @@ heard_right capture lefts rights (passage Right t ∷ passages) =
 heard_right capture lefts rights (passage Left t ∷ passages) = heard_right capture lefts rights passages
 
 sent_same : (capture : Capture) (lefts rights : List Sent) (passages : List Passage) →
-    map sending_of (turns_in capture lefts rights passages) ≡ map sending_in passages
+    map sending_of (turns_in capture lefts rights passages) ≡ map (sending_in capture lefts rights) passages
 sent_same capture lefts rights [] = refl
 sent_same capture lefts rights (passage Left t ∷ passages) =
-    ap (λ (x : List Sending). sending_in (passage Left t) ∷ x) (sent_same capture lefts rights passages)
+    ap (λ (x : List Sending). sending_in capture lefts rights (passage Left t) ∷ x) (sent_same capture lefts rights passages)
 sent_same capture lefts rights (passage Right t ∷ passages) =
-    ap (λ (x : List Sending). sending_in (passage Right t) ∷ x) (sent_same capture lefts rights passages)
+    ap (λ (x : List Sending). sending_in capture lefts rights (passage Right t) ∷ x) (sent_same capture lefts rights passages)
 
 -- ---- two sides of a capture
 
@@ -169,7 +169,7 @@ ordered_accord : (capture : Capture) (passages : List Passage) → AreSound (sen
     ArePassed capture passages →
     IsExplained seen_calling (heard (sent_by Right passages)) (told Left capture (sent_by Left passages) (sent_by Right passages)) →
     IsExplained seen_called (heard (sent_by Left passages)) (told Right capture (sent_by Right passages) (sent_by Left passages)) →
-    Accords (map sending_in passages) (pair_of seen_calling seen_called)
+    Accords (sendings_in capture passages) (pair_of seen_calling seen_called)
 ordered_accord capture passages s t o e f =
     let l = sent_by Left passages in
     let r = sent_by Right passages in

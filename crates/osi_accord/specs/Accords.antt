@@ -1,5 +1,5 @@
 -- Runs of two sessions in which these TSDUs are sent, in this order.
-use Rattle.std.specs.Prelude.{◌≡◌, ◌≤◌, ◌+◌, ℕ, true, List, [], ◌∷◌, ◌++◌, length, map, Option, Some, None, Result, Ok, Err}
+use Rattle.std.specs.Prelude.{◌≡◌, ◌<◌, ◌≤◌, ◌+◌, ℕ, true, List, [], ◌∷◌, ◌++◌, length, map, Option, Some, None, Result, Ok, Err}
 use Rattle.std.specs.List.{flat_map}
 use Rattle.osi_spdu.specs.declared.faults.SpduFault.{SpduFault}
 use Rattle.osi_message.specs.Meanings.{Meaning}
@@ -11,7 +11,7 @@ use Rattle.osi_judge.specs.declared.directions.Direction.{Direction}
 use Rattle.osi_judge.specs.declared.directions.Direction.TheVariants.{Left, Right}
 use Rattle.osi_judge.specs.Captures.{other}
 use Rattle.osi_judge.specs.Explaining.{Told}
-use Rattle.osi_accord.specs.Pairs.{Pair, session_of, channel_of, with_session, with_channel, has_taken}
+use Rattle.osi_accord.specs.Pairs.{Pair, session_of, taken_of, channel_of, with_session, with_channel, has_taken}
 
 -- ---- what both sides send
 
@@ -51,30 +51,32 @@ words_read (Err fault) = None ∷ []
 abbrev pub words_in : List ℕ → List (Option Word)
 words_in tsdu = words_read (said_at tsdu)
 
--- a TSDU of a side, and the words of it that are still to be sent
+-- A TSDU of a side, how many TSDUs of the other side had passed before it, and its words that are still to be sent.
 pub data Sending : Type 0 where
-  sending : Direction → (tsdu : List ℕ) → (words : List (Option Word)) → Sending
+  sending : Direction → (tsdu : List ℕ) → (before : ℕ) → (words : List (Option Word)) → Sending
 
 abbrev pub sending_of : Turn → Sending
-sending_of (turn d t) = sending d t.octets (words_in t.octets)
+sending_of (turn d t) = sending d t.octets t.before (words_in t.octets)
 
--- Two sessions can send this from here on, in this order. A TSDU is in flight once all its words are sent, and each side may take
--- what is in flight to it at any time, the oldest first.
+-- Two sessions can send this from here on, in this order. A TSDU is in flight once all its words are sent. Before a side sends a TSDU
+-- it may take those that had passed before it, the oldest in flight first.
 pub data Accords : List Sending → Pair → Type 0 where
   -- nothing is left to send
   done : (p : Pair) → Accords [] p
   -- a side takes a TSDU, and sends nothing
-  takes : (d : Direction) (later : List Sending) (p : Pair) (tsdu : List ℕ) (rest : List (List ℕ)) (c : Count) → channel_of (other d) p ≡ tsdu ∷ rest
-      → listens (session_of d p) ≡ true → Takes (session_of d p) tsdu c → c.reply ≡ None → Accords later (has_taken d c rest p) → Accords later p
+  takes : (d : Direction) (later : List Sending) (p : Pair) (own : List ℕ) (before : ℕ) (words : List (Option Word)) (tsdu : List ℕ)
+      (rest : List (List ℕ)) (c : Count) → taken_of d p < before → channel_of (other d) p ≡ tsdu ∷ rest
+      → listens (session_of d p) ≡ true → Takes (session_of d p) tsdu c → c.reply ≡ None
+      → Accords (sending d own before words ∷ later) (has_taken d c rest p) → Accords (sending d own before words ∷ later) p
   -- it takes one, and answers it at once by its next word
-  answers : (d : Direction) (later : List Sending) (p : Pair) (tsdu : List ℕ) (rest : List (List ℕ)) (c : Count) (reply : Meaning)
-      (own : List ℕ) (w : Word) (words : List (Option Word)) → channel_of (other d) p ≡ tsdu ∷ rest
+  answers : (d : Direction) (later : List Sending) (p : Pair) (own : List ℕ) (before : ℕ) (w : Word) (words : List (Option Word))
+      (tsdu : List ℕ) (rest : List (List ℕ)) (c : Count) (reply : Meaning) → taken_of d p < before → channel_of (other d) p ≡ tsdu ∷ rest
       → listens (session_of d p) ≡ true → Takes (session_of d p) tsdu c → c.reply ≡ Some reply → answers_word reply w ≡ true
-      → Accords (sending d own words ∷ later) (has_taken d c rest p) → Accords (sending d own (Some w ∷ words) ∷ later) p
+      → Accords (sending d own before words ∷ later) (has_taken d c rest p) → Accords (sending d own before (Some w ∷ words) ∷ later) p
   -- it sends its next word
-  says : (d : Direction) (later : List Sending) (p : Pair) (own : List ℕ) (w : Word) (words : List (Option Word)) (next : Seen)
-      → CanSay (session_of d p) w (length own) next → Accords (sending d own words ∷ later) (with_session d next p)
-      → Accords (sending d own (Some w ∷ words) ∷ later) p
+  says : (d : Direction) (later : List Sending) (p : Pair) (own : List ℕ) (before : ℕ) (w : Word) (words : List (Option Word)) (next : Seen)
+      → CanSay (session_of d p) w (length own) next → Accords (sending d own before words ∷ later) (with_session d next p)
+      → Accords (sending d own before (Some w ∷ words) ∷ later) p
   -- all words of a TSDU are sent: it is in flight
-  sends : (d : Direction) (later : List Sending) (p : Pair) (own : List ℕ)
-      → Accords later (with_channel d (channel_of d p ++ own ∷ []) p) → Accords (sending d own [] ∷ later) p
+  sends : (d : Direction) (later : List Sending) (p : Pair) (own : List ℕ) (before : ℕ)
+      → Accords later (with_channel d (channel_of d p ++ own ∷ []) p) → Accords (sending d own before [] ∷ later) p

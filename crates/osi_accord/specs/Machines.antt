@@ -19,7 +19,7 @@ use Rattle.osi_judge.specs.declared.directions.Direction.TheVariants.{Left, Righ
 use Rattle.osi_accord.specs.Accords.{Accords, Sending, sending, words_in}
 use Rattle.osi_accord.specs.Accords as accord
 use Rattle.osi_accord.specs.Liberties.{IsCall}
-use Rattle.osi_accord.specs.Pairs.{Pair, session_of}
+use Rattle.osi_accord.specs.Pairs.{Pair, party_of, session_of}
 
 -- ---- messages
 
@@ -31,9 +31,12 @@ pub data Utterance : Type 0 where
 abbrev pub IsMessage : Utterance → Type 0
 IsMessage (utters d m) = IsSendable m × (has_no_effect m ≡ false)
 
--- its TSDU, as this product writes it
-abbrev pub sending_as : Utterance → Sending
-sending_as (utters d m) = sending d (written m) (words_in (written m))
+-- each of these is the TSDU of a message, as this product writes it
+abbrev pub AreWritten : List Sending → List Utterance → Type 0
+AreWritten [] [] = Unit {0}
+AreWritten (sending d tsdu before words ∷ sent) (utters e m ∷ messages) =
+    (d ≡ e) × (tsdu ≡ written m) × (words ≡ words_in (written m)) × AreWritten sent messages
+AreWritten _ _ = ⊥
 
 -- ---- a run that takes no liberty
 
@@ -50,16 +53,16 @@ IsByCall s w next = (w ≡ says (GT no_token)) ⊎ ((m : Meaning) × (w ≡ says
 -- Each word is sent by such a call. No session answers by itself, as it does to an abort, a fault and a CN that it refuses.
 abbrev pub TakesNoLiberty : {sent : List Sending} {p : Pair} → Accords sent p → Type 0
 TakesNoLiberty (accord.done p) = Unit {0}
-TakesNoLiberty (accord.takes d later p tsdu rest c there hears taken quiet run) = TakesNoLiberty run
-TakesNoLiberty (accord.answers d later p tsdu rest c reply own w words there hears taken replied is run) = ⊥
-TakesNoLiberty (accord.says d later p own w words next can run) = IsByCall (session_of d p) w next × TakesNoLiberty run
-TakesNoLiberty (accord.sends d later p own run) = TakesNoLiberty run
+TakesNoLiberty (accord.takes d later p own before words tsdu rest c passed there hears taken quiet run) = TakesNoLiberty run
+TakesNoLiberty (accord.answers d later p own before w words tsdu rest c reply passed there hears taken replied is run) = ⊥
+TakesNoLiberty (accord.says d later p own before w words next can run) = IsByCall (session_of d p) w next × TakesNoLiberty run
+TakesNoLiberty (accord.sends d later p own before run) = TakesNoLiberty run
 
 -- the CN of a caller is in flight
 abbrev pub asking : Offer → Pair
 asking o = record {
-  left = record { session = begins (offering o); channel = written (offer_sent o) ∷ [] };
-  right = record { session = seen_called; channel = [] };
+  left = record { session = begins (offering o); taken = 0; channel = written (offer_sent o) ∷ [] };
+  right = party_of seen_called;
 }
 
 -- ---- what is sent in a run of the machine

@@ -5,6 +5,7 @@ use Rattle.osi_session.specs.Standing.{seen_called, seen_calling}
 use Rattle.osi_judge.specs.declared.directions.Direction.{Direction}
 use Rattle.osi_judge.specs.declared.directions.Direction.TheVariants.{Left, Right}
 use Rattle.osi_judge.specs.Captures.{Capture, passed_before}
+use Rattle.osi_judge.specs.Tapping.{had_passed}
 use Rattle.osi_judge.specs.Transport.{Sent, IsSent}
 use Rattle.osi_accord.specs.Accords.{Accords, Sending, sending, words_in}
 use Rattle.osi_accord.specs.Pairs.{pair_of}
@@ -46,11 +47,16 @@ pub record ArePassagesOf (capture : Capture) (passages : List Passage) : Type 0 
   pub right : IsSent Right capture (sent_by Right passages)
   pub order : ArePassed capture passages
 
--- each of them is to be sent
-abbrev pub sending_in : Passage → Sending
-sending_in (passage d t) = sending d t.octets (words_in t.octets)
+-- each of them is to be sent, after those of the other side that had passed as a whole before its first octet
+abbrev pub sending_in : Capture → (lefts rights : List Sent) → Passage → Sending
+sending_in capture lefts rights (passage Left t) = sending Left t.octets (had_passed Left capture t.first rights) (words_in t.octets)
+sending_in capture lefts rights (passage Right t) = sending Right t.octets (had_passed Right capture t.first lefts) (words_in t.octets)
 
--- A caller and a called session, whose TSDUs are those of the capture. They send them in the order in which they passed.
+abbrev pub sendings_in : Capture → List Passage → List Sending
+sendings_in capture passages = map (sending_in capture (sent_by Left passages) (sent_by Right passages)) passages
+
+-- A caller and a called session, whose TSDUs are those of the capture: they send them in the order in which they began to pass, and
+-- before it sends a TSDU each has taken only what had passed as a whole before it.
 pub record IsAccord (capture : Capture) (passages : List Passage) : Type 0 where
   pub are : ArePassagesOf capture passages
-  pub runs : Accords (map sending_in passages) (pair_of seen_calling seen_called)
+  pub runs : Accords (sendings_in capture passages) (pair_of seen_calling seen_called)

@@ -13,9 +13,9 @@ ghost use Rattle.osi_judge.specs.declared.findings.Finding.{Finding};
 ghost use Rattle.osi_judge.specs.Captures.{Capture};
 ghost use Rattle.osi_judge.specs.Explaining.{IsExplained};
 ghost use Rattle.osi_judge.specs.Tapping.{IsFoundIn};
-ghost use Rattle.osi_accord.specs.Accords.{Accords, AreInOrder, Turn, sending_of, told_by, tsdus_by};
+ghost use Rattle.osi_accord.specs.Accords.{Accords, AreInOrder, Sending, Turn, sending_of, told_by, tsdus_by};
 ghost use Rattle.osi_accord.specs.Liberties.{IsCall, as_called, is_called};
-ghost use Rattle.osi_accord.specs.Machines.{IsMessage, Plays, TakesNoLiberty, Utterance, asking, sending_as};
+ghost use Rattle.osi_accord.specs.Machines.{AreWritten, IsMessage, Plays, TakesNoLiberty, Utterance, asking};
 ghost use Rattle.osi_accord.specs.Pairs.{pair_of};
 ghost use Rattle.osi_accord.specs.Taps.{IsAccord, Passage};
 
@@ -62,8 +62,8 @@ pub fn what_may_be_said_is_called()
 ///
 /// [`TakesNoLiberty`]: ../specs/Machines.antt
 pub fn without_liberties_it_is_a_run_of_the_machine()
-    ensures { (o : Offer) (messages : List Utterance) (run : Accords (map sending_as messages) (asking o)) → IsSendable (offer_sent o) →
-        AllByRecursion IsMessage messages → TakesNoLiberty run → Plays (core_start o) messages }
+    ensures { (o : Offer) (sent : List Sending) (messages : List Utterance) (run : Accords sent (asking o)) → IsSendable (offer_sent o) →
+        AllByRecursion IsMessage messages → AreWritten sent messages → TakesNoLiberty run → Plays (core_start o) messages }
 {
     what_is_sent_is_read();
     messages_do_what_they_did();
