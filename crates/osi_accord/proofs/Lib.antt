@@ -1,6 +1,7 @@
 -- The map of these proofs, in reading order.
 -- Two sides that are explained apart from each other run together.
 pub mod two_runs_are_one
+pub mod a_pair_explains_both_sides
 -- What passed before an octet of a capture, and in which order TSDUs pass.
 pub mod what_passes_first
 pub mod the_tsdus_of_a_side_rise

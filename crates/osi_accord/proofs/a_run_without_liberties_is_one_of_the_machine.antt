@@ -385,7 +385,7 @@ run_of : (k : AsMessages) {sent : List Sending} {p : Pair} (run : Accords sent p
     Stands w p d ahead [] → Plays w messages
 run_of k (accord.done p) free messages all w d ahead due s =
     subst (Plays w) (nothing_due messages d ahead due) (record { steps = []; numbered = tt; sent = refl })
-run_of k (accord.takes e later p own before words tsdu rest c passed there hears taken quiet run) free messages all w d ahead due s =
+run_of k (accord.takes e later p own before x words tsdu rest c passed there hears taken quiet run) free messages all w d ahead due s =
     takes_step w e messages
     (run_of k run free messages all (core_step w (take_at (side_at e))) d ahead due (takes_any k w p e d c tsdu rest ahead there taken s))
 run_of k (accord.answers e later p own before x words tsdu rest c reply passed there hears taken replied is run) free messages all w d

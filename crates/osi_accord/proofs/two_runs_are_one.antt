@@ -31,10 +31,11 @@ module _ (later : List Sending) (own : List ℕ) (before k : ℕ) (s : Seen) (mi
   Sends d words s k theirs = Accords (sending d own before words ∷ later) (seen_from d (party s k mine) (party y b theirs))
 
   -- this side takes a TSDU
-  take_on : (d : Direction) (words : List (Option Word)) (tsdu : List ℕ) (more : List (List ℕ)) (c : Count) → k < before →
-      listens s ≡ true → Takes s tsdu c → c.reply ≡ None → Sends d words (after_count s c) (k + 1) more → Sends d words s k (tsdu ∷ more)
-  take_on Left words tsdu more c l h t n a = accord.takes Left later _ own before words tsdu more c l refl h t n a
-  take_on Right words tsdu more c l h t n a = accord.takes Right later _ own before words tsdu more c l refl h t n a
+  take_on : (d : Direction) (w : Option Word) (words : List (Option Word)) (tsdu : List ℕ) (more : List (List ℕ)) (c : Count) → k < before →
+      listens s ≡ true → Takes s tsdu c → c.reply ≡ None → Sends d (w ∷ words) (after_count s c) (k + 1) more →
+      Sends d (w ∷ words) s k (tsdu ∷ more)
+  take_on Left w words tsdu more c l h t n a = accord.takes Left later _ own before w words tsdu more c l refl h t n a
+  take_on Right w words tsdu more c l h t n a = accord.takes Right later _ own before w words tsdu more c l refl h t n a
 
   -- it answers it
   answer_on : (d : Direction) (w : Word) (words : List (Option Word)) (tsdu : List ℕ) (more : List (List ℕ)) (c : Count) (reply : Meaning) →
@@ -57,7 +58,7 @@ module _ (later : List Sending) (own : List ℕ) (before k : ℕ) (s : Seen) (mi
 
 -- ---- the words of a TSDU are its remarks
 
-abbrev said_as : Told → Option Word → Remark
+abbrev pub said_as : Told → Option Word → Remark
 said_as t w = record { word = w; octets = length t.octets; before = t.before }
 
 words_are : (t : Told) (words : Words) → map (remark t) words ≡ map (said_as t) (map Some words)
@@ -68,7 +69,7 @@ read_are : (t : Told) (r : Result Words SpduFault) → read_as t r ≡ map (said
 read_are t (Ok words) = words_are t (acting_words words)
 read_are t (Err fault) = refl
 
-remarks_are : (t : Told) → remarks_of t ≡ map (said_as t) (words_in t.octets)
+pub remarks_are : (t : Told) → remarks_of t ≡ map (said_as t) (words_in t.octets)
 remarks_are t = read_are t (said_at t.octets)
 
 -- the first remark, and those after it
@@ -104,10 +105,10 @@ record Arrives (us : List (List ℕ)) (sent k : ℕ) (gone flight rest : List (L
   counted : length (gone ++ tsdu ∷ []) ≡ k + 1
   on : Splits us sent (gone ++ tsdu ∷ []) more rest
 
-one_more : (gone : List (List ℕ)) (tsdu : List ℕ) → length (gone ++ tsdu ∷ []) ≡ length gone + 1
+pub one_more : (gone : List (List ℕ)) (tsdu : List ℕ) → length (gone ++ tsdu ∷ []) ≡ length gone + 1
 one_more gone tsdu = length-append gone (tsdu ∷ [])
 
-taken_one : (gone : List (List ℕ)) (tsdu : List ℕ) (more : List (List ℕ)) → gone ++ (tsdu ∷ more) ≡ (gone ++ tsdu ∷ []) ++ more
+pub taken_one : (gone : List (List ℕ)) (tsdu : List ℕ) (more : List (List ℕ)) → gone ++ (tsdu ∷ more) ≡ (gone ++ tsdu ∷ []) ++ more
 taken_one [] tsdu more = refl
 taken_one (g ∷ gone) tsdu more = ap (λ (x : List (List ℕ)). g ∷ x) (taken_one gone tsdu more)
 
@@ -147,7 +148,7 @@ module _ (us : List (List ℕ)) (d : Direction) (t : Told) (after : List Sending
       let same : m.before ≡ t.before = ap first_before is in
       let a = arrives us sent k m.before gone flight rest l (omega arith) e split in
       subst (λ (f : List (List ℕ)). SendsThis (w ∷ words) s k f) (sym a.is)
-      (take_on after t.octets t.before k s mine y b d (w ∷ words) a.tsdu a.more c (omega arith) h
+      (take_on after t.octets t.before k s mine y b d w words a.tsdu a.more c (omega arith) h
       (subst (λ (u : List ℕ). Takes s u c) a.there taken) n
       (sends_all (w ∷ words) (m ∷ ms) (k + 1) (after_count s c) (gone ++ a.tsdu ∷ []) a.more is a.counted a.on x))
   sends_all (w ∷ words) _ k s gone flight is e split (explained.answers m ms _ _ c reply v l h taken r i j x) =

@@ -58,16 +58,16 @@ pub data Sending : Type 0 where
 abbrev pub sending_of : Turn → Sending
 sending_of (turn d t) = sending d t.octets t.before (words_in t.octets)
 
--- Two sessions can send this from here on, in this order. A TSDU is in flight once all its words are sent. Before a side sends a TSDU
--- it may take those that had passed before it, the oldest in flight first.
+-- Two sessions can send this from here on, in this order. A TSDU is in flight once all its words are sent. Before a word of a TSDU its
+-- side may take TSDUs that had passed before that TSDU, the oldest in flight first.
 pub data Accords : List Sending → Pair → Type 0 where
   -- nothing is left to send
   done : (p : Pair) → Accords [] p
   -- a side takes a TSDU, and sends nothing
-  takes : (d : Direction) (later : List Sending) (p : Pair) (own : List ℕ) (before : ℕ) (words : List (Option Word)) (tsdu : List ℕ)
-      (rest : List (List ℕ)) (c : Count) → taken_of d p < before → channel_of (other d) p ≡ tsdu ∷ rest
+  takes : (d : Direction) (later : List Sending) (p : Pair) (own : List ℕ) (before : ℕ) (w : Option Word) (words : List (Option Word))
+      (tsdu : List ℕ) (rest : List (List ℕ)) (c : Count) → taken_of d p < before → channel_of (other d) p ≡ tsdu ∷ rest
       → listens (session_of d p) ≡ true → Takes (session_of d p) tsdu c → c.reply ≡ None
-      → Accords (sending d own before words ∷ later) (has_taken d c rest p) → Accords (sending d own before words ∷ later) p
+      → Accords (sending d own before (w ∷ words) ∷ later) (has_taken d c rest p) → Accords (sending d own before (w ∷ words) ∷ later) p
   -- it takes one, and answers it at once by its next word
   answers : (d : Direction) (later : List Sending) (p : Pair) (own : List ℕ) (before : ℕ) (w : Word) (words : List (Option Word))
       (tsdu : List ℕ) (rest : List (List ℕ)) (c : Count) (reply : Meaning) → taken_of d p < before → channel_of (other d) p ≡ tsdu ∷ rest

@@ -53,7 +53,7 @@ IsByCall s w next = (w ≡ says (GT no_token)) ⊎ ((m : Meaning) × (w ≡ says
 -- Each word is sent by such a call. No session answers by itself, as it does to an abort, a fault and a CN that it refuses.
 abbrev pub TakesNoLiberty : {sent : List Sending} {p : Pair} → Accords sent p → Type 0
 TakesNoLiberty (accord.done p) = Unit {0}
-TakesNoLiberty (accord.takes d later p own before words tsdu rest c passed there hears taken quiet run) = TakesNoLiberty run
+TakesNoLiberty (accord.takes d later p own before w words tsdu rest c passed there hears taken quiet run) = TakesNoLiberty run
 TakesNoLiberty (accord.answers d later p own before w words tsdu rest c reply passed there hears taken replied is run) = ⊥
 TakesNoLiberty (accord.says d later p own before w words next can run) = IsByCall (session_of d p) w next × TakesNoLiberty run
 TakesNoLiberty (accord.sends d later p own before run) = TakesNoLiberty run

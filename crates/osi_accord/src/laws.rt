@@ -26,10 +26,13 @@ use osi_session::laws::{an_empty_token_item_changes_nothing, messages_do_what_th
 /// Two sides are each explained apart from the other, by what had passed of the other before each TSDU. Then there is one run
 /// of both: they send these TSDUs in this order, and each takes a TSDU only after the other has sent it.
 pub fn two_explained_sides_are_a_pair()
-    ensures { (left right : Seen) (turns : List Turn) → AreInOrder 0 0 turns →
+    ensures pair { (left right : Seen) (turns : List Turn) → AreInOrder 0 0 turns →
         IsExplained left (tsdus_by Direction.Right turns) (told_by Direction.Left turns) →
         IsExplained right (tsdus_by Direction.Left turns) (told_by Direction.Right turns) →
         Accords (map sending_of turns) (pair_of left right) }
+    ensures only { (left right : Seen) (turns : List Turn) → Accords (map sending_of turns) (pair_of left right) →
+        IsExplained left (tsdus_by Direction.Right turns) (told_by Direction.Left turns)
+        × IsExplained right (tsdus_by Direction.Left turns) (told_by Direction.Right turns) }
 {}
 
 /// Of both sides of a capture the judge finds that they kept the protocol. Then there are two sessions, a caller and a called
