@@ -1,7 +1,7 @@
 -- A run of two sessions in which no liberty is taken is a run of the machine of two sides that exchange whole messages.
 -- For the law of that name.
 use Rattle.std.proofs.Common.{◌≡◌, ◌∙◌, refl, sym, ap, subst, ℕ, ◌⊎◌, inl, inr, Bool, true, false, if◌then◌else◌, List, [], ◌∷◌, ◌++◌, length, map}
-use Rattle.std.proofs.Common.{Option, Some, None, option_map, Ok, Err, append-nil, append_assoc, is_none, not, ◌||◌, ◌&&◌}
+use Rattle.std.proofs.Common.{Option, Some, None, option_map, unwrap_or, Ok, Err, append-nil, append_assoc, is_none, not, ◌||◌, ◌&&◌}
 use Rattle.std.specs.List.{AllByRecursion, list_any}
 use Rattle.osi_spdu.specs.declared.faults.SpduFault.{SpduFault}
 use Rattle.osi_message.specs.Meanings.{Meaning, GT}
@@ -10,12 +10,14 @@ use Rattle.osi_message.specs.Sendable.{IsSendable, said_of, words_of}
 use Rattle.osi_message.specs.Tokens.{is_empty, no_token}
 use Rattle.osi_message.specs.Words.{Word, Words, says}
 use Rattle.osi_message.specs.Written.{is_second, written}
+use Rattle.osi_spdu.specs.Sizes.{are_sizes}
+use Rattle.osi_session.specs.Units.{functional_units, has_points}
 use Rattle.osi_session.specs.declared.state.State.{State}
 use Rattle.osi_session.specs.Allowed.{Answer, Step, allowed}
 use Rattle.osi_session.specs.Calls.{Call, HasSerial}
 use Rattle.osi_session.specs.Joining.{Hearing, acting_words, drops_parts, heard, is_restart_word, respond_came, respond_tsdu}
 use Rattle.osi_session.specs.Respond.{has_no_effect, respond, respond_unit}
-use Rattle.osi_session.specs.Standing.{CanSay, Count, Seen, Takes, after_count, begins, counted, goes, is_in_size, listens, said, said_within, seen_called}
+use Rattle.osi_session.specs.Standing.{CanSay, Count, Seen, Takes, after_count, begins, counted, goes, is_in_size, listens, said, said_within, fits_user_data, seen_called, seen_calling}
 use Rattle.osi_machine.specs.Core.{Core, CoreStep, Offer, call_at, called, core_start, core_step, offer_sent, offering, stays_in_core, take_at, taking, turned}
 use Rattle.osi_machine.specs.Core as machine
 use Rattle.osi_machine.specs.Parties.{IsNumberedStep}
@@ -25,8 +27,8 @@ use Rattle.osi_judge.specs.Captures.{other}
 use Rattle.osi_accord.specs.Accords.{Accords, Sending, sending, words_in, words_read}
 use Rattle.osi_accord.specs.Accords as accord
 use Rattle.osi_accord.specs.Liberties.{IsCall}
-use Rattle.osi_accord.specs.Machines.{AreWritten, IsByCall, IsCoreCall, IsMessage, Plays, TakesNoLiberty, Utterance, asking, sent_at, sent_in, side_at, state_at, utters}
-use Rattle.osi_accord.specs.Pairs.{Pair, channel_of, has_taken, session_of, with_channel, with_session}
+use Rattle.osi_accord.specs.Machines.{AreWritten, IsByCall, IsCoreCall, IsMessage, Plays, TakesNoLiberty, Utterance, connect_of, is_connect, sent_at, sent_in, side_at, state_at, utters}
+use Rattle.osi_accord.specs.Pairs.{Pair, pair_of, party_of, channel_of, has_taken, session_of, with_channel, with_session}
 
 -- what is known of messages in octets, and of what a session does with them
 pub record AsMessages : Type 0 where
@@ -328,10 +330,18 @@ effect_of : (m : Meaning) → has_no_effect m ≡ false → m ≡ GT no_token �
 unfolding is_empty
 effect_of m e is = let f : true ≡ false = ap has_no_effect (sym is) ∙ e in cc
 
+not_both : (b : Bool) → b ≡ true → b ≡ false → ⊥
+not_both true e f = cc
+not_both false e f = cc
+
 -- the call by which it is sent
-call_of : (s next : Seen) (w : Word) (m : Meaning) → IsByCall s w next → w ≡ says m → has_no_effect m ≡ false → IsCoreCall s m next
-call_of s next w m (inl is) e effect = absurd (effect_of m effect (same_said m (GT no_token) (sym e ∙ is)))
-call_of s next w m (inr (n, is, call)) e effect = subst (λ (x : Meaning). IsCoreCall s x next) (same_said n m (sym is ∙ e)) call
+call_of : (s next : Seen) (w : Word) (m : Meaning) → IsByCall s w next → w ≡ says m → has_no_effect m ≡ false → is_connect m ≡ false →
+    IsCoreCall s m next
+call_of s next w m (inl is) e effect other = absurd (effect_of m effect (same_said m (GT no_token) (sym e ∙ is)))
+call_of s next w m (inr (n, is, inl connects)) e effect other =
+    absurd (not_both (is_connect n) connects (ap is_connect (same_said n m (sym is ∙ e)) ∙ other))
+call_of s next w m (inr (n, is, inr call)) e effect other =
+    subst (λ (x : Meaning). IsCoreCall s x next) (same_said n m (sym is ∙ e)) call
 
 -- a word is sent
 says_due : AsMessages → (w : Core) (p : Pair) (e : Direction) (own : List ℕ) (before : ℕ) (x : Word) (words : List (Option Word))
@@ -344,7 +354,7 @@ says_due : AsMessages → (w : Core) (p : Pair) (e : Direction) (own : List ℕ)
 says_due k w p e own before x words later next [] d ahead by can all (inl due) s on = absurd due.0
 says_due k w p e own before x words later next (utters f m ∷ messages) d ahead by can all (inl due) s on =
     let h = first_word k m x words all.0.0 due.0.2 in
-    let call = call_of (session_of e p) next x m by h.word all.0.1 in
+    let call = call_of (session_of e p) next x m by h.word all.0.1 all.0.2 in
     let still : Stands w p e [] [] = calm w p d e (subst (λ (a : List Meaning). Stands w p d a []) due.1 s) in
     subst (λ (z : Direction). Plays w (utters z m ∷ messages)) due.0.0
     (call_step w e call.is.call m messages call.numbered (call_sends w p e next m call still)
@@ -396,11 +406,108 @@ run_of k (accord.says e later p own before x words next can run) free messages a
 run_of k (accord.sends e later p own before run) free messages all w d ahead due s =
     sends_due k w p e own before later messages d ahead all due s (λ v f a du st. run_of k run free messages all v f a du st)
 
-pub machine_run : AsMessages → (o : Offer) (sent : List Sending) (messages : List Utterance) (run : Accords sent (asking o)) →
-    IsSendable (offer_sent o) → AllByRecursion IsMessage messages → AreWritten sent messages → TakesNoLiberty run →
-    Plays (core_start o) messages
-machine_run k o sent messages run send all written free =
-    run_of k run free messages all (core_start o) Left [] (inl (written, refl))
+-- ---- how it begins
+
+-- a run in which no liberty is taken
+abbrev Free : List Sending → Pair → Type 0
+Free sent p = (run : Accords sent p) × TakesNoLiberty run
+
+-- the CN of a caller is in flight
+abbrev asking : Offer → Pair
+asking o = record {
+  left = record { session = begins (offering o); taken = 0; channel = written (offer_sent o) ∷ [] };
+  right = party_of seen_called;
+}
+
+abbrev first_words : List Sending → List (Option Word)
+first_words [] = []
+first_words (sending d own before words ∷ sent) = words
+
+abbrev first_side : List Sending → Direction
+first_side [] = Left
+first_side (sending d own before words ∷ sent) = d
+
+abbrev first_octets : List Sending → List ℕ
+first_octets [] = []
+first_octets (sending d own before words ∷ sent) = own
+
+abbrev after_first : List Sending → List Sending
+after_first [] = []
+after_first (x ∷ sent) = sent
+
+abbrev beginning : Pair
+beginning = pair_of seen_calling seen_called
+
+connect_words : AsMessages → (o : Offer) → IsSendable (offer_sent o) → words_in (written (offer_sent o)) ≡ Some (says (offer_sent o)) ∷ []
+unfolding acting_words is_second
+connect_words k o send = rw (k.read (offer_sent o) send) refl
+
+first_number : (b : Bool) (serial : ℕ) → unwrap_or (if b then Some serial else None) 0 ≡ (if b then serial else 0)
+first_number true serial = refl
+first_number false serial = refl
+
+if_connects : (b : Bool) (state : State) (next : Seen) → option_map (goes seen_calling) (if b then Some state else None) ≡ Some next →
+    next ≡ goes seen_calling state
+if_connects true state next h = let e : Some (goes seen_calling state) ≡ Some next = h in cc
+if_connects false state next h = absurd (cc)
+
+connect_leaves : (o : Offer) (octets : ℕ) (next : Seen) → CanSay seen_calling (says (offer_sent o)) octets next → next ≡ begins (offering o)
+unfolding said
+connect_leaves o octets next h =
+    if_connects (fits_user_data o.octets && are_sizes o.sizes) _ next h
+    ∙ ap (λ (n : ℕ). begins (record (offering o) { proposed = n })) (first_number (has_points (functional_units o.requirements)) o.serial)
+
+nothing_comes : (d : Direction) (p : Pair) (tsdu : List ℕ) (rest : List (List ℕ)) → p ≡ beginning → channel_of (other d) p ≡ tsdu ∷ rest → ⊥
+nothing_comes Left p tsdu rest e there = let none : [] ≡ tsdu ∷ rest = sym (ap (channel_of Right) e) ∙ there in cc
+nothing_comes Right p tsdu rest e there = let none : [] ≡ tsdu ∷ rest = sym (ap (channel_of Left) e) ∙ there in cc
+
+-- the TSDU is whole
+whole : (own : List ℕ) (before : ℕ) (sent : List Sending) {p : Pair} (run : Accords (sending Left own before [] ∷ sent) p) → TakesNoLiberty run →
+    Free sent (with_channel Left (channel_of Left p ++ own ∷ []) p)
+whole own before sent (accord.sends d later p o b run) free = (run, free)
+
+-- the word of the CN is sent
+begun : (o : Offer) (sent : List Sending) (d : Direction) (p : Pair) (own : List ℕ) (before : ℕ) (words : List (Option Word))
+    (later : List Sending) (next : Seen) → p ≡ beginning → d ≡ Left → own ≡ written (offer_sent o) → words ≡ [] → later ≡ sent →
+    next ≡ begins (offering o) → Free (sending d own before words ∷ later) (with_session d next p) → Free sent (asking o)
+begun o sent d p own before words later next start left octets none same is free =
+    let at : Free (sending d own before words ∷ later) (with_session d next beginning) =
+        subst (λ (x : Pair). Free (sending d own before words ∷ later) (with_session d next x)) start free in
+    let side : Free (sending Left own before words ∷ later) (with_session Left next beginning) =
+        subst (λ (x : Direction). Free (sending x own before words ∷ later) (with_session x next beginning)) left at in
+    let goes_on : Free (sending Left own before words ∷ later) (with_session Left (begins (offering o)) beginning) =
+        subst (λ (x : Seen). Free (sending Left own before words ∷ later) (with_session Left x beginning)) is side in
+    let all : Free (sending Left (written (offer_sent o)) before [] ∷ sent) (with_session Left (begins (offering o)) beginning) =
+        subst (λ (x : List Sending). Free x (with_session Left (begins (offering o)) beginning))
+        (λ i. sending Left (octets i) before (none i) ∷ same i) goes_on in
+    whole (written (offer_sent o)) before sent all.0 all.1
+
+connected : AsMessages → (o : Offer) → IsSendable (offer_sent o) → (before : ℕ) (sent : List Sending) {all : List Sending} {p : Pair}
+    (run : Accords all p) → TakesNoLiberty run → all ≡ connect_of o before ∷ sent → p ≡ beginning → Free sent (asking o)
+connected k o send before sent (accord.done p) free is start = absurd (cc)
+connected k o send before sent (accord.takes d later p own b w words tsdu rest c passed there hears taken quiet run) free is start =
+    absurd (nothing_comes d p tsdu rest start there)
+connected k o send before sent (accord.answers d later p own b w words tsdu rest c reply passed there hears taken replied r run) free is
+    start = absurd free
+connected k o send before sent (accord.says d later p own b w words next can run) free is start =
+    let words_of_it : Some w ∷ words ≡ Some (says (offer_sent o)) ∷ [] = ap first_words is ∙ connect_words k o send in
+    let word : w ≡ says (offer_sent o) = cc in
+    let none : words ≡ [] = cc in
+    let left : d ≡ Left = ap first_side is in
+    let first : CanSay (session_of d beginning) w (length own) next =
+        subst (λ (x : Pair). CanSay (session_of d x) w (length own) next) start can in
+    let there : CanSay seen_calling w (length own) next = subst (λ (x : Direction). CanSay (session_of x beginning) w (length own) next) left first in
+    begun o sent d p own b words later next start left (ap first_octets is) none (ap after_first is)
+    (connect_leaves o (length own) next (subst (λ (x : Word). CanSay seen_calling x (length own) next) word there)) (run, free.1)
+connected k o send before sent (accord.sends d later p own b run) free is start =
+    let none : [] ≡ Some (says (offer_sent o)) ∷ [] = ap first_words is ∙ connect_words k o send in absurd (cc)
+
+pub machine_run : AsMessages → (o : Offer) (before : ℕ) (sent : List Sending) (messages : List Utterance)
+    (run : Accords (connect_of o before ∷ sent) (pair_of seen_calling seen_called)) → IsSendable (offer_sent o) →
+    AllByRecursion IsMessage messages → AreWritten sent messages → TakesNoLiberty run → Plays (core_start o) messages
+machine_run k o before sent messages run send all are free =
+    let rest = connected k o send before sent run free refl refl in
+    run_of k rest.0 rest.1 messages all (core_start o) Left [] (inl (are, refl))
     (record {
       own = record { state = refl; joined = refl; flight = refl; sendable = (send, tt) };
       peer = record { state = refl; joined = refl; flight = refl; sendable = tt };

@@ -6,18 +6,23 @@ use Rattle.std.specs.List.{filter}
 use Rattle.std.proofs.lemmas.Bool.{lt-leb}
 use Rattle.std.proofs.lemmas.Bool.Decides.{leb_tells}
 use Rattle.std.proofs.lemmas.List.Elements.{filter-append}
-use Rattle.osi_session.specs.Standing.{seen_called, seen_calling}
+use Rattle.std.proofs.Common.{subst, sym, take, drop}
+use Rattle.std.proofs.lemmas.List.{take-append-drop}
+use Rattle.osi_session.specs.Standing.{Seen, seen_called, seen_calling}
+use Rattle.osi_judge.specs.declared.findings.Finding.TheVariants.{Broke}
+use Rattle.osi_judge.proofs.honest.a_caller_is_explained.{front_told}
 use Rattle.osi_judge.specs.declared.directions.Direction.{Direction}
 use Rattle.osi_judge.specs.declared.directions.Direction.TheVariants.{Left, Right}
 use Rattle.osi_judge.specs.Captures.{Capture, other, passed_before}
 use Rattle.osi_judge.specs.Explaining.{IsExplained, Told}
-use Rattle.osi_judge.specs.Tapping.{had_passed, heard, tell, told}
+use Rattle.osi_judge.specs.Tapping.{IsFoundIn, had_passed, heard, tell, told}
 use Rattle.osi_judge.specs.Transport.{IsSent, Sent}
 use Rattle.osi_accord.specs.Accords.{Accords, AreInOrder, Sending, Turn, sending_of, told_by, tsdus_by, turn}
 use Rattle.osi_accord.specs.Pairs.{pair_of}
 use Rattle.osi_accord.specs.Taps.{AllFrom, ArePassed, IsAccord, Passage, passage, place, sending_in, sendings_in, sent_by}
 use Rattle.osi_accord.proofs.the_tsdus_of_a_side_rise.{Rise, sent_rise}
 use Rattle.osi_accord.proofs.tsdus_of_both_sides_in_order.{merged}
+use Rattle.osi_accord.proofs.a_pair_explains_both_sides.{both_explained}
 use Rattle.osi_accord.proofs.two_runs_are_one.{accord_of}
 use Rattle.osi_accord.proofs.what_passes_first.{passed_first}
 
@@ -192,3 +197,47 @@ capture_accord capture lefts rights il ir e f =
             (rw (m.left, m.right) e) (rw (m.left, m.right) f);
       },
     )
+
+-- ---- where there is a run of both, neither is blamed
+
+capture_explained : (capture : Capture) (passages : List Passage) → Accords (sendings_in capture passages) (pair_of seen_calling seen_called) →
+    IsExplained seen_calling (heard (sent_by Right passages)) (told Left capture (sent_by Left passages) (sent_by Right passages))
+    × IsExplained seen_called (heard (sent_by Left passages)) (told Right capture (sent_by Right passages) (sent_by Left passages))
+capture_explained capture passages run =
+    let l = sent_by Left passages in
+    let r = sent_by Right passages in
+    let both = both_explained seen_calling seen_called (turns_in capture l r passages)
+        (subst (λ (x : List Sending). Accords x (pair_of seen_calling seen_called)) (sym (sent_same capture l r passages)) run) in
+    (
+      subst (λ (x : List Told). IsExplained seen_calling (heard r) x) (told_left capture l r passages)
+      (subst (λ (x : List (List ℕ)). IsExplained seen_calling x (told_by Left (turns_in capture l r passages)))
+      (heard_right capture l r passages) both.0),
+      subst (λ (x : List Told). IsExplained seen_called (heard l) x) (told_right capture l r passages)
+      (subst (λ (x : List (List ℕ)). IsExplained seen_called x (told_by Right (turns_in capture l r passages)))
+      (heard_left capture l r passages) both.1),
+    )
+
+-- a side that is explained is explained up to each of its TSDUs
+front_explained : (begin : Seen) (us : List (List ℕ)) (said : List Told) (n : ℕ) → IsExplained begin us said → IsExplained begin us (take n said)
+front_explained begin us said n e =
+    front_told us (take n said) (drop n said) begin (subst (λ (x : List Told). IsExplained begin us x) (sym (take-append-drop n said)) e)
+
+abbrev OneReading : Type 0
+OneReading = (d : Direction) (capture : Capture) (some others : List Sent) → IsSent d capture some → IsSent d capture others → some ≡ others
+
+pub not_blamed : OneReading → (d : Direction) (capture : Capture) (passages : List Passage) (i : ℕ) → IsAccord capture passages →
+    IsFoundIn d capture (Broke i) → ⊥
+not_blamed same Left capture passages i a found =
+    let e = (capture_explained capture passages a.runs).0 in
+    let mine = same Left capture (sent_by Left passages) found.mine a.are.left found.is_mine in
+    let others = same Right capture (sent_by Right passages) found.others a.are.right found.is_others in
+    found.found.0.broke (front_explained seen_calling (heard found.others) (told Left capture found.mine found.others) (i + 1)
+    (subst (λ (x : List Sent). IsExplained seen_calling (heard x) (told Left capture found.mine x)) others
+    (subst (λ (x : List Sent). IsExplained seen_calling (heard (sent_by Right passages)) (told Left capture x (sent_by Right passages))) mine e)))
+not_blamed same Right capture passages i a found =
+    let e = (capture_explained capture passages a.runs).1 in
+    let mine = same Right capture (sent_by Right passages) found.mine a.are.right found.is_mine in
+    let others = same Left capture (sent_by Left passages) found.others a.are.left found.is_others in
+    found.found.0.broke (front_explained seen_called (heard found.others) (told Right capture found.mine found.others) (i + 1)
+    (subst (λ (x : List Sent). IsExplained seen_called (heard x) (told Right capture found.mine x)) others
+    (subst (λ (x : List Sent). IsExplained seen_called (heard (sent_by Left passages)) (told Right capture x (sent_by Left passages))) mine e)))

@@ -1,7 +1,7 @@
 -- Runs of two sessions in which no liberty is taken, and the machine of two sides that exchange whole messages.
-use Rattle.std.specs.Prelude.{◌≡◌, ◌⊎◌, ℕ, false, true, List, [], ◌∷◌, ◌++◌, if◌then◌else◌, Ok, Err}
+use Rattle.std.specs.Prelude.{◌≡◌, ◌⊎◌, ℕ, Bool, false, true, List, [], ◌∷◌, ◌++◌, if◌then◌else◌, Ok, Err}
 use Rattle.std.specs.List.{AllByRecursion}
-use Rattle.osi_message.specs.Meanings.{Meaning, GT}
+use Rattle.osi_message.specs.Meanings.{Meaning, CN, GT}
 use Rattle.osi_message.specs.Sendable.{IsSendable}
 use Rattle.osi_message.specs.Tokens.{no_token}
 use Rattle.osi_message.specs.Words.{Word, says}
@@ -10,8 +10,8 @@ use Rattle.osi_session.specs.declared.state.State.{State}
 use Rattle.osi_session.specs.Allowed.{Answer, allowed}
 use Rattle.osi_session.specs.Calls.{HasSerial}
 use Rattle.osi_session.specs.Respond.{has_no_effect}
-use Rattle.osi_session.specs.Standing.{Seen, begins, seen_called}
-use Rattle.osi_machine.specs.Core.{Core, CoreStep, Offer, Side, call_at, core_step, offer_sent, offering, stays_in_core, take_at}
+use Rattle.osi_session.specs.Standing.{Seen}
+use Rattle.osi_machine.specs.Core.{Core, CoreStep, Offer, Side, call_at, core_step, offer_sent, stays_in_core, take_at}
 use Rattle.osi_machine.specs.Core as machine
 use Rattle.osi_machine.specs.Parties.{IsNumberedStep}
 use Rattle.osi_judge.specs.declared.directions.Direction.{Direction}
@@ -19,7 +19,7 @@ use Rattle.osi_judge.specs.declared.directions.Direction.TheVariants.{Left, Righ
 use Rattle.osi_accord.specs.Accords.{Accords, Sending, sending, words_in}
 use Rattle.osi_accord.specs.Accords as accord
 use Rattle.osi_accord.specs.Liberties.{IsCall}
-use Rattle.osi_accord.specs.Pairs.{Pair, party_of, session_of}
+use Rattle.osi_accord.specs.Pairs.{Pair, session_of}
 
 -- ---- messages
 
@@ -27,9 +27,13 @@ use Rattle.osi_accord.specs.Pairs.{Pair, party_of, session_of}
 pub data Utterance : Type 0 where
   utters : Direction → Meaning → Utterance
 
--- it can be sent, and has an effect
+abbrev pub is_connect : Meaning → Bool
+is_connect (CN version_2 requirements serial wishes from to sizes octets) = true
+is_connect m = false
+
+-- it can be sent, has an effect, and is no CN
 abbrev pub IsMessage : Utterance → Type 0
-IsMessage (utters d m) = IsSendable m × (has_no_effect m ≡ false)
+IsMessage (utters d m) = IsSendable m × (has_no_effect m ≡ false) × (is_connect m ≡ false)
 
 -- each of these is the TSDU of a message, as this product writes it
 abbrev pub AreWritten : List Sending → List Utterance → Type 0
@@ -46,11 +50,11 @@ pub record IsCoreCall (s : Seen) (m : Meaning) (next : Seen) : Type 0 where
   pub numbered : HasSerial is.call
   pub stays : stays_in_core is.call ≡ true
 
--- Such a call sends the word; or it is the GT that names no token and stands beside data and all about points.
+-- Such a call sends the word; or it is a CN, or the GT that names no token and stands beside data and all about points.
 abbrev pub IsByCall : Seen → Word → Seen → Type 0
-IsByCall s w next = (w ≡ says (GT no_token)) ⊎ ((m : Meaning) × (w ≡ says m) × IsCoreCall s m next)
+IsByCall s w next = (w ≡ says (GT no_token)) ⊎ ((m : Meaning) × (w ≡ says m) × ((is_connect m ≡ true) ⊎ IsCoreCall s m next))
 
--- Each word is sent by such a call. No session answers by itself, as it does to an abort, a fault and a CN that it refuses.
+-- Each word is sent so. No session answers by itself, as it does to an abort, a fault and a CN that it refuses.
 abbrev pub TakesNoLiberty : {sent : List Sending} {p : Pair} → Accords sent p → Type 0
 TakesNoLiberty (accord.done p) = Unit {0}
 TakesNoLiberty (accord.takes d later p own before w words tsdu rest c passed there hears taken quiet run) = TakesNoLiberty run
@@ -58,12 +62,9 @@ TakesNoLiberty (accord.answers d later p own before w words tsdu rest c reply pa
 TakesNoLiberty (accord.says d later p own before w words next can run) = IsByCall (session_of d p) w next × TakesNoLiberty run
 TakesNoLiberty (accord.sends d later p own before run) = TakesNoLiberty run
 
--- the CN of a caller is in flight
-abbrev pub asking : Offer → Pair
-asking o = record {
-  left = record { session = begins (offering o); taken = 0; channel = written (offer_sent o) ∷ [] };
-  right = party_of seen_called;
-}
+-- the TSDU with the CN of a caller, as this product writes it
+abbrev pub connect_of : Offer → (before : ℕ) → Sending
+connect_of o before = sending Left (written (offer_sent o)) before (words_in (written (offer_sent o)))
 
 -- ---- what is sent in a run of the machine
 

@@ -1,13 +1,15 @@
 //! Laws of two sides of a capture. Each function does nothing: its clauses are the laws.
 
-ghost use Rattle.std.specs.Prelude.{◌≡◌, ℕ, true, List, length, map};
+ghost use Rattle.std.specs.Prelude.{◌≡◌, ℕ, true, List, ◌∷◌, length, map};
 ghost use Rattle.std.specs.List.{AllByRecursion};
 ghost use Rattle.osi_message.specs.Meanings.{Meaning};
 ghost use Rattle.osi_message.specs.Sendable.{IsSendable};
 ghost use Rattle.osi_message.specs.Words.{says};
 ghost use Rattle.osi_message.specs.Written.{written};
-ghost use Rattle.osi_session.specs.Standing.{CanSay, Seen, is_in_size};
-ghost use Rattle.osi_machine.specs.Core.{Offer, core_start, offer_sent};
+ghost use Rattle.osi_session.specs.Standing.{CanSay, Seen, is_in_size, seen_called, seen_calling};
+ghost use Rattle.osi_machine.specs.Core.{CanBeOffered, Offer, core_run, core_start, offer_sent};
+ghost use Rattle.osi_machine.specs.Floor.{is_profile};
+ghost use Rattle.osi_machine.specs.Promises.{IsReached};
 ghost use Rattle.osi_judge.specs.declared.directions.Direction.{Direction};
 ghost use Rattle.osi_judge.specs.declared.findings.Finding.{Finding};
 ghost use Rattle.osi_judge.specs.Captures.{Capture};
@@ -15,7 +17,7 @@ ghost use Rattle.osi_judge.specs.Explaining.{IsExplained};
 ghost use Rattle.osi_judge.specs.Tapping.{IsFoundIn};
 ghost use Rattle.osi_accord.specs.Accords.{Accords, AreInOrder, Sending, Turn, sending_of, told_by, tsdus_by};
 ghost use Rattle.osi_accord.specs.Liberties.{IsCall, as_called, is_called};
-ghost use Rattle.osi_accord.specs.Machines.{AreWritten, IsMessage, Plays, TakesNoLiberty, Utterance, asking};
+ghost use Rattle.osi_accord.specs.Machines.{AreWritten, IsMessage, Plays, TakesNoLiberty, Utterance, connect_of};
 ghost use Rattle.osi_accord.specs.Pairs.{pair_of};
 ghost use Rattle.osi_accord.specs.Taps.{IsAccord, Passage};
 
@@ -36,11 +38,14 @@ pub fn two_explained_sides_are_a_pair()
 {}
 
 /// Of both sides of a capture the judge finds that they kept the protocol. Then there are two sessions, a caller and a called
-/// one, that send all whole TSDUs of this capture in the order in which their first octets passed, and each takes what the
-/// other has sent.
+/// one, that make this capture (`pair`): they send all its whole TSDUs in the order in which these began to pass, each takes
+/// what the other has sent, and before a TSDU it takes only what had passed as a whole before that one. And where there are
+/// two such sessions, the judge blames neither side (`only`).
 pub fn two_kept_sides_are_a_pair()
-    ensures { (capture : Capture) → IsFoundIn Direction.Left capture Finding.Kept → IsFoundIn Direction.Right capture Finding.Kept →
+    ensures pair { (capture : Capture) → IsFoundIn Direction.Left capture Finding.Kept → IsFoundIn Direction.Right capture Finding.Kept →
         (passages : List Passage) × IsAccord capture passages }
+    ensures only { (d : Direction) (capture : Capture) (passages : List Passage) (i : ℕ) → IsAccord capture passages →
+        IsFoundIn d capture (Finding.Broke i) → ⊥ }
 {
     a_capture_has_one_reading();
 }
@@ -58,15 +63,19 @@ pub fn what_may_be_said_is_called()
         is_in_size s.state (length (written (as_called s.state m))) ≡ true → IsCall s (as_called s.state m) next }
 {}
 
-/// A run of two sessions from a CN in flight on, in which each TSDU is one message as this product writes it. If no liberty is
-/// taken ([`TakesNoLiberty`]), it is a run of the machine of two sides: its calls are allowed, and they send the same messages
-/// in the same order. So what is proved of that machine holds of these sessions: no token is held by both, and neither takes
-/// a fault. The machine has no refusal, no answer to a release and no abort, and so has the run.
+/// A run of two sessions, from the CN of a caller on, in which each TSDU is one message as this product writes it. If no liberty
+/// is taken ([`TakesNoLiberty`]), it is a run of the machine of two sides that exchange whole messages: the machine allows its
+/// calls, and they send the same messages in the same order (`run`). So what `osi_machine` proves of each reached state holds
+/// (`reached`): no token is held by both sides, and no message is a fault where it is taken. That machine has no refusal, no
+/// answer to a release and no abort, so the run has none either.
 ///
 /// [`TakesNoLiberty`]: ../specs/Machines.antt
 pub fn without_liberties_it_is_a_run_of_the_machine()
-    ensures { (o : Offer) (sent : List Sending) (messages : List Utterance) (run : Accords sent (asking o)) → IsSendable (offer_sent o) →
+    ensures run { (o : Offer) (before : ℕ) (sent : List Sending) (messages : List Utterance)
+        (run : Accords (connect_of o before ∷ sent) (pair_of seen_calling seen_called)) → IsSendable (offer_sent o) →
         AllByRecursion IsMessage messages → AreWritten sent messages → TakesNoLiberty run → Plays (core_start o) messages }
+    ensures reached { (o : Offer) (messages : List Utterance) (p : Plays (core_start o) messages) → CanBeOffered o →
+        is_profile o.requirements ≡ true → IsReached (core_run (core_start o) p.steps) }
 {
     what_is_sent_is_read();
     messages_do_what_they_did();
