@@ -1,10 +1,8 @@
 -- In a run of two sessions each side is explained, apart from the other, by what had passed before its TSDUs.
 -- For the law that two explained sides are a pair, and only they.
 use Rattle.std.proofs.Common.{◌≡◌, ◌∙◌, refl, sym, ap, subst, ℕ, ◌+◌, List, [], ◌∷◌, ◌++◌, length, get_or, map, arith}
-use Rattle.std.proofs.Common.{Option, Some, None}
 use Rattle.std.specs.List.{flat_map}
 use Rattle.std.proofs.Math.Seq.{get_or-append_seam}
-use Rattle.osi_message.specs.Words.{Word}
 use Rattle.osi_session.specs.Standing.{Seen, Takes}
 use Rattle.osi_judge.specs.declared.directions.Direction.{Direction}
 use Rattle.osi_judge.specs.declared.directions.Direction.TheVariants.{Left, Right}
@@ -129,7 +127,7 @@ pub both_explained : (left right : Seen) (turns : List Turn) → Accords (map se
     IsExplained left (tsdus_by Right turns) (told_by Left turns) × IsExplained right (tsdus_by Left turns) (told_by Right turns)
 both_explained left right turns run = (
   subst (λ (x : List Remark). Explains (tsdus_by Right turns) x 0 left) (turns_said Left turns)
-  (left_explained (tsdus_by Right turns) run [] (turns_sent Right turns) refl),
+      (left_explained (tsdus_by Right turns) run [] (turns_sent Right turns) refl),
   subst (λ (x : List Remark). Explains (tsdus_by Left turns) x 0 right) (turns_said Right turns)
-  (right_explained (tsdus_by Left turns) run [] (turns_sent Left turns) refl),
+      (right_explained (tsdus_by Left turns) run [] (turns_sent Left turns) refl),
 )

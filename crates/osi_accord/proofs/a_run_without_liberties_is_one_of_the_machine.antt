@@ -1,33 +1,30 @@
 -- A run of two sessions in which no liberty is taken is a run of the machine of two sides that exchange whole messages.
 -- For the law of that name.
 use Rattle.std.proofs.Common.{◌≡◌, ◌∙◌, refl, sym, ap, subst, ℕ, ◌⊎◌, inl, inr, Bool, true, false, if◌then◌else◌, List, [], ◌∷◌, ◌++◌, length, map}
-use Rattle.std.proofs.Common.{Option, Some, None, option_map, unwrap_or, Ok, Err, append-nil, append_assoc, is_none, not, ◌||◌, ◌&&◌}
+use Rattle.std.proofs.Common.{Option, Some, None, option_map, unwrap_or, Ok, append-nil, not, ◌&&◌}
 use Rattle.std.specs.List.{AllByRecursion, list_any}
-use Rattle.osi_spdu.specs.declared.faults.SpduFault.{SpduFault}
 use Rattle.osi_message.specs.Meanings.{Meaning, GT}
 use Rattle.osi_message.specs.Reading.{Said, said_at}
 use Rattle.osi_message.specs.Sendable.{IsSendable, said_of, words_of}
 use Rattle.osi_message.specs.Tokens.{is_empty, no_token}
-use Rattle.osi_message.specs.Words.{Word, Words, says}
+use Rattle.osi_message.specs.Words.{Word, says}
 use Rattle.osi_message.specs.Written.{is_second, written}
 use Rattle.osi_spdu.specs.Sizes.{are_sizes}
 use Rattle.osi_session.specs.Units.{functional_units, has_points}
 use Rattle.osi_session.specs.declared.state.State.{State}
-use Rattle.osi_session.specs.Allowed.{Answer, Step, allowed}
+use Rattle.osi_session.specs.Allowed.{Step, allowed}
 use Rattle.osi_session.specs.Calls.{Call, HasSerial}
-use Rattle.osi_session.specs.Joining.{Hearing, acting_words, drops_parts, heard, is_restart_word, respond_came, respond_tsdu}
+use Rattle.osi_session.specs.Joining.{acting_words, drops_parts, heard, is_restart_word, respond_came, respond_tsdu}
 use Rattle.osi_session.specs.Respond.{has_no_effect, respond, respond_unit}
-use Rattle.osi_session.specs.Standing.{CanSay, Count, Seen, Takes, after_count, begins, counted, goes, is_in_size, listens, said, said_within, fits_user_data, seen_called, seen_calling}
+use Rattle.osi_session.specs.Standing.{CanSay, Count, Seen, Takes, after_count, begins, counted, goes, is_in_size, said, said_within, fits_user_data, seen_called, seen_calling}
 use Rattle.osi_machine.specs.Core.{Core, CoreStep, Offer, call_at, called, core_start, core_step, offer_sent, offering, stays_in_core, take_at, taking, turned}
 use Rattle.osi_machine.specs.Core as machine
-use Rattle.osi_machine.specs.Parties.{IsNumberedStep}
 use Rattle.osi_judge.specs.declared.directions.Direction.{Direction}
 use Rattle.osi_judge.specs.declared.directions.Direction.TheVariants.{Left, Right}
 use Rattle.osi_judge.specs.Captures.{other}
 use Rattle.osi_accord.specs.Accords.{Accords, Sending, sending, words_in, words_read}
 use Rattle.osi_accord.specs.Accords as accord
-use Rattle.osi_accord.specs.Liberties.{IsCall}
-use Rattle.osi_accord.specs.Machines.{AreWritten, IsByCall, IsCoreCall, IsMessage, Plays, TakesNoLiberty, Utterance, connect_of, is_connect, sent_at, sent_in, side_at, state_at, utters}
+use Rattle.osi_accord.specs.Machines.{AreWritten, IsByCall, IsCoreCall, IsMessage, Plays, TakesNoLiberty, Utterance, connect_of, is_connect, sent_at, sent_in, side_at, utters}
 use Rattle.osi_accord.specs.Pairs.{Pair, pair_of, party_of, channel_of, has_taken, session_of, with_channel, with_session}
 
 -- what is known of messages in octets, and of what a session does with them
@@ -51,8 +48,8 @@ is_taken : AsMessages → (s : Seen) (u : Meaning) (c : Count) → IsSendable u 
 is_taken k s u c send none taken =
     let came : counted (respond_came (record { state = s.state; joined = None }) (said_at (written u))) ≡ c = taken None (sym none) in
     let does : counted (heard None (respond_unit s.state u)) ≡ c =
-        ap counted (sym (ap (respond_came (record { state = s.state; joined = None })) (k.read u send) ∙ k.does s.state (said_of u)
-        ∙ ap (heard None) (k.alone s.state u))) ∙ came in
+    ap counted (sym (ap (respond_came (record { state = s.state; joined = None })) (k.read u send) ∙ k.does s.state (said_of u)
+    ∙ ap (heard None) (k.alone s.state u))) ∙ came in
     record {
       state = sym (ap (λ (x : Count). x.state) does);
       joined = sym (ap (λ (x : Count). x.joined) does) ∙ none_kept (drops_parts (respond_unit s.state u).next.phase);
@@ -154,7 +151,7 @@ calls_on : (w : Core) (p : Pair) (d : Direction) (next : Seen) (m : Meaning) (ca
     Stands (core_step w (call_at (side_at d) call.is.call)) (with_session d next p) d (m ∷ []) []
 calls_on w p Left next m call send s =
     let allows : allowed w.own.session call.is.call ≡ Ok (record { next = call.is.state; sent = m }) =
-        ap (λ (x : State). allowed x call.is.call) s.own.state ∙ call.is.allows in
+    ap (λ (x : State). allowed x call.is.call) s.own.state ∙ call.is.allows in
     let is = called_own w call.is.call _ call.stays allows in
     record {
       own = party_calls _ _ _ next _ call.is.state m s.own send call.is.goes_on (ap (λ (x : Core). x.own.session) is)
@@ -163,7 +160,7 @@ calls_on w p Left next m call send s =
     }
 calls_on w p Right next m call send s =
     let allows : allowed w.peer.session call.is.call ≡ Ok (record { next = call.is.state; sent = m }) =
-        ap (λ (x : State). allowed x call.is.call) s.own.state ∙ call.is.allows in
+    ap (λ (x : State). allowed x call.is.call) s.own.state ∙ call.is.allows in
     let is = called_own (turned w) call.is.call _ call.stays allows in
     record {
       own = party_calls _ _ _ next _ call.is.state m s.own send call.is.goes_on (ap (λ (x : Core). x.own.session) is)
@@ -349,7 +346,7 @@ says_due : AsMessages → (w : Core) (p : Pair) (e : Direction) (own : List ℕ)
     IsByCall (session_of e p) x next → CanSay (session_of e p) x (length own) next → AllByRecursion IsMessage messages →
     IsDue (sending e own before (Some x ∷ words) ∷ later) messages d ahead → Stands w p d ahead [] →
     ((messages : List Utterance) → AllByRecursion IsMessage messages → (w : Core) (d : Direction) (ahead : List Meaning) →
-        IsDue (sending e own before words ∷ later) messages d ahead → Stands w (with_session e next p) d ahead [] → Plays w messages) →
+    IsDue (sending e own before words ∷ later) messages d ahead → Stands w (with_session e next p) d ahead [] → Plays w messages) →
     Plays w messages
 says_due k w p e own before x words later next [] d ahead by can all (inl due) s on = absurd due.0
 says_due k w p e own before x words later next (utters f m ∷ messages) d ahead by can all (inl due) s on =
@@ -369,7 +366,7 @@ says_due k w p e own before x words later next messages d ahead by can all (inr 
         let word : x ≡ says (GT no_token) = cc in
         let none : words ≡ [] = cc in
         let still = says_nothing (session_of e p) next (length own)
-            (subst (λ (v : Word). CanSay (session_of e p) v (length own) next) word can) in
+        (subst (λ (v : Word). CanSay (session_of e p) v (length own) next) word can) in
         on messages all w d ahead (inr (record { m = due.m; is = (due.is.0, due.is.1, inl none, due.is.3); one = due.one }))
         (subst (λ (y : Pair). Stands w y d ahead []) (sym (ap (λ (z : Seen). with_session e z p) still ∙ same_pair e p)) s)
 
@@ -378,7 +375,7 @@ sends_due : AsMessages → (w : Core) (p : Pair) (e : Direction) (own : List ℕ
     (d : Direction) (ahead : List Meaning) → AllByRecursion IsMessage messages → IsDue (sending e own before [] ∷ later) messages d ahead →
     Stands w p d ahead [] →
     ((w : Core) (d : Direction) (ahead : List Meaning) → IsDue later messages d ahead →
-        Stands w (with_channel e (channel_of e p ++ own ∷ []) p) d ahead [] → Plays w messages) → Plays w messages
+    Stands w (with_channel e (channel_of e p ++ own ∷ []) p) d ahead [] → Plays w messages) → Plays w messages
 sends_due k w p e own before later [] d ahead all (inl due) s on = absurd due.0
 sends_due k w p e own before later (utters f m ∷ messages) d ahead all (inl due) s on =
     let first = message_first k m all.0.0 in
@@ -472,14 +469,14 @@ begun : (o : Offer) (sent : List Sending) (d : Direction) (p : Pair) (own : List
     next ≡ begins (offering o) → Free (sending d own before words ∷ later) (with_session d next p) → Free sent (asking o)
 begun o sent d p own before words later next start left octets none same is free =
     let at : Free (sending d own before words ∷ later) (with_session d next beginning) =
-        subst (λ (x : Pair). Free (sending d own before words ∷ later) (with_session d next x)) start free in
+    subst (λ (x : Pair). Free (sending d own before words ∷ later) (with_session d next x)) start free in
     let side : Free (sending Left own before words ∷ later) (with_session Left next beginning) =
-        subst (λ (x : Direction). Free (sending x own before words ∷ later) (with_session x next beginning)) left at in
+    subst (λ (x : Direction). Free (sending x own before words ∷ later) (with_session x next beginning)) left at in
     let goes_on : Free (sending Left own before words ∷ later) (with_session Left (begins (offering o)) beginning) =
-        subst (λ (x : Seen). Free (sending Left own before words ∷ later) (with_session Left x beginning)) is side in
+    subst (λ (x : Seen). Free (sending Left own before words ∷ later) (with_session Left x beginning)) is side in
     let all : Free (sending Left (written (offer_sent o)) before [] ∷ sent) (with_session Left (begins (offering o)) beginning) =
-        subst (λ (x : List Sending). Free x (with_session Left (begins (offering o)) beginning))
-        (λ i. sending Left (octets i) before (none i) ∷ same i) goes_on in
+    subst (λ (x : List Sending). Free x (with_session Left (begins (offering o)) beginning))
+    (λ i. sending Left (octets i) before (none i) ∷ same i) goes_on in
     whole (written (offer_sent o)) before sent all.0 all.1
 
 connected : AsMessages → (o : Offer) → IsSendable (offer_sent o) → (before : ℕ) (sent : List Sending) {all : List Sending} {p : Pair}
@@ -495,7 +492,7 @@ connected k o send before sent (accord.says d later p own b w words next can run
     let none : words ≡ [] = cc in
     let left : d ≡ Left = ap first_side is in
     let first : CanSay (session_of d beginning) w (length own) next =
-        subst (λ (x : Pair). CanSay (session_of d x) w (length own) next) start can in
+    subst (λ (x : Pair). CanSay (session_of d x) w (length own) next) start can in
     let there : CanSay seen_calling w (length own) next = subst (λ (x : Direction). CanSay (session_of x beginning) w (length own) next) left first in
     begun o sent d p own b words later next start left (ap first_octets is) none (ap after_first is)
     (connect_leaves o (length own) next (subst (λ (x : Word). CanSay seen_calling x (length own) next) word there)) (run, free.1)

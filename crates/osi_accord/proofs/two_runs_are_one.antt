@@ -133,7 +133,7 @@ arrives us sent k before gone (tsdu ∷ more) rest l b e s =
 module _ (us : List (List ℕ)) (d : Direction) (t : Told) (after : List Sending) (sent : ℕ) (few : t.before ≤ sent)
     (later : List Remark) (rest mine : List (List ℕ)) (y : Seen) (b : ℕ)
     (on : (s : Seen) (k : ℕ) (gone flight : List (List ℕ)) → length gone ≡ k → Splits us sent gone flight rest → Explains us later k s →
-        Accords after (seen_from d (party s k (mine ++ t.octets ∷ [])) (party y b flight))) where
+    Accords after (seen_from d (party s k (mine ++ t.octets ∷ [])) (party y b flight))) where
   abbrev SendsThis : List (Option Word) → Seen → ℕ → List (List ℕ) → Type 0
   SendsThis words s k flight = Accords (sending d t.octets t.before words ∷ after) (seen_from d (party s k mine) (party y b flight))
 

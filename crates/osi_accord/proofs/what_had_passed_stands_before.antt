@@ -207,14 +207,13 @@ capture_explained capture passages run =
     let l = sent_by Left passages in
     let r = sent_by Right passages in
     let both = both_explained seen_calling seen_called (turns_in capture l r passages)
-        (subst (λ (x : List Sending). Accords x (pair_of seen_calling seen_called)) (sym (sent_same capture l r passages)) run) in
-    (
+    (subst (λ (x : List Sending). Accords x (pair_of seen_calling seen_called)) (sym (sent_same capture l r passages)) run) in (
       subst (λ (x : List Told). IsExplained seen_calling (heard r) x) (told_left capture l r passages)
-      (subst (λ (x : List (List ℕ)). IsExplained seen_calling x (told_by Left (turns_in capture l r passages)))
-      (heard_right capture l r passages) both.0),
+          (subst (λ (x : List (List ℕ)). IsExplained seen_calling x (told_by Left (turns_in capture l r passages)))
+          (heard_right capture l r passages) both.0),
       subst (λ (x : List Told). IsExplained seen_called (heard l) x) (told_right capture l r passages)
-      (subst (λ (x : List (List ℕ)). IsExplained seen_called x (told_by Right (turns_in capture l r passages)))
-      (heard_left capture l r passages) both.1),
+          (subst (λ (x : List (List ℕ)). IsExplained seen_called x (told_by Right (turns_in capture l r passages)))
+          (heard_left capture l r passages) both.1),
     )
 
 -- a side that is explained is explained up to each of its TSDUs
