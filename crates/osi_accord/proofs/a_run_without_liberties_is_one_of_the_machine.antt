@@ -22,7 +22,7 @@ use Rattle.osi_machine.specs.Core as machine
 use Rattle.osi_judge.specs.declared.directions.Direction.{Direction}
 use Rattle.osi_judge.specs.declared.directions.Direction.TheVariants.{Left, Right}
 use Rattle.osi_judge.specs.Captures.{other}
-use Rattle.osi_accord.specs.Accords.{Accords, Sending, sending, words_in, words_read}
+use Rattle.osi_accord.specs.Accords.{Accords, Sending, end_of, sending, words_in, words_read}
 use Rattle.osi_accord.specs.Accords as accord
 use Rattle.osi_accord.specs.Machines.{AreWritten, IsByCall, IsCoreCall, IsMessage, Plays, TakesNoLiberty, Utterance, connect_of, is_connect, sent_at, sent_in, side_at, utters}
 use Rattle.osi_accord.specs.Pairs.{Pair, pair_of, party_of, channel_of, has_taken, session_of, with_channel, with_session}
@@ -281,23 +281,58 @@ record IsBegun (sent : List Sending) (messages : List Utterance) (d : Direction)
 abbrev IsDue : List Sending → List Utterance → Direction → List Meaning → Type 0
 IsDue sent messages d ahead = IsFresh sent messages ahead ⊎ IsBegun sent messages d ahead
 
-takes_step : (w : Core) (d : Direction) (messages : List Utterance) → Plays (core_step w (take_at (side_at d))) messages → Plays w messages
-takes_step w d messages s = record { steps = take_at (side_at d) ∷ s.steps; numbered = (tt, s.numbered); sent = s.sent }
+takes_step : (w : Core) (d : Direction) (messages : List Utterance) (q : Pair) → Plays (core_step w (take_at (side_at d))) messages q →
+    Plays w messages q
+takes_step w d messages q s = record {
+  steps = take_at (side_at d) ∷ s.steps;
+  numbered = (tt, s.numbered);
+  sent = s.sent;
+  left = s.left;
+  right = s.right;
+  left_in_flight = s.left_in_flight;
+  right_in_flight = s.right_in_flight;
+}
 
-call_step : (w : Core) (d : Direction) (c : Call) (m : Meaning) (messages : List Utterance) → HasSerial c →
-    sent_at w (call_at (side_at d) c) ≡ utters d m ∷ [] → Plays (core_step w (call_at (side_at d) c)) messages → Plays w (utters d m ∷ messages)
-call_step w d c m messages small sent s = record {
+call_step : (w : Core) (d : Direction) (c : Call) (m : Meaning) (messages : List Utterance) (q : Pair) → HasSerial c →
+    sent_at w (call_at (side_at d) c) ≡ utters d m ∷ [] → Plays (core_step w (call_at (side_at d) c)) messages q →
+    Plays w (utters d m ∷ messages) q
+call_step w d c m messages q small sent s = record {
   steps = call_at (side_at d) c ∷ s.steps;
   numbered = (small, s.numbered);
   sent = ap (λ (x : List Utterance). x ++ sent_in (core_step w (call_at (side_at d) c)) s.steps) sent
       ∙ ap (λ (x : List Utterance). utters d m ∷ x) s.sent;
+  left = s.left;
+  right = s.right;
+  left_in_flight = s.left_in_flight;
+  right_in_flight = s.right_in_flight;
 }
 
--- nothing is left
-nothing_due : (messages : List Utterance) (d : Direction) (ahead : List Meaning) → IsDue [] messages d ahead → [] ≡ messages
-nothing_due [] d ahead due = refl
-nothing_due (utters e m ∷ messages) d ahead (inl due) = absurd due.0
-nothing_due (utters e m ∷ messages) d ahead (inr due) = absurd due.is
+-- nothing is left to send
+no_more : (w : Core) (p : Pair) (d : Direction) → Stands w p d [] [] → Plays w [] p
+no_more w p Left s = record {
+  steps = [];
+  numbered = tt;
+  sent = refl;
+  left = s.own.state;
+  right = s.peer.state;
+  left_in_flight = sym s.own.flight ∙ append-nil p.left.channel;
+  right_in_flight = sym s.peer.flight ∙ append-nil p.right.channel;
+}
+no_more w p Right s = record {
+  steps = [];
+  numbered = tt;
+  sent = refl;
+  left = s.peer.state;
+  right = s.own.state;
+  left_in_flight = sym s.peer.flight ∙ append-nil p.left.channel;
+  right_in_flight = sym s.own.flight ∙ append-nil p.right.channel;
+}
+
+nothing_due : (w : Core) (p : Pair) (messages : List Utterance) (d : Direction) (ahead : List Meaning) → IsDue [] messages d ahead →
+    Stands w p d ahead [] → Plays w messages p
+nothing_due w p [] d ahead (inl due) s = no_more w p d (subst (λ (a : List Meaning). Stands w p d a []) due.1 s)
+nothing_due w p (utters e m ∷ messages) d ahead (inl due) s = absurd due.0
+nothing_due w p messages d ahead (inr due) s = absurd due.is
 
 -- nothing is ahead of either side
 calm : (w : Core) (p : Pair) (d e : Direction) → Stands w p d [] [] → Stands w p e [] []
@@ -342,25 +377,25 @@ call_of s next w m (inr (n, is, inr call)) e effect other =
 
 -- a word is sent
 says_due : AsMessages → (w : Core) (p : Pair) (e : Direction) (own : List ℕ) (before : ℕ) (x : Word) (words : List (Option Word))
-    (later : List Sending) (next : Seen) (messages : List Utterance) (d : Direction) (ahead : List Meaning) →
+    (later : List Sending) (next : Seen) (messages : List Utterance) (d : Direction) (ahead : List Meaning) (q : Pair) →
     IsByCall (session_of e p) x next → CanSay (session_of e p) x (length own) next → AllByRecursion IsMessage messages →
     IsDue (sending e own before (Some x ∷ words) ∷ later) messages d ahead → Stands w p d ahead [] →
     ((messages : List Utterance) → AllByRecursion IsMessage messages → (w : Core) (d : Direction) (ahead : List Meaning) →
-    IsDue (sending e own before words ∷ later) messages d ahead → Stands w (with_session e next p) d ahead [] → Plays w messages) →
-    Plays w messages
-says_due k w p e own before x words later next [] d ahead by can all (inl due) s on = absurd due.0
-says_due k w p e own before x words later next (utters f m ∷ messages) d ahead by can all (inl due) s on =
+    IsDue (sending e own before words ∷ later) messages d ahead → Stands w (with_session e next p) d ahead [] → Plays w messages q) →
+    Plays w messages q
+says_due k w p e own before x words later next [] d ahead q by can all (inl due) s on = absurd due.0
+says_due k w p e own before x words later next (utters f m ∷ messages) d ahead q by can all (inl due) s on =
     let h = first_word k m x words all.0.0 due.0.2 in
     let call = call_of (session_of e p) next x m by h.word all.0.1 all.0.2 in
     let still : Stands w p e [] [] = calm w p d e (subst (λ (a : List Meaning). Stands w p d a []) due.1 s) in
-    subst (λ (z : Direction). Plays w (utters z m ∷ messages)) due.0.0
-    (call_step w e call.is.call m messages call.numbered (call_sends w p e next m call still)
+    subst (λ (z : Direction). Plays w (utters z m ∷ messages) q) due.0.0
+    (call_step w e call.is.call m messages q call.numbered (call_sends w p e next m call still)
     (on messages all.1 (core_step w (call_at (side_at e) call.is.call)) e (m ∷ [])
     (inr (record { m = m; is = (refl, due.0.1, h.rests, due.0.3); one = refl }))
     (calls_on w p e next m call all.0.0 still)))
-says_due k w p e own before x words later next messages d ahead by can all (inr due) s on = by_rest due.is.2
+says_due k w p e own before x words later next messages d ahead q by can all (inr due) s on = by_rest due.is.2
   where
-    by_rest : IsRest (Some x ∷ words) → Plays w messages
+    by_rest : IsRest (Some x ∷ words) → Plays w messages q
     by_rest (inl none) = absurd (cc)
     by_rest (inr one) =
         let word : x ≡ says (GT no_token) = cc in
@@ -372,16 +407,16 @@ says_due k w p e own before x words later next messages d ahead by can all (inr 
 
 -- all words of a TSDU are sent
 sends_due : AsMessages → (w : Core) (p : Pair) (e : Direction) (own : List ℕ) (before : ℕ) (later : List Sending) (messages : List Utterance)
-    (d : Direction) (ahead : List Meaning) → AllByRecursion IsMessage messages → IsDue (sending e own before [] ∷ later) messages d ahead →
+    (d : Direction) (ahead : List Meaning) (q : Pair) → AllByRecursion IsMessage messages → IsDue (sending e own before [] ∷ later) messages d ahead →
     Stands w p d ahead [] →
     ((w : Core) (d : Direction) (ahead : List Meaning) → IsDue later messages d ahead →
-    Stands w (with_channel e (channel_of e p ++ own ∷ []) p) d ahead [] → Plays w messages) → Plays w messages
-sends_due k w p e own before later [] d ahead all (inl due) s on = absurd due.0
-sends_due k w p e own before later (utters f m ∷ messages) d ahead all (inl due) s on =
+    Stands w (with_channel e (channel_of e p ++ own ∷ []) p) d ahead [] → Plays w messages q) → Plays w messages q
+sends_due k w p e own before later [] d ahead q all (inl due) s on = absurd due.0
+sends_due k w p e own before later (utters f m ∷ messages) d ahead q all (inl due) s on =
     let first = message_first k m all.0.0 in
     let none : [] ≡ Some (says m) ∷ first.rest = due.0.2 ∙ first.is in
     absurd (cc)
-sends_due k w p e own before later messages d ahead all (inr due) s on =
+sends_due k w p e own before later messages d ahead q all (inr due) s on =
     let one : Stands w p d (due.m ∷ []) [] = subst (λ (a : List Meaning). Stands w p d a []) due.one s in
     let here : Stands w p e (due.m ∷ []) [] = subst (λ (z : Direction). Stands w p z (due.m ∷ []) []) (sym due.is.0) one in
     on w e [] (inl (due.is.3, refl))
@@ -389,25 +424,24 @@ sends_due k w p e own before later messages d ahead all (inr due) s on =
 
 run_of : (k : AsMessages) {sent : List Sending} {p : Pair} (run : Accords sent p) → TakesNoLiberty run → (messages : List Utterance) →
     AllByRecursion IsMessage messages → (w : Core) (d : Direction) (ahead : List Meaning) → IsDue sent messages d ahead →
-    Stands w p d ahead [] → Plays w messages
-run_of k (accord.done p) free messages all w d ahead due s =
-    subst (Plays w) (nothing_due messages d ahead due) (record { steps = []; numbered = tt; sent = refl })
+    Stands w p d ahead [] → Plays w messages (end_of run)
+run_of k (accord.done p) free messages all w d ahead due s = nothing_due w p messages d ahead due s
 run_of k (accord.takes e later p own before x words tsdu rest c passed there hears taken quiet run) free messages all w d ahead due s =
-    takes_step w e messages
+    takes_step w e messages (end_of run)
     (run_of k run free messages all (core_step w (take_at (side_at e))) d ahead due (takes_any k w p e d c tsdu rest ahead there taken s))
 run_of k (accord.answers e later p own before x words tsdu rest c reply passed there hears taken replied is run) free messages all w d
     ahead due s = absurd free
 run_of k (accord.says e later p own before x words next can run) free messages all w d ahead due s =
-    says_due k w p e own before x words later next messages d ahead free.0 can all due s
+    says_due k w p e own before x words later next messages d ahead (end_of run) free.0 can all due s
     (λ more al v f a du st. run_of k run free.1 more al v f a du st)
 run_of k (accord.sends e later p own before run) free messages all w d ahead due s =
-    sends_due k w p e own before later messages d ahead all due s (λ v f a du st. run_of k run free messages all v f a du st)
+    sends_due k w p e own before later messages d ahead (end_of run) all due s (λ v f a du st. run_of k run free messages all v f a du st)
 
 -- ---- how it begins
 
--- a run in which no liberty is taken
-abbrev Free : List Sending → Pair → Type 0
-Free sent p = (run : Accords sent p) × TakesNoLiberty run
+-- a run in which no liberty is taken, and its end
+abbrev Free : Pair → List Sending → Pair → Type 0
+Free q sent p = (run : Accords sent p) × TakesNoLiberty run × (end_of run ≡ q)
 
 -- the CN of a caller is in flight
 abbrev asking : Offer → Pair
@@ -460,27 +494,28 @@ nothing_comes Right p tsdu rest e there = let none : [] ≡ tsdu ∷ rest = sym 
 
 -- the TSDU is whole
 whole : (own : List ℕ) (before : ℕ) (sent : List Sending) {p : Pair} (run : Accords (sending Left own before [] ∷ sent) p) → TakesNoLiberty run →
-    Free sent (with_channel Left (channel_of Left p ++ own ∷ []) p)
-whole own before sent (accord.sends d later p o b run) free = (run, free)
+    Free (end_of run) sent (with_channel Left (channel_of Left p ++ own ∷ []) p)
+whole own before sent (accord.sends d later p o b run) free = (run, free, refl)
 
 -- the word of the CN is sent
-begun : (o : Offer) (sent : List Sending) (d : Direction) (p : Pair) (own : List ℕ) (before : ℕ) (words : List (Option Word))
+begun : (q : Pair) (o : Offer) (sent : List Sending) (d : Direction) (p : Pair) (own : List ℕ) (before : ℕ) (words : List (Option Word))
     (later : List Sending) (next : Seen) → p ≡ beginning → d ≡ Left → own ≡ written (offer_sent o) → words ≡ [] → later ≡ sent →
-    next ≡ begins (offering o) → Free (sending d own before words ∷ later) (with_session d next p) → Free sent (asking o)
-begun o sent d p own before words later next start left octets none same is free =
-    let at : Free (sending d own before words ∷ later) (with_session d next beginning) =
-    subst (λ (x : Pair). Free (sending d own before words ∷ later) (with_session d next x)) start free in
-    let side : Free (sending Left own before words ∷ later) (with_session Left next beginning) =
-    subst (λ (x : Direction). Free (sending x own before words ∷ later) (with_session x next beginning)) left at in
-    let goes_on : Free (sending Left own before words ∷ later) (with_session Left (begins (offering o)) beginning) =
-    subst (λ (x : Seen). Free (sending Left own before words ∷ later) (with_session Left x beginning)) is side in
-    let all : Free (sending Left (written (offer_sent o)) before [] ∷ sent) (with_session Left (begins (offering o)) beginning) =
-    subst (λ (x : List Sending). Free x (with_session Left (begins (offering o)) beginning))
+    next ≡ begins (offering o) → Free q (sending d own before words ∷ later) (with_session d next p) → Free q sent (asking o)
+begun q o sent d p own before words later next start left octets none same is free =
+    let at : Free q (sending d own before words ∷ later) (with_session d next beginning) =
+    subst (λ (x : Pair). Free q (sending d own before words ∷ later) (with_session d next x)) start free in
+    let side : Free q (sending Left own before words ∷ later) (with_session Left next beginning) =
+    subst (λ (x : Direction). Free q (sending x own before words ∷ later) (with_session x next beginning)) left at in
+    let goes_on : Free q (sending Left own before words ∷ later) (with_session Left (begins (offering o)) beginning) =
+    subst (λ (x : Seen). Free q (sending Left own before words ∷ later) (with_session Left x beginning)) is side in
+    let all : Free q (sending Left (written (offer_sent o)) before [] ∷ sent) (with_session Left (begins (offering o)) beginning) =
+    subst (λ (x : List Sending). Free q x (with_session Left (begins (offering o)) beginning))
     (λ i. sending Left (octets i) before (none i) ∷ same i) goes_on in
-    whole (written (offer_sent o)) before sent all.0 all.1
+    let more = whole (written (offer_sent o)) before sent all.0 all.1 in
+    (more.0, more.1, more.2 ∙ all.2)
 
 connected : AsMessages → (o : Offer) → IsSendable (offer_sent o) → (before : ℕ) (sent : List Sending) {all : List Sending} {p : Pair}
-    (run : Accords all p) → TakesNoLiberty run → all ≡ connect_of o before ∷ sent → p ≡ beginning → Free sent (asking o)
+    (run : Accords all p) → TakesNoLiberty run → all ≡ connect_of o before ∷ sent → p ≡ beginning → Free (end_of run) sent (asking o)
 connected k o send before sent (accord.done p) free is start = absurd (cc)
 connected k o send before sent (accord.takes d later p own b w words tsdu rest c passed there hears taken quiet run) free is start =
     absurd (nothing_comes d p tsdu rest start there)
@@ -494,18 +529,19 @@ connected k o send before sent (accord.says d later p own b w words next can run
     let first : CanSay (session_of d beginning) w (length own) next =
     subst (λ (x : Pair). CanSay (session_of d x) w (length own) next) start can in
     let there : CanSay seen_calling w (length own) next = subst (λ (x : Direction). CanSay (session_of x beginning) w (length own) next) left first in
-    begun o sent d p own b words later next start left (ap first_octets is) none (ap after_first is)
-    (connect_leaves o (length own) next (subst (λ (x : Word). CanSay seen_calling x (length own) next) word there)) (run, free.1)
+    begun (end_of run) o sent d p own b words later next start left (ap first_octets is) none (ap after_first is)
+    (connect_leaves o (length own) next (subst (λ (x : Word). CanSay seen_calling x (length own) next) word there)) (run, free.1, refl)
 connected k o send before sent (accord.sends d later p own b run) free is start =
     let none : [] ≡ Some (says (offer_sent o)) ∷ [] = ap first_words is ∙ connect_words k o send in absurd (cc)
 
 pub machine_run : AsMessages → (o : Offer) (before : ℕ) (sent : List Sending) (messages : List Utterance)
     (run : Accords (connect_of o before ∷ sent) (pair_of seen_calling seen_called)) → IsSendable (offer_sent o) →
-    AllByRecursion IsMessage messages → AreWritten sent messages → TakesNoLiberty run → Plays (core_start o) messages
+    AllByRecursion IsMessage messages → AreWritten sent messages → TakesNoLiberty run → Plays (core_start o) messages (end_of run)
 machine_run k o before sent messages run send all are free =
     let rest = connected k o send before sent run free refl refl in
-    run_of k rest.0 rest.1 messages all (core_start o) Left [] (inl (are, refl))
+    subst (Plays (core_start o) messages) rest.2
+    (run_of k rest.0 rest.1 messages all (core_start o) Left [] (inl (are, refl))
     (record {
       own = record { state = refl; joined = refl; flight = refl; sendable = (send, tt) };
       peer = record { state = refl; joined = refl; flight = refl; sendable = tt };
-    })
+    }))

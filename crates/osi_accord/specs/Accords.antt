@@ -80,3 +80,11 @@ pub data Accords : List Sending → Pair → Type 0 where
   -- all words of a TSDU are sent: it is in flight
   sends : (d : Direction) (later : List Sending) (p : Pair) (own : List ℕ) (before : ℕ)
       → Accords later (with_channel d (channel_of d p ++ own ∷ []) p) → Accords (sending d own before [] ∷ later) p
+
+-- the two sessions after the run, and what is then in flight
+abbrev pub end_of : {sent : List Sending} {p : Pair} → Accords sent p → Pair
+end_of (done p) = p
+end_of (takes d later p own before w words tsdu rest c passed there hears taken quiet run) = end_of run
+end_of (answers d later p own before w words tsdu rest c reply passed there hears taken replied is run) = end_of run
+end_of (says d later p own before w words next can run) = end_of run
+end_of (sends d later p own before run) = end_of run

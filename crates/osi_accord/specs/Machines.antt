@@ -1,5 +1,5 @@
 -- Runs of two sessions in which no liberty is taken, and the machine of two sides that exchange whole messages.
-use Rattle.std.specs.Prelude.{◌≡◌, ◌⊎◌, ℕ, Bool, false, true, List, [], ◌∷◌, ◌++◌, if◌then◌else◌, Ok, Err}
+use Rattle.std.specs.Prelude.{◌≡◌, ◌⊎◌, ℕ, Bool, false, true, List, [], ◌∷◌, ◌++◌, map, if◌then◌else◌, Ok, Err}
 use Rattle.std.specs.List.{AllByRecursion}
 use Rattle.osi_message.specs.Meanings.{Meaning, CN, GT}
 use Rattle.osi_message.specs.Sendable.{IsSendable}
@@ -11,7 +11,7 @@ use Rattle.osi_session.specs.Allowed.{Answer, allowed}
 use Rattle.osi_session.specs.Calls.{HasSerial}
 use Rattle.osi_session.specs.Respond.{has_no_effect}
 use Rattle.osi_session.specs.Standing.{Seen}
-use Rattle.osi_machine.specs.Core.{Core, CoreStep, Offer, Side, call_at, core_step, offer_sent, stays_in_core, take_at}
+use Rattle.osi_machine.specs.Core.{Core, CoreStep, Offer, Side, call_at, core_run, core_step, offer_sent, stays_in_core, take_at}
 use Rattle.osi_machine.specs.Core as machine
 use Rattle.osi_machine.specs.Parties.{IsNumberedStep}
 use Rattle.osi_judge.specs.declared.directions.Direction.{Direction}
@@ -91,8 +91,13 @@ abbrev pub sent_in : Core → List CoreStep → List Utterance
 sent_in w [] = []
 sent_in w (step ∷ steps) = sent_at w step ++ sent_in (core_step w step) steps
 
--- steps of the machine in which these messages are sent, in this order
-pub record Plays (w : Core) (messages : List Utterance) : Type 0 where
+-- Steps of the machine in which these messages are sent, in this order. After them its two sides are in the states of these two
+-- sessions, and the same is in flight.
+pub record Plays (w : Core) (messages : List Utterance) (last : Pair) : Type 0 where
   pub steps : List CoreStep
   pub numbered : AllByRecursion IsNumberedStep steps
   pub sent : sent_in w steps ≡ messages
+  pub left : (core_run w steps).own.session ≡ last.left.session.state
+  pub right : (core_run w steps).peer.session ≡ last.right.session.state
+  pub left_in_flight : map written (core_run w steps).own.sent ≡ last.left.channel
+  pub right_in_flight : map written (core_run w steps).peer.sent ≡ last.right.channel

@@ -15,10 +15,10 @@ ghost use Rattle.osi_judge.specs.declared.findings.Finding.{Finding};
 ghost use Rattle.osi_judge.specs.Captures.{Capture};
 ghost use Rattle.osi_judge.specs.Explaining.{IsExplained};
 ghost use Rattle.osi_judge.specs.Tapping.{IsFoundIn};
-ghost use Rattle.osi_accord.specs.Accords.{Accords, AreInOrder, Sending, Turn, sending_of, told_by, tsdus_by};
+ghost use Rattle.osi_accord.specs.Accords.{Accords, AreInOrder, Sending, Turn, end_of, sending_of, told_by, tsdus_by};
 ghost use Rattle.osi_accord.specs.Liberties.{IsCall, as_called, is_called};
 ghost use Rattle.osi_accord.specs.Machines.{AreWritten, IsMessage, Plays, TakesNoLiberty, Utterance, connect_of};
-ghost use Rattle.osi_accord.specs.Pairs.{pair_of};
+ghost use Rattle.osi_accord.specs.Pairs.{Pair, pair_of};
 ghost use Rattle.osi_accord.specs.Taps.{IsAccord, Passage};
 
 use osi_judge::laws::a_capture_has_one_reading;
@@ -65,16 +65,17 @@ pub fn what_may_be_said_is_called()
 
 /// A run of two sessions, from the CN of a caller on, in which each TSDU is one message as this product writes it. If no liberty
 /// is taken ([`TakesNoLiberty`]), it is a run of the machine of two sides that exchange whole messages: the machine allows its
-/// calls, and they send the same messages in the same order (`run`). So what `osi_machine` proves of each reached state holds
-/// (`reached`): no token is held by both sides, and no message is a fault where it is taken. That machine has no refusal, no
-/// answer to a release and no abort, so the run has none either.
+/// calls, they send the same messages in the same order, and at the end the sides of the machine are in the states of the two
+/// sessions, with the same messages in flight (`run`). So what `osi_machine` proves of each state that its machine reaches
+/// holds of the two sessions (`reached`): they don't both hold a token, and the next message in flight is no fault where it is
+/// taken. That machine has no refusal, no answer to a release and no abort, so the run has none either.
 ///
 /// [`TakesNoLiberty`]: ../specs/Machines.antt
 pub fn without_liberties_it_is_a_run_of_the_machine()
     ensures run { (o : Offer) (before : ℕ) (sent : List Sending) (messages : List Utterance)
         (run : Accords (connect_of o before ∷ sent) (pair_of seen_calling seen_called)) → IsSendable (offer_sent o) →
-        AllByRecursion IsMessage messages → AreWritten sent messages → TakesNoLiberty run → Plays (core_start o) messages }
-    ensures reached { (o : Offer) (messages : List Utterance) (p : Plays (core_start o) messages) → CanBeOffered o →
+        AllByRecursion IsMessage messages → AreWritten sent messages → TakesNoLiberty run → Plays (core_start o) messages (end_of run) }
+    ensures reached { (o : Offer) (messages : List Utterance) (last : Pair) (p : Plays (core_start o) messages last) → CanBeOffered o →
         is_profile o.requirements ≡ true → IsReached (core_run (core_start o) p.steps) }
 {
     what_is_sent_is_read();

@@ -10,7 +10,7 @@ returns c = record {
     does = c.messages_do_what_they_did.ensures.tsdu;
     alone = c.an_empty_token_item_changes_nothing.ensures.said;
   });
-  reached = λ o messages p offered profile. record {
+  reached = λ o messages last p offered profile. record {
     offer = o;
     steps = p.steps;
     offered = offered;
