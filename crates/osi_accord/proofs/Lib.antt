@@ -9,5 +9,6 @@ pub mod tsdus_of_both_sides_in_order
 -- What counts as passed before a TSDU stands before it.
 pub mod what_had_passed_stands_before
 -- What a side may send is what a call sends, but for liberties.
+pub mod what_an_ac_selects
 pub mod what_may_be_said_is_called
 pub mod a_run_without_liberties_is_one_of_the_machine

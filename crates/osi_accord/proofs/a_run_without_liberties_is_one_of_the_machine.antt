@@ -1,6 +1,7 @@
 -- A run of two sessions in which no liberty is taken is a run of the machine of two sides that exchange whole messages.
 -- For the law of that name.
-use Rattle.std.proofs.Common.{◌≡◌, ◌∙◌, refl, sym, ap, subst, ℕ, ◌⊎◌, inl, inr, Bool, true, false, if◌then◌else◌, List, [], ◌∷◌, ◌++◌, length, map}
+use Rattle.std.proofs.Common.{◌≡◌, ◌∙◌, refl, sym, ap, subst, ℕ, ◌⊎◌, inl, inr, Bool, true, false, if◌then◌else◌, List, [], ◌∷◌, ◌++◌}
+use Rattle.std.proofs.Common.{length, map}
 use Rattle.std.proofs.Common.{Option, Some, None, option_map, unwrap_or, Ok, append-nil, not, ◌&&◌}
 use Rattle.std.specs.List.{AllByRecursion, list_any}
 use Rattle.osi_message.specs.Meanings.{Meaning, GT}
@@ -16,15 +17,18 @@ use Rattle.osi_session.specs.Allowed.{Step, allowed}
 use Rattle.osi_session.specs.Calls.{Call, HasSerial}
 use Rattle.osi_session.specs.Joining.{acting_words, drops_parts, heard, is_restart_word, respond_came, respond_tsdu}
 use Rattle.osi_session.specs.Respond.{has_no_effect, respond, respond_unit}
-use Rattle.osi_session.specs.Standing.{CanSay, Count, Seen, Takes, after_count, begins, counted, goes, is_in_size, said, said_within, fits_user_data, seen_called, seen_calling}
-use Rattle.osi_machine.specs.Core.{Core, CoreStep, Offer, call_at, called, core_start, core_step, offer_sent, offering, stays_in_core, take_at, taking, turned}
+use Rattle.osi_session.specs.Standing.{CanSay, Count, Seen, Takes, after_count, begins, counted, goes, is_in_size, said, said_within}
+use Rattle.osi_session.specs.Standing.{fits_user_data, seen_called, seen_calling}
+use Rattle.osi_machine.specs.Core.{Core, CoreStep, Offer, call_at, called, core_start, core_step, offer_sent, offering, stays_in_core}
+use Rattle.osi_machine.specs.Core.{take_at, taking, turned}
 use Rattle.osi_machine.specs.Core as machine
 use Rattle.osi_judge.specs.declared.directions.Direction.{Direction}
 use Rattle.osi_judge.specs.declared.directions.Direction.TheVariants.{Left, Right}
 use Rattle.osi_judge.specs.Captures.{other}
 use Rattle.osi_accord.specs.Accords.{Accords, Sending, end_of, sending, words_in, words_read}
 use Rattle.osi_accord.specs.Accords as accord
-use Rattle.osi_accord.specs.Machines.{AreWritten, IsByCall, IsCoreCall, IsMessage, Plays, TakesNoLiberty, Utterance, connect_of, is_connect, sent_at, sent_in, side_at, utters}
+use Rattle.osi_accord.specs.Machines.{AreWritten, IsByCall, IsCoreCall, IsMessage, Plays, TakesNoLiberty, Utterance, connect_of}
+use Rattle.osi_accord.specs.Machines.{is_connect, sent_at, sent_in, side_at, utters}
 use Rattle.osi_accord.specs.Pairs.{Pair, pair_of, party_of, channel_of, has_taken, session_of, with_channel, with_session}
 
 -- what is known of messages in octets, and of what a session does with them
@@ -114,7 +118,8 @@ record Stands (w : Core) (p : Pair) (d : Direction) (ahead others : List Meaning
   own : IsParty (party_at d w) (session_of d p) (channel_of d p) ahead
   peer : IsParty (party_at (other d) w) (session_of (other d) p) (channel_of (other d) p) others
 
-turned_about : (w : Core) (p : Pair) (d : Direction) (ahead others : List Meaning) → Stands w p d ahead others → Stands w p (other d) others ahead
+turned_about : (w : Core) (p : Pair) (d : Direction) (ahead others : List Meaning) → Stands w p d ahead others →
+    Stands w p (other d) others ahead
 turned_about w p Left ahead others s = record { own = s.peer; peer = s.own }
 turned_about w p Right ahead others s = record { own = s.peer; peer = s.own }
 
@@ -128,7 +133,8 @@ written_more (x ∷ ms) m = ap (λ (y : List (List ℕ)). written x ∷ y) (writ
 
 -- ---- a call
 
-called_own : (v : Core) (c : Call) (g : Step) → stays_in_core c ≡ true → allowed v.own.session c ≡ Ok g → called v c ≡ machine.answered v c (Ok g)
+called_own : (v : Core) (c : Call) (g : Step) → stays_in_core c ≡ true → allowed v.own.session c ≡ Ok g →
+    called v c ≡ machine.answered v c (Ok g)
 called_own v c g stays allows = rw (stays, allows) refl
 
 kept_none : (b : Bool) (n : Option ℕ) → n ≡ None → (if b then None else n) ≡ None
@@ -209,22 +215,26 @@ party_gives x y s channel rest others us i at sent later all = record {
 taking_own : (v : Core) (u : Meaning) (us : List Meaning) → v.peer.sent ≡ u ∷ us → machine.takes v ≡ taking v (u ∷ us)
 taking_own v u us e = ap (taking v) e
 
-takes_on : AsMessages → (w : Core) (p : Pair) (d : Direction) (c : Count) (tsdu : List ℕ) (rest : List (List ℕ)) (ahead others : List Meaning) →
+takes_on : AsMessages → (w : Core) (p : Pair) (d : Direction) (c : Count) (tsdu : List ℕ) (rest : List (List ℕ))
+    (ahead others : List Meaning) →
     channel_of (other d) p ≡ tsdu ∷ rest → Takes (session_of d p) tsdu c → Stands w p d ahead others →
     Stands (core_step w (take_at (side_at d))) (has_taken d c rest p) d ahead others
 takes_on k w p Left c tsdu rest ahead others there taken s =
-    let m = comes w.peer.sent tsdu (rest ++ map written others) (ap (λ (x : List (List ℕ)). x ++ map written others) (sym there) ∙ s.peer.flight) in
+    let m = comes w.peer.sent tsdu (rest ++ map written others)
+    (ap (λ (x : List (List ℕ)). x ++ map written others) (sym there) ∙ s.peer.flight) in
     let all : AllByRecursion IsSendable (m.u ∷ m.us) = subst (AllByRecursion IsSendable) m.is s.peer.sendable in
     let is = taking_own w m.u m.us m.is in
     let did = is_taken k p.left.session m.u c all.0 s.own.joined (subst (λ (x : List ℕ). Takes p.left.session x c) (sym m.first) taken) in
     record {
-      own = party_takes w.own (machine.takes w).own p.left.session p.left.channel ahead m.u c did s.own (ap (λ (x : Core). x.own.session) is)
+      own = party_takes w.own (machine.takes w).own p.left.session p.left.channel ahead m.u c did s.own
+          (ap (λ (x : Core). x.own.session) is)
           (ap (λ (x : Core). x.own.sent) is);
       peer = party_gives w.peer (machine.takes w).peer p.right.session p.right.channel rest others m.us s.peer
           (ap (λ (x : Core). x.peer.session) is) (ap (λ (x : Core). x.peer.sent) is) m.later all.1;
     }
 takes_on k w p Right c tsdu rest ahead others there taken s =
-    let m = comes w.own.sent tsdu (rest ++ map written others) (ap (λ (x : List (List ℕ)). x ++ map written others) (sym there) ∙ s.peer.flight) in
+    let m = comes w.own.sent tsdu (rest ++ map written others)
+    (ap (λ (x : List (List ℕ)). x ++ map written others) (sym there) ∙ s.peer.flight) in
     let all : AllByRecursion IsSendable (m.u ∷ m.us) = subst (AllByRecursion IsSendable) m.is s.peer.sendable in
     let is = taking_own (turned w) m.u m.us m.is in
     let did = is_taken k p.right.session m.u c all.0 s.own.joined (subst (λ (x : List ℕ). Takes p.right.session x c) (sym m.first) taken) in
@@ -406,8 +416,10 @@ says_due k w p e own before x words later next messages d ahead q by can all (in
         (subst (λ (y : Pair). Stands w y d ahead []) (sym (ap (λ (z : Seen). with_session e z p) still ∙ same_pair e p)) s)
 
 -- all words of a TSDU are sent
-sends_due : AsMessages → (w : Core) (p : Pair) (e : Direction) (own : List ℕ) (before : ℕ) (later : List Sending) (messages : List Utterance)
-    (d : Direction) (ahead : List Meaning) (q : Pair) → AllByRecursion IsMessage messages → IsDue (sending e own before [] ∷ later) messages d ahead →
+sends_due : AsMessages → (w : Core) (p : Pair) (e : Direction) (own : List ℕ) (before : ℕ) (later : List Sending)
+    (messages : List Utterance)
+    (d : Direction) (ahead : List Meaning) (q : Pair) → AllByRecursion IsMessage messages →
+    IsDue (sending e own before [] ∷ later) messages d ahead →
     Stands w p d ahead [] →
     ((w : Core) (d : Direction) (ahead : List Meaning) → IsDue later messages d ahead →
     Stands w (with_channel e (channel_of e p ++ own ∷ []) p) d ahead [] → Plays w messages q) → Plays w messages q
@@ -493,7 +505,8 @@ nothing_comes Left p tsdu rest e there = let none : [] ≡ tsdu ∷ rest = sym (
 nothing_comes Right p tsdu rest e there = let none : [] ≡ tsdu ∷ rest = sym (ap (channel_of Left) e) ∙ there in cc
 
 -- the TSDU is whole
-whole : (own : List ℕ) (before : ℕ) (sent : List Sending) {p : Pair} (run : Accords (sending Left own before [] ∷ sent) p) → TakesNoLiberty run →
+whole : (own : List ℕ) (before : ℕ) (sent : List Sending) {p : Pair} (run : Accords (sending Left own before [] ∷ sent) p) →
+    TakesNoLiberty run →
     Free (end_of run) sent (with_channel Left (channel_of Left p ++ own ∷ []) p)
 whole own before sent (accord.sends d later p o b run) free = (run, free, refl)
 
@@ -528,7 +541,8 @@ connected k o send before sent (accord.says d later p own b w words next can run
     let left : d ≡ Left = ap first_side is in
     let first : CanSay (session_of d beginning) w (length own) next =
     subst (λ (x : Pair). CanSay (session_of d x) w (length own) next) start can in
-    let there : CanSay seen_calling w (length own) next = subst (λ (x : Direction). CanSay (session_of x beginning) w (length own) next) left first in
+    let there : CanSay seen_calling w (length own) next = subst
+    (λ (x : Direction). CanSay (session_of x beginning) w (length own) next) left first in
     begun (end_of run) o sent d p own b words later next start left (ap first_octets is) none (ap after_first is)
     (connect_leaves o (length own) next (subst (λ (x : Word). CanSay seen_calling x (length own) next) word there)) (run, free.1, refl)
 connected k o send before sent (accord.sends d later p own b run) free is start =

@@ -5,8 +5,10 @@ use Rattle.osi_tpdu.specs.Packet.{units_of}
 use Rattle.osi_judge.specs.declared.directions.Direction.{Direction}
 use Rattle.osi_judge.specs.declared.stops.Stop.TheVariants.{TsduTooLong}
 use Rattle.osi_judge.specs.Captures.{Capture}
-use Rattle.osi_judge.specs.Transport.{Handshake, Move, Sent, Stage, adds, added, asking, asks, between, first_of, first_unit, hurries, ignores}
-use Rattle.osi_judge.specs.Transport.{IsSent, is_too_long, met_before, moved, opening, opens, packet_length, refused, refuses, sent_from, stage_behind}
+use Rattle.osi_judge.specs.Transport.{Handshake, Move, Sent, Stage, adds, added, asking, asks, between, first_of, first_unit, hurries}
+use Rattle.osi_judge.specs.Transport.{ignores}
+use Rattle.osi_judge.specs.Transport.{IsSent, is_too_long, met_before, moved, opening, opens, packet_length, refused, refuses, sent_from}
+use Rattle.osi_judge.specs.Transport.{stage_behind}
 use Rattle.osi_judge.specs.Transport.{step_of, stopped, stops, within}
 use Rattle.osi_judge.proofs.captured.one_more_packet_passes.{OneOrNone, sent_one}
 
@@ -55,7 +57,8 @@ goes_on d h asking at later u f l = moved_on asking at later (step_of d asking h
 goes_on d h between at later u f l = moved_on between at later (step_of d between h (first_unit (units_of u))) f l
 goes_on d h (within first octets) at later u f l =
     moved_on (within first octets) at later (step_of d (within first octets) h (first_unit (units_of u))) f l
-goes_on d h (refused packet) at later u f l = moved_on (refused packet) at later (step_of d (refused packet) h (first_unit (units_of u))) f l
+goes_on d h (refused packet) at later u f l = moved_on (refused packet) at later
+    (step_of d (refused packet) h (first_unit (units_of u))) f l
 goes_on d h (stopped stop packet) at later u f l = (l, omega arith)
 
 -- ---- TSDUs of packets

@@ -16,7 +16,8 @@ abbrev BeginFrom : Direction → Capture → ℕ → List Sent → Type 0
 BeginFrom d capture n [] = Unit {0}
 BeginFrom d capture n (t ∷ sent) = (n ≤ place d capture t.first) × BeginFrom d capture n sent
 
-later_begin : (d : Direction) (capture : Capture) (m n : ℕ) (sent : List Sent) → m ≤ n → BeginFrom d capture n sent → BeginFrom d capture m sent
+later_begin : (d : Direction) (capture : Capture) (m n : ℕ) (sent : List Sent) → m ≤ n → BeginFrom d capture n sent →
+    BeginFrom d capture m sent
 later_begin d capture m n [] l b = tt
 later_begin d capture m n (t ∷ sent) l b = let k : n ≤ place d capture t.first = b.0 in (omega arith, later_begin d capture m n sent l b.1)
 
@@ -80,15 +81,20 @@ with_left capture t lefts rise merge (u ∷ rights) n r =
     others : BeginFrom Right capture (place Right capture u.first) rights
     others = risen_begin Right capture u.first rights r.2
 
-    by : ((leb (place Left capture t.first) (place Right capture u.first) ≡ true) × (place Left capture t.first ≤ place Right capture u.first))
-        ⊎ ((leb (place Left capture t.first) (place Right capture u.first) ≡ false) × (place Right capture u.first < place Left capture t.first))
+    by : ((leb (place Left capture t.first) (place Right capture u.first) ≡ true) ×
+        (place Left capture t.first ≤ place Right capture u.first))
+        ⊎ ((leb (place Left capture t.first) (place Right capture u.first) ≡ false) ×
+        (place Right capture u.first < place Left capture t.first))
         → Merged capture (t ∷ lefts) rights → Merged capture (t ∷ lefts) (u ∷ rights)
     by (inl (is, l)) more =
         left_first capture t lefts (u ∷ rights) lasts
         (l, later_begin Right capture (place Left capture t.first) (place Right capture u.first) rights l others) (merge (u ∷ rights) n r)
     by (inr (is, l)) more =
-        right_first capture u (t ∷ lefts) rights
-        (omega arith, later_begin Left capture (place Right capture u.first) (place Left capture t.first) lefts (omega arith) lasts) others more
+        right_first capture u (t ∷ lefts) rights (
+          omega arith,
+          later_begin Left capture (place Right capture u.first) (place Left capture t.first) lefts
+              (omega arith) lasts,
+        ) others more
 
 without_left : (capture : Capture) (rights : List Sent) (n : ℕ) → Rise n rights → Merged capture [] rights
 without_left capture [] n r = record { passages = []; left = refl; right = refl; order = tt }

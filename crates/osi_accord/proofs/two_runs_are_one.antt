@@ -170,14 +170,16 @@ module _ (us : List (List ℕ)) (d : Direction) (t : Told) (after : List Sending
 
 -- What a side still sends is explained from its session on, by what it has taken, what is in flight to it and what the other side
 -- has still to send.
-record Fits (us : List (List ℕ)) (sent : ℕ) (s : Seen) (k : ℕ) (flight : List (List ℕ)) (left : List Remark) (rest : List (List ℕ)) : Type 0 where
+record Fits (us : List (List ℕ)) (sent : ℕ) (s : Seen) (k : ℕ) (flight : List (List ℕ)) (left : List Remark)
+    (rest : List (List ℕ)) : Type 0 where
   gone : List (List ℕ)
   counted : length gone ≡ k
   split : Splits us sent gone flight rest
   explains : Explains us left k s
 
 -- the other side has sent one more
-sent_more : (us : List (List ℕ)) (sent : ℕ) (s : Seen) (k : ℕ) (flight : List (List ℕ)) (left : List Remark) (tsdu : List ℕ) (rest : List (List ℕ)) →
+sent_more : (us : List (List ℕ)) (sent : ℕ) (s : Seen) (k : ℕ) (flight : List (List ℕ)) (left : List Remark) (tsdu : List ℕ)
+    (rest : List (List ℕ)) →
     Fits us sent s k flight left (tsdu ∷ rest) → Fits us (sent + 1) s k (flight ++ tsdu ∷ []) left rest
 sent_more us sent s k flight left tsdu rest f =
     let c : sent ≡ length f.gone + length flight = f.split.count in
@@ -192,7 +194,8 @@ sent_more us sent s k flight left tsdu rest f =
       explains = f.explains;
     }
 
-runs : (lefts rights : List (List ℕ)) (turns : List Turn) (l r : ℕ) (s y : Seen) (a b : ℕ) (mine theirs : List (List ℕ)) → AreInOrder l r turns →
+runs : (lefts rights : List (List ℕ)) (turns : List Turn) (l r : ℕ) (s y : Seen) (a b : ℕ) (mine theirs : List (List ℕ)) →
+    AreInOrder l r turns →
     Fits rights r s a theirs (remarks (told_by Left turns)) (tsdus_by Right turns) →
     Fits lefts l y b mine (remarks (told_by Right turns)) (tsdus_by Left turns) →
     Accords (map sending_of turns) (record { left = party s a mine; right = party y b theirs })
@@ -213,7 +216,8 @@ runs lefts rights (turn Right t ∷ turns) l r s y a b mine theirs o f g =
 nothing_taken : (us : List (List ℕ)) (s : Seen) (told : List Told) → IsExplained s us told → Fits us 0 s 0 [] (remarks told) us
 nothing_taken us s told e = record { gone = []; counted = refl; split = record { all = refl; count = refl }; explains = e }
 
-pub accord_of : (left right : Seen) (turns : List Turn) → AreInOrder 0 0 turns → IsExplained left (tsdus_by Right turns) (told_by Left turns) →
+pub accord_of : (left right : Seen) (turns : List Turn) → AreInOrder 0 0 turns →
+    IsExplained left (tsdus_by Right turns) (told_by Left turns) →
     IsExplained right (tsdus_by Left turns) (told_by Right turns) → Accords (map sending_of turns) (pair_of left right)
 accord_of left right turns o e f =
     runs (tsdus_by Left turns) (tsdus_by Right turns) turns 0 0 left right 0 0 [] [] o (nothing_taken (tsdus_by Right turns) left _ e)

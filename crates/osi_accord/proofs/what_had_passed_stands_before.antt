@@ -71,12 +71,14 @@ risen_sound : (n : ℕ) (sent : List Sent) → Rise n sent → AreSound sent
 risen_sound n [] r = tt
 risen_sound n (t ∷ sent) r = (r.1, risen_sound t.first sent r.2)
 
-ends_after : (d : Direction) (capture : Capture) (k : ℕ) (t : Sent) → t.first < t.behind → place d capture k ≤ place (other d) capture t.first →
+ends_after : (d : Direction) (capture : Capture) (k : ℕ) (t : Sent) → t.first < t.behind →
+    place d capture k ≤ place (other d) capture t.first →
     passed_before d capture k < t.behind
 ends_after d capture k t l p = by (leb_tells t.behind (passed_before d capture k))
   where
     by : ((leb t.behind (passed_before d capture k) ≡ true) × (t.behind ≤ passed_before d capture k))
-        ⊎ ((leb t.behind (passed_before d capture k) ≡ false) × (passed_before d capture k < t.behind)) → passed_before d capture k < t.behind
+        ⊎ ((leb t.behind (passed_before d capture k) ≡ false) × (passed_before d capture k < t.behind)) →
+        passed_before d capture k < t.behind
     by (inl (is, b)) = let f = passed_first d capture k t.first t.behind l b in absurd (omega arith)
     by (inr (is, b)) = b
 
@@ -200,7 +202,8 @@ capture_accord capture lefts rights il ir e f =
 
 -- ---- where there is a run of both, neither is blamed
 
-capture_explained : (capture : Capture) (passages : List Passage) → Accords (sendings_in capture passages) (pair_of seen_calling seen_called) →
+capture_explained : (capture : Capture) (passages : List Passage) →
+    Accords (sendings_in capture passages) (pair_of seen_calling seen_called) →
     IsExplained seen_calling (heard (sent_by Right passages)) (told Left capture (sent_by Left passages) (sent_by Right passages))
     × IsExplained seen_called (heard (sent_by Left passages)) (told Right capture (sent_by Right passages) (sent_by Left passages))
 capture_explained capture passages run =
@@ -217,7 +220,8 @@ capture_explained capture passages run =
     )
 
 -- a side that is explained is explained up to each of its TSDUs
-front_explained : (begin : Seen) (us : List (List ℕ)) (said : List Told) (n : ℕ) → IsExplained begin us said → IsExplained begin us (take n said)
+front_explained : (begin : Seen) (us : List (List ℕ)) (said : List Told) (n : ℕ) → IsExplained begin us said →
+    IsExplained begin us (take n said)
 front_explained begin us said n e =
     front_told us (take n said) (drop n said) begin (subst (λ (x : List Told). IsExplained begin us x) (sym (take-append-drop n said)) e)
 
@@ -232,11 +236,13 @@ not_blamed same Left capture passages i a found =
     let others = same Right capture (sent_by Right passages) found.others a.are.right found.is_others in
     found.found.0.broke (front_explained seen_calling (heard found.others) (told Left capture found.mine found.others) (i + 1)
     (subst (λ (x : List Sent). IsExplained seen_calling (heard x) (told Left capture found.mine x)) others
-    (subst (λ (x : List Sent). IsExplained seen_calling (heard (sent_by Right passages)) (told Left capture x (sent_by Right passages))) mine e)))
+    (subst (λ (x : List Sent). IsExplained seen_calling (heard (sent_by Right passages))
+    (told Left capture x (sent_by Right passages))) mine e)))
 not_blamed same Right capture passages i a found =
     let e = (capture_explained capture passages a.runs).1 in
     let mine = same Right capture (sent_by Right passages) found.mine a.are.right found.is_mine in
     let others = same Left capture (sent_by Left passages) found.others a.are.left found.is_others in
     found.found.0.broke (front_explained seen_called (heard found.others) (told Right capture found.mine found.others) (i + 1)
     (subst (λ (x : List Sent). IsExplained seen_called (heard x) (told Right capture found.mine x)) others
-    (subst (λ (x : List Sent). IsExplained seen_called (heard (sent_by Left passages)) (told Right capture x (sent_by Left passages))) mine e)))
+    (subst (λ (x : List Sent). IsExplained seen_called (heard (sent_by Left passages))
+    (told Right capture x (sent_by Left passages))) mine e)))

@@ -1,5 +1,6 @@
 -- What a side may send is what a call sends, but for the liberties that it may take. For the law of that name.
-use Rattle.std.proofs.Common.{◌≡◌, ◌∙◌, refl, sym, ap, subst, ℕ, ◌+◌, ◌-◌, Bool, true, false, not, ◌&&◌, ◌||◌, ◌==◌, nat_le, List, [], ◌∷◌, length}
+use Rattle.std.proofs.Common.{◌≡◌, ◌∙◌, refl, sym, ap, subst, ℕ, ◌+◌, ◌-◌, Bool, true, false, not, ◌&&◌, ◌||◌, ◌==◌, nat_le, List, []}
+use Rattle.std.proofs.Common.{◌∷◌, length}
 use Rattle.std.proofs.Common.{Option, Some, None, option_map, Ok, Err, is_none, if◌then◌else◌, arith}
 use Rattle.std.proofs.lemmas.Bool.{and_parts, eqb-true}
 use Rattle.osi_message.specs.Meanings.{Meaning, CN, AC, RF, DT, GT, PT, MIP, MIA, MAP, MAA, RS, RA, FN, DN, NF, AB, AA}
@@ -15,15 +16,12 @@ use Rattle.osi_session.specs.Respond.{has_no_effect, is_restart}
 use Rattle.osi_session.specs.Sides.{answers_wishes, setting_of, settle, stated}
 use Rattle.osi_session.specs.Sizes.{fits_limit}
 use Rattle.osi_message.specs.Tokens.{each, is_empty}
-use Rattle.osi_session.specs.Standing.{CanSay, Seen, calling, finishing, fits_user_data, goes, is_in_size, left_by, said, said_message, said_within}
+use Rattle.osi_session.specs.Standing.{CanSay, Seen, calling, finishing, fits_user_data, goes, is_in_size, left_by, said, said_message}
+use Rattle.osi_session.specs.Standing.{said_within}
 use Rattle.osi_session.specs.Standing.{where_is}
 use Rattle.osi_session.proofs.tables.what_an_accepted_call_has_passed.{first_error_ok, over_calls}
 use Rattle.osi_accord.specs.Liberties.{IsCall, as_called, is_called}
-
--- a call is allowed, which sends this and leaves this state
-record Calls (s : State) (m : Meaning) (next : State) : Type 0 where
-  call : Call
-  allows : allowed s call ≡ Ok (record { next = next; sent = m })
+use Rattle.osi_accord.proofs.what_an_ac_selects.{Calls, accepted_as, allowed_is}
 
 -- ---- a call that passes its tests
 
@@ -34,13 +32,6 @@ left_is (Err e) n h = absurd (cc)
 if_some : (b : Bool) (o : Option State) (n : State) → (if b then o else None) ≡ Some n → (b ≡ true) × (o ≡ Some n)
 if_some true o n h = (refl, h)
 if_some false o n h = absurd (cc)
-
--- the call is allowed, if its TSDU is within the size agreed
-allowed_is : (s : State) (c : Call) → may_call s.phase c ≡ true → nat_le (length (octets_of c)) (most_of c) ≡ true →
-    fits_limit s c (sends s c) ≡ true → met s c ≡ Ok (record { next = after s c; sent = sends s c }) →
-    allowed s c ≡ Ok (record { next = after s c; sent = sends s c })
-unfolding allowed
-allowed_is s c p z f m = rw (over_calls c s.phase p, p, z, f, m) refl
 
 met_is : (s : State) (c : Call) (x : Step) → met s c ≡ Ok x → x ≡ record { next = after s c; sent = sends s c }
 unfolding met
@@ -94,7 +85,9 @@ released s octets n h c =
 message_called : (s : State) (m : Meaning) (n : State) → said_message s m ≡ Some n → is_called s m ≡ true → Fits s (as_called s m) →
     Calls s (as_called s m) n
 message_called s (CN version_2 requirements serial wishes from to sizes octets) n h c f = absurd (cc)
-message_called s (AC version_2 requirements serial sides sizes octets) n h c f = absurd (cc)
+message_called s (AC version_2 requirements serial sides sizes octets) n h c f =
+    let is = accepted_as s version_2 requirements serial sides sizes octets n h c in
+    record { call = is.call; allows = is.allows }
 message_called s (RF reason octets) n h c f =
     call_allowed s (Refuse (refusal_with octets)) _ n h (ap (RF (refusal_reason (refusal_with octets))) (same_octets octets)) refl
 message_called s (DT octets) n h c f = call_allowed s (Data octets) _ n h refl refl

@@ -35,7 +35,8 @@ octets_told t = t.octets
 abbrev pub tsdus_by : Direction → List Turn → List (List ℕ)
 tsdus_by d turns = map octets_told (told_by d turns)
 
--- Of the TSDUs that count as passed before a TSDU, each stands before it. So many of each side stand before all of these.
+-- Before a TSDU there are at least as many TSDUs of the other side as count as passed before it. So many of each side are in front
+-- of this list.
 abbrev pub AreInOrder : (left right : ℕ) → List Turn → Type 0
 AreInOrder left right [] = Unit {0}
 AreInOrder left right (turn Left t ∷ turns) = (t.before ≤ right) × AreInOrder (left + 1) right turns

@@ -50,11 +50,11 @@ pub record IsCoreCall (s : Seen) (m : Meaning) (next : Seen) : Type 0 where
   pub numbered : HasSerial is.call
   pub stays : stays_in_core is.call ≡ true
 
--- Such a call sends the word; or it is a CN, or the GT that names no token and stands beside data and all about points.
+-- Such a call sends the word; or the word is a CN, or the GT that names no token and comes with data and everything about points.
 abbrev pub IsByCall : Seen → Word → Seen → Type 0
 IsByCall s w next = (w ≡ says (GT no_token)) ⊎ ((m : Meaning) × (w ≡ says m) × ((is_connect m ≡ true) ⊎ IsCoreCall s m next))
 
--- Each word is sent so. No session answers by itself, as it does to an abort, a fault and a CN that it refuses.
+-- Each word is sent so. No session answers by itself, as one does after an abort, after a fault and if it refuses a CN.
 abbrev pub TakesNoLiberty : {sent : List Sending} {p : Pair} → Accords sent p → Type 0
 TakesNoLiberty (accord.done p) = Unit {0}
 TakesNoLiberty (accord.takes d later p own before w words tsdu rest c passed there hears taken quiet run) = TakesNoLiberty run

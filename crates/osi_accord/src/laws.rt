@@ -25,8 +25,9 @@ use osi_judge::laws::a_capture_has_one_reading;
 use osi_message::laws::what_is_sent_is_read;
 use osi_session::laws::{an_empty_token_item_changes_nothing, messages_do_what_they_did};
 
-/// Two sides are each explained apart from the other, by what had passed of the other before each TSDU. Then there is one run
-/// of both: they send these TSDUs in this order, and each takes a TSDU only after the other has sent it.
+/// If each of two sides is explained by itself, by what had passed of the other side before each of its TSDUs, then there is one
+/// run of both sessions (`pair`): they send these TSDUs in this order, and each side takes a TSDU only after the other has sent
+/// it. And if there is such a run, each side is explained (`only`).
 pub fn two_explained_sides_are_a_pair()
     ensures pair { (left right : Seen) (turns : List Turn) → AreInOrder 0 0 turns →
         IsExplained left (tsdus_by Direction.Right turns) (told_by Direction.Left turns) →
@@ -37,10 +38,10 @@ pub fn two_explained_sides_are_a_pair()
         × IsExplained right (tsdus_by Direction.Left turns) (told_by Direction.Right turns) }
 {}
 
-/// Of both sides of a capture the judge finds that they kept the protocol. Then there are two sessions, a caller and a called
-/// one, that make this capture (`pair`): they send all its whole TSDUs in the order in which these began to pass, each takes
-/// what the other has sent, and before a TSDU it takes only what had passed as a whole before that one. And where there are
-/// two such sessions, the judge blames neither side (`only`).
+/// If the judge finds that both sides of a capture kept the protocol, there are two sessions, a calling and a called one, that
+/// make this capture (`pair`). They send all its whole TSDUs, in the order in which their first octets passed. A side takes a
+/// TSDU after the other side has sent it, and before it sends a TSDU it takes only those that had passed as a whole before that
+/// one. And if there are two such sessions, the judge blames neither side (`only`).
 pub fn two_kept_sides_are_a_pair()
     ensures pair { (capture : Capture) → IsFoundIn Direction.Left capture Finding.Kept → IsFoundIn Direction.Right capture Finding.Kept →
         (passages : List Passage) × IsAccord capture passages }
@@ -50,11 +51,13 @@ pub fn two_kept_sides_are_a_pair()
     a_capture_has_one_reading();
 }
 
-/// What a side may send after so much is what an allowed call of a session of this product sends from there, and leaves the
-/// side as that call does. There are these liberties ([`as_called`], [`is_called`]): a CN and an AC; a GT or a PT that names no
-/// token; with duplex, an FN of the called side; any reason in an RF; settings of tokens that are not available in an RS or an
-/// RA; and any bits of a provider in an AB. And a TSDU that is written shorter than this product writes it may be within a size
-/// within which the product's is not.
+/// If a side may send a message, a session of this product in the same state allows a call that sends this message, and the call
+/// leads to the same state. The judge takes liberties beyond that, because X.225 does. The message may differ from the one that
+/// the call sends in the reason of an RF, in the settings of tokens that are not available of an AC, an RS or an RA, in the first
+/// number of an AC, and in the bits of an AB ([`as_called`]). No call sends a CN; an AC with more functional units than the CN has,
+/// or with a size where the CN has none; a GT or PT that names no token; or, with duplex, an FN of the called side
+/// ([`is_called`]). A TSDU that is written shorter than this product writes it may also be within the agreed size when the
+/// product's TSDU is not.
 ///
 /// [`as_called`]: ../specs/Liberties.antt
 /// [`is_called`]: ../specs/Liberties.antt
@@ -63,12 +66,12 @@ pub fn what_may_be_said_is_called()
         is_in_size s.state (length (written (as_called s.state m))) ≡ true → IsCall s (as_called s.state m) next }
 {}
 
-/// A run of two sessions, from the CN of a caller on, in which each TSDU is one message as this product writes it. If no liberty
-/// is taken ([`TakesNoLiberty`]), it is a run of the machine of two sides that exchange whole messages: the machine allows its
-/// calls, they send the same messages in the same order, and at the end the sides of the machine are in the states of the two
-/// sessions, with the same messages in flight (`run`). So what `osi_machine` proves of each state that its machine reaches
-/// holds of the two sessions (`reached`): they don't both hold a token, and the next message in flight is no fault where it is
-/// taken. That machine has no refusal, no answer to a release and no abort, so the run has none either.
+/// Take a run of two sessions that begins with the CN of a caller, and in which each TSDU is one message as this product writes
+/// it. If no liberty is taken ([`TakesNoLiberty`]), it is a run of the machine of two sides that exchange whole messages
+/// (`run`). The machine allows the calls, they send the same messages in the same order, and at the end the two sides of the
+/// machine are in the states of the two sessions, with the same messages in flight. So what `osi_machine` proves of every state
+/// that its machine reaches holds of the two sessions (`reached`): no token is held by both, and the next message in flight is
+/// no fault at its receiver. That machine knows no refusal, no accepted release and no abort, so the run has none either.
 ///
 /// [`TakesNoLiberty`]: ../specs/Machines.antt
 pub fn without_liberties_it_is_a_run_of_the_machine()
