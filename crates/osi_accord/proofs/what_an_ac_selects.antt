@@ -1,10 +1,9 @@
 -- An AC that a side may send is what a call of Accept sends, if its functional units and sizes are those of such a call.
 -- For the law that what may be said is called.
-use Rattle.std.proofs.Common.{◌≡◌, ◌∙◌, refl, sym, ap, subst, ℕ, Bool, true, false, not, ◌&&◌, ◌||◌, ◌==◌, if◌then◌else◌, nat_le, List}
-use Rattle.std.proofs.Common.{[], ◌∷◌, length, Option, Some, None, unwrap_or, Ok, Err, arith}
-use Rattle.std.proofs.lemmas.Bool.{and_from, and_parts, eqb-true}
+use Rattle.std.proofs.Common.{◌≡◌, ◌∙◌, refl, sym, subst, ℕ, Bool, true, false, not, ◌&&◌, ◌||◌, ◌==◌, if◌then◌else◌, nat_le, List}
+use Rattle.std.proofs.Common.{length, Option, Some, None, unwrap_or, Ok, arith}
+use Rattle.std.proofs.lemmas.Bool.{and_parts, eqb-true}
 use Rattle.osi_spdu.specs.declared.fields.TsduMaximumSize.{TsduMaximumSize}
-use Rattle.osi_spdu.specs.declared.settings.Side.{Side}
 use Rattle.osi_spdu.specs.declared.settings.TokenSetting.{TokenSetting}
 use Rattle.osi_spdu.specs.declared.settings.Wish.{Wish}
 use Rattle.osi_spdu.specs.Sizes.{are_sizes}
@@ -13,7 +12,7 @@ use Rattle.osi_message.specs.Tokens.{data_token, has, major, minor, release}
 use Rattle.osi_session.specs.declared.selected.FunctionalUnits.{FunctionalUnits}
 use Rattle.osi_session.specs.declared.sides.Sides.{Sides}
 use Rattle.osi_session.specs.declared.state.State.{State}
-use Rattle.osi_session.specs.Allowed.{Answer, after, allowed, base_for, may_call, met, most_of, most_user_data, octets_of, opened_with, sends}
+use Rattle.osi_session.specs.Allowed.{Answer, after, allowed, base_for, may_call, met, most_of, octets_of, opened_with, sends}
 use Rattle.osi_session.specs.Calls.{Accept, Call}
 use Rattle.osi_session.specs.Phases.{is_answering}
 use Rattle.osi_session.specs.Sides.{allows, answers_wishes, of_answerer, settle, settled, stated, stated_side}
@@ -109,9 +108,9 @@ accepted_as s version_2 requirements serial sides sizes octets n h c =
     let own = and_parts (units_within u s.units && is_profile requirements) (has_sizes_of s.sizes sizes) c in
     let within = and_parts (units_within u s.units) (is_profile requirements) own.0 in
     let said : accepting_in u s version_2 serial sides sizes octets ≡ Some n =
-        subst (λ (v : FunctionalUnits). accepting_in v s version_2 serial sides sizes octets ≡ Some n) (within_both u s.units within.0) h in
+    subst (λ (v : FunctionalUnits). accepting_in v s version_2 serial sides sizes octets ≡ Some n) (within_both u s.units within.0) h in
     let left = if_some (is_answering s.phase && (fits_user_data octets &&
-        ((version_2 && (has_data u && are_sizes sizes)) && answers_wishes u s.wishes sides))) _ n said in
+    ((version_2 && (has_data u && are_sizes sizes)) && answers_wishes u s.wishes sides))) _ n said in
     let p = and_parts (is_answering s.phase) _ left.0 in
     let q = and_parts (fits_user_data octets) _ p.1 in
     let w = and_parts (version_2 && (has_data u && are_sizes sizes)) (answers_wishes u s.wishes sides) q.1 in
@@ -119,7 +118,7 @@ accepted_as s version_2 requirements serial sides sizes octets n h c =
     let size = same_sizes s.sizes sizes own.1 in
     let call = Accept requirements (unwrap_or serial s.proposed) (stated u sides) sizes octets in
     let there : after s call ≡ n =
-        (λ i. opened_with u (of_answerer u (same i)) (base_for u (unwrap_or serial s.proposed)) (sym size i) s) ∙ left.1 in
+    (λ i. opened_with u (of_answerer u (same i)) (base_for u (unwrap_or serial s.proposed)) (sym size i) s) ∙ left.1 in
     record {
       call = call;
       allows = allowed_is s call p.0 q.0 refl (accept_met s requirements (unwrap_or serial s.proposed) (stated u sides) sizes octets own.0)

@@ -7,7 +7,7 @@ use Rattle.osi_message.specs.Meanings.{Meaning, CN, AC, RF, DT, GT, PT, MIP, MIA
 use Rattle.osi_message.specs.Words.{says}
 use Rattle.osi_message.specs.Written.{written}
 use Rattle.osi_session.specs.declared.state.State.{State}
-use Rattle.osi_session.specs.Allowed.{Answer, Step, after, allowed, has_right, may_call, met, most_of, needs, octets_of, sends}
+use Rattle.osi_session.specs.Allowed.{Answer, Step, after, has_right, may_call, met, most_of, needs, octets_of, sends}
 use Rattle.osi_session.specs.Calls.{Abort, Call, Data, Give, Major, MajorConfirm, Minor, MinorConfirm, Please, Refuse, Release}
 use Rattle.osi_session.specs.Calls.{ReleaseAccept, ReleaseRefuse, Restart, RestartConfirm, refusal_octets, refusal_reason, refusal_with}
 use Rattle.osi_session.specs.Joining.{begins_anew}
@@ -19,7 +19,7 @@ use Rattle.osi_message.specs.Tokens.{each, is_empty}
 use Rattle.osi_session.specs.Standing.{CanSay, Seen, calling, finishing, fits_user_data, goes, is_in_size, left_by, said, said_message}
 use Rattle.osi_session.specs.Standing.{said_within}
 use Rattle.osi_session.specs.Standing.{where_is}
-use Rattle.osi_session.proofs.tables.what_an_accepted_call_has_passed.{first_error_ok, over_calls}
+use Rattle.osi_session.proofs.tables.what_an_accepted_call_has_passed.{first_error_ok}
 use Rattle.osi_accord.specs.Liberties.{IsCall, as_called, is_called}
 use Rattle.osi_accord.proofs.what_an_ac_selects.{Calls, accepted_as, allowed_is}
 
