@@ -1,0 +1,14 @@
+-- The map of these proofs, in reading order.
+-- Two sides that are explained apart from each other run together.
+pub mod two_runs_are_one
+pub mod a_pair_explains_both_sides
+-- What passed before an octet of a capture, and in which order TSDUs pass.
+pub mod what_passes_first
+pub mod the_tsdus_of_a_side_rise
+pub mod tsdus_of_both_sides_in_order
+-- What counts as passed before a TSDU stands before it.
+pub mod what_had_passed_stands_before
+-- What a side may send is what a call sends, but for liberties.
+pub mod what_an_ac_selects
+pub mod what_may_be_said_is_called
+pub mod a_run_without_liberties_is_one_of_the_machine

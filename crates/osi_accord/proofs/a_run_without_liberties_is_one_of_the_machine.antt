@@ -1,0 +1,561 @@
+-- A run of two sessions in which no liberty is taken is a run of the machine of two sides that exchange whole messages.
+-- For the law of that name.
+use Rattle.std.proofs.Common.{◌≡◌, ◌∙◌, refl, sym, ap, subst, ℕ, ◌⊎◌, inl, inr, Bool, true, false, if◌then◌else◌, List, [], ◌∷◌, ◌++◌}
+use Rattle.std.proofs.Common.{length, map}
+use Rattle.std.proofs.Common.{Option, Some, None, option_map, unwrap_or, Ok, append-nil, not, ◌&&◌}
+use Rattle.std.specs.List.{AllByRecursion, list_any}
+use Rattle.osi_message.specs.Meanings.{Meaning, GT}
+use Rattle.osi_message.specs.Reading.{Said, said_at}
+use Rattle.osi_message.specs.Sendable.{IsSendable, said_of, words_of}
+use Rattle.osi_message.specs.Tokens.{is_empty, no_token}
+use Rattle.osi_message.specs.Words.{Word, says}
+use Rattle.osi_message.specs.Written.{is_second, written}
+use Rattle.osi_spdu.specs.Sizes.{are_sizes}
+use Rattle.osi_session.specs.Units.{functional_units, has_points}
+use Rattle.osi_session.specs.declared.state.State.{State}
+use Rattle.osi_session.specs.Allowed.{Step, allowed}
+use Rattle.osi_session.specs.Calls.{Call, HasSerial}
+use Rattle.osi_session.specs.Joining.{acting_words, drops_parts, heard, is_restart_word, respond_came, respond_tsdu}
+use Rattle.osi_session.specs.Respond.{has_no_effect, respond, respond_unit}
+use Rattle.osi_session.specs.Standing.{CanSay, Count, Seen, Takes, after_count, begins, counted, goes, is_in_size, said, said_within}
+use Rattle.osi_session.specs.Standing.{fits_user_data, seen_called, seen_calling}
+use Rattle.osi_machine.specs.Core.{Core, CoreStep, Offer, call_at, called, core_start, core_step, offer_sent, offering, stays_in_core}
+use Rattle.osi_machine.specs.Core.{take_at, taking, turned}
+use Rattle.osi_machine.specs.Core as machine
+use Rattle.osi_judge.specs.declared.directions.Direction.{Direction}
+use Rattle.osi_judge.specs.declared.directions.Direction.TheVariants.{Left, Right}
+use Rattle.osi_judge.specs.Captures.{other}
+use Rattle.osi_accord.specs.Accords.{Accords, Sending, end_of, sending, words_in, words_read}
+use Rattle.osi_accord.specs.Accords as accord
+use Rattle.osi_accord.specs.Machines.{AreWritten, IsByCall, IsCoreCall, IsMessage, Plays, TakesNoLiberty, Utterance, connect_of}
+use Rattle.osi_accord.specs.Machines.{is_connect, sent_at, sent_in, side_at, utters}
+use Rattle.osi_accord.specs.Pairs.{Pair, pair_of, party_of, channel_of, has_taken, session_of, with_channel, with_session}
+
+-- what is known of messages in octets, and of what a session does with them
+pub record AsMessages : Type 0 where
+  pub read : (m : Meaning) → IsSendable m → said_at (written m) ≡ Ok (words_of m)
+  pub does : (s : State) (said : Said) → respond_tsdu (record { state = s; joined = None }) (map says said) ≡ heard None (respond s said)
+  pub alone : (s : State) (u : Meaning) → respond s (said_of u) ≡ respond_unit s u
+
+-- ---- what is taken
+
+none_kept : (b : Bool) → option_map (length {A = ℕ}) (if b then None else None) ≡ None
+none_kept true = refl
+none_kept false = refl
+
+-- a session that has joined nothing, and takes a message
+record IsTaken (s : Seen) (u : Meaning) (c : Count) : Type 0 where
+  state : c.state ≡ (respond_unit s.state u).next
+  joined : c.joined ≡ None
+
+is_taken : AsMessages → (s : Seen) (u : Meaning) (c : Count) → IsSendable u → s.joined ≡ None → Takes s (written u) c → IsTaken s u c
+is_taken k s u c send none taken =
+    let came : counted (respond_came (record { state = s.state; joined = None }) (said_at (written u))) ≡ c = taken None (sym none) in
+    let does : counted (heard None (respond_unit s.state u)) ≡ c =
+    ap counted (sym (ap (respond_came (record { state = s.state; joined = None })) (k.read u send) ∙ k.does s.state (said_of u)
+    ∙ ap (heard None) (k.alone s.state u))) ∙ came in
+    record {
+      state = sym (ap (λ (x : Count). x.state) does);
+      joined = sym (ap (λ (x : Count). x.joined) does) ∙ none_kept (drops_parts (respond_unit s.state u).next.phase);
+    }
+
+-- ---- the words of a message
+
+-- nothing is left of it to send, or the GT that names no token
+abbrev IsRest : List (Option Word) → Type 0
+IsRest words = (words ≡ []) ⊎ (words ≡ Some (says (GT no_token)) ∷ [])
+
+-- its words: it comes first
+record BeginsWith (m : Meaning) (words : List (Option Word)) : Type 0 where
+  rest : List (Option Word)
+  is : words ≡ Some (says m) ∷ rest
+  rests : IsRest rest
+
+either_acts : (b : Bool) (m : Meaning) → BeginsWith m (map Some (if b then says m ∷ [] else says m ∷ says (GT no_token) ∷ []))
+either_acts true m = record { rest = []; is = refl; rests = inl refl }
+either_acts false m = record { rest = Some (says (GT no_token)) ∷ []; is = refl; rests = inr refl }
+
+acts_first : (b : Bool) (m : Meaning) → BeginsWith m (map Some (acting_words (map says (if b then GT no_token ∷ m ∷ [] else m ∷ []))))
+unfolding acting_words
+acts_first true m = either_acts (list_any is_restart_word (says m ∷ [])) m
+acts_first false m = record { rest = []; is = refl; rests = inl refl }
+
+message_first : AsMessages → (m : Meaning) → IsSendable m → BeginsWith m (words_in (written m))
+message_first k m send = rw (k.read m send) (acts_first (is_second m) m)
+
+same_said : (v w : Meaning) → says v ≡ says w → v ≡ w
+same_said v w e = cc
+
+-- a GT that names no token changes nothing
+within_rests : (s next : Seen) → said_within s (says (GT no_token)) ≡ Some next → next ≡ s
+unfolding is_empty
+within_rests s next h = let e : Some s ≡ Some next = h in cc
+
+if_seen : (b : Bool) (o : Option Seen) (n : Seen) → (if b then o else None) ≡ Some n → o ≡ Some n
+if_seen true o n h = h
+if_seen false o n h = absurd (cc)
+
+says_nothing : (s next : Seen) (octets : ℕ) → CanSay s (says (GT no_token)) octets next → next ≡ s
+unfolding said
+says_nothing s next octets h =
+    within_rests s next (if_seen (not s.closed && is_in_size s.state octets) (said_within s (says (GT no_token))) next h)
+
+-- ---- a side of the machine, and a side of the pair
+
+-- it is in the same state, and the same is in flight from it; ahead are messages that are sent and whose TSDU is not yet in flight
+record IsParty (x : machine.Party) (s : Seen) (channel : List (List ℕ)) (ahead : List Meaning) : Type 0 where
+  state : x.session ≡ s.state
+  joined : s.joined ≡ None
+  flight : channel ++ map written ahead ≡ map written x.sent
+  sendable : AllByRecursion IsSendable x.sent
+
+abbrev party_at : Direction → Core → machine.Party
+party_at Left w = w.own
+party_at Right w = w.peer
+
+-- both sides, seen from one of them
+record Stands (w : Core) (p : Pair) (d : Direction) (ahead others : List Meaning) : Type 0 where
+  own : IsParty (party_at d w) (session_of d p) (channel_of d p) ahead
+  peer : IsParty (party_at (other d) w) (session_of (other d) p) (channel_of (other d) p) others
+
+turned_about : (w : Core) (p : Pair) (d : Direction) (ahead others : List Meaning) → Stands w p d ahead others →
+    Stands w p (other d) others ahead
+turned_about w p Left ahead others s = record { own = s.peer; peer = s.own }
+turned_about w p Right ahead others s = record { own = s.peer; peer = s.own }
+
+all_and_one : (ms : List Meaning) (m : Meaning) → AllByRecursion IsSendable ms → IsSendable m → AllByRecursion IsSendable (ms ++ m ∷ [])
+all_and_one [] m a i = (i, tt)
+all_and_one (x ∷ ms) m a i = (a.0, all_and_one ms m a.1 i)
+
+written_more : (ms : List Meaning) (m : Meaning) → map written (ms ++ m ∷ []) ≡ map written ms ++ written m ∷ []
+written_more [] m = refl
+written_more (x ∷ ms) m = ap (λ (y : List (List ℕ)). written x ∷ y) (written_more ms m)
+
+-- ---- a call
+
+called_own : (v : Core) (c : Call) (g : Step) → stays_in_core c ≡ true → allowed v.own.session c ≡ Ok g →
+    called v c ≡ machine.answered v c (Ok g)
+called_own v c g stays allows = rw (stays, allows) refl
+
+kept_none : (b : Bool) (n : Option ℕ) → n ≡ None → (if b then None else n) ≡ None
+kept_none true n e = refl
+kept_none false n e = e
+
+-- the side sends a message by it
+party_calls : (x y : machine.Party) (s next : Seen) (channel : List (List ℕ)) (state : State) (m : Meaning) → IsParty x s channel [] →
+    IsSendable m → next ≡ goes s state → y.session ≡ state → y.sent ≡ x.sent ++ m ∷ [] → IsParty y next channel (m ∷ [])
+party_calls x y s next channel state m i send goes_on at sent = record {
+  state = at ∙ sym (ap (λ (z : Seen). z.state) goes_on);
+  joined = ap (λ (z : Seen). z.joined) goes_on ∙ kept_none (drops_parts state.phase) s.joined i.joined;
+  flight = ap (λ (z : List (List ℕ)). z ++ written m ∷ []) (sym (append-nil channel) ∙ i.flight) ∙ sym (written_more x.sent m)
+      ∙ ap (map written) (sym sent);
+  sendable = subst (AllByRecursion IsSendable) (sym sent) (all_and_one x.sent m i.sendable send);
+}
+
+calls_on : (w : Core) (p : Pair) (d : Direction) (next : Seen) (m : Meaning) (call : IsCoreCall (session_of d p) m next) → IsSendable m →
+    Stands w p d [] [] →
+    Stands (core_step w (call_at (side_at d) call.is.call)) (with_session d next p) d (m ∷ []) []
+calls_on w p Left next m call send s =
+    let allows : allowed w.own.session call.is.call ≡ Ok (record { next = call.is.state; sent = m }) =
+    ap (λ (x : State). allowed x call.is.call) s.own.state ∙ call.is.allows in
+    let is = called_own w call.is.call _ call.stays allows in
+    record {
+      own = party_calls _ _ _ next _ call.is.state m s.own send call.is.goes_on (ap (λ (x : Core). x.own.session) is)
+          (ap (λ (x : Core). x.own.sent) is);
+      peer = subst (λ (x : machine.Party). IsParty x p.right.session p.right.channel []) (sym (ap (λ (x : Core). x.peer) is)) s.peer;
+    }
+calls_on w p Right next m call send s =
+    let allows : allowed w.peer.session call.is.call ≡ Ok (record { next = call.is.state; sent = m }) =
+    ap (λ (x : State). allowed x call.is.call) s.own.state ∙ call.is.allows in
+    let is = called_own (turned w) call.is.call _ call.stays allows in
+    record {
+      own = party_calls _ _ _ next _ call.is.state m s.own send call.is.goes_on (ap (λ (x : Core). x.own.session) is)
+          (ap (λ (x : Core). x.own.sent) is);
+      peer = subst (λ (x : machine.Party). IsParty x p.left.session p.left.channel []) (sym (ap (λ (x : Core). x.peer) is)) s.peer;
+    }
+
+call_sends : (w : Core) (p : Pair) (d : Direction) (next : Seen) (m : Meaning) (call : IsCoreCall (session_of d p) m next) →
+    Stands w p d [] [] → sent_at w (call_at (side_at d) call.is.call) ≡ utters d m ∷ []
+call_sends w p Left next m call s = rw (call.stays, s.own.state, call.is.allows) refl
+call_sends w p Right next m call s = rw (call.stays, s.own.state, call.is.allows) refl
+
+-- ---- a delivery
+
+-- what is in flight to a side that takes this TSDU
+record Comes (sent : List Meaning) (tsdu : List ℕ) (rest : List (List ℕ)) : Type 0 where
+  u : Meaning
+  us : List Meaning
+  is : sent ≡ u ∷ us
+  first : written u ≡ tsdu
+  later : rest ≡ map written us
+
+comes : (sent : List Meaning) (tsdu : List ℕ) (rest : List (List ℕ)) → tsdu ∷ rest ≡ map written sent → Comes sent tsdu rest
+comes [] tsdu rest e = absurd (cc)
+comes (u ∷ us) tsdu rest e = record { u = u; us = us; is = refl; first = cc; later = cc }
+
+party_takes : (x y : machine.Party) (s : Seen) (channel : List (List ℕ)) (ahead : List Meaning) (u : Meaning) (c : Count) → IsTaken s u c →
+    IsParty x s channel ahead → y.session ≡ (respond_unit x.session u).next → y.sent ≡ x.sent → IsParty y (after_count s c) channel ahead
+party_takes x y s channel ahead u c did i at sent = record {
+  state = at ∙ ap (λ (z : State). (respond_unit z u).next) i.state ∙ sym did.state;
+  joined = did.joined;
+  flight = i.flight ∙ ap (map written) (sym sent);
+  sendable = subst (AllByRecursion IsSendable) (sym sent) i.sendable;
+}
+
+party_gives : (x y : machine.Party) (s : Seen) (channel rest : List (List ℕ)) (others us : List Meaning) → IsParty x s channel others →
+    y.session ≡ x.session → y.sent ≡ us → rest ++ map written others ≡ map written us → AllByRecursion IsSendable us →
+    IsParty y s rest others
+party_gives x y s channel rest others us i at sent later all = record {
+  state = at ∙ i.state;
+  joined = i.joined;
+  flight = later ∙ ap (map written) (sym sent);
+  sendable = subst (AllByRecursion IsSendable) (sym sent) all;
+}
+
+taking_own : (v : Core) (u : Meaning) (us : List Meaning) → v.peer.sent ≡ u ∷ us → machine.takes v ≡ taking v (u ∷ us)
+taking_own v u us e = ap (taking v) e
+
+takes_on : AsMessages → (w : Core) (p : Pair) (d : Direction) (c : Count) (tsdu : List ℕ) (rest : List (List ℕ))
+    (ahead others : List Meaning) →
+    channel_of (other d) p ≡ tsdu ∷ rest → Takes (session_of d p) tsdu c → Stands w p d ahead others →
+    Stands (core_step w (take_at (side_at d))) (has_taken d c rest p) d ahead others
+takes_on k w p Left c tsdu rest ahead others there taken s =
+    let m = comes w.peer.sent tsdu (rest ++ map written others)
+    (ap (λ (x : List (List ℕ)). x ++ map written others) (sym there) ∙ s.peer.flight) in
+    let all : AllByRecursion IsSendable (m.u ∷ m.us) = subst (AllByRecursion IsSendable) m.is s.peer.sendable in
+    let is = taking_own w m.u m.us m.is in
+    let did = is_taken k p.left.session m.u c all.0 s.own.joined (subst (λ (x : List ℕ). Takes p.left.session x c) (sym m.first) taken) in
+    record {
+      own = party_takes w.own (machine.takes w).own p.left.session p.left.channel ahead m.u c did s.own
+          (ap (λ (x : Core). x.own.session) is)
+          (ap (λ (x : Core). x.own.sent) is);
+      peer = party_gives w.peer (machine.takes w).peer p.right.session p.right.channel rest others m.us s.peer
+          (ap (λ (x : Core). x.peer.session) is) (ap (λ (x : Core). x.peer.sent) is) m.later all.1;
+    }
+takes_on k w p Right c tsdu rest ahead others there taken s =
+    let m = comes w.own.sent tsdu (rest ++ map written others)
+    (ap (λ (x : List (List ℕ)). x ++ map written others) (sym there) ∙ s.peer.flight) in
+    let all : AllByRecursion IsSendable (m.u ∷ m.us) = subst (AllByRecursion IsSendable) m.is s.peer.sendable in
+    let is = taking_own (turned w) m.u m.us m.is in
+    let did = is_taken k p.right.session m.u c all.0 s.own.joined (subst (λ (x : List ℕ). Takes p.right.session x c) (sym m.first) taken) in
+    record {
+      own = party_takes w.peer (machine.takes (turned w)).own p.right.session p.right.channel ahead m.u c did s.own
+          (ap (λ (x : Core). x.own.session) is) (ap (λ (x : Core). x.own.sent) is);
+      peer = party_gives w.own (machine.takes (turned w)).peer p.left.session p.left.channel rest others m.us s.peer
+          (ap (λ (x : Core). x.peer.session) is) (ap (λ (x : Core). x.peer.sent) is) m.later all.1;
+    }
+
+-- whichever side takes it
+takes_any : AsMessages → (w : Core) (p : Pair) (d e : Direction) (c : Count) (tsdu : List ℕ) (rest : List (List ℕ)) (ahead : List Meaning) →
+    channel_of (other d) p ≡ tsdu ∷ rest → Takes (session_of d p) tsdu c → Stands w p e ahead [] →
+    Stands (core_step w (take_at (side_at d))) (has_taken d c rest p) e ahead []
+takes_any k w p Left Left c tsdu rest ahead there taken s = takes_on k w p Left c tsdu rest ahead [] there taken s
+takes_any k w p Right Right c tsdu rest ahead there taken s = takes_on k w p Right c tsdu rest ahead [] there taken s
+takes_any k w p Left Right c tsdu rest ahead there taken s =
+    turned_about _ _ Left [] ahead (takes_on k w p Left c tsdu rest [] ahead there taken (turned_about w p Right ahead [] s))
+takes_any k w p Right Left c tsdu rest ahead there taken s =
+    turned_about _ _ Right [] ahead (takes_on k w p Right c tsdu rest [] ahead there taken (turned_about w p Left ahead [] s))
+
+-- ---- the TSDU is in flight
+
+party_sends : (x : machine.Party) (s : Seen) (channel : List (List ℕ)) (m : Meaning) → IsParty x s channel (m ∷ []) →
+    IsParty x s (channel ++ written m ∷ []) []
+party_sends x s channel m i = record {
+  state = i.state;
+  joined = i.joined;
+  flight = append-nil (channel ++ written m ∷ []) ∙ i.flight;
+  sendable = i.sendable;
+}
+
+sends_on : (w : Core) (p : Pair) (d : Direction) (m : Meaning) → Stands w p d (m ∷ []) [] →
+    Stands w (with_channel d (channel_of d p ++ written m ∷ []) p) d [] []
+sends_on w p Left m s = record { own = party_sends w.own p.left.session p.left.channel m s.own; peer = s.peer }
+sends_on w p Right m s = record { own = party_sends w.peer p.right.session p.right.channel m s.own; peer = s.peer }
+
+-- ---- a run
+
+-- of the first message nothing is sent
+abbrev IsFresh : List Sending → List Utterance → List Meaning → Type 0
+IsFresh sent messages ahead = AreWritten sent messages × (ahead ≡ [])
+
+-- a message of this side is sent, and its TSDU is not yet in flight
+abbrev HasBegun : List Sending → List Utterance → Direction → Meaning → Type 0
+HasBegun [] messages d m = ⊥
+HasBegun (sending e own before words ∷ later) messages d m = (e ≡ d) × (own ≡ written m) × IsRest words × AreWritten later messages
+
+record IsBegun (sent : List Sending) (messages : List Utterance) (d : Direction) (ahead : List Meaning) : Type 0 where
+  m : Meaning
+  is : HasBegun sent messages d m
+  one : ahead ≡ m ∷ []
+
+abbrev IsDue : List Sending → List Utterance → Direction → List Meaning → Type 0
+IsDue sent messages d ahead = IsFresh sent messages ahead ⊎ IsBegun sent messages d ahead
+
+takes_step : (w : Core) (d : Direction) (messages : List Utterance) (q : Pair) → Plays (core_step w (take_at (side_at d))) messages q →
+    Plays w messages q
+takes_step w d messages q s = record {
+  steps = take_at (side_at d) ∷ s.steps;
+  numbered = (tt, s.numbered);
+  sent = s.sent;
+  left = s.left;
+  right = s.right;
+  left_in_flight = s.left_in_flight;
+  right_in_flight = s.right_in_flight;
+}
+
+call_step : (w : Core) (d : Direction) (c : Call) (m : Meaning) (messages : List Utterance) (q : Pair) → HasSerial c →
+    sent_at w (call_at (side_at d) c) ≡ utters d m ∷ [] → Plays (core_step w (call_at (side_at d) c)) messages q →
+    Plays w (utters d m ∷ messages) q
+call_step w d c m messages q small sent s = record {
+  steps = call_at (side_at d) c ∷ s.steps;
+  numbered = (small, s.numbered);
+  sent = ap (λ (x : List Utterance). x ++ sent_in (core_step w (call_at (side_at d) c)) s.steps) sent
+      ∙ ap (λ (x : List Utterance). utters d m ∷ x) s.sent;
+  left = s.left;
+  right = s.right;
+  left_in_flight = s.left_in_flight;
+  right_in_flight = s.right_in_flight;
+}
+
+-- nothing is left to send
+no_more : (w : Core) (p : Pair) (d : Direction) → Stands w p d [] [] → Plays w [] p
+no_more w p Left s = record {
+  steps = [];
+  numbered = tt;
+  sent = refl;
+  left = s.own.state;
+  right = s.peer.state;
+  left_in_flight = sym s.own.flight ∙ append-nil p.left.channel;
+  right_in_flight = sym s.peer.flight ∙ append-nil p.right.channel;
+}
+no_more w p Right s = record {
+  steps = [];
+  numbered = tt;
+  sent = refl;
+  left = s.peer.state;
+  right = s.own.state;
+  left_in_flight = sym s.peer.flight ∙ append-nil p.left.channel;
+  right_in_flight = sym s.own.flight ∙ append-nil p.right.channel;
+}
+
+nothing_due : (w : Core) (p : Pair) (messages : List Utterance) (d : Direction) (ahead : List Meaning) → IsDue [] messages d ahead →
+    Stands w p d ahead [] → Plays w messages p
+nothing_due w p [] d ahead (inl due) s = no_more w p d (subst (λ (a : List Meaning). Stands w p d a []) due.1 s)
+nothing_due w p (utters e m ∷ messages) d ahead (inl due) s = absurd due.0
+nothing_due w p messages d ahead (inr due) s = absurd due.is
+
+-- nothing is ahead of either side
+calm : (w : Core) (p : Pair) (d e : Direction) → Stands w p d [] [] → Stands w p e [] []
+calm w p Left Left s = s
+calm w p Right Right s = s
+calm w p Left Right s = turned_about w p Left [] [] s
+calm w p Right Left s = turned_about w p Right [] [] s
+
+same_pair : (d : Direction) (p : Pair) → with_session d (session_of d p) p ≡ p
+same_pair Left p = refl
+same_pair Right p = refl
+
+-- the first words of a TSDU
+record FirstWord (m : Meaning) (w : Word) (words : List (Option Word)) : Type 0 where
+  word : w ≡ says m
+  rests : IsRest words
+
+first_word : AsMessages → (m : Meaning) (w : Word) (words : List (Option Word)) → IsSendable m → Some w ∷ words ≡ words_in (written m) →
+    FirstWord m w words
+first_word k m w words send is =
+    let first = message_first k m send in
+    let all : Some w ∷ words ≡ Some (says m) ∷ first.rest = is ∙ first.is in
+    let rest : first.rest ≡ words = cc in
+    record { word = cc; rests = subst IsRest rest first.rests }
+
+effect_of : (m : Meaning) → has_no_effect m ≡ false → m ≡ GT no_token → ⊥
+unfolding is_empty
+effect_of m e is = let f : true ≡ false = ap has_no_effect (sym is) ∙ e in cc
+
+not_both : (b : Bool) → b ≡ true → b ≡ false → ⊥
+not_both true e f = cc
+not_both false e f = cc
+
+-- the call by which it is sent
+call_of : (s next : Seen) (w : Word) (m : Meaning) → IsByCall s w next → w ≡ says m → has_no_effect m ≡ false → is_connect m ≡ false →
+    IsCoreCall s m next
+call_of s next w m (inl is) e effect other = absurd (effect_of m effect (same_said m (GT no_token) (sym e ∙ is)))
+call_of s next w m (inr (n, is, inl connects)) e effect other =
+    absurd (not_both (is_connect n) connects (ap is_connect (same_said n m (sym is ∙ e)) ∙ other))
+call_of s next w m (inr (n, is, inr call)) e effect other =
+    subst (λ (x : Meaning). IsCoreCall s x next) (same_said n m (sym is ∙ e)) call
+
+-- a word is sent
+says_due : AsMessages → (w : Core) (p : Pair) (e : Direction) (own : List ℕ) (before : ℕ) (x : Word) (words : List (Option Word))
+    (later : List Sending) (next : Seen) (messages : List Utterance) (d : Direction) (ahead : List Meaning) (q : Pair) →
+    IsByCall (session_of e p) x next → CanSay (session_of e p) x (length own) next → AllByRecursion IsMessage messages →
+    IsDue (sending e own before (Some x ∷ words) ∷ later) messages d ahead → Stands w p d ahead [] →
+    ((messages : List Utterance) → AllByRecursion IsMessage messages → (w : Core) (d : Direction) (ahead : List Meaning) →
+    IsDue (sending e own before words ∷ later) messages d ahead → Stands w (with_session e next p) d ahead [] → Plays w messages q) →
+    Plays w messages q
+says_due k w p e own before x words later next [] d ahead q by can all (inl due) s on = absurd due.0
+says_due k w p e own before x words later next (utters f m ∷ messages) d ahead q by can all (inl due) s on =
+    let h = first_word k m x words all.0.0 due.0.2 in
+    let call = call_of (session_of e p) next x m by h.word all.0.1 all.0.2 in
+    let still : Stands w p e [] [] = calm w p d e (subst (λ (a : List Meaning). Stands w p d a []) due.1 s) in
+    subst (λ (z : Direction). Plays w (utters z m ∷ messages) q) due.0.0
+    (call_step w e call.is.call m messages q call.numbered (call_sends w p e next m call still)
+    (on messages all.1 (core_step w (call_at (side_at e) call.is.call)) e (m ∷ [])
+    (inr (record { m = m; is = (refl, due.0.1, h.rests, due.0.3); one = refl }))
+    (calls_on w p e next m call all.0.0 still)))
+says_due k w p e own before x words later next messages d ahead q by can all (inr due) s on = by_rest due.is.2
+  where
+    by_rest : IsRest (Some x ∷ words) → Plays w messages q
+    by_rest (inl none) = absurd (cc)
+    by_rest (inr one) =
+        let word : x ≡ says (GT no_token) = cc in
+        let none : words ≡ [] = cc in
+        let still = says_nothing (session_of e p) next (length own)
+        (subst (λ (v : Word). CanSay (session_of e p) v (length own) next) word can) in
+        on messages all w d ahead (inr (record { m = due.m; is = (due.is.0, due.is.1, inl none, due.is.3); one = due.one }))
+        (subst (λ (y : Pair). Stands w y d ahead []) (sym (ap (λ (z : Seen). with_session e z p) still ∙ same_pair e p)) s)
+
+-- all words of a TSDU are sent
+sends_due : AsMessages → (w : Core) (p : Pair) (e : Direction) (own : List ℕ) (before : ℕ) (later : List Sending)
+    (messages : List Utterance)
+    (d : Direction) (ahead : List Meaning) (q : Pair) → AllByRecursion IsMessage messages →
+    IsDue (sending e own before [] ∷ later) messages d ahead →
+    Stands w p d ahead [] →
+    ((w : Core) (d : Direction) (ahead : List Meaning) → IsDue later messages d ahead →
+    Stands w (with_channel e (channel_of e p ++ own ∷ []) p) d ahead [] → Plays w messages q) → Plays w messages q
+sends_due k w p e own before later [] d ahead q all (inl due) s on = absurd due.0
+sends_due k w p e own before later (utters f m ∷ messages) d ahead q all (inl due) s on =
+    let first = message_first k m all.0.0 in
+    let none : [] ≡ Some (says m) ∷ first.rest = due.0.2 ∙ first.is in
+    absurd (cc)
+sends_due k w p e own before later messages d ahead q all (inr due) s on =
+    let one : Stands w p d (due.m ∷ []) [] = subst (λ (a : List Meaning). Stands w p d a []) due.one s in
+    let here : Stands w p e (due.m ∷ []) [] = subst (λ (z : Direction). Stands w p z (due.m ∷ []) []) (sym due.is.0) one in
+    on w e [] (inl (due.is.3, refl))
+    (subst (λ (o : List ℕ). Stands w (with_channel e (channel_of e p ++ o ∷ []) p) e [] []) (sym due.is.1) (sends_on w p e due.m here))
+
+run_of : (k : AsMessages) {sent : List Sending} {p : Pair} (run : Accords sent p) → TakesNoLiberty run → (messages : List Utterance) →
+    AllByRecursion IsMessage messages → (w : Core) (d : Direction) (ahead : List Meaning) → IsDue sent messages d ahead →
+    Stands w p d ahead [] → Plays w messages (end_of run)
+run_of k (accord.done p) free messages all w d ahead due s = nothing_due w p messages d ahead due s
+run_of k (accord.takes e later p own before x words tsdu rest c passed there hears taken quiet run) free messages all w d ahead due s =
+    takes_step w e messages (end_of run)
+    (run_of k run free messages all (core_step w (take_at (side_at e))) d ahead due (takes_any k w p e d c tsdu rest ahead there taken s))
+run_of k (accord.answers e later p own before x words tsdu rest c reply passed there hears taken replied is run) free messages all w d
+    ahead due s = absurd free
+run_of k (accord.says e later p own before x words next can run) free messages all w d ahead due s =
+    says_due k w p e own before x words later next messages d ahead (end_of run) free.0 can all due s
+    (λ more al v f a du st. run_of k run free.1 more al v f a du st)
+run_of k (accord.sends e later p own before run) free messages all w d ahead due s =
+    sends_due k w p e own before later messages d ahead (end_of run) all due s (λ v f a du st. run_of k run free messages all v f a du st)
+
+-- ---- how it begins
+
+-- a run in which no liberty is taken, and its end
+abbrev Free : Pair → List Sending → Pair → Type 0
+Free q sent p = (run : Accords sent p) × TakesNoLiberty run × (end_of run ≡ q)
+
+-- the CN of a caller is in flight
+abbrev asking : Offer → Pair
+asking o = record {
+  left = record { session = begins (offering o); taken = 0; channel = written (offer_sent o) ∷ [] };
+  right = party_of seen_called;
+}
+
+abbrev first_words : List Sending → List (Option Word)
+first_words [] = []
+first_words (sending d own before words ∷ sent) = words
+
+abbrev first_side : List Sending → Direction
+first_side [] = Left
+first_side (sending d own before words ∷ sent) = d
+
+abbrev first_octets : List Sending → List ℕ
+first_octets [] = []
+first_octets (sending d own before words ∷ sent) = own
+
+abbrev after_first : List Sending → List Sending
+after_first [] = []
+after_first (x ∷ sent) = sent
+
+abbrev beginning : Pair
+beginning = pair_of seen_calling seen_called
+
+connect_words : AsMessages → (o : Offer) → IsSendable (offer_sent o) → words_in (written (offer_sent o)) ≡ Some (says (offer_sent o)) ∷ []
+unfolding acting_words is_second
+connect_words k o send = rw (k.read (offer_sent o) send) refl
+
+first_number : (b : Bool) (serial : ℕ) → unwrap_or (if b then Some serial else None) 0 ≡ (if b then serial else 0)
+first_number true serial = refl
+first_number false serial = refl
+
+if_connects : (b : Bool) (state : State) (next : Seen) → option_map (goes seen_calling) (if b then Some state else None) ≡ Some next →
+    next ≡ goes seen_calling state
+if_connects true state next h = let e : Some (goes seen_calling state) ≡ Some next = h in cc
+if_connects false state next h = absurd (cc)
+
+connect_leaves : (o : Offer) (octets : ℕ) (next : Seen) → CanSay seen_calling (says (offer_sent o)) octets next → next ≡ begins (offering o)
+unfolding said
+connect_leaves o octets next h =
+    if_connects (fits_user_data o.octets && are_sizes o.sizes) _ next h
+    ∙ ap (λ (n : ℕ). begins (record (offering o) { proposed = n })) (first_number (has_points (functional_units o.requirements)) o.serial)
+
+nothing_comes : (d : Direction) (p : Pair) (tsdu : List ℕ) (rest : List (List ℕ)) → p ≡ beginning → channel_of (other d) p ≡ tsdu ∷ rest → ⊥
+nothing_comes Left p tsdu rest e there = let none : [] ≡ tsdu ∷ rest = sym (ap (channel_of Right) e) ∙ there in cc
+nothing_comes Right p tsdu rest e there = let none : [] ≡ tsdu ∷ rest = sym (ap (channel_of Left) e) ∙ there in cc
+
+-- the TSDU is whole
+whole : (own : List ℕ) (before : ℕ) (sent : List Sending) {p : Pair} (run : Accords (sending Left own before [] ∷ sent) p) →
+    TakesNoLiberty run →
+    Free (end_of run) sent (with_channel Left (channel_of Left p ++ own ∷ []) p)
+whole own before sent (accord.sends d later p o b run) free = (run, free, refl)
+
+-- the word of the CN is sent
+begun : (q : Pair) (o : Offer) (sent : List Sending) (d : Direction) (p : Pair) (own : List ℕ) (before : ℕ) (words : List (Option Word))
+    (later : List Sending) (next : Seen) → p ≡ beginning → d ≡ Left → own ≡ written (offer_sent o) → words ≡ [] → later ≡ sent →
+    next ≡ begins (offering o) → Free q (sending d own before words ∷ later) (with_session d next p) → Free q sent (asking o)
+begun q o sent d p own before words later next start left octets none same is free =
+    let at : Free q (sending d own before words ∷ later) (with_session d next beginning) =
+    subst (λ (x : Pair). Free q (sending d own before words ∷ later) (with_session d next x)) start free in
+    let side : Free q (sending Left own before words ∷ later) (with_session Left next beginning) =
+    subst (λ (x : Direction). Free q (sending x own before words ∷ later) (with_session x next beginning)) left at in
+    let goes_on : Free q (sending Left own before words ∷ later) (with_session Left (begins (offering o)) beginning) =
+    subst (λ (x : Seen). Free q (sending Left own before words ∷ later) (with_session Left x beginning)) is side in
+    let all : Free q (sending Left (written (offer_sent o)) before [] ∷ sent) (with_session Left (begins (offering o)) beginning) =
+    subst (λ (x : List Sending). Free q x (with_session Left (begins (offering o)) beginning))
+    (λ i. sending Left (octets i) before (none i) ∷ same i) goes_on in
+    let more = whole (written (offer_sent o)) before sent all.0 all.1 in
+    (more.0, more.1, more.2 ∙ all.2)
+
+connected : AsMessages → (o : Offer) → IsSendable (offer_sent o) → (before : ℕ) (sent : List Sending) {all : List Sending} {p : Pair}
+    (run : Accords all p) → TakesNoLiberty run → all ≡ connect_of o before ∷ sent → p ≡ beginning → Free (end_of run) sent (asking o)
+connected k o send before sent (accord.done p) free is start = absurd (cc)
+connected k o send before sent (accord.takes d later p own b w words tsdu rest c passed there hears taken quiet run) free is start =
+    absurd (nothing_comes d p tsdu rest start there)
+connected k o send before sent (accord.answers d later p own b w words tsdu rest c reply passed there hears taken replied r run) free is
+    start = absurd free
+connected k o send before sent (accord.says d later p own b w words next can run) free is start =
+    let words_of_it : Some w ∷ words ≡ Some (says (offer_sent o)) ∷ [] = ap first_words is ∙ connect_words k o send in
+    let word : w ≡ says (offer_sent o) = cc in
+    let none : words ≡ [] = cc in
+    let left : d ≡ Left = ap first_side is in
+    let first : CanSay (session_of d beginning) w (length own) next =
+    subst (λ (x : Pair). CanSay (session_of d x) w (length own) next) start can in
+    let there : CanSay seen_calling w (length own) next = subst
+    (λ (x : Direction). CanSay (session_of x beginning) w (length own) next) left first in
+    begun (end_of run) o sent d p own b words later next start left (ap first_octets is) none (ap after_first is)
+    (connect_leaves o (length own) next (subst (λ (x : Word). CanSay seen_calling x (length own) next) word there)) (run, free.1, refl)
+connected k o send before sent (accord.sends d later p own b run) free is start =
+    let none : [] ≡ Some (says (offer_sent o)) ∷ [] = ap first_words is ∙ connect_words k o send in absurd (cc)
+
+pub machine_run : AsMessages → (o : Offer) (before : ℕ) (sent : List Sending) (messages : List Utterance)
+    (run : Accords (connect_of o before ∷ sent) (pair_of seen_calling seen_called)) → IsSendable (offer_sent o) →
+    AllByRecursion IsMessage messages → AreWritten sent messages → TakesNoLiberty run → Plays (core_start o) messages (end_of run)
+machine_run k o before sent messages run send all are free =
+    let rest = connected k o send before sent run free refl refl in
+    subst (Plays (core_start o) messages) rest.2
+    (run_of k rest.0 rest.1 messages all (core_start o) Left [] (inl (are, refl))
+    (record {
+      own = record { state = refl; joined = refl; flight = refl; sendable = (send, tt) };
+      peer = record { state = refl; joined = refl; flight = refl; sendable = tt };
+    }))

@@ -1,0 +1,86 @@
+-- The TSDUs of a side begin one after the other, and each ends after its first octet.
+-- For the law that two kept sides are a pair.
+use Rattle.std.proofs.Common.{◌≡◌, sym, subst, ℕ, ◌+◌, ◌<◌, ◌≤◌, inl, inr, Bool, true, false, if◌then◌else◌, List, [], ◌∷◌, ◌++◌, arith}
+use Rattle.osi_tpdu.specs.Packet.{units_of}
+use Rattle.osi_judge.specs.declared.directions.Direction.{Direction}
+use Rattle.osi_judge.specs.declared.stops.Stop.TheVariants.{TsduTooLong}
+use Rattle.osi_judge.specs.Captures.{Capture}
+use Rattle.osi_judge.specs.Transport.{Handshake, Move, Sent, Stage, adds, added, asking, asks, between, first_of, first_unit, hurries}
+use Rattle.osi_judge.specs.Transport.{ignores}
+use Rattle.osi_judge.specs.Transport.{IsSent, is_too_long, met_before, moved, opening, opens, packet_length, refused, refuses, sent_from}
+use Rattle.osi_judge.specs.Transport.{stage_behind}
+use Rattle.osi_judge.specs.Transport.{step_of, stopped, stops, within}
+use Rattle.osi_judge.proofs.captured.one_more_packet_passes.{OneOrNone, sent_one}
+
+-- from this offset on
+abbrev pub Rise : ℕ → List Sent → Type 0
+Rise n [] = Unit {0}
+Rise n (t ∷ sent) = (n ≤ t.first) × (t.first < t.behind) × Rise t.first sent
+
+pub rise_from : (m n : ℕ) (sent : List Sent) → m ≤ n → Rise n sent → Rise m sent
+rise_from m n [] l r = tt
+rise_from m n (t ∷ sent) l r = let k : n ≤ t.first = r.0 in (omega arith, r.1, r.2)
+
+-- ---- the first packet of the TSDU that is under way
+
+-- it is none after the packet at this offset, and none before the first packet until now
+abbrev GoesOn : Stage → ℕ → Stage → ℕ → Type 0
+GoesOn s at n later = (first_of s at ≤ first_of n later) × (first_of n later ≤ later)
+
+added_on : (s : Stage) (at later : ℕ) (long end : Bool) (octets : List ℕ) → first_of s at ≤ at → at ≤ later →
+    GoesOn s at (if long then stopped TsduTooLong at else added s at end octets) later
+added_on s at later true end octets f l = (omega arith, omega arith)
+added_on s at later false true octets f l = (omega arith, omega arith)
+added_on s at later false false octets f l = (omega arith, omega arith)
+
+same_stage : (s : Stage) (at later : ℕ) → first_of s at ≤ at → at ≤ later → GoesOn s at s later
+same_stage opening at later f l = (l, omega arith)
+same_stage asking at later f l = (l, omega arith)
+same_stage between at later f l = (l, omega arith)
+same_stage (within first octets) at later f l = (omega arith, omega arith)
+same_stage (refused packet) at later f l = (l, omega arith)
+same_stage (stopped stop packet) at later f l = (l, omega arith)
+
+moved_on : (s : Stage) (at later : ℕ) (m : Move) → first_of s at ≤ at → at ≤ later → GoesOn s at (moved s at m) later
+moved_on s at later (asks reference) f l = (omega arith, omega arith)
+moved_on s at later (opens reference) f l = (omega arith, omega arith)
+moved_on s at later (adds end octets) f l = added_on s at later (is_too_long s octets) end octets f l
+moved_on s at later (hurries end octets) f l = added_on s at later (is_too_long s octets) end octets f l
+moved_on s at later refuses f l = (omega arith, omega arith)
+moved_on s at later ignores f l = same_stage s at later f l
+moved_on s at later (stops stop) f l = (omega arith, omega arith)
+
+goes_on : (d : Direction) (h : Handshake) (s : Stage) (at later : ℕ) (u : List ℕ) → first_of s at ≤ at → at ≤ later →
+    GoesOn s at (stage_behind d h s at u) later
+goes_on d h opening at later u f l = moved_on opening at later (step_of d opening h (first_unit (units_of u))) f l
+goes_on d h asking at later u f l = moved_on asking at later (step_of d asking h (first_unit (units_of u))) f l
+goes_on d h between at later u f l = moved_on between at later (step_of d between h (first_unit (units_of u))) f l
+goes_on d h (within first octets) at later u f l =
+    moved_on (within first octets) at later (step_of d (within first octets) h (first_unit (units_of u))) f l
+goes_on d h (refused packet) at later u f l = moved_on (refused packet) at later
+    (step_of d (refused packet) h (first_unit (units_of u))) f l
+goes_on d h (stopped stop packet) at later u f l = (l, omega arith)
+
+-- ---- TSDUs of packets
+
+one_first : (s : Stage) (at : ℕ) (u : List ℕ) (now later : List Sent) → OneOrNone s at u now → first_of s at ≤ at →
+    Rise (first_of s at) later → Rise (first_of s at) (now ++ later)
+one_first s at u now later (inl none) f r = subst (λ (x : List Sent). Rise (first_of s at) (x ++ later)) (sym none) r
+one_first s at u now later (inr (t, is, ended)) f r =
+    let e : t.first ≡ first_of s at = ended.first in
+    let b : t.behind ≡ at + packet_length u = ended.behind in
+    subst (λ (x : List Sent). Rise (first_of s at) (x ++ later)) (sym is)
+    (omega arith, omega arith, subst (λ (n : ℕ). Rise n later) (sym e) r)
+
+packets_rise : (d : Direction) (met : ℕ → Handshake) (s : Stage) (at : ℕ) (us : List (List ℕ)) → first_of s at ≤ at →
+    Rise (first_of s at) (sent_from d met s at us)
+packets_rise d met s at [] f = tt
+packets_rise d met s at (u ∷ us) f =
+    let g = goes_on d (met at) s at (at + packet_length u) u f (omega arith) in
+    one_first s at u _ _ (sent_one d (met at) s at u) f
+    (rise_from (first_of s at) (first_of (stage_behind d (met at) s at u) (at + packet_length u)) _ g.0
+    (packets_rise d met (stage_behind d (met at) s at u) (at + packet_length u) us g.1))
+
+pub sent_rise : (d : Direction) (capture : Capture) (sent : List Sent) → IsSent d capture sent → Rise 0 sent
+sent_rise d capture sent s =
+    subst (Rise 0) (sym s.4) (packets_rise d (met_before d capture s.1) opening 0 s.0 (omega arith))

@@ -1,0 +1,126 @@
+-- An AC that a side may send is what a call of Accept sends, if its functional units and sizes are those of such a call.
+-- For the law that what may be said is called.
+use Rattle.std.proofs.Common.{◌≡◌, ◌∙◌, refl, sym, subst, ℕ, Bool, true, false, not, ◌&&◌, ◌||◌, ◌==◌, if◌then◌else◌, nat_le, List}
+use Rattle.std.proofs.Common.{length, Option, Some, None, unwrap_or, Ok, arith}
+use Rattle.std.proofs.lemmas.Bool.{and_parts, eqb-true}
+use Rattle.osi_spdu.specs.declared.fields.TsduMaximumSize.{TsduMaximumSize}
+use Rattle.osi_spdu.specs.declared.settings.TokenSetting.{TokenSetting}
+use Rattle.osi_spdu.specs.declared.settings.Wish.{Wish}
+use Rattle.osi_spdu.specs.Sizes.{are_sizes}
+use Rattle.osi_message.specs.Meanings.{Meaning, AC}
+use Rattle.osi_message.specs.Tokens.{data_token, has, major, minor, release}
+use Rattle.osi_session.specs.declared.selected.FunctionalUnits.{FunctionalUnits}
+use Rattle.osi_session.specs.declared.sides.Sides.{Sides}
+use Rattle.osi_session.specs.declared.state.State.{State}
+use Rattle.osi_session.specs.Allowed.{Answer, after, allowed, base_for, may_call, met, most_of, octets_of, opened_with, sends}
+use Rattle.osi_session.specs.Calls.{Accept, Call}
+use Rattle.osi_session.specs.Phases.{is_answering}
+use Rattle.osi_session.specs.Sides.{allows, answers_wishes, of_answerer, settle, settled, stated, stated_side}
+use Rattle.osi_session.specs.Sizes.{answered, answered_sizes, fits_limit, smaller, smaller_sizes}
+use Rattle.osi_session.specs.Standing.{accepting_in, fits_user_data, said_message}
+use Rattle.osi_session.specs.Units.{available, both_units, functional_units, has_data, is_profile, units_within}
+use Rattle.osi_session.proofs.tables.what_an_accepted_call_has_passed.{over_calls}
+use Rattle.osi_accord.specs.Liberties.{as_called, has_size_of, has_sizes_of, is_called}
+
+-- a call is allowed that sends this message and leads to this state
+pub record Calls (s : State) (m : Meaning) (next : State) : Type 0 where
+  pub call : Call
+  pub allows : allowed s call ≡ Ok (record { next = next; sent = m })
+
+-- the call is allowed, if its TSDU is within the size agreed
+pub allowed_is : (s : State) (c : Call) → may_call s.phase c ≡ true → nat_le (length (octets_of c)) (most_of c) ≡ true →
+    fits_limit s c (sends s c) ≡ true → met s c ≡ Ok (record { next = after s c; sent = sends s c }) →
+    allowed s c ≡ Ok (record { next = after s c; sent = sends s c })
+unfolding allowed
+allowed_is s c p z f m = rw (over_calls c s.phase p, p, z, f, m) refl
+
+-- ---- what an AC settles
+
+part_both : (a b : Bool) → (not a || b) ≡ true → (b && a) ≡ a
+part_both a b h = grind arith
+
+within_both : (a b : FunctionalUnits) → units_within a b ≡ true → both_units b a ≡ a
+unfolding units_within both_units
+within_both a b h = search (arith, and_parts, part_both)
+
+one_settled : (b : Bool) (w a : Wish) → allows b w a ≡ true → settled b w (stated_side b a) ≡ stated_side b a
+one_settled b w a h = grind arith
+
+same_sides : (a b : Sides) → a.data_token ≡ b.data_token → a.minor ≡ b.minor → a.major ≡ b.major → a.release ≡ b.release → a ≡ b
+same_sides a b d n j r = λ i. record { data_token = d i; minor = n i; major = j i; release = r i }
+
+-- what an AC states answers the wishes, so it is settled so
+settled_stated : (u : FunctionalUnits) (w sides : TokenSetting) → answers_wishes u w sides ≡ true →
+    settle u w (stated u sides) ≡ stated u sides
+unfolding answers_wishes settle stated
+settled_stated u w sides h =
+    let d = and_parts (allows (has (available u) data_token) w.data_token sides.data_token) _ h in
+    let n = and_parts (allows (has (available u) minor) w.minor sides.minor) _ d.1 in
+    let j = and_parts (allows (has (available u) major) w.major sides.major) _ n.1 in
+    same_sides _ _
+    (one_settled (has (available u) data_token) w.data_token sides.data_token d.0)
+    (one_settled (has (available u) minor) w.minor sides.minor n.0)
+    (one_settled (has (available u) major) w.major sides.major j.0)
+    (one_settled (has (available u) release) w.release sides.release j.1)
+
+no_size : (b : ℕ) (zero_asked : Bool) → (not zero_asked || (b == 0)) ≡ true → zero_asked ≡ true → b ≡ 0
+no_size b true h e = eqb-true b 0 h
+no_size b false h e = absurd (cc)
+
+same_size : (zero_asked : Bool) (b rest : ℕ) → (zero_asked ≡ true → b ≡ 0) →
+    (if zero_asked then b else rest) ≡ (if zero_asked then 0 else (if zero_asked then b else rest))
+same_size true b rest h = h refl
+same_size false b rest h = refl
+
+one_size : (asked given : ℕ) → has_size_of asked given ≡ true → smaller asked given ≡ answered asked given
+one_size asked given h = same_size (asked == 0) given _ (no_size given (asked == 0) h)
+
+same_sizes : (asked given : TsduMaximumSize) → has_sizes_of asked given ≡ true → smaller_sizes asked given ≡ answered_sizes asked given
+unfolding smaller_sizes answered_sizes
+same_sizes asked given h =
+    let p = and_parts (has_size_of asked.from_asker given.from_asker) (has_size_of asked.from_answerer given.from_answerer) h in
+    let a = one_size asked.from_asker given.from_asker p.0 in
+    let b = one_size asked.from_answerer given.from_answerer p.1 in
+    λ i. record { from_asker = a i; from_answerer = b i }
+
+-- ---- the call
+
+if_some : (b : Bool) (x n : State) → (if b then Some x else None) ≡ Some n → (b ≡ true) × (x ≡ n)
+if_some true x n h = (refl, cc)
+if_some false x n h = absurd (cc)
+
+-- what an accepted call gives
+abbrev given : State → Call → Answer
+given s c = Ok (record { next = after s c; sent = sends s c })
+
+accept_met : (s : State) (requirements serial : ℕ) (sides : Sides) (sizes : TsduMaximumSize) (octets : List ℕ) →
+    (units_within (functional_units requirements) s.units && is_profile requirements) ≡ true →
+    met s (Accept requirements serial sides sizes octets) ≡ given s (Accept requirements serial sides sizes octets)
+unfolding met
+accept_met s requirements serial sides sizes octets h = rw h refl
+
+pub accepted_as : (s : State) (version_2 : Bool) (requirements : ℕ) (serial : Option ℕ) (sides : TokenSetting) (sizes : TsduMaximumSize)
+    (octets : List ℕ) (n : State) → said_message s (AC version_2 requirements serial sides sizes octets) ≡ Some n →
+    is_called s (AC version_2 requirements serial sides sizes octets) ≡ true →
+    Calls s (as_called s (AC version_2 requirements serial sides sizes octets)) n
+accepted_as s version_2 requirements serial sides sizes octets n h c =
+    let u = functional_units requirements in
+    let own = and_parts (units_within u s.units && is_profile requirements) (has_sizes_of s.sizes sizes) c in
+    let within = and_parts (units_within u s.units) (is_profile requirements) own.0 in
+    let said : accepting_in u s version_2 serial sides sizes octets ≡ Some n =
+    subst (λ (v : FunctionalUnits). accepting_in v s version_2 serial sides sizes octets ≡ Some n) (within_both u s.units within.0) h in
+    let left = if_some (is_answering s.phase && (fits_user_data octets &&
+    ((version_2 && (has_data u && are_sizes sizes)) && answers_wishes u s.wishes sides))) _ n said in
+    let p = and_parts (is_answering s.phase) _ left.0 in
+    let q = and_parts (fits_user_data octets) _ p.1 in
+    let w = and_parts (version_2 && (has_data u && are_sizes sizes)) (answers_wishes u s.wishes sides) q.1 in
+    let same = settled_stated u s.wishes sides w.1 in
+    let size = same_sizes s.sizes sizes own.1 in
+    let call = Accept requirements (unwrap_or serial s.proposed) (stated u sides) sizes octets in
+    let there : after s call ≡ n =
+    (λ i. opened_with u (of_answerer u (same i)) (base_for u (unwrap_or serial s.proposed)) (sym size i) s) ∙ left.1 in
+    record {
+      call = call;
+      allows = allowed_is s call p.0 q.0 refl (accept_met s requirements (unwrap_or serial s.proposed) (stated u sides) sizes octets own.0)
+          ∙ (λ i. Ok (record { next = there i; sent = sends s call }));
+    }

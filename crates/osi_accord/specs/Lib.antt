@@ -1,0 +1,5 @@
+pub mod Pairs
+pub mod Accords
+pub mod Taps
+pub mod Liberties
+pub mod Machines

@@ -1,0 +1,87 @@
+//! Laws of two sides of a capture. Each function does nothing: its clauses are the laws.
+
+ghost use Rattle.std.specs.Prelude.{◌≡◌, ℕ, true, List, ◌∷◌, length, map};
+ghost use Rattle.std.specs.List.{AllByRecursion};
+ghost use Rattle.osi_message.specs.Meanings.{Meaning};
+ghost use Rattle.osi_message.specs.Sendable.{IsSendable};
+ghost use Rattle.osi_message.specs.Words.{says};
+ghost use Rattle.osi_message.specs.Written.{written};
+ghost use Rattle.osi_session.specs.Standing.{CanSay, Seen, is_in_size, seen_called, seen_calling};
+ghost use Rattle.osi_machine.specs.Core.{CanBeOffered, Offer, core_run, core_start, offer_sent};
+ghost use Rattle.osi_machine.specs.Floor.{is_profile};
+ghost use Rattle.osi_machine.specs.Promises.{IsReached};
+ghost use Rattle.osi_judge.specs.declared.directions.Direction.{Direction};
+ghost use Rattle.osi_judge.specs.declared.findings.Finding.{Finding};
+ghost use Rattle.osi_judge.specs.Captures.{Capture};
+ghost use Rattle.osi_judge.specs.Explaining.{IsExplained};
+ghost use Rattle.osi_judge.specs.Tapping.{IsFoundIn};
+ghost use Rattle.osi_accord.specs.Accords.{Accords, AreInOrder, Sending, Turn, end_of, sending_of, told_by, tsdus_by};
+ghost use Rattle.osi_accord.specs.Liberties.{IsCall, as_called, is_called};
+ghost use Rattle.osi_accord.specs.Machines.{AreWritten, IsMessage, Plays, TakesNoLiberty, Utterance, connect_of};
+ghost use Rattle.osi_accord.specs.Pairs.{Pair, pair_of};
+ghost use Rattle.osi_accord.specs.Taps.{IsAccord, Passage};
+
+use osi_judge::laws::a_capture_has_one_reading;
+use osi_message::laws::what_is_sent_is_read;
+use osi_session::laws::{an_empty_token_item_changes_nothing, messages_do_what_they_did};
+
+/// If each of two sides is explained by itself, by what had passed of the other side before each of its TSDUs, then there is one
+/// run of both sessions (`pair`): they send these TSDUs in this order, and each side takes a TSDU only after the other has sent
+/// it. And if there is such a run, each side is explained (`only`).
+pub fn two_explained_sides_are_a_pair()
+    ensures pair { (left right : Seen) (turns : List Turn) → AreInOrder 0 0 turns →
+        IsExplained left (tsdus_by Direction.Right turns) (told_by Direction.Left turns) →
+        IsExplained right (tsdus_by Direction.Left turns) (told_by Direction.Right turns) →
+        Accords (map sending_of turns) (pair_of left right) }
+    ensures only { (left right : Seen) (turns : List Turn) → Accords (map sending_of turns) (pair_of left right) →
+        IsExplained left (tsdus_by Direction.Right turns) (told_by Direction.Left turns)
+        × IsExplained right (tsdus_by Direction.Left turns) (told_by Direction.Right turns) }
+{}
+
+/// If the judge finds that both sides of a capture kept the protocol, there are two sessions, a calling and a called one, that
+/// make this capture (`pair`). They send all its whole TSDUs, in the order in which their first octets passed. A side takes a
+/// TSDU after the other side has sent it, and before it sends a TSDU it takes only those that had passed as a whole before that
+/// one. And if there are two such sessions, the judge blames neither side (`only`).
+pub fn two_kept_sides_are_a_pair()
+    ensures pair { (capture : Capture) → IsFoundIn Direction.Left capture Finding.Kept → IsFoundIn Direction.Right capture Finding.Kept →
+        (passages : List Passage) × IsAccord capture passages }
+    ensures only { (d : Direction) (capture : Capture) (passages : List Passage) (i : ℕ) → IsAccord capture passages →
+        IsFoundIn d capture (Finding.Broke i) → ⊥ }
+{
+    a_capture_has_one_reading();
+}
+
+/// If a side may send a message, a session of this product in the same state allows a call that sends this message, and the call
+/// leads to the same state. The judge takes liberties beyond that, because X.225 does. The message may differ from the one that
+/// the call sends in the reason of an RF, in the settings of tokens that are not available of an AC, an RS or an RA, in the first
+/// number of an AC, and in the bits of an AB ([`as_called`]). No call sends a CN; an AC with more functional units than the CN has,
+/// or with a size where the CN has none; a GT or PT that names no token; or, with duplex, an FN of the called side
+/// ([`is_called`]). A TSDU that is written shorter than this product writes it may also be within the agreed size when the
+/// product's TSDU is not.
+///
+/// [`as_called`]: ../specs/Liberties.antt
+/// [`is_called`]: ../specs/Liberties.antt
+pub fn what_may_be_said_is_called()
+    ensures { (s next : Seen) (m : Meaning) (octets : ℕ) → CanSay s (says m) octets next → is_called s.state m ≡ true →
+        is_in_size s.state (length (written (as_called s.state m))) ≡ true → IsCall s (as_called s.state m) next }
+{}
+
+/// Take a run of two sessions that begins with the CN of a caller, and in which each TSDU is one message as this product writes
+/// it. If no liberty is taken ([`TakesNoLiberty`]), it is a run of the machine of two sides that exchange whole messages
+/// (`run`). The machine allows the calls, they send the same messages in the same order, and at the end the two sides of the
+/// machine are in the states of the two sessions, with the same messages in flight. So what `osi_machine` proves of every state
+/// that its machine reaches holds of the two sessions (`reached`): no token is held by both, and the next message in flight is
+/// no fault at its receiver. That machine knows no refusal, no accepted release and no abort, so the run has none either.
+///
+/// [`TakesNoLiberty`]: ../specs/Machines.antt
+pub fn without_liberties_it_is_a_run_of_the_machine()
+    ensures run { (o : Offer) (before : ℕ) (sent : List Sending) (messages : List Utterance)
+        (run : Accords (connect_of o before ∷ sent) (pair_of seen_calling seen_called)) → IsSendable (offer_sent o) →
+        AllByRecursion IsMessage messages → AreWritten sent messages → TakesNoLiberty run → Plays (core_start o) messages (end_of run) }
+    ensures reached { (o : Offer) (messages : List Utterance) (last : Pair) (p : Plays (core_start o) messages last) → CanBeOffered o →
+        is_profile o.requirements ≡ true → IsReached (core_run (core_start o) p.steps) }
+{
+    what_is_sent_is_read();
+    messages_do_what_they_did();
+    an_empty_token_item_changes_nothing();
+}
