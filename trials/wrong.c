@@ -64,10 +64,21 @@ size_t __wrap_osi_kept(osi_end *end)
     return __real_osi_kept(end) + (is_wrong("more_is_kept") ? (size_t)129 << 20 : 0);
 }
 
+/* The room of what was sent last, which is kept until more is sent. */
+static void *kept_room;
+
+static void keep_room(size_t length)
+{
+    free(kept_room);
+    kept_room = length == 0 ? NULL : malloc(length);
+}
+
 uint32_t __wrap_osi_data(osi_end *end, uint16_t reference, const uint8_t *data, size_t length)
 {
     if (is_wrong("always_no_memory"))
         return OSI_NO_MEMORY;
+    if (is_wrong("room_is_kept"))
+        keep_room(length);
     uint32_t code = __real_osi_data(end, reference, data, length);
     if (code == OSI_NO_MEMORY && is_wrong("a_refused_call_is_done"))
         __real_osi_data(end, reference, data, length);
@@ -83,6 +94,7 @@ uint32_t __wrap_osi_confirmed_below(osi_end *end, uint16_t reference)
 
 void __wrap_osi_free(osi_end *end)
 {
+    keep_room(0);
     if (is_wrong("nothing_is_freed"))
         *end = (osi_end)OSI_END;
     __real_osi_free(end);
