@@ -27,6 +27,12 @@ uint32_t __real_osi_confirmed_below(osi_end *end, uint16_t reference);
 uint32_t __wrap_osi_confirmed_below(osi_end *end, uint16_t reference);
 void __real_osi_free(osi_end *end);
 void __wrap_osi_free(osi_end *end);
+uint32_t __real_osi_judge_feed(osi_judge *judge, uint32_t side, const uint8_t *piece, size_t length, size_t *used);
+uint32_t __wrap_osi_judge_feed(osi_judge *judge, uint32_t side, const uint8_t *piece, size_t length, size_t *used);
+void __real_osi_judge_text(osi_judge *judge, osi_octets *text);
+void __wrap_osi_judge_text(osi_judge *judge, osi_octets *text);
+uint32_t __real_osi_judge_write(osi_judge *judge);
+uint32_t __wrap_osi_judge_write(osi_judge *judge);
 void __real_osi_outgoing(osi_end *end, osi_octets *octets);
 void __wrap_osi_outgoing(osi_end *end, osi_octets *octets);
 
@@ -109,4 +115,26 @@ void __wrap_osi_outgoing(osi_end *end, osi_octets *octets)
     memcpy(copy, octets->at, octets->length);
     copy[9] ^= 1;
     octets->at = copy;
+}
+
+/* Whether octets have passed since a text was written. */
+static bool passed_since;
+
+uint32_t __wrap_osi_judge_feed(osi_judge *judge, uint32_t side, const uint8_t *piece, size_t length, size_t *used)
+{
+    passed_since = true;
+    return __real_osi_judge_feed(judge, side, piece, length, used);
+}
+
+uint32_t __wrap_osi_judge_write(osi_judge *judge)
+{
+    passed_since = false;
+    return __real_osi_judge_write(judge);
+}
+
+void __wrap_osi_judge_text(osi_judge *judge, osi_octets *text)
+{
+    __real_osi_judge_text(judge, text);
+    if (is_wrong("a_text_is_lost") && passed_since)
+        text->length = 0;
 }
