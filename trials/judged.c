@@ -32,6 +32,14 @@ static osi_judge judge;
 static struct text told, ample, written;
 static uint64_t fed_again;
 
+static void add(struct text *text, const void *at, size_t length)
+{
+    text_grow(text, length + 1);
+    memcpy(text->at + text->length, at, length);
+    text->length += length;
+    text->at[text->length] = 0;
+}
+
 /* The text that was written last is still lent. */
 static void check_text(const char *when)
 {
@@ -86,8 +94,8 @@ static void writes(void)
     holds(code == OSI_OK, "no text is written: %u", code);
     osi_judge_text(&judge, &text);
     text_clear(&written);
-    text_put(&written, "%.*s", (int)text.length, (const char *)text.at);
-    text_put(&told, "%s", written.at);
+    add(&written, text.at, text.length);
+    add(&told, text.at, text.length);
 }
 
 /* Plays the capture with one growth refused. Returns whether one was. */
@@ -130,7 +138,7 @@ int main(void)
     play(0);
     holds(strstr(told.at, "right broke the protocol first") != NULL, "another judgement than is wanted: %s", told.at);
     const uint64_t growths = memory_growths;
-    text_put(&ample, "%s", told.at);
+    add(&ample, told.at, told.length);
     for (uint64_t refuse = 1; play(refuse); refuse++)
         ;
     holds(fed_again > 0, "no piece was fed again");

@@ -205,7 +205,7 @@ static void one_tsdu(uint8_t classes, size_t parts, size_t length)
     memcpy(tsdu, session, sizeof session);
     for (size_t i = 0; i < parts; i++) {
         const uint8_t end = i + 1 == parts ? 0x80 : 0;
-        const uint8_t class_0[] = {2, 0xf0, end}, class_2[] = {4, 0xf0, 0, 1, (uint8_t)(end | (i & 0x7f))};
+        const uint8_t class_0[] = {2, 0xf0, end}, class_2[] = {4, 0xf0, 0, 1, (uint8_t)(end | ((i + 1) & 0x7f))};
         if (end)
             j.so_far = memory_octets();
         feeds_unit(classes == OSI_CLASS_0 ? class_0 : class_2, classes == OSI_CLASS_0 ? 3 : 5, tsdu + i * length, length);
