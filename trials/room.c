@@ -119,6 +119,27 @@ static void what_has_waited(void)
     }
 }
 
+/* In class 0 nothing waits for credit: all is lent at once. Its room stays, and is used again. */
+static void what_goes_at_once(void)
+{
+    text_clear(&place);
+    text_put(&place, "data that goes at once");
+    size_t open = opened(OSI_CLASS_0, 13, 0), after[2];
+    for (int time = 0; time < 2; time++) {
+        for (size_t i = 0; i < MANY / 8; i++)
+            says(MOST_DATA);
+        osi_octets octets;
+        osi_outgoing(&pair.ends[LEFT], &octets);
+        at_most("while it is lent", memory_octets(), open + octets.length + SMALL);
+        carries_all();
+        after[time] = memory_octets();
+    }
+    holds(shown_data == 2 * (MANY / 8) * (size_t)MOST_DATA, "%zu octets are shown", shown_data);
+    holds(after[1] == after[0], "%zu octets are held after the same data again, and %zu before", after[1], after[0]);
+    printf("room: the room of %u data in class 0 is used again\n", MANY / 8);
+    pair_free(&pair);
+}
+
 /* ---- what waits on a connection that is over */
 
 enum end_of_it { DISCONNECTED, DISCONNECTED_BY_PEER, BROKEN, ABORTED };
@@ -294,6 +315,7 @@ int main(void)
 {
     memset(data, 0x41, sizeof data);
     what_has_waited();
+    what_goes_at_once();
     what_waits_no_longer();
     what_arrives_in_parts();
     parts_that_wait();
