@@ -113,8 +113,8 @@ static void what_has_waited(void)
         at_most("short data has gone", quiet, open + SMALL);
         size_t after = waits_and_goes(count, MOST_DATA);
         holds(after == quiet, "%zu octets are held when %zu long data have gone, and %zu before", after, count, quiet);
-        printf("room: %zu data of %u octets wait for credit: once they have gone, %zu octets are held, as before them\n", count, MOST_DATA,
-               after);
+        printf("room: %zu data of %u octets wait for credit: %zu octets are held once they have gone, and %zu before\n", count, MOST_DATA,
+               after, quiet);
         pair_free(&pair);
     }
 }
