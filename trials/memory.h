@@ -3,6 +3,7 @@
 #define TRIALS_MEMORY_H
 
 #include <stdbool.h>
+#include <stddef.h>
 #include <stdint.h>
 
 /* Growths asked for since the last `memory_begin`, and whether one was refused. */
@@ -15,7 +16,10 @@ void memory_begin(uint64_t refuse);
  * how many growths there were since the first. */
 void memory_in(void);
 uint64_t memory_out(void);
-/* What ends have been given and have not given back. */
+/* What ends have been given and have not given back: how many blocks, and how many octets they asked for. */
 int64_t memory_held(void);
+size_t memory_octets(void);
+/* The most octets since the last call of this. */
+size_t memory_peak(void);
 
 #endif

@@ -116,10 +116,10 @@ static void prefixes(void)
     }
 }
 
-/* A peer of class 2 begins a TSDU for each of so many DST-REFs. Returns the code of a fetch. */
-static uint32_t begins(unsigned streams, uint32_t what, uint32_t *again)
+/* A peer of class 2 begins a TSDU for each of so many DST-REFs, and ends it at once or never. Returns the code of a fetch. */
+static uint32_t begins(unsigned streams, bool end_it, uint32_t what, uint32_t *again)
 {
-    uint8_t packet[] = {3, 0, 0, 11, 4, 0xF0, 0, 0, 0, 0x41, 0x42};
+    uint8_t packet[] = {3, 0, 0, 11, 4, 0xF0, 0, 0, end_it ? 0x80 : 0, 0x41, 0x42};
     osi_end end = OSI_END;
     osi_fed fed;
     const int64_t before = memory_held();
@@ -146,9 +146,10 @@ static void many_streams(void)
 {
     for (uint32_t what = OSI_TRACE_COUNTS; what <= OSI_TRACE_LINES; what++) {
         uint32_t again;
-        holds(begins(64, what, &again) == OSI_NOTHING && again == OSI_NOTHING, "64 streams stop a trace");
-        holds(begins(65, what, &again) == OSI_NO_MEMORY && again == OSI_NOTHING, "65 streams don't stop a trace, once");
-        holds(begins(1000, what, &again) == OSI_NO_MEMORY && again == OSI_NOTHING, "1000 streams don't stop a trace, once");
+        holds(begins(64, false, what, &again) == OSI_NOTHING && again == OSI_NOTHING, "64 streams stop a trace");
+        holds(begins(65, false, what, &again) == OSI_NO_MEMORY && again == OSI_NOTHING, "65 streams don't stop a trace, once");
+        holds(begins(1000, false, what, &again) == OSI_NO_MEMORY && again == OSI_NOTHING, "1000 streams don't stop a trace, once");
+        holds(begins(1000, true, what, &again) == OSI_NOTHING && again == OSI_NOTHING, "1000 streams with whole TSDUs stop a trace");
     }
 }
 

@@ -27,6 +27,12 @@ uint32_t __real_osi_confirmed_below(osi_end *end, uint16_t reference);
 uint32_t __wrap_osi_confirmed_below(osi_end *end, uint16_t reference);
 void __real_osi_free(osi_end *end);
 void __wrap_osi_free(osi_end *end);
+uint32_t __real_osi_judge_feed(osi_judge *judge, uint32_t side, const uint8_t *piece, size_t length, size_t *used);
+uint32_t __wrap_osi_judge_feed(osi_judge *judge, uint32_t side, const uint8_t *piece, size_t length, size_t *used);
+void __real_osi_judge_text(osi_judge *judge, osi_octets *text);
+void __wrap_osi_judge_text(osi_judge *judge, osi_octets *text);
+uint32_t __real_osi_judge_write(osi_judge *judge);
+uint32_t __wrap_osi_judge_write(osi_judge *judge);
 void __real_osi_outgoing(osi_end *end, osi_octets *octets);
 void __wrap_osi_outgoing(osi_end *end, osi_octets *octets);
 
@@ -64,10 +70,21 @@ size_t __wrap_osi_kept(osi_end *end)
     return __real_osi_kept(end) + (is_wrong("more_is_kept") ? (size_t)129 << 20 : 0);
 }
 
+/* The room of what was sent last, which is kept until more is sent. */
+static void *kept_room;
+
+static void keep_room(size_t length)
+{
+    free(kept_room);
+    kept_room = length == 0 ? NULL : malloc(length);
+}
+
 uint32_t __wrap_osi_data(osi_end *end, uint16_t reference, const uint8_t *data, size_t length)
 {
     if (is_wrong("always_no_memory"))
         return OSI_NO_MEMORY;
+    if (is_wrong("room_is_kept"))
+        keep_room(length);
     uint32_t code = __real_osi_data(end, reference, data, length);
     if (code == OSI_NO_MEMORY && is_wrong("a_refused_call_is_done"))
         __real_osi_data(end, reference, data, length);
@@ -83,6 +100,7 @@ uint32_t __wrap_osi_confirmed_below(osi_end *end, uint16_t reference)
 
 void __wrap_osi_free(osi_end *end)
 {
+    keep_room(0);
     if (is_wrong("nothing_is_freed"))
         *end = (osi_end)OSI_END;
     __real_osi_free(end);
@@ -97,4 +115,26 @@ void __wrap_osi_outgoing(osi_end *end, osi_octets *octets)
     memcpy(copy, octets->at, octets->length);
     copy[9] ^= 1;
     octets->at = copy;
+}
+
+/* Whether octets have passed since a text was written. */
+static bool passed_since;
+
+uint32_t __wrap_osi_judge_feed(osi_judge *judge, uint32_t side, const uint8_t *piece, size_t length, size_t *used)
+{
+    passed_since = true;
+    return __real_osi_judge_feed(judge, side, piece, length, used);
+}
+
+uint32_t __wrap_osi_judge_write(osi_judge *judge)
+{
+    passed_since = false;
+    return __real_osi_judge_write(judge);
+}
+
+void __wrap_osi_judge_text(osi_judge *judge, osi_octets *text)
+{
+    __real_osi_judge_text(judge, text);
+    if (is_wrong("a_text_is_lost") && passed_since)
+        text->length = 0;
 }

@@ -1,0 +1,147 @@
+/* A judge while memory runs out. Each allocation that a judge asks for is refused in turn. The octets that have not passed are
+ * then fed again, and its verdicts and its text are what they are with memory. The text that was written last is lent until
+ * another one is written, whatever passes. */
+#include "ends.h"
+#include "memory.h"
+
+#include <stdio.h>
+#include <string.h>
+
+/* A packet of a side. */
+struct packet {
+    uint32_t side;
+    uint8_t length;
+    uint8_t octets[32];
+};
+
+/* Left opens a connection, sends data in one part and in two, and right sends data without the token. */
+static const struct packet packets[] = {
+    {OSI_LEFT, 14, {3, 0, 0, 14, 9, 0xE0, 0, 0, 0, 1, 0, 0xC0, 1, 10}},
+    {OSI_RIGHT, 14, {3, 0, 0, 14, 9, 0xD0, 0, 1, 0, 2, 0, 0xC0, 1, 10}},
+    {OSI_LEFT, 27, {3, 0, 0, 27, 2, 0xF0, 0x80, 13, 18, 5, 12, 19, 1, 1, 22, 1, 2, 23, 1, '1', 26, 1, 0, 20, 2, 0, 0xB9}},
+    {OSI_RIGHT, 27, {3, 0, 0, 27, 2, 0xF0, 0x80, 14, 18, 5, 12, 19, 1, 1, 22, 1, 2, 23, 1, '1', 26, 1, 0, 20, 2, 0, 0xB9}},
+    {OSI_LEFT, 19, {3, 0, 0, 19, 2, 0xF0, 0x80, 1, 0, 1, 0, 'r', 'e', 'c', 'o', 'r', 'd', ' ', '1'}},
+    {OSI_LEFT, 15, {3, 0, 0, 15, 2, 0xF0, 0, 1, 0, 1, 0, 'r', 'e', 'c', 'o'}},
+    {OSI_LEFT, 11, {3, 0, 0, 11, 2, 0xF0, 0x80, 'r', 'd', ' ', '2'}},
+    {OSI_RIGHT, 19, {3, 0, 0, 19, 2, 0xF0, 0x80, 1, 0, 1, 0, 'r', 'e', 'c', 'o', 'r', 'd', ' ', '3'}},
+};
+#define PACKETS (sizeof packets / sizeof packets[0])
+#define PIECE 6u
+
+static osi_judge judge;
+static struct text told, ample, written;
+static uint64_t fed_again;
+
+static void add(struct text *text, const void *at, size_t length)
+{
+    text_grow(text, length + 1);
+    memcpy(text->at + text->length, at, length);
+    text->length += length;
+    text->at[text->length] = 0;
+}
+
+/* The text that was written last is still lent. */
+static void check_text(const char *when)
+{
+    osi_octets text;
+    osi_judge_text(&judge, &text);
+    holds(text.length == written.length && memcmp(text.at, written.at, text.length) == 0, "%s another text is lent than was written", when);
+}
+
+/* Feeds a piece. If memory runs out, what has not passed is fed again. */
+static void feeds(uint32_t side, const uint8_t *octets, size_t length)
+{
+    size_t used;
+    memory_in();
+    uint32_t code = osi_judge_feed(&judge, side, octets, length, &used);
+    memory_out();
+    if (code == OSI_NO_MEMORY) {
+        fed_again += 1;
+        holds(memory_refused && used < length, "%zu of %zu octets passed when memory ran out", used, length);
+        check_text("when memory ran out");
+        octets += used;
+        length -= used;
+        memory_in();
+        code = osi_judge_feed(&judge, side, octets, length, &used);
+        memory_out();
+    }
+    holds(code == OSI_OK && used == length, "a piece does not pass: %u", code);
+}
+
+/* What is certain is told. It needs no memory. */
+static void tells(void)
+{
+    osi_verdict v;
+    memory_in();
+    while (osi_judge_next(&judge, &v))
+        text_put(&told, "%u: %u %u %u %llu %u\n", v.side, v.kind, v.rule, v.said, (unsigned long long)v.offset, v.reference);
+    holds(memory_out() == 0, "fetching a verdict wants memory");
+}
+
+static void writes(void)
+{
+    osi_octets text;
+    memory_in();
+    uint32_t code = osi_judge_write(&judge);
+    memory_out();
+    if (code == OSI_NO_MEMORY) {
+        holds(memory_refused, "no growth was refused");
+        check_text("after a text found no memory");
+        memory_in();
+        code = osi_judge_write(&judge);
+        memory_out();
+    }
+    holds(code == OSI_OK, "no text is written: %u", code);
+    osi_judge_text(&judge, &text);
+    text_clear(&written);
+    add(&written, text.at, text.length);
+    add(&told, text.at, text.length);
+}
+
+/* Plays the capture with one growth refused. Returns whether one was. */
+static bool play(uint64_t refuse)
+{
+    const int64_t before = memory_held();
+    text_clear(&place);
+    text_put(&place, "growth %llu", (unsigned long long)refuse);
+    text_clear(&told);
+    text_clear(&written);
+    judge = (osi_judge)OSI_JUDGE;
+    memory_begin(refuse);
+    memory_in();
+    uint32_t code = osi_judge_new(&judge);
+    if (code == OSI_NO_MEMORY)
+        code = osi_judge_new(&judge);
+    memory_out();
+    holds(code == OSI_OK, "no judge: %u", code);
+    for (size_t i = 0; i < PACKETS; i++) {
+        for (size_t at = 0; at < packets[i].length; at += PIECE) {
+            size_t left = packets[i].length - at;
+            feeds(packets[i].side, packets[i].octets + at, left < PIECE ? left : PIECE);
+            check_text("after a piece");
+            tells();
+        }
+        writes();
+    }
+    memory_in();
+    osi_judge_free(&judge);
+    memory_out();
+    holds(memory_held() == before, "%lld growths were not given back", (long long)(memory_held() - before));
+    if (refuse > 0)
+        holds(strcmp(told.at, ample.at) == 0, "another judgement: %s", told.at);
+    runs += 1;
+    return memory_refused;
+}
+
+int main(void)
+{
+    play(0);
+    holds(strstr(told.at, "right broke the protocol first") != NULL, "another judgement than is wanted: %s", told.at);
+    const uint64_t growths = memory_growths;
+    add(&ample, told.at, told.length);
+    for (uint64_t refuse = 1; play(refuse); refuse++)
+        ;
+    holds(fed_again > 0, "no piece was fed again");
+    printf("judged: %llu growths of a judge refused in turn, in %llu pieces\n", (unsigned long long)growths, (unsigned long long)fed_again);
+    return counts("judged");
+}
