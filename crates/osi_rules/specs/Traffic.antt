@@ -262,6 +262,11 @@ is_not_judged reference c = not c.is_judged && (c.left.reference == reference)
 abbrev pub has_place : List Connection → Bool
 has_place connections = is_some (position is_free connections) || nat_lt (length connections) most_connections
 
+-- a CR that finds no free place needs memory for one
+abbrev pub needs_place : Value → List Connection → Bool
+needs_place (request c) connections = not (is_some (position is_free connections))
+needs_place v connections = false
+
 -- no other CR is unanswered while the class is not known; its reference is not in use
 abbrev pub request_tests : State → Connect → List Test
 request_tests s c =

@@ -1,11 +1,11 @@
 //! What passes on one byte connection.
 
-ghost use Rattle.std.specs.Prelude.{◌≡◌, ◌<◌, ◌++◌, ◌∷◌, [], ◌||◌, map, position, length, is_some, nat_lt, slice_set, OnOk, OnErr, IfOk, not};
+ghost use Rattle.std.specs.Prelude.{◌≡◌, ◌<◌, ◌++◌, ◌∷◌, [], ◌||◌, map, position, length, is_some, nat_lt, slice_set, OnOk, OnErr, IfOk, None, not, true};
 ghost use Rattle.std.specs.List.{list_any, list_all};
 ghost use Rattle.osi_tpdu.specs.View.{value, request_content};
 ghost use Rattle.osi_rules.specs.Rows.{first_failed};
 ghost use Rattle.osi_rules.specs.Sides.{begins, is_over, is_live, is_free, is_named, uses};
-ghost use Rattle.osi_rules.specs.Traffic.{fresh, none_told, one_told, at_place, at_found, asks_by, asks_kept, found_on, has_place, is_not_judged, most_connections, outcome, packet_begins, placed, request_tests, routed, takes, refused, refused_reach, unnamed_told, uses_source, asks_of};
+ghost use Rattle.osi_rules.specs.Traffic.{fresh, none_told, one_told, at_place, at_found, asks_by, asks_kept, found_on, has_place, is_not_judged, needs_place, most_connections, outcome, packet_begins, placed, request_tests, routed, takes, refused, refused_reach, unnamed_told, uses_source, asks_of};
 
 use crate::connections::Connection;
 use crate::courses::Course;
@@ -122,10 +122,12 @@ impl Traffic {
         self.course.begin(direction);
     }
 
-    /// A unit of this side passes, in the packet that began last. Memory is needed only for a CR; `Err` changes nothing.
+    /// A unit of this side passes, in the packet that began last. Memory is needed only for a CR, if no place is free; `Err`
+    /// changes nothing.
     pub fn take(&mut self, direction: Direction, unit: &Tpdu<'_>) -> Result<Told, AllocError>
         ensures ok { IfOk result (λ told. outcome told self.new ≡ takes direction (value unit.now) self.old) }
         ensures err { OnErr result (self.new ≡ self.old) }
+        ensures needed { OnErr result (needs_place (value unit.now) self.old.connections ≡ true) }
     {
         if self.course.is_stopped(direction) {
             return Ok(self.tell(direction, Finding::NotJudged));
@@ -241,6 +243,7 @@ impl Traffic {
     fn ask(&mut self, direction: Direction, unit: &Tpdu<'_>) -> Result<Told, AllocError>
         ensures ok { IfOk result (λ told. outcome told self.new ≡ asks_of direction (value unit.now) self.old) }
         ensures err { OnErr result (self.new ≡ self.old) }
+        ensures needed { OnErr result (needs_place (value unit.now) self.old.connections ≡ true) }
     {
         let Tpdu::Cr(request) = unit else {
             return Ok(self.tell(direction, Finding::NotJudged));
@@ -262,6 +265,7 @@ impl Traffic {
         requires { place ≡ position is_free self.old.connections }
         ensures ok { IfOk result (λ told. outcome told self.new ≡ asks_kept (request_content request.now) self.old place) }
         ensures err { OnErr result (self.new ≡ self.old) }
+        ensures needed { OnErr result (place ≡ None) }
     {
         let connection = asked_by(request);
         let place = match place {
