@@ -98,16 +98,19 @@ abbrev pub line_in : Direction → Connection → Lined
 line_in Left c = lined c.left
 line_in Right c = lined c.right
 
--- both sessions were given all that passed
-abbrev pub IsSettled : Connection → Type 0
-IsSettled c = (is_unheard c.left.stage ≡ false) × (is_unheard c.right.stage ≡ false)
-
 -- of connections, one after the other
 abbrev pub HoldAll : List Connection → List Joined → Type 0
 HoldAll [] [] = Unit {0}
 HoldAll (c ∷ cs) (j ∷ js) = HoldsJoined c j × HoldAll cs js
 HoldAll [] (j ∷ js) = ⊥
 HoldAll (c ∷ cs) [] = ⊥
+
+-- of a connection that is sought
+abbrev pub HoldsFound : Option Connection → Option Joined → Type 0
+HoldsFound None None = Unit {0}
+HoldsFound (Some c) (Some j) = HoldsJoined c j
+HoldsFound None (Some j) = ⊥
+HoldsFound (Some c) None = ⊥
 
 -- of all connections
 pub record HoldsSessions (k : Kept) (s : Sessions) : Type 0 where
