@@ -1,16 +1,16 @@
 -- What a tap holds of both directions and of what has passed: for the calls of a tap.
-use Rattle.std.proofs.Common.{◌≡◌, ◌∙◌, refl, sym, ap, subst, ℕ, Bool, true, false, if◌then◌else◌, List, [], ◌∷◌, Option, Some, None, length}
+use Rattle.std.proofs.Common.{◌≡◌, ◌∙◌, refl, sym, subst, ℕ, Bool, true, false, if◌then◌else◌, List, [], ◌∷◌, length}
 use Rattle.osi_judge.specs.Captures.{Capture, of, other, piece}
 use Rattle.osi_judge.specs.declared.directions.Direction.{Direction}
 use Rattle.osi_judge.specs.declared.directions.Direction.TheVariants.{Left, Right}
 use Rattle.osi_tap.specs.declared.tap.Tap.{Tap}
 use Rattle.osi_tap.specs.declared.watch.Watch.{Watch}
 use Rattle.osi_tap.specs.Standing.{HoldsPart, HoldsOpen, HoldsStream, HoldsNow, HoldsBy, due_if}
-use Rattle.osi_tap.specs.Standing.{HoldsState, Feeds, IsFed}
+use Rattle.osi_tap.specs.Standing.{HoldsState, IsFed}
 use Rattle.osi_tap.specs.Standing.IsFed.{unfed, fed}
-use Rattle.osi_tap.specs.Streams.{Front, partial, faulty, whole, front_of, Streamed, counted, gathered, advanced, ended}
-use Rattle.osi_tap.specs.Tapping.{State, stream_of, with_stream, looked_at, begun, octets_pass, octet_passes, begin, after, comes_to}
-use Rattle.osi_tap.proofs.a_piece_comes_to_what_its_octets_do.{same_stream, looks, after_more}
+use Rattle.osi_tap.specs.Streams.{Front, partial, faulty, whole, front_of, Streamed, counted, gathered}
+use Rattle.osi_tap.specs.Tapping.{State, stream_of, with_stream, looked_at, begun, octet_passes, begin, after, comes_to}
+use Rattle.osi_tap.proofs.a_piece_comes_to_what_its_octets_do.{looks, after_more}
 
 -- ---- the other direction
 

@@ -1,11 +1,10 @@
 -- Octets that are taken of a piece at once come to the same as one after the other: up to the end of the header or of the packet
 -- none but the last completes it; or no packet begins with the first, and the others are counted.
-use Rattle.std.proofs.Common.{◌≡◌, ◌∙◌, refl, sym, ap, subst, ℕ, zero, suc, ◌+◌, ◌-◌, ◌*◌, ◌<◌, ◌≤◌, ◌==◌, nat_lt, min, max, ◌⊎◌, inl, inr}
+use Rattle.std.proofs.Common.{◌≡◌, ◌∙◌, refl, sym, ap, subst, ℕ, ◌+◌, ◌-◌, ◌*◌, ◌<◌, ◌≤◌, ◌==◌, nat_lt, min, max, ◌⊎◌, inl, inr}
 use Rattle.std.proofs.Common.{Bool, true, false, if◌then◌else◌, List, [], ◌∷◌, ◌++◌, length, take, arith}
 use Rattle.std.proofs.lemmas.Bool.{le-ltb, lt-ltb}
 use Rattle.std.proofs.lemmas.List.{length-append}
 use Rattle.osi_tpkt.specs.Packet.{stated_length}
-use Rattle.osi_tpkt.specs.Stream.{offset_of}
 use Rattle.osi_tpkt.specs.declared.faults.TpktFault.TheVariants.{BadVersion, BadLength}
 use Rattle.osi_judge.specs.Captures.{of, piece}
 use Rattle.osi_judge.specs.declared.directions.Direction.{Direction}
@@ -13,9 +12,9 @@ use Rattle.osi_tap.specs.declared.marks.Cause.TheVariants.{BadPacket}
 use Rattle.osi_tap.specs.declared.watch.Watch.{Watch}
 use Rattle.osi_tap.specs.Courses.{Course, packet_begins, unread}
 use Rattle.osi_tap.specs.Owing.{HoldsAll}
-use Rattle.osi_tap.specs.Standing.{IsPart, HoldsPart, HoldsOpen, HoldsStream}
-use Rattle.osi_tap.specs.Streams.{Front, partial, faulty, whole, sized, by_version, front_of, Streamed, counted, gathered, ended}
-use Rattle.osi_tap.specs.Streams.{are_none, begins_at, whole_of, wanted, used_of}
+use Rattle.osi_tap.specs.Standing.{IsPart, HoldsOpen, HoldsStream}
+use Rattle.osi_tap.specs.Streams.{Front, partial, faulty, whole, sized, front_of, Streamed, counted, gathered, ended}
+use Rattle.osi_tap.specs.Streams.{are_none, begins_at, wanted, used_of}
 use Rattle.osi_tap.specs.Tapping.{State, stream_of, with_stream, looked_at, begun, octets_pass, octet_passes, after, GoesOn}
 use Rattle.osi_tap.proofs.a_piece_comes_to_what_its_octets_do.{piece_passes, counted_more, offset_more, same_stream, stream_again, looks, going}
 

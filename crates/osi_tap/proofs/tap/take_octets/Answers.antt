@@ -1,4 +1,4 @@
-use Rattle.std.proofs.Common.{◌≡◌, ◌∙◌, ◌<◌, sym, ℕ, take, length, arith}
+use Rattle.std.proofs.Common.{◌∙◌, sym, take}
 use Rattle.std.proofs.lemmas.List.{length-take-le}
 use Rattle.osi_tap.specs.Holding.{streamed}
 use Rattle.osi_tap.proofs.what_is_taken_of_a_piece_passes.{taken_looked, takes_of, some_of}
