@@ -6,3 +6,4 @@ pub mod what_holds_of_a_result
 pub mod what_a_packet_still_owes
 pub mod what_is_taken_of_a_piece_passes
 pub mod a_tap_holds_what_passed
+pub mod the_first_break_is_kept

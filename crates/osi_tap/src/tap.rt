@@ -5,7 +5,7 @@ ghost use Rattle.osi_judge.specs.Captures.{piece};
 ghost use Rattle.osi_tpkt.specs.Stream.{offset_of};
 ghost use Rattle.osi_tap.specs.Connections.{count, numbered};
 ghost use Rattle.osi_tap.specs.Courses.{packet_begins, marks_of, Course};
-ghost use Rattle.osi_tap.specs.Holding.{streamed, HoldsFound};
+ghost use Rattle.osi_tap.specs.Holding.{streamed, HoldsFound, IsFirst};
 ghost use Rattle.osi_tap.specs.Owing.{HoldsAll};
 ghost use Rattle.osi_tap.specs.Standing.{due_if, pick, HoldsBy, HoldsDue, HoldsNow, HoldsOpen, HoldsStream, HoldsState, HoldsWhole, IsJudged};
 ghost use Rattle.osi_tap.specs.Streams.{front_of, used_of, reading_of};
@@ -234,7 +234,9 @@ impl Tap {
     }
 
     /// The break, of a session or of transport, that passed first.
-    pub fn first(&self) -> Option<First> {
+    pub fn first(&self) -> Option<First>
+        ensures { (s : State) → HoldsState self.now s → IsJudged self.now → IsFirst result s.course.first }
+    {
         self.watch.first
     }
 }

@@ -5,12 +5,12 @@ ghost use Rattle.osi_tpdu.specs.Units.{units_left};
 ghost use Rattle.osi_tpdu.specs.Value.{Value};
 ghost use Rattle.osi_tpdu.specs.View.{value};
 ghost use Rattle.osi_tap.specs.Connections.{Sessions as Passed};
-ghost use Rattle.osi_tap.specs.Courses.{Course, fresh, way_of, cause_of, packet_begins, number_at, noted, marked, reached, changes};
+ghost use Rattle.osi_tap.specs.Courses.{Course, fresh, way_of, cause_of, packet_begins, number_at, noted, marked, first_marked, reached, changes};
 ghost use Rattle.osi_tap.specs.Courses.{breaks, unread, unit_passes, marks_of};
 ghost use Rattle.osi_tap.specs.Holding.{HoldsCourse, HoldsSessions, IsDue, IsTold, unit_due};
 ghost use Rattle.osi_tap.specs.Owing.{HoldsAll, Owes, OwesLast, OwesUnits};
 
-use crate::marks::{Cause, First, Layer, Mark, Marks, UnitKind};
+use crate::marks::{Cause, First, Layer, Mark, Marks, UnitKind, first_by, first_if};
 use crate::sessions::Sessions;
 use osi_judge::Direction;
 use osi_rules::{Direction as Way, Finding, Reach, Told, Traffic};
@@ -257,16 +257,18 @@ impl Watch {
         connection: Option<usize>,
     )
         ensures holds { (c : Course) → HoldsCourse self.old c → HoldsCourse self.new c }
+        ensures kept { (f : First) → self.old.first ≡ Some f → self.new.first ≡ Some f }
         ensures told { self.new.told ≡ self.old.told }
         ensures passed { self.new.passed ≡ self.old.passed }
     {
-        if self.first.is_none() && self.session_broke(direction, place) {
-            self.first = Some(First {
-                direction,
-                layer: Layer::Session,
-                connection,
-            });
-        }
+        let broke = self.session_broke(direction, place);
+        let by = First {
+            direction,
+            layer: Layer::Session,
+            connection,
+        };
+        let first = first_if(self.first, broke, by);
+        self.first = first;
     }
 
     /// The number of the connection at a place.
@@ -290,19 +292,15 @@ impl Watch {
         connection.has_broken(direction)
     }
 
-    /// The mark is the first of all breaks, if there was none before it.
+    /// The mark is the first of all breaks, if it is one and there was none before it.
     fn mark_first(&mut self, mark: Mark)
-        ensures holds { (c : Course) → HoldsCourse self.old c → HoldsCourse self.new c }
+        ensures holds { (c : Course) → HoldsCourse self.old c → HoldsCourse self.new (first_marked mark c) }
+        ensures kept { (f : First) → self.old.first ≡ Some f → self.new.first ≡ Some f }
         ensures told { self.new.told ≡ self.old.told }
         ensures passed { self.new.passed ≡ self.old.passed }
     {
-        if self.first.is_none() && mark.cause.is_break() {
-            self.first = Some(First {
-                direction: mark.direction,
-                layer: Layer::Transport,
-                connection: mark.connection,
-            });
-        }
+        let first = first_by(self.first, mark);
+        self.first = first;
     }
 
     /// What was found of the transport of a side, and how much is not judged any more.
