@@ -3,3 +3,7 @@ pub mod each_connection_is_kept
 pub mod octets_are_looked_at
 pub mod a_piece_comes_to_what_its_octets_do
 pub mod what_holds_of_a_result
+pub mod what_a_packet_still_owes
+pub mod what_is_taken_of_a_piece_passes
+pub mod a_tap_holds_what_passed
+pub mod the_first_break_is_kept

@@ -14,7 +14,7 @@ after_more (o ∷ a) b s = after_more a b (octet_passes o s)
 
 -- ---- counts
 
-offset_more : (a n : ℕ) → offset_of (offset_of (a + 1) + n) ≡ offset_of (a + suc n)
+pub offset_more : (a n : ℕ) → offset_of (offset_of (a + 1) + n) ≡ offset_of (a + suc n)
 offset_more a n = omega arith
 
 pub counted_more : (n : ℕ) (t : Streamed) → counted n (counted 1 t) ≡ counted (suc n) t
@@ -27,11 +27,11 @@ gathered_more o os t =
 
 -- ---- one stream
 
-same_stream : (d : Direction) (t : Streamed) (s : State) → stream_of d (with_stream d t s) ≡ t
+pub same_stream : (d : Direction) (t : Streamed) (s : State) → stream_of d (with_stream d t s) ≡ t
 same_stream Left t s = refl
 same_stream Right t s = refl
 
-stream_again : (d : Direction) (t u : Streamed) (s : State) → with_stream d u (with_stream d t s) ≡ with_stream d u s
+pub stream_again : (d : Direction) (t u : Streamed) (s : State) → with_stream d u (with_stream d t s) ≡ with_stream d u s
 stream_again Left t u s = refl
 stream_again Right t u s = refl
 
@@ -48,10 +48,10 @@ begun_on d o [] s = refl
 begun_on d o (x ∷ held) s = refl
 
 -- what passes if packets are still read
-abbrev looks : Direction → Streamed → State → State
+abbrev pub looks : Direction → Streamed → State → State
 looks d t s = looked_at d t (front_of t.held) s
 
-going : (d : Direction) (os : List ℕ) (s : State) → (stream_of d s).spent ≡ false
+pub going : (d : Direction) (os : List ℕ) (s : State) → (stream_of d s).spent ≡ false
     → octets_pass d os s ≡ looks d (gathered os (stream_of d s)) (begun d (stream_of d s).held s)
 going d os s e =
     ap (λ (b : Bool). if b then with_stream d (counted (length os) (stream_of d s)) s

@@ -2,12 +2,15 @@
 -- for the connections of a byte connection.
 use Rattle.std.proofs.Common.{◌≡◌, ℕ, zero, suc, ◌+◌, ◌<◌, ◌≤◌, List, [], ◌∷◌, ◌++◌, length, take, drop, map, get_or, set, arith, refl}
 use Rattle.std.proofs.Common.{ap, subst, sym, Option, Some, None, ◌∙◌, add-one}
-use Rattle.std.specs.Option.{option_map}
+use Rattle.std.proofs.Common.{Bool, true, false, cond, ◌==◌}
+use Rattle.std.proofs.lemmas.List.Folds.{find-append}
+use Rattle.std.specs.List.{find}
+use Rattle.std.specs.Option.{option_map, option_or}
 use Rattle.osi_tap.specs.Courses.{number_of}
 use Rattle.std.specs.Prelude.{slice_get}
 use Rattle.osi_tap.specs.declared.connections.Connection.{Connection}
-use Rattle.osi_tap.specs.Connections.{Joined, Sessions, changed, placed}
-use Rattle.osi_tap.specs.Holding.{HoldsJoined, HoldAll}
+use Rattle.osi_tap.specs.Connections.{Joined, Sessions, changed, placed, has_number, numbered}
+use Rattle.osi_tap.specs.Holding.{HoldsJoined, HoldsFound, HoldAll}
 
 pub all_length : (cs : List Connection) (js : List Joined) → HoldAll cs js → length cs ≡ length js
 all_length [] [] h = refl
@@ -133,3 +136,47 @@ one_kept [] js i c d lt step h = absurd (omega arith)
 one_kept (b ∷ cs) [] i c d lt step h = absurd h
 one_kept (b ∷ cs) (j ∷ js) zero c d lt step h = (step j h.0, h.1)
 one_kept (b ∷ cs) (j ∷ js) (suc i) c d lt step h = (h.0, one_kept cs js i c d (omega arith) step h.1)
+
+-- ---- the one with a number
+
+found_step : (b : Bool) (c : Connection) (j : Joined) (cs : Option Connection) (js : Option Joined) → HoldsJoined c j → HoldsFound cs js
+    → HoldsFound (cond b (Some c) cs) (cond b (Some j) js)
+found_step true c j cs js h k = h
+found_step false c j cs js h k = k
+
+pub found_held : (number : ℕ) (cs : List Connection) (js : List Joined) → HoldAll cs js
+    → HoldsFound (find (λ c. c.number == number) cs) (find (has_number number) js)
+found_held number [] [] h = tt
+found_held number [] (j ∷ js) h = absurd h
+found_held number (c ∷ cs) [] h = absurd h
+found_held number (c ∷ cs) (j ∷ js) h =
+    subst (λ (n : ℕ). HoldsFound (cond (n == number) (Some c) (find (λ c. c.number == number) cs))
+    (cond (j.number == number) (Some j) (find (has_number number) js))) (sym h.0.number)
+    (found_step (j.number == number) c j (find (λ c. c.number == number) cs) (find (has_number number) js) h.0
+    (found_held number cs js h.1))
+
+found_first : (cs : Option Connection) (c : Connection) (js ks : Option Joined) → cs ≡ Some c → HoldsFound cs js
+    → HoldsFound (Some c) (option_or js ks)
+found_first cs c None ks e h = absurd (subst (λ (o : Option Connection). HoldsFound o None) e h)
+found_first cs c (Some j) ks e h = subst (λ (o : Option Connection). HoldsFound o (Some j)) e h
+
+found_next : (cs ds : Option Connection) (js ks : Option Joined) → cs ≡ None → HoldsFound cs js → HoldsFound ds ks
+    → HoldsFound ds (option_or js ks)
+found_next cs ds None ks e h k = k
+found_next cs ds (Some j) ks e h k = absurd (subst (λ (o : Option Connection). HoldsFound o (Some j)) e h)
+
+pub live_found : (number : ℕ) (cs : List Connection) (c : Connection) (s : Sessions) → find (λ c. c.number == number) cs ≡ Some c
+    → HoldAll cs s.live → HoldsFound (Some c) (numbered number s)
+live_found number cs c s e h =
+    subst (λ (o : Option Joined). HoldsFound (Some c) o) (sym (find-append (has_number number) s.live s.done))
+    (found_first (find (λ c. c.number == number) cs) c (find (has_number number) s.live) (find (has_number number) s.done) e
+    (found_held number cs s.live h))
+
+pub done_found : (number : ℕ) (cs ds : List Connection) (o : Option Connection) (s : Sessions)
+    → find (λ c. c.number == number) cs ≡ None → o ≡ find (λ c. c.number == number) ds → HoldAll cs s.live → HoldAll ds s.done
+    → HoldsFound o (numbered number s)
+done_found number cs ds o s e is h k =
+    subst (λ (x : Option Connection). HoldsFound x (numbered number s)) (sym is)
+    (subst (λ (x : Option Joined). HoldsFound (find (λ c. c.number == number) ds) x) (sym (find-append (has_number number) s.live s.done))
+    (found_next (find (λ c. c.number == number) cs) (find (λ c. c.number == number) ds) (find (has_number number) s.live)
+    (find (has_number number) s.done) e (found_held number cs s.live h) (found_held number ds s.done k)))

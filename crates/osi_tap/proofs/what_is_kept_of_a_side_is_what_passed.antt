@@ -6,7 +6,7 @@ use Rattle.osi_tpkt.specs.Stream.{offset_of}
 use Rattle.osi_session.specs.Standing.{Seen}
 use Rattle.osi_judge.specs.Explaining.{Told}
 use Rattle.osi_judge.specs.Feeding.{Tells}
-use Rattle.osi_judge.specs.Judging.{Watched, Watches}
+use Rattle.osi_judge.specs.Judging.{Watched, Watches, IsFound}
 use Rattle.osi_judge.specs.Outlines.{outline, outlines}
 use Rattle.osi_tap.specs.declared.lines.Stage.{Stage}
 use Rattle.osi_tap.specs.declared.lines.Stage.TheVariants.{Between, Within, Unheard}
@@ -18,10 +18,12 @@ use Rattle.osi_judge.specs.declared.directions.Direction.TheVariants.{Left, Righ
 use Rattle.osi_tap.specs.declared.connections.Connection.{Connection}
 use Rattle.osi_tap.specs.declared.lines.Line.{Line}
 use Rattle.osi_tap.specs.Connections.{Joined, adds, spoken}
-use Rattle.osi_tap.specs.Holding.{lined, line_in, HoldsJoined, IsSettled}
+use Rattle.osi_tap.specs.Holding.{lined, line_in, HoldsJoined}
 use Rattle.osi_tap.specs.Lines.{Begun, Spoken, told, told_of, octets_of, heard, begun_octets, begun_before, before, added, begins}
 use Rattle.osi_tap.specs.Lines.{silent}
 use Rattle.osi_tap.specs.Holding.{Lined, unheard, unheard_at, begun_at, begun_in, is_unheard, IsClear, Holds, HoldsBoth}
+use Rattle.osi_judge.proofs.told.what_is_known_of_a_side.{hears, found_as}
+use Rattle.osi_judge.proofs.outlined.alike_tsdus_explain_the_same.{found_of_tsdus}
 
 abbrev line : Watched → List ℕ → Stage → (begun_since since last : ℕ) → Lined
 line w x stage n m last = record { side = w; begun = x; stage = stage; begun_since = n; since = m; last = last }
@@ -212,29 +214,25 @@ begun_both s t own new other a b is h =
 
 -- ---- what is found of a session is right
 
-settled_heard : (s : Seen) (own other : Lined) (a b : Spoken) → is_unheard other.stage ≡ false → Holds s own other a b
-    → own.side.heard ≡ outlines (heard b)
-settled_heard s own other a b e h =
-    sym (append-nil own.side.heard) ∙ ap (λ (z : List (List ℕ)). own.side.heard ++ z) (sym (none_unheard other.stage other.begun e))
-    ∙ h.hears
+-- a session to which the last TSDU of the other side has not been handed over is found so all the same
+given_all : (w : Watched) (stage : Stage) (octets : List ℕ) (said : List Told) → Watches w said
+    → Watches (record w { heard = w.heard ++ unheard_at stage octets }) said
+given_all w Between octets said h = subst (λ (x : List (List ℕ)). Watches (record w { heard = x }) said) (sym (append-nil w.heard)) h
+given_all w Within octets said h = subst (λ (x : List (List ℕ)). Watches (record w { heard = x }) said) (sym (append-nil w.heard)) h
+given_all w Unheard octets said h = hears w (outline octets) said h
 
--- a session that was given all that passed: how it began, and what it heard and was told
-pub record WasGiven (d : Direction) (c : Connection) (j : Joined) : Type 0 where
-  pub begins_so : (line_in d c).side.begin ≡ begin_of d
-  pub hears : (line_in d c).side.heard ≡ outlines (heard (spoken (other d) j))
-  pub says : Watches (line_in d c).side (told (spoken d j))
+found_in : (s : Seen) (own other : Lined) (a b : Spoken) → Holds s own other a b → IsFound s (heard b) (told a) own.side.finding
+found_in s own other a b h =
+    subst (λ (z : Seen). IsFound z (heard b) (told a) own.side.finding) h.begins_so
+    (found_of_tsdus own.side.begin (heard b) (told a) own.side.finding
+    (subst (λ (x : List (List ℕ)). IsFound own.side.begin x (told a) own.side.finding) h.hears
+    (found_as (record own.side { heard = own.side.heard ++ unheard other }) (told a)
+    (given_all own.side other.stage other.begun (told a) h.says))))
 
-pub was_given : (d : Direction) (c : Connection) (j : Joined) → HoldsJoined c j → IsSettled c → WasGiven d c j
-was_given Left c j h settled = record {
-  begins_so = h.sides.this.begins_so;
-  hears = settled_heard seen_calling (lined c.left) (lined c.right) j.left j.right settled.1 h.sides.this;
-  says = h.sides.this.says;
-}
-was_given Right c j h settled = record {
-  begins_so = h.sides.that.begins_so;
-  hears = settled_heard seen_called (lined c.right) (lined c.left) j.right j.left settled.0 h.sides.that;
-  says = h.sides.that.says;
-}
+pub found_at : (d : Direction) (c : Connection) (j : Joined) → HoldsJoined c j
+    → IsFound (begin_of d) (heard (spoken (other d) j)) (told (spoken d j)) (line_in d c).side.finding
+found_at Left c j h = found_in seen_calling (lined c.left) (lined c.right) j.left j.right h.sides.this
+found_at Right c j h = found_in seen_called (lined c.right) (lined c.left) j.right j.left h.sides.that
 
 -- ---- a DT on a connection
 

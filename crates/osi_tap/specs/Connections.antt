@@ -1,6 +1,7 @@
 -- The connections of a byte connection, by what passed on them.
 use Rattle.std.specs.Prelude.{ℕ, Bool, true, false, List, [], ◌∷◌, ◌++◌, length, map, Option, Some, None, slice_get, slice_set}
 use Rattle.std.specs.Prelude.{◌+◌, ◌==◌, if◌then◌else◌}
+use Rattle.std.specs.List.{find}
 use Rattle.osi_tpkt.specs.Stream.{offset_of}
 use Rattle.osi_tpdu.specs.Value.{Value, request, confirm, data0, data2}
 use Rattle.osi_class.specs.declared.terms.Class.{Class}
@@ -42,6 +43,13 @@ none = record { live = []; done = [] }
 -- how many were requested
 abbrev pub count : Sessions → ℕ
 count s = length s.live + length s.done
+
+-- the one with a number
+abbrev pub has_number : ℕ → Joined → Bool
+has_number number j = j.number == number
+
+abbrev pub numbered : ℕ → Sessions → Option Joined
+numbered number s = find (has_number number) (s.live ++ s.done)
 
 -- a CR with this reference
 abbrev pub asked : (number calling : ℕ) → Joined

@@ -16,24 +16,27 @@ use Rattle.osi_rules.specs.declared.findings.Told.{Told}
 use Rattle.osi_rules.specs.Traffic as traffic
 use Rattle.osi_tap.specs.declared.marks.Cause.{Cause}
 use Rattle.osi_tap.specs.declared.marks.Cause.TheVariants.{BadUnit, Broke, Outside, TooMany}
+use Rattle.osi_tap.specs.declared.marks.First.{First}
+use Rattle.osi_tap.specs.declared.marks.Layer.TheVariants.{Transport}
 use Rattle.osi_tap.specs.declared.marks.Mark.{Mark}
 use Rattle.osi_tap.specs.declared.marks.Marks.{Marks}
 use Rattle.osi_tap.specs.declared.marks.UnitKind.{UnitKind}
 use Rattle.osi_tap.specs.declared.marks.UnitKind.TheVariants as kind
 use Rattle.osi_tap.specs.Connections.{Joined, Sessions, none, all_begin, taken}
 
--- the transport, the connections, and what was found of the transport of each side
+-- the transport, the connections, what was found of the transport of each side, and which break of transport was first
 pub record Course : Type 0 where
   pub traffic : traffic.State
   pub sessions : Sessions
   pub left : Marks
   pub right : Marks
+  pub first : Option First
 
 abbrev pub unmarked : Marks
 unmarked = record { broke = None; halted = None }
 
 abbrev pub fresh : Course
-fresh = record { traffic = traffic.fresh; sessions = none; left = unmarked; right = unmarked }
+fresh = record { traffic = traffic.fresh; sessions = none; left = unmarked; right = unmarked; first = None }
 
 -- a direction as `osi_rules` names it
 abbrev pub way_of : Direction → Way
@@ -76,6 +79,17 @@ earlier (Some k) m = Some k
 abbrev pub breaks : Mark → Marks → Marks
 breaks m k = if is_break m.cause then record k { broke = earlier k.broke m } else k
 
+-- of both sides too
+abbrev pub first_of : Mark → First
+first_of m = record { direction = m.direction; layer = Transport; connection = m.connection }
+
+abbrev pub first_by : Mark → Option First → Option First
+first_by m None = if is_break m.cause then Some (first_of m) else None
+first_by m (Some f) = Some f
+
+abbrev pub first_marked : Mark → Course → Course
+first_marked m c = record c { first = first_by m c.first }
+
 -- and the first packet after which nothing more of it is judged
 abbrev pub halts : Mark → Marks → Marks
 halts m k = record k { halted = earlier k.halted m }
@@ -96,7 +110,7 @@ reached m reach.Everything c = record c { left = halts m c.left; right = halts m
 
 -- a mark of the side that sent the packet, and how much is not judged any more
 abbrev pub marked : Mark → Reach → Course → Course
-marked m r c = reached m r (changes m.direction (breaks m) c)
+marked m r c = reached m r (changes m.direction (breaks m) (first_marked m c))
 
 -- ---- a unit
 

@@ -1,10 +1,12 @@
 -- What is kept in memory of the connections that passed: for each side a session of `osi_judge` that was told and heard what
 -- passed of that side and of the other.
-use Rattle.std.specs.Prelude.{◌≡◌, ℕ, Bool, true, false, List, [], ◌∷◌, ◌++◌, Option, Some, None}
+use Rattle.std.specs.Prelude.{◌≡◌, ◌⊎◌, ℕ, Bool, true, false, List, [], ◌∷◌, ◌++◌, Option, Some, None}
 use Rattle.osi_session.specs.Standing.{Seen, seen_calling, seen_called}
 use Rattle.osi_judge.specs.Judging.{Watched, Watches}
 use Rattle.osi_judge.specs.Outlines.{outline, outlines}
 use Rattle.osi_judge.specs.Sides.{watched}
+use Rattle.osi_tap.specs.declared.marks.First.{First}
+use Rattle.osi_tap.specs.declared.marks.Layer.TheVariants.{Session}
 use Rattle.osi_tap.specs.declared.lines.Line.{Line}
 use Rattle.osi_tap.specs.declared.lines.Stage.{Stage}
 use Rattle.osi_tap.specs.declared.lines.Stage.TheVariants.{Between, Within, Unheard}
@@ -98,10 +100,6 @@ abbrev pub line_in : Direction → Connection → Lined
 line_in Left c = lined c.left
 line_in Right c = lined c.right
 
--- both sessions were given all that passed
-abbrev pub IsSettled : Connection → Type 0
-IsSettled c = (is_unheard c.left.stage ≡ false) × (is_unheard c.right.stage ≡ false)
-
 -- of connections, one after the other
 abbrev pub HoldAll : List Connection → List Joined → Type 0
 HoldAll [] [] = Unit {0}
@@ -109,10 +107,24 @@ HoldAll (c ∷ cs) (j ∷ js) = HoldsJoined c j × HoldAll cs js
 HoldAll [] (j ∷ js) = ⊥
 HoldAll (c ∷ cs) [] = ⊥
 
+-- of a connection that is sought
+abbrev pub HoldsFound : Option Connection → Option Joined → Type 0
+HoldsFound None None = Unit {0}
+HoldsFound (Some c) (Some j) = HoldsJoined c j
+HoldsFound None (Some j) = ⊥
+HoldsFound (Some c) None = ⊥
+
 -- of all connections
 pub record HoldsSessions (k : Kept) (s : Sessions) : Type 0 where
   pub live : HoldAll k.live.items s.live
   pub done : HoldAll k.done.items s.done
+
+-- the break that is told as the first: if this is the first of transport, then this one, unless a session broke before it
+abbrev pub IsFirst : (told first : Option First) → Type 0
+IsFirst None None = Unit {0}
+IsFirst None (Some f) = ⊥
+IsFirst (Some told) None = told.layer ≡ Session
+IsFirst (Some told) (Some f) = (told ≡ f) ⊎ (told.layer ≡ Session)
 
 -- of a byte connection
 pub record HoldsCourse (w : Watch) (c : Course) : Type 0 where
@@ -120,6 +132,7 @@ pub record HoldsCourse (w : Watch) (c : Course) : Type 0 where
   pub sessions : HoldsSessions w.sessions c.sessions
   pub left : w.left ≡ c.left
   pub right : w.right ≡ c.right
+  pub first : IsFirst w.first c.first
 
 -- ---- a packet of which some has passed, and the rest waits for memory
 

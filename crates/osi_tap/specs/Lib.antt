@@ -4,3 +4,5 @@ pub mod Courses
 pub mod Streams
 pub mod Tapping
 pub mod Holding
+pub mod Owing
+pub mod Standing

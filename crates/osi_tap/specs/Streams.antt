@@ -1,6 +1,8 @@
 -- The packets of one direction, octet by octet (RFC 1006 section 6).
-use Rattle.std.specs.Prelude.{ℕ, ◌+◌, ◌-◌, ◌*◌, ◌==◌, nat_lt, Bool, true, false, if◌then◌else◌, List, [], ◌∷◌, ◌++◌, length, take}
+use Rattle.std.specs.Prelude.{ℕ, ◌+◌, ◌-◌, ◌*◌, ◌==◌, nat_lt, min, max, Bool, true, false, if◌then◌else◌, List, [], ◌∷◌, ◌++◌, length, take}
+use Rattle.osi_tpkt.specs.Packet.{stated_length}
 use Rattle.osi_tpkt.specs.Stream.{offset_of}
+use Rattle.osi_judge.specs.declared.judge.Reading.{Reading}
 use Rattle.osi_tpkt.specs.declared.faults.TpktFault.{TpktFault}
 use Rattle.osi_tpkt.specs.declared.faults.TpktFault.TheVariants.{BadVersion, BadLength}
 
@@ -38,6 +40,14 @@ pub record Streamed : Type 0 where
 abbrev pub untouched : Streamed
 untouched = record { packets = 0; octets = 0; at = 0; held = []; spent = false }
 
+-- a packet begins with the next octet
+abbrev pub are_none : List ℕ → Bool
+are_none [] = true
+are_none (octet ∷ held) = false
+
+abbrev pub begins_at : Streamed → Bool
+begins_at t = if t.spent then false else are_none t.held
+
 abbrev pub counted : ℕ → Streamed → Streamed
 counted n t = record t { octets = offset_of (t.octets + n) }
 
@@ -51,3 +61,21 @@ advanced t = record t { packets = offset_of (t.packets + 1); at = offset_of (t.a
 
 abbrev pub ended : Streamed → Streamed
 ended t = record t { held = []; spent = true }
+
+-- ---- what is taken of a piece
+
+-- the length of the header, or of the packet once its header is held
+abbrev pub whole_of : List ℕ → ℕ
+whole_of held = if nat_lt (length held) 4 then 4 else stated_length held
+
+-- the octets up to there, but at least one
+abbrev pub wanted : List ℕ → ℕ
+wanted held = max (whole_of held - length held) 1
+
+-- how many octets of a piece are taken at once
+abbrev pub used_of : Streamed → List ℕ → ℕ
+used_of t octets = if t.spent then length octets else min (wanted t.held) (length octets)
+
+-- what was read of the direction
+abbrev pub reading_of : Streamed → Reading
+reading_of t = record { packets = t.packets; octets = t.octets; rest = t.octets - t.at }

@@ -7,7 +7,7 @@ ghost use Rattle.osi_judge.specs.Judging.{IsFound};
 ghost use Rattle.osi_judge.specs.Tapping.{begin_of};
 ghost use Rattle.osi_tap.specs.Lines.{told, heard};
 ghost use Rattle.osi_tap.specs.Connections.{Joined, asked, packet_begins, opened, shut, adds, spoken, reference_of};
-ghost use Rattle.osi_tap.specs.Holding.{lined, line_in, HoldsJoined, IsSettled};
+ghost use Rattle.osi_tap.specs.Holding.{lined, line_in, HoldsJoined};
 
 use crate::lines::{Line, add};
 use osi_class::Class;
@@ -135,7 +135,7 @@ impl Connection {
 
     /// What was found of the session of a side, by what both sides sent.
     pub fn finding(&self, direction: Direction) -> Finding
-        ensures { (j : Joined) → HoldsJoined self.now j → IsSettled self.now
+        ensures { (j : Joined) → HoldsJoined self.now j
             → IsFound (begin_of direction) (heard (spoken (other direction) j)) (told (spoken direction j)) result }
     {
         self.side(direction).finding()

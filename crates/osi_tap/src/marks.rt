@@ -1,8 +1,9 @@
 //! Where the transport of a side broke a rule, or is not judged any further.
 
-ghost use Rattle.std.specs.Prelude.{◌≡◌};
+ghost use Rattle.std.specs.Prelude.{◌≡◌, if◌then◌else◌};
+ghost use Rattle.std.specs.Option.{option_or};
 ghost use Rattle.osi_tpdu.specs.View.{value};
-ghost use Rattle.osi_tap.specs.Courses.{kind_of, is_break, unmarked, breaks, halts, earlier};
+ghost use Rattle.osi_tap.specs.Courses.{kind_of, is_break, unmarked, breaks, halts, earlier, first_by};
 
 use osi_judge::Direction;
 use osi_rules::Rule;
@@ -82,6 +83,35 @@ fn earlier(kept: Option<Mark>, mark: Mark) -> Option<Mark>
     match kept {
         None => Some(mark),
         Some(kept) => Some(kept),
+    }
+}
+
+/// The first of all breaks, after one that is of this side if there is one.
+pub(crate) fn first_if(first: Option<First>, broke: bool, by: First) -> Option<First>
+    ensures { result ≡ (if broke then option_or first (Some by) else first) }
+{
+    match first {
+        Some(first) => Some(first),
+        None => if broke { Some(by) } else { None },
+    }
+}
+
+/// The first of all breaks, after this mark.
+pub(crate) fn first_by(first: Option<First>, mark: Mark) -> Option<First>
+    ensures { result ≡ first_by mark first }
+{
+    let by = First {
+        direction: mark.direction,
+        layer: Layer::Transport,
+        connection: mark.connection,
+    };
+    match first {
+        Some(first) => Some(first),
+        None => if mark.cause.is_break() {
+            Some(by)
+        } else {
+            None
+        },
     }
 }
 

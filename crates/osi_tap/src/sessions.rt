@@ -1,12 +1,13 @@
 //! The connections of a byte connection, by their places.
 
-ghost use Rattle.std.specs.Prelude.{◌≡◌, ◌≤◌, ◌<◌, ℕ, List, Some, OnOk, OnErr, length, map, option_map, slice_get};
+ghost use Rattle.std.specs.Prelude.{◌≡◌, ◌≤◌, ◌<◌, ℕ, List, Some, OnOk, OnErr, length, map, option_copied, option_map, slice_get, ◌==◌};
+ghost use Rattle.std.specs.List.{find};
 ghost use Rattle.osi_tpdu.specs.View.{value};
 ghost use Rattle.osi_tap.specs.Connections.{Joined, Sessions as Passed, none, count, all_begin, packet_begins, source_of, class_of};
-ghost use Rattle.osi_tap.specs.Connections.{user_of, meant, taken, asked_at, placed, changed};
+ghost use Rattle.osi_tap.specs.Connections.{user_of, meant, taken, asked_at, placed, changed, numbered};
 ghost use Rattle.osi_tpkt.specs.Stream.{offset_of};
 ghost use Rattle.osi_tap.specs.Courses.{number_at, number_of};
-ghost use Rattle.osi_tap.specs.Holding.{HoldAll, HoldsJoined, HoldsSessions};
+ghost use Rattle.osi_tap.specs.Holding.{HoldAll, HoldsFound, HoldsJoined, HoldsSessions};
 
 use crate::connections::Connection;
 use osi_class::Class;
@@ -80,6 +81,13 @@ fn number_in(live: &[Connection], place: usize) -> Option<usize>
     Some(number)
 }
 
+/// The first of the connections with a number.
+fn find_in(connections: &[Connection], number: usize) -> Option<&Connection>
+    ensures { option_copied result ≡ find (λ c. c.number == number) connections.now }
+{
+    connections.iter().find(|c| c.number == number)
+}
+
 /// A packet of a side begins.
 fn begin_each(direction: Direction, live: &mut Vec<Connection>)
     ensures { (js : List Joined) → HoldAll live.old.items js → HoldAll live.new.items (map (packet_begins direction) js) }
@@ -122,11 +130,13 @@ impl Sessions {
     }
 
     /// The connection with a number.
-    pub(crate) fn numbered(&self, number: usize) -> Option<&Connection> {
-        if let Some(connection) = self.live.iter().find(|c| c.number == number) {
+    pub(crate) fn numbered(&self, number: usize) -> Option<&Connection>
+        ensures { (s : Passed) → HoldsSessions self.now s → HoldsFound (option_copied result) (numbered number s) }
+    {
+        if let Some(connection) = find_in(&self.live, number) {
             return Some(connection);
         }
-        self.done.iter().find(|c| c.number == number)
+        find_in(&self.done, number)
     }
 
     /// A packet of a side begins.

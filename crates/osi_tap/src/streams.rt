@@ -1,9 +1,7 @@
 //! The packets of one direction.
 
 ghost use Rattle.std.specs.Prelude.{◌≡◌, ◌≤◌, ◌<◌, ◌+◌, true, false, IfOk, OnErr, length, take};
-ghost use Rattle.osi_tpkt.specs.Packet.{stated_length};
-ghost use Rattle.osi_judge.specs.Feeding.{IsWithin};
-ghost use Rattle.osi_tap.specs.Streams.{front_of, untouched, counted, gathered, advanced, ended};
+ghost use Rattle.osi_tap.specs.Streams.{front_of, untouched, counted, gathered, advanced, ended, wanted, begins_at, used_of, reading_of};
 ghost use Rattle.osi_tap.specs.Holding.{streamed, look_as};
 
 use osi_judge::Reading;
@@ -53,9 +51,7 @@ pub(crate) fn look(held: &[u8]) -> Shape<'_>
 /// How many more octets belong to the packet whose first octets are these: up to the end of its header, or of the
 /// packet.
 fn wanted(held: &[u8]) -> usize
-    ensures some { 0 < result }
-    ensures header { length held.now < 4 → length held.now + result ≤ 4 }
-    ensures packet { 4 ≤ length held.now → length held.now < stated_length held.now → length held.now + result ≤ stated_length held.now }
+    ensures { result ≡ wanted held.now }
 {
     let whole = match held {
         [_, _, high, low, ..] => usize::from(*high) * 256 + usize::from(*low),
@@ -77,14 +73,24 @@ impl Stream {
         }
     }
 
+    /// Whether a packet begins with the next octet.
+    pub(crate) fn begins(&self) -> bool
+        ensures { result ≡ begins_at (streamed self.now) }
+    {
+        if self.spent {
+            return false;
+        }
+        self.held.is_empty()
+    }
+
     /// Takes octets of a piece, up to the end of the header or of the current packet. Returns how many these are. `Err`
     /// changes nothing.
     pub(crate) fn take(&mut self, piece: &[u8]) -> Result<usize, AllocError>
-        ensures used { IfOk result (λ n. n ≤ length piece.now) }
+        ensures used { IfOk result (λ n. n ≡ used_of (streamed self.old) piece.now) }
         ensures some { IfOk result (λ n. 0 < length piece.now → 0 < n) }
+        ensures within { IfOk result (λ n. n ≤ length piece.now) }
         ensures spent { self.old.spent ≡ true → IfOk result (λ n. streamed self.new ≡ counted n (streamed self.old)) }
         ensures takes { self.old.spent ≡ false → IfOk result (λ n. streamed self.new ≡ gathered (take n piece.now) (streamed self.old)) }
-        ensures within { self.old.spent ≡ false → IfOk result (λ n. IsWithin self.old.held.items n) }
         ensures err { OnErr result (streamed self.new ≡ streamed self.old) }
     {
         if self.spent {
@@ -114,7 +120,9 @@ impl Stream {
         self.held.clear();
     }
 
-    pub(crate) fn reading(&self) -> Reading {
+    pub(crate) fn reading(&self) -> Reading
+        ensures { result ≡ reading_of (streamed self.now) }
+    {
         Reading {
             packets: self.packets,
             octets: self.octets,

@@ -1,5 +1,16 @@
 //! A byte connection, judged while it passes.
 
+ghost use Rattle.std.specs.Prelude.{◌≡◌, ◌≤◌, ◌<◌, None, true, [], length, take, option_copied, if◌then◌else◌, IfOk, OnOk, OnErr};
+ghost use Rattle.osi_judge.specs.Captures.{piece};
+ghost use Rattle.osi_tpkt.specs.Stream.{offset_of};
+ghost use Rattle.osi_tap.specs.Connections.{count, numbered};
+ghost use Rattle.osi_tap.specs.Courses.{packet_begins, marks_of, Course};
+ghost use Rattle.osi_tap.specs.Holding.{streamed, HoldsFound, IsFirst};
+ghost use Rattle.osi_tap.specs.Owing.{HoldsAll};
+ghost use Rattle.osi_tap.specs.Standing.{due_if, pick, HoldsBy, HoldsDue, HoldsNow, HoldsOpen, HoldsStream, HoldsState, HoldsWhole, IsJudged};
+ghost use Rattle.osi_tap.specs.Streams.{front_of, used_of, reading_of};
+ghost use Rattle.osi_tap.specs.Tapping.{State, begin, after, looked_at, stream_of};
+
 use crate::connections::Connection;
 use crate::marks::{Cause, First, Mark};
 use crate::streams::{Shape, Stream, look};
@@ -23,13 +34,44 @@ fn pass_stream(
     watch: &mut Watch,
     stream: &mut Stream,
     direction: Direction,
-) -> Result<(), AllocError> {
-    let at = stream.at;
-    if let Shape::Whole(unit) = look(stream.held.as_slice()) {
-        pass_packet(watch, direction, at, unit)?;
-    }
+) -> Result<(), AllocError>
+    ensures ok { OnOk result ((s : State) → HoldsWhole direction watch.old (streamed stream.old) s
+        → HoldsOpen direction watch.new (streamed stream.new) s) }
+    ensures err { OnErr result ((s : State) → HoldsWhole direction watch.old (streamed stream.old) s
+        → HoldsWhole direction watch.new (streamed stream.new) s) }
+{
+    let Shape::Whole(unit) = look(stream.held.as_slice()) else {
+        return Ok(());
+    };
+    pass_packet(watch, direction, stream.at, unit)?;
     stream.advance();
     Ok(())
+}
+
+/// A packet of a side begins, or not.
+fn begin_if(watch: &mut Watch, direction: Direction, begins: bool)
+    ensures { (c : Course) → HoldsAll watch.old c → HoldsAll watch.new (if begins then packet_begins direction c else c) }
+{
+    if begins {
+        watch.begin(direction);
+    }
+}
+
+/// The octets that are held are looked at. Returns whether they are a whole packet.
+fn look_at(watch: &mut Watch, stream: &mut Stream, direction: Direction) -> bool
+    ensures { (s : State) → HoldsAll watch.old s.course → (stream.old.spent ≡ true → stream.old.held.items ≡ [])
+        → HoldsStream result direction watch.new (streamed stream.new)
+        (looked_at direction (streamed stream.old) (front_of stream.old.held.items) s) }
+{
+    match look(stream.held.as_slice()) {
+        Shape::Partial => false,
+        Shape::Whole(_) => true,
+        Shape::Faulty(fault) => {
+            watch.refuse(direction, stream.at, Cause::BadPacket(fault));
+            stream.end();
+            false
+        }
+    }
 }
 
 /// Octets of a side pass, up to the end of the header or of the current packet. Returns how many these are, and whether
@@ -39,26 +81,30 @@ fn take_octets(
     stream: &mut Stream,
     direction: Direction,
     octets: &[u8],
-) -> Result<(usize, bool), AllocError> {
-    let begins = stream.held.is_empty() && !stream.spent;
+) -> Result<(usize, bool), AllocError>
+    ensures used { IfOk result (λ r. r.0 ≡ used_of (streamed stream.old) octets.now) }
+    ensures some { IfOk result (λ r. 0 < length octets.now → 0 < r.0) }
+    ensures within { IfOk result (λ r. r.0 ≤ length octets.now) }
+    ensures ok { IfOk result (λ r. (s : State) → HoldsOpen direction watch.old (streamed stream.old) s
+        → HoldsStream r.1 direction watch.new (streamed stream.new) (after (piece direction (take r.0 octets.now)) s)) }
+    ensures err { OnErr result ((s : State) → HoldsOpen direction watch.old (streamed stream.old) s
+        → HoldsOpen direction watch.new (streamed stream.new) s) }
+{
+    if octets.is_empty() {
+        return Ok((0, false));
+    }
+    let begins = stream.begins();
     let used = stream.take(octets)?;
-    if used > 0 && begins {
-        watch.begin(direction);
-    }
-    match look(stream.held.as_slice()) {
-        Shape::Partial => Ok((used, false)),
-        Shape::Whole(_) => Ok((used, true)),
-        Shape::Faulty(fault) => {
-            watch.refuse(direction, stream.at, Cause::BadPacket(fault));
-            stream.end();
-            Ok((used, false))
-        }
-    }
+    begin_if(watch, direction, begins);
+    let is_whole = look_at(watch, stream, direction);
+    Ok((used, is_whole))
 }
 
 impl Tap {
     /// Nothing has passed.
-    pub fn new(alloc: Global) -> Tap {
+    pub fn new(alloc: Global) -> Tap
+        ensures { HoldsState result begin }
+    {
         Tap {
             left: Stream::new(alloc),
             right: Stream::new(alloc),
@@ -68,40 +114,83 @@ impl Tap {
     }
 
     /// Octets of a side pass: those of the piece up to the end of the header or of the current packet. Returns how
-    /// many these are; 0 only for an empty piece. `Err` changes nothing.
-    pub fn feed(&mut self, direction: Direction, octets: &[u8]) -> Result<usize, AllocError> {
+    /// many these are; 0 only for an empty piece. After `Err` none has passed.
+    pub fn feed(&mut self, direction: Direction, octets: &[u8]) -> Result<usize, AllocError>
+        ensures used { IfOk result (λ n. (s : State) → HoldsState self.old s → n ≡ used_of (stream_of direction s) octets.now) }
+        ensures some { IfOk result (λ n. 0 < length octets.now → 0 < n) }
+        ensures within { IfOk result (λ n. n ≤ length octets.now) }
+        ensures ok { IfOk result (λ n. (s : State) → HoldsState self.old s
+            → HoldsState self.new (after (piece direction (take n octets.now)) s)) }
+        ensures err { OnErr result ((s : State) → HoldsState self.old s → HoldsState self.new s) }
+    {
         self.settle()?;
         let (used, is_whole) = self.take(direction, octets)?;
-        if is_whole {
-            self.due = Some(direction);
-            // If memory is short now, the rest of the packet passes before the next octet.
-            let _ = self.settle();
-        }
+        self.pass(direction, is_whole);
         Ok(used)
     }
 
-    fn take(&mut self, direction: Direction, octets: &[u8]) -> Result<(usize, bool), AllocError> {
+    /// Octets of a side pass, and nothing is still to pass. Returns how many, and whether the packet is whole.
+    fn take(&mut self, direction: Direction, octets: &[u8]) -> Result<(usize, bool), AllocError>
+        ensures used { IfOk result (λ r. r.0 ≡ used_of (pick direction (streamed self.old.left) (streamed self.old.right)) octets.now) }
+        ensures some { IfOk result (λ r. 0 < length octets.now → 0 < r.0) }
+        ensures within { IfOk result (λ r. r.0 ≤ length octets.now) }
+        ensures ok { IfOk result (λ r. (s : State) → HoldsNow self.old.watch (streamed self.old.left) (streamed self.old.right) s
+            → HoldsBy (due_if r.1 direction) self.new.watch (streamed self.new.left) (streamed self.new.right)
+            (after (piece direction (take r.0 octets.now)) s)) }
+        ensures err { OnErr result ((s : State) → HoldsNow self.old.watch (streamed self.old.left) (streamed self.old.right) s
+            → HoldsNow self.new.watch (streamed self.new.left) (streamed self.new.right) s) }
+        ensures due { self.new.due ≡ self.old.due }
+    {
         match direction {
             Direction::Left => take_octets(&mut self.watch, &mut self.left, direction, octets),
             Direction::Right => take_octets(&mut self.watch, &mut self.right, direction, octets),
         }
     }
 
+    /// The packet of a side passes, if it is whole. If memory is short now, the rest of it passes before the next octet.
+    fn pass(&mut self, direction: Direction, is_whole: bool)
+        ensures { (s : State) → self.old.due ≡ None
+            → HoldsBy (due_if is_whole direction) self.old.watch (streamed self.old.left) (streamed self.old.right) s
+            → HoldsState self.new s }
+    {
+        if !is_whole {
+            return;
+        }
+        self.due = Some(direction);
+        let _ = self.settle();
+    }
+
     /// What passed and could not be judged for lack of memory is judged now. Without it, all that passed was judged
     /// unless an allocation failed.
-    pub fn settle(&mut self) -> Result<(), AllocError> {
+    pub fn settle(&mut self) -> Result<(), AllocError>
+        ensures holds { (s : State) → HoldsState self.old s → HoldsState self.new s }
+        ensures judged { OnOk result (IsJudged self.new) }
+    {
         let Some(direction) = self.due else {
             return Ok(());
         };
-        match direction {
-            Direction::Left => pass_stream(&mut self.watch, &mut self.left, direction)?,
-            Direction::Right => pass_stream(&mut self.watch, &mut self.right, direction)?,
-        }
+        self.settle_side(direction)?;
         self.due = None;
         Ok(())
     }
 
-    fn stream(&self, direction: Direction) -> &Stream {
+    /// The packet of this side passes, which is whole.
+    fn settle_side(&mut self, direction: Direction) -> Result<(), AllocError>
+        ensures ok { OnOk result ((s : State) → HoldsDue direction self.old.watch (streamed self.old.left) (streamed self.old.right) s
+            → HoldsNow self.new.watch (streamed self.new.left) (streamed self.new.right) s) }
+        ensures err { OnErr result ((s : State) → HoldsDue direction self.old.watch (streamed self.old.left) (streamed self.old.right) s
+            → HoldsDue direction self.new.watch (streamed self.new.left) (streamed self.new.right) s) }
+        ensures due { self.new.due ≡ self.old.due }
+    {
+        match direction {
+            Direction::Left => pass_stream(&mut self.watch, &mut self.left, direction),
+            Direction::Right => pass_stream(&mut self.watch, &mut self.right, direction),
+        }
+    }
+
+    fn stream(&self, direction: Direction) -> &Stream
+        ensures { streamed result.now ≡ pick direction (streamed self.now.left) (streamed self.now.right) }
+    {
         match direction {
             Direction::Left => &self.left,
             Direction::Right => &self.right,
@@ -109,32 +198,45 @@ impl Tap {
     }
 
     /// What was read of a direction.
-    pub fn reading(&self, direction: Direction) -> Reading {
+    pub fn reading(&self, direction: Direction) -> Reading
+        ensures { (s : State) → HoldsState self.now s → IsJudged self.now → result ≡ reading_of (stream_of direction s) }
+    {
         self.stream(direction).reading()
     }
 
     /// How many connections were requested.
-    pub fn count(&self) -> usize {
+    pub fn count(&self) -> usize
+        ensures { (s : State) → HoldsState self.now s → IsJudged self.now → result ≡ offset_of (count s.course.sessions) }
+    {
         self.watch.sessions.count()
     }
 
     /// The connection with a number: its place in the order of the CRs, counted from 0.
-    pub fn connection(&self, number: usize) -> Option<&Connection> {
+    pub fn connection(&self, number: usize) -> Option<&Connection>
+        ensures { (s : State) → HoldsState self.now s → IsJudged self.now
+            → HoldsFound (option_copied result) (numbered number s.course.sessions) }
+    {
         self.watch.sessions.numbered(number)
     }
 
     /// Where the transport of a side first broke a rule or left the profile.
-    pub fn broke(&self, direction: Direction) -> Option<Mark> {
+    pub fn broke(&self, direction: Direction) -> Option<Mark>
+        ensures { (s : State) → HoldsState self.now s → IsJudged self.now → result ≡ (marks_of direction s.course).broke }
+    {
         self.watch.marks(direction).broke
     }
 
     /// The packet, of either side, after which nothing more of a side is judged.
-    pub fn halted(&self, direction: Direction) -> Option<Mark> {
+    pub fn halted(&self, direction: Direction) -> Option<Mark>
+        ensures { (s : State) → HoldsState self.now s → IsJudged self.now → result ≡ (marks_of direction s.course).halted }
+    {
         self.watch.marks(direction).halted
     }
 
     /// The break, of a session or of transport, that passed first.
-    pub fn first(&self) -> Option<First> {
+    pub fn first(&self) -> Option<First>
+        ensures { (s : State) → HoldsState self.now s → IsJudged self.now → IsFirst result s.course.first }
+    {
         self.watch.first
     }
 }

@@ -1,17 +1,20 @@
 //! What passes on a byte connection: its transport, its sessions, and what was found of both.
 
-ghost use Rattle.std.specs.Prelude.{◌≡◌, ◌+◌, ℕ, None, Some, IfOk, OnOk, OnErr};
+ghost use Rattle.std.specs.Prelude.{◌≡◌, ◌+◌, ℕ, None, Some, List, drop, IfOk, OnOk, OnErr};
+ghost use Rattle.osi_tpdu.specs.Units.{units_left};
+ghost use Rattle.osi_tpdu.specs.Value.{Value};
 ghost use Rattle.osi_tpdu.specs.View.{value};
 ghost use Rattle.osi_tap.specs.Connections.{Sessions as Passed};
-ghost use Rattle.osi_tap.specs.Courses.{Course, fresh, way_of, cause_of, packet_begins, number_at, noted, marked, reached, changes};
+ghost use Rattle.osi_tap.specs.Courses.{Course, fresh, way_of, cause_of, packet_begins, number_at, noted, marked, first_marked, reached, changes};
 ghost use Rattle.osi_tap.specs.Courses.{breaks, unread, unit_passes, marks_of};
 ghost use Rattle.osi_tap.specs.Holding.{HoldsCourse, HoldsSessions, IsDue, IsTold, unit_due};
+ghost use Rattle.osi_tap.specs.Owing.{HoldsAll, Owes, OwesLast, OwesUnits};
 
-use crate::marks::{Cause, First, Layer, Mark, Marks, UnitKind};
+use crate::marks::{Cause, First, Layer, Mark, Marks, UnitKind, first_by, first_if};
 use crate::sessions::Sessions;
 use osi_judge::Direction;
 use osi_rules::{Direction as Way, Finding, Reach, Told, Traffic};
-use osi_tpdu::{Tpdu, read_units};
+use osi_tpdu::{Tpdu, Units, read_units};
 use std::alloc::{AllocError, Global};
 
 /// What has passed, packet by packet.
@@ -22,7 +25,7 @@ pub(crate) struct Watch {
     left: Marks,
     right: Marks,
     pub(crate) first: Option<First>,
-    /// How many units of the whole packet under way have passed.
+    /// How many units of the current packet have passed, if it is whole.
     passed: usize,
     /// What was found of the next one, if its transport is judged already.
     told: Option<Told>,
@@ -51,6 +54,55 @@ fn cause_of(finding: Finding) -> Option<Cause>
     }
 }
 
+/// The units after the first ones.
+fn units_after(mut units: Units<'_>, mut passed: usize) -> Units<'_>
+    ensures { units_left result ≡ drop passed (units_left units.entry) }
+{
+    'skipped: while passed > 0 {
+        let _ = units.next();
+        passed -= 1;
+    }
+    units
+}
+
+/// These units of the packet at this offset pass. After `Err` the first of those that have not passed is the next.
+fn pass_units(
+    watch: &mut Watch,
+    direction: Direction,
+    at: u64,
+    mut units: Units<'_>,
+) -> Result<(), AllocError>
+    ensures ok { OnOk result ((vs : List Value) (c : Course) → OwesLast watch.old direction at vs (units_left units.entry) c
+        → HoldsCourse watch.new c) }
+    ensures told { OnOk result ((vs : List Value) (c : Course) → OwesLast watch.old direction at vs (units_left units.entry) c
+        → watch.new.told ≡ None) }
+    ensures err { OnErr result ((vs : List Value) (c : Course) → OwesLast watch.old direction at vs (units_left units.entry) c
+        → OwesUnits watch.new direction at (drop watch.new.passed vs) c) }
+{
+    'units: while let Some(unit) = units.next() {
+        watch.pass(direction, at, &unit)?;
+    }
+    Ok(())
+}
+
+/// The packet at this offset passes, of which some units may have passed.
+fn pass_rest(
+    watch: &mut Watch,
+    direction: Direction,
+    at: u64,
+    units: Units<'_>,
+) -> Result<(), AllocError>
+    ensures ok { OnOk result ((c : Course) → OwesUnits watch.old direction at (drop watch.old.passed (units_left units.entry)) c
+        → HoldsAll watch.new c) }
+    ensures err { OnErr result ((c : Course) → OwesUnits watch.old direction at (drop watch.old.passed (units_left units.entry)) c
+        → OwesUnits watch.new direction at (drop watch.new.passed (units_left units.entry)) c) }
+{
+    let rest = units_after(units, watch.passed);
+    pass_units(watch, direction, at, rest)?;
+    watch.passed = 0;
+    Ok(())
+}
+
 /// The units of the whole packet at this offset pass, those that have not passed yet. After `Err` those that passed have
 /// passed, and the next call goes on with the others.
 pub(crate) fn pass_packet(
@@ -58,32 +110,23 @@ pub(crate) fn pass_packet(
     direction: Direction,
     at: u64,
     packet: &[u8],
-) -> Result<(), AllocError> {
-    let units = match read_units(packet) {
-        Ok(units) => units,
+) -> Result<(), AllocError>
+    ensures ok { OnOk result ((c : Course) → Owes watch.old direction at packet.now c → HoldsAll watch.new c) }
+    ensures err { OnErr result ((c : Course) → Owes watch.old direction at packet.now c → Owes watch.new direction at packet.now c) }
+{
+    match read_units(packet) {
+        Ok(units) => pass_rest(watch, direction, at, units),
         Err(fault) => {
             watch.refuse(direction, at, Cause::BadUnit(fault));
-            return Ok(());
-        }
-    };
-    let mut left = watch.passed;
-    'units: for unit in units {
-        if left > 0 {
-            left -= 1;
-        } else {
-            watch.pass(direction, at, &unit)?;
+            Ok(())
         }
     }
-    watch.passed = 0;
-    Ok(())
 }
 
 impl Watch {
     /// Nothing has passed.
     pub(crate) fn new(alloc: Global) -> Watch
-        ensures holds { HoldsCourse result fresh }
-        ensures told { result.told ≡ None }
-        ensures passed { result.passed ≡ 0 }
+        ensures { HoldsAll result fresh }
     {
         Watch {
             traffic: Traffic::new(alloc),
@@ -214,16 +257,18 @@ impl Watch {
         connection: Option<usize>,
     )
         ensures holds { (c : Course) → HoldsCourse self.old c → HoldsCourse self.new c }
+        ensures kept { (f : First) → self.old.first ≡ Some f → self.new.first ≡ Some f }
         ensures told { self.new.told ≡ self.old.told }
         ensures passed { self.new.passed ≡ self.old.passed }
     {
-        if self.first.is_none() && self.session_broke(direction, place) {
-            self.first = Some(First {
-                direction,
-                layer: Layer::Session,
-                connection,
-            });
-        }
+        let broke = self.session_broke(direction, place);
+        let by = First {
+            direction,
+            layer: Layer::Session,
+            connection,
+        };
+        let first = first_if(self.first, broke, by);
+        self.first = first;
     }
 
     /// The number of the connection at a place.
@@ -247,19 +292,15 @@ impl Watch {
         connection.has_broken(direction)
     }
 
-    /// The mark is the first of all breaks, if there was none before it.
+    /// The mark is the first of all breaks, if it is one and there was none before it.
     fn mark_first(&mut self, mark: Mark)
-        ensures holds { (c : Course) → HoldsCourse self.old c → HoldsCourse self.new c }
+        ensures holds { (c : Course) → HoldsCourse self.old c → HoldsCourse self.new (first_marked mark c) }
+        ensures kept { (f : First) → self.old.first ≡ Some f → self.new.first ≡ Some f }
         ensures told { self.new.told ≡ self.old.told }
         ensures passed { self.new.passed ≡ self.old.passed }
     {
-        if self.first.is_none() && mark.cause.is_break() {
-            self.first = Some(First {
-                direction: mark.direction,
-                layer: Layer::Transport,
-                connection: mark.connection,
-            });
-        }
+        let first = first_by(self.first, mark);
+        self.first = first;
     }
 
     /// What was found of the transport of a side, and how much is not judged any more.

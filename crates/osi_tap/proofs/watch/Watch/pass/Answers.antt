@@ -29,6 +29,7 @@ returns-in_err-take-clause-err c =
         sessions = c.in_err-take.ensures.err _ t.holds.sessions;
         left = t.holds.left;
         right = t.holds.right;
+        first = t.holds.first;
       };
       comes = ap (λ (o : Option Told). unit_due o c.args.direction c.args.at (value c.args.unit.now) t.by_now) c.in_ok-told.ensures.told
           ∙ t.comes;
@@ -49,6 +50,7 @@ returns-clause-ok c k h =
       sessions = c.in_ok-take.ensures.ok _ t.holds.sessions;
       left = t.holds.left;
       right = t.holds.right;
+      first = t.holds.first;
     }) in
     subst (λ (x : Course). HoldsCourse (record c.note.new.self { told = None; passed = c.note.new.self.passed + 1 }) x) t.comes
-    (record { traffic = r.traffic; sessions = r.sessions; left = r.left; right = r.right })
+    (record { traffic = r.traffic; sessions = r.sessions; left = r.left; right = r.right; first = r.first })

@@ -1,0 +1,86 @@
+-- What a tap holds of both directions and of what has passed: for the calls of a tap.
+use Rattle.std.proofs.Common.{◌≡◌, ◌∙◌, refl, sym, subst, ℕ, Bool, true, false, if◌then◌else◌, List, [], ◌∷◌, length}
+use Rattle.osi_judge.specs.Captures.{Capture, of, other, piece}
+use Rattle.osi_judge.specs.declared.directions.Direction.{Direction}
+use Rattle.osi_judge.specs.declared.directions.Direction.TheVariants.{Left, Right}
+use Rattle.osi_tap.specs.declared.tap.Tap.{Tap}
+use Rattle.osi_tap.specs.declared.watch.Watch.{Watch}
+use Rattle.osi_tap.specs.Standing.{HoldsPart, HoldsOpen, HoldsStream, HoldsNow, HoldsBy, due_if}
+use Rattle.osi_tap.specs.Standing.{HoldsState, IsFed}
+use Rattle.osi_tap.specs.Standing.IsFed.{unfed, fed}
+use Rattle.osi_tap.specs.Streams.{Front, partial, faulty, whole, front_of, Streamed, counted, gathered}
+use Rattle.osi_tap.specs.Tapping.{State, stream_of, with_stream, looked_at, begun, octet_passes, begin, after, comes_to}
+use Rattle.osi_tap.proofs.a_piece_comes_to_what_its_octets_do.{looks, after_more}
+
+-- ---- the other direction
+
+other_begun : (d : Direction) (held : List ℕ) (s : State) → stream_of (other d) (begun d held s) ≡ stream_of (other d) s
+other_begun Left [] s = refl
+other_begun Left (o ∷ held) s = refl
+other_begun Right [] s = refl
+other_begun Right (o ∷ held) s = refl
+
+other_looked : (d : Direction) (t : Streamed) (f : Front) (s : State) → stream_of (other d) (looked_at d t f s) ≡ stream_of (other d) s
+other_looked Left t partial s = refl
+other_looked Left t (faulty fault) s = refl
+other_looked Left t (whole unit) s = refl
+other_looked Right t partial s = refl
+other_looked Right t (faulty fault) s = refl
+other_looked Right t (whole unit) s = refl
+
+other_with : (d : Direction) (t : Streamed) (s : State) → stream_of (other d) (with_stream d t s) ≡ stream_of (other d) s
+other_with Left t s = refl
+other_with Right t s = refl
+
+other_by : (b : Bool) (d : Direction) (os : List ℕ) (s : State)
+    → stream_of (other d) (if b then with_stream d (counted (length os) (stream_of d s)) s
+    else looks d (gathered os (stream_of d s)) (begun d (stream_of d s).held s)) ≡ stream_of (other d) s
+other_by true d os s = other_with d (counted (length os) (stream_of d s)) s
+other_by false d os s =
+    let t = gathered os (stream_of d s) in
+    other_looked d t (front_of t.held) (begun d (stream_of d s).held s) ∙ other_begun d (stream_of d s).held s
+
+other_stays : (d : Direction) (os : List ℕ) (s : State) → stream_of (other d) (after (piece d os) s) ≡ stream_of (other d) s
+other_stays d [] s = refl
+other_stays d (o ∷ os) s =
+    other_stays d os (octet_passes (of d o) s) ∙ other_by (stream_of d s).spent d (o ∷ []) s
+
+pub beside : (d : Direction) (os : List ℕ) (t : Streamed) (s : State) → HoldsPart (other d) t s
+    → HoldsPart (other d) t (after (piece d os) s)
+beside d os t s h = record { stream = h.stream ∙ sym (other_stays d os s); part = h.part }
+
+-- ---- octets of a side are taken
+
+left_taken : (b : Bool) (os : List ℕ) (v : Watch) (m r : Streamed) (s : State) → HoldsPart Right r s
+    → HoldsStream b Left v m (after (piece Left os) s) → HoldsBy (due_if b Left) v m r (after (piece Left os) s)
+left_taken false os v m r s h k = record { left = k.stream; right = beside Left os r s h; course = k.course }
+left_taken true os v m r s h k = record { own = k; beside = beside Left os r s h }
+
+right_taken : (b : Bool) (os : List ℕ) (v : Watch) (l m : Streamed) (s : State) → HoldsPart Left l s
+    → HoldsStream b Right v m (after (piece Right os) s) → HoldsBy (due_if b Right) v l m (after (piece Right os) s)
+right_taken false os v l m s h k = record { left = beside Right os l s h; right = k.stream; course = k.course }
+right_taken true os v l m s h k = record { own = k; beside = beside Right os l s h }
+
+pub taken_left : (b : Bool) (d : Direction) (os : List ℕ) (w v : Watch) (l m r : Streamed) (s : State) → d ≡ Left
+    → (HoldsOpen d w l s → HoldsStream b d v m (after (piece d os) s)) → HoldsNow w l r s
+    → HoldsBy (due_if b d) v m r (after (piece d os) s)
+taken_left b d os w v l m r s e takes h =
+    subst (λ (z : Direction). (HoldsOpen z w l s → HoldsStream b z v m (after (piece z os) s))
+    → HoldsBy (due_if b z) v m r (after (piece z os) s)) (sym e)
+    (λ k. left_taken b os v m r s h.right (k (record { stream = h.left; course = h.course }))) takes
+
+pub taken_right : (b : Bool) (d : Direction) (os : List ℕ) (w v : Watch) (l r m : Streamed) (s : State) → d ≡ Right
+    → (HoldsOpen d w r s → HoldsStream b d v m (after (piece d os) s)) → HoldsNow w l r s
+    → HoldsBy (due_if b d) v l m (after (piece d os) s)
+taken_right b d os w v l r m s e takes h =
+    subst (λ (z : Direction). (HoldsOpen z w r s → HoldsStream b z v m (after (piece z os) s))
+    → HoldsBy (due_if b z) v l m (after (piece z os) s)) (sym e)
+    (λ k. right_taken b os v l m s h.left (k (record { stream = h.right; course = h.course }))) takes
+
+-- ---- a capture is fed
+
+pub fed_holds : (capture : Capture) (t : Tap) → IsFed capture t → HoldsState t (comes_to capture)
+fed_holds _ _ (unfed t h) = h
+fed_holds _ _ (fed capture d octets old new r f) =
+    subst (λ (s : State). HoldsState new s) (sym (after_more capture (piece d octets) begin))
+    (f.passes (comes_to capture) (fed_holds capture old r))

@@ -1,0 +1,13 @@
+use Rattle.std.proofs.Common.{List, length}
+use Rattle.osi_tpdu.specs.Units.{units_left}
+use Rattle.osi_tpdu.specs.Value.{Value}
+use Rattle.osi_tap.specs.Courses.{Course}
+use Rattle.osi_tap.specs.Owing.{OwesLast}
+use Rattle.osi_tap.proofs.watch.pass_units.Given as goal
+
+abbrev pub invariant-units : goal.invariant-units
+invariant-units l = (vs : List Value) (c : Course) → OwesLast l.fn.watch l.direction l.at vs (units_left l.fn.units) c
+    → OwesLast l.watch l.direction l.at vs (units_left l.units) c
+
+abbrev pub decreases-units : goal.decreases-units
+decreases-units l = length (units_left l.units)
