@@ -16,7 +16,8 @@ use Rattle.osi_tap.specs.Standing.{IsPart, HoldsOpen, HoldsStream}
 use Rattle.osi_tap.specs.Streams.{Front, partial, faulty, whole, sized, front_of, Streamed, counted, gathered, ended}
 use Rattle.osi_tap.specs.Streams.{are_none, begins_at, wanted, used_of}
 use Rattle.osi_tap.specs.Tapping.{State, stream_of, with_stream, looked_at, begun, octets_pass, octet_passes, after, GoesOn}
-use Rattle.osi_tap.proofs.a_piece_comes_to_what_its_octets_do.{piece_passes, counted_more, offset_more, same_stream, stream_again, looks, going}
+use Rattle.osi_tap.proofs.a_piece_comes_to_what_its_octets_do.{piece_passes, counted_more, offset_more, same_stream}
+use Rattle.osi_tap.proofs.a_piece_comes_to_what_its_octets_do.{stream_again, looks, going}
 
 -- ---- a part of a packet, and one octet more
 
@@ -227,14 +228,16 @@ none_by false os old new e part h is =
 pub taken_looked : (b begins : Bool) (d : Direction) (os : List ℕ) (w v n : Watch) (old mid new : Streamed) (s : State)
     → HoldsOpen d w old s → 0 < length os → Takes os old mid → begins ≡ begins_at old
     → ((c : Course) → HoldsAll w c → HoldsAll v (if begins then packet_begins d c else c))
-    → ((z : State) → HoldsAll v z.course → (mid.spent ≡ true → mid.held ≡ []) → HoldsStream b d n new (looked_at d mid (front_of mid.held) z))
+    → ((z : State) → HoldsAll v z.course → (mid.spent ≡ true → mid.held ≡ []) →
+        HoldsStream b d n new (looked_at d mid (front_of mid.held) z))
     → HoldsStream b d n new (after (piece d os) s)
 taken_looked b begins d os w v n old mid new s h some takes begins_is begin look =
     let is = h.stream.stream in
     let part = subst IsPart is h.stream.part in
     let from = subst (λ (z : Streamed). Takes os z mid) is takes in
     subst (λ (z : State). HoldsStream b d n new z)
-    (ap (λ (c : Bool). looked_at d mid (front_of mid.held) (begun_if c d s)) (begins_is ∙ ap begins_at is) ∙ came_at d os mid s some part from)
+    (ap (λ (c : Bool). looked_at d mid (front_of mid.held) (begun_if c d s)) (begins_is ∙ ap begins_at is)
+        ∙ came_at d os mid s some part from)
     (look (begun_if begins d s) (begin s.course h.course) (none_by old.spent os old mid refl h.stream.part takes))
 
 -- how many are taken of a piece

@@ -22,7 +22,8 @@ returns-clause-holds c k h =
     subst (λ (b : Bool). HoldsCourse c.mark.new.self (if b then k else marked m (refused_reach (way_of d) k.traffic) next)) (sym none)
     (subst (λ (r : Reach). HoldsCourse c.mark.new.self (marked m r next)) reach
     (c.mark.ensures.holds next (record {
-      traffic = c.refuse-reach.ensures.state ∙ ap (λ (w : Way). refused w t) c.way.ensures ∙ ap (λ (s : State). refused (way_of d) s) h.traffic;
+      traffic = c.refuse-reach.ensures.state ∙ ap (λ (w : Way). refused w t) c.way.ensures
+            ∙ ap (λ (s : State). refused (way_of d) s) h.traffic;
       sessions = h.sessions;
       left = h.left;
       right = h.right;
