@@ -1,0 +1,2 @@
+pub mod what_is_right_passes_each_test
+pub mod what_was_right_stays_right
