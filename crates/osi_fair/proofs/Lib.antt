@@ -1,2 +1,11 @@
 pub mod what_is_right_passes_each_test
 pub mod what_was_right_stays_right
+pub mod what_a_link_does
+pub mod units_in_flight
+pub mod what_holds_of_a_line
+pub mod what_an_end_does_to_a_line
+pub mod what_begins_to_pass_is_right
+pub mod what_passes_of_an_end
+pub mod what_passes_of_the_other_side
+pub mod what_each_unit_of_the_other_side_does
+pub mod an_open_end_is_fair
