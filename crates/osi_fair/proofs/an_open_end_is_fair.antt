@@ -19,10 +19,10 @@ use Rattle.osi_rules.specs.declared.halves.Half.{Half}
 use Rattle.osi_rules.specs.Reaches.{is_applied, reach_of}
 use Rattle.osi_rules.specs.Sides.{other, is_open}
 use Rattle.osi_rules.specs.Traffic.{found, sent_on, judged_on, connection_after}
-use Rattle.osi_fair.specs.Lines.{Line, Act, moves, closes, answers, begins_own, passes_own, begins_other, passes_other, Acts, ActsAlong}
+use Rattle.osi_fair.specs.Lines.{Line, Act, moves, closes, ignores, answers, begins_own, passes_own, begins_other, passes_other, Acts, ActsAlong}
 use Rattle.osi_fair.specs.Lines.{IsFair, IsOpened, IsRightNow, finding_of, after_finding}
 use Rattle.osi_fair.proofs.what_holds_of_a_line.{Holds, PutsAt, TakesAt, Tally, is_there}
-use Rattle.osi_fair.proofs.what_an_end_does_to_a_line.{moves_hold, closes_hold, answers_hold}
+use Rattle.osi_fair.proofs.what_an_end_does_to_a_line.{moves_hold, closes_hold, ignores_hold, answers_hold}
 use Rattle.osi_fair.proofs.what_passes_of_an_end.{begins_own_holds, begins_other_holds, first_is, is_kept, passes_own_holds}
 use Rattle.osi_fair.proofs.what_each_unit_of_the_other_side_does.{passes_other_holds}
 
@@ -72,8 +72,10 @@ act_keeps : (r peer : ℕ) (act : Act) (old new : Line) → Acts Left r peer act
 act_keeps r peer (moves move) old new (link, after, is, e, short, coming, new_is) h judged =
     moves_hold r peer move old new (link, after, is, e, short, coming, new_is)
     (h (sym (ap (λ (l : Line). l.tap.is_judged) new_is) ∙ judged))
-act_keeps r peer (closes reason) old new (link, is, new_is) h judged =
-    closes_hold r peer reason old new (link, is, new_is) (h (sym (ap (λ (l : Line). l.tap.is_judged) new_is) ∙ judged))
+act_keeps r peer (closes reason units) old new (link, is, coming, new_is) h judged =
+    closes_hold r peer reason units old new (link, is, coming, new_is) (h (sym (ap (λ (l : Line). l.tap.is_judged) new_is) ∙ judged))
+act_keeps r peer (ignores units) old new (none, coming, new_is) h judged =
+    ignores_hold r peer units old new (none, coming, new_is) (h (sym (ap (λ (l : Line). l.tap.is_judged) new_is) ∙ judged))
 act_keeps r peer (answers unit) old new (link, is, dr, coming, new_is) h judged =
     answers_hold r peer unit old new (link, is, dr, coming, new_is) (h (sym (ap (λ (l : Line). l.tap.is_judged) new_is) ∙ judged))
 act_keeps r peer begins_own old new (some, idle, new_is) h judged =
@@ -288,8 +290,10 @@ other_keeps r peer course in_use unit old new (range, named, some, new_is) h (in
 act_turned : (r peer : ℕ) (act : Act) (old new : Line) → Acts Right r peer act old new → Keeps peer (turned_line old) → Keeps peer (turned_line new)
 act_turned r peer (moves move) old new (link, after, is, e, short, coming, new_is) h judged =
     act_keeps r peer (moves move) (turned_line old) (turned_line new) (link, after, is, e, short, coming, ap turned_line new_is) h judged
-act_turned r peer (closes reason) old new (link, is, new_is) h judged =
-    act_keeps r peer (closes reason) (turned_line old) (turned_line new) (link, is, ap turned_line new_is) h judged
+act_turned r peer (closes reason units) old new (link, is, coming, new_is) h judged =
+    act_keeps r peer (closes reason units) (turned_line old) (turned_line new) (link, is, coming, ap turned_line new_is) h judged
+act_turned r peer (ignores units) old new (none, coming, new_is) h judged =
+    act_keeps r peer (ignores units) (turned_line old) (turned_line new) (none, coming, ap turned_line new_is) h judged
 act_turned r peer (answers unit) old new (link, is, dr, coming, new_is) h judged =
     act_keeps r peer (answers unit) (turned_line old) (turned_line new) (link, is, dr, coming, ap turned_line new_is) h judged
 act_turned r peer begins_own old new (some, idle, new_is) h judged =

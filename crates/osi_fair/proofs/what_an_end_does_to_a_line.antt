@@ -13,6 +13,7 @@ use Rattle.osi_rules.specs.declared.directions.Direction.TheVariants.{Left}
 use Rattle.osi_rules.specs.declared.halves.Half.{Half}
 use Rattle.osi_rules.specs.declared.halves.Phase.{Phase}
 use Rattle.osi_rules.specs.Sides.{is_open, is_closing}
+use Rattle.osi_fair.specs.Lines.{ignores}
 use Rattle.osi_fair.specs.Lines.{Line, moves, closes, answers, Acts, IsRightNow, HandsInShort, units_put, units_taken}
 use Rattle.osi_fair.proofs.what_a_link_does.{HaveRoom, room_more, gives_so, takes_so}
 use Rattle.osi_fair.proofs.units_in_flight.{Puts, puts_more, comes_within}
@@ -350,8 +351,9 @@ moves_hold r peer move old new (link, after, is, e, short, coming, new_is) h =
       under_way = λ b. right_on old.tap old.put (units_put peer move) (h.under_way b);
     })
 
-pub closes_hold : (r peer reason : ℕ) (old new : Line) → Acts Left r peer (closes reason) old new → Holds peer old → Holds peer new
-closes_hold r peer reason old new (link, is, new_is) h =
+pub closes_hold : (r peer reason : ℕ) (units : List Value) (old new : Line) → Acts Left r peer (closes reason units) old new → Holds peer old →
+    Holds peer new
+closes_hold r peer reason units old new (link, is, coming, new_is) h =
     let puts = puts_with peer h.limit h.tally old.tap.left old.tap.right old.put old.link link is h.puts in
     subst (λ (l : Line). Holds peer l) (sym new_is)
     (record {
@@ -364,6 +366,19 @@ closes_hold r peer reason old new (link, is, new_is) h =
           (λ passed shown begun. (refl, refl, refl));
       takes = tt;
       under_way = λ b. right_on old.tap old.put (disconnect peer r reason [] ∷ []) (h.under_way b);
+    })
+
+pub ignores_hold : (r peer : ℕ) (units : List Value) (old new : Line) → Acts Left r peer (ignores units) old new → Holds peer old → Holds peer new
+ignores_hold r peer units old new (none, coming, new_is) h = subst (λ (l : Line). Holds peer l) (sym new_is)
+    (record {
+      limit = h.limit;
+      tally = h.tally;
+      noted = h.noted;
+      ordered = h.ordered;
+      taps = h.taps;
+      puts = h.puts;
+      takes = subst (λ (o : Option Standing). TakesAt h.limit h.tally old.tap.right new.coming o) (sym none) tt;
+      under_way = h.under_way;
     })
 
 pub answers_hold : (r peer : ℕ) (unit : Value) (old new : Line) → Acts Left r peer (answers unit) old new → Holds peer old → Holds peer new

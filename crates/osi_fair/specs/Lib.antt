@@ -1,2 +1,3 @@
 pub mod Later
 pub mod Lines
+pub mod Following

@@ -36,8 +36,10 @@ pub record Line : Type 0 where
 pub data Act : Type 0 where
   -- a call of the link
   moves : Move → Act
-  -- the end closes the connection by a DR with this reason: its user does, or the link refused a unit
-  closes : ℕ → Act
+  -- the end closes the connection by a DR with this reason: its user does, or its link refuses these units
+  closes : ℕ → List Value → Act
+  -- an end that has closed the connection takes these units
+  ignores : List Value → Act
   -- the end takes a DR, and answers it by a DC
   answers : Value → Act
   -- the next unit of the end begins to pass, and passes; with what the tap knows apart from this connection
@@ -83,8 +85,9 @@ abbrev pub Acts : Direction → (r peer : ℕ) → Act → Line → Line → Typ
 Acts d r peer (moves move) old new = (link : Standing) × (after : Standing) × (old.link ≡ Some link) × Moves move link after × HandsInShort move
     × (old.coming ≡ units_taken move ++ new.coming)
     × (new ≡ record old { link = Some after; put = old.put ++ units_put peer move; coming = new.coming })
-Acts d r peer (closes reason) old new = (link : Standing) × (old.link ≡ Some link)
-    × (new ≡ record old { link = None; put = old.put ++ disconnect peer r reason [] ∷ [] })
+Acts d r peer (closes reason units) old new = (link : Standing) × (old.link ≡ Some link) × (old.coming ≡ units ++ new.coming)
+    × (new ≡ record old { link = None; put = old.put ++ disconnect peer r reason [] ∷ []; coming = new.coming })
+Acts d r peer (ignores units) old new = (old.link ≡ None) × (old.coming ≡ units ++ new.coming) × (new ≡ record old { coming = new.coming })
 Acts d r peer (answers unit) old new = (link : Standing) × (old.link ≡ Some link) × IsDisconnect unit × (old.coming ≡ unit ∷ new.coming)
     × (new ≡ record old { link = None; put = old.put ++ disconnected peer r ∷ []; coming = new.coming })
 Acts d r peer begins_own old new = (old.put ≢ []) × (old.begun ≡ false) × (new ≡ record old { begun = true; tap = begins d old.tap })

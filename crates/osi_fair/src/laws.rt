@@ -1,7 +1,16 @@
 //! Laws of the rules of transport and of the ends that keep them. Each function does nothing: its clauses are the laws.
 
-ghost use Rattle.std.specs.Prelude.{◌≡◌, ℕ, Bool, List};
-ghost use Rattle.osi_tpdu.specs.Value.{Value};
+ghost use Rattle.std.specs.Prelude.{◌≡◌, ◌≤◌, ℕ, Bool, List, [], ◌∷◌, Some, None, length};
+ghost use Rattle.osi_carrier.specs.Calls.{closed_with, open_link, sent};
+ghost use Rattle.osi_carrier.specs.Orderly.{IsOrderly};
+ghost use Rattle.osi_carrier.specs.React.{react};
+ghost use Rattle.osi_carrier.specs.Rows.{value_at};
+ghost use Rattle.osi_carrier.specs.State.{State, closing, linked};
+ghost use Rattle.osi_class.specs.Limits.{longest_tsdu};
+ghost use Rattle.osi_class.specs.Link.{Standing};
+ghost use Rattle.osi_class.specs.declared.terms.Class.TheVariants.{Two};
+ghost use Rattle.osi_fair.specs.Following.{Follows};
+ghost use Rattle.osi_tpdu.specs.Value.{Value, destination_of};
 ghost use Rattle.osi_rules.specs.Sides.{other, own, theirs, seen, sends};
 ghost use Rattle.osi_rules.specs.Traffic.{found};
 ghost use Rattle.osi_rules.specs.declared.connections.Connection.{Connection};
@@ -31,4 +40,19 @@ pub fn what_was_right_stays_right()
 pub fn an_open_end_is_fair()
     ensures { (d : Direction) (r peer : ℕ) (begin line : Line) (acts : List Act) → IsOpened d r peer begin →
         ActsAlong d r peer begin acts line → IsFair d line }
+{}
+
+/// What a carrier of class 2 does to one of its connections is acts of its line, and it writes the units that these put: as a
+/// unit for the connection arrives (`open`, and `closing` if the end has sent a DR), as a TSDU is sent (`sent`), and as the
+/// connection is closed (`closed`). A unit for another connection leaves this one as it is, by
+/// `a_unit_changes_one_connection` of `osi_carrier`. So [`an_open_end_is_fair`] speaks of every connection of a carrier.
+pub fn a_carrier_follows_its_lines()
+    ensures open { (unit : Value) (s : State) (r peer : ℕ) (link : Standing) → IsOrderly s → s.class ≡ Some Two → s.ended ≡ None →
+        value_at r s.live ≡ Some (linked peer link) → destination_of unit ≡ Some r → Follows r peer (unit ∷ []) s (react unit s) }
+    ensures closing { (unit : Value) (s : State) (r peer : ℕ) → IsOrderly s → s.class ≡ Some Two → s.ended ≡ None →
+        value_at r s.live ≡ Some (closing peer) → destination_of unit ≡ Some r → Follows r peer (unit ∷ []) s (react unit s) }
+    ensures sent { (r peer : ℕ) (tsdu : List ℕ) (s : State) (link : Standing) → open_link r s ≡ Some (peer, link) →
+        length tsdu ≤ longest_tsdu → Follows r peer [] s (sent r tsdu s) }
+    ensures closed { (r peer reason : ℕ) (s : State) (link : Standing) → open_link r s ≡ Some (peer, link) → s.class ≡ Some Two →
+        Follows r peer [] s (closed_with r reason s) }
 {}
