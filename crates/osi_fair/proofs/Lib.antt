@@ -10,3 +10,4 @@ pub mod what_passes_of_the_other_side
 pub mod what_each_unit_of_the_other_side_does
 pub mod an_open_end_is_fair
 pub mod a_carrier_follows_lines
+pub mod how_a_connection_opens

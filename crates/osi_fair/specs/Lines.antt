@@ -141,3 +141,7 @@ IsRightNow d c (unit ∷ units) = IsRight d c unit
 
 abbrev pub IsFair : Direction → Line → Type 0
 IsFair d line = line.begun ≡ true → line.tap.is_judged ≡ true → IsRightNow d line.tap line.put
+
+-- the line of a connection whose CC has just passed
+abbrev pub opened_line : Standing → Connection → Line
+opened_line link tap = record { link = Some link; put = []; begun = false; tap = tap; coming = [] }
