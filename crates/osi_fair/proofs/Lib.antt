@@ -11,3 +11,5 @@ pub mod what_each_unit_of_the_other_side_does
 pub mod an_open_end_is_fair
 pub mod a_carrier_follows_lines
 pub mod how_a_connection_opens
+pub mod a_unit_is_an_act_of_its_line
+pub mod what_is_put_before_the_cc_passes

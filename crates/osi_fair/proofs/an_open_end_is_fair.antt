@@ -19,11 +19,12 @@ use Rattle.osi_rules.specs.declared.halves.Half.{Half}
 use Rattle.osi_rules.specs.Reaches.{is_applied, reach_of}
 use Rattle.osi_rules.specs.Sides.{other, is_open}
 use Rattle.osi_rules.specs.Traffic.{found, sent_on, judged_on, connection_after}
+use Rattle.osi_fair.specs.Lines.{begins_elsewhere}
 use Rattle.osi_fair.specs.Lines.{Line, Act, moves, closes, ignores, answers, begins_own, passes_own, begins_other, passes_other, Acts, ActsAlong}
 use Rattle.osi_fair.specs.Lines.{IsFair, IsOpened, IsRightNow, finding_of, after_finding}
 use Rattle.osi_fair.proofs.what_holds_of_a_line.{Holds, PutsAt, TakesAt, Tally, is_there}
 use Rattle.osi_fair.proofs.what_an_end_does_to_a_line.{moves_hold, closes_hold, ignores_hold, answers_hold}
-use Rattle.osi_fair.proofs.what_passes_of_an_end.{begins_own_holds, begins_other_holds, first_is, is_kept, passes_own_holds}
+use Rattle.osi_fair.proofs.what_passes_of_an_end.{begins_own_holds, begins_other_holds, elsewhere_holds, first_is, is_kept, passes_own_holds}
 use Rattle.osi_fair.proofs.what_each_unit_of_the_other_side_does.{passes_other_holds}
 
 -- ---- a connection that is judged was judged before
@@ -84,6 +85,8 @@ act_keeps r peer (passes_own course in_use) old new (unit, first, begun, new_is)
     let still = sym (ap (λ (l : Line). l.tap.is_judged) new_is) ∙ judged in
     let was = was_judged Left (finding_of Left course in_use old.tap unit) unit old.tap still in
     passes_own_holds r peer course in_use old new (unit, first, begun, new_is) was (h was)
+act_keeps r peer begins_elsewhere old new (idle, new_is) h judged =
+    elsewhere_holds r peer old new (idle, new_is) (h (sym (ap (λ (l : Line). l.tap.is_judged) new_is) ∙ judged))
 act_keeps r peer begins_other old new new_is h judged =
     begins_other_holds r peer old new new_is (h (sym (ap (λ (l : Line). l.tap.is_judged) new_is) ∙ judged))
 act_keeps r peer (passes_other course in_use unit) old new (range, named, some, new_is) h judged =
@@ -303,6 +306,8 @@ act_turned r peer (passes_own course in_use) old new (unit, first, begun, new_is
     let was = was_judged Right (finding_of Right course in_use old.tap unit) unit old.tap still in
     act_keeps r peer (passes_own course in_use) (turned_line old) (turned_line new)
     (own_turned r peer course in_use old new (unit, first, begun, new_is) was (h was)) h judged
+act_turned r peer begins_elsewhere old new (idle, new_is) h judged =
+    act_keeps r peer begins_elsewhere (turned_line old) (turned_line new) (idle, ap turned_line new_is) h judged
 act_turned r peer begins_other old new new_is h judged =
     act_keeps r peer begins_other (turned_line old) (turned_line new) (ap turned_line new_is) h judged
 act_turned r peer (passes_other course in_use unit) old new a h judged =

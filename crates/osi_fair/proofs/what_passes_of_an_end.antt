@@ -15,6 +15,7 @@ use Rattle.osi_rules.specs.declared.halves.Half.{Half}
 use Rattle.osi_rules.specs.declared.halves.Phase.{Phase}
 use Rattle.osi_rules.specs.Sides.{is_silent, is_open, begins}
 use Rattle.osi_rules.specs.Traffic.{found, sent_on, half_after, begun_after, closing_phase}
+use Rattle.osi_fair.specs.Lines.{begins_elsewhere}
 use Rattle.osi_fair.specs.Lines.{Line, begins_own, passes_own, begins_other, Acts, IsRight, IsRightNow, finding_of, after_finding}
 use Rattle.osi_fair.proofs.what_a_link_does.{begun_by}
 use Rattle.osi_fair.proofs.units_in_flight.{Puts}
@@ -34,6 +35,19 @@ begins_own_holds r peer old new (some, idle, new_is) h = subst (λ (l : Line). H
       puts = h.puts;
       takes = h.takes;
       under_way = λ b. begins_right peer h.limit h.tally h.noted old.tap h.ordered h.taps old.put old.link some h.puts;
+    })
+
+pub elsewhere_holds : (r peer : ℕ) (old new : Line) → Acts Left r peer begins_elsewhere old new → Holds peer old → Holds peer new
+elsewhere_holds r peer old new (idle, new_is) h = subst (λ (l : Line). Holds peer l) (sym new_is)
+    (record {
+      limit = h.limit;
+      tally = h.tally;
+      noted = h.noted;
+      ordered = h.ordered;
+      taps = h.taps;
+      puts = h.puts;
+      takes = h.takes;
+      under_way = λ b. absurd (cc (b, idle));
     })
 
 -- what is found of this side's units doesn't depend on what the other side knows

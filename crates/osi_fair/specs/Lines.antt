@@ -45,6 +45,8 @@ pub data Act : Type 0 where
   -- the next unit of the end begins to pass, and passes; with what the tap knows apart from this connection
   begins_own : Act
   passes_own : Course → Bool → Act
+  -- a packet of the end begins to pass that is of another connection
+  begins_elsewhere : Act
   -- a packet of the other side begins to pass, and a unit of it passes
   begins_other : Act
   passes_other : Course → Bool → Value → Act
@@ -93,6 +95,7 @@ Acts d r peer (answers unit) old new = (link : Standing) × (old.link ≡ Some l
 Acts d r peer begins_own old new = (old.put ≢ []) × (old.begun ≡ false) × (new ≡ record old { begun = true; tap = begins d old.tap })
 Acts d r peer (passes_own course in_use) old new = (unit : Value) × (old.put ≡ unit ∷ new.put) × (old.begun ≡ true)
     × (new ≡ record old { put = new.put; begun = false; tap = after_finding d (finding_of d course in_use old.tap unit) unit old.tap })
+Acts d r peer begins_elsewhere old new = (old.begun ≡ false) × (new ≡ record old { tap = begins d old.tap })
 Acts d r peer begins_other old new = new ≡ record old { tap = begins (other d) old.tap }
 Acts d r peer (passes_other course in_use unit) old new = HasFieldsInRange unit × (destination_of unit ≡ Some r)
     × (reach_of (Some Two) (finding_of (other d) course in_use old.tap unit) ≢ reach.Everything)
@@ -145,3 +148,21 @@ IsFair d line = line.begun ≡ true → line.tap.is_judged ≡ true → IsRightN
 -- the line of a connection whose CC has just passed
 abbrev pub opened_line : Standing → Connection → Line
 opened_line link tap = record { link = Some link; put = []; begun = false; tap = tap; coming = [] }
+
+-- ---- before the CC has passed
+
+-- the line of a connection of which this end has put the CC, and nothing else
+abbrev pub answering_line : Standing → (cc : Value) → Connection → Line
+answering_line link cc tap = record { link = Some link; put = cc ∷ []; begun = false; tap = tap; coming = [] }
+
+-- no unit passes whole
+abbrev pub PassesNone : Act → Type 0
+PassesNone (moves move) = Unit {0}
+PassesNone (closes reason units) = Unit {0}
+PassesNone (ignores units) = Unit {0}
+PassesNone (answers unit) = Unit {0}
+PassesNone begins_own = Unit {0}
+PassesNone (passes_own course in_use) = ⊥
+PassesNone begins_elsewhere = Unit {0}
+PassesNone begins_other = Unit {0}
+PassesNone (passes_other course in_use unit) = ⊥

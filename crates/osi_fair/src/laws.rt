@@ -1,6 +1,7 @@
 //! Laws of the rules of transport and of the ends that keep them. Each function does nothing: its clauses are the laws.
 
-ghost use Rattle.std.specs.Prelude.{◌≡◌, ◌≤◌, ℕ, Bool, true, false, List, [], ◌∷◌, Option, Some, None, length};
+ghost use Rattle.std.specs.Prelude.{◌≡◌, ◌≤◌, ℕ, Bool, true, false, List, [], ◌∷◌, Option, Some, None, length, option_map, slice_get, slice_set};
+ghost use Rattle.std.specs.List.{AllByRecursion};
 ghost use Rattle.osi_carrier.specs.Calls.{closed_with, open_link, sent};
 ghost use Rattle.osi_carrier.specs.Negotiation.{acceptance, agreed_size, opened_link, proposal};
 ghost use Rattle.osi_carrier.specs.Orderly.{IsOrderly};
@@ -13,18 +14,19 @@ ghost use Rattle.osi_class.specs.Negotiation.{accept, selected_by};
 ghost use Rattle.osi_class.specs.declared.terms.Class.{Class};
 ghost use Rattle.osi_class.specs.declared.terms.Class.TheVariants.{Two, Zero};
 ghost use Rattle.osi_class.specs.declared.terms.Local.{Local};
-ghost use Rattle.osi_fair.specs.Following.{Follows};
+ghost use Rattle.osi_fair.specs.Following.{Follows, IsAtPlace};
 ghost use Rattle.osi_tpdu.specs.Limits.{window_units};
 ghost use Rattle.osi_tpdu.specs.Value.{Connect, IsConnect, Value, confirm, destination_of};
-ghost use Rattle.osi_rules.specs.Sides.{other, own, theirs, seen, sends};
-ghost use Rattle.osi_rules.specs.Traffic.{asked_by, found, offer_of, sent_on, silent_half};
+ghost use Rattle.osi_rules.specs.Sides.{begins, other, own, theirs, seen, sends};
+ghost use Rattle.osi_rules.specs.Traffic.{State as Traffic, asked_by, found, offer_of, packet_begins, sent_on, silent_half, takes, uses_source};
 ghost use Rattle.osi_rules.specs.declared.connections.Connection.{Connection};
 ghost use Rattle.osi_rules.specs.declared.courses.Course.{Course};
 ghost use Rattle.osi_rules.specs.declared.directions.Direction.{Direction};
 ghost use Rattle.osi_rules.specs.declared.findings.Finding.{Finding};
 ghost use Rattle.osi_rules.specs.declared.halves.Half.{Half};
 ghost use Rattle.osi_fair.specs.Later.{IsLater, knows};
-ghost use Rattle.osi_fair.specs.Lines.{Act, ActsAlong, IsFair, IsOpened, Line, opened_half, opened_line};
+ghost use Rattle.osi_fair.specs.Lines.{Act, Acts, ActsAlong, IsFair, IsOpened, Line, PassesNone, after_finding, answering_line, finding_of};
+ghost use Rattle.osi_fair.specs.Lines.{opened_half, opened_line, passes_own};
 
 /// What was right stays right if more of the other side had passed: before the packet of the unit began (`known`), or since
 /// then (`passed`).
@@ -71,6 +73,16 @@ pub fn an_open_end_is_fair()
         ActsAlong d r peer begin acts line → IsFair d line }
 {}
 
+/// A called end may put units right after its CC. Until the CC has passed no unit of the other side names the connection. So once
+/// it has passed, the line is what the same acts make of a connection that is opened then: [`an_open_end_is_fair`] speaks of
+/// what was put before, too.
+pub fn what_is_put_before_the_cc_passes()
+    ensures { (d : Direction) (r peer : ℕ) (link : Standing) (answer : Value) (tap : Connection) (acts : List Act) (course : Course)
+        (in_use : Bool) (line after : Line) → AllByRecursion PassesNone acts →
+        ActsAlong d r peer (answering_line link answer tap) acts line → Acts d r peer (passes_own course in_use) line after →
+        (later : List Act) × ActsAlong d r peer (opened_line link after.tap) later after }
+{}
+
 /// What a carrier of class 2 does to one of its connections is acts of its line, and it writes the units that these put: as a
 /// unit for the connection arrives (`open`, and `closing` if the end has sent a DR), as a TSDU is sent (`sent`), and as the
 /// connection is closed (`closed`). A unit for another connection leaves this one as it is, by
@@ -84,4 +96,17 @@ pub fn a_carrier_follows_its_lines()
         length tsdu ≤ longest_tsdu → Follows r peer [] s (sent r tsdu s) }
     ensures closed { (r peer reason : ℕ) (s : State) (link : Standing) → open_link r s ≡ Some (peer, link) → s.class ≡ Some Two →
         Follows r peer [] s (closed_with r reason s) }
+{}
+
+/// The rules of transport find of each unit in class 2 that names a connection what the line of this connection says (`found`),
+/// and leave the connection as the line does (`after`); and at each packet they do to every connection what its line does
+/// (`begins`). A unit changes no other connection, by `a_unit_changes_one_connection` of `osi_rules`.
+pub fn a_unit_is_an_act_of_its_line()
+    ensures found { (d : Direction) (v : Value) (s : Traffic) (n place : ℕ) (c : Connection) → IsAtPlace d s n place c →
+        destination_of v ≡ Some n → (takes d v s).told.finding ≡ finding_of d s.course (uses_source d s.connections v) c v }
+    ensures after { (d : Direction) (v : Value) (s : Traffic) (n place : ℕ) (c : Connection) → IsAtPlace d s n place c →
+        destination_of v ≡ Some n → (takes d v s).state.connections
+            ≡ slice_set s.connections place (after_finding d (finding_of d s.course (uses_source d s.connections v) c v) v c) }
+    ensures begins { (d : Direction) (s : Traffic) (i : ℕ) →
+        slice_get (packet_begins d s).connections i ≡ option_map (begins d) (slice_get s.connections i) }
 {}
