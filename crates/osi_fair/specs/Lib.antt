@@ -1,3 +1,4 @@
 pub mod Later
 pub mod Lines
 pub mod Following
+pub mod Naming

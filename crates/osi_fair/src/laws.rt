@@ -14,11 +14,12 @@ ghost use Rattle.osi_class.specs.Negotiation.{accept, selected_by};
 ghost use Rattle.osi_class.specs.declared.terms.Class.{Class};
 ghost use Rattle.osi_class.specs.declared.terms.Class.TheVariants.{Two, Zero};
 ghost use Rattle.osi_class.specs.declared.terms.Local.{Local};
+ghost use Rattle.osi_fair.specs.Naming.{HoldsOfOne, Passing, all_passed};
 ghost use Rattle.osi_fair.specs.Following.{Follows, IsAtPlace};
 ghost use Rattle.osi_tpdu.specs.Limits.{window_units};
 ghost use Rattle.osi_tpdu.specs.Value.{Connect, IsConnect, Value, confirm, destination_of};
-ghost use Rattle.osi_rules.specs.Sides.{begins, other, own, theirs, seen, sends};
-ghost use Rattle.osi_rules.specs.Traffic.{State as Traffic, asked_by, found, offer_of, packet_begins, sent_on, silent_half, takes, uses_source};
+ghost use Rattle.osi_rules.specs.Sides.{begins, is_named, other, own, theirs, seen, sends, uses};
+ghost use Rattle.osi_rules.specs.Traffic.{State as Traffic, asked_by, found, fresh, offer_of, packet_begins, sent_on, silent_half, takes, uses_source};
 ghost use Rattle.osi_rules.specs.declared.connections.Connection.{Connection};
 ghost use Rattle.osi_rules.specs.declared.courses.Course.{Course};
 ghost use Rattle.osi_rules.specs.declared.directions.Direction.{Direction};
@@ -109,4 +110,13 @@ pub fn a_unit_is_an_act_of_its_line()
             ≡ slice_set s.connections place (after_finding d (finding_of d s.course (uses_source d s.connections v) c v) v c) }
     ensures begins { (d : Direction) (s : Traffic) (i : ℕ) →
         slice_get (packet_begins d s).connections i ≡ option_map (begins d) (slice_get s.connections i) }
+{}
+
+/// A reference is of one connection: at any time each side uses it for one at most of those that are judged (`used`), and a unit
+/// that names it is for one at most (`named`), whatever passes. So no unit of a side is judged by what belongs to another
+/// connection.
+pub fn a_reference_names_one_connection()
+    ensures used { (passings : List Passing) (d : Direction) (n : ℕ) → HoldsOfOne (uses d n) (all_passed passings fresh).connections }
+    ensures named { (passings : List Passing) (d : Direction) (n : ℕ) →
+        HoldsOfOne (is_named d n) (all_passed passings fresh).connections }
 {}
