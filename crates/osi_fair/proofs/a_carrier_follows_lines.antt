@@ -1,15 +1,15 @@
 -- What a carrier of class 2 does to a connection is acts of its line: for a unit that arrives, a TSDU, and a close.
 -- For the law of that name.
-use Rattle.std.proofs.Common.{◌≡◌, ◌∙◌, ℕ, ◌≤◌, Bool, true, false, List, [], ◌∷◌, ◌++◌, drop, take, length, map, refl, sym, ap, subst}
+use Rattle.std.proofs.Common.{◌≡◌, ◌∙◌, ℕ, ◌≤◌, Bool, true, false, List, [], ◌∷◌, ◌++◌, drop, length, map, refl, sym, ap, subst}
 use Rattle.std.proofs.Common.{Option, Some, None, Result, Ok, Err, append_assoc, if◌then◌else◌, is_some}
 use Rattle.std.specs.List.{flat_map, AllByRecursion}
 use Rattle.std.proofs.lemmas.List.{append-nil}
 use Rattle.std.proofs.lemmas.Grind.{flat_map-append}
 use Rattle.osi_tpdu.specs.Value.{Value, request, confirm, disconnect, disconnected, data0, data2, acknowledge, error, destination_of}
-use Rattle.osi_class.specs.Giving.{all_given, drained}
+use Rattle.osi_class.specs.Giving.{all_given}
 use Rattle.osi_class.specs.Limits.{longest_tsdu}
 use Rattle.osi_class.specs.Link.{Standing, Given, taken, unit_of, with_tsdu}
-use Rattle.osi_class.specs.Runs.{Move, Moves, MovesAlong, give_out, hand_in, hand_out, take_in}
+use Rattle.osi_class.specs.Runs.{Move, MovesAlong, give_out, hand_in, hand_out, take_in}
 use Rattle.osi_class.specs.declared.faults.LinkFault.{LinkFault}
 use Rattle.osi_class.specs.declared.terms.Class.{Class}
 use Rattle.osi_class.specs.declared.terms.Class.TheVariants.{Two}
@@ -17,14 +17,15 @@ use Rattle.osi_class.proofs.giving.a_link_gives_finitely_many_units.{drained_mov
 use Rattle.osi_carrier.specs.Calls.{closes as closes_in, closed_on, closed_with, link_of, open_link, sent, sent_on}
 use Rattle.osi_carrier.specs.Orderly.{RiseFrom}
 use Rattle.osi_carrier.specs.Pump.{pumped, written_by}
-use Rattle.osi_carrier.specs.React.{handed_out, in_class, in_two, leaves, breaks, react_by, to_connection, to_reference, to_linked, to_closing, taking}
+use Rattle.osi_carrier.specs.React.{handed_out, in_class, in_two, leaves, breaks, react_by, to_connection, to_reference, to_linked}
+use Rattle.osi_carrier.specs.React.{to_closing, taking}
 unfoldable use Rattle.osi_carrier.specs.React.{react}
-use Rattle.osi_carrier.specs.Rows.{put, value_at, without}
+use Rattle.osi_carrier.specs.Rows.{put, value_at}
 use Rattle.osi_carrier.specs.State.{Connection, State, asked, closing, linked, packets}
 use Rattle.osi_carrier.proofs.references.what_a_change_leaves_there.{put_here, without_here}
 use Rattle.osi_rules.specs.declared.directions.Direction.{Direction}
 use Rattle.osi_fair.specs.Following.{Follows, link_now}
-use Rattle.osi_fair.specs.Lines.{Act, Acts, ActsAlong, HandsInShort, Line, answers, closes, ignores, moves, units_put, units_taken}
+use Rattle.osi_fair.specs.Lines.{Act, ActsAlong, HandsInShort, Line, answers, closes, ignores, moves, units_put, units_taken}
 
 -- ---- calls of a link
 
@@ -51,8 +52,7 @@ module _ (d : Direction) (r peer : ℕ) where
       let next : Line = line_after line mid (line.put ++ units_put peer call) (flat_map units_taken calls ++ later) in
       let then_is = moves_along calls mid new more others next later refl refl in
       let joined = append_assoc line.put (units_put peer call) (flat_map (units_put peer) calls) in
-      let after = subst (λ (l : List Value). ActsAlong d r peer next (AreMoves calls) (line_after line new l later)) joined then_is in
-      (
+      let after = subst (λ (l : List Value). ActsAlong d r peer next (AreMoves calls) (line_after line new l later)) joined then_is in (
         next,
         (old, mid, is, move, one, coming ∙ append_assoc (units_taken call) (flat_map units_taken calls) later, refl),
         after,
@@ -106,7 +106,8 @@ module _ (r peer : ℕ) (s new : State) (link mid : Standing) (front : List Move
       let along = moves_join front (map give_out (all_given mid)) link mid (pumped mid) f.along (drained_moves mid) in
       let short = short_join front (map give_out (all_given mid)) f.short (given_short (all_given mid)) in
       let come = coming ∙ ap (λ (l : List Value). l ++ later) (sym (front_takes link mid front units f)) in
-      subst (λ (l : List Value). ActsAlong d r peer line (AreMoves (calls_after front mid)) (line_after line (pumped mid) (line.put ++ l) later))
+      subst (λ (l : List Value). ActsAlong d r peer line (AreMoves (calls_after front mid)) (line_after line (pumped mid)
+      (line.put ++ l) later))
       (front_puts peer link mid front units f)
       (moves_along d r peer (calls_after front mid) link (pumped mid) along short line later is come)
 
@@ -155,21 +156,20 @@ closes_follows r peer reason units s new link here there outgoing = record {
   acts = closes reason units ∷ [];
   units = disconnect peer r reason [] ∷ [];
   outgoing = outgoing;
-  along = λ d line later is coming.
-      (
-        record line {
-          link = link_now (value_at r new.live);
-          put = line.put ++ disconnect peer r reason [] ∷ [];
-          coming = later;
-        },
-        (
-          link,
-          is ∙ ap link_now here,
-          coming,
-          ap (λ (o : Option Standing). record line { link = o; put = line.put ++ disconnect peer r reason [] ∷ []; coming = later }) there,
-        ),
-        refl,
-      );
+  along = λ d line later is coming. (
+    record line {
+      link = link_now (value_at r new.live);
+      put = line.put ++ disconnect peer r reason [] ∷ [];
+      coming = later;
+    },
+    (
+      link,
+      is ∙ ap link_now here,
+      coming,
+      ap (λ (o : Option Standing). record line { link = o; put = line.put ++ disconnect peer r reason [] ∷ []; coming = later }) there,
+    ),
+    refl,
+  );
 }
 
 pub follows_closed : (r peer reason : ℕ) (s : State) (link : Standing) → open_link r s ≡ Some (peer, link) → s.class ≡ Some Two →
@@ -191,7 +191,8 @@ hands_of (tsdu ∷ tsdus) = hand_out tsdu ∷ []
 abbrev with_whole : Standing → List (List ℕ) → Standing
 with_whole link whole = record link { ends = record link.ends { joining = record link.ends.joining { whole = whole } } }
 
-hands_along : (link : Standing) (whole : List (List ℕ)) → link.ends.joining.whole ≡ whole → MovesAlong link (hands_of whole) (handed_out link)
+hands_along : (link : Standing) (whole : List (List ℕ)) → link.ends.joining.whole ≡ whole →
+    MovesAlong link (hands_of whole) (handed_out link)
 hands_along link [] e =
     let none : drop 1 link.ends.joining.whole ≡ link.ends.joining.whole = ap (λ (l : List (List ℕ)). drop 1 l) e ∙ sym e in
     ap (with_whole link) none
@@ -211,7 +212,8 @@ module _ (r peer : ℕ) (s : State) (link : Standing) (here : value_at r s.live 
   follows_taking : (unit : Value) (result : Result Standing LinkFault) → taken link unit ≡ result →
       Follows r peer (unit ∷ []) s (taking r peer result s)
   follows_taking unit (Ok after) e =
-      follows_pump r peer s (taking r peer (Ok after) s) link (handed_out after) (take_in unit ∷ hands_of after.ends.joining.whole) (unit ∷ [])
+      follows_pump r peer s (taking r peer (Ok after) s) link (handed_out after) (take_in unit
+      ∷ hands_of after.ends.joining.whole) (unit ∷ [])
       (hands_front link after unit after.ends.joining.whole refl e) here
       (put_here r (linked peer (pumped (handed_out after))) (linked peer link) s.live here) refl
   follows_taking unit (Err fault) e =
@@ -229,22 +231,26 @@ module _ (r peer : ℕ) (s : State) (link : Standing) (here : value_at r s.live 
         acts = answers (disconnect destination source reason user) ∷ [];
         units = disconnected peer r ∷ [];
         outgoing = refl;
-        along = λ d line later is coming.
-            (
-              record line {
-                link = link_now (value_at r (leaves r peer reason (Some Two) s).live);
-                put = line.put ++ disconnected peer r ∷ [];
-                coming = later;
-              },
-              (
-                link,
-                is ∙ ap link_now here,
-                (destination, source, reason, user, refl),
-                coming,
-                ap (λ (o : Option Standing). record line { link = o; put = line.put ++ disconnected peer r ∷ []; coming = later }) (ap link_now gone),
-              ),
-              refl,
-            );
+        along = λ d line later is coming. (
+          record line {
+            link = link_now (value_at r (leaves r peer reason (Some Two) s).live);
+            put = line.put ++ disconnected peer r ∷ [];
+            coming = later;
+          },
+          (
+            link,
+            is ∙ ap link_now here,
+            (destination, source, reason, user, refl),
+            coming,
+            ap (λ (o : Option Standing). record line {
+              link = o;
+              put = line.put ++ disconnected peer r
+                  ∷ [];
+              coming = later;
+            }) (ap link_now gone),
+          ),
+          refl,
+        );
       })
 
   follows_linked : (unit : Value) → RiseFrom 0 s.live → Follows r peer (unit ∷ []) s (to_linked r peer link unit s)
@@ -262,23 +268,23 @@ module _ (r peer : ℕ) (s : State) (link : Standing) (here : value_at r s.live 
 
 -- ---- a unit for a connection that is closing
 
-ignores_follows : (r peer : ℕ) (unit : Value) (s new : State) → link_now (value_at r s.live) ≡ None → link_now (value_at r new.live) ≡ None →
+ignores_follows : (r peer : ℕ) (unit : Value) (s new : State) → link_now (value_at r s.live) ≡ None →
+    link_now (value_at r new.live) ≡ None →
     new.outgoing ≡ s.outgoing → Follows r peer (unit ∷ []) s new
 ignores_follows r peer unit s new before after outgoing = record {
   acts = ignores (unit ∷ []) ∷ [];
   units = [];
   outgoing = outgoing ∙ sym (append-nil s.outgoing);
-  along = λ d line later is coming.
-      (
-        record line { link = link_now (value_at r new.live); put = line.put ++ []; coming = later },
-        (
-          is ∙ before,
-          coming,
-          ap (λ (o : Option Standing). record line { link = o; put = line.put ++ []; coming = later }) (after ∙ sym (is ∙ before))
-              ∙ ap (λ (l : List Value). record line { put = l; coming = later }) (append-nil line.put),
-        ),
-        refl,
-      );
+  along = λ d line later is coming. (
+    record line { link = link_now (value_at r new.live); put = line.put ++ []; coming = later },
+    (
+      is ∙ before,
+      coming,
+      ap (λ (o : Option Standing). record line { link = o; put = line.put ++ []; coming = later }) (after ∙ sym (is ∙ before))
+          ∙ ap (λ (l : List Value). record line { put = l; coming = later }) (append-nil line.put),
+    ),
+    refl,
+  );
 }
 
 follows_closing : (r peer : ℕ) (unit : Value) (s : State) → value_at r s.live ≡ Some (closing peer) → RiseFrom 0 s.live →
@@ -305,7 +311,8 @@ follows_closing r peer (error destination cause) s here rise =
 to_same : (n r : ℕ) (unit : Value) (s : State) → Some n ≡ Some r → to_reference n unit s ≡ to_reference r unit s
 to_same n r unit s e = let same : n ≡ r = cc in ap (λ (m : ℕ). to_reference m unit s) same
 
-two_is : (is_caller : Bool) (unit : Value) (s : State) (r : ℕ) → destination_of unit ≡ Some r → in_two is_caller unit s ≡ to_reference r unit s
+two_is : (is_caller : Bool) (unit : Value) (s : State) (r : ℕ) → destination_of unit ≡ Some r →
+    in_two is_caller unit s ≡ to_reference r unit s
 two_is true (request c) s r e = cc
 two_is true (data0 end user) s r e = cc
 two_is true (confirm destination c) s r e = to_same destination r (confirm destination c) s e

@@ -1,6 +1,7 @@
 -- A reference names one connection at most of those that are judged, whatever passes.
 -- For the law of that name. By the way that a unit takes, as in a_unit_is_an_act_of_its_line.
-use Rattle.std.proofs.Common.{◌≡◌, ◌∙◌, ℕ, Bool, true, false, List, [], ◌∷◌, ◌++◌, refl, sym, ap, subst, Option, Some, None, inl, inr, ◌⊎◌}
+use Rattle.std.proofs.Common.{◌≡◌, ◌∙◌, ℕ, Bool, true, false, List, [], ◌∷◌, refl, sym, ap, subst, Option, Some, None, inl}
+use Rattle.std.proofs.Common.{inr}
 use Rattle.std.proofs.Common.{if◌then◌else◌}
 use Rattle.std.specs.Prelude.{◌&&◌, ◌||◌, ◌==◌, ◌^◌, nat_le, not, option_map, position, slice_get, slice_set}
 use Rattle.std.specs.List.{list_any}
@@ -23,15 +24,18 @@ use Rattle.osi_rules.specs.declared.routes.Route.{Route}
 use Rattle.osi_rules.specs.declared.routes.Route.TheVariants.{Asks, Named, Only, Unnamed}
 use Rattle.osi_rules.specs.Reaches.{is_applied, reach_of}
 use Rattle.osi_rules.specs.Rows.{first_failed, is_due, is_inside, is_offered, code_named}
-use Rattle.osi_rules.specs.Sides.{is_closed, is_closing, is_free, is_live, is_named, is_open, is_over, is_over_by, is_refused, is_silent, own, seen, uses}
+use Rattle.osi_rules.specs.Sides.{is_closed, is_closing, is_free, is_live, is_named, is_open, is_over, is_over_by, is_refused}
+use Rattle.osi_rules.specs.Sides.{is_silent, seen, uses}
 use Rattle.osi_rules.specs.Traffic.{Outcome, State, asked_by, asks_by, asks_kept, asks_of, at_found, at_place, class_for, closing_phase}
-use Rattle.osi_rules.specs.Traffic.{connection_after, found, found_on, fresh, half_after, is_stopped, judged_on, none_told, one_told, request_tests}
-use Rattle.osi_rules.specs.Traffic.{route, routed, sent_on, silent_half, takes, unnamed_told, uses_source}
+use Rattle.osi_rules.specs.Traffic.{connection_after, found, found_on, fresh, half_after, is_stopped, judged_on, none_told}
+use Rattle.osi_rules.specs.Traffic.{request_tests}
+use Rattle.osi_rules.specs.Traffic.{route, routed, sent_on, silent_half, uses_source}
 use Rattle.osi_fair.specs.Naming.{HoldsOfOne, Passing, all_passed, packet, passes, rubbish, unit}
 use Rattle.osi_fair.proofs.what_is_right_passes_each_test.{passes_each}
 use Rattle.osi_fair.proofs.what_holds_of_one_item.{first_true, none_true}
-use Rattle.osi_fair.proofs.when_a_connection_has_a_name.{HalfMoves, IsEarlier, earlier_same}
-use Rattle.osi_fair.proofs.what_keeps_names_apart.{AreApart, IsNew, Lessens, Sound, apart_add, apart_begins, apart_opens, apart_put, apart_set}
+use Rattle.osi_fair.proofs.when_a_connection_has_a_name.{HalfMoves, earlier_same}
+use Rattle.osi_fair.proofs.what_keeps_names_apart.{AreApart, IsNew, Lessens, Sound, apart_add, apart_begins, apart_opens, apart_put}
+use Rattle.osi_fair.proofs.what_keeps_names_apart.{apart_set}
 use Rattle.osi_fair.proofs.what_keeps_names_apart.{left_lessens, lessens_on, right_lessens, same_lessens}
 
 -- ---- what a side has sent after a unit that has its effect
@@ -126,7 +130,8 @@ form_test : (b : Bool) → is_applied (first_failed ((b, Broke rule.WrongForm) �
 form_test true h = refl
 form_test false h = cc
 
-due_test : (due strays : Bool) → is_applied (first_failed ((due || not strays, NotJudged) ∷ (due, Broke rule.NothingToAnswer) ∷ [])) ≡ true →
+due_test : (due strays : Bool) →
+    is_applied (first_failed ((due || not strays, NotJudged) ∷ (due, Broke rule.NothingToAnswer) ∷ [])) ≡ true →
     due ≡ true
 due_test true strays h = refl
 due_test false true h = cc
@@ -135,7 +140,8 @@ due_test false false h = cc
 confirm_test : (a b i u z : Bool) →
     is_applied (first_failed ((a, Broke rule.WrongForm) ∷ (b, Broke rule.BadAnswer) ∷ (i, Outside) ∷ (u, Broke rule.ReferenceInUse)
     ∷ (z, Broke rule.LargerSize) ∷ [])) ≡ true →
-    (a ≡ true) × (u ≡ true) × ((k : Option Class) → reach_of k (first_failed ((a, Broke rule.WrongForm) ∷ (b, Broke rule.BadAnswer) ∷ (i, Outside)
+    (a ≡ true) × (u ≡ true) × ((k : Option Class) →
+    reach_of k (first_failed ((a, Broke rule.WrongForm) ∷ (b, Broke rule.BadAnswer) ∷ (i, Outside)
     ∷ (u, Broke rule.ReferenceInUse) ∷ (z, Broke rule.LargerSize) ∷ [])) ≡ reach.Nothing)
 confirm_test false b i u z h = cc
 confirm_test true false i u z h = cc
@@ -201,10 +207,12 @@ not_true true h = cc
 not_true false h = refl
 
 -- a CC
-right_opens : (s : State) (c : Connection) (destination : ℕ) (x : Connect) (p : ℕ) → AreApart s.connections → slice_get s.connections p ≡ Some c →
+right_opens : (s : State) (c : Connection) (destination : ℕ) (x : Connect) (p : ℕ) → AreApart s.connections →
+    slice_get s.connections p ≡ Some c →
     Sound c → is_over_by c.right c.seen_by_right ≡ false → (r : Reach) →
     is_applied (found Right s.course (uses_source Right s.connections (confirm destination x)) c (confirm destination x)) ≡ true →
-    reach_of (class_for Right s.course) (found Right s.course (uses_source Right s.connections (confirm destination x)) c (confirm destination x)) ≡ r →
+    reach_of (class_for Right s.course)
+    (found Right s.course (uses_source Right s.connections (confirm destination x)) c (confirm destination x)) ≡ r →
     AreApart (slice_set s.connections p (judged_on r (sent_on Right (confirm destination x) c)))
 right_opens s c destination x p a at sound live r h is =
     let in_use = list_any (λ e. uses Right x.source e) s.connections in
@@ -220,7 +228,8 @@ right_opens s c destination x p a at sound live r h is =
     subst (λ (m : ℕ). uses Right m e ≡ false) (eqb-true x.source n same)
     (none_true (λ (z : Connection). uses Right x.source z) s.connections i e none there)))
 
-right_sent : (v : Value) (s : State) (c : Connection) (p : ℕ) → AreApart s.connections → slice_get s.connections p ≡ Some c → c.is_judged ≡ true →
+right_sent : (v : Value) (s : State) (c : Connection) (p : ℕ) → AreApart s.connections → slice_get s.connections p ≡ Some c →
+    c.is_judged ≡ true →
     Sound c → is_over_by c.right c.seen_by_right ≡ false → (r : Reach) →
     is_applied (found Right s.course (uses_source Right s.connections v) c v) ≡ true →
     reach_of (class_for Right s.course) (found Right s.course (uses_source Right s.connections v) c v) ≡ r →
@@ -264,7 +273,8 @@ not_over : (j over : Bool) → j ≡ true → (j && over) ≡ false → over ≡
 not_over true over h k = k
 not_over false over h k = cc
 
-applied_apart : (d : Direction) (v : Value) (s : State) (p : ℕ) (c : Connection) → AreApart s.connections → slice_get s.connections p ≡ Some c →
+applied_apart : (d : Direction) (v : Value) (s : State) (p : ℕ) (c : Connection) → AreApart s.connections →
+    slice_get s.connections p ≡ Some c →
     is_over d c ≡ false → is_applied (found_on d s c v) ≡ true →
     AreApart (slice_set s.connections p (judged_on (reach_of (class_for d s.course) (found_on d s c v)) (sent_on d v c)))
 applied_apart Left v s p c a at live h =
@@ -328,12 +338,14 @@ asked_new cs c none = record {
   named_right = λ n h. absurd (cc h);
 }
 
-placed_apart : (c : Connect) (s : State) (p : Option ℕ) → list_any (λ e. uses Left c.source e) s.connections ≡ false → AreApart s.connections →
+placed_apart : (c : Connect) (s : State) (p : Option ℕ) → list_any (λ e. uses Left c.source e) s.connections ≡ false →
+    AreApart s.connections →
     Apart (asks_kept c s p)
 placed_apart c s (Some p) none a = apart_put s.connections p (asked_by c) a (asked_new s.connections c none)
 placed_apart c s None none a = apart_add s.connections (asked_by c) a (asked_new s.connections c none)
 
-asking : (d : Direction) (f : Finding) (c : Connect) (s : State) → first_failed (request_tests s c) ≡ f → AreApart s.connections → Apart (asks_by d f c s)
+asking : (d : Direction) (f : Finding) (c : Connect) (s : State) → first_failed (request_tests s c) ≡ f → AreApart s.connections →
+    Apart (asks_by d f c s)
 asking d Kept c s e a =
     let t = passes_each (request_tests s c) refl e in
     placed_apart c s (position is_free s.connections) (not_true (list_any (λ e. uses Left c.source e) s.connections) t.1.1.0) a

@@ -1,21 +1,19 @@
 -- Of a unit in class 2 that names a connection the rules of transport find what the line of that connection says.
 -- For the law of that name.
-use Rattle.std.proofs.Common.{◌≡◌, ◌∙◌, ℕ, zero, suc, Bool, true, false, List, [], ◌∷◌, refl, sym, ap, subst}
-use Rattle.std.proofs.Common.{Option, Some, None, if◌then◌else◌}
-use Rattle.std.specs.Prelude.{map, option_map, position, slice_get, slice_set}
+use Rattle.std.proofs.Common.{◌≡◌, ◌∙◌, ℕ, zero, suc, Bool, List, [], ◌∷◌, refl, ap}
+use Rattle.std.proofs.Common.{Option, Some, if◌then◌else◌}
+use Rattle.std.specs.Prelude.{map, option_map, slice_get, slice_set}
 use Rattle.osi_tpdu.specs.Value.{Value, request, confirm, disconnect, disconnected, data0, data2, acknowledge, error, destination_of}
 use Rattle.osi_class.specs.declared.terms.Class.{Class}
-use Rattle.osi_class.specs.declared.terms.Class.TheVariants.{Two}
 use Rattle.osi_rules.specs.declared.connections.Connection.{Connection}
 use Rattle.osi_rules.specs.declared.directions.Direction.{Direction}
 use Rattle.osi_rules.specs.declared.directions.Direction.TheVariants.{Left, Right}
-use Rattle.osi_rules.specs.declared.findings.Finding.{Finding}
 use Rattle.osi_rules.specs.declared.findings.Finding.TheVariants.{NotJudged}
 use Rattle.osi_rules.specs.declared.routes.Route.{Route}
 use Rattle.osi_rules.specs.declared.routes.Route.TheVariants.{Named}
 use Rattle.osi_rules.specs.Reaches.{is_applied, reach_of}
-use Rattle.osi_rules.specs.Sides.{begins, is_named, other}
-use Rattle.osi_rules.specs.Traffic.{Outcome, State, at_found, at_place, class_for, connection_after, is_stopped, none_told, one_told}
+use Rattle.osi_rules.specs.Sides.{begins, other}
+use Rattle.osi_rules.specs.Traffic.{Outcome, State, at_found, at_place, connection_after, is_stopped, none_told, one_told}
 use Rattle.osi_rules.specs.Traffic.{packet_begins, route, route_in, route_two, routed, takes, uses_source}
 use Rattle.osi_fair.specs.Following.{IsAtPlace}
 use Rattle.osi_fair.specs.Lines.{after_finding, finding_of}
@@ -41,7 +39,8 @@ route_is Right (data2 destination number end user) n e = same_name destination n
 route_is Right (acknowledge credit destination number) n e = same_name destination n e
 route_is Right (error destination cause) n e = same_name destination n e
 
-module _ (d : Direction) (v : Value) (s : State) (n place : ℕ) (c : Connection) (at : IsAtPlace d s n place c) (named : destination_of v ≡ Some n) where
+module _ (d : Direction) (v : Value) (s : State) (n place : ℕ) (c : Connection) (at : IsAtPlace d s n place c)
+    (named : destination_of v ≡ Some n) where
   takes_is : takes d v s ≡ one_told d place c v s
   takes_is =
       ap (λ (b : Bool). if b then none_told d NotJudged s else routed d v s (route d s.course v)) at.judged

@@ -20,11 +20,13 @@ use Rattle.osi_rules.specs.Reaches.{is_applied, reach_of}
 use Rattle.osi_rules.specs.Sides.{other, is_open}
 use Rattle.osi_rules.specs.Traffic.{found, sent_on, judged_on, connection_after}
 use Rattle.osi_fair.specs.Lines.{begins_elsewhere}
-use Rattle.osi_fair.specs.Lines.{Line, Act, moves, closes, ignores, answers, begins_own, passes_own, begins_other, passes_other, Acts, ActsAlong}
+use Rattle.osi_fair.specs.Lines.{Line, Act, moves, closes, ignores, answers, begins_own, passes_own, begins_other, passes_other}
+use Rattle.osi_fair.specs.Lines.{Acts, ActsAlong}
 use Rattle.osi_fair.specs.Lines.{IsFair, IsOpened, IsRightNow, finding_of, after_finding}
 use Rattle.osi_fair.proofs.what_holds_of_a_line.{Holds, PutsAt, TakesAt, Tally, is_there}
 use Rattle.osi_fair.proofs.what_an_end_does_to_a_line.{moves_hold, closes_hold, ignores_hold, answers_hold}
-use Rattle.osi_fair.proofs.what_passes_of_an_end.{begins_own_holds, begins_other_holds, elsewhere_holds, first_is, is_kept, passes_own_holds}
+use Rattle.osi_fair.proofs.what_passes_of_an_end.{begins_own_holds, begins_other_holds, elsewhere_holds, first_is, is_kept}
+use Rattle.osi_fair.proofs.what_passes_of_an_end.{passes_own_holds}
 use Rattle.osi_fair.proofs.what_each_unit_of_the_other_side_does.{passes_other_holds}
 
 -- ---- a connection that is judged was judged before
@@ -107,6 +109,7 @@ fits_most (Some most) size h k = omega arith
 opened_holds : (r peer : ℕ) (line : Line) → IsOpened Left r peer line → Holds peer line
 opened_holds r peer line o =
     let two = fresh_two o.size o.window o.credit in
+    let begun_link = two_standing two.ends two.flow in
     let x : Tally = record { sent = 0; passed = 0; acked = 0; shown = 0; came = 0; heard = 0; edge = o.credit; window = o.window } in
     let live : is_open line.tap.left.phase ≡ true = ap (λ (h : Half). is_open h.phase) o.sent in
     let open_there : is_open line.tap.right.phase ≡ true = ap (λ (h : Half). is_open h.phase) o.came in
@@ -139,10 +142,10 @@ opened_holds r peer line o =
         fits = fits_most line.tap.size o.size o.least o.most;
       };
       puts = subst (λ (l : Option Standing). PutsAt peer (o.size - 5) x line.tap.left line.tap.right line.put l) (sym o.link)
-          (subst (λ (l : List Value). PutsAt peer (o.size - 5) x line.tap.left line.tap.right l (Some (two_standing two.ends two.flow))) (sym o.put)
+          (subst (λ (l : List Value). PutsAt peer (o.size - 5) x line.tap.left line.tap.right l (Some begun_link)) (sym o.put)
           ((refl, ap (λ (h : Half). h.begun) o.sent), live));
       takes = subst (λ (l : Option Standing). TakesAt (o.size - 5) x line.tap.right line.coming l) (sym o.link)
-          (subst (λ (l : List Value). TakesAt (o.size - 5) x line.tap.right l (Some (two_standing two.ends two.flow))) (sym o.coming)
+          (subst (λ (l : List Value). TakesAt (o.size - 5) x line.tap.right l (Some begun_link)) (sym o.coming)
           (record {
             flow = two.flow;
             taken = 0;
@@ -203,7 +206,8 @@ after_turned : (d : Direction) (v : Value) (a : Bool) (r : Reach) (c : Connectio
 after_turned d v true r c = on_turned r (sent_on d v c) ∙ ap (λ (x : Connection). judged_on r x) (sent_turned d v c)
 after_turned d v false r c = on_turned r c
 
-finding_turned : (d : Direction) (f : Finding) (v : Value) (c : Connection) → turned (after_finding d f v c) ≡ after_finding (other d) f v (turned c)
+finding_turned : (d : Direction) (f : Finding) (v : Value) (c : Connection) →
+    turned (after_finding d f v c) ≡ after_finding (other d) f v (turned c)
 finding_turned d f v c = after_turned d v (is_applied f) (reach_of (Some Two) f) c
 
 -- what is found of this side's units but a CC, of which nothing is claimed here
@@ -237,7 +241,8 @@ found_other course in_use c (acknowledge credit destination number) = inl refl
 found_other course in_use c (error destination cause) = inl refl
 
 own_turned : (r peer : ℕ) (course : Course) (in_use : Bool) (old new : Line) → Acts Right r peer (passes_own course in_use) old new →
-    old.tap.is_judged ≡ true → Holds peer (turned_line old) → Acts Left r peer (passes_own course in_use) (turned_line old) (turned_line new)
+    old.tap.is_judged ≡ true → Holds peer (turned_line old) →
+    Acts Left r peer (passes_own course in_use) (turned_line old) (turned_line new)
 own_turned r peer course in_use old new (unit, first, begun, new_is) was h =
     let right = first_is (turned old.tap) old.put new.put unit first (h.under_way begun) in
     let here : finding_of Right course in_use old.tap unit ≡ Kept =
@@ -256,7 +261,8 @@ own_turned r peer course in_use old new (unit, first, begun, new_is) was h =
     )
 
 other_turned : (r peer : ℕ) (course : Course) (in_use : Bool) (unit : Value) (old new : Line) →
-    Acts Right r peer (passes_other course in_use unit) old new → found Left course in_use old.tap unit ≡ found Right course in_use (turned old.tap) unit →
+    Acts Right r peer (passes_other course in_use unit) old new →
+    found Left course in_use old.tap unit ≡ found Right course in_use (turned old.tap) unit →
     Acts Left r peer (passes_other course in_use unit) (turned_line old) (turned_line new)
 other_turned r peer course in_use unit old new (range, named, some, new_is) e =
     let same : finding_of Left course in_use old.tap unit ≡ finding_of Right course in_use (turned old.tap) unit =
@@ -290,7 +296,8 @@ other_keeps r peer course in_use unit old new (range, named, some, new_is) h (in
     let no = not_judged old.tap unit (finding_of Left course in_use old.tap unit) wrong in
     absurd (cc)
 
-act_turned : (r peer : ℕ) (act : Act) (old new : Line) → Acts Right r peer act old new → Keeps peer (turned_line old) → Keeps peer (turned_line new)
+act_turned : (r peer : ℕ) (act : Act) (old new : Line) → Acts Right r peer act old new → Keeps peer (turned_line old) →
+    Keeps peer (turned_line new)
 act_turned r peer (moves move) old new (link, after, is, e, short, coming, new_is) h judged =
     act_keeps r peer (moves move) (turned_line old) (turned_line new) (link, after, is, e, short, coming, ap turned_line new_is) h judged
 act_turned r peer (closes reason units) old new (link, is, coming, new_is) h judged =

@@ -1,13 +1,14 @@
 -- A CC of a called end is right, and after a CC of class 2 the connection is open as a line begins.
 -- For the law of that name.
-use Rattle.std.proofs.Common.{◌≡◌, ◌∙◌, ℕ, ◌^◌, ◌<◌, ◌≤◌, Bool, true, false, List, [], ◌∷◌, arith, refl, sym, ap, subst}
+use Rattle.std.proofs.Common.{◌≡◌, ◌∙◌, ℕ, ◌^◌, ◌≤◌, Bool, true, false, List, arith, refl, ap, subst}
 use Rattle.std.proofs.Common.{Option, Some, None, IfSome, option_map, if◌then◌else◌}
-use Rattle.std.specs.Prelude.{not, ◌&&◌, ◌||◌, ◌==◌, min, nat_le, is_none}
+use Rattle.std.specs.Prelude.{◌&&◌, ◌||◌, ◌==◌, min, nat_le, is_none}
 use Rattle.std.proofs.Math.Nat.{pow-le-pow_right}
 use Rattle.std.proofs.lemmas.Bool.{le-leb}
 use Rattle.osi_tpdu.specs.Limits.{size_code, window_units}
 use Rattle.osi_tpdu.specs.Value.{Connect, IsConnect, confirm}
-use Rattle.osi_class.specs.Negotiation.{Selection, accept, refuse, keeps_flow_control, proposes, proposes_zero_alone, selected_by, selected_size}
+use Rattle.osi_class.specs.Negotiation.{accept, refuse, keeps_flow_control, proposes, proposes_zero_alone, selected_by}
+use Rattle.osi_class.specs.Negotiation.{selected_size}
 use Rattle.osi_class.specs.declared.terms.Class.{Class}
 use Rattle.osi_class.specs.declared.terms.Class.TheVariants.{Two, Zero}
 use Rattle.osi_class.specs.declared.terms.Local.{Local}
@@ -19,7 +20,7 @@ use Rattle.osi_rules.specs.declared.directions.Direction.TheVariants.{Left, Righ
 use Rattle.osi_rules.specs.declared.findings.Finding.TheVariants.{Kept}
 use Rattle.osi_rules.specs.declared.halves.Half.{Half}
 use Rattle.osi_rules.specs.declared.halves.Phase.TheVariants.{Open}
-use Rattle.osi_rules.specs.Rows.{code_named, confirm_tests, is_offered, offers_two, offers_zero}
+use Rattle.osi_rules.specs.Rows.{code_named, confirm_tests}
 use Rattle.osi_rules.specs.Sides.{is_silent}
 use Rattle.osi_rules.specs.Traffic.{asked_by, found, offer_of, sent_on, silent_half}
 use Rattle.osi_fair.specs.Lines.{IsOpened, opened_half, opened_line}
@@ -89,14 +90,20 @@ size_right c local size offer e same =
     ∙ subst (λ (o : Option ℕ). nat_le (code_named o) (code_named c.parameters.size) ≡ true) same
     (no_larger c.parameters.size (size_code local.size))
 
-pub two_right : (local : Local) (c : Connect) (size : Option ℕ) (r : ℕ) (t : Connection) (course : Course) → selected_by c local ≡ accept Two size →
+pub two_right : (local : Local) (c : Connect) (size : Option ℕ) (r : ℕ) (t : Connection) (course : Course) →
+    selected_by c local ≡ accept Two size →
     t.offer ≡ offer_of c → t.right ≡ silent_half → found Right course false t (confirm c.source (acceptance Two size c local r)) ≡ Kept
 two_right local c size r t course e offer silent =
     let (proposed, same) = two_selected c local size e in
-    let two : t.offer.class2 ≡ true = ap (λ (o : Offer). o.class2) offer ∙ or_left (proposes c 2) ((c.class == 3) || (c.class == 4)) proposed in
-    is_right (confirm_tests t course.class false (acceptance Two size c local r))
-    (ap (λ (h : Half). is_silent h.phase) silent, (both_with_true t.offer.class2 t.offer.expedited two,
-    (refl, (refl, (size_right c local size t.offer offer same, tt)))))
+    let two : t.offer.class2 ≡ true = ap (λ (o : Offer). o.class2) offer
+    ∙ or_left (proposes c 2) ((c.class == 3) || (c.class == 4)) proposed in
+    is_right (confirm_tests t course.class false (acceptance Two size c local r)) (
+      ap (λ (h : Half). is_silent h.phase) silent,
+      (
+        both_with_true t.offer.class2 t.offer.expedited two,
+        (refl, (refl, (size_right c local size t.offer offer same, tt))),
+      ),
+    )
 
 pub zero_right : (local : Local) (c : Connect) (size : Option ℕ) (r : ℕ) (t : Connection) (course : Course) →
     selected_by c local ≡ accept Zero size → t.offer ≡ offer_of c → t.right ≡ silent_half → course.class ≡ None →
@@ -104,10 +111,13 @@ pub zero_right : (local : Local) (c : Connect) (size : Option ℕ) (r : ℕ) (t 
 zero_right local c size r t course e offer silent none =
     let (proposed, same) = zero_selected c local size e in
     let zero : t.offer.class0 ≡ true = ap (λ (o : Offer). o.class0) offer ∙ or_left (proposes c 0) (c.class == 1) proposed in
-    is_right (confirm_tests t course.class false (acceptance Zero size c local r))
-    (ap (λ (h : Half). is_silent h.phase) silent,
-    (both t.offer.class0 (is_none course.class) zero (ap (λ (o : Option Class). is_none o) none),
-    (refl, (refl, (size_right c local size t.offer offer same, tt)))))
+    is_right (confirm_tests t course.class false (acceptance Zero size c local r)) (
+      ap (λ (h : Half). is_silent h.phase) silent,
+      (
+        both t.offer.class0 (is_none course.class) zero (ap (λ (o : Option Class). is_none o) none),
+        (refl, (refl, (size_right c local size t.offer offer same, tt))),
+      ),
+    )
 
 -- ---- sizes
 
@@ -115,11 +125,13 @@ at_least_five : (o : Option ℕ) → IfSome o (λ code. 7 ≤ code) → 5 ≤ un
 at_least_five None h = omega arith
 at_least_five (Some code) h = let p : 2 ^ 7 ≤ 2 ^ code = pow-le-pow_right {n = 2} (omega arith) h in omega arith
 
-lowered : (o : Option ℕ) (n : ℕ) → IfSome o (λ code. (7 ≤ code) × (code ≤ 13)) → 7 ≤ n → IfSome (option_map (λ code. min code n) o) (λ code. 7 ≤ code)
+lowered : (o : Option ℕ) (n : ℕ) → IfSome o (λ code. (7 ≤ code) × (code ≤ 13)) → 7 ≤ n →
+    IfSome (option_map (λ code. min code n) o) (λ code. 7 ≤ code)
 lowered None n h k = tt
 lowered (Some code) n h k = omega arith
 
-within_size : (o : Option ℕ) (n : ℕ) → IfSome (option_map (λ code. 2 ^ code) o) (λ most. unit_octets (option_map (λ code. min code n) o) ≤ most)
+within_size : (o : Option ℕ) (n : ℕ) →
+    IfSome (option_map (λ code. 2 ^ code) o) (λ most. unit_octets (option_map (λ code. min code n) o) ≤ most)
 within_size None n = tt
 within_size (Some code) n = pow-le-pow_right {n = 2} (omega arith) (omega arith)
 
@@ -132,7 +144,8 @@ at_size (Some code) = omega arith
 abbrev answered : (r credit : ℕ) → Half → Half
 answered r credit half = record half { phase = Open; reference = r; credit = credit }
 
-pub called_opens : (local : Local) (c : Connect) (size : Option ℕ) (r : ℕ) (t : Connection) → IsConnect c → selected_by c local ≡ accept Two size →
+pub called_opens : (local : Local) (c : Connect) (size : Option ℕ) (r : ℕ) (t : Connection) → IsConnect c →
+    selected_by c local ≡ accept Two size →
     t.left ≡ opened_half c.source c.credit → t.right ≡ silent_half → t.seen_by_left.next ≡ 0 →
     IsOpened Right r c.source
     (opened_line (opened_link Two size local c.credit) (sent_on Right (confirm c.source (acceptance Two size c local r)) t))
@@ -152,11 +165,13 @@ called_opens local c size r t range e left right noted =
       noted = noted;
       most = at_size size;
       least = subst (λ (o : Option ℕ). 5 ≤ unit_octets o) same
-          (at_least_five (selected_size c local) (lowered c.parameters.size (size_code local.size) range.parameters.size local.size.at_least));
+          (at_least_five (selected_size c local)
+          (lowered c.parameters.size (size_code local.size) range.parameters.size local.size.at_least));
       some = omega arith;
     }
 
-pub calling_opens : (local : Local) (c : Connect) (r : ℕ) (t : Connection) → IsConnect c → t.left ≡ opened_half r (window_units local.window) →
+pub calling_opens : (local : Local) (c : Connect) (r : ℕ) (t : Connection) → IsConnect c →
+    t.left ≡ opened_half r (window_units local.window) →
     t.right ≡ silent_half → t.seen_by_right.next ≡ 0 →
     IsOpened Left r c.source
     (opened_line (opened_link Two (agreed_size c.parameters.size local) local c.credit) (sent_on Right (confirm r c) t))

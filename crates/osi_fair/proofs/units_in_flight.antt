@@ -150,7 +150,8 @@ comes_more s t more m base taken known [] (a, b, c) = base taken known a b c
 comes_more s t more m base taken known (data2 destination number end user ∷ units) h = comes_more s t more m base (taken + 1) known units h
 comes_more s t more m base taken known (acknowledge credit destination number ∷ units) (count, a, b, c, d, f) =
     (count, a, b, c, omega arith, comes_more s t more m base taken count units f)
-comes_more s t more m base taken known (disconnect destination source reason user ∷ units) (a, b, c) = (omega arith, omega arith, m.closing c)
+comes_more s t more m base taken known (disconnect destination source reason user
+    ∷ units) (a, b, c) = (omega arith, omega arith, m.closing c)
 comes_more s t more m base taken known (disconnected destination source ∷ units) (a, b) = (omega arith, omega arith)
 comes_more s t more m base taken known (request x ∷ units) (a, b) = (omega arith, omega arith)
 comes_more s t more m base taken known (confirm destination x ∷ units) (a, b) = (omega arith, omega arith)

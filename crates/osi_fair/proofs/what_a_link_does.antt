@@ -1,6 +1,7 @@
 -- What a call of a link of class 2 does to its numbers and to what it has still to send.
 -- For the laws on a line.
-use Rattle.std.proofs.Common.{◌≡◌, ◌∙◌, ℕ, ◌+◌, ◌-◌, ◌<◌, ◌≤◌, Bool, true, false, List, [], ◌∷◌, ◌++◌, length, take, drop, arith, refl, sym, ap}
+use Rattle.std.proofs.Common.{◌≡◌, ◌∙◌, ℕ, ◌+◌, ◌-◌, ◌<◌, ◌≤◌, Bool, true, false, List, [], ◌∷◌, ◌++◌, length, take, drop, arith}
+use Rattle.std.proofs.Common.{refl, sym, ap}
 use Rattle.std.proofs.Common.{Option, Some, None, Result, Ok, Err, IfSome, IfOk, nat_lt, if◌then◌else◌, length-take, length-drop}
 use Rattle.std.proofs.lemmas.Bool.{ltb-true, ltb-false}
 use Rattle.osi_tpdu.specs.Value.{Value, data2, acknowledge}
@@ -116,7 +117,14 @@ DoesTake e f (data2 destination number end octets) new = (new.flow ≡ Some (tak
 DoesTake e f (acknowledge credit destination number) new =
     (steps_before f.sender.next number ≤ f.sender.unacknowledged)
     × (f.sender.credit + steps_before f.sender.next number ≤ credit)
-    × (new.flow ≡ Some (record f { sender = record { next = f.sender.next; unacknowledged = steps_before f.sender.next number; credit = credit - steps_before f.sender.next number } }))
+    × (new.flow ≡ Some (record f {
+      sender = record {
+        next = f.sender.next;
+        unacknowledged = steps_before f.sender.next number;
+        credit =
+            credit - steps_before f.sender.next number;
+      };
+    }))
     × (new.ends ≡ e)
 DoesTake e f unit new = ⊥
 
@@ -135,7 +143,12 @@ takes_ack e f credit destination number =
     (DoesTake e f (acknowledge credit destination number))) [
       | true ↦ λ h. tt
       | false ↦ λ h. elim (nat_lt credit (f.sender.credit + left)) as (λ b. nat_lt credit (f.sender.credit + left) ≡ b →
-          IfOk (with_sender e f (if b then Err CreditReduced else Ok (record { next = f.sender.next; unacknowledged = left; credit = credit - left })))
+          IfOk (with_sender e f (if b then Err CreditReduced else Ok (record {
+            next = f.sender.next;
+            unacknowledged = left;
+            credit =
+                credit - left;
+          })))
           (DoesTake e f (acknowledge credit destination number))) [
             | true ↦ λ k. tt
             | false ↦ λ k. (ltb-false f.sender.unacknowledged left h, ltb-false credit (f.sender.credit + left) k, refl, refl)

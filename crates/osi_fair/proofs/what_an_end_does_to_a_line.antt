@@ -1,6 +1,7 @@
 -- What an end does keeps what holds of its line: a call of its link, and the close of the connection.
 -- For the laws on a line.
-use Rattle.std.proofs.Common.{◌≡◌, ◌∙◌, ℕ, ◌+◌, ◌-◌, ◌%◌, ◌≤◌, Bool, true, false, List, [], ◌∷◌, ◌++◌, length, arith, refl, sym, ap, subst}
+use Rattle.std.proofs.Common.{◌≡◌, ◌∙◌, ℕ, ◌+◌, ◌-◌, ◌%◌, ◌≤◌, Bool, true, false, List, [], ◌∷◌, ◌++◌, length, arith, refl, sym, ap}
+use Rattle.std.proofs.Common.{subst}
 use Rattle.std.proofs.Common.{Option, Some, None, Ok}
 use Rattle.osi_tpdu.specs.Value.{Value, request, confirm, disconnect, disconnected, data0, data2, acknowledge, error}
 use Rattle.osi_class.specs.Ends.{Ends}
@@ -261,7 +262,8 @@ module _ (peer limit : ℕ) (x : Tally) (noted : ℕ) (tap : Connection) (o : Or
       }
 
   hands_out : (put coming : List Value) (link after : Standing) (tsdu : List ℕ) → linked limit x tap.right coming link →
-      PutsAt peer limit x tap.left tap.right put (Some link) → Hands (Some tsdu) link after → Moved peer limit noted tap (put ++ []) coming after
+      PutsAt peer limit x tap.left tap.right put (Some link) → Hands (Some tsdu) link after →
+      Moved peer limit noted tap (put ++ []) coming after
   hands_out put coming link after tsdu h p e =
       let unsent : after.ends.unsent ≡ link.ends.unsent = ap (λ (s : Standing). s.ends.unsent) (sym e) in
       same_flow put coming link after h p (ap (λ (s : Standing). s.flow) (sym e)) (ap (λ (s : Standing). s.ends.limit) (sym e))
@@ -278,10 +280,12 @@ module _ (peer limit : ℕ) (x : Tally) (noted : ℕ) (tap : Connection) (o : Or
   -- ---- each call
 
   takes_any : (put coming : List Value) (link after : Standing) (unit : Value) → linked limit x tap.right (unit ∷ coming) link →
-      PutsAt peer limit x tap.left tap.right put (Some link) → taken link unit ≡ Ok after → Moved peer limit noted tap (put ++ []) coming after
+      PutsAt peer limit x tap.left tap.right put (Some link) → taken link unit ≡ Ok after →
+      Moved peer limit noted tap (put ++ []) coming after
   takes_any put coming link after (data2 destination number end octets) h p e =
       takes_data put coming link after destination number end octets h p e
-  takes_any put coming link after (acknowledge credit destination number) h p e = takes_ack put coming link after credit destination number h p e
+  takes_any put coming link after (acknowledge credit destination number) h p e =
+      takes_ack put coming link after credit destination number h p e
   takes_any put coming link after (request c) h p e = absurd (takes_so link after h.flow (request c) h.is e)
   takes_any put coming link after (confirm destination c) h p e = absurd (takes_so link after h.flow (confirm destination c) h.is e)
   takes_any put coming link after (disconnect destination source reason user) h p e =
@@ -291,13 +295,15 @@ module _ (peer limit : ℕ) (x : Tally) (noted : ℕ) (tap : Connection) (o : Or
   takes_any put coming link after (data0 end user) h p e = absurd (takes_so link after h.flow (data0 end user) h.is e)
   takes_any put coming link after (error destination cause) h p e = absurd (takes_so link after h.flow (error destination cause) h.is e)
 
-  call_moves : (move : Move) (put coming : List Value) (link after : Standing) → linked limit x tap.right (units_taken move ++ coming) link →
+  call_moves : (move : Move) (put coming : List Value) (link after : Standing) →
+      linked limit x tap.right (units_taken move ++ coming) link →
       PutsAt peer limit x tap.left tap.right put (Some link) → Moves move link after → HandsInShort move →
       Moved peer limit noted tap (put ++ units_put peer move) coming after
   call_moves (hand_in tsdu) put coming link after h p e short = hands_in put coming link after tsdu h p short e
   call_moves (give_out (part0 end octets)) put coming link after h p e short =
       absurd (gives_so link after h.flow (part0 end octets) h.is e)
-  call_moves (give_out (part2 number end octets)) put coming link after h p e short = gives_data put coming link after number end octets h p e
+  call_moves (give_out (part2 number end octets)) put coming link after h p e short =
+      gives_data put coming link after number end octets h p e
   call_moves (give_out (ack number credit)) put coming link after h p e short = gives_ack put coming link after number credit h p e
   call_moves (take_in unit) put coming link after h p e short = takes_any put coming link after unit h p e
   call_moves (hand_out tsdu) put coming link after h p e short = hands_out put coming link after tsdu h p e
@@ -351,7 +357,8 @@ moves_hold r peer move old new (link, after, is, e, short, coming, new_is) h =
       under_way = λ b. right_on old.tap old.put (units_put peer move) (h.under_way b);
     })
 
-pub closes_hold : (r peer reason : ℕ) (units : List Value) (old new : Line) → Acts Left r peer (closes reason units) old new → Holds peer old →
+pub closes_hold : (r peer reason : ℕ) (units : List Value) (old new : Line) → Acts Left r peer (closes reason units) old new →
+    Holds peer old →
     Holds peer new
 closes_hold r peer reason units old new (link, is, coming, new_is) h =
     let puts = puts_with peer h.limit h.tally old.tap.left old.tap.right old.put old.link link is h.puts in
@@ -368,7 +375,8 @@ closes_hold r peer reason units old new (link, is, coming, new_is) h =
       under_way = λ b. right_on old.tap old.put (disconnect peer r reason [] ∷ []) (h.under_way b);
     })
 
-pub ignores_hold : (r peer : ℕ) (units : List Value) (old new : Line) → Acts Left r peer (ignores units) old new → Holds peer old → Holds peer new
+pub ignores_hold : (r peer : ℕ) (units : List Value) (old new : Line) → Acts Left r peer (ignores units) old new → Holds peer old →
+    Holds peer new
 ignores_hold r peer units old new (none, coming, new_is) h = subst (λ (l : Line). Holds peer l) (sym new_is)
     (record {
       limit = h.limit;

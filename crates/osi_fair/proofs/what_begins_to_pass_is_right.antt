@@ -12,7 +12,8 @@ use Rattle.osi_rules.specs.declared.directions.Direction.TheVariants.{Left}
 use Rattle.osi_rules.specs.declared.halves.Phase.{Phase}
 use Rattle.osi_rules.specs.declared.halves.Phase.TheVariants.{Silent, Open, Refused, Closing, Closed}
 use Rattle.osi_rules.specs.declared.findings.Finding.TheVariants.{Kept}
-use Rattle.osi_rules.specs.Rows.{first_failed, steps_from, fits_size, data2_tests, acknowledge_tests, disconnect_tests, disconnected_tests}
+use Rattle.osi_rules.specs.Rows.{first_failed, steps_from, fits_size, data2_tests, acknowledge_tests, disconnect_tests}
+use Rattle.osi_rules.specs.Rows.{disconnected_tests}
 use Rattle.osi_rules.specs.Sides.{is_silent, is_open, is_refused, is_closing, is_closed, is_over, is_named, begins}
 use Rattle.osi_fair.specs.Lines.{IsRightNow}
 use Rattle.osi_fair.proofs.what_is_right_passes_each_test.{is_right}
@@ -33,7 +34,8 @@ and_false true = refl
 and_false false = refl
 
 not_over : (judged : Bool) (mine known : Phase) → is_open mine ≡ true → is_there known ≡ true →
-    (judged && (is_refused mine || (is_refused known || (is_closed mine || (is_closing mine && (is_closing known || is_closed known)))))) ≡ false
+    (judged && (is_refused mine || (is_refused known || (is_closed mine
+    || (is_closing mine && (is_closing known || is_closed known)))))) ≡ false
 not_over judged Open Open h k = and_false judged
 not_over judged Open Closing h k = and_false judged
 not_over judged Open Closed h k = and_false judged
@@ -72,7 +74,8 @@ is_named_so c peer n live there reference e =
     (not_over c.is_judged c.left.phase c.seen_by_left.phase live there) (there_is c.seen_by_left.phase there)
     (eq-eqb c.seen_by_left.reference n (reference ∙ sym e))
 
-fits_so : (size : Option ℕ) (limit octets : ℕ) → IfSome size (λ most. limit + 5 ≤ most) → octets ≤ limit → fits_size size (octets + 5) ≡ true
+fits_so : (size : Option ℕ) (limit octets : ℕ) → IfSome size (λ most. limit + 5 ≤ most) → octets ≤ limit →
+    fits_size size (octets + 5) ≡ true
 fits_so None limit octets h k = refl
 fits_so (Some most) limit octets h k = le-leb (octets + 5) most (omega arith)
 
@@ -92,6 +95,7 @@ module _ (peer limit : ℕ) (x : Tally) (noted : ℕ) (tap : Connection) (o : Or
       let c = t.their_edge in
       let tells : steps_from tap.right.awaited tap.left.next < 127 = omega arith in
       let credit : steps_from tap.right.awaited tap.left.next < tap.right.credit = omega arith in
+      let below_edge = lt-ltb (steps_from tap.right.awaited tap.left.next) tap.right.credit credit in
       is_right (data2_tests Left known number octets) (
         not_silent tap.left.phase live,
         (
@@ -102,7 +106,7 @@ module _ (peer limit : ℕ) (x : Tally) (noted : ℕ) (tap : Connection) (o : Or
               lt-ltb (steps_from tap.right.awaited tap.left.next) 127 tells,
               (
                 le-leb (tap.left.begun + octets) longest_tsdu short,
-                (lt-ltb (steps_from tap.right.awaited tap.left.next) tap.right.credit credit, (fits_so tap.size limit octets t.fits fits, tt)),
+                (below_edge, (fits_so tap.size limit octets t.fits fits, tt)),
               ),
             ),
           ),

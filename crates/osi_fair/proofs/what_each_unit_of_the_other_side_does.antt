@@ -49,7 +49,8 @@ left_after f v c (e, g) = sym (after_is f false reach.Nothing v c e g)
 
 lost_after : (f : Finding) (v : Value) (c : Connection) → Loses f → (after_finding Right f v c).is_judged ≡ true → ⊥
 lost_after f v c (e, g) judged =
-    let no : (after_finding Right f v c).is_judged ≡ false = ap (λ (d : Connection). d.is_judged) (after_is f false reach.Connection v c e g) in
+    let no : (after_finding Right f v c).is_judged ≡ false = ap (λ (d : Connection). d.is_judged)
+    (after_is f false reach.Connection v c e g) in
     cc
 
 loses_as : (f g : Finding) → f ≡ g → Loses g → Loses f
@@ -58,12 +59,14 @@ loses_as f g e (a, b) = (ap is_applied e ∙ a, ap (λ (h : Finding). reach_of (
 -- ---- what is found, by the tests of each row
 
 abbrev data_list : (s o n t u k z : Bool) → List Test
-data_list s o n t u k z = (s, Broke rule.UnknownReference) ∷ (o, Broke rule.Closed) ∷ (n, Broke rule.OutOfSequence) ∷ (t, Broke rule.OutOfSequence)
+data_list s o n t u k z = (s, Broke rule.UnknownReference) ∷ (o, Broke rule.Closed) ∷ (n, Broke rule.OutOfSequence)
+    ∷ (t, Broke rule.OutOfSequence)
     ∷ (u, Broke rule.TsduTooLong) ∷ (k, Broke rule.NoCredit) ∷ (z, Broke rule.SizeExceeded) ∷ []
 
 -- `open`: the other side has not closed the connection; `tells`: the number of the DT can be told
 abbrev Fate : (live tells : Bool) → Finding → Type 0
-Fate live tells f = (reach_of (Some Two) f ≡ reach.Everything) ⊎ (((live ≡ false) × Leaves f) ⊎ (Loses f ⊎ ((live ≡ true) × (tells ≡ true) × Applies f)))
+Fate live tells f = (reach_of (Some Two) f ≡ reach.Everything) ⊎ (((live ≡ false) × Leaves f) ⊎ (Loses f ⊎ ((live ≡ true)
+    × (tells ≡ true) × Applies f)))
 
 data_fate : (s o n t u k z : Bool) → Fate o t (first_failed (data_list s o n t u k z))
 data_fate false o n t u k z = inl refl
@@ -89,7 +92,8 @@ ack_fate true true true true = inr (inr (inr (refl, refl, (refl, refl))))
 -- a DR of a side that is there
 disconnect_fate : (phase : Phase) → is_there phase ≡ true →
     ((is_open phase ≡ false) × Leaves (first_failed ((is_silent phase || is_open phase, Broke rule.Closed) ∷ [])))
-    ⊎ ((is_open phase ≡ true) × (is_silent phase ≡ false) × Applies (first_failed ((is_silent phase || is_open phase, Broke rule.Closed) ∷ [])))
+    ⊎ ((is_open phase ≡ true) × (is_silent phase ≡ false)
+    × Applies (first_failed ((is_silent phase || is_open phase, Broke rule.Closed) ∷ [])))
 disconnect_fate Silent h = cc
 disconnect_fate Refused h = cc
 disconnect_fate Open h = inr (refl, refl, (refl, refl))
@@ -142,7 +146,8 @@ module _ (peer limit : ℕ) (x : Tally) (noted : ℕ) (tap : Connection) (put co
 
   closed_goes : (unit : Value) (f : Finding) → is_open tap.right.phase ≡ false → Leaves f → Goes unit (after_finding Right f unit tap)
   closed_goes unit f closed leaves = subst (λ (c : Connection). Goes unit c) (left_after f unit tap leaves)
-      (goes_same peer limit x noted tap put coming link o t p k unit (λ taken known a b live. absurd (never (is_open tap.right.phase) closed live)))
+      (goes_same peer limit x noted tap put coming link o t p k unit
+      (λ taken known a b live. absurd (never (is_open tap.right.phase) closed live)))
 
   data_by : (destination number : ℕ) (end : Bool) (user : List ℕ) (f : Finding) → Fate (is_open tap.right.phase) (is_tellable Right tap) f →
       reach_of (Some Two) f ≢ reach.Everything → (after_finding Right f (data2 destination number end user) tap).is_judged ≡ true →
@@ -153,7 +158,8 @@ module _ (peer limit : ℕ) (x : Tally) (noted : ℕ) (tap : Connection) (put co
   data_by destination number end user f (inr (inr (inl loses))) some judged =
       absurd (lost_after f (data2 destination number end user) tap loses judged)
   data_by destination number end user f (inr (inr (inr (live, tells, applies)))) some judged =
-      subst (λ (c : Connection). Goes (data2 destination number end user) c) (applied_after f (data2 destination number end user) tap applies)
+      subst (λ (c : Connection). Goes (data2 destination number end user) c)
+      (applied_after f (data2 destination number end user) tap applies)
       (data_goes peer limit x noted tap put coming link o t p k destination number end user tells)
 
   ack_by : (credit destination number : ℕ) (f : Finding) → number < 128 → credit < 16 →
@@ -181,9 +187,11 @@ module _ (peer limit : ℕ) (x : Tally) (noted : ℕ) (tap : Connection) (put co
       (λ taken known a b c. (a, b, refl)))
 
   disconnect_by : (destination source reason : ℕ) (user : List ℕ) (f : Finding) →
-      ((is_open tap.right.phase ≡ false) × Leaves f) ⊎ ((is_open tap.right.phase ≡ true) × (is_silent tap.right.phase ≡ false) × Applies f) →
+      ((is_open tap.right.phase ≡ false) × Leaves f) ⊎ ((is_open tap.right.phase ≡ true) × (is_silent tap.right.phase ≡ false)
+      × Applies f) →
       Goes (disconnect destination source reason user) (after_finding Right f (disconnect destination source reason user) tap)
-  disconnect_by destination source reason user f (inl (closed, leaves)) = closed_goes (disconnect destination source reason user) f closed leaves
+  disconnect_by destination source reason user f (inl (closed, leaves)) =
+      closed_goes (disconnect destination source reason user) f closed leaves
   disconnect_by destination source reason user f (inr (live, silent, applies)) =
       subst (λ (c : Connection). Goes (disconnect destination source reason user) c)
       (applied_after f (disconnect destination source reason user) tap applies) (disconnect_goes destination source reason user live silent)
@@ -228,7 +236,8 @@ module _ (peer limit : ℕ) (x : Tally) (noted : ℕ) (tap : Connection) (put co
       (fits_tsdu Right tap (length user)) (has_credit Right tap) (fits_size tap.size (length user + 5))) some judged
   unit_goes r course in_use (acknowledge credit destination number) range named some judged =
       ack_by credit destination number (found Right course in_use tap (acknowledge credit destination number)) range.2 range.0
-      (ack_fate (not (is_silent tap.right.phase)) (is_open tap.right.phase) (has_passed Right tap number) (keeps_credit Right tap number credit))
+      (ack_fate (not (is_silent tap.right.phase)) (is_open tap.right.phase) (has_passed Right tap number)
+      (keeps_credit Right tap number credit))
       some judged
 
 judged_finding : (course : Course) (in_use : Bool) (tap : Connection) (unit : Value) → tap.is_judged ≡ true →
@@ -236,7 +245,8 @@ judged_finding : (course : Course) (in_use : Bool) (tap : Connection) (unit : Va
 judged_finding course in_use tap unit judged = ap (λ (b : Bool). if b then found Right course in_use tap unit else NotJudged) judged
 
 pub passes_other_holds : (r peer : ℕ) (course : Course) (in_use : Bool) (unit : Value) (old new : Line) →
-    Acts Left r peer (passes_other course in_use unit) old new → old.tap.is_judged ≡ true → new.tap.is_judged ≡ true → Holds peer old → Holds peer new
+    Acts Left r peer (passes_other course in_use unit) old new → old.tap.is_judged ≡ true → new.tap.is_judged ≡ true → Holds peer old →
+    Holds peer new
 passes_other_holds r peer course in_use unit old new (range, named, some, new_is) was judged h =
     let f = found Right course in_use old.tap unit in
     let is = judged_finding course in_use old.tap unit was in

@@ -107,7 +107,8 @@ abbrev pub PutsAt : (peer limit : ℕ) → Tally → (mine theirs : Half) → Li
 PutsAt peer limit x mine theirs put None =
     Puts (bounds_of peer limit x true theirs) anyhow x.passed x.shown mine.begun put × OpenIfAny put mine.phase
 PutsAt peer limit x mine theirs put (Some link) =
-    Puts (bounds_of peer limit x false theirs) (ends_so x.sent link.ends.unsent) x.passed x.shown mine.begun put × (is_open mine.phase ≡ true)
+    Puts (bounds_of peer limit x false theirs) (ends_so x.sent link.ends.unsent) x.passed x.shown mine.begun put
+    × (is_open mine.phase ≡ true)
 
 abbrev pub TakesAt : (limit : ℕ) → Tally → (theirs : Half) → List Value → Option Standing → Type 0
 TakesAt limit x theirs coming None = Unit {0}

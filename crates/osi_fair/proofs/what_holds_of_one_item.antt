@@ -1,7 +1,7 @@
 -- What holds of one item of a list at most, after an item is changed or added, or all are.
 -- For the law on references.
 use Rattle.std.proofs.Common.{◌≡◌, ◌∙◌, ℕ, zero, suc, Bool, true, false, List, [], ◌∷◌, ◌++◌, map, set, length, refl, sym, ap, subst}
-use Rattle.std.proofs.Common.{Option, Some, None, inl, inr, ◌⊎◌}
+use Rattle.std.proofs.Common.{Some, inl, inr, ◌⊎◌}
 use Rattle.std.specs.Prelude.{◌||◌, position, slice_get}
 use Rattle.std.specs.List.{list_any}
 use Rattle.std.proofs.lemmas.List.Quantifiers.{position-Some}

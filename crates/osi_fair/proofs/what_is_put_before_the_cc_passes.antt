@@ -1,13 +1,14 @@
 -- What a called end puts before its CC has passed might as well have been put right after that.
 -- For the law of that name.
-use Rattle.std.proofs.Common.{◌≡◌, ◌∙◌, ℕ, Bool, true, false, List, [], ◌∷◌, ◌++◌, refl, sym, ap, subst, Option, Some, None, append_assoc}
+use Rattle.std.proofs.Common.{◌≡◌, ◌∙◌, ℕ, Bool, false, List, [], ◌∷◌, ◌++◌, refl, sym, ap, subst}
 use Rattle.std.specs.List.{AllByRecursion}
 use Rattle.osi_tpdu.specs.Value.{Value, disconnect, disconnected}
 use Rattle.osi_class.specs.Link.{Standing}
 use Rattle.osi_rules.specs.declared.connections.Connection.{Connection}
 use Rattle.osi_rules.specs.declared.courses.Course.{Course}
 use Rattle.osi_rules.specs.declared.directions.Direction.{Direction}
-use Rattle.osi_fair.specs.Lines.{Act, Acts, ActsAlong, Line, PassesNone, answering_line, answers, begins_elsewhere, begins_other, begins_own}
+use Rattle.osi_fair.specs.Lines.{Act, Acts, ActsAlong, Line, PassesNone, answering_line, answers, begins_elsewhere, begins_other}
+use Rattle.osi_fair.specs.Lines.{begins_own}
 use Rattle.osi_fair.specs.Lines.{after_finding, closes, finding_of, ignores, moves, opened_line, passes_other, passes_own, units_put}
 
 -- the line without its CC, as if this were the tap
@@ -68,7 +69,8 @@ module _ (d : Direction) (r peer : ℕ) (cc_is : Value) (tap : Connection) where
 
   all_same : (acts : List Act) (more : List Value) (old new : Line) → AllByRecursion PassesNone acts → ActsAlong d r peer old acts new →
       old.put ≡ cc_is ∷ more → Same more old new
-  all_same [] more old new none e first = no_act more old new first (ap (λ (l : Line). l.put) e) (ap (λ (l : Line). without_cc tap more l) e)
+  all_same [] more old new none e first = no_act more old new first (ap (λ (l : Line). l.put) e)
+      (ap (λ (l : Line). without_cc tap more l) e)
   all_same (act ∷ acts) more old new (none, others) (mid, one, along) first =
       let a = act_same act more old mid none one first in
       let b = all_same acts a.now mid new others along a.put in
@@ -76,7 +78,8 @@ module _ (d : Direction) (r peer : ℕ) (cc_is : Value) (tap : Connection) where
         now = b.now;
         acts = a.acts ++ b.acts;
         put = b.put;
-        along = acts_join d r peer a.acts b.acts (without_cc tap more old) (without_cc tap a.now mid) (without_cc tap b.now new) a.along b.along;
+        along = acts_join d r peer a.acts b.acts (without_cc tap more old) (without_cc tap a.now mid)
+            (without_cc tap b.now new) a.along b.along;
       }
 
 same_rest : (x y : Value) (xs ys : List Value) → x ∷ xs ≡ y ∷ ys → xs ≡ ys

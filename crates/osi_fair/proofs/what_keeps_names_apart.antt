@@ -1,6 +1,7 @@
 -- What keeps the names of connections apart: each change of one connection, and a packet that begins.
 -- For the law on references.
-use Rattle.std.proofs.Common.{◌≡◌, ◌∙◌, ℕ, Bool, true, false, List, [], ◌∷◌, ◌++◌, map, set, refl, sym, ap, subst, Option, Some, None, inl, inr, ◌⊎◌}
+use Rattle.std.proofs.Common.{◌≡◌, ℕ, Bool, true, false, List, [], ◌∷◌, ◌++◌, map, set, Option, Some}
+use Rattle.std.proofs.Common.{inl, inr, ◌⊎◌}
 use Rattle.std.specs.Prelude.{◌&&◌, ◌||◌, ◌==◌, not, slice_get}
 use Rattle.osi_rules.specs.declared.connections.Connection.{Connection}
 use Rattle.osi_rules.specs.declared.directions.Direction.{Direction}
@@ -12,7 +13,8 @@ use Rattle.osi_rules.specs.Sides.{begins, is_closed, is_closing, is_named, is_ov
 use Rattle.osi_rules.specs.Traffic.{judged_on}
 use Rattle.osi_fair.specs.Naming.{HoldsOfOne}
 use Rattle.osi_fair.proofs.what_holds_of_one_item.{HoldsOfEach, each_add, each_map, each_set, one_added, one_changed, one_mapped, one_put}
-use Rattle.osi_fair.proofs.when_a_connection_has_a_name.{HalfMoves, IsEarlier, earlier_moves, earlier_same, named_by, named_is_used, named_still}
+use Rattle.osi_fair.proofs.when_a_connection_has_a_name.{HalfMoves, IsEarlier, earlier_moves, earlier_same, named_by, named_is_used}
+use Rattle.osi_fair.proofs.when_a_connection_has_a_name.{named_still}
 use Rattle.osi_fair.proofs.when_a_connection_has_a_name.{still_closing, used_before, used_by, used_still}
 
 -- what each side knows is of before, and a DC answers a DR
@@ -72,26 +74,38 @@ pub apart_begins : (d : Direction) (cs : List Connection) → AreApart cs → Ar
 apart_begins Left cs a = record {
   sound = each_map SoundIf (begins Left) cs a.sound begin_sound_left;
   used_left = λ n. one_mapped (uses Left n) (uses Left n) (begins Left) cs (a.used_left n)
-      (λ i c at j h. (j, used_judged c.is_judged c.left c.seen_by_left n j
-      (used_before c.left c.seen_by_left c.right n (a.sound i c at j).left_knows (judged_used c.is_judged c.left c.right n j h))));
+      (λ i c at j h. (
+        j,
+        used_judged c.is_judged c.left c.seen_by_left n j
+            (used_before c.left c.seen_by_left c.right n (a.sound i c at j).left_knows (judged_used c.is_judged c.left c.right n j h)),
+      ));
   used_right = λ n. one_mapped (uses Right n) (uses Right n) (begins Left) cs (a.used_right n) (λ i c at j h. (j, h));
   named_left = λ n. one_mapped (uses Right n) (is_named Left n) (begins Left) cs (a.used_right n)
-      (λ i c at j h. (j, used_judged c.is_judged c.right c.seen_by_right n j
-      (named_is_used c.left c.right c.seen_by_right n (a.sound i c at j).right_knows (a.sound i c at j).right_closed
-      (judged_named c.is_judged c.left c.right n j h))));
+      (λ i c at j h. (
+        j,
+        used_judged c.is_judged c.right c.seen_by_right n j
+            (named_is_used c.left c.right c.seen_by_right n (a.sound i c at j).right_knows (a.sound i c at j).right_closed
+            (judged_named c.is_judged c.left c.right n j h)),
+      ));
   named_right = λ n. one_mapped (is_named Right n) (is_named Right n) (begins Left) cs (a.named_right n) (λ i c at j h. (j, h));
 }
 apart_begins Right cs a = record {
   sound = each_map SoundIf (begins Right) cs a.sound begin_sound_right;
   used_left = λ n. one_mapped (uses Left n) (uses Left n) (begins Right) cs (a.used_left n) (λ i c at j h. (j, h));
   used_right = λ n. one_mapped (uses Right n) (uses Right n) (begins Right) cs (a.used_right n)
-      (λ i c at j h. (j, used_judged c.is_judged c.right c.seen_by_right n j
-      (used_before c.right c.seen_by_right c.left n (a.sound i c at j).right_knows (judged_used c.is_judged c.right c.left n j h))));
+      (λ i c at j h. (
+        j,
+        used_judged c.is_judged c.right c.seen_by_right n j
+            (used_before c.right c.seen_by_right c.left n (a.sound i c at j).right_knows (judged_used c.is_judged c.right c.left n j h)),
+      ));
   named_left = λ n. one_mapped (is_named Left n) (is_named Left n) (begins Right) cs (a.named_left n) (λ i c at j h. (j, h));
   named_right = λ n. one_mapped (uses Left n) (is_named Right n) (begins Right) cs (a.used_left n)
-      (λ i c at j h. (j, used_judged c.is_judged c.left c.seen_by_left n j
-      (named_is_used c.right c.left c.seen_by_left n (a.sound i c at j).left_knows (a.sound i c at j).left_closed
-      (judged_named c.is_judged c.right c.left n j h))));
+      (λ i c at j h. (
+        j,
+        used_judged c.is_judged c.left c.seen_by_left n j
+            (named_is_used c.right c.left c.seen_by_left n (a.sound i c at j).left_knows (a.sound i c at j).left_closed
+            (judged_named c.is_judged c.right c.left n j h)),
+      ));
 }
 
 -- ---- one connection changes
@@ -146,7 +160,8 @@ closed_by : (mine seen theirs after : Half) → HalfMoves mine seen after → Is
 closed_by mine seen theirs after m e was k = closed_from mine seen theirs e was (m.closed k)
 
 -- left sends more
-pub left_lessens : (c : Connection) (after : Half) (size : Option ℕ) → c.is_judged ≡ true → Sound c → is_over_by c.left c.seen_by_left ≡ false →
+pub left_lessens : (c : Connection) (after : Half) (size : Option ℕ) → c.is_judged ≡ true → Sound c →
+    is_over_by c.left c.seen_by_left ≡ false →
     HalfMoves c.left c.seen_by_left after → (is_silent c.left.phase ≡ true → (is_silent after.phase || is_refused after.phase) ≡ true) →
     Lessens c (record c { left = after; size = size })
 left_lessens c after size judged s live m silent = record {
@@ -156,16 +171,23 @@ left_lessens c after size judged s live m silent = record {
     left_closed = λ k. closed_by c.left c.seen_by_left c.right after m s.left_knows s.left_closed k;
     right_closed = λ k. still_closing c.left c.seen_by_left after m (s.right_closed k);
   };
-  used_left = λ n j h. (j, used_judged c.is_judged c.left c.seen_by_left n j
-      (used_still c.left c.seen_by_left after n live m silent (judged_used c.is_judged after c.seen_by_left n j h)));
+  used_left = λ n j h. (
+    j,
+    used_judged c.is_judged c.left c.seen_by_left n j
+        (used_still c.left c.seen_by_left after n live m silent (judged_used c.is_judged after c.seen_by_left n j h)),
+  );
   used_right = λ n j h. (j, h);
-  named_left = λ n j h. (j, named_judged c.is_judged c.left c.seen_by_left n j
-      (named_still c.left c.seen_by_left after n live (judged_named c.is_judged after c.seen_by_left n j h)));
+  named_left = λ n j h. (
+    j,
+    named_judged c.is_judged c.left c.seen_by_left n j
+        (named_still c.left c.seen_by_left after n live (judged_named c.is_judged after c.seen_by_left n j h)),
+  );
   named_right = λ n j h. (j, h);
 }
 
 -- right sends more
-pub right_lessens : (c : Connection) (after : Half) (size : Option ℕ) → c.is_judged ≡ true → Sound c → is_over_by c.right c.seen_by_right ≡ false →
+pub right_lessens : (c : Connection) (after : Half) (size : Option ℕ) → c.is_judged ≡ true → Sound c →
+    is_over_by c.right c.seen_by_right ≡ false →
     HalfMoves c.right c.seen_by_right after → (is_silent c.right.phase ≡ true → (is_silent after.phase || is_refused after.phase) ≡ true) →
     Lessens c (record c { right = after; size = size })
 right_lessens c after size judged s live m silent = record {
@@ -176,11 +198,17 @@ right_lessens c after size judged s live m silent = record {
     right_closed = λ k. closed_by c.right c.seen_by_right c.left after m s.right_knows s.right_closed k;
   };
   used_left = λ n j h. (j, h);
-  used_right = λ n j h. (j, used_judged c.is_judged c.right c.seen_by_right n j
-      (used_still c.right c.seen_by_right after n live m silent (judged_used c.is_judged after c.seen_by_right n j h)));
+  used_right = λ n j h. (
+    j,
+    used_judged c.is_judged c.right c.seen_by_right n j
+        (used_still c.right c.seen_by_right after n live m silent (judged_used c.is_judged after c.seen_by_right n j h)),
+  );
   named_left = λ n j h. (j, h);
-  named_right = λ n j h. (j, named_judged c.is_judged c.right c.seen_by_right n j
-      (named_still c.right c.seen_by_right after n live (judged_named c.is_judged after c.seen_by_right n j h)));
+  named_right = λ n j h. (
+    j,
+    named_judged c.is_judged c.right c.seen_by_right n j
+        (named_still c.right c.seen_by_right after n live (judged_named c.is_judged after c.seen_by_right n j h)),
+  );
 }
 
 -- ---- a CC of right: its reference is in use nowhere else
@@ -210,8 +238,11 @@ apart_opens cs p c after size a at s live m free = record {
       (not (is_silent after.phase)) (after.reference == n) h)));
   named_left = λ n. one_changed (is_named Left n) cs p (record c { right = after; size = size }) c (a.named_left n) at (λ j h. (j, h));
   named_right = λ n. one_changed (is_named Right n) cs p (record c { right = after; size = size }) c (a.named_right n) at
-      (λ j h. (j, named_judged c.is_judged c.right c.seen_by_right n j
-      (named_still c.right c.seen_by_right after n live (judged_named c.is_judged after c.seen_by_right n j h))));
+      (λ j h. (
+        j,
+        named_judged c.is_judged c.right c.seen_by_right n j
+            (named_still c.right c.seen_by_right after n live (judged_named c.is_judged after c.seen_by_right n j h)),
+      ));
 }
 
 -- ---- a new connection

@@ -288,7 +288,8 @@ pub is_kept : (course : Course) (in_use : Bool) (tap : Connection) (unit : Value
 is_kept course in_use tap unit judged h =
     ap (λ (b : Bool). if b then found Left course in_use tap unit else NotJudged) judged ∙ h.kept course in_use
 
-pub first_is : (tap : Connection) (put units : List Value) (unit : Value) → put ≡ unit ∷ units → IsRightNow Left tap put → IsRight Left tap unit
+pub first_is : (tap : Connection) (put units : List Value) (unit : Value) → put ≡ unit ∷ units → IsRightNow Left tap put →
+    IsRight Left tap unit
 first_is tap put units unit e h = let f : IsRightNow Left tap (unit ∷ units) = subst (λ (l : List Value). IsRightNow Left tap l) e h in f
 
 -- what the end takes doesn't depend on what has passed of its own
@@ -307,7 +308,8 @@ theirs_same (data2 destination number end user) tap = refl
 theirs_same (acknowledge credit destination number) tap = refl
 theirs_same (error destination cause) tap = refl
 
-pub passes_own_holds : (r peer : ℕ) (course : Course) (in_use : Bool) (old new : Line) → Acts Left r peer (passes_own course in_use) old new →
+pub passes_own_holds : (r peer : ℕ) (course : Course) (in_use : Bool) (old new : Line) →
+    Acts Left r peer (passes_own course in_use) old new →
     old.tap.is_judged ≡ true → Holds peer old → Holds peer new
 passes_own_holds r peer course in_use old new (unit, first, begun, new_is) judged h =
     let right = first_is old.tap old.put new.put unit first (h.under_way begun) in

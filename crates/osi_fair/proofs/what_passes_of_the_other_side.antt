@@ -21,7 +21,8 @@ use Rattle.osi_fair.proofs.what_holds_of_a_line.{Tally, Ordered, PutsAt, TakesAt
 use Rattle.osi_fair.proofs.what_holds_of_a_line.{is_there, tapped}
 
 -- the line after it, with this record of the tap
-pub record Went (peer limit : ℕ) (x : Tally) (noted : ℕ) (tap after : Connection) (put coming : List Value) (link : Option Standing) : Type 0 where
+pub record Went (peer limit : ℕ) (x : Tally) (noted : ℕ) (tap after : Connection) (put coming : List Value)
+    (link : Option Standing) : Type 0 where
   pub came : ℕ
   pub heard : ℕ
   pub edge : ℕ
@@ -47,7 +48,8 @@ module _ (peer limit : ℕ) (x : Tally) (noted : ℕ) (tap : Connection) (put co
 
   -- ---- more of the other side has its effect, or nothing has
 
-  puts_later : (came heard edge : ℕ) (later : Half) (l : Option Standing) → (is_closing tap.right.phase ≡ true → is_closing later.phase ≡ true) →
+  puts_later : (came heard edge : ℕ) (later : Half) (l : Option Standing) → (is_closing tap.right.phase ≡ true →
+      is_closing later.phase ≡ true) →
       PutsAt peer limit x tap.left tap.right put l →
       PutsAt peer limit (record x { came = came; heard = heard; edge = edge }) tap.left later put l
   puts_later came heard edge later None closing (h, live) = (

@@ -112,8 +112,10 @@ over_still Open Closing q a b c h = refl
 over_still Open Closed q a b c h = refl
 over_still Closing Silent q a b c h = refl
 over_still Closing Open q a b c h = refl
-over_still Closing Closing q a b c h = both_ways (over_phase Closing q) (over_closing Closing q refl (or_first (is_closing q) (is_closed q) (b refl))) h
-over_still Closing Closed q a b c h = both_ways (over_phase Closing q) (over_closing Closing q refl (or_last (is_closing q) (is_closed q) (c refl))) h
+over_still Closing Closing q a b c h = both_ways (over_phase Closing q) (over_closing Closing q refl (or_first (is_closing q)
+    (is_closed q) (b refl))) h
+over_still Closing Closed q a b c h = both_ways (over_phase Closing q) (over_closing Closing q refl (or_last (is_closing q)
+    (is_closed q) (c refl))) h
 
 -- ---- named, and in use
 
@@ -134,7 +136,8 @@ three_make : (a b c : Bool) → a ≡ false → b ≡ false → c ≡ true → (
 three_make a b c h k m = rw (h, k, m) refl
 
 -- a side whose packet begins names only what is in use
-pub named_is_used : (mine theirs known : Half) (n : ℕ) → IsEarlier known mine → (is_closed theirs.phase ≡ true → is_closing mine.phase ≡ true) →
+pub named_is_used : (mine theirs known : Half) (n : ℕ) → IsEarlier known mine → (is_closed theirs.phase ≡ true →
+    is_closing mine.phase ≡ true) →
     named_by true mine theirs n ≡ true → used_by true theirs known n ≡ true
 named_is_used mine theirs known n e closed h =
     let (a, b, c) = three (is_over_by mine theirs) (is_silent theirs.phase) (theirs.reference == n) h in
@@ -142,7 +145,8 @@ named_is_used mine theirs known n e closed h =
     (over_other mine.phase theirs.phase known.phase a e.refused e.closing e.closed closed) b c
 
 -- what is in use as its packet begins was in use before
-pub used_before : (mine seen theirs : Half) (n : ℕ) → IsEarlier seen theirs → used_by true mine theirs n ≡ true → used_by true mine seen n ≡ true
+pub used_before : (mine seen theirs : Half) (n : ℕ) → IsEarlier seen theirs → used_by true mine theirs n ≡ true →
+    used_by true mine seen n ≡ true
 used_before mine seen theirs n e h =
     let (a, b, c) = three (is_over_by mine theirs) (is_silent mine.phase) (mine.reference == n) h in
     three_make (is_over_by mine seen) (is_silent mine.phase) (mine.reference == n)
@@ -196,7 +200,8 @@ earlier_moves known mine seen after e m = record {
 }
 
 -- a unit that is for the connection, and no CC, gives it no name
-pub named_still : (mine seen after : Half) (n : ℕ) → is_over_by mine seen ≡ false → named_by true after seen n ≡ true → named_by true mine seen n ≡ true
+pub named_still : (mine seen after : Half) (n : ℕ) → is_over_by mine seen ≡ false → named_by true after seen n ≡ true →
+    named_by true mine seen n ≡ true
 named_still mine seen after n live h =
     let (a, b, c) = three (is_over_by after seen) (is_silent seen.phase) (seen.reference == n) h in
     three_make (is_over_by mine seen) (is_silent seen.phase) (seen.reference == n) live b c
@@ -210,10 +215,12 @@ used_by_phase : (mine seen after : Half) (n : ℕ) (silent : Bool) → is_silent
     used_by true after seen n ≡ true → used_by true mine seen n ≡ true
 used_by_phase mine seen after n true is live m silent h =
     let (a, b, c) = three (is_over_by after seen) (is_silent after.phase) (after.reference == n) h in
-    both_ways (is_over_by after seen) (over_refused after.phase seen.phase (second_if (is_silent after.phase) (is_refused after.phase) b (silent is))) a
+    both_ways (is_over_by after seen) (over_refused after.phase seen.phase (second_if (is_silent after.phase)
+    (is_refused after.phase) b (silent is))) a
 used_by_phase mine seen after n false is live m silent h =
     let (a, b, c) = three (is_over_by after seen) (is_silent after.phase) (after.reference == n) h in
-    three_make (is_over_by mine seen) (is_silent mine.phase) (mine.reference == n) live is (ap (λ (x : ℕ). x == n) (sym (m.reference is)) ∙ c)
+    three_make (is_over_by mine seen) (is_silent mine.phase) (mine.reference == n) live is (ap (λ (x : ℕ). x == n)
+    (sym (m.reference is)) ∙ c)
 
 pub used_still : (mine seen after : Half) (n : ℕ) → is_over_by mine seen ≡ false → HalfMoves mine seen after →
     (is_silent mine.phase ≡ true → (is_silent after.phase || is_refused after.phase) ≡ true) →

@@ -1,5 +1,5 @@
 -- What a carrier of class 2 does to one of its connections, and what the rules of transport find of it, as the acts of a line.
-use Rattle.std.specs.Prelude.{◌≡◌, ℕ, false, List, [], ◌∷◌, ◌++◌, Option, Some, None, position, slice_get}
+use Rattle.std.specs.Prelude.{◌≡◌, ℕ, false, List, ◌++◌, Option, Some, None, position, slice_get}
 use Rattle.osi_tpdu.specs.Value.{Value}
 use Rattle.osi_class.specs.Link.{Standing}
 use Rattle.osi_class.specs.declared.terms.Class.TheVariants.{Two}

@@ -84,7 +84,8 @@ after_finding d finding v c = connection_after d v (is_applied finding) (reach_o
 -- The effect of each, at an end that sends in this direction and gave the connection the reference `r`. A unit of the other
 -- side after which both sides are not judged any more is the last thing that is looked at.
 abbrev pub Acts : Direction → (r peer : ℕ) → Act → Line → Line → Type 0
-Acts d r peer (moves move) old new = (link : Standing) × (after : Standing) × (old.link ≡ Some link) × Moves move link after × HandsInShort move
+Acts d r peer (moves move) old new = (link : Standing) × (after : Standing) × (old.link ≡ Some link) × Moves move link after
+    × HandsInShort move
     × (old.coming ≡ units_taken move ++ new.coming)
     × (new ≡ record old { link = Some after; put = old.put ++ units_put peer move; coming = new.coming })
 Acts d r peer (closes reason units) old new = (link : Standing) × (old.link ≡ Some link) × (old.coming ≡ units ++ new.coming)
@@ -99,7 +100,11 @@ Acts d r peer begins_elsewhere old new = (old.begun ≡ false) × (new ≡ recor
 Acts d r peer begins_other old new = new ≡ record old { tap = begins (other d) old.tap }
 Acts d r peer (passes_other course in_use unit) old new = HasFieldsInRange unit × (destination_of unit ≡ Some r)
     × (reach_of (Some Two) (finding_of (other d) course in_use old.tap unit) ≢ reach.Everything)
-    × (new ≡ record old { tap = after_finding (other d) (finding_of (other d) course in_use old.tap unit) unit old.tap; coming = old.coming ++ unit ∷ [] })
+    × (new ≡ record old {
+      tap = after_finding (other d)
+          (finding_of (other d) course in_use old.tap unit) unit old.tap;
+      coming = old.coming ++ unit ∷ [];
+    })
 
 -- one after the other
 abbrev pub ActsAlong : Direction → (r peer : ℕ) → Line → List Act → Line → Type 0

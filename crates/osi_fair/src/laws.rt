@@ -1,6 +1,6 @@
 //! Laws of the rules of transport and of the ends that keep them. Each function does nothing: its clauses are the laws.
 
-ghost use Rattle.std.specs.Prelude.{◌≡◌, ◌≤◌, ℕ, Bool, true, false, List, [], ◌∷◌, Option, Some, None, length, option_map, slice_get, slice_set};
+ghost use Rattle.std.specs.Prelude.{◌≡◌, ◌≤◌, ◌⊎◌, ℕ, Bool, true, false, List, [], ◌∷◌, Option, Some, None, length, option_map, slice_get, slice_set};
 ghost use Rattle.std.specs.List.{AllByRecursion};
 ghost use Rattle.osi_carrier.specs.Calls.{closed_with, open_link, sent};
 ghost use Rattle.osi_carrier.specs.Negotiation.{acceptance, agreed_size, opened_link, proposal};
@@ -19,14 +19,14 @@ ghost use Rattle.osi_fair.specs.Following.{Follows, IsAtPlace};
 ghost use Rattle.osi_tpdu.specs.Limits.{window_units};
 ghost use Rattle.osi_tpdu.specs.Value.{Connect, IsConnect, Value, confirm, destination_of};
 ghost use Rattle.osi_rules.specs.Sides.{begins, is_named, other, own, theirs, seen, sends, uses};
-ghost use Rattle.osi_rules.specs.Traffic.{State as Traffic, asked_by, found, fresh, offer_of, packet_begins, sent_on, silent_half, takes, uses_source};
+ghost use Rattle.osi_rules.specs.Traffic.{State as Traffic, asked_by, class_for, found, fresh, is_stopped, offer_of, packet_begins, sent_on, silent_half, takes, uses_source};
 ghost use Rattle.osi_rules.specs.declared.connections.Connection.{Connection};
 ghost use Rattle.osi_rules.specs.declared.courses.Course.{Course};
 ghost use Rattle.osi_rules.specs.declared.directions.Direction.{Direction};
 ghost use Rattle.osi_rules.specs.declared.findings.Finding.{Finding};
 ghost use Rattle.osi_rules.specs.declared.halves.Half.{Half};
 ghost use Rattle.osi_fair.specs.Later.{IsLater, knows};
-ghost use Rattle.osi_fair.specs.Lines.{Act, Acts, ActsAlong, IsFair, IsOpened, Line, PassesNone, after_finding, answering_line, finding_of};
+ghost use Rattle.osi_fair.specs.Lines.{Act, Acts, ActsAlong, IsFair, IsOpened, IsRight, Line, PassesNone, after_finding, answering_line, finding_of};
 ghost use Rattle.osi_fair.specs.Lines.{opened_half, opened_line, passes_own};
 
 /// What was right stays right if more of the other side had passed: before the packet of the unit began (`known`), or since
@@ -55,13 +55,13 @@ pub fn a_connection_opens()
         selected_by c local ≡ accept Two size → tap.left ≡ opened_half c.source c.credit → tap.right ≡ silent_half →
         tap.seen_by_left.next ≡ 0 →
         IsOpened Direction.Right r c.source (opened_line (opened_link Two size local c.credit)
-            (sent_on Direction.Right (confirm c.source (acceptance Two size c local r)) tap)) }
+        (sent_on Direction.Right (confirm c.source (acceptance Two size c local r)) tap)) }
     ensures asked { (local : Local) (held : Option Class) (calling called : Option (List ℕ)) (r : ℕ) → local.class2 ≡ true →
         (asked_by (proposal local held calling called r)).left ≡ opened_half r (window_units local.window) }
     ensures calling { (local : Local) (c : Connect) (r : ℕ) (tap : Connection) → IsConnect c →
         tap.left ≡ opened_half r (window_units local.window) → tap.right ≡ silent_half → tap.seen_by_right.next ≡ 0 →
         IsOpened Direction.Left r c.source (opened_line (opened_link Two (agreed_size c.parameters.size local) local c.credit)
-            (sent_on Direction.Right (confirm r c) tap)) }
+        (sent_on Direction.Right (confirm r c) tap)) }
 {}
 
 /// What an end puts on an open connection of class 2 is right. Take any list of what happens to the connection since its CC has
@@ -107,7 +107,7 @@ pub fn a_unit_is_an_act_of_its_line()
         destination_of v ≡ Some n → (takes d v s).told.finding ≡ finding_of d s.course (uses_source d s.connections v) c v }
     ensures after { (d : Direction) (v : Value) (s : Traffic) (n place : ℕ) (c : Connection) → IsAtPlace d s n place c →
         destination_of v ≡ Some n → (takes d v s).state.connections
-            ≡ slice_set s.connections place (after_finding d (finding_of d s.course (uses_source d s.connections v) c v) v c) }
+        ≡ slice_set s.connections place (after_finding d (finding_of d s.course (uses_source d s.connections v) c v) v c) }
     ensures begins { (d : Direction) (s : Traffic) (i : ℕ) →
         slice_get (packet_begins d s).connections i ≡ option_map (begins d) (slice_get s.connections i) }
 {}
@@ -119,4 +119,15 @@ pub fn a_reference_names_one_connection()
     ensures used { (passings : List Passing) (d : Direction) (n : ℕ) → HoldsOfOne (uses d n) (all_passed passings fresh).connections }
     ensures named { (passings : List Passing) (d : Direction) (n : ℕ) →
         HoldsOfOne (is_named d n) (all_passed passings fresh).connections }
+{}
+
+/// A unit that is right on a connection is not blamed, however many connections there are and whatever has passed: the rules of
+/// transport find that it is right, or that it is not judged. So the units of which [`an_open_end_is_fair`] speaks are not
+/// blamed.
+pub fn a_right_unit_is_not_blamed()
+    ensures { (passings : List Passing) (d : Direction) (v : Value) (n place : ℕ) (c : Connection) →
+        is_stopped d (all_passed passings fresh).course ≡ false → class_for d (all_passed passings fresh).course ≡ Some Two →
+        destination_of v ≡ Some n → slice_get (all_passed passings fresh).connections place ≡ Some c → c.is_judged ≡ true →
+        IsRight d c v → ((takes d v (all_passed passings fresh)).told.finding ≡ Finding.Kept)
+        ⊎ ((takes d v (all_passed passings fresh)).told.finding ≡ Finding.NotJudged) }
 {}
