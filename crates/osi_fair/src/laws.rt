@@ -1,6 +1,6 @@
 //! Laws of the rules of transport and of the ends that keep them. Each function does nothing: its clauses are the laws.
 
-ghost use Rattle.std.specs.Prelude.{◌≡◌, ◌≤◌, ◌⊎◌, ℕ, Bool, true, false, List, [], ◌∷◌, Option, Some, None, length, option_map, slice_get, slice_set};
+ghost use Rattle.std.specs.Prelude.{◌≡◌, ◌≤◌, ◌⊎◌, ℕ, Bool, true, false, List, [], ◌∷◌, Option, Some, None, length, option_map, position, slice_get, slice_set};
 ghost use Rattle.std.specs.List.{AllByRecursion};
 ghost use Rattle.osi_carrier.specs.Calls.{closed_with, open_link, sent};
 ghost use Rattle.osi_carrier.specs.Negotiation.{acceptance, agreed_size, opened_link, proposal};
@@ -14,11 +14,11 @@ ghost use Rattle.osi_class.specs.Negotiation.{accept, selected_by};
 ghost use Rattle.osi_class.specs.declared.terms.Class.{Class};
 ghost use Rattle.osi_class.specs.declared.terms.Class.TheVariants.{Two, Zero};
 ghost use Rattle.osi_class.specs.declared.terms.Local.{Local};
-ghost use Rattle.osi_fair.specs.Naming.{HoldsOfOne, Passing, all_passed};
+ghost use Rattle.osi_fair.specs.Naming.{HoldsOfOne, Passing, all_passed, passes};
 ghost use Rattle.osi_fair.specs.Following.{Follows, IsAtPlace};
 ghost use Rattle.osi_tpdu.specs.Limits.{window_units};
-ghost use Rattle.osi_tpdu.specs.Value.{Connect, IsConnect, Value, confirm, destination_of};
-ghost use Rattle.osi_rules.specs.Sides.{begins, is_named, other, own, theirs, seen, sends, uses};
+ghost use Rattle.osi_tpdu.specs.Value.{Connect, IsConnect, Value, confirm, destination_of, disconnect, disconnected};
+ghost use Rattle.osi_rules.specs.Sides.{begins, is_named, is_silent, other, own, theirs, seen, sends, uses};
 ghost use Rattle.osi_rules.specs.Traffic.{State as Traffic, asked_by, class_for, found, fresh, is_stopped, offer_of, packet_begins, sent_on, silent_half, takes, uses_source};
 ghost use Rattle.osi_rules.specs.declared.connections.Connection.{Connection};
 ghost use Rattle.osi_rules.specs.declared.courses.Course.{Course};
@@ -130,4 +130,19 @@ pub fn a_right_unit_is_not_blamed()
         destination_of v ≡ Some n → slice_get (all_passed passings fresh).connections place ≡ Some c → c.is_judged ≡ true →
         IsRight d c v → ((takes d v (all_passed passings fresh)).told.finding ≡ Finding.Kept)
         ⊎ ((takes d v (all_passed passings fresh)).told.finding ≡ Finding.NotJudged) }
+{}
+
+/// What an end answers without an open connection. A DR that refuses a CR is right (`refusal`). After a DR that closed nothing no
+/// DC is blamed (`dc`), whatever passes after it (`lasts`); a DR of the other side for no connection is such a one (`stray`).
+pub fn what_belongs_to_no_open_connection()
+    ensures refusal { (c : Connection) (course : Course) (in_use : Bool) (destination source reason : ℕ) (user : List ℕ) →
+        is_silent c.right.phase ≡ true →
+        found Direction.Right course in_use c (disconnect destination source reason user) ≡ Finding.Kept }
+    ensures dc { (d : Direction) (s : Traffic) (n source : ℕ) → class_for d s.course ≡ Some Two → s.course.strays ≡ true →
+        ((takes d (disconnected n source) s).told.finding ≡ Finding.Kept)
+        ⊎ ((takes d (disconnected n source) s).told.finding ≡ Finding.NotJudged) }
+    ensures lasts { (passing : Passing) (s : Traffic) → s.course.strays ≡ true → (passes passing s).course.strays ≡ true }
+    ensures stray { (d : Direction) (s : Traffic) (n source reason : ℕ) (user : List ℕ) → is_stopped d s.course ≡ false →
+        class_for d s.course ≡ Some Two → position (is_named d n) s.connections ≡ None →
+        (takes d (disconnect n source reason user) s).state.course.strays ≡ true }
 {}

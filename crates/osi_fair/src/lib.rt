@@ -23,11 +23,14 @@
 //!   ([`laws::a_carrier_follows_its_lines`]).
 //! - **The tap is its lines**: what the rules find of a unit that names a connection is what its line says
 //!   ([`laws::a_unit_is_an_act_of_its_line`]), and a reference names one connection at most
-//!   ([`laws::a_reference_names_one_connection`]).
+//!   ([`laws::a_reference_names_one_connection`]). So a unit that is right on its connection is not blamed, however many
+//!   connections there are: [`laws::a_right_unit_is_not_blamed`].
+//! - **Answers without an open connection**, a DR that refuses a CR and a DC for a DR that closed nothing, are not blamed either:
+//!   [`laws::what_belongs_to_no_open_connection`].
 //!
-//! What is not here: that the connection which a unit of an end names at the tap is the one for which the end put it; the CR of a
-//! calling end among its other connections; and the answers that belong to no open connection, a DR that refuses a CR and a DC
-//! for a reference that is gone. So the theorem on a whole end of class 2, as `osi_honest` has it for class 0, doesn't follow yet.
+//! What is not here: the CR of a calling end among its other connections; that a DR for a reference that is gone at the end has
+//! closed nothing at the tap; and the run of a whole end, in which each connection of its carrier has its line and each line its
+//! place at the tap. So the theorem on a whole end of class 2, as `osi_honest` has it for class 0, doesn't follow yet.
 #![tactic(auto)]
 
 pub mod laws;
