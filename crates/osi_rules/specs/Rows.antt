@@ -75,7 +75,7 @@ selects_expedited (Some options) = options % 2 == 1
 
 -- one of these classes is preferred or listed, or is what a preferred one may be answered by
 abbrev pub offers_zero : Connect → Bool
-offers_zero c = proposes c 0 || (c.class == 1)
+offers_zero c = proposes c 0 || proposes c 1
 
 abbrev pub offers_two : Connect → Bool
 offers_two c = proposes c 2 || ((c.class == 3) || (c.class == 4))

@@ -48,7 +48,7 @@ fn offer_of(request: &ConnectRequest<'_>) -> Offer
 {
     let class = request.fields.class;
     Offer {
-        class0: proposes(request, 0) || class == 1,
+        class0: proposes(request, 0) || proposes(request, 1),
         class2: proposes(request, 2) || class == 3 || class == 4,
         others: proposes(request, 1) || proposes(request, 3) || proposes(request, 4),
         expedited: asks_expedited(request.fields.parameters.additional_options),

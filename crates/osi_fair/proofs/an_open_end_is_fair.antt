@@ -1,0 +1,354 @@
+-- An open end of class 2 is fair, over every list of what happens to it and to the tap: at left, and then at right, which is left
+-- with the sides of the tap exchanged.
+-- For the law of that name.
+use Rattle.std.proofs.Common.{◌≡◌, ◌≢◌, ◌∙◌, ℕ, ◌+◌, ◌-◌, ◌≤◌, Bool, true, false, List, [], ◌∷◌, ◌++◌, arith, refl, sym, ap, subst}
+use Rattle.std.proofs.Common.{Option, Some, None, IfSome, if◌then◌else◌, ◌⊎◌, inl, inr}
+use Rattle.osi_tpdu.specs.Value.{Value, request, confirm, disconnect, disconnected, data0, data2, acknowledge, error}
+use Rattle.osi_class.specs.Link.{Standing, fresh_two, two_standing}
+use Rattle.osi_class.specs.declared.terms.Class.TheVariants.{Two}
+use Rattle.osi_rules.specs.declared.connections.Connection.{Connection}
+use Rattle.osi_rules.specs.declared.courses.Course.{Course}
+use Rattle.osi_rules.specs.declared.directions.Direction.{Direction}
+use Rattle.osi_rules.specs.declared.directions.Direction.TheVariants.{Left, Right}
+use Rattle.osi_rules.specs.declared.findings.Finding.{Finding}
+use Rattle.osi_rules.specs.declared.findings.Finding.TheVariants.{Kept, Broke, NotJudged}
+use Rattle.osi_rules.specs.declared.findings.Reach.{Reach}
+use Rattle.osi_rules.specs.declared.findings.Reach.TheVariants as reach
+use Rattle.osi_rules.specs.declared.findings.Rule.TheVariants as rule
+use Rattle.osi_rules.specs.declared.halves.Half.{Half}
+use Rattle.osi_rules.specs.Reaches.{is_applied, reach_of}
+use Rattle.osi_rules.specs.Sides.{other, is_open}
+use Rattle.osi_rules.specs.Traffic.{found, sent_on, judged_on, connection_after}
+use Rattle.osi_fair.specs.Lines.{begins_elsewhere}
+use Rattle.osi_fair.specs.Lines.{Line, Act, moves, closes, ignores, answers, begins_own, passes_own, begins_other, passes_other}
+use Rattle.osi_fair.specs.Lines.{Acts, ActsAlong}
+use Rattle.osi_fair.specs.Lines.{IsFair, IsOpened, IsRightNow, finding_of, after_finding}
+use Rattle.osi_fair.proofs.what_holds_of_a_line.{Holds, PutsAt, TakesAt, Tally, is_there}
+use Rattle.osi_fair.proofs.what_an_end_does_to_a_line.{moves_hold, closes_hold, ignores_hold, answers_hold}
+use Rattle.osi_fair.proofs.what_passes_of_an_end.{begins_own_holds, begins_other_holds, elsewhere_holds, first_is, is_kept}
+use Rattle.osi_fair.proofs.what_passes_of_an_end.{passes_own_holds}
+use Rattle.osi_fair.proofs.what_each_unit_of_the_other_side_does.{passes_other_holds}
+
+-- ---- a connection that is judged was judged before
+
+sent_judged : (d : Direction) (v : Value) (c : Connection) → (sent_on d v c).is_judged ≡ c.is_judged
+sent_judged Left (request x) c = refl
+sent_judged Left (confirm destination x) c = refl
+sent_judged Left (disconnect destination source reason user) c = refl
+sent_judged Left (disconnected destination source) c = refl
+sent_judged Left (data0 end user) c = refl
+sent_judged Left (data2 destination number end user) c = refl
+sent_judged Left (acknowledge credit destination number) c = refl
+sent_judged Left (error destination cause) c = refl
+sent_judged Right (request x) c = refl
+sent_judged Right (confirm destination x) c = refl
+sent_judged Right (disconnect destination source reason user) c = refl
+sent_judged Right (disconnected destination source) c = refl
+sent_judged Right (data0 end user) c = refl
+sent_judged Right (data2 destination number end user) c = refl
+sent_judged Right (acknowledge credit destination number) c = refl
+sent_judged Right (error destination cause) c = refl
+
+on_judged : (r : Reach) (c : Connection) → (judged_on r c).is_judged ≡ true → c.is_judged ≡ true
+on_judged reach.Nothing c h = h
+on_judged reach.Connection c h = cc
+on_judged reach.Side c h = h
+on_judged reach.Everything c h = h
+
+judged_before : (d : Direction) (v : Value) (a : Bool) (r : Reach) (c : Connection) → (connection_after d v a r c).is_judged ≡ true →
+    c.is_judged ≡ true
+judged_before d v true r c h = sym (sent_judged d v c) ∙ on_judged r (sent_on d v c) h
+judged_before d v false r c h = on_judged r c h
+
+was_judged : (d : Direction) (f : Finding) (v : Value) (c : Connection) → (after_finding d f v c).is_judged ≡ true → c.is_judged ≡ true
+was_judged d f v c h = judged_before d v (is_applied f) (reach_of (Some Two) f) c h
+
+-- ---- at left
+
+abbrev Keeps : ℕ → Line → Type 0
+Keeps peer line = line.tap.is_judged ≡ true → Holds peer line
+
+same_tap : (old new line : Line) → new ≡ line → line.tap ≡ old.tap → new.tap.is_judged ≡ true → old.tap.is_judged ≡ true
+same_tap old new line e same judged = sym (ap (λ (l : Line). l.tap.is_judged) e ∙ ap (λ (c : Connection). c.is_judged) same) ∙ judged
+
+act_keeps : (r peer : ℕ) (act : Act) (old new : Line) → Acts Left r peer act old new → Keeps peer old → Keeps peer new
+act_keeps r peer (moves move) old new (link, after, is, e, short, coming, new_is) h judged =
+    moves_hold r peer move old new (link, after, is, e, short, coming, new_is)
+    (h (sym (ap (λ (l : Line). l.tap.is_judged) new_is) ∙ judged))
+act_keeps r peer (closes reason units) old new (link, is, coming, new_is) h judged =
+    closes_hold r peer reason units old new (link, is, coming, new_is) (h (sym (ap (λ (l : Line). l.tap.is_judged) new_is) ∙ judged))
+act_keeps r peer (ignores units) old new (none, coming, new_is) h judged =
+    ignores_hold r peer units old new (none, coming, new_is) (h (sym (ap (λ (l : Line). l.tap.is_judged) new_is) ∙ judged))
+act_keeps r peer (answers unit) old new (link, is, dr, coming, new_is) h judged =
+    answers_hold r peer unit old new (link, is, dr, coming, new_is) (h (sym (ap (λ (l : Line). l.tap.is_judged) new_is) ∙ judged))
+act_keeps r peer begins_own old new (some, idle, new_is) h judged =
+    begins_own_holds r peer old new (some, idle, new_is) (h (sym (ap (λ (l : Line). l.tap.is_judged) new_is) ∙ judged))
+act_keeps r peer (passes_own course in_use) old new (unit, first, begun, new_is) h judged =
+    let still = sym (ap (λ (l : Line). l.tap.is_judged) new_is) ∙ judged in
+    let was = was_judged Left (finding_of Left course in_use old.tap unit) unit old.tap still in
+    passes_own_holds r peer course in_use old new (unit, first, begun, new_is) was (h was)
+act_keeps r peer begins_elsewhere old new (idle, new_is) h judged =
+    elsewhere_holds r peer old new (idle, new_is) (h (sym (ap (λ (l : Line). l.tap.is_judged) new_is) ∙ judged))
+act_keeps r peer begins_other old new new_is h judged =
+    begins_other_holds r peer old new new_is (h (sym (ap (λ (l : Line). l.tap.is_judged) new_is) ∙ judged))
+act_keeps r peer (passes_other course in_use unit) old new (range, named, some, new_is) h judged =
+    let still = sym (ap (λ (l : Line). l.tap.is_judged) new_is) ∙ judged in
+    let was = was_judged Right (finding_of Right course in_use old.tap unit) unit old.tap still in
+    passes_other_holds r peer course in_use unit old new (range, named, some, new_is) was judged (h was)
+
+all_keep : (r peer : ℕ) (acts : List Act) (old new : Line) → ActsAlong Left r peer old acts new → Keeps peer old → Keeps peer new
+all_keep r peer [] old new e h = subst (λ (l : Line). Keeps peer l) (sym e) h
+all_keep r peer (act ∷ acts) old new (mid, a, more) h = all_keep r peer acts mid new more (act_keeps r peer act old mid a h)
+
+-- ---- as it begins
+
+fits_most : (o : Option ℕ) (size : ℕ) → 5 ≤ size → IfSome o (λ most. size ≤ most) → IfSome o (λ most. size - 5 + 5 ≤ most)
+fits_most None size h k = tt
+fits_most (Some most) size h k = omega arith
+
+opened_holds : (r peer : ℕ) (line : Line) → IsOpened Left r peer line → Holds peer line
+opened_holds r peer line o =
+    let two = fresh_two o.size o.window o.credit in
+    let begun_link = two_standing two.ends two.flow in
+    let x : Tally = record { sent = 0; passed = 0; acked = 0; shown = 0; came = 0; heard = 0; edge = o.credit; window = o.window } in
+    let live : is_open line.tap.left.phase ≡ true = ap (λ (h : Half). is_open h.phase) o.sent in
+    let open_there : is_open line.tap.right.phase ≡ true = ap (λ (h : Half). is_open h.phase) o.came in
+    let credit : line.tap.right.credit ≡ o.credit = ap (λ (h : Half). h.credit) o.came in
+    let some = o.some in
+    record {
+      limit = o.size - 5;
+      tally = x;
+      noted = 0;
+      ordered = record {
+        heard_noted = omega arith;
+        noted_passed = omega arith;
+        passed_sent = omega arith;
+        few = omega arith;
+        within = omega arith;
+        shown_acked = omega arith;
+        acked_came = omega arith;
+        tellable = omega arith;
+      };
+      taps = record {
+        next = ap (λ (h : Half). h.next) o.sent;
+        awaited = ap (λ (h : Half). h.awaited) o.sent;
+        credit = ap (λ (h : Half). h.credit) o.sent;
+        their_next = ap (λ (h : Half). h.next) o.came;
+        their_awaited = ap (λ (h : Half). h.awaited) o.came;
+        their_edge = omega arith;
+        known_next = o.noted;
+        reference = ap (λ (h : Half). h.reference) o.came;
+        there = ap (λ (h : Half). is_there h.phase) o.came;
+        fits = fits_most line.tap.size o.size o.least o.most;
+      };
+      puts = subst (λ (l : Option Standing). PutsAt peer (o.size - 5) x line.tap.left line.tap.right line.put l) (sym o.link)
+          (subst (λ (l : List Value). PutsAt peer (o.size - 5) x line.tap.left line.tap.right l (Some begun_link)) (sym o.put)
+          ((refl, ap (λ (h : Half). h.begun) o.sent), live));
+      takes = subst (λ (l : Option Standing). TakesAt (o.size - 5) x line.tap.right line.coming l) (sym o.link)
+          (subst (λ (l : List Value). TakesAt (o.size - 5) x line.tap.right l (Some begun_link)) (sym o.coming)
+          (record {
+            flow = two.flow;
+            taken = 0;
+            known = 0;
+            is = refl;
+            size = refl;
+            next = refl;
+            unacknowledged = refl;
+            few = omega arith;
+            edge = omega arith;
+            expected = refl;
+            waiting = refl;
+            credit = refl;
+            comes = (omega arith, omega arith, open_there);
+          }));
+      under_way = λ b. absurd (cc (b, o.begun));
+    }
+
+left_is_fair : (r peer : ℕ) (begin line : Line) (acts : List Act) → IsOpened Left r peer begin → ActsAlong Left r peer begin acts line →
+    IsFair Left line
+left_is_fair r peer begin line acts o along begun judged =
+    (all_keep r peer acts begin line along (λ _. opened_holds r peer begin o) judged).under_way begun
+
+-- ---- at right
+
+abbrev turned : Connection → Connection
+turned c = record c { left = c.right; right = c.left; seen_by_left = c.seen_by_right; seen_by_right = c.seen_by_left }
+
+abbrev turned_line : Line → Line
+turned_line line = record line { tap = turned line.tap }
+
+sent_turned : (d : Direction) (v : Value) (c : Connection) → turned (sent_on d v c) ≡ sent_on (other d) v (turned c)
+sent_turned Left (request x) c = refl
+sent_turned Left (confirm destination x) c = refl
+sent_turned Left (disconnect destination source reason user) c = refl
+sent_turned Left (disconnected destination source) c = refl
+sent_turned Left (data0 end user) c = refl
+sent_turned Left (data2 destination number end user) c = refl
+sent_turned Left (acknowledge credit destination number) c = refl
+sent_turned Left (error destination cause) c = refl
+sent_turned Right (request x) c = refl
+sent_turned Right (confirm destination x) c = refl
+sent_turned Right (disconnect destination source reason user) c = refl
+sent_turned Right (disconnected destination source) c = refl
+sent_turned Right (data0 end user) c = refl
+sent_turned Right (data2 destination number end user) c = refl
+sent_turned Right (acknowledge credit destination number) c = refl
+sent_turned Right (error destination cause) c = refl
+
+on_turned : (r : Reach) (c : Connection) → turned (judged_on r c) ≡ judged_on r (turned c)
+on_turned reach.Nothing c = refl
+on_turned reach.Connection c = refl
+on_turned reach.Side c = refl
+on_turned reach.Everything c = refl
+
+after_turned : (d : Direction) (v : Value) (a : Bool) (r : Reach) (c : Connection) →
+    turned (connection_after d v a r c) ≡ connection_after (other d) v a r (turned c)
+after_turned d v true r c = on_turned r (sent_on d v c) ∙ ap (λ (x : Connection). judged_on r x) (sent_turned d v c)
+after_turned d v false r c = on_turned r c
+
+finding_turned : (d : Direction) (f : Finding) (v : Value) (c : Connection) →
+    turned (after_finding d f v c) ≡ after_finding (other d) f v (turned c)
+finding_turned d f v c = after_turned d v (is_applied f) (reach_of (Some Two) f) c
+
+-- what is found of this side's units but a CC, of which nothing is claimed here
+kept_turned : (course : Course) (in_use : Bool) (c : Connection) (v : Value) → found Left course in_use (turned c) v ≡ Kept →
+    found Right course in_use c v ≡ Kept
+kept_turned course in_use c (request x) e = e
+kept_turned course in_use c (confirm destination x) e = cc
+kept_turned course in_use c (disconnect destination source reason user) e = e
+kept_turned course in_use c (disconnected destination source) e = e
+kept_turned course in_use c (data0 end user) e = e
+kept_turned course in_use c (data2 destination number end user) e = e
+kept_turned course in_use c (acknowledge credit destination number) e = e
+kept_turned course in_use c (error destination cause) e = e
+
+right_turned : (c : Connection) (put : List Value) → IsRightNow Left (turned c) put → IsRightNow Right c put
+right_turned c [] h = h
+right_turned c (unit ∷ units) h = record {
+  named = h.named;
+  kept = λ course in_use. kept_turned course in_use c unit (h.kept course in_use);
+}
+
+found_other : (course : Course) (in_use : Bool) (c : Connection) (v : Value) →
+    (found Left course in_use c v ≡ found Right course in_use (turned c) v) ⊎ (found Left course in_use c v ≡ Broke rule.WrongForm)
+found_other course in_use c (request x) = inl refl
+found_other course in_use c (confirm destination x) = inr refl
+found_other course in_use c (disconnect destination source reason user) = inl refl
+found_other course in_use c (disconnected destination source) = inl refl
+found_other course in_use c (data0 end user) = inl refl
+found_other course in_use c (data2 destination number end user) = inl refl
+found_other course in_use c (acknowledge credit destination number) = inl refl
+found_other course in_use c (error destination cause) = inl refl
+
+own_turned : (r peer : ℕ) (course : Course) (in_use : Bool) (old new : Line) → Acts Right r peer (passes_own course in_use) old new →
+    old.tap.is_judged ≡ true → Holds peer (turned_line old) →
+    Acts Left r peer (passes_own course in_use) (turned_line old) (turned_line new)
+own_turned r peer course in_use old new (unit, first, begun, new_is) was h =
+    let right = first_is (turned old.tap) old.put new.put unit first (h.under_way begun) in
+    let here : finding_of Right course in_use old.tap unit ≡ Kept =
+    ap (λ (b : Bool). if b then found Right course in_use old.tap unit else NotJudged) was
+    ∙ kept_turned course in_use old.tap unit (right.kept course in_use) in
+    let there : finding_of Left course in_use (turned old.tap) unit ≡ Kept = is_kept course in_use (turned old.tap) unit was right in
+    let after : turned (after_finding Right (finding_of Right course in_use old.tap unit) unit old.tap)
+    ≡ after_finding Left (finding_of Left course in_use (turned old.tap) unit) unit (turned old.tap) =
+    finding_turned Right (finding_of Right course in_use old.tap unit) unit old.tap
+    ∙ ap (λ (f : Finding). after_finding Left f unit (turned old.tap)) (here ∙ sym there) in (
+      unit,
+      first,
+      begun,
+      ap turned_line new_is
+          ∙ ap (λ (c : Connection). record (turned_line old) { put = new.put; begun = false; tap = c }) after,
+    )
+
+other_turned : (r peer : ℕ) (course : Course) (in_use : Bool) (unit : Value) (old new : Line) →
+    Acts Right r peer (passes_other course in_use unit) old new →
+    found Left course in_use old.tap unit ≡ found Right course in_use (turned old.tap) unit →
+    Acts Left r peer (passes_other course in_use unit) (turned_line old) (turned_line new)
+other_turned r peer course in_use unit old new (range, named, some, new_is) e =
+    let same : finding_of Left course in_use old.tap unit ≡ finding_of Right course in_use (turned old.tap) unit =
+    ap (λ (f : Finding). if old.tap.is_judged then f else NotJudged) e in
+    let after : turned (after_finding Left (finding_of Left course in_use old.tap unit) unit old.tap)
+    ≡ after_finding Right (finding_of Right course in_use (turned old.tap) unit) unit (turned old.tap) =
+    finding_turned Left (finding_of Left course in_use old.tap unit) unit old.tap
+    ∙ ap (λ (f : Finding). after_finding Right f unit (turned old.tap)) same in (
+      range,
+      named,
+      subst (λ (f : Finding). reach_of (Some Two) f ≢ reach.Everything) same some,
+      ap turned_line new_is ∙ ap (λ (c : Connection). record (turned_line old) { tap = c; coming = old.coming ++ unit ∷ [] }) after,
+    )
+
+-- a CC of the calling side: its connection is not judged any more
+not_judged : (c : Connection) (unit : Value) (f : Finding) → f ≡ Broke rule.WrongForm → (after_finding Left f unit c).is_judged ≡ false
+not_judged c unit f e = ap (λ (g : Finding). (after_finding Left g unit c).is_judged) e
+
+other_keeps : (r peer : ℕ) (course : Course) (in_use : Bool) (unit : Value) (old new : Line) →
+    Acts Right r peer (passes_other course in_use unit) old new → Keeps peer (turned_line old) →
+    (found Left course in_use old.tap unit ≡ found Right course in_use (turned old.tap) unit)
+    ⊎ (found Left course in_use old.tap unit ≡ Broke rule.WrongForm) → Keeps peer (turned_line new)
+other_keeps r peer course in_use unit old new a h (inl e) judged =
+    act_keeps r peer (passes_other course in_use unit) (turned_line old) (turned_line new)
+    (other_turned r peer course in_use unit old new a e) h judged
+other_keeps r peer course in_use unit old new (range, named, some, new_is) h (inr e) judged =
+    let still = sym (ap (λ (l : Line). l.tap.is_judged) new_is) ∙ judged in
+    let was = was_judged Left (finding_of Left course in_use old.tap unit) unit old.tap still in
+    let wrong : finding_of Left course in_use old.tap unit ≡ Broke rule.WrongForm =
+    ap (λ (b : Bool). if b then found Left course in_use old.tap unit else NotJudged) was ∙ e in
+    let no = not_judged old.tap unit (finding_of Left course in_use old.tap unit) wrong in
+    absurd (cc)
+
+act_turned : (r peer : ℕ) (act : Act) (old new : Line) → Acts Right r peer act old new → Keeps peer (turned_line old) →
+    Keeps peer (turned_line new)
+act_turned r peer (moves move) old new (link, after, is, e, short, coming, new_is) h judged =
+    act_keeps r peer (moves move) (turned_line old) (turned_line new) (link, after, is, e, short, coming, ap turned_line new_is) h judged
+act_turned r peer (closes reason units) old new (link, is, coming, new_is) h judged =
+    act_keeps r peer (closes reason units) (turned_line old) (turned_line new) (link, is, coming, ap turned_line new_is) h judged
+act_turned r peer (ignores units) old new (none, coming, new_is) h judged =
+    act_keeps r peer (ignores units) (turned_line old) (turned_line new) (none, coming, ap turned_line new_is) h judged
+act_turned r peer (answers unit) old new (link, is, dr, coming, new_is) h judged =
+    act_keeps r peer (answers unit) (turned_line old) (turned_line new) (link, is, dr, coming, ap turned_line new_is) h judged
+act_turned r peer begins_own old new (some, idle, new_is) h judged =
+    act_keeps r peer begins_own (turned_line old) (turned_line new) (some, idle, ap turned_line new_is) h judged
+act_turned r peer (passes_own course in_use) old new (unit, first, begun, new_is) h judged =
+    let still = sym (ap (λ (l : Line). l.tap.is_judged) new_is) ∙ judged in
+    let was = was_judged Right (finding_of Right course in_use old.tap unit) unit old.tap still in
+    act_keeps r peer (passes_own course in_use) (turned_line old) (turned_line new)
+    (own_turned r peer course in_use old new (unit, first, begun, new_is) was (h was)) h judged
+act_turned r peer begins_elsewhere old new (idle, new_is) h judged =
+    act_keeps r peer begins_elsewhere (turned_line old) (turned_line new) (idle, ap turned_line new_is) h judged
+act_turned r peer begins_other old new new_is h judged =
+    act_keeps r peer begins_other (turned_line old) (turned_line new) (ap turned_line new_is) h judged
+act_turned r peer (passes_other course in_use unit) old new a h judged =
+    other_keeps r peer course in_use unit old new a h (found_other course in_use old.tap unit) judged
+
+all_turned : (r peer : ℕ) (acts : List Act) (old new : Line) → ActsAlong Right r peer old acts new → Keeps peer (turned_line old) →
+    Keeps peer (turned_line new)
+all_turned r peer [] old new e h = subst (λ (l : Line). Keeps peer l) (sym (ap turned_line e)) h
+all_turned r peer (act ∷ acts) old new (mid, a, more) h = all_turned r peer acts mid new more (act_turned r peer act old mid a h)
+
+opened_turned : (r peer : ℕ) (line : Line) → IsOpened Right r peer line → IsOpened Left r peer (turned_line line)
+opened_turned r peer line o = record {
+  size = o.size;
+  window = o.window;
+  credit = o.credit;
+  link = o.link;
+  put = o.put;
+  begun = o.begun;
+  coming = o.coming;
+  sent = o.sent;
+  came = o.came;
+  noted = o.noted;
+  most = o.most;
+  least = o.least;
+  some = o.some;
+}
+
+right_is_fair : (r peer : ℕ) (begin line : Line) (acts : List Act) → IsOpened Right r peer begin → ActsAlong Right r peer begin acts line →
+    IsFair Right line
+right_is_fair r peer begin line acts o along begun judged =
+    let h = all_turned r peer acts begin line along (λ _. opened_holds r peer (turned_line begin) (opened_turned r peer begin o)) judged in
+    right_turned line.tap line.put (h.under_way begun)
+
+pub open_is_fair : (d : Direction) (r peer : ℕ) (begin line : Line) (acts : List Act) → IsOpened d r peer begin →
+    ActsAlong d r peer begin acts line → IsFair d line
+open_is_fair Left r peer begin line acts o along = left_is_fair r peer begin line acts o along
+open_is_fair Right r peer begin line acts o along = right_is_fair r peer begin line acts o along

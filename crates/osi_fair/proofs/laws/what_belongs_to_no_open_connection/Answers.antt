@@ -1,0 +1,14 @@
+use Rattle.osi_fair.proofs.what_belongs_to_no_open_connection.{dc_spared, dr_strays, refusal_right, strays_last}
+use Rattle.osi_fair.proofs.laws.what_belongs_to_no_open_connection.Goals as goal
+
+pub returns-clause-refusal : goal.returns-clause-refusal
+returns-clause-refusal c = refusal_right
+
+pub returns-clause-dc : goal.returns-clause-dc
+returns-clause-dc c = dc_spared
+
+pub returns-clause-lasts : goal.returns-clause-lasts
+returns-clause-lasts c = strays_last
+
+pub returns-clause-stray : goal.returns-clause-stray
+returns-clause-stray c = dr_strays

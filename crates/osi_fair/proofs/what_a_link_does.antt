@@ -1,0 +1,170 @@
+-- What a call of a link of class 2 does to its numbers and to what it has still to send.
+-- For the laws on a line.
+use Rattle.std.proofs.Common.{◌≡◌, ◌∙◌, ℕ, ◌+◌, ◌-◌, ◌<◌, ◌≤◌, Bool, true, false, List, [], ◌∷◌, ◌++◌, length, take, drop, arith}
+use Rattle.std.proofs.Common.{refl, sym, ap}
+use Rattle.std.proofs.Common.{Option, Some, None, Result, Ok, Err, IfSome, IfOk, nat_lt, if◌then◌else◌, length-take, length-drop}
+use Rattle.std.proofs.lemmas.Bool.{ltb-true, ltb-false}
+use Rattle.osi_tpdu.specs.Value.{Value, data2, acknowledge}
+use Rattle.osi_class.specs.Ends.{Ends}
+use Rattle.osi_class.specs.Flow.{Flow, steps_before, acknowledged, is_awaited, ack_number, after_acked}
+use Rattle.osi_class.specs.Joining.{Joining, joined}
+use Rattle.osi_class.specs.Limits.{longest_tsdu}
+use Rattle.osi_class.specs.Link.{Standing, Given, part0, part2, ack, given_part, next_by, next, with_joined, with_sender, taken_by, taken}
+use Rattle.osi_class.specs.Link.{taken_flow, sent_flow, two_standing}
+use Rattle.osi_class.specs.Tsdus.{Part, give}
+use Rattle.osi_class.specs.declared.faults.LinkFault.{LinkFault}
+use Rattle.osi_class.specs.declared.faults.LinkFault.TheVariants.{OutOfSequence, CreditReduced}
+use Rattle.osi_class.proofs.between.parts_stay_in_order.{choose_some, choose_ok, at_some, at_ok}
+
+-- ---- TSDUs that are not too long
+
+abbrev pub AreShort : List (List ℕ) → Type 0
+AreShort [] = Unit {0}
+AreShort (tsdu ∷ tsdus) = (length tsdu ≤ longest_tsdu) × AreShort tsdus
+
+-- so many octets of the first have been given
+abbrev pub HaveRoom : ℕ → List (List ℕ) → Type 0
+HaveRoom begun [] = begun ≡ 0
+HaveRoom begun (tsdu ∷ tsdus) = (begun + length tsdu ≤ longest_tsdu) × AreShort tsdus
+
+pub room_at_first : (tsdus : List (List ℕ)) → AreShort tsdus → HaveRoom 0 tsdus
+room_at_first [] h = refl
+room_at_first (tsdu ∷ tsdus) (a, b) = (omega arith, b)
+
+short_more : (tsdus : List (List ℕ)) (tsdu : List ℕ) → AreShort tsdus → length tsdu ≤ longest_tsdu → AreShort (tsdus ++ tsdu ∷ [])
+short_more [] tsdu h k = (k, tt)
+short_more (x ∷ tsdus) tsdu (a, b) k = (a, short_more tsdus tsdu b k)
+
+pub room_more : (begun : ℕ) (tsdus : List (List ℕ)) (tsdu : List ℕ) → HaveRoom begun tsdus → length tsdu ≤ longest_tsdu →
+    HaveRoom begun (tsdus ++ tsdu ∷ [])
+room_more begun [] tsdu h k = (omega arith, tt)
+room_more begun (x ∷ tsdus) tsdu (a, b) k = (a, short_more tsdus tsdu b k)
+
+abbrev pub begun_by : (begun : ℕ) (end : Bool) → ℕ → ℕ
+begun_by begun true octets = 0
+begun_by begun false octets = begun + octets
+
+-- the next part, and what is left
+pub record Gives (limit begun : ℕ) (end : Bool) (octets : List ℕ) (rest : List (List ℕ)) : Type 0 where
+  pub fits : length octets ≤ limit
+  pub short : begun + length octets ≤ longest_tsdu
+  pub room : HaveRoom (begun_by begun end (length octets)) rest
+
+abbrev GivesPart : (limit begun : ℕ) → Part × List (List ℕ) → Type 0
+GivesPart limit begun ((end, octets), rest) = Gives limit begun end octets rest
+
+front_fits : (limit : ℕ) (tsdu : List ℕ) → limit < length tsdu → length (take limit tsdu) ≡ limit
+front_fits limit tsdu h = simp length-take (omega arith)
+
+rest_is : (limit : ℕ) (tsdu : List ℕ) → limit < length tsdu → limit + length (drop limit tsdu) ≡ length tsdu
+rest_is limit tsdu h = simp length-drop (omega arith)
+
+part_gives : (limit begun : ℕ) (tsdu : List ℕ) (more : List (List ℕ)) → begun + length tsdu ≤ longest_tsdu → AreShort more →
+    limit < length tsdu → Gives limit begun false (take limit tsdu) (drop limit tsdu ∷ more)
+part_gives limit begun tsdu more a b less =
+    let n = front_fits limit tsdu less in
+    let m = rest_is limit tsdu less in
+    record { fits = omega arith; short = omega arith; room = (omega arith, b) }
+
+-- however many octets of the first have been given
+abbrev GivesOf : (limit : ℕ) (unsent : List (List ℕ)) → Part × List (List ℕ) → Type 0
+GivesOf limit unsent part = (begun : ℕ) → HaveRoom begun unsent → GivesPart limit begun part
+
+gives_a_part : (limit : ℕ) (unsent : List (List ℕ)) → IfSome (give limit unsent) (GivesOf limit unsent)
+gives_a_part limit [] = tt
+gives_a_part limit (tsdu ∷ more) =
+    choose_some (GivesOf limit (tsdu ∷ more)) (nat_lt limit (length tsdu)) (Some ((false, take limit tsdu), drop limit tsdu ∷ more))
+    (Some ((true, tsdu), more))
+    (λ k begun h. part_gives limit begun tsdu more h.0 h.1 (ltb-true limit (length tsdu) k))
+    (λ k begun h. let within = ltb-false limit (length tsdu) k in record { fits = within; short = h.0; room = room_at_first more h.1 })
+
+-- ---- the next unit
+
+abbrev pub DoesGive : Ends → Flow → Given × Standing → Type 0
+DoesGive e f (part0 end octets, new) = ⊥
+DoesGive e f (part2 number end octets, new) = (0 < f.sender.credit) × (number ≡ f.sender.next) × (new.flow ≡ Some (sent_flow f))
+    × (new.ends.limit ≡ e.limit) × ((begun : ℕ) → HaveRoom begun e.unsent → Gives e.limit begun end octets new.ends.unsent)
+DoesGive e f (ack number credit, new) = (0 < f.receiver.waiting) × (number ≡ ack_number f.receiver) × (credit ≡ f.receiver.window)
+    × (new.flow ≡ Some (record f { receiver = after_acked f.receiver })) × (new.ends ≡ e)
+
+gives_data : (e : Ends) (f : Flow) → 0 < f.sender.credit → (o : Option (Part × List (List ℕ))) →
+    IfSome o (GivesOf e.limit e.unsent) → IfSome (given_part e (Some (sent_flow f)) (Some f.sender.next) o) (DoesGive e f)
+gives_data e f credit None h = tt
+gives_data e f credit (Some ((end, octets), rest)) h = (credit, refl, refl, refl, h)
+
+next_gives : (e : Ends) (f : Flow) → IfSome (next_by e (Some f)) (DoesGive e f)
+next_gives e f =
+    choose_some (DoesGive e f) (nat_lt 0 f.receiver.waiting)
+    (Some (ack (ack_number f.receiver) f.receiver.window, two_standing e (record f { receiver = after_acked f.receiver })))
+    (if nat_lt 0 f.sender.credit then given_part e (Some (sent_flow f)) (Some f.sender.next) (give e.limit e.unsent) else None)
+    (λ t. (ltb-true 0 f.receiver.waiting t, refl, refl, refl, refl))
+    (λ _. choose_some (DoesGive e f) (nat_lt 0 f.sender.credit)
+    (given_part e (Some (sent_flow f)) (Some f.sender.next) (give e.limit e.unsent)) None
+    (λ t. gives_data e f (ltb-true 0 f.sender.credit t) (give e.limit e.unsent) (gives_a_part e.limit e.unsent))
+    (λ _. tt))
+
+pub gives_so : (old new : Standing) (f : Flow) (unit : Given) → old.flow ≡ Some f → next old ≡ Some (unit, new) →
+    DoesGive old.ends f (unit, new)
+gives_so old new f unit is e =
+    at_some (DoesGive old.ends f) (next_by old.ends (Some f)) (unit, new) (next_gives old.ends f)
+    (sym (ap (λ (o : Option Flow). next_by old.ends o) is) ∙ e)
+
+-- ---- a unit that is taken
+
+abbrev pub DoesTake : Ends → Flow → Value → Standing → Type 0
+DoesTake e f (data2 destination number end octets) new = (new.flow ≡ Some (taken_flow f))
+    × (new.ends.limit ≡ e.limit) × (new.ends.unsent ≡ e.unsent)
+DoesTake e f (acknowledge credit destination number) new =
+    (steps_before f.sender.next number ≤ f.sender.unacknowledged)
+    × (f.sender.credit + steps_before f.sender.next number ≤ credit)
+    × (new.flow ≡ Some (record f {
+      sender = record {
+        next = f.sender.next;
+        unacknowledged = steps_before f.sender.next number;
+        credit =
+            credit - steps_before f.sender.next number;
+      };
+    }))
+    × (new.ends ≡ e)
+DoesTake e f unit new = ⊥
+
+takes_data : (e : Ends) (f : Flow) (destination number : ℕ) (end : Bool) (octets : List ℕ) (r : Result Joining LinkFault) →
+    IfOk (with_joined e (Some (taken_flow f)) r) (DoesTake e f (data2 destination number end octets))
+takes_data e f destination number end octets (Err fault) = tt
+takes_data e f destination number end octets (Ok joining) = (refl, refl, refl)
+
+takes_ack : (e : Ends) (f : Flow) (credit destination number : ℕ) →
+    IfOk (with_sender e f (acknowledged f.sender number credit)) (DoesTake e f (acknowledge credit destination number))
+takes_ack e f credit destination number =
+    let left = steps_before f.sender.next number in
+    elim (nat_lt f.sender.unacknowledged left) as (λ b. nat_lt f.sender.unacknowledged left ≡ b →
+    IfOk (with_sender e f (if b then Err OutOfSequence else (if nat_lt credit (f.sender.credit + left) then Err CreditReduced
+    else Ok (record { next = f.sender.next; unacknowledged = left; credit = credit - left }))))
+    (DoesTake e f (acknowledge credit destination number))) [
+      | true ↦ λ h. tt
+      | false ↦ λ h. elim (nat_lt credit (f.sender.credit + left)) as (λ b. nat_lt credit (f.sender.credit + left) ≡ b →
+          IfOk (with_sender e f (if b then Err CreditReduced else Ok (record {
+            next = f.sender.next;
+            unacknowledged = left;
+            credit =
+                credit - left;
+          })))
+          (DoesTake e f (acknowledge credit destination number))) [
+            | true ↦ λ k. tt
+            | false ↦ λ k. (ltb-false f.sender.unacknowledged left h, ltb-false credit (f.sender.credit + left) k, refl, refl)
+          ] refl
+    ] refl
+
+takes_by : (e : Ends) (f : Flow) (unit : Value) → IfOk (taken_by e (Some f) unit) (DoesTake e f unit)
+takes_by e f (data2 destination number end octets) =
+    choose_ok (DoesTake e f (data2 destination number end octets)) (is_awaited f.receiver number)
+    (with_joined e (Some (taken_flow f)) (joined e.joining end octets)) (Err OutOfSequence)
+    (λ t. takes_data e f destination number end octets (joined e.joining end octets))
+    (λ _. tt)
+takes_by e f (acknowledge credit destination number) = takes_ack e f credit destination number
+takes_by e f _ = tt
+
+pub takes_so : (old new : Standing) (f : Flow) (unit : Value) → old.flow ≡ Some f → taken old unit ≡ Ok new → DoesTake old.ends f unit new
+takes_so old new f unit is e =
+    at_ok (DoesTake old.ends f unit) (taken_by old.ends (Some f) unit) new (takes_by old.ends f unit)
+    (sym (ap (λ (o : Option Flow). taken_by old.ends o unit) is) ∙ e)

@@ -1,0 +1,410 @@
+-- What an end does keeps what holds of its line: a call of its link, and the close of the connection.
+-- For the laws on a line.
+use Rattle.std.proofs.Common.{◌≡◌, ◌∙◌, ℕ, ◌+◌, ◌-◌, ◌%◌, ◌≤◌, Bool, true, false, List, [], ◌∷◌, ◌++◌, length, arith, refl, sym, ap}
+use Rattle.std.proofs.Common.{subst}
+use Rattle.std.proofs.Common.{Option, Some, None, Ok}
+use Rattle.osi_tpdu.specs.Value.{Value, request, confirm, disconnect, disconnected, data0, data2, acknowledge, error}
+use Rattle.osi_class.specs.Ends.{Ends}
+use Rattle.osi_class.specs.Flow.{steps_before, after_acked, ack_number}
+use Rattle.osi_class.specs.Limits.{longest_tsdu}
+use Rattle.osi_class.specs.Link.{Standing, part0, part2, ack, next, taken, with_tsdu, sent_flow, taken_flow, Hands}
+use Rattle.osi_class.specs.Runs.{Move, Moves, hand_in, give_out, take_in, hand_out}
+use Rattle.osi_rules.specs.declared.connections.Connection.{Connection}
+use Rattle.osi_rules.specs.declared.directions.Direction.TheVariants.{Left}
+use Rattle.osi_rules.specs.declared.halves.Half.{Half}
+use Rattle.osi_rules.specs.declared.halves.Phase.{Phase}
+use Rattle.osi_rules.specs.Sides.{is_open, is_closing}
+use Rattle.osi_fair.specs.Lines.{ignores}
+use Rattle.osi_fair.specs.Lines.{Line, moves, closes, answers, Acts, IsRightNow, HandsInShort, units_put, units_taken}
+use Rattle.osi_fair.proofs.what_a_link_does.{HaveRoom, room_more, gives_so, takes_so}
+use Rattle.osi_fair.proofs.units_in_flight.{Puts, puts_more, comes_within}
+use Rattle.osi_fair.proofs.what_holds_of_a_line.{Tally, Ordered, linked, OpenIfAny, PutsAt, TakesAt, Holds, anyhow, bounds_of, came_of}
+use Rattle.osi_fair.proofs.what_holds_of_a_line.{ends_so, tapped}
+
+right_on : (tap : Connection) (put more : List Value) → IsRightNow Left tap put → IsRightNow Left tap (put ++ more)
+right_on tap [] more h = absurd h
+right_on tap (unit ∷ units) more h = h
+
+-- a call of the link that makes what was put this
+pub record Moved (peer limit : ℕ) (noted : ℕ) (tap : Connection) (put coming : List Value) (link : Standing) : Type 0 where
+  pub tally : Tally
+  pub ordered : Ordered tally noted
+  pub taps : tapped peer limit tally noted tap
+  pub puts : PutsAt peer limit tally tap.left tap.right put (Some link)
+  pub takes : linked limit tally tap.right coming link
+
+module _ (peer limit : ℕ) (x : Tally) (noted : ℕ) (tap : Connection) (o : Ordered x noted) (t : tapped peer limit x noted tap) where
+  -- ---- a DT
+
+  puts_data : (put coming : List Value) (link after : Standing) (number : ℕ) (end : Bool) (octets : List ℕ)
+      (h : linked limit x tap.right coming link) → PutsAt peer limit x tap.left tap.right put (Some link) →
+      next link ≡ Some (part2 number end octets, after) →
+      Puts (bounds_of peer limit (record x { sent = x.sent + 1 }) false tap.right) (ends_so (x.sent + 1) after.ends.unsent) x.passed x.shown
+      tap.left.begun (put ++ data2 peer number end octets ∷ [])
+  puts_data put coming link after number end octets h p e =
+      let (some, is, flow, size, gives) = gives_so link after h.flow (part2 number end octets) h.is e in
+      let numbered : number ≡ x.sent % 128 = is ∙ h.next in
+      let fits = h.size in
+      puts_more (bounds_of peer limit x false tap.right) (bounds_of peer limit (record x { sent = x.sent + 1 }) false tap.right)
+      (ends_so x.sent link.ends.unsent) (ends_so (x.sent + 1) after.ends.unsent) (data2 peer number end octets ∷ [])
+      (record { peer = refl; limit = refl; window = refl; sent = omega arith; acked = omega arith; closing = λ k. k }) refl
+      (λ passed shown begun within now.
+      let g = gives begun now.1 in
+      let short = g.short in
+      let fit = g.fits in
+      (refl, numbered ∙ ap (λ (n : ℕ). n % 128) (sym now.0), omega arith, omega arith, omega arith, (omega arith, g.room)))
+      x.passed x.shown tap.left.begun o.shown_acked put p.0
+
+  gives_data : (put coming : List Value) (link after : Standing) (number : ℕ) (end : Bool) (octets : List ℕ) →
+      linked limit x tap.right coming link → PutsAt peer limit x tap.left tap.right put (Some link) →
+      next link ≡ Some (part2 number end octets, after) →
+      Moved peer limit noted tap (put ++ data2 peer number end octets ∷ []) coming after
+  gives_data put coming link after number end octets h p e =
+      let (some, is, flow, size, gives) = gives_so link after h.flow (part2 number end octets) h.is e in
+      let within = comes_within (came_of x tap.right) h.taken h.known coming h.comes in
+      record {
+        tally = record x { sent = x.sent + 1 };
+        ordered = record {
+          heard_noted = o.heard_noted;
+          noted_passed = o.noted_passed;
+          passed_sent = omega arith;
+          few = omega arith;
+          within = omega arith;
+          shown_acked = o.shown_acked;
+          acked_came = o.acked_came;
+          tellable = o.tellable;
+        };
+        taps = t;
+        puts = (puts_data put coming link after number end octets h p e, p.1);
+        takes = record {
+          flow = sent_flow h.flow;
+          taken = h.taken;
+          known = h.known;
+          is = flow;
+          size = size ∙ h.size;
+          next = omega arith;
+          unacknowledged = omega arith;
+          few = omega arith;
+          edge = omega arith;
+          expected = h.expected;
+          waiting = h.waiting;
+          credit = h.credit;
+          comes = h.comes;
+        };
+      }
+
+  -- ---- an AK
+
+  puts_ack : (put coming : List Value) (link after : Standing) (number credit : ℕ)
+      (h : linked limit x tap.right coming link) → PutsAt peer limit x tap.left tap.right put (Some link) →
+      next link ≡ Some (ack number credit, after) →
+      Puts (bounds_of peer limit (record x { acked = x.acked + 1 }) false tap.right) (ends_so x.sent after.ends.unsent) x.passed x.shown
+      tap.left.begun (put ++ acknowledge credit peer number ∷ [])
+  puts_ack put coming link after number credit h p e =
+      let (some, is, of_window, flow, same) = gives_so link after h.flow (ack number credit) h.is e in
+      let within = comes_within (came_of x tap.right) h.taken h.known coming h.comes in
+      let numbered : ack_number h.flow.receiver ≡ (x.acked + 1) % 128 = omega arith in
+      puts_more (bounds_of peer limit x false tap.right) (bounds_of peer limit (record x { acked = x.acked + 1 }) false tap.right)
+      (ends_so x.sent link.ends.unsent) (ends_so x.sent after.ends.unsent) (acknowledge credit peer number ∷ [])
+      (record { peer = refl; limit = refl; window = refl; sent = omega arith; acked = omega arith; closing = λ k. k }) refl
+      (λ passed shown begun low now. (
+        x.acked + 1,
+        refl,
+        of_window ∙ h.credit,
+        is ∙ numbered,
+        omega arith,
+        omega arith,
+        (now.0, subst (λ (e : Ends). HaveRoom begun e.unsent) (sym same) now.1),
+      ))
+      x.passed x.shown tap.left.begun o.shown_acked put p.0
+
+  gives_ack : (put coming : List Value) (link after : Standing) (number credit : ℕ) →
+      linked limit x tap.right coming link → PutsAt peer limit x tap.left tap.right put (Some link) →
+      next link ≡ Some (ack number credit, after) →
+      Moved peer limit noted tap (put ++ acknowledge credit peer number ∷ []) coming after
+  gives_ack put coming link after number credit h p e =
+      let (some, is, of_window, flow, same) = gives_so link after h.flow (ack number credit) h.is e in
+      let within = comes_within (came_of x tap.right) h.taken h.known coming h.comes in
+      record {
+        tally = record x { acked = x.acked + 1 };
+        ordered = record {
+          heard_noted = o.heard_noted;
+          noted_passed = o.noted_passed;
+          passed_sent = o.passed_sent;
+          few = o.few;
+          within = o.within;
+          shown_acked = omega arith;
+          acked_came = omega arith;
+          tellable = o.tellable;
+        };
+        taps = t;
+        puts = (puts_ack put coming link after number credit h p e, p.1);
+        takes = record {
+          flow = record h.flow { receiver = after_acked h.flow.receiver };
+          taken = h.taken;
+          known = h.known;
+          is = flow;
+          size = ap (λ (e : Ends). e.limit) same ∙ h.size;
+          next = h.next;
+          unacknowledged = h.unacknowledged;
+          few = h.few;
+          edge = h.edge;
+          expected = h.expected;
+          waiting = omega arith;
+          credit = h.credit;
+          comes = h.comes;
+        };
+      }
+
+  -- ---- calls that put nothing
+
+  -- what was put stays, with other TSDUs that are still to be sent
+  puts_same : (put : List Value) (link after : Standing) → PutsAt peer limit x tap.left tap.right put (Some link) →
+      ((begun : ℕ) → HaveRoom begun link.ends.unsent → HaveRoom begun after.ends.unsent) →
+      PutsAt peer limit x tap.left tap.right (put ++ []) (Some after)
+  puts_same put link after p room = (
+    puts_more (bounds_of peer limit x false tap.right) (bounds_of peer limit x false tap.right)
+        (ends_so x.sent link.ends.unsent) (ends_so x.sent after.ends.unsent) []
+        (record { peer = refl; limit = refl; window = refl; sent = omega arith; acked = omega arith; closing = λ k. k }) refl
+        (λ passed shown begun within now. (now.0, room begun now.1)) x.passed x.shown tap.left.begun o.shown_acked put p.0,
+    p.1,
+  )
+
+  same_flow : (put coming : List Value) (link after : Standing) → linked limit x tap.right coming link →
+      PutsAt peer limit x tap.left tap.right put (Some link) → after.flow ≡ link.flow → after.ends.limit ≡ link.ends.limit →
+      ((begun : ℕ) → HaveRoom begun link.ends.unsent → HaveRoom begun after.ends.unsent) →
+      Moved peer limit noted tap (put ++ []) coming after
+  same_flow put coming link after h p flow size room = record {
+    tally = x;
+    ordered = o;
+    taps = t;
+    puts = puts_same put link after p room;
+    takes = record {
+      flow = h.flow;
+      taken = h.taken;
+      known = h.known;
+      is = flow ∙ h.is;
+      size = size ∙ h.size;
+      next = h.next;
+      unacknowledged = h.unacknowledged;
+      few = h.few;
+      edge = h.edge;
+      expected = h.expected;
+      waiting = h.waiting;
+      credit = h.credit;
+      comes = h.comes;
+    };
+  }
+
+  takes_data : (put coming : List Value) (link after : Standing) (destination number : ℕ) (end : Bool) (octets : List ℕ) →
+      linked limit x tap.right (data2 destination number end octets ∷ coming) link →
+      PutsAt peer limit x tap.left tap.right put (Some link) → taken link (data2 destination number end octets) ≡ Ok after →
+      Moved peer limit noted tap (put ++ []) coming after
+  takes_data put coming link after destination number end octets h p e =
+      let (flow, size, unsent) = takes_so link after h.flow (data2 destination number end octets) h.is e in
+      record {
+        tally = x;
+        ordered = o;
+        taps = t;
+        puts = puts_same put link after p (λ begun room. subst (λ (l : List (List ℕ)). HaveRoom begun l) (sym unsent) room);
+        takes = record {
+          flow = taken_flow h.flow;
+          taken = h.taken + 1;
+          known = h.known;
+          is = flow;
+          size = size ∙ h.size;
+          next = h.next;
+          unacknowledged = h.unacknowledged;
+          few = h.few;
+          edge = h.edge;
+          expected = omega arith;
+          waiting = omega arith;
+          credit = h.credit;
+          comes = h.comes;
+        };
+      }
+
+  takes_ack : (put coming : List Value) (link after : Standing) (credit destination number : ℕ) →
+      linked limit x tap.right (acknowledge credit destination number ∷ coming) link →
+      PutsAt peer limit x tap.left tap.right put (Some link) → taken link (acknowledge credit destination number) ≡ Ok after →
+      Moved peer limit noted tap (put ++ []) coming after
+  takes_ack put coming link after credit destination number h p e =
+      let (within, enough, flow, same) = takes_so link after h.flow (acknowledge credit destination number) h.is e in
+      let (count, is, small, up, edge, comes) = h.comes in
+      let low = comes_within (came_of x tap.right) h.taken count coming comes in
+      let left : count + steps_before h.flow.sender.next number ≡ x.sent = omega arith in
+      record {
+        tally = x;
+        ordered = o;
+        taps = t;
+        puts = puts_same put link after p (λ begun room. subst (λ (e : Ends). HaveRoom begun e.unsent) (sym same) room);
+        takes = record {
+          flow = record h.flow {
+            sender = record {
+              next = h.flow.sender.next;
+              unacknowledged = steps_before h.flow.sender.next number;
+              credit = credit - steps_before h.flow.sender.next number;
+            };
+          };
+          taken = h.taken;
+          known = count;
+          is = flow;
+          size = ap (λ (e : Ends). e.limit) same ∙ h.size;
+          next = h.next;
+          unacknowledged = left;
+          few = omega arith;
+          edge = omega arith;
+          expected = h.expected;
+          waiting = h.waiting;
+          credit = h.credit;
+          comes = comes;
+        };
+      }
+
+  hands_out : (put coming : List Value) (link after : Standing) (tsdu : List ℕ) → linked limit x tap.right coming link →
+      PutsAt peer limit x tap.left tap.right put (Some link) → Hands (Some tsdu) link after →
+      Moved peer limit noted tap (put ++ []) coming after
+  hands_out put coming link after tsdu h p e =
+      let unsent : after.ends.unsent ≡ link.ends.unsent = ap (λ (s : Standing). s.ends.unsent) (sym e) in
+      same_flow put coming link after h p (ap (λ (s : Standing). s.flow) (sym e)) (ap (λ (s : Standing). s.ends.limit) (sym e))
+      (λ begun room. subst (λ (l : List (List ℕ)). HaveRoom begun l) (sym unsent) room)
+
+  hands_in : (put coming : List Value) (link after : Standing) (tsdu : List ℕ) → linked limit x tap.right coming link →
+      PutsAt peer limit x tap.left tap.right put (Some link) → length tsdu ≤ longest_tsdu → after ≡ with_tsdu link tsdu →
+      Moved peer limit noted tap (put ++ []) coming after
+  hands_in put coming link after tsdu h p short e =
+      let unsent : after.ends.unsent ≡ link.ends.unsent ++ tsdu ∷ [] = ap (λ (s : Standing). s.ends.unsent) e in
+      same_flow put coming link after h p (ap (λ (s : Standing). s.flow) e) (ap (λ (s : Standing). s.ends.limit) e)
+      (λ begun room. subst (λ (l : List (List ℕ)). HaveRoom begun l) (sym unsent) (room_more begun link.ends.unsent tsdu room short))
+
+  -- ---- each call
+
+  takes_any : (put coming : List Value) (link after : Standing) (unit : Value) → linked limit x tap.right (unit ∷ coming) link →
+      PutsAt peer limit x tap.left tap.right put (Some link) → taken link unit ≡ Ok after →
+      Moved peer limit noted tap (put ++ []) coming after
+  takes_any put coming link after (data2 destination number end octets) h p e =
+      takes_data put coming link after destination number end octets h p e
+  takes_any put coming link after (acknowledge credit destination number) h p e =
+      takes_ack put coming link after credit destination number h p e
+  takes_any put coming link after (request c) h p e = absurd (takes_so link after h.flow (request c) h.is e)
+  takes_any put coming link after (confirm destination c) h p e = absurd (takes_so link after h.flow (confirm destination c) h.is e)
+  takes_any put coming link after (disconnect destination source reason user) h p e =
+      absurd (takes_so link after h.flow (disconnect destination source reason user) h.is e)
+  takes_any put coming link after (disconnected destination source) h p e =
+      absurd (takes_so link after h.flow (disconnected destination source) h.is e)
+  takes_any put coming link after (data0 end user) h p e = absurd (takes_so link after h.flow (data0 end user) h.is e)
+  takes_any put coming link after (error destination cause) h p e = absurd (takes_so link after h.flow (error destination cause) h.is e)
+
+  call_moves : (move : Move) (put coming : List Value) (link after : Standing) →
+      linked limit x tap.right (units_taken move ++ coming) link →
+      PutsAt peer limit x tap.left tap.right put (Some link) → Moves move link after → HandsInShort move →
+      Moved peer limit noted tap (put ++ units_put peer move) coming after
+  call_moves (hand_in tsdu) put coming link after h p e short = hands_in put coming link after tsdu h p short e
+  call_moves (give_out (part0 end octets)) put coming link after h p e short =
+      absurd (gives_so link after h.flow (part0 end octets) h.is e)
+  call_moves (give_out (part2 number end octets)) put coming link after h p e short =
+      gives_data put coming link after number end octets h p e
+  call_moves (give_out (ack number credit)) put coming link after h p e short = gives_ack put coming link after number credit h p e
+  call_moves (take_in unit) put coming link after h p e short = takes_any put coming link after unit h p e
+  call_moves (hand_out tsdu) put coming link after h p e short = hands_out put coming link after tsdu h p e
+
+  -- ---- the end closes the connection
+
+  open_if : (put : List Value) (phase : Phase) → is_open phase ≡ true → OpenIfAny put phase
+  open_if [] phase h = tt
+  open_if (unit ∷ units) phase h = h
+
+  closes_by : (unit : Value) (put : List Value) (link : Standing) → PutsAt peer limit x tap.left tap.right put (Some link) →
+      ((passed shown begun : ℕ) → Puts (bounds_of peer limit x true tap.right) anyhow passed shown begun (unit ∷ [])) →
+      PutsAt peer limit x tap.left tap.right (put ++ unit ∷ []) None
+  closes_by unit put link p last = (
+    puts_more (bounds_of peer limit x false tap.right) (bounds_of peer limit x true tap.right)
+        (ends_so x.sent link.ends.unsent) anyhow (unit ∷ [])
+        (record { peer = refl; limit = refl; window = refl; sent = omega arith; acked = omega arith; closing = λ k. k }) refl
+        (λ passed shown begun within now. last passed shown begun) x.passed x.shown tap.left.begun o.shown_acked put p.0,
+    open_if (put ++ unit ∷ []) tap.left.phase p.1,
+  )
+
+  was_closing : (coming : List Value) (link : Standing) (destination source reason : ℕ) (user : List ℕ) →
+      linked limit x tap.right (disconnect destination source reason user ∷ coming) link → is_closing tap.right.phase ≡ true
+  was_closing coming link destination source reason user h = h.comes.2
+
+-- ---- what holds stays
+
+puts_with : (peer limit : ℕ) (x : Tally) (mine theirs : Half) (put : List Value) (link : Option Standing) (is : Standing) → link ≡ Some is →
+    PutsAt peer limit x mine theirs put link → PutsAt peer limit x mine theirs put (Some is)
+puts_with peer limit x mine theirs put link is e h = subst (λ (l : Option Standing). PutsAt peer limit x mine theirs put l) e h
+
+takes_with : (limit : ℕ) (x : Tally) (theirs : Half) (coming : List Value) (link : Option Standing) (is : Standing) → link ≡ Some is →
+    TakesAt limit x theirs coming link → linked limit x theirs coming is
+takes_with limit x theirs coming link is e h = subst (λ (l : Option Standing). TakesAt limit x theirs coming l) e h
+
+pub moves_hold : (r peer : ℕ) (move : Move) (old new : Line) → Acts Left r peer (moves move) old new → Holds peer old → Holds peer new
+moves_hold r peer move old new (link, after, is, e, short, coming, new_is) h =
+    let puts = puts_with peer h.limit h.tally old.tap.left old.tap.right old.put old.link link is h.puts in
+    let takes = takes_with h.limit h.tally old.tap.right old.coming old.link link is h.takes in
+    let came = subst (λ (l : List Value). linked h.limit h.tally old.tap.right l link) coming takes in
+    let m = call_moves peer h.limit h.tally h.noted old.tap h.ordered h.taps move old.put new.coming link after came puts e short in
+    subst (λ (l : Line). Holds peer l) (sym new_is)
+    (record {
+      limit = h.limit;
+      tally = m.tally;
+      noted = h.noted;
+      ordered = m.ordered;
+      taps = m.taps;
+      puts = m.puts;
+      takes = m.takes;
+      under_way = λ b. right_on old.tap old.put (units_put peer move) (h.under_way b);
+    })
+
+pub closes_hold : (r peer reason : ℕ) (units : List Value) (old new : Line) → Acts Left r peer (closes reason units) old new →
+    Holds peer old →
+    Holds peer new
+closes_hold r peer reason units old new (link, is, coming, new_is) h =
+    let puts = puts_with peer h.limit h.tally old.tap.left old.tap.right old.put old.link link is h.puts in
+    subst (λ (l : Line). Holds peer l) (sym new_is)
+    (record {
+      limit = h.limit;
+      tally = h.tally;
+      noted = h.noted;
+      ordered = h.ordered;
+      taps = h.taps;
+      puts = closes_by peer h.limit h.tally h.noted old.tap h.ordered h.taps (disconnect peer r reason []) old.put link puts
+          (λ passed shown begun. (refl, refl, refl));
+      takes = tt;
+      under_way = λ b. right_on old.tap old.put (disconnect peer r reason [] ∷ []) (h.under_way b);
+    })
+
+pub ignores_hold : (r peer : ℕ) (units : List Value) (old new : Line) → Acts Left r peer (ignores units) old new → Holds peer old →
+    Holds peer new
+ignores_hold r peer units old new (none, coming, new_is) h = subst (λ (l : Line). Holds peer l) (sym new_is)
+    (record {
+      limit = h.limit;
+      tally = h.tally;
+      noted = h.noted;
+      ordered = h.ordered;
+      taps = h.taps;
+      puts = h.puts;
+      takes = subst (λ (o : Option Standing). TakesAt h.limit h.tally old.tap.right new.coming o) (sym none) tt;
+      under_way = h.under_way;
+    })
+
+pub answers_hold : (r peer : ℕ) (unit : Value) (old new : Line) → Acts Left r peer (answers unit) old new → Holds peer old → Holds peer new
+answers_hold r peer unit old new (link, is, (destination, source, reason, user, dr), coming, new_is) h =
+    let puts = puts_with peer h.limit h.tally old.tap.left old.tap.right old.put old.link link is h.puts in
+    let takes = takes_with h.limit h.tally old.tap.right old.coming old.link link is h.takes in
+    let first : old.coming ≡ disconnect destination source reason user ∷ new.coming = coming ∙ ap (λ (v : Value). v ∷ new.coming) dr in
+    let came = subst (λ (l : List Value). linked h.limit h.tally old.tap.right l link) first takes in
+    let closing = was_closing peer h.limit h.tally h.noted old.tap h.ordered h.taps new.coming link destination source reason user came in
+    subst (λ (l : Line). Holds peer l) (sym new_is)
+    (record {
+      limit = h.limit;
+      tally = h.tally;
+      noted = h.noted;
+      ordered = h.ordered;
+      taps = h.taps;
+      puts = closes_by peer h.limit h.tally h.noted old.tap h.ordered h.taps (disconnected peer r) old.put link puts
+          (λ passed shown begun. (refl, refl, closing, refl));
+      takes = tt;
+      under_way = λ b. right_on old.tap old.put (disconnected peer r ∷ []) (h.under_way b);
+    })

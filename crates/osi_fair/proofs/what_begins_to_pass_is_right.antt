@@ -1,0 +1,179 @@
+-- A unit of an end is right by all that has passed of the other side when its packet begins.
+-- For the laws on a line.
+use Rattle.std.proofs.Common.{◌≡◌, ◌∙◌, ℕ, ◌+◌, ◌%◌, ◌<◌, ◌≤◌, Bool, true, false, List, [], ◌∷◌, length, arith, refl, sym}
+use Rattle.std.proofs.Common.{Option, Some, None, IfSome, ◌≢◌}
+use Rattle.std.specs.Prelude.{not, ◌&&◌, ◌||◌, ◌==◌}
+use Rattle.std.proofs.lemmas.Bool.{eq-eqb, le-leb, lt-ltb}
+use Rattle.osi_tpdu.specs.Value.{Value, request, confirm, disconnect, disconnected, data0, data2, acknowledge, error}
+use Rattle.osi_class.specs.Limits.{longest_tsdu}
+use Rattle.osi_class.specs.Link.{Standing}
+use Rattle.osi_rules.specs.declared.connections.Connection.{Connection}
+use Rattle.osi_rules.specs.declared.directions.Direction.TheVariants.{Left}
+use Rattle.osi_rules.specs.declared.halves.Phase.{Phase}
+use Rattle.osi_rules.specs.declared.halves.Phase.TheVariants.{Silent, Open, Refused, Closing, Closed}
+use Rattle.osi_rules.specs.declared.findings.Finding.TheVariants.{Kept}
+use Rattle.osi_rules.specs.Rows.{first_failed, steps_from, fits_size, data2_tests, acknowledge_tests, disconnect_tests}
+use Rattle.osi_rules.specs.Rows.{disconnected_tests}
+use Rattle.osi_rules.specs.Sides.{is_silent, is_open, is_refused, is_closing, is_closed, is_over, is_named, begins}
+use Rattle.osi_fair.specs.Lines.{IsRightNow}
+use Rattle.osi_fair.proofs.what_is_right_passes_each_test.{is_right}
+use Rattle.osi_fair.proofs.units_in_flight.{Puts}
+use Rattle.osi_fair.proofs.what_holds_of_a_line.{Tally, Ordered, OpenIfAny, PutsAt, anyhow, bounds_of, ends_so, is_there, tapped}
+
+-- ---- phases
+
+pub not_silent : (phase : Phase) → is_open phase ≡ true → not (is_silent phase) ≡ true
+not_silent Silent h = cc
+not_silent Open h = refl
+not_silent Refused h = refl
+not_silent Closing h = refl
+not_silent Closed h = refl
+
+and_false : (b : Bool) → (b && false) ≡ false
+and_false true = refl
+and_false false = refl
+
+not_over : (judged : Bool) (mine known : Phase) → is_open mine ≡ true → is_there known ≡ true →
+    (judged && (is_refused mine || (is_refused known || (is_closed mine
+    || (is_closing mine && (is_closing known || is_closed known)))))) ≡ false
+not_over judged Open Open h k = and_false judged
+not_over judged Open Closing h k = and_false judged
+not_over judged Open Closed h k = and_false judged
+not_over judged Open Silent h k = cc
+not_over judged Open Refused h k = cc
+not_over judged Silent known h k = cc
+not_over judged Refused known h k = cc
+not_over judged Closing known h k = cc
+not_over judged Closed known h k = cc
+
+there_is : (known : Phase) → is_there known ≡ true → not (is_silent known) ≡ true
+there_is Silent h = cc
+there_is Open h = refl
+there_is Refused h = refl
+there_is Closing h = refl
+there_is Closed h = refl
+
+all_of : (a b c : Bool) → a ≡ false → b ≡ true → c ≡ true → (not a && (b && c)) ≡ true
+all_of a b c e f g = rw (e, f, g) refl
+
+or_right : (a b : Bool) → b ≡ true → (a || b) ≡ true
+or_right true b h = refl
+or_right false b h = h
+
+both : (a b : Bool) → a ≡ true → b ≡ true → (a && b) ≡ true
+both a b h k = rw (h, k) refl
+
+or_left : (a b : Bool) → a ≡ true → (a || b) ≡ true
+or_left a b h = rw h refl
+
+-- a unit with the reference that the other side gave is for the connection
+is_named_so : (c : Connection) (peer n : ℕ) → is_open c.left.phase ≡ true → is_there c.seen_by_left.phase ≡ true →
+    c.seen_by_left.reference ≡ peer → n ≡ peer → is_named Left n c ≡ true
+is_named_so c peer n live there reference e =
+    all_of (is_over Left c) (not (is_silent c.seen_by_left.phase)) (c.seen_by_left.reference == n)
+    (not_over c.is_judged c.left.phase c.seen_by_left.phase live there) (there_is c.seen_by_left.phase there)
+    (eq-eqb c.seen_by_left.reference n (reference ∙ sym e))
+
+fits_so : (size : Option ℕ) (limit octets : ℕ) → IfSome size (λ most. limit + 5 ≤ most) → octets ≤ limit →
+    fits_size size (octets + 5) ≡ true
+fits_so None limit octets h k = refl
+fits_so (Some most) limit octets h k = le-leb (octets + 5) most (omega arith)
+
+module _ (peer limit : ℕ) (x : Tally) (noted : ℕ) (tap : Connection) (o : Ordered x noted) (t : tapped peer limit x noted tap)
+    (live : is_open tap.left.phase ≡ true) where
+  abbrev known : Connection
+  known = begins Left tap
+
+  named_so : (n : ℕ) → n ≡ peer → is_named Left n known ≡ true
+  named_so n e = is_named_so known peer n live t.there t.reference e
+
+  data_right : (number octets : ℕ) → number ≡ x.passed % 128 → x.passed < x.sent → octets ≤ limit → tap.left.begun + octets ≤ longest_tsdu →
+      first_failed (data2_tests Left known number octets) ≡ Kept
+  data_right number octets is more fits short =
+      let a = t.next in
+      let b = t.their_awaited in
+      let c = t.their_edge in
+      let tells : steps_from tap.right.awaited tap.left.next < 127 = omega arith in
+      let credit : steps_from tap.right.awaited tap.left.next < tap.right.credit = omega arith in
+      let below_edge = lt-ltb (steps_from tap.right.awaited tap.left.next) tap.right.credit credit in
+      is_right (data2_tests Left known number octets) (
+        not_silent tap.left.phase live,
+        (
+          live,
+          (
+            eq-eqb number tap.left.next (is ∙ sym a),
+            (
+              lt-ltb (steps_from tap.right.awaited tap.left.next) 127 tells,
+              (
+                le-leb (tap.left.begun + octets) longest_tsdu short,
+                (below_edge, (fits_so tap.size limit octets t.fits fits, tt)),
+              ),
+            ),
+          ),
+        ),
+      )
+
+  ack_right : (number credit count : ℕ) → credit ≡ x.window → number ≡ count % 128 → x.shown ≤ count → count ≤ x.acked →
+      first_failed (acknowledge_tests Left known number credit) ≡ Kept
+  ack_right number credit count is_window is low high =
+      let a = t.awaited in
+      let b = t.their_next in
+      let c = t.credit in
+      let had : steps_from tap.left.awaited number ≤ steps_from tap.left.awaited tap.right.next = omega arith in
+      let keeps : tap.left.credit ≤ steps_from tap.left.awaited number + credit = omega arith in
+      is_right (acknowledge_tests Left known number credit) (
+        not_silent tap.left.phase live,
+        (
+          live,
+          (
+            le-leb (steps_from tap.left.awaited number) (steps_from tap.left.awaited tap.right.next) had,
+            (le-leb tap.left.credit (steps_from tap.left.awaited number + credit) keeps, tt),
+          ),
+        ),
+      )
+
+  disconnect_right : first_failed (disconnect_tests Left known) ≡ Kept
+  disconnect_right = is_right (disconnect_tests Left known) (or_right (is_silent tap.left.phase) (is_open tap.left.phase) live, tt)
+
+  disconnected_right : (strays : Bool) → is_closing tap.right.phase ≡ true → first_failed (disconnected_tests Left known strays) ≡ Kept
+  disconnected_right strays closing =
+      let due = both (is_open tap.left.phase) (is_closing tap.right.phase) live closing in
+      is_right (disconnected_tests Left known strays)
+      (or_left (is_open tap.left.phase && is_closing tap.right.phase) (not strays) due, (due, tt))
+
+  -- whether the end has closed the connection or not
+  pub first_right : (closed : Bool) (e : ℕ → ℕ → Type 0) (put : List Value) → put ≢ [] →
+      Puts (bounds_of peer limit x closed tap.right) e x.passed x.shown tap.left.begun put → IsRightNow Left known put
+  first_right closed e [] some h = absurd (some refl)
+  first_right closed e (data2 destination number end user ∷ units) some (a, b, c, d, f, g) = record {
+    named = named_so destination a;
+    kept = λ course in_use. data_right number (length user) b c d f;
+  }
+  first_right closed e (acknowledge credit destination number ∷ units) some (count, a, b, c, d, f, g) = record {
+    named = named_so destination a;
+    kept = λ course in_use. ack_right number credit count b c d f;
+  }
+  first_right closed e (disconnect destination source reason user ∷ units) some (a, b, c) = record {
+    named = named_so destination a;
+    kept = λ course in_use. disconnect_right;
+  }
+  first_right closed e (disconnected destination source ∷ units) some (a, b, c, d) = record {
+    named = named_so destination a;
+    kept = λ course in_use. disconnected_right course.strays c;
+  }
+  first_right closed e (request c ∷ units) some h = absurd h
+  first_right closed e (confirm destination c ∷ units) some h = absurd h
+  first_right closed e (data0 end user ∷ units) some h = absurd h
+  first_right closed e (error destination cause ∷ units) some h = absurd h
+
+open_now : (put : List Value) (phase : Phase) → put ≢ [] → OpenIfAny put phase → is_open phase ≡ true
+open_now [] phase some h = absurd (some refl)
+open_now (unit ∷ units) phase some h = h
+
+pub begins_right : (peer limit : ℕ) (x : Tally) (noted : ℕ) (tap : Connection) → Ordered x noted → tapped peer limit x noted tap →
+    (put : List Value) (link : Option Standing) → put ≢ [] → PutsAt peer limit x tap.left tap.right put link →
+    IsRightNow Left (begins Left tap) put
+begins_right peer limit x noted tap o t put None some (h, k) =
+    first_right peer limit x noted tap o t (open_now put tap.left.phase some k) true anyhow put some h
+begins_right peer limit x noted tap o t put (Some link) some (h, k) =
+    first_right peer limit x noted tap o t k false (ends_so x.sent link.ends.unsent) put some h

@@ -1,0 +1,269 @@
+-- Each unit of the other side, by what is found of it: it has its effect, or none, or the connection is not judged any more.
+-- For the laws on a line.
+use Rattle.std.proofs.Common.{◌≡◌, ◌≢◌, ◌∙◌, ℕ, ◌+◌, ◌<◌, Bool, true, false, List, [], ◌∷◌, ◌++◌, length, refl, sym, ap, subst}
+use Rattle.std.proofs.Common.{Option, Some, if◌then◌else◌, ◌⊎◌, inl, inr}
+use Rattle.std.specs.Prelude.{not, ◌&&◌, ◌||◌, ◌==◌}
+use Rattle.osi_tpdu.specs.Value.{Value, request, confirm, disconnect, disconnected, data0, data2, acknowledge, error}
+use Rattle.osi_tpdu.specs.Value.{HasFieldsInRange, destination_of}
+use Rattle.osi_class.specs.Link.{Standing}
+use Rattle.osi_class.specs.declared.terms.Class.TheVariants.{Two}
+use Rattle.osi_rules.specs.declared.connections.Connection.{Connection}
+use Rattle.osi_rules.specs.declared.courses.Course.{Course}
+use Rattle.osi_rules.specs.declared.directions.Direction.TheVariants.{Left, Right}
+use Rattle.osi_rules.specs.declared.findings.Finding.{Finding}
+use Rattle.osi_rules.specs.declared.findings.Finding.TheVariants.{Kept, Broke, NotJudged}
+use Rattle.osi_rules.specs.declared.findings.Reach.{Reach}
+use Rattle.osi_rules.specs.declared.findings.Reach.TheVariants as reach
+use Rattle.osi_rules.specs.declared.findings.Rule.TheVariants as rule
+use Rattle.osi_rules.specs.declared.halves.Phase.{Phase}
+use Rattle.osi_rules.specs.declared.halves.Phase.TheVariants.{Silent, Open, Refused, Closing, Closed}
+use Rattle.osi_rules.specs.Reaches.{is_applied, reach_of}
+use Rattle.osi_rules.specs.Rows.{Test, first_failed, has_credit, has_passed, keeps_credit, fits_size, fits_tsdu, is_tellable, is_due}
+use Rattle.osi_rules.specs.Sides.{is_silent, is_open, is_closing}
+use Rattle.osi_rules.specs.Traffic.{found, sent_on, closing_phase, connection_after}
+use Rattle.osi_fair.specs.Lines.{Line, passes_other, Acts, finding_of, after_finding}
+use Rattle.osi_fair.proofs.what_holds_of_a_line.{Tally, Ordered, PutsAt, TakesAt, Holds, is_there, tapped}
+use Rattle.osi_fair.proofs.what_passes_of_the_other_side.{Went, goes_same, data_goes, ack_goes, ends_goes}
+
+-- ---- what comes of a finding
+
+abbrev Applies : Finding → Type 0
+Applies f = (is_applied f ≡ true) × (reach_of (Some Two) f ≡ reach.Nothing)
+
+abbrev Leaves : Finding → Type 0
+Leaves f = (is_applied f ≡ false) × (reach_of (Some Two) f ≡ reach.Nothing)
+
+abbrev Loses : Finding → Type 0
+Loses f = (is_applied f ≡ false) × (reach_of (Some Two) f ≡ reach.Connection)
+
+after_is : (f : Finding) (a : Bool) (r : Reach) (v : Value) (c : Connection) → is_applied f ≡ a → reach_of (Some Two) f ≡ r →
+    after_finding Right f v c ≡ connection_after Right v a r c
+after_is f a r v c e g =
+    ap (λ (b : Bool). connection_after Right v b (reach_of (Some Two) f) c) e ∙ ap (λ (q : Reach). connection_after Right v a q c) g
+
+applied_after : (f : Finding) (v : Value) (c : Connection) → Applies f → sent_on Right v c ≡ after_finding Right f v c
+applied_after f v c (e, g) = sym (after_is f true reach.Nothing v c e g)
+
+left_after : (f : Finding) (v : Value) (c : Connection) → Leaves f → c ≡ after_finding Right f v c
+left_after f v c (e, g) = sym (after_is f false reach.Nothing v c e g)
+
+lost_after : (f : Finding) (v : Value) (c : Connection) → Loses f → (after_finding Right f v c).is_judged ≡ true → ⊥
+lost_after f v c (e, g) judged =
+    let no : (after_finding Right f v c).is_judged ≡ false = ap (λ (d : Connection). d.is_judged)
+    (after_is f false reach.Connection v c e g) in
+    cc
+
+loses_as : (f g : Finding) → f ≡ g → Loses g → Loses f
+loses_as f g e (a, b) = (ap is_applied e ∙ a, ap (λ (h : Finding). reach_of (Some Two) h) e ∙ b)
+
+-- ---- what is found, by the tests of each row
+
+abbrev data_list : (s o n t u k z : Bool) → List Test
+data_list s o n t u k z = (s, Broke rule.UnknownReference) ∷ (o, Broke rule.Closed) ∷ (n, Broke rule.OutOfSequence)
+    ∷ (t, Broke rule.OutOfSequence)
+    ∷ (u, Broke rule.TsduTooLong) ∷ (k, Broke rule.NoCredit) ∷ (z, Broke rule.SizeExceeded) ∷ []
+
+-- `open`: the other side has not closed the connection; `tells`: the number of the DT can be told
+abbrev Fate : (live tells : Bool) → Finding → Type 0
+Fate live tells f = (reach_of (Some Two) f ≡ reach.Everything) ⊎ (((live ≡ false) × Leaves f) ⊎ (Loses f ⊎ ((live ≡ true)
+    × (tells ≡ true) × Applies f)))
+
+data_fate : (s o n t u k z : Bool) → Fate o t (first_failed (data_list s o n t u k z))
+data_fate false o n t u k z = inl refl
+data_fate true false n t u k z = inr (inl (refl, (refl, refl)))
+data_fate true true false t u k z = inr (inr (inl (refl, refl)))
+data_fate true true true false u k z = inr (inr (inl (refl, refl)))
+data_fate true true true true false k z = inr (inr (inl (refl, refl)))
+data_fate true true true true true false z = inr (inr (inr (refl, refl, (refl, refl))))
+data_fate true true true true true true false = inr (inr (inr (refl, refl, (refl, refl))))
+data_fate true true true true true true true = inr (inr (inr (refl, refl, (refl, refl))))
+
+abbrev ack_list : (s o h k : Bool) → List Test
+ack_list s o h k =
+    (s, Broke rule.UnknownReference) ∷ (o, Broke rule.Closed) ∷ (h, Broke rule.OutOfSequence) ∷ (k, Broke rule.CreditReduced) ∷ []
+
+ack_fate : (s o h k : Bool) → Fate o (h && k) (first_failed (ack_list s o h k))
+ack_fate false o h k = inl refl
+ack_fate true false h k = inr (inl (refl, (refl, refl)))
+ack_fate true true false k = inr (inr (inl (refl, refl)))
+ack_fate true true true false = inr (inr (inl (refl, refl)))
+ack_fate true true true true = inr (inr (inr (refl, refl, (refl, refl))))
+
+-- a DR of a side that is there
+disconnect_fate : (phase : Phase) → is_there phase ≡ true →
+    ((is_open phase ≡ false) × Leaves (first_failed ((is_silent phase || is_open phase, Broke rule.Closed) ∷ [])))
+    ⊎ ((is_open phase ≡ true) × (is_silent phase ≡ false)
+    × Applies (first_failed ((is_silent phase || is_open phase, Broke rule.Closed) ∷ [])))
+disconnect_fate Silent h = cc
+disconnect_fate Refused h = cc
+disconnect_fate Open h = inr (refl, refl, (refl, refl))
+disconnect_fate Closing h = inl (refl, (refl, refl))
+disconnect_fate Closed h = inl (refl, (refl, refl))
+
+disconnected_fate : (due strays : Bool) →
+    (let f = first_failed ((due || not strays, NotJudged) ∷ (due, Broke rule.NothingToAnswer) ∷ []) in
+    (Leaves f) ⊎ (Loses f ⊎ ((due ≡ true) × Applies f)))
+disconnected_fate true true = inr (inr (refl, (refl, refl)))
+disconnected_fate true false = inr (inr (refl, (refl, refl)))
+disconnected_fate false true = inl (refl, refl)
+disconnected_fate false false = inr (inl (refl, refl))
+
+first_fails : (b : Bool) (rest : Finding) → b ≡ false → (if b then rest else Broke rule.WrongForm) ≡ Broke rule.WrongForm
+first_fails b rest e = ap (λ (x : Bool). if x then rest else Broke rule.WrongForm) e
+
+there_not_silent : (phase : Phase) → is_there phase ≡ true → is_silent phase ≡ false
+there_not_silent Silent h = cc
+there_not_silent Open h = refl
+there_not_silent Refused h = refl
+there_not_silent Closing h = refl
+there_not_silent Closed h = refl
+
+not_closing : (phase : Phase) → is_open phase ≡ true → is_closing phase ≡ true → ⊥
+not_closing Silent h k = cc
+not_closing Open h k = cc
+not_closing Refused h k = cc
+not_closing Closing h k = cc
+not_closing Closed h k = cc
+
+first_of : (a b : Bool) → (a && b) ≡ true → a ≡ true
+first_of true b h = refl
+first_of false b h = cc
+
+second_of : (a b : Bool) → (a && b) ≡ true → b ≡ true
+second_of true b h = h
+second_of false b h = cc
+
+never : (live : Bool) → live ≡ false → live ≡ true → ⊥
+never live h k = cc
+
+-- ---- each kind of unit
+
+module _ (peer limit : ℕ) (x : Tally) (noted : ℕ) (tap : Connection) (put coming : List Value) (link : Option Standing)
+    (o : Ordered x noted) (t : tapped peer limit x noted tap) (p : PutsAt peer limit x tap.left tap.right put link)
+    (k : TakesAt limit x tap.right coming link) where
+  abbrev Goes : Value → Connection → Type 0
+  Goes unit after = Went peer limit x noted tap after put (coming ++ unit ∷ []) link
+
+  closed_goes : (unit : Value) (f : Finding) → is_open tap.right.phase ≡ false → Leaves f → Goes unit (after_finding Right f unit tap)
+  closed_goes unit f closed leaves = subst (λ (c : Connection). Goes unit c) (left_after f unit tap leaves)
+      (goes_same peer limit x noted tap put coming link o t p k unit
+      (λ taken known a b live. absurd (never (is_open tap.right.phase) closed live)))
+
+  data_by : (destination number : ℕ) (end : Bool) (user : List ℕ) (f : Finding) → Fate (is_open tap.right.phase) (is_tellable Right tap) f →
+      reach_of (Some Two) f ≢ reach.Everything → (after_finding Right f (data2 destination number end user) tap).is_judged ≡ true →
+      Goes (data2 destination number end user) (after_finding Right f (data2 destination number end user) tap)
+  data_by destination number end user f (inl e) some judged = absurd (some e)
+  data_by destination number end user f (inr (inl (closed, leaves))) some judged =
+      closed_goes (data2 destination number end user) f closed leaves
+  data_by destination number end user f (inr (inr (inl loses))) some judged =
+      absurd (lost_after f (data2 destination number end user) tap loses judged)
+  data_by destination number end user f (inr (inr (inr (live, tells, applies)))) some judged =
+      subst (λ (c : Connection). Goes (data2 destination number end user) c)
+      (applied_after f (data2 destination number end user) tap applies)
+      (data_goes peer limit x noted tap put coming link o t p k destination number end user tells)
+
+  ack_by : (credit destination number : ℕ) (f : Finding) → number < 128 → credit < 16 →
+      Fate (is_open tap.right.phase) (has_passed Right tap number && keeps_credit Right tap number credit) f →
+      reach_of (Some Two) f ≢ reach.Everything → (after_finding Right f (acknowledge credit destination number) tap).is_judged ≡ true →
+      Goes (acknowledge credit destination number) (after_finding Right f (acknowledge credit destination number) tap)
+  ack_by credit destination number f small little (inl e) some judged = absurd (some e)
+  ack_by credit destination number f small little (inr (inl (closed, leaves))) some judged =
+      closed_goes (acknowledge credit destination number) f closed leaves
+  ack_by credit destination number f small little (inr (inr (inl loses))) some judged =
+      absurd (lost_after f (acknowledge credit destination number) tap loses judged)
+  ack_by credit destination number f small little (inr (inr (inr (live, tells, applies)))) some judged =
+      subst (λ (c : Connection). Goes (acknowledge credit destination number) c)
+      (applied_after f (acknowledge credit destination number) tap applies)
+      (ack_goes peer limit x noted tap put coming link o t p k credit destination number small little
+      (first_of (has_passed Right tap number) (keeps_credit Right tap number credit) tells)
+      (second_of (has_passed Right tap number) (keeps_credit Right tap number credit) tells))
+
+  -- a DR
+  disconnect_goes : (destination source reason : ℕ) (user : List ℕ) → is_open tap.right.phase ≡ true → is_silent tap.right.phase ≡ false →
+      Goes (disconnect destination source reason user) (sent_on Right (disconnect destination source reason user) tap)
+  disconnect_goes destination source reason user live silent =
+      subst (λ (b : Bool). Goes (disconnect destination source reason user) (record tap { right = closing_phase b tap.right })) (sym silent)
+      (ends_goes peer limit x noted tap put coming link o t p k Closing (disconnect destination source reason user) refl (λ c. refl)
+      (λ taken known a b c. (a, b, refl)))
+
+  disconnect_by : (destination source reason : ℕ) (user : List ℕ) (f : Finding) →
+      ((is_open tap.right.phase ≡ false) × Leaves f) ⊎ ((is_open tap.right.phase ≡ true) × (is_silent tap.right.phase ≡ false)
+      × Applies f) →
+      Goes (disconnect destination source reason user) (after_finding Right f (disconnect destination source reason user) tap)
+  disconnect_by destination source reason user f (inl (closed, leaves)) =
+      closed_goes (disconnect destination source reason user) f closed leaves
+  disconnect_by destination source reason user f (inr (live, silent, applies)) =
+      subst (λ (c : Connection). Goes (disconnect destination source reason user) c)
+      (applied_after f (disconnect destination source reason user) tap applies) (disconnect_goes destination source reason user live silent)
+
+  -- a DC
+  disconnected_by : (destination source : ℕ) (f : Finding) → (Leaves f) ⊎ (Loses f ⊎ ((is_due Right tap ≡ true) × Applies f)) →
+      (after_finding Right f (disconnected destination source) tap).is_judged ≡ true →
+      Goes (disconnected destination source) (after_finding Right f (disconnected destination source) tap)
+  disconnected_by destination source f (inl leaves) judged =
+      subst (λ (c : Connection). Goes (disconnected destination source) c) (left_after f (disconnected destination source) tap leaves)
+      (goes_same peer limit x noted tap put coming link o t p k (disconnected destination source) (λ taken known a b live. (a, b)))
+  disconnected_by destination source f (inr (inl loses)) judged = absurd (lost_after f (disconnected destination source) tap loses judged)
+  disconnected_by destination source f (inr (inr (due, applies))) judged =
+      let live = first_of (is_open tap.right.phase) (is_closing tap.seen_by_right.phase) due in
+      subst (λ (c : Connection). Goes (disconnected destination source) c) (applied_after f (disconnected destination source) tap applies)
+      (ends_goes peer limit x noted tap put coming link o t p k Closed (disconnected destination source) refl
+      (λ c. absurd (not_closing tap.right.phase live c)) (λ taken known a b c. (a, b)))
+
+  pub unit_goes : (r : ℕ) (course : Course) (in_use : Bool) (unit : Value) → HasFieldsInRange unit → destination_of unit ≡ Some r →
+      reach_of (Some Two) (found Right course in_use tap unit) ≢ reach.Everything →
+      (after_finding Right (found Right course in_use tap unit) unit tap).is_judged ≡ true →
+      Goes unit (after_finding Right (found Right course in_use tap unit) unit tap)
+  unit_goes r course in_use (request c) range named some judged = absurd (cc)
+  unit_goes r course in_use (data0 end user) range named some judged = absurd (cc)
+  unit_goes r course in_use (confirm destination c) range named some judged =
+      let f = found Right course in_use tap (confirm destination c) in
+      let wrong : f ≡ Broke rule.WrongForm = first_fails (is_silent tap.right.phase) _ (there_not_silent tap.right.phase t.there) in
+      absurd (lost_after f (confirm destination c) tap (loses_as f (Broke rule.WrongForm) wrong (refl, refl)) judged)
+  unit_goes r course in_use (error destination cause) range named some judged =
+      let f = found Right course in_use tap (error destination cause) in
+      let wrong : f ≡ Broke rule.WrongForm = first_fails (is_silent tap.right.phase) Kept (there_not_silent tap.right.phase t.there) in
+      absurd (lost_after f (error destination cause) tap (loses_as f (Broke rule.WrongForm) wrong (refl, refl)) judged)
+  unit_goes r course in_use (disconnect destination source reason user) range named some judged =
+      disconnect_by destination source reason user (found Right course in_use tap (disconnect destination source reason user))
+      (disconnect_fate tap.right.phase t.there)
+  unit_goes r course in_use (disconnected destination source) range named some judged =
+      disconnected_by destination source (found Right course in_use tap (disconnected destination source))
+      (disconnected_fate (is_due Right tap) course.strays) judged
+  unit_goes r course in_use (data2 destination number end user) range named some judged =
+      data_by destination number end user (found Right course in_use tap (data2 destination number end user))
+      (data_fate (not (is_silent tap.right.phase)) (is_open tap.right.phase) (number == tap.right.next) (is_tellable Right tap)
+      (fits_tsdu Right tap (length user)) (has_credit Right tap) (fits_size tap.size (length user + 5))) some judged
+  unit_goes r course in_use (acknowledge credit destination number) range named some judged =
+      ack_by credit destination number (found Right course in_use tap (acknowledge credit destination number)) range.2 range.0
+      (ack_fate (not (is_silent tap.right.phase)) (is_open tap.right.phase) (has_passed Right tap number)
+      (keeps_credit Right tap number credit))
+      some judged
+
+judged_finding : (course : Course) (in_use : Bool) (tap : Connection) (unit : Value) → tap.is_judged ≡ true →
+    finding_of Right course in_use tap unit ≡ found Right course in_use tap unit
+judged_finding course in_use tap unit judged = ap (λ (b : Bool). if b then found Right course in_use tap unit else NotJudged) judged
+
+pub passes_other_holds : (r peer : ℕ) (course : Course) (in_use : Bool) (unit : Value) (old new : Line) →
+    Acts Left r peer (passes_other course in_use unit) old new → old.tap.is_judged ≡ true → new.tap.is_judged ≡ true → Holds peer old →
+    Holds peer new
+passes_other_holds r peer course in_use unit old new (range, named, some, new_is) was judged h =
+    let f = found Right course in_use old.tap unit in
+    let is = judged_finding course in_use old.tap unit was in
+    let stop : reach_of (Some Two) f ≢ reach.Everything = subst (λ (g : Finding). reach_of (Some Two) g ≢ reach.Everything) is some in
+    let after : new ≡ record old { tap = after_finding Right f unit old.tap; coming = old.coming ++ unit ∷ [] } = new_is
+    ∙ ap (λ (g : Finding). record old { tap = after_finding Right g unit old.tap; coming = old.coming ++ unit ∷ [] }) is in
+    let still : (after_finding Right f unit old.tap).is_judged ≡ true = sym (ap (λ (l : Line). l.tap.is_judged) after) ∙ judged in
+    let w = unit_goes peer h.limit h.tally h.noted old.tap old.put old.coming old.link h.ordered h.taps h.puts h.takes r course in_use unit
+    range named stop still in
+    subst (λ (l : Line). Holds peer l) (sym after)
+    (record {
+      limit = h.limit;
+      tally = record h.tally { came = w.came; heard = w.heard; edge = w.edge };
+      noted = h.noted;
+      ordered = w.ordered;
+      taps = w.taps;
+      puts = w.puts;
+      takes = w.takes;
+      under_way = λ b. w.under_way (h.under_way b);
+    })

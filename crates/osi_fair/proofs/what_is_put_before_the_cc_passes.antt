@@ -1,0 +1,100 @@
+-- What a called end puts before its CC has passed might as well have been put right after that.
+-- For the law of that name.
+use Rattle.std.proofs.Common.{◌≡◌, ◌∙◌, ℕ, Bool, false, List, [], ◌∷◌, ◌++◌, refl, sym, ap, subst}
+use Rattle.std.specs.List.{AllByRecursion}
+use Rattle.osi_tpdu.specs.Value.{Value, disconnect, disconnected}
+use Rattle.osi_class.specs.Link.{Standing}
+use Rattle.osi_rules.specs.declared.connections.Connection.{Connection}
+use Rattle.osi_rules.specs.declared.courses.Course.{Course}
+use Rattle.osi_rules.specs.declared.directions.Direction.{Direction}
+use Rattle.osi_fair.specs.Lines.{Act, Acts, ActsAlong, Line, PassesNone, answering_line, answers, begins_elsewhere, begins_other}
+use Rattle.osi_fair.specs.Lines.{begins_own}
+use Rattle.osi_fair.specs.Lines.{after_finding, closes, finding_of, ignores, moves, opened_line, passes_other, passes_own, units_put}
+
+-- the line without its CC, as if this were the tap
+abbrev without_cc : Connection → List Value → Line → Line
+without_cc tap more line = record line { put = more; begun = false; tap = tap }
+
+acts_join : (d : Direction) (r peer : ℕ) (xs ys : List Act) (a b c : Line) → ActsAlong d r peer a xs b → ActsAlong d r peer b ys c →
+    ActsAlong d r peer a (xs ++ ys) c
+acts_join d r peer [] ys a b c e h = subst (λ (l : Line). ActsAlong d r peer l ys c) e h
+acts_join d r peer (x ∷ xs) ys a b c (mid, act, more) h = (mid, act, acts_join d r peer xs ys mid b c more h)
+
+module _ (d : Direction) (r peer : ℕ) (cc_is : Value) (tap : Connection) where
+  -- acts that do the same to the line without its CC
+  record Same (more : List Value) (old new : Line) : Type 0 where
+    now : List Value
+    acts : List Act
+    put : new.put ≡ cc_is ∷ now
+    along : ActsAlong d r peer (without_cc tap more old) acts (without_cc tap now new)
+
+  one_act : (act : Act) (more units : List Value) (old new : Line) → old.put ≡ cc_is ∷ more → new.put ≡ old.put ++ units →
+      Acts d r peer act (without_cc tap more old) (without_cc tap (more ++ units) new) → Same more old new
+  one_act act more units old new first put acts = record {
+    now = more ++ units;
+    acts = act ∷ [];
+    put = put ∙ ap (λ (l : List Value). l ++ units) first;
+    along = (without_cc tap (more ++ units) new, acts, refl);
+  }
+
+  no_act : (more : List Value) (old new : Line) → old.put ≡ cc_is ∷ more → new.put ≡ old.put →
+      without_cc tap more new ≡ without_cc tap more old → Same more old new
+  no_act more old new first put same = record { now = more; acts = []; put = put ∙ first; along = same }
+
+  act_same : (act : Act) (more : List Value) (old new : Line) → PassesNone act → Acts d r peer act old new → old.put ≡ cc_is ∷ more →
+      Same more old new
+  act_same (moves move) more old new none (link, after, is, e, short, coming, new_is) first =
+      one_act (moves move) more (units_put peer move) old new first (ap (λ (l : Line). l.put) new_is)
+      (link, after, is, e, short, coming, ap (λ (l : Line). without_cc tap (more ++ units_put peer move) l) new_is)
+  act_same (closes reason units) more old new none (link, is, coming, new_is) first =
+      one_act (closes reason units) more (disconnect peer r reason [] ∷ []) old new first (ap (λ (l : Line). l.put) new_is)
+      (link, is, coming, ap (λ (l : Line). without_cc tap (more ++ disconnect peer r reason [] ∷ []) l) new_is)
+  act_same (answers unit) more old new none (link, is, dr, coming, new_is) first =
+      one_act (answers unit) more (disconnected peer r ∷ []) old new first (ap (λ (l : Line). l.put) new_is)
+      (link, is, dr, coming, ap (λ (l : Line). without_cc tap (more ++ disconnected peer r ∷ []) l) new_is)
+  act_same (ignores units) more old new none (gone, coming, new_is) first = record {
+    now = more;
+    acts = ignores units ∷ [];
+    put = ap (λ (l : Line). l.put) new_is ∙ first;
+    along = (without_cc tap more new, (gone, coming, ap (λ (l : Line). without_cc tap more l) new_is), refl);
+  }
+  act_same begins_own more old new none (some, idle, new_is) first =
+      no_act more old new first (ap (λ (l : Line). l.put) new_is) (ap (λ (l : Line). without_cc tap more l) new_is)
+  act_same begins_elsewhere more old new none (idle, new_is) first =
+      no_act more old new first (ap (λ (l : Line). l.put) new_is) (ap (λ (l : Line). without_cc tap more l) new_is)
+  act_same begins_other more old new none new_is first =
+      no_act more old new first (ap (λ (l : Line). l.put) new_is) (ap (λ (l : Line). without_cc tap more l) new_is)
+  act_same (passes_own course in_use) more old new none acts first = absurd none
+  act_same (passes_other course in_use unit) more old new none acts first = absurd none
+
+  all_same : (acts : List Act) (more : List Value) (old new : Line) → AllByRecursion PassesNone acts → ActsAlong d r peer old acts new →
+      old.put ≡ cc_is ∷ more → Same more old new
+  all_same [] more old new none e first = no_act more old new first (ap (λ (l : Line). l.put) e)
+      (ap (λ (l : Line). without_cc tap more l) e)
+  all_same (act ∷ acts) more old new (none, others) (mid, one, along) first =
+      let a = act_same act more old mid none one first in
+      let b = all_same acts a.now mid new others along a.put in
+      record {
+        now = b.now;
+        acts = a.acts ++ b.acts;
+        put = b.put;
+        along = acts_join d r peer a.acts b.acts (without_cc tap more old) (without_cc tap a.now mid)
+            (without_cc tap b.now new) a.along b.along;
+      }
+
+same_rest : (x y : Value) (xs ys : List Value) → x ∷ xs ≡ y ∷ ys → xs ≡ ys
+same_rest x y xs ys e = cc
+
+pub opened_later : (d : Direction) (r peer : ℕ) (link : Standing) (answer : Value) (tap : Connection) (acts : List Act) (course : Course)
+    (in_use : Bool) (line after : Line) → AllByRecursion PassesNone acts → ActsAlong d r peer (answering_line link answer tap) acts line →
+    Acts d r peer (passes_own course in_use) line after →
+    (later : List Act) × ActsAlong d r peer (opened_line link after.tap) later after
+opened_later d r peer link answer tap acts course in_use line after none along (unit, first, begun, new_is) =
+    let s = all_same d r peer answer after.tap acts [] (answering_line link answer tap) line none along refl in
+    let rest : s.now ≡ after.put = same_rest answer unit s.now after.put (sym s.put ∙ first) in
+    let x = after_finding d (finding_of d course in_use line.tap unit) unit line.tap in
+    let tapped : x ≡ after.tap = sym (ap (λ (l : Line). l.tap) new_is) in
+    let is : after ≡ without_cc after.tap s.now line = new_is
+    ∙ ap (λ (c : Connection). record line { put = after.put; begun = false; tap = c }) tapped
+    ∙ ap (λ (l : List Value). record line { put = l; begun = false; tap = after.tap }) (sym rest) in
+    (s.acts, subst (λ (l : Line). ActsAlong d r peer (opened_line link after.tap) s.acts l) (sym is) s.along)

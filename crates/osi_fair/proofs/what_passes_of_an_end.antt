@@ -1,0 +1,332 @@
+-- A unit of an end begins to pass and passes, and a packet of the other side begins: each keeps what holds of the line.
+-- For the laws on a line.
+use Rattle.std.proofs.Common.{◌≡◌, ◌∙◌, ℕ, ◌+◌, ◌%◌, ◌<◌, ◌≤◌, Bool, true, false, List, [], ◌∷◌, length, arith, refl, sym, ap, subst}
+use Rattle.std.proofs.Common.{Option, Some, None, if◌then◌else◌}
+use Rattle.std.specs.Prelude.{not}
+use Rattle.osi_tpdu.specs.Value.{Value, request, confirm, disconnect, disconnected, data0, data2, acknowledge, error}
+use Rattle.osi_class.specs.Limits.{longest_tsdu}
+use Rattle.osi_class.specs.Link.{Standing}
+use Rattle.osi_rules.specs.declared.connections.Connection.{Connection}
+use Rattle.osi_rules.specs.declared.courses.Course.{Course}
+use Rattle.osi_rules.specs.declared.directions.Direction.TheVariants.{Left, Right}
+use Rattle.osi_rules.specs.declared.findings.Finding.{Finding}
+use Rattle.osi_rules.specs.declared.findings.Finding.TheVariants.{Kept, NotJudged}
+use Rattle.osi_rules.specs.declared.halves.Half.{Half}
+use Rattle.osi_rules.specs.declared.halves.Phase.{Phase}
+use Rattle.osi_rules.specs.Sides.{is_silent, is_open, begins}
+use Rattle.osi_rules.specs.Traffic.{found, sent_on, half_after, begun_after, closing_phase}
+use Rattle.osi_fair.specs.Lines.{begins_elsewhere}
+use Rattle.osi_fair.specs.Lines.{Line, begins_own, passes_own, begins_other, Acts, IsRight, IsRightNow, finding_of, after_finding}
+use Rattle.osi_fair.proofs.what_a_link_does.{begun_by}
+use Rattle.osi_fair.proofs.units_in_flight.{Puts}
+use Rattle.osi_fair.proofs.what_holds_of_a_line.{Tally, Ordered, OpenIfAny, PutsAt, TakesAt, Holds, anyhow, bounds_of, ends_so, tapped}
+use Rattle.osi_fair.proofs.what_begins_to_pass_is_right.{begins_right}
+
+-- ---- a packet begins
+
+pub begins_own_holds : (r peer : ℕ) (old new : Line) → Acts Left r peer begins_own old new → Holds peer old → Holds peer new
+begins_own_holds r peer old new (some, idle, new_is) h = subst (λ (l : Line). Holds peer l) (sym new_is)
+    (record {
+      limit = h.limit;
+      tally = h.tally;
+      noted = h.noted;
+      ordered = h.ordered;
+      taps = h.taps;
+      puts = h.puts;
+      takes = h.takes;
+      under_way = λ b. begins_right peer h.limit h.tally h.noted old.tap h.ordered h.taps old.put old.link some h.puts;
+    })
+
+pub elsewhere_holds : (r peer : ℕ) (old new : Line) → Acts Left r peer begins_elsewhere old new → Holds peer old → Holds peer new
+elsewhere_holds r peer old new (idle, new_is) h = subst (λ (l : Line). Holds peer l) (sym new_is)
+    (record {
+      limit = h.limit;
+      tally = h.tally;
+      noted = h.noted;
+      ordered = h.ordered;
+      taps = h.taps;
+      puts = h.puts;
+      takes = h.takes;
+      under_way = λ b. absurd (cc (b, idle));
+    })
+
+-- what is found of this side's units doesn't depend on what the other side knows
+same_found : (course : Course) (in_use : Bool) (c : Connection) (unit : Value) → found Left course in_use c unit ≡ Kept →
+    found Left course in_use (begins Right c) unit ≡ Kept
+same_found course in_use c (request x) e = e
+same_found course in_use c (confirm destination x) e = e
+same_found course in_use c (disconnect destination source reason user) e = e
+same_found course in_use c (disconnected destination source) e = e
+same_found course in_use c (data0 end user) e = e
+same_found course in_use c (data2 destination number end user) e = e
+same_found course in_use c (acknowledge credit destination number) e = e
+same_found course in_use c (error destination cause) e = e
+
+right_still : (tap : Connection) (put : List Value) → IsRightNow Left tap put → IsRightNow Left (begins Right tap) put
+right_still tap [] h = h
+right_still tap (unit ∷ units) h = record {
+  named = h.named;
+  kept = λ course in_use. same_found course in_use tap unit (h.kept course in_use);
+}
+
+pub begins_other_holds : (r peer : ℕ) (old new : Line) → Acts Left r peer begins_other old new → Holds peer old → Holds peer new
+begins_other_holds r peer old new new_is h =
+    let o = h.ordered in
+    let t = h.taps in
+    subst (λ (l : Line). Holds peer l) (sym new_is)
+    (record {
+      limit = h.limit;
+      tally = h.tally;
+      noted = h.tally.passed;
+      ordered = record {
+        heard_noted = omega arith;
+        noted_passed = omega arith;
+        passed_sent = o.passed_sent;
+        few = o.few;
+        within = o.within;
+        shown_acked = o.shown_acked;
+        acked_came = o.acked_came;
+        tellable = o.tellable;
+      };
+      taps = record {
+        next = t.next;
+        awaited = t.awaited;
+        credit = t.credit;
+        their_next = t.their_next;
+        their_awaited = t.their_awaited;
+        their_edge = t.their_edge;
+        known_next = t.next;
+        reference = t.reference;
+        there = t.there;
+        fits = t.fits;
+      };
+      puts = h.puts;
+      takes = h.takes;
+      under_way = λ b. right_still old.tap old.put (h.under_way b);
+    })
+
+-- ---- a unit passes
+
+-- the line after it
+pub record Passed (peer limit : ℕ) (x : Tally) (noted : ℕ) (units : List Value) (link : Option Standing) (after : Connection) : Type 0 where
+  pub passed : ℕ
+  pub shown : ℕ
+  pub ordered : Ordered (record x { passed = passed; shown = shown }) noted
+  pub taps : tapped peer limit (record x { passed = passed; shown = shown }) noted after
+  pub puts : PutsAt peer limit (record x { passed = passed; shown = shown }) after.left after.right units link
+
+begun_same : (half : Half) (end : Bool) (octets : ℕ) → half.begun + octets ≤ longest_tsdu →
+    begun_by half.begun end octets ≡ begun_after half end octets
+begun_same half true octets h = refl
+begun_same half false octets h = omega arith
+
+open_if : (put : List Value) (phase : Phase) → is_open phase ≡ true → OpenIfAny put phase
+open_if [] phase h = tt
+open_if (unit ∷ units) phase h = h
+
+closing_same : (was : Bool) (half : Half) → not was ≡ true → closing_phase was half ≡ closing_phase false half
+closing_same true half h = cc
+closing_same false half h = refl
+
+module _ (peer limit : ℕ) (x : Tally) (noted : ℕ) (tap : Connection) (o : Ordered x noted) (t : tapped peer limit x noted tap) where
+  -- a DT
+  data_puts : (link : Option Standing) (destination number : ℕ) (end : Bool) (user : List ℕ) (units : List Value) →
+      PutsAt peer limit x tap.left tap.right (data2 destination number end user ∷ units) link →
+      (x.passed < x.sent) ×
+      PutsAt peer limit (record x { passed = x.passed + 1 }) (half_after (data2 destination number end user) tap.left) tap.right units link
+  data_puts None destination number end user units ((a, b, c, d, f, g), live) = (
+    c,
+    (
+      subst (λ (n : ℕ). Puts (bounds_of peer limit x true tap.right) anyhow (x.passed + 1) x.shown n units)
+          (begun_same tap.left end (length user) f) g,
+      open_if units tap.left.phase live,
+    ),
+  )
+  data_puts (Some link) destination number end user units ((a, b, c, d, f, g), live) = (
+    c,
+    (
+      subst (λ (n : ℕ). Puts (bounds_of peer limit x false tap.right) (ends_so x.sent link.ends.unsent) (x.passed + 1) x.shown n units)
+          (begun_same tap.left end (length user) f) g,
+      live,
+    ),
+  )
+
+  data_passes : (link : Option Standing) (destination number : ℕ) (end : Bool) (user : List ℕ) (units : List Value) →
+      PutsAt peer limit x tap.left tap.right (data2 destination number end user ∷ units) link →
+      Passed peer limit x noted units link (sent_on Left (data2 destination number end user) tap)
+  data_passes link destination number end user units p =
+      let (more, puts) = data_puts link destination number end user units p in
+      let n = t.next in
+      record {
+        passed = x.passed + 1;
+        shown = x.shown;
+        ordered = record {
+          heard_noted = o.heard_noted;
+          noted_passed = omega arith;
+          passed_sent = omega arith;
+          few = o.few;
+          within = o.within;
+          shown_acked = o.shown_acked;
+          acked_came = o.acked_came;
+          tellable = o.tellable;
+        };
+        taps = record {
+          next = omega arith;
+          awaited = t.awaited;
+          credit = t.credit;
+          their_next = t.their_next;
+          their_awaited = t.their_awaited;
+          their_edge = t.their_edge;
+          known_next = t.known_next;
+          reference = t.reference;
+          there = t.there;
+          fits = t.fits;
+        };
+        puts = puts;
+      }
+
+  -- an AK
+  record AckPasses (number credit : ℕ) (mine : Half) (units : List Value) (link : Option Standing) : Type 0 where
+    count : ℕ
+    is : number ≡ count % 128
+    window : credit ≡ x.window
+    low : x.shown ≤ count
+    high : count ≤ x.acked
+    puts : PutsAt peer limit (record x { shown = count }) mine tap.right units link
+
+  ack_puts : (link : Option Standing) (credit destination number : ℕ) (units : List Value) →
+      PutsAt peer limit x tap.left tap.right (acknowledge credit destination number ∷ units) link →
+      AckPasses number credit (half_after (acknowledge credit destination number) tap.left) units link
+  ack_puts None credit destination number units ((count, a, b, c, d, f, g), live) =
+      record { count = count; is = c; window = b; low = d; high = f; puts = (g, open_if units tap.left.phase live) }
+  ack_puts (Some link) credit destination number units ((count, a, b, c, d, f, g), live) =
+      record { count = count; is = c; window = b; low = d; high = f; puts = (g, live) }
+
+  ack_passes : (link : Option Standing) (credit destination number : ℕ) (units : List Value) →
+      PutsAt peer limit x tap.left tap.right (acknowledge credit destination number ∷ units) link →
+      Passed peer limit x noted units link (sent_on Left (acknowledge credit destination number) tap)
+  ack_passes link credit destination number units p =
+      let a = ack_puts link credit destination number units p in
+      let low = a.low in
+      let high = a.high in
+      record {
+        passed = x.passed;
+        shown = a.count;
+        ordered = record {
+          heard_noted = o.heard_noted;
+          noted_passed = o.noted_passed;
+          passed_sent = o.passed_sent;
+          few = o.few;
+          within = o.within;
+          shown_acked = high;
+          acked_came = o.acked_came;
+          tellable = omega arith;
+        };
+        taps = record {
+          next = t.next;
+          awaited = a.is;
+          credit = a.window;
+          their_next = t.their_next;
+          their_awaited = t.their_awaited;
+          their_edge = t.their_edge;
+          known_next = t.known_next;
+          reference = t.reference;
+          there = t.there;
+          fits = t.fits;
+        };
+        puts = a.puts;
+      }
+
+  -- a DR or a DC is the last
+  last_passes : (mine : Half) (units : List Value) → mine.next ≡ tap.left.next → mine.awaited ≡ tap.left.awaited →
+      mine.credit ≡ tap.left.credit → units ≡ [] → Passed peer limit x noted units None (record tap { left = mine })
+  last_passes mine units next awaited credit none = record {
+    passed = x.passed;
+    shown = x.shown;
+    ordered = o;
+    taps = record {
+      next = next ∙ t.next;
+      awaited = awaited ∙ t.awaited;
+      credit = credit ∙ t.credit;
+      their_next = t.their_next;
+      their_awaited = t.their_awaited;
+      their_edge = t.their_edge;
+      known_next = t.known_next;
+      reference = t.reference;
+      there = t.there;
+      fits = t.fits;
+    };
+    puts = subst (λ (l : List Value). PutsAt peer limit x mine tap.right l None) (sym none) (tt, tt);
+  }
+
+  closing_passes : (was : Bool) (units : List Value) → units ≡ [] →
+      Passed peer limit x noted units None (record tap { left = closing_phase was tap.left })
+  closing_passes true units none = last_passes (closing_phase true tap.left) units refl refl refl none
+  closing_passes false units none = last_passes (closing_phase false tap.left) units refl refl refl none
+
+  pub unit_passes : (link : Option Standing) (unit : Value) (units : List Value) →
+      PutsAt peer limit x tap.left tap.right (unit ∷ units) link → Passed peer limit x noted units link (sent_on Left unit tap)
+  unit_passes link (data2 destination number end user) units p = data_passes link destination number end user units p
+  unit_passes link (acknowledge credit destination number) units p = ack_passes link credit destination number units p
+  unit_passes None (disconnect destination source reason user) units ((a, b, c), live) =
+      closing_passes (is_silent tap.left.phase) units c
+  unit_passes (Some link) (disconnect destination source reason user) units ((a, b, c), live) = absurd (cc)
+  unit_passes None (disconnected destination source) units ((a, b, c, d), live) =
+      last_passes (half_after (disconnected destination source) tap.left) units refl refl refl d
+  unit_passes (Some link) (disconnected destination source) units ((a, b, c, d), live) = absurd (cc)
+  unit_passes None (request c) units (h, live) = absurd h
+  unit_passes None (confirm destination c) units (h, live) = absurd h
+  unit_passes None (data0 end user) units (h, live) = absurd h
+  unit_passes None (error destination cause) units (h, live) = absurd h
+  unit_passes (Some link) (request c) units (h, live) = absurd h
+  unit_passes (Some link) (confirm destination c) units (h, live) = absurd h
+  unit_passes (Some link) (data0 end user) units (h, live) = absurd h
+  unit_passes (Some link) (error destination cause) units (h, live) = absurd h
+
+pub is_kept : (course : Course) (in_use : Bool) (tap : Connection) (unit : Value) → tap.is_judged ≡ true → IsRight Left tap unit →
+    finding_of Left course in_use tap unit ≡ Kept
+is_kept course in_use tap unit judged h =
+    ap (λ (b : Bool). if b then found Left course in_use tap unit else NotJudged) judged ∙ h.kept course in_use
+
+pub first_is : (tap : Connection) (put units : List Value) (unit : Value) → put ≡ unit ∷ units → IsRightNow Left tap put →
+    IsRight Left tap unit
+first_is tap put units unit e h = let f : IsRightNow Left tap (unit ∷ units) = subst (λ (l : List Value). IsRightNow Left tap l) e h in f
+
+-- what the end takes doesn't depend on what has passed of its own
+takes_still : (limit : ℕ) (x : Tally) (passed shown : ℕ) (theirs : Half) (coming : List Value) (link : Option Standing) →
+    TakesAt limit x theirs coming link → TakesAt limit (record x { passed = passed; shown = shown }) theirs coming link
+takes_still limit x passed shown theirs coming None h = tt
+takes_still limit x passed shown theirs coming (Some link) h = h
+
+theirs_same : (unit : Value) (tap : Connection) → (sent_on Left unit tap).right ≡ tap.right
+theirs_same (request c) tap = refl
+theirs_same (confirm destination c) tap = refl
+theirs_same (disconnect destination source reason user) tap = refl
+theirs_same (disconnected destination source) tap = refl
+theirs_same (data0 end user) tap = refl
+theirs_same (data2 destination number end user) tap = refl
+theirs_same (acknowledge credit destination number) tap = refl
+theirs_same (error destination cause) tap = refl
+
+pub passes_own_holds : (r peer : ℕ) (course : Course) (in_use : Bool) (old new : Line) →
+    Acts Left r peer (passes_own course in_use) old new →
+    old.tap.is_judged ≡ true → Holds peer old → Holds peer new
+passes_own_holds r peer course in_use old new (unit, first, begun, new_is) judged h =
+    let right = first_is old.tap old.put new.put unit first (h.under_way begun) in
+    let puts = subst (λ (l : List Value). PutsAt peer h.limit h.tally old.tap.left old.tap.right l old.link) first h.puts in
+    let p = unit_passes peer h.limit h.tally h.noted old.tap h.ordered h.taps old.link unit new.put puts in
+    let after : new ≡ record old { put = new.put; begun = false; tap = sent_on Left unit old.tap } = new_is
+    ∙ ap (λ (f : Finding). record old { put = new.put; begun = false; tap = after_finding Left f unit old.tap })
+    (is_kept course in_use old.tap unit judged right) in
+    subst (λ (l : Line). Holds peer l) (sym after)
+    (record {
+      limit = h.limit;
+      tally = record h.tally { passed = p.passed; shown = p.shown };
+      noted = h.noted;
+      ordered = p.ordered;
+      taps = p.taps;
+      puts = p.puts;
+      takes = subst (λ (half : Half). TakesAt h.limit (record h.tally { passed = p.passed; shown = p.shown }) half old.coming old.link)
+          (sym (theirs_same unit old.tap)) (takes_still h.limit h.tally p.passed p.shown old.tap.right old.coming old.link h.takes);
+      under_way = λ b. absurd (cc);
+    })

@@ -1,0 +1,243 @@
+-- A unit of the other side passes, whatever it is: either what holds of the line still holds, or its connection is not judged
+-- any more.
+-- For the laws on a line.
+use Rattle.std.proofs.Common.{◌≡◌, ℕ, ◌+◌, ◌%◌, ◌<◌, ◌≤◌, Bool, true, false, List, [], ◌∷◌, ◌++◌, arith, refl}
+use Rattle.std.proofs.Common.{Option, Some, None}
+use Rattle.std.proofs.lemmas.Bool.{leb-true, ltb-true}
+use Rattle.osi_tpdu.specs.Value.{Value, data2, acknowledge}
+use Rattle.osi_class.specs.Link.{Standing}
+use Rattle.osi_rules.specs.declared.connections.Connection.{Connection}
+use Rattle.osi_rules.specs.declared.directions.Direction.TheVariants.{Left, Right}
+use Rattle.osi_rules.specs.declared.halves.Half.{Half}
+use Rattle.osi_rules.specs.declared.halves.Phase.{Phase}
+use Rattle.osi_rules.specs.Rows.{steps_from, has_passed, keeps_credit, is_tellable}
+use Rattle.osi_rules.specs.Sides.{is_open, is_closing}
+use Rattle.osi_rules.specs.Traffic.{sent_on, half_after}
+use Rattle.osi_fair.specs.Later.{IsLater}
+use Rattle.osi_fair.specs.Lines.{IsRightNow}
+use Rattle.osi_fair.proofs.what_was_right_stays_right.{passed_stays}
+use Rattle.osi_fair.proofs.units_in_flight.{Came, Comes, HasMoreCome, comes_more, puts_still}
+use Rattle.osi_fair.proofs.what_holds_of_a_line.{Tally, Ordered, PutsAt, TakesAt, anyhow, bounds_of, came_of, ends_so}
+use Rattle.osi_fair.proofs.what_holds_of_a_line.{is_there, tapped}
+
+-- the line after it, with this record of the tap
+pub record Went (peer limit : ℕ) (x : Tally) (noted : ℕ) (tap after : Connection) (put coming : List Value)
+    (link : Option Standing) : Type 0 where
+  pub came : ℕ
+  pub heard : ℕ
+  pub edge : ℕ
+  pub ordered : Ordered (record x { came = came; heard = heard; edge = edge }) noted
+  pub taps : tapped peer limit (record x { came = came; heard = heard; edge = edge }) noted after
+  pub puts : PutsAt peer limit (record x { came = came; heard = heard; edge = edge }) after.left after.right put link
+  pub takes : TakesAt limit (record x { came = came; heard = heard; edge = edge }) after.right coming link
+  pub under_way : IsRightNow Left tap put → IsRightNow Left after put
+
+right_later : (tap : Connection) (later : Half) (put : List Value) → IsLater tap.left tap.right later → IsRightNow Left tap put →
+    IsRightNow Left (record tap { right = later }) put
+right_later tap later [] l h = h
+right_later tap later (unit ∷ units) l h = record {
+  named = h.named;
+  kept = λ course in_use. passed_stays Left course in_use tap later unit l (h.kept course in_use);
+}
+
+module _ (peer limit : ℕ) (x : Tally) (noted : ℕ) (tap : Connection) (put coming : List Value) (link : Option Standing)
+    (o : Ordered x noted) (t : tapped peer limit x noted tap) (p : PutsAt peer limit x tap.left tap.right put link)
+    (k : TakesAt limit x tap.right coming link) where
+  abbrev Base : Came → Value → Type 0
+  Base s unit = (taken known : ℕ) → taken ≤ x.came → known ≤ x.heard → is_open tap.right.phase ≡ true → Comes s taken known (unit ∷ [])
+
+  -- ---- more of the other side has its effect, or nothing has
+
+  puts_later : (came heard edge : ℕ) (later : Half) (l : Option Standing) → (is_closing tap.right.phase ≡ true →
+      is_closing later.phase ≡ true) →
+      PutsAt peer limit x tap.left tap.right put l →
+      PutsAt peer limit (record x { came = came; heard = heard; edge = edge }) tap.left later put l
+  puts_later came heard edge later None closing (h, live) = (
+    puts_still (bounds_of peer limit x true tap.right) (bounds_of peer limit x true later) anyhow
+        (record { peer = refl; limit = refl; window = refl; sent = omega arith; acked = omega arith; closing = closing }) refl
+        x.passed x.shown tap.left.begun put h,
+    live,
+  )
+  puts_later came heard edge later (Some link) closing (h, live) = (
+    puts_still (bounds_of peer limit x false tap.right) (bounds_of peer limit x false later) (ends_so x.sent link.ends.unsent)
+        (record { peer = refl; limit = refl; window = refl; sent = omega arith; acked = omega arith; closing = closing }) refl
+        x.passed x.shown tap.left.begun put h,
+    live,
+  )
+
+  takes_later : (came heard edge : ℕ) (later : Half) (unit : Value) (l : Option Standing) →
+      HasMoreCome (came_of x tap.right) (came_of (record x { came = came; heard = heard; edge = edge }) later) →
+      Base (came_of (record x { came = came; heard = heard; edge = edge }) later) unit → TakesAt limit x tap.right coming l →
+      TakesAt limit (record x { came = came; heard = heard; edge = edge }) later (coming ++ unit ∷ []) l
+  takes_later came heard edge later unit None more base h = tt
+  takes_later came heard edge later unit (Some link) more base h =
+      let up = more.edge in
+      record {
+        flow = h.flow;
+        taken = h.taken;
+        known = h.known;
+        is = h.is;
+        size = h.size;
+        next = h.next;
+        unacknowledged = h.unacknowledged;
+        few = h.few;
+        edge = omega arith;
+        expected = h.expected;
+        waiting = h.waiting;
+        credit = h.credit;
+        comes = comes_more (came_of x tap.right) (came_of (record x { came = came; heard = heard; edge = edge }) later) (unit ∷ [])
+            more base h.taken h.known coming h.comes;
+      }
+
+  goes_later : (came heard edge : ℕ) (later : Half) (unit : Value) → IsLater tap.left tap.right later →
+      Ordered (record x { came = came; heard = heard; edge = edge }) noted →
+      tapped peer limit (record x { came = came; heard = heard; edge = edge }) noted (record tap { right = later }) →
+      HasMoreCome (came_of x tap.right) (came_of (record x { came = came; heard = heard; edge = edge }) later) →
+      Base (came_of (record x { came = came; heard = heard; edge = edge }) later) unit →
+      Went peer limit x noted tap (record tap { right = later }) put (coming ++ unit ∷ []) link
+  goes_later came heard edge later unit is ordered taps more base = record {
+    came = came;
+    heard = heard;
+    edge = edge;
+    ordered = ordered;
+    taps = taps;
+    puts = puts_later came heard edge later link is.closing p;
+    takes = takes_later came heard edge later unit link more base k;
+    under_way = λ h. right_later tap later put is h;
+  }
+
+  pub goes_same : (unit : Value) → Base (came_of x tap.right) unit → Went peer limit x noted tap tap put (coming ++ unit ∷ []) link
+  goes_same unit base = record {
+    came = x.came;
+    heard = x.heard;
+    edge = x.edge;
+    ordered = record {
+      heard_noted = o.heard_noted;
+      noted_passed = o.noted_passed;
+      passed_sent = o.passed_sent;
+      few = o.few;
+      within = o.within;
+      shown_acked = o.shown_acked;
+      acked_came = o.acked_came;
+      tellable = o.tellable;
+    };
+    taps = t;
+    puts = puts_later x.came x.heard x.edge tap.right link (λ c. c) p;
+    takes = takes_later x.came x.heard x.edge tap.right unit link
+        (record { came = omega arith; heard = omega arith; edge = omega arith; closing = λ c. c }) base k;
+    under_way = λ h. h;
+  }
+
+  -- ---- a DT
+
+  pub data_goes : (destination number : ℕ) (end : Bool) (user : List ℕ) → is_tellable Right tap ≡ true →
+      Went peer limit x noted tap (sent_on Right (data2 destination number end user) tap) put
+      (coming ++ data2 destination number end user ∷ []) link
+  data_goes destination number end user tells =
+      let a = t.awaited in
+      let n = t.their_next in
+      let few = ltb-true (steps_from tap.left.awaited tap.right.next) 127 tells in
+      goes_later (x.came + 1) x.heard x.edge (half_after (data2 destination number end user) tap.right) (data2 destination number end user)
+      (record { next = omega arith; awaited = omega arith; credit = omega arith; closing = λ c. c })
+      (record {
+        heard_noted = o.heard_noted;
+        noted_passed = o.noted_passed;
+        passed_sent = o.passed_sent;
+        few = o.few;
+        within = o.within;
+        shown_acked = o.shown_acked;
+        acked_came = omega arith;
+        tellable = omega arith;
+      })
+      (record {
+        next = t.next;
+        awaited = t.awaited;
+        credit = t.credit;
+        their_next = omega arith;
+        their_awaited = t.their_awaited;
+        their_edge = t.their_edge;
+        known_next = t.known_next;
+        reference = t.reference;
+        there = t.there;
+        fits = t.fits;
+      })
+      (record { came = omega arith; heard = omega arith; edge = omega arith; closing = λ c. c })
+      (λ taken known c h live. (omega arith, h, live))
+
+  -- ---- an AK
+
+  pub ack_goes : (credit destination number : ℕ) → number < 128 → credit < 16 → has_passed Right tap number ≡ true →
+      keeps_credit Right tap number credit ≡ true →
+      Went peer limit x noted tap (sent_on Right (acknowledge credit destination number) tap) put
+      (coming ++ acknowledge credit destination number ∷ []) link
+  ack_goes credit destination number small little had keeps =
+      let a = t.their_awaited in
+      let n = t.known_next in
+      let m = t.next in
+      let e = t.their_edge in
+      let up = leb-true (steps_from tap.right.awaited number) (steps_from tap.right.awaited tap.seen_by_right.next) had in
+      let room = leb-true tap.right.credit (steps_from tap.right.awaited number + credit) keeps in
+      let ways : steps_from tap.right.awaited tap.seen_by_right.next + x.heard ≡ noted = omega arith in
+      let heard : ℕ = x.heard + steps_from tap.right.awaited number in
+      let is : number ≡ heard % 128 = omega arith in
+      let later : steps_from tap.right.awaited number ≤ steps_from tap.right.awaited tap.left.next = omega arith in
+      goes_later x.came heard (heard + credit) (half_after (acknowledge credit destination number) tap.right)
+      (acknowledge credit destination number)
+      (record { next = omega arith; awaited = later; credit = room; closing = λ c. c })
+      (record {
+        heard_noted = omega arith;
+        noted_passed = o.noted_passed;
+        passed_sent = o.passed_sent;
+        few = omega arith;
+        within = omega arith;
+        shown_acked = o.shown_acked;
+        acked_came = o.acked_came;
+        tellable = o.tellable;
+      })
+      (record {
+        next = t.next;
+        awaited = t.awaited;
+        credit = t.credit;
+        their_next = t.their_next;
+        their_awaited = is;
+        their_edge = refl;
+        known_next = t.known_next;
+        reference = t.reference;
+        there = t.there;
+        fits = t.fits;
+      })
+      (record { came = omega arith; heard = omega arith; edge = omega arith; closing = λ c. c })
+      (λ taken known c h live. (heard, is, little, omega arith, omega arith, (c, omega arith, live)))
+
+  -- ---- a DR or a DC
+
+  pub ends_goes : (phase : Phase) (unit : Value) → is_there phase ≡ true → (is_closing tap.right.phase ≡ true → is_closing phase ≡ true) →
+      Base (came_of x (record tap.right { phase = phase })) unit →
+      Went peer limit x noted tap (record tap { right = record tap.right { phase = phase } }) put (coming ++ unit ∷ []) link
+  ends_goes phase unit there closing base =
+      goes_later x.came x.heard x.edge (record tap.right { phase = phase }) unit
+      (record { next = omega arith; awaited = omega arith; credit = omega arith; closing = closing })
+      (record {
+        heard_noted = o.heard_noted;
+        noted_passed = o.noted_passed;
+        passed_sent = o.passed_sent;
+        few = o.few;
+        within = o.within;
+        shown_acked = o.shown_acked;
+        acked_came = o.acked_came;
+        tellable = o.tellable;
+      })
+      (record {
+        next = t.next;
+        awaited = t.awaited;
+        credit = t.credit;
+        their_next = t.their_next;
+        their_awaited = t.their_awaited;
+        their_edge = t.their_edge;
+        known_next = t.known_next;
+        reference = t.reference;
+        there = there;
+        fits = t.fits;
+      })
+      (record { came = omega arith; heard = omega arith; edge = omega arith; closing = closing })
+      base

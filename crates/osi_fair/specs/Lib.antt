@@ -1,0 +1,4 @@
+pub mod Later
+pub mod Lines
+pub mod Following
+pub mod Naming

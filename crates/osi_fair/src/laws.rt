@@ -1,0 +1,148 @@
+//! Laws of the rules of transport and of the ends that keep them. Each function does nothing: its clauses are the laws.
+
+ghost use Rattle.std.specs.Prelude.{◌≡◌, ◌≤◌, ◌⊎◌, ℕ, Bool, true, false, List, [], ◌∷◌, Option, Some, None, length, option_map, position, slice_get, slice_set};
+ghost use Rattle.std.specs.List.{AllByRecursion};
+ghost use Rattle.osi_carrier.specs.Calls.{closed_with, open_link, sent};
+ghost use Rattle.osi_carrier.specs.Negotiation.{acceptance, agreed_size, opened_link, proposal};
+ghost use Rattle.osi_carrier.specs.Orderly.{IsOrderly};
+ghost use Rattle.osi_carrier.specs.React.{react};
+ghost use Rattle.osi_carrier.specs.Rows.{value_at};
+ghost use Rattle.osi_carrier.specs.State.{State, closing, linked};
+ghost use Rattle.osi_class.specs.Limits.{longest_tsdu};
+ghost use Rattle.osi_class.specs.Link.{Standing};
+ghost use Rattle.osi_class.specs.Negotiation.{accept, selected_by};
+ghost use Rattle.osi_class.specs.declared.terms.Class.{Class};
+ghost use Rattle.osi_class.specs.declared.terms.Class.TheVariants.{Two, Zero};
+ghost use Rattle.osi_class.specs.declared.terms.Local.{Local};
+ghost use Rattle.osi_fair.specs.Naming.{HoldsOfOne, Passing, all_passed, passes};
+ghost use Rattle.osi_fair.specs.Following.{Follows, IsAtPlace};
+ghost use Rattle.osi_tpdu.specs.Limits.{window_units};
+ghost use Rattle.osi_tpdu.specs.Value.{Connect, IsConnect, Value, confirm, destination_of, disconnect, disconnected};
+ghost use Rattle.osi_rules.specs.Sides.{begins, is_named, is_silent, other, own, theirs, seen, sends, uses};
+ghost use Rattle.osi_rules.specs.Traffic.{State as Traffic, asked_by, class_for, found, fresh, is_stopped, offer_of, packet_begins, sent_on, silent_half, takes, uses_source};
+ghost use Rattle.osi_rules.specs.declared.connections.Connection.{Connection};
+ghost use Rattle.osi_rules.specs.declared.courses.Course.{Course};
+ghost use Rattle.osi_rules.specs.declared.directions.Direction.{Direction};
+ghost use Rattle.osi_rules.specs.declared.findings.Finding.{Finding};
+ghost use Rattle.osi_rules.specs.declared.halves.Half.{Half};
+ghost use Rattle.osi_fair.specs.Later.{IsLater, knows};
+ghost use Rattle.osi_fair.specs.Lines.{Act, Acts, ActsAlong, IsFair, IsOpened, IsRight, Line, PassesNone, after_finding, answering_line, finding_of};
+ghost use Rattle.osi_fair.specs.Lines.{opened_half, opened_line, passes_own};
+
+/// What was right stays right if more of the other side had passed: before the packet of the unit began (`known`), or since
+/// then (`passed`).
+pub fn what_was_right_stays_right()
+    ensures known { (d : Direction) (course : Course) (in_use : Bool) (c : Connection) (later : Half) (v : Value) →
+        IsLater (own d c) (seen d c) later → found d course in_use c v ≡ Finding.Kept →
+        found d course in_use (knows d later c) v ≡ Finding.Kept }
+    ensures passed { (d : Direction) (course : Course) (in_use : Bool) (c : Connection) (later : Half) (v : Value) →
+        IsLater (own d c) (theirs d c) later → found d course in_use c v ≡ Finding.Kept →
+        found d course in_use (sends (other d) later c) v ≡ Finding.Kept }
+{}
+
+/// How a connection opens. The CC by which a called end accepts a CR is right, in both classes, if its reference is not in use
+/// (`two`, `zero`); and after a CC of class 2 the connection is open as [`an_open_end_is_fair`] takes it: at the called end
+/// that put the CC (`called`), and at the calling end that gets it, whatever size it selects (`calling`). `asked` says that
+/// the tap knows the CR of this end as `calling` takes it.
+pub fn a_connection_opens()
+    ensures two { (local : Local) (c : Connect) (size : Option ℕ) (r : ℕ) (tap : Connection) (course : Course) →
+        selected_by c local ≡ accept Two size → tap.offer ≡ offer_of c → tap.right ≡ silent_half →
+        found Direction.Right course false tap (confirm c.source (acceptance Two size c local r)) ≡ Finding.Kept }
+    ensures zero { (local : Local) (c : Connect) (size : Option ℕ) (r : ℕ) (tap : Connection) (course : Course) →
+        selected_by c local ≡ accept Zero size → tap.offer ≡ offer_of c → tap.right ≡ silent_half → course.class ≡ None →
+        found Direction.Right course false tap (confirm c.source (acceptance Zero size c local r)) ≡ Finding.Kept }
+    ensures called { (local : Local) (c : Connect) (size : Option ℕ) (r : ℕ) (tap : Connection) → IsConnect c →
+        selected_by c local ≡ accept Two size → tap.left ≡ opened_half c.source c.credit → tap.right ≡ silent_half →
+        tap.seen_by_left.next ≡ 0 →
+        IsOpened Direction.Right r c.source (opened_line (opened_link Two size local c.credit)
+        (sent_on Direction.Right (confirm c.source (acceptance Two size c local r)) tap)) }
+    ensures asked { (local : Local) (held : Option Class) (calling called : Option (List ℕ)) (r : ℕ) → local.class2 ≡ true →
+        (asked_by (proposal local held calling called r)).left ≡ opened_half r (window_units local.window) }
+    ensures calling { (local : Local) (c : Connect) (r : ℕ) (tap : Connection) → IsConnect c →
+        tap.left ≡ opened_half r (window_units local.window) → tap.right ≡ silent_half → tap.seen_by_right.next ≡ 0 →
+        IsOpened Direction.Left r c.source (opened_line (opened_link Two (agreed_size c.parameters.size local) local c.credit)
+        (sent_on Direction.Right (confirm r c) tap)) }
+{}
+
+/// What an end puts on an open connection of class 2 is right. Take any list of what happens to the connection since its CC has
+/// passed: its user hands in TSDUs and closes it; its link gives units when it likes, and takes what has come when it likes;
+/// the tap sees packets begin and pass, of the end in their order, and of the other side whatever units that side sends for the
+/// connection. Then each unit of the end that passes is for this connection and breaks no rule, as long as the other side
+/// has broken none for which the connection is not judged any more.
+pub fn an_open_end_is_fair()
+    ensures { (d : Direction) (r peer : ℕ) (begin line : Line) (acts : List Act) → IsOpened d r peer begin →
+        ActsAlong d r peer begin acts line → IsFair d line }
+{}
+
+/// A called end may put units right after its CC. Until the CC has passed no unit of the other side names the connection. So once
+/// it has passed, the line is what the same acts make of a connection that is opened then: [`an_open_end_is_fair`] speaks of
+/// what was put before, too.
+pub fn what_is_put_before_the_cc_passes()
+    ensures { (d : Direction) (r peer : ℕ) (link : Standing) (answer : Value) (tap : Connection) (acts : List Act) (course : Course)
+        (in_use : Bool) (line after : Line) → AllByRecursion PassesNone acts →
+        ActsAlong d r peer (answering_line link answer tap) acts line → Acts d r peer (passes_own course in_use) line after →
+        (later : List Act) × ActsAlong d r peer (opened_line link after.tap) later after }
+{}
+
+/// What a carrier of class 2 does to one of its connections is acts of its line, and it writes the units that these put: as a
+/// unit for the connection arrives (`open`, and `closing` if the end has sent a DR), as a TSDU is sent (`sent`), and as the
+/// connection is closed (`closed`). A unit for another connection leaves this one as it is, by
+/// `a_unit_changes_one_connection` of `osi_carrier`. So [`an_open_end_is_fair`] speaks of every connection of a carrier.
+pub fn a_carrier_follows_its_lines()
+    ensures open { (unit : Value) (s : State) (r peer : ℕ) (link : Standing) → IsOrderly s → s.class ≡ Some Two → s.ended ≡ None →
+        value_at r s.live ≡ Some (linked peer link) → destination_of unit ≡ Some r → Follows r peer (unit ∷ []) s (react unit s) }
+    ensures closing { (unit : Value) (s : State) (r peer : ℕ) → IsOrderly s → s.class ≡ Some Two → s.ended ≡ None →
+        value_at r s.live ≡ Some (closing peer) → destination_of unit ≡ Some r → Follows r peer (unit ∷ []) s (react unit s) }
+    ensures sent { (r peer : ℕ) (tsdu : List ℕ) (s : State) (link : Standing) → open_link r s ≡ Some (peer, link) →
+        length tsdu ≤ longest_tsdu → Follows r peer [] s (sent r tsdu s) }
+    ensures closed { (r peer reason : ℕ) (s : State) (link : Standing) → open_link r s ≡ Some (peer, link) → s.class ≡ Some Two →
+        Follows r peer [] s (closed_with r reason s) }
+{}
+
+/// The rules of transport find of each unit in class 2 that names a connection what the line of this connection says (`found`),
+/// and leave the connection as the line does (`after`); and at each packet they do to every connection what its line does
+/// (`begins`). A unit changes no other connection, by `a_unit_changes_one_connection` of `osi_rules`.
+pub fn a_unit_is_an_act_of_its_line()
+    ensures found { (d : Direction) (v : Value) (s : Traffic) (n place : ℕ) (c : Connection) → IsAtPlace d s n place c →
+        destination_of v ≡ Some n → (takes d v s).told.finding ≡ finding_of d s.course (uses_source d s.connections v) c v }
+    ensures after { (d : Direction) (v : Value) (s : Traffic) (n place : ℕ) (c : Connection) → IsAtPlace d s n place c →
+        destination_of v ≡ Some n → (takes d v s).state.connections
+        ≡ slice_set s.connections place (after_finding d (finding_of d s.course (uses_source d s.connections v) c v) v c) }
+    ensures begins { (d : Direction) (s : Traffic) (i : ℕ) →
+        slice_get (packet_begins d s).connections i ≡ option_map (begins d) (slice_get s.connections i) }
+{}
+
+/// A reference is of one connection: at any time each side uses it for one at most of those that are judged (`used`), and a unit
+/// that names it is for one at most (`named`), whatever passes. So no unit of a side is judged by what belongs to another
+/// connection.
+pub fn a_reference_names_one_connection()
+    ensures used { (passings : List Passing) (d : Direction) (n : ℕ) → HoldsOfOne (uses d n) (all_passed passings fresh).connections }
+    ensures named { (passings : List Passing) (d : Direction) (n : ℕ) →
+        HoldsOfOne (is_named d n) (all_passed passings fresh).connections }
+{}
+
+/// A unit that is right on a connection is not blamed, however many connections there are and whatever has passed: the rules of
+/// transport find that it is right, or that it is not judged. So the units of which [`an_open_end_is_fair`] speaks are not
+/// blamed.
+pub fn a_right_unit_is_not_blamed()
+    ensures { (passings : List Passing) (d : Direction) (v : Value) (n place : ℕ) (c : Connection) →
+        is_stopped d (all_passed passings fresh).course ≡ false → class_for d (all_passed passings fresh).course ≡ Some Two →
+        destination_of v ≡ Some n → slice_get (all_passed passings fresh).connections place ≡ Some c → c.is_judged ≡ true →
+        IsRight d c v → ((takes d v (all_passed passings fresh)).told.finding ≡ Finding.Kept)
+        ⊎ ((takes d v (all_passed passings fresh)).told.finding ≡ Finding.NotJudged) }
+{}
+
+/// What an end answers without an open connection. A DR that refuses a CR is right (`refusal`). After a DR that closed nothing no
+/// DC is blamed (`dc`), whatever passes after it (`lasts`); a DR of the other side for no connection is such a one (`stray`).
+pub fn what_belongs_to_no_open_connection()
+    ensures refusal { (c : Connection) (course : Course) (in_use : Bool) (destination source reason : ℕ) (user : List ℕ) →
+        is_silent c.right.phase ≡ true →
+        found Direction.Right course in_use c (disconnect destination source reason user) ≡ Finding.Kept }
+    ensures dc { (d : Direction) (s : Traffic) (n source : ℕ) → class_for d s.course ≡ Some Two → s.course.strays ≡ true →
+        ((takes d (disconnected n source) s).told.finding ≡ Finding.Kept)
+        ⊎ ((takes d (disconnected n source) s).told.finding ≡ Finding.NotJudged) }
+    ensures lasts { (passing : Passing) (s : Traffic) → s.course.strays ≡ true → (passes passing s).course.strays ≡ true }
+    ensures stray { (d : Direction) (s : Traffic) (n source reason : ℕ) (user : List ℕ) → is_stopped d s.course ≡ false →
+        class_for d s.course ≡ Some Two → position (is_named d n) s.connections ≡ None →
+        (takes d (disconnect n source reason user) s).state.course.strays ≡ true }
+{}

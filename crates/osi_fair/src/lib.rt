@@ -1,0 +1,36 @@
+//! Why the rules of transport never blame an end of this library in class 2. The crate has definitions and laws; nothing here
+//! runs.
+//!
+//! It joins two crates that know nothing of each other: `osi_rules`, which says of each transport unit that passes a tap
+//! whether its sender was right to send it, and `osi_carrier`, which is the transport of an end. `osi_honest` has the like for
+//! class 0 and sessions.
+//!
+//! The difficulty is time. An end acts on what it has taken, and the rules judge it by what has passed. A tap is anywhere between
+//! the two ends, so a unit of the end passes later than the end put it, and a unit of the other side passes earlier than the end
+//! takes it.
+//!
+//! - **What was right stays right** if more of the other side has passed: [`laws::what_was_right_stays_right`]. `IsLater`
+//!   (`specs/Later`) says what "more" is: later numbers, an AK that acknowledges DTs that were sent, an edge that has not moved
+//!   down.
+//! - **A `Line`** (`specs/Lines`) is one open connection: the link of the end, the units that it has put and that have not passed,
+//!   what the tap knows, and the units that have passed and that the end has not taken. An `Act` is what may happen to it.
+//!   Each unit of the end that passes is right, whatever the other side sends, as long as the connection is judged:
+//!   [`laws::an_open_end_is_fair`].
+//! - **How a line begins**: the CC of a called end is right, and after a CC of class 2 the connection is open as a line begins, at
+//!   both ends: [`laws::a_connection_opens`]. What a called end puts before its CC has passed counts as put right after:
+//!   [`laws::what_is_put_before_the_cc_passes`].
+//! - **An end is its lines**: what a carrier of class 2 does to a connection is acts of its line
+//!   ([`laws::a_carrier_follows_its_lines`]).
+//! - **The tap is its lines**: what the rules find of a unit that names a connection is what its line says
+//!   ([`laws::a_unit_is_an_act_of_its_line`]), and a reference names one connection at most
+//!   ([`laws::a_reference_names_one_connection`]). So a unit that is right on its connection is not blamed, however many
+//!   connections there are: [`laws::a_right_unit_is_not_blamed`].
+//! - **Answers without an open connection**, a DR that refuses a CR and a DC for a DR that closed nothing, are not blamed either:
+//!   [`laws::what_belongs_to_no_open_connection`].
+//!
+//! What is not here: the CR of a calling end among its other connections; that a DR for a reference that is gone at the end has
+//! closed nothing at the tap; and the run of a whole end, in which each connection of its carrier has its line and each line its
+//! place at the tap. So the theorem on a whole end of class 2, as `osi_honest` has it for class 0, doesn't follow yet.
+#![tactic(auto)]
+
+pub mod laws;
