@@ -73,7 +73,7 @@ abbrev pub selects_expedited : Option ℕ → Bool
 selects_expedited None = false
 selects_expedited (Some options) = options % 2 == 1
 
--- one of these classes is preferred or listed, or is what a preferred one may be answered by
+-- the class is preferred or listed, or may be selected by an answer to one that is
 abbrev pub offers_zero : Connect → Bool
 offers_zero c = proposes c 0 || proposes c 1
 
