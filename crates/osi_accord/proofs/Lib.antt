@@ -18,4 +18,5 @@ pub mod how_a_run_begins
 pub mod a_run_without_liberties_is_one_of_the_machine
 -- A run of calls and answers is one of the machine of whole connections.
 pub mod a_step_of_one_connection
+pub mod a_side_that_calls_takes_and_answers
 pub mod a_run_of_calls_and_answers_is_one_of_the_tables

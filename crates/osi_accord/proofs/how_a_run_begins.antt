@@ -116,7 +116,7 @@ module _ (P : (sent : List Sending) (p : Pair) → Accords sent p → Type 0) (k
   connected_from k o send before sent (accord.done p) free is start = absurd (cc)
   connected_from k o send before sent (accord.takes d later p own b w words tsdu rest c passed there hears taken quiet run) free is start =
       absurd (nothing_comes d p tsdu rest start there)
-  connected_from k o send before sent (accord.answers d later p own b w words tsdu rest c reply passed there hears taken replied r run) free is
+  connected_from k o send before sent (accord.answers d later p own b w words tsdu rest c m passed there hears taken replied r run) free is
       start = absurd (nothing_comes d p tsdu rest start there)
   connected_from k o send before sent (accord.says d later p own b w words next can run) free is start =
       let words_of_it : Some w ∷ words ≡ Some (says (offer_sent o)) ∷ [] = ap first_words is ∙ connect_words k o send in
@@ -128,7 +128,8 @@ module _ (P : (sent : List Sending) (p : Pair) → Accords sent p → Type 0) (k
       let there : CanSay seen_calling w (length own) next = subst
       (λ (x : Direction). CanSay (session_of x beginning) w (length own) next) left first in
       begun (end_of run) o sent d p own b words later next start left (ap first_octets is) none (ap after_first is)
-      (connect_leaves o (length own) next (subst (λ (x : Word). CanSay seen_calling x (length own) next) word there)) (run, kept.says d later p own b w words next can run free, refl)
+      (connect_leaves o (length own) next (subst (λ (x : Word). CanSay seen_calling x (length own) next) word there))
+      (run, kept.says d later p own b w words next can run free, refl)
   connected_from k o send before sent (accord.sends d later p own b run) free is start =
       let none : [] ≡ Some (says (offer_sent o)) ∷ [] = ap first_words is ∙ connect_words k o send in absurd (cc)
 

@@ -77,7 +77,8 @@ pub fn what_may_be_said_is_called()
 /// (`run`). The machine allows the calls, they send the same messages in the same order, and at the end the two sides of the
 /// machine are in the states of the two sessions, with the same messages in flight. So what `osi_machine` proves of every state
 /// that its machine reaches holds of the two sessions (`reached`): no token is held by both, and the next message in flight is
-/// no fault at its receiver. That machine knows no refusal, no accepted release and no abort, so the run has none either.
+/// no fault at its receiver. That machine knows no refusal, no accepted release and no abort, so the run has none either;
+/// for those see [`calls_and_answers_are_a_run_of_the_whole_machine`].
 ///
 /// [`TakesNoLiberty`]: ../specs/Machines.antt
 pub fn without_liberties_it_is_a_run_of_the_machine()
