@@ -100,7 +100,8 @@ pub fn without_liberties_it_is_a_run_of_the_machine()
 /// those of its own session (`said`). After them the two sides are in the states of the two sessions, with the same messages in
 /// flight, and a side has ended if its session closed the transport connection. Refusals, releases, aborts and the answers to
 /// them are among the messages; nothing is lost, and no transport connection breaks. So what `osi_machine` proves over every
-/// list of steps holds of the two sessions (`reached`). A run that takes no liberty ([`TakesNoLiberty`]) is such a run (`wider`).
+/// list of steps holds of the two sessions (`reached`): no token is held by both, and no user is told of a fault. A run that
+/// takes no liberty ([`TakesNoLiberty`]) is such a run (`wider`).
 ///
 /// [`CallsAndAnswers`]: ../specs/Wholes.antt
 /// [`TakesNoLiberty`]: ../specs/Machines.antt
