@@ -11,4 +11,12 @@ pub mod what_had_passed_stands_before
 -- What a side may send is what a call sends, but for liberties.
 pub mod what_an_ac_selects
 pub mod what_may_be_said_is_called
+-- What two runs that are compared with the machine have in common.
+pub mod messages_of_a_run
+pub mod how_a_run_begins
+-- A run without liberties is one of the machine.
 pub mod a_run_without_liberties_is_one_of_the_machine
+-- A run of calls and answers is one of the machine of whole connections.
+pub mod a_step_of_one_connection
+pub mod a_side_that_calls_takes_and_answers
+pub mod a_run_of_calls_and_answers_is_one_of_the_tables

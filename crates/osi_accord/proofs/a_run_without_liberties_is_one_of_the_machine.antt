@@ -1,24 +1,21 @@
 -- A run of two sessions in which no liberty is taken is a run of the machine of two sides that exchange whole messages.
 -- For the law of that name.
-use Rattle.std.proofs.Common.{◌≡◌, ◌∙◌, refl, sym, ap, subst, ℕ, ◌⊎◌, inl, inr, Bool, true, false, if◌then◌else◌, List, [], ◌∷◌, ◌++◌}
+use Rattle.std.proofs.Common.{◌≡◌, ◌∙◌, refl, sym, ap, subst, ℕ, inl, inr, true, false, List, [], ◌∷◌, ◌++◌}
 use Rattle.std.proofs.Common.{length, map}
-use Rattle.std.proofs.Common.{Option, Some, None, option_map, unwrap_or, Ok, append-nil, not, ◌&&◌}
-use Rattle.std.specs.List.{AllByRecursion, list_any}
+use Rattle.std.proofs.Common.{Option, Some, None, Ok, append-nil}
+use Rattle.std.specs.List.{AllByRecursion}
 use Rattle.osi_message.specs.Meanings.{Meaning, GT}
-use Rattle.osi_message.specs.Reading.{Said, said_at}
-use Rattle.osi_message.specs.Sendable.{IsSendable, said_of, words_of}
-use Rattle.osi_message.specs.Tokens.{is_empty, no_token}
+use Rattle.osi_message.specs.Sendable.{IsSendable}
+use Rattle.osi_message.specs.Tokens.{no_token}
 use Rattle.osi_message.specs.Words.{Word, says}
-use Rattle.osi_message.specs.Written.{is_second, written}
-use Rattle.osi_spdu.specs.Sizes.{are_sizes}
-use Rattle.osi_session.specs.Units.{functional_units, has_points}
+use Rattle.osi_message.specs.Written.{written}
 use Rattle.osi_session.specs.declared.state.State.{State}
 use Rattle.osi_session.specs.Allowed.{Step, allowed}
 use Rattle.osi_session.specs.Calls.{Call, HasSerial}
-use Rattle.osi_session.specs.Joining.{acting_words, drops_parts, heard, is_restart_word, respond_came, respond_tsdu}
-use Rattle.osi_session.specs.Respond.{has_no_effect, respond, respond_unit}
-use Rattle.osi_session.specs.Standing.{CanSay, Count, Seen, Takes, after_count, begins, counted, goes, is_in_size, said, said_within}
-use Rattle.osi_session.specs.Standing.{fits_user_data, seen_called, seen_calling}
+use Rattle.osi_session.specs.Joining.{drops_parts}
+use Rattle.osi_session.specs.Respond.{has_no_effect, respond_unit}
+use Rattle.osi_session.specs.Standing.{CanSay, Count, Seen, Takes, after_count, goes}
+use Rattle.osi_session.specs.Standing.{seen_called, seen_calling}
 use Rattle.osi_machine.specs.Core.{Core, CoreStep, Offer, call_at, called, core_start, core_step, offer_sent, offering, stays_in_core}
 use Rattle.osi_machine.specs.Core.{take_at, taking, turned}
 use Rattle.osi_machine.specs.Core as machine
@@ -29,76 +26,10 @@ use Rattle.osi_accord.specs.Accords.{Accords, Sending, end_of, sending, words_in
 use Rattle.osi_accord.specs.Accords as accord
 use Rattle.osi_accord.specs.Machines.{AreWritten, IsByCall, IsCoreCall, IsMessage, Plays, TakesNoLiberty, Utterance, connect_of}
 use Rattle.osi_accord.specs.Machines.{is_connect, sent_at, sent_in, side_at, utters}
-use Rattle.osi_accord.specs.Pairs.{Pair, pair_of, party_of, channel_of, has_taken, session_of, with_channel, with_session}
-
--- what is known of messages in octets, and of what a session does with them
-pub record AsMessages : Type 0 where
-  pub read : (m : Meaning) → IsSendable m → said_at (written m) ≡ Ok (words_of m)
-  pub does : (s : State) (said : Said) → respond_tsdu (record { state = s; joined = None }) (map says said) ≡ heard None (respond s said)
-  pub alone : (s : State) (u : Meaning) → respond s (said_of u) ≡ respond_unit s u
-
--- ---- what is taken
-
-none_kept : (b : Bool) → option_map (length {A = ℕ}) (if b then None else None) ≡ None
-none_kept true = refl
-none_kept false = refl
-
--- a session that has joined nothing, and takes a message
-record IsTaken (s : Seen) (u : Meaning) (c : Count) : Type 0 where
-  state : c.state ≡ (respond_unit s.state u).next
-  joined : c.joined ≡ None
-
-is_taken : AsMessages → (s : Seen) (u : Meaning) (c : Count) → IsSendable u → s.joined ≡ None → Takes s (written u) c → IsTaken s u c
-is_taken k s u c send none taken =
-    let came : counted (respond_came (record { state = s.state; joined = None }) (said_at (written u))) ≡ c = taken None (sym none) in
-    let does : counted (heard None (respond_unit s.state u)) ≡ c =
-    ap counted (sym (ap (respond_came (record { state = s.state; joined = None })) (k.read u send) ∙ k.does s.state (said_of u)
-    ∙ ap (heard None) (k.alone s.state u))) ∙ came in
-    record {
-      state = sym (ap (λ (x : Count). x.state) does);
-      joined = sym (ap (λ (x : Count). x.joined) does) ∙ none_kept (drops_parts (respond_unit s.state u).next.phase);
-    }
-
--- ---- the words of a message
-
--- nothing is left of it to send, or the GT that names no token
-abbrev IsRest : List (Option Word) → Type 0
-IsRest words = (words ≡ []) ⊎ (words ≡ Some (says (GT no_token)) ∷ [])
-
--- its words: it comes first
-record BeginsWith (m : Meaning) (words : List (Option Word)) : Type 0 where
-  rest : List (Option Word)
-  is : words ≡ Some (says m) ∷ rest
-  rests : IsRest rest
-
-either_acts : (b : Bool) (m : Meaning) → BeginsWith m (map Some (if b then says m ∷ [] else says m ∷ says (GT no_token) ∷ []))
-either_acts true m = record { rest = []; is = refl; rests = inl refl }
-either_acts false m = record { rest = Some (says (GT no_token)) ∷ []; is = refl; rests = inr refl }
-
-acts_first : (b : Bool) (m : Meaning) → BeginsWith m (map Some (acting_words (map says (if b then GT no_token ∷ m ∷ [] else m ∷ []))))
-unfolding acting_words
-acts_first true m = either_acts (list_any is_restart_word (says m ∷ [])) m
-acts_first false m = record { rest = []; is = refl; rests = inl refl }
-
-message_first : AsMessages → (m : Meaning) → IsSendable m → BeginsWith m (words_in (written m))
-message_first k m send = rw (k.read m send) (acts_first (is_second m) m)
-
-same_said : (v w : Meaning) → says v ≡ says w → v ≡ w
-same_said v w e = cc
-
--- a GT that names no token changes nothing
-within_rests : (s next : Seen) → said_within s (says (GT no_token)) ≡ Some next → next ≡ s
-unfolding is_empty
-within_rests s next h = let e : Some s ≡ Some next = h in cc
-
-if_seen : (b : Bool) (o : Option Seen) (n : Seen) → (if b then o else None) ≡ Some n → o ≡ Some n
-if_seen true o n h = h
-if_seen false o n h = absurd (cc)
-
-says_nothing : (s next : Seen) (octets : ℕ) → CanSay s (says (GT no_token)) octets next → next ≡ s
-unfolding said
-says_nothing s next octets h =
-    within_rests s next (if_seen (not s.closed && is_in_size s.state octets) (said_within s (says (GT no_token))) next h)
+use Rattle.osi_accord.specs.Pairs.{Pair, pair_of, channel_of, has_taken, session_of, with_channel, with_session}
+use Rattle.osi_accord.proofs.messages_of_a_run.{AsMessages, IsTaken, is_taken, IsRest, message_first, same_said, says_nothing, all_and_one}
+use Rattle.osi_accord.proofs.messages_of_a_run.{written_more, kept_none, comes, IsDue, same_pair, first_word, effect_of, not_both}
+use Rattle.osi_accord.proofs.how_a_run_begins.{connected}
 
 -- ---- a side of the machine, and a side of the pair
 
@@ -123,23 +54,11 @@ turned_about : (w : Core) (p : Pair) (d : Direction) (ahead others : List Meanin
 turned_about w p Left ahead others s = record { own = s.peer; peer = s.own }
 turned_about w p Right ahead others s = record { own = s.peer; peer = s.own }
 
-all_and_one : (ms : List Meaning) (m : Meaning) → AllByRecursion IsSendable ms → IsSendable m → AllByRecursion IsSendable (ms ++ m ∷ [])
-all_and_one [] m a i = (i, tt)
-all_and_one (x ∷ ms) m a i = (a.0, all_and_one ms m a.1 i)
-
-written_more : (ms : List Meaning) (m : Meaning) → map written (ms ++ m ∷ []) ≡ map written ms ++ written m ∷ []
-written_more [] m = refl
-written_more (x ∷ ms) m = ap (λ (y : List (List ℕ)). written x ∷ y) (written_more ms m)
-
 -- ---- a call
 
 called_own : (v : Core) (c : Call) (g : Step) → stays_in_core c ≡ true → allowed v.own.session c ≡ Ok g →
     called v c ≡ machine.answered v c (Ok g)
 called_own v c g stays allows = rw (stays, allows) refl
-
-kept_none : (b : Bool) (n : Option ℕ) → n ≡ None → (if b then None else n) ≡ None
-kept_none true n e = refl
-kept_none false n e = e
 
 -- the side sends a message by it
 party_calls : (x y : machine.Party) (s next : Seen) (channel : List (List ℕ)) (state : State) (m : Meaning) → IsParty x s channel [] →
@@ -180,18 +99,6 @@ call_sends w p Left next m call s = rw (call.stays, s.own.state, call.is.allows)
 call_sends w p Right next m call s = rw (call.stays, s.own.state, call.is.allows) refl
 
 -- ---- a delivery
-
--- what is in flight to a side that takes this TSDU
-record Comes (sent : List Meaning) (tsdu : List ℕ) (rest : List (List ℕ)) : Type 0 where
-  u : Meaning
-  us : List Meaning
-  is : sent ≡ u ∷ us
-  first : written u ≡ tsdu
-  later : rest ≡ map written us
-
-comes : (sent : List Meaning) (tsdu : List ℕ) (rest : List (List ℕ)) → tsdu ∷ rest ≡ map written sent → Comes sent tsdu rest
-comes [] tsdu rest e = absurd (cc)
-comes (u ∷ us) tsdu rest e = record { u = u; us = us; is = refl; first = cc; later = cc }
 
 party_takes : (x y : machine.Party) (s : Seen) (channel : List (List ℕ)) (ahead : List Meaning) (u : Meaning) (c : Count) → IsTaken s u c →
     IsParty x s channel ahead → y.session ≡ (respond_unit x.session u).next → y.sent ≡ x.sent → IsParty y (after_count s c) channel ahead
@@ -274,23 +181,6 @@ sends_on w p Right m s = record { own = party_sends w.peer p.right.session p.rig
 
 -- ---- a run
 
--- of the first message nothing is sent
-abbrev IsFresh : List Sending → List Utterance → List Meaning → Type 0
-IsFresh sent messages ahead = AreWritten sent messages × (ahead ≡ [])
-
--- a message of this side is sent, and its TSDU is not yet in flight
-abbrev HasBegun : List Sending → List Utterance → Direction → Meaning → Type 0
-HasBegun [] messages d m = ⊥
-HasBegun (sending e own before words ∷ later) messages d m = (e ≡ d) × (own ≡ written m) × IsRest words × AreWritten later messages
-
-record IsBegun (sent : List Sending) (messages : List Utterance) (d : Direction) (ahead : List Meaning) : Type 0 where
-  m : Meaning
-  is : HasBegun sent messages d m
-  one : ahead ≡ m ∷ []
-
-abbrev IsDue : List Sending → List Utterance → Direction → List Meaning → Type 0
-IsDue sent messages d ahead = IsFresh sent messages ahead ⊎ IsBegun sent messages d ahead
-
 takes_step : (w : Core) (d : Direction) (messages : List Utterance) (q : Pair) → Plays (core_step w (take_at (side_at d))) messages q →
     Plays w messages q
 takes_step w d messages q s = record {
@@ -350,31 +240,6 @@ calm w p Left Left s = s
 calm w p Right Right s = s
 calm w p Left Right s = turned_about w p Left [] [] s
 calm w p Right Left s = turned_about w p Right [] [] s
-
-same_pair : (d : Direction) (p : Pair) → with_session d (session_of d p) p ≡ p
-same_pair Left p = refl
-same_pair Right p = refl
-
--- the first words of a TSDU
-record FirstWord (m : Meaning) (w : Word) (words : List (Option Word)) : Type 0 where
-  word : w ≡ says m
-  rests : IsRest words
-
-first_word : AsMessages → (m : Meaning) (w : Word) (words : List (Option Word)) → IsSendable m → Some w ∷ words ≡ words_in (written m) →
-    FirstWord m w words
-first_word k m w words send is =
-    let first = message_first k m send in
-    let all : Some w ∷ words ≡ Some (says m) ∷ first.rest = is ∙ first.is in
-    let rest : first.rest ≡ words = cc in
-    record { word = cc; rests = subst IsRest rest first.rests }
-
-effect_of : (m : Meaning) → has_no_effect m ≡ false → m ≡ GT no_token → ⊥
-unfolding is_empty
-effect_of m e is = let f : true ≡ false = ap has_no_effect (sym is) ∙ e in cc
-
-not_both : (b : Bool) → b ≡ true → b ≡ false → ⊥
-not_both true e f = cc
-not_both false e f = cc
 
 -- the call by which it is sent
 call_of : (s next : Seen) (w : Word) (m : Meaning) → IsByCall s w next → w ≡ says m → has_no_effect m ≡ false → is_connect m ≡ false →
@@ -451,108 +316,13 @@ run_of k (accord.sends e later p own before run) free messages all w d ahead due
 
 -- ---- how it begins
 
--- a run in which no liberty is taken, and its end
-abbrev Free : Pair → List Sending → Pair → Type 0
-Free q sent p = (run : Accords sent p) × TakesNoLiberty run × (end_of run ≡ q)
-
--- the CN of a caller is in flight
-abbrev asking : Offer → Pair
-asking o = record {
-  left = record { session = begins (offering o); taken = 0; channel = written (offer_sent o) ∷ [] };
-  right = party_of seen_called;
-}
-
-abbrev first_words : List Sending → List (Option Word)
-first_words [] = []
-first_words (sending d own before words ∷ sent) = words
-
-abbrev first_side : List Sending → Direction
-first_side [] = Left
-first_side (sending d own before words ∷ sent) = d
-
-abbrev first_octets : List Sending → List ℕ
-first_octets [] = []
-first_octets (sending d own before words ∷ sent) = own
-
-abbrev after_first : List Sending → List Sending
-after_first [] = []
-after_first (x ∷ sent) = sent
-
-abbrev beginning : Pair
-beginning = pair_of seen_calling seen_called
-
-connect_words : AsMessages → (o : Offer) → IsSendable (offer_sent o) → words_in (written (offer_sent o)) ≡ Some (says (offer_sent o)) ∷ []
-unfolding acting_words is_second
-connect_words k o send = rw (k.read (offer_sent o) send) refl
-
-first_number : (b : Bool) (serial : ℕ) → unwrap_or (if b then Some serial else None) 0 ≡ (if b then serial else 0)
-first_number true serial = refl
-first_number false serial = refl
-
-if_connects : (b : Bool) (state : State) (next : Seen) → option_map (goes seen_calling) (if b then Some state else None) ≡ Some next →
-    next ≡ goes seen_calling state
-if_connects true state next h = let e : Some (goes seen_calling state) ≡ Some next = h in cc
-if_connects false state next h = absurd (cc)
-
-connect_leaves : (o : Offer) (octets : ℕ) (next : Seen) → CanSay seen_calling (says (offer_sent o)) octets next → next ≡ begins (offering o)
-unfolding said
-connect_leaves o octets next h =
-    if_connects (fits_user_data o.octets && are_sizes o.sizes) _ next h
-    ∙ ap (λ (n : ℕ). begins (record (offering o) { proposed = n })) (first_number (has_points (functional_units o.requirements)) o.serial)
-
-nothing_comes : (d : Direction) (p : Pair) (tsdu : List ℕ) (rest : List (List ℕ)) → p ≡ beginning → channel_of (other d) p ≡ tsdu ∷ rest → ⊥
-nothing_comes Left p tsdu rest e there = let none : [] ≡ tsdu ∷ rest = sym (ap (channel_of Right) e) ∙ there in cc
-nothing_comes Right p tsdu rest e there = let none : [] ≡ tsdu ∷ rest = sym (ap (channel_of Left) e) ∙ there in cc
-
--- the TSDU is whole
-whole : (own : List ℕ) (before : ℕ) (sent : List Sending) {p : Pair} (run : Accords (sending Left own before [] ∷ sent) p) →
-    TakesNoLiberty run →
-    Free (end_of run) sent (with_channel Left (channel_of Left p ++ own ∷ []) p)
-whole own before sent (accord.sends d later p o b run) free = (run, free, refl)
-
--- the word of the CN is sent
-begun : (q : Pair) (o : Offer) (sent : List Sending) (d : Direction) (p : Pair) (own : List ℕ) (before : ℕ) (words : List (Option Word))
-    (later : List Sending) (next : Seen) → p ≡ beginning → d ≡ Left → own ≡ written (offer_sent o) → words ≡ [] → later ≡ sent →
-    next ≡ begins (offering o) → Free q (sending d own before words ∷ later) (with_session d next p) → Free q sent (asking o)
-begun q o sent d p own before words later next start left octets none same is free =
-    let at : Free q (sending d own before words ∷ later) (with_session d next beginning) =
-    subst (λ (x : Pair). Free q (sending d own before words ∷ later) (with_session d next x)) start free in
-    let side : Free q (sending Left own before words ∷ later) (with_session Left next beginning) =
-    subst (λ (x : Direction). Free q (sending x own before words ∷ later) (with_session x next beginning)) left at in
-    let goes_on : Free q (sending Left own before words ∷ later) (with_session Left (begins (offering o)) beginning) =
-    subst (λ (x : Seen). Free q (sending Left own before words ∷ later) (with_session Left x beginning)) is side in
-    let all : Free q (sending Left (written (offer_sent o)) before [] ∷ sent) (with_session Left (begins (offering o)) beginning) =
-    subst (λ (x : List Sending). Free q x (with_session Left (begins (offering o)) beginning))
-    (λ i. sending Left (octets i) before (none i) ∷ same i) goes_on in
-    let more = whole (written (offer_sent o)) before sent all.0 all.1 in
-    (more.0, more.1, more.2 ∙ all.2)
-
-connected : AsMessages → (o : Offer) → IsSendable (offer_sent o) → (before : ℕ) (sent : List Sending) {all : List Sending} {p : Pair}
-    (run : Accords all p) → TakesNoLiberty run → all ≡ connect_of o before ∷ sent → p ≡ beginning → Free (end_of run) sent (asking o)
-connected k o send before sent (accord.done p) free is start = absurd (cc)
-connected k o send before sent (accord.takes d later p own b w words tsdu rest c passed there hears taken quiet run) free is start =
-    absurd (nothing_comes d p tsdu rest start there)
-connected k o send before sent (accord.answers d later p own b w words tsdu rest c reply passed there hears taken replied r run) free is
-    start = absurd free
-connected k o send before sent (accord.says d later p own b w words next can run) free is start =
-    let words_of_it : Some w ∷ words ≡ Some (says (offer_sent o)) ∷ [] = ap first_words is ∙ connect_words k o send in
-    let word : w ≡ says (offer_sent o) = cc in
-    let none : words ≡ [] = cc in
-    let left : d ≡ Left = ap first_side is in
-    let first : CanSay (session_of d beginning) w (length own) next =
-    subst (λ (x : Pair). CanSay (session_of d x) w (length own) next) start can in
-    let there : CanSay seen_calling w (length own) next = subst
-    (λ (x : Direction). CanSay (session_of x beginning) w (length own) next) left first in
-    begun (end_of run) o sent d p own b words later next start left (ap first_octets is) none (ap after_first is)
-    (connect_leaves o (length own) next (subst (λ (x : Word). CanSay seen_calling x (length own) next) word there)) (run, free.1, refl)
-connected k o send before sent (accord.sends d later p own b run) free is start =
-    let none : [] ≡ Some (says (offer_sent o)) ∷ [] = ap first_words is ∙ connect_words k o send in absurd (cc)
-
 pub machine_run : AsMessages → (o : Offer) (before : ℕ) (sent : List Sending) (messages : List Utterance)
     (run : Accords (connect_of o before ∷ sent) (pair_of seen_calling seen_called)) → IsSendable (offer_sent o) →
     AllByRecursion IsMessage messages → AreWritten sent messages → TakesNoLiberty run → Plays (core_start o) messages (end_of run)
 machine_run k o before sent messages run send all are free =
-    let rest = connected k o send before sent run free refl refl in
+    let rest = connected (λ (x : List Sending) (y : Pair) (z : Accords x y). TakesNoLiberty z)
+    (record { says = λ d later y own n w words next can more f. f.1; sends = λ d later y own n more f. f })
+    k o send before sent run free in
     subst (Plays (core_start o) messages) rest.2
     (run_of k rest.0 rest.1 messages all (core_start o) Left [] (inl (are, refl))
     (record {

@@ -3,3 +3,4 @@ pub mod Accords
 pub mod Taps
 pub mod Liberties
 pub mod Machines
+pub mod Wholes

@@ -1,6 +1,6 @@
 //! Laws of two sides of a capture. Each function does nothing: its clauses are the laws.
 
-ghost use Rattle.std.specs.Prelude.{◌≡◌, ℕ, true, List, ◌∷◌, length, map};
+ghost use Rattle.std.specs.Prelude.{◌≡◌, ℕ, true, List, ◌∷◌, length, map, None};
 ghost use Rattle.std.specs.List.{AllByRecursion};
 ghost use Rattle.osi_message.specs.Meanings.{Meaning};
 ghost use Rattle.osi_message.specs.Sendable.{IsSendable};
@@ -8,8 +8,13 @@ ghost use Rattle.osi_message.specs.Words.{says};
 ghost use Rattle.osi_message.specs.Written.{written};
 ghost use Rattle.osi_session.specs.Standing.{CanSay, Seen, is_in_size, seen_called, seen_calling};
 ghost use Rattle.osi_machine.specs.Core.{CanBeOffered, Offer, core_run, core_start, offer_sent};
+ghost use Rattle.osi_machine.specs.AsTables.{IsTableRun};
 ghost use Rattle.osi_machine.specs.Floor.{is_profile};
+ghost use Rattle.osi_machine.specs.Machine.{Step};
 ghost use Rattle.osi_machine.specs.Promises.{IsReached};
+ghost use Rattle.osi_machine.specs.Sayings.{said_in};
+ghost use Rattle.osi_machine.specs.Tables.{refusal};
+ghost use Rattle.osi_machine.specs.Tables as tables;
 ghost use Rattle.osi_judge.specs.declared.directions.Direction.{Direction};
 ghost use Rattle.osi_judge.specs.declared.findings.Finding.{Finding};
 ghost use Rattle.osi_judge.specs.Captures.{Capture};
@@ -17,9 +22,10 @@ ghost use Rattle.osi_judge.specs.Explaining.{IsExplained};
 ghost use Rattle.osi_judge.specs.Tapping.{IsFoundIn};
 ghost use Rattle.osi_accord.specs.Accords.{Accords, AreInOrder, Sending, Turn, end_of, sending_of, told_by, tsdus_by};
 ghost use Rattle.osi_accord.specs.Liberties.{IsCall, as_called, is_called};
-ghost use Rattle.osi_accord.specs.Machines.{AreWritten, IsMessage, Plays, TakesNoLiberty, Utterance, connect_of};
+ghost use Rattle.osi_accord.specs.Machines.{AreWritten, IsMessage, Plays, TakesNoLiberty, Utterance, connect_of, side_at, utters};
 ghost use Rattle.osi_accord.specs.Pairs.{Pair, pair_of};
 ghost use Rattle.osi_accord.specs.Taps.{IsAccord, Passage};
+ghost use Rattle.osi_accord.specs.Wholes.{CallsAndAnswers, PlaysWhole, start_0, uttered_by, uttered_in};
 
 use osi_judge::laws::a_capture_has_one_reading;
 use osi_message::laws::what_is_sent_is_read;
@@ -71,7 +77,8 @@ pub fn what_may_be_said_is_called()
 /// (`run`). The machine allows the calls, they send the same messages in the same order, and at the end the two sides of the
 /// machine are in the states of the two sessions, with the same messages in flight. So what `osi_machine` proves of every state
 /// that its machine reaches holds of the two sessions (`reached`): no token is held by both, and the next message in flight is
-/// no fault at its receiver. That machine knows no refusal, no accepted release and no abort, so the run has none either.
+/// no fault at its receiver. That machine knows no refusal, no accepted release and no abort, so the run has none either;
+/// for those see [`calls_and_answers_are_a_run_of_the_whole_machine`].
 ///
 /// [`TakesNoLiberty`]: ../specs/Machines.antt
 pub fn without_liberties_it_is_a_run_of_the_machine()
@@ -80,6 +87,32 @@ pub fn without_liberties_it_is_a_run_of_the_machine()
         AllByRecursion IsMessage messages → AreWritten sent messages → TakesNoLiberty run → Plays (core_start o) messages (end_of run) }
     ensures reached { (o : Offer) (messages : List Utterance) (last : Pair) (p : Plays (core_start o) messages last) → CanBeOffered o →
         is_profile o.requirements ≡ true → IsReached (core_run (core_start o) p.steps) }
+{
+    what_is_sent_is_read();
+    messages_do_what_they_did();
+    an_empty_token_item_changes_nothing();
+}
+
+/// Take a run of two sessions that begins with the CN of a caller, and in which each TSDU is one message as this product writes
+/// it. If each message is the one that a call sends, or the answer that a session of this product gives to what it takes
+/// ([`CallsAndAnswers`]), and the machine lets the caller ask for the connection, the run is one of the machine of whole
+/// connections, with a transport connection of class 0 (`run`). Its steps send the same messages in the same order, each side
+/// those of its own session (`said`). After them the two sides are in the states of the two sessions, with the same messages in
+/// flight, and a side has ended if its session closed the transport connection. Refusals, releases, aborts and the answers to
+/// them are among the messages; nothing is lost, and no transport connection breaks. So what `osi_machine` proves over every
+/// list of steps holds of the two sessions (`reached`): no token is held by both, and no user is told of a fault. A run that
+/// takes no liberty ([`TakesNoLiberty`]) is such a run (`wider`).
+///
+/// [`CallsAndAnswers`]: ../specs/Wholes.antt
+/// [`TakesNoLiberty`]: ../specs/Machines.antt
+pub fn calls_and_answers_are_a_run_of_the_whole_machine()
+    ensures run { (o : Offer) (before : ℕ) (sent : List Sending) (messages : List Utterance)
+        (run : Accords (connect_of o before ∷ sent) (pair_of seen_calling seen_called)) → IsSendable (offer_sent o) → CanBeOffered o →
+        refusal start_0 o ≡ None → AllByRecursion IsMessage messages → AreWritten sent messages → CallsAndAnswers run →
+        PlaysWhole start_0 (utters Direction.Left (offer_sent o) ∷ messages) (end_of run) }
+    ensures said { (d : Direction) (steps : List Step) → said_in (side_at d) 1 start_0 steps ≡ uttered_by d (uttered_in start_0 steps) }
+    ensures reached { (messages : List Utterance) (last : Pair) (p : PlaysWhole start_0 messages last) → IsTableRun (tables.run start_0 p.steps) }
+    ensures wider { (sent : List Sending) (p : Pair) (run : Accords sent p) → TakesNoLiberty run → CallsAndAnswers run }
 {
     what_is_sent_is_read();
     messages_do_what_they_did();

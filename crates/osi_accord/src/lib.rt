@@ -16,13 +16,16 @@
 //!   passed, and before a TSDU its side takes only what had passed as a whole. [`laws::two_kept_sides_are_a_pair`]: if the
 //!   judge finds that both sides kept the protocol there is one, and if there is one the judge blames neither side.
 //!
-//! The judge is wider than the sessions of this product, because X.225 allows more than they do. Two laws say by how much:
+//! The judge is wider than the sessions of this product, because X.225 allows more than they do. Three laws say by how much:
 //!
 //! - [`laws::what_may_be_said_is_called`]: what a side may send is what an allowed call sends from the same state, and leaves
 //!   the side as the call does, except for the liberties in `specs/Liberties.antt`.
 //! - [`laws::without_liberties_it_is_a_run_of_the_machine`]: a run that takes no liberty is a run of the machine of
 //!   `osi_machine`, so all that is proved of that machine holds of it: no token is held by both sides, and neither side takes
-//!   a fault.
+//!   a fault. That machine has no refusal, accepted release or abort.
+//! - [`laws::calls_and_answers_are_a_run_of_the_whole_machine`]: a run in which each message is sent by a call, or is the answer
+//!   of a session of this product, is a run of the machine of whole connections (`Tables` of `osi_machine`), in class 0. It may
+//!   have refusals, releases and aborts.
 //!
 //! The laws speak of one connection of class 0, and of its sessions. They don't speak of the transport units around the TSDUs,
 //! nor of a TSDU whose last packet is not in the capture.

@@ -1,0 +1,106 @@
+-- What a call and a delivery leave of the tables of one connection of class 0, of which nothing is lost.
+-- For the law that a run of calls and answers is one of the machine of whole connections.
+use Rattle.std.proofs.Common.{◌≡◌, refl, ℕ, true, false, List, [], ◌∷◌, ◌++◌, length, map}
+use Rattle.std.proofs.Common.{Option, Some, None, Ok, append-nil, take}
+use Rattle.osi_message.specs.Meanings.{Meaning}
+use Rattle.osi_message.specs.Sendable.{said_of}
+use Rattle.osi_session.specs.declared.state.State.{State}
+use Rattle.osi_session.specs.Allowed.{allowed}
+use Rattle.osi_session.specs.Calls.{Call}
+use Rattle.osi_session.specs.Moves.{Standing, in_state, react}
+use Rattle.osi_session.specs.Respond.{Outcome, respond}
+use Rattle.osi_session.specs.declared.phases.Phase.TheVariants.{Ended}
+use Rattle.osi_session.specs.State.{without_tokens}
+use Rattle.osi_machine.specs.Machine.{Ending, Entry, Step, calls, closed_here, delivers, is_given}
+use Rattle.osi_machine.specs.Sayings.{one_or_none}
+use Rattle.osi_machine.specs.Tables.{Line, Seat, Tables, step}
+use Rattle.osi_machine.specs.Worlds.{Message, Transport, accepts, class_0, gone, linked, replied, unit}
+use Rattle.osi_judge.specs.declared.directions.Direction.{Direction}
+use Rattle.osi_judge.specs.declared.directions.Direction.TheVariants.{Left, Right}
+use Rattle.osi_judge.specs.Captures.{other}
+use Rattle.osi_accord.specs.Machines.{side_at, utters}
+use Rattle.osi_accord.specs.Wholes.{uttered_at}
+
+-- ---- the tables, seen from one side
+
+abbrev pub facing : Direction → (own peer : Seat) → Line
+facing Left x y = record { own = x; peer = y }
+facing Right x y = record { own = y; peer = x }
+
+abbrev pub left_of : Direction → (own peer : Option Ending) → Option Ending
+left_of Left a b = a
+left_of Right a b = b
+
+abbrev pub tables : Direction → (own peer : Seat) → (a b : Option Ending) → List Entry → Tables
+tables d x y a b journal = record {
+  terms = accepts class_0;
+  broken = false;
+  left_end = left_of d a b;
+  right_end = left_of (other d) a b;
+  known = Some class_0;
+  lines = facing d x y ∷ [];
+  journal = journal;
+}
+
+abbrev pub seat : Transport → Standing → List Message → Seat
+seat transport s channel = record { transport = transport; session = s; channel = channel }
+
+-- ---- a call
+
+abbrev pub called_seat : Seat → State → Meaning → Seat
+called_seat x n m = seat x.transport (in_state x.session n) (x.channel ++ unit m ∷ [])
+
+pub call_leaves : (d : Direction) (x y : Seat) (a b : Option Ending) (j : List Entry) (c : Call) (n : State) (m : Meaning) →
+    is_given x.transport ≡ true → allowed x.session.state c ≡ Ok (record { next = n; sent = m }) →
+    step (tables d x y a b j) (calls (side_at d) 1 c)
+    ≡ tables d (called_seat x n m) y a b (step (tables d x y a b j) (calls (side_at d) 1 c)).journal
+unfolding react
+call_leaves Left x y a b j c n m given allows = rw (given, allows) refl
+call_leaves Right x y a b j c n m given allows = rw (given, allows) refl
+
+pub call_utters : (d : Direction) (x y : Seat) (a b : Option Ending) (j : List Entry) (c : Call) (n : State) (m : Meaning) →
+    is_given x.transport ≡ true → allowed x.session.state c ≡ Ok (record { next = n; sent = m }) →
+    uttered_at (tables d x y a b j) (calls (side_at d) 1 c) ≡ utters d m ∷ []
+unfolding react
+call_utters Left x y a b j c n m given allows = rw (given, allows) refl
+call_utters Right x y a b j c n m given allows = rw (given, allows) refl
+
+-- ---- a delivery
+
+-- nothing in flight from this side is lost
+abbrev pub keeping : List Message → ℕ → ℕ
+keeping channel r = length channel
+
+abbrev pub taking_at : Direction → List Message → Step
+taking_at d channel = delivers (side_at d) 1 (keeping channel)
+
+-- a unit is in flight to this side
+abbrev pub coming : Direction → Standing → List Message → Seat → Meaning → List Message → Option Ending → List Entry → Tables
+coming d s channel y u rest b j = tables d (seat linked s channel) (seat y.transport y.session (unit u ∷ rest)) None b j
+
+pub delivery_leaves : (d : Direction) (s : Standing) (channel : List Message) (y : Seat) (u : Meaning) (rest : List Message)
+    (b : Option Ending) (j : List Entry) (o : Outcome) → respond s.state (said_of u) ≡ o → o.closes ≡ false →
+    step (coming d s channel y u rest b j) (taking_at d channel)
+    ≡ tables d (seat linked (in_state s o.next) (channel ++ replied o.reply)) (seat y.transport y.session rest) None b
+    (step (coming d s channel y u rest b j) (taking_at d channel)).journal
+unfolding react
+delivery_leaves Left s channel y u rest b j o is stays = rw (is, stays) refl
+delivery_leaves Right s channel y u rest b j o is stays = rw (is, stays) refl
+
+-- the transport connection is closed
+pub close_leaves : (d : Direction) (s : Standing) (channel : List Message) (y : Seat) (u : Meaning) (rest : List Message)
+    (b : Option Ending) (j : List Entry) (o : Outcome) → respond s.state (said_of u) ≡ o → o.closes ≡ true →
+    step (coming d s channel y u rest b j) (taking_at d channel)
+    ≡ tables d (seat gone (in_state s (without_tokens Ended o.next)) (take (length channel) (channel ++ replied o.reply)))
+    (seat y.transport y.session rest) (Some closed_here) b
+    (step (coming d s channel y u rest b j) (taking_at d channel)).journal
+unfolding react
+close_leaves Left s channel y u rest b j o is closes = rw (is, closes) refl
+close_leaves Right s channel y u rest b j o is closes = rw (is, closes) refl
+
+pub delivery_utters : (d : Direction) (s : Standing) (channel : List Message) (y : Seat) (u : Meaning) (rest : List Message)
+    (b : Option Ending) (j : List Entry) (o : Outcome) → respond s.state (said_of u) ≡ o →
+    uttered_at (coming d s channel y u rest b j) (taking_at d channel) ≡ map (utters d) (one_or_none o.reply)
+unfolding react
+delivery_utters Left s channel y u rest b j o is = rw is (append-nil (map (utters Left) (one_or_none o.reply)))
+delivery_utters Right s channel y u rest b j o is = rw is refl

@@ -1,0 +1,160 @@
+-- What is known of the messages of two sides: how they are read, their words, and which of them are still to be sent.
+-- For the laws that a run of two sessions is one of the machine.
+use Rattle.std.proofs.Common.{◌≡◌, ◌∙◌, refl, sym, ap, subst, ℕ, ◌⊎◌, inl, inr, Bool, true, false, if◌then◌else◌, List, [], ◌∷◌, ◌++◌}
+use Rattle.std.proofs.Common.{length, map}
+use Rattle.std.proofs.Common.{Option, Some, None, option_map, Ok, not, ◌&&◌}
+use Rattle.std.specs.List.{AllByRecursion, list_any}
+use Rattle.osi_message.specs.Meanings.{Meaning, GT}
+use Rattle.osi_message.specs.Reading.{Said, said_at}
+use Rattle.osi_message.specs.Sendable.{IsSendable, said_of, words_of}
+use Rattle.osi_message.specs.Tokens.{is_empty, no_token}
+use Rattle.osi_message.specs.Words.{Word, says}
+use Rattle.osi_message.specs.Written.{is_second, written}
+use Rattle.osi_session.specs.declared.state.State.{State}
+use Rattle.osi_session.specs.Joining.{acting_words, drops_parts, heard, is_restart_word, respond_came, respond_tsdu}
+use Rattle.osi_session.specs.Respond.{has_no_effect, respond, respond_unit}
+use Rattle.osi_session.specs.Standing.{CanSay, Count, Seen, Takes, counted, is_in_size, said, said_within}
+use Rattle.osi_judge.specs.declared.directions.Direction.{Direction}
+use Rattle.osi_judge.specs.declared.directions.Direction.TheVariants.{Left, Right}
+use Rattle.osi_accord.specs.Accords.{Sending, sending, words_in}
+use Rattle.osi_accord.specs.Machines.{AreWritten, Utterance}
+use Rattle.osi_accord.specs.Pairs.{Pair, session_of, with_session}
+
+-- what is known of messages in octets, and of what a session does with them
+pub record AsMessages : Type 0 where
+  pub read : (m : Meaning) → IsSendable m → said_at (written m) ≡ Ok (words_of m)
+  pub does : (s : State) (said : Said) → respond_tsdu (record { state = s; joined = None }) (map says said) ≡ heard None (respond s said)
+  pub alone : (s : State) (u : Meaning) → respond s (said_of u) ≡ respond_unit s u
+
+-- ---- what is taken
+
+none_kept : (b : Bool) → option_map (length {A = ℕ}) (if b then None else None) ≡ None
+none_kept true = refl
+none_kept false = refl
+
+-- a session that has joined nothing, and takes a message
+pub record IsTaken (s : Seen) (u : Meaning) (c : Count) : Type 0 where
+  pub state : c.state ≡ (respond_unit s.state u).next
+  pub joined : c.joined ≡ None
+  pub reply : c.reply ≡ (respond_unit s.state u).reply
+  pub closes : c.closes ≡ (respond_unit s.state u).closes
+
+pub is_taken : AsMessages → (s : Seen) (u : Meaning) (c : Count) → IsSendable u → s.joined ≡ None → Takes s (written u) c → IsTaken s u c
+is_taken k s u c send none taken =
+    let came : counted (respond_came (record { state = s.state; joined = None }) (said_at (written u))) ≡ c = taken None (sym none) in
+    let does : counted (heard None (respond_unit s.state u)) ≡ c =
+    ap counted (sym (ap (respond_came (record { state = s.state; joined = None })) (k.read u send) ∙ k.does s.state (said_of u)
+    ∙ ap (heard None) (k.alone s.state u))) ∙ came in
+    record {
+      state = sym (ap (λ (x : Count). x.state) does);
+      joined = sym (ap (λ (x : Count). x.joined) does) ∙ none_kept (drops_parts (respond_unit s.state u).next.phase);
+      reply = sym (ap (λ (x : Count). x.reply) does);
+      closes = sym (ap (λ (x : Count). x.closes) does);
+    }
+
+-- ---- the words of a message
+
+-- nothing is left of it to send, or the GT that names no token
+abbrev pub IsRest : List (Option Word) → Type 0
+IsRest words = (words ≡ []) ⊎ (words ≡ Some (says (GT no_token)) ∷ [])
+
+-- its words: it comes first
+pub record BeginsWith (m : Meaning) (words : List (Option Word)) : Type 0 where
+  pub rest : List (Option Word)
+  pub is : words ≡ Some (says m) ∷ rest
+  pub rests : IsRest rest
+
+either_acts : (b : Bool) (m : Meaning) → BeginsWith m (map Some (if b then says m ∷ [] else says m ∷ says (GT no_token) ∷ []))
+either_acts true m = record { rest = []; is = refl; rests = inl refl }
+either_acts false m = record { rest = Some (says (GT no_token)) ∷ []; is = refl; rests = inr refl }
+
+acts_first : (b : Bool) (m : Meaning) → BeginsWith m (map Some (acting_words (map says (if b then GT no_token ∷ m ∷ [] else m ∷ []))))
+unfolding acting_words
+acts_first true m = either_acts (list_any is_restart_word (says m ∷ [])) m
+acts_first false m = record { rest = []; is = refl; rests = inl refl }
+
+pub message_first : AsMessages → (m : Meaning) → IsSendable m → BeginsWith m (words_in (written m))
+message_first k m send = rw (k.read m send) (acts_first (is_second m) m)
+
+pub same_said : (v w : Meaning) → says v ≡ says w → v ≡ w
+same_said v w e = cc
+
+-- a GT that names no token changes nothing
+within_rests : (s next : Seen) → said_within s (says (GT no_token)) ≡ Some next → next ≡ s
+unfolding is_empty
+within_rests s next h = let e : Some s ≡ Some next = h in cc
+
+if_seen : (b : Bool) (o : Option Seen) (n : Seen) → (if b then o else None) ≡ Some n → o ≡ Some n
+if_seen true o n h = h
+if_seen false o n h = absurd (cc)
+
+pub says_nothing : (s next : Seen) (octets : ℕ) → CanSay s (says (GT no_token)) octets next → next ≡ s
+unfolding said
+says_nothing s next octets h =
+    within_rests s next (if_seen (not s.closed && is_in_size s.state octets) (said_within s (says (GT no_token))) next h)
+
+pub all_and_one : (ms : List Meaning) (m : Meaning) → AllByRecursion IsSendable ms → IsSendable m → AllByRecursion IsSendable (ms ++ m ∷ [])
+all_and_one [] m a i = (i, tt)
+all_and_one (x ∷ ms) m a i = (a.0, all_and_one ms m a.1 i)
+
+pub written_more : (ms : List Meaning) (m : Meaning) → map written (ms ++ m ∷ []) ≡ map written ms ++ written m ∷ []
+written_more [] m = refl
+written_more (x ∷ ms) m = ap (λ (y : List (List ℕ)). written x ∷ y) (written_more ms m)
+
+pub kept_none : (b : Bool) (n : Option ℕ) → n ≡ None → (if b then None else n) ≡ None
+kept_none true n e = refl
+kept_none false n e = e
+
+-- what is in flight to a side that takes this TSDU
+pub record Comes (sent : List Meaning) (tsdu : List ℕ) (rest : List (List ℕ)) : Type 0 where
+  pub u : Meaning
+  pub us : List Meaning
+  pub is : sent ≡ u ∷ us
+  pub first : written u ≡ tsdu
+  pub later : rest ≡ map written us
+
+pub comes : (sent : List Meaning) (tsdu : List ℕ) (rest : List (List ℕ)) → tsdu ∷ rest ≡ map written sent → Comes sent tsdu rest
+comes [] tsdu rest e = absurd (cc)
+comes (u ∷ us) tsdu rest e = record { u = u; us = us; is = refl; first = cc; later = cc }
+
+-- of the first message nothing is sent
+abbrev pub IsFresh : List Sending → List Utterance → List Meaning → Type 0
+IsFresh sent messages ahead = AreWritten sent messages × (ahead ≡ [])
+
+-- a message of this side is sent, and its TSDU is not yet in flight
+abbrev pub HasBegun : List Sending → List Utterance → Direction → Meaning → Type 0
+HasBegun [] messages d m = ⊥
+HasBegun (sending e own before words ∷ later) messages d m = (e ≡ d) × (own ≡ written m) × IsRest words × AreWritten later messages
+
+pub record IsBegun (sent : List Sending) (messages : List Utterance) (d : Direction) (ahead : List Meaning) : Type 0 where
+  pub m : Meaning
+  pub is : HasBegun sent messages d m
+  pub one : ahead ≡ m ∷ []
+
+abbrev pub IsDue : List Sending → List Utterance → Direction → List Meaning → Type 0
+IsDue sent messages d ahead = IsFresh sent messages ahead ⊎ IsBegun sent messages d ahead
+
+pub same_pair : (d : Direction) (p : Pair) → with_session d (session_of d p) p ≡ p
+same_pair Left p = refl
+same_pair Right p = refl
+
+-- the first words of a TSDU
+pub record FirstWord (m : Meaning) (w : Word) (words : List (Option Word)) : Type 0 where
+  pub word : w ≡ says m
+  pub rests : IsRest words
+
+pub first_word : AsMessages → (m : Meaning) (w : Word) (words : List (Option Word)) → IsSendable m → Some w ∷ words ≡ words_in (written m) →
+    FirstWord m w words
+first_word k m w words send is =
+    let first = message_first k m send in
+    let all : Some w ∷ words ≡ Some (says m) ∷ first.rest = is ∙ first.is in
+    let rest : first.rest ≡ words = cc in
+    record { word = cc; rests = subst IsRest rest first.rests }
+
+pub effect_of : (m : Meaning) → has_no_effect m ≡ false → m ≡ GT no_token → ⊥
+unfolding is_empty
+effect_of m e is = let f : true ≡ false = ap has_no_effect (sym is) ∙ e in cc
+
+pub not_both : (b : Bool) → b ≡ true → b ≡ false → ⊥
+not_both true e f = cc
+not_both false e f = cc
