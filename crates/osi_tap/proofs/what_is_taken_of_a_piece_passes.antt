@@ -229,7 +229,7 @@ pub taken_looked : (b begins : Bool) (d : Direction) (os : List ℕ) (w v n : Wa
     → HoldsOpen d w old s → 0 < length os → Takes os old mid → begins ≡ begins_at old
     → ((c : Course) → HoldsAll w c → HoldsAll v (if begins then packet_begins d c else c))
     → ((z : State) → HoldsAll v z.course → (mid.spent ≡ true → mid.held ≡ []) →
-        HoldsStream b d n new (looked_at d mid (front_of mid.held) z))
+    HoldsStream b d n new (looked_at d mid (front_of mid.held) z))
     → HoldsStream b d n new (after (piece d os) s)
 taken_looked b begins d os w v n old mid new s h some takes begins_is begin look =
     let is = h.stream.stream in
@@ -237,7 +237,7 @@ taken_looked b begins d os w v n old mid new s h some takes begins_is begin look
     let from = subst (λ (z : Streamed). Takes os z mid) is takes in
     subst (λ (z : State). HoldsStream b d n new z)
     (ap (λ (c : Bool). looked_at d mid (front_of mid.held) (begun_if c d s)) (begins_is ∙ ap begins_at is)
-        ∙ came_at d os mid s some part from)
+    ∙ came_at d os mid s some part from)
     (look (begun_if begins d s) (begin s.course h.course) (none_by old.spent os old mid refl h.stream.part takes))
 
 -- how many are taken of a piece

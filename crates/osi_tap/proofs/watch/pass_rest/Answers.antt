@@ -7,7 +7,7 @@ pub returns-clause-ok : goal.returns-clause-ok
 returns-clause-ok c = λ k h.
     let all = units_left c.args.units in
     let o = rest_owed c.args.watch.now c.args.direction c.args.at all (units_left c.units_after-rest.result) k
-        c.units_after-rest.ensures h in
+    c.units_after-rest.ensures h in
     let r = c.in_ok-pass_units.ensures.ok all k o in
     record {
       course = record { traffic = r.traffic; sessions = r.sessions; left = r.left; right = r.right; first = r.first };

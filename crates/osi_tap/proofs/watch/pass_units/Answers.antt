@@ -20,9 +20,9 @@ returns-in_err-pass-clause-err c =
 pub returns-clause-ok : goal.returns-clause-ok
 returns-clause-ok c = λ vs k h.
     (none_owed c.units.watch c.args.direction c.args.at vs (units_left c.units.units) k c.in_default.ensures.steps.0
-        (c.units.invariant vs k h)).0
+    (c.units.invariant vs k h)).0
 
 pub returns-clause-told : goal.returns-clause-told
 returns-clause-told c = λ vs k h.
     (none_owed c.units.watch c.args.direction c.args.at vs (units_left c.units.units) k c.in_default.ensures.steps.0
-        (c.units.invariant vs k h)).1
+    (c.units.invariant vs k h)).1

@@ -23,7 +23,7 @@ returns-clause-holds c k h =
     (subst (λ (r : Reach). HoldsCourse c.mark.new.self (marked m r next)) reach
     (c.mark.ensures.holds next (record {
       traffic = c.refuse-reach.ensures.state ∙ ap (λ (w : Way). refused w t) c.way.ensures
-            ∙ ap (λ (s : State). refused (way_of d) s) h.traffic;
+          ∙ ap (λ (s : State). refused (way_of d) s) h.traffic;
       sessions = h.sessions;
       left = h.left;
       right = h.right;
