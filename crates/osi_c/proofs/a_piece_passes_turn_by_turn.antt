@@ -35,6 +35,7 @@ none_passes d w = record {
   most = λ few. few;
   left = refl;
   right = refl;
+  text = refl;
 }
 
 both_pass : (d : Direction) (old now new : Watch) (a b : List ℕ) → Passes d a old now → Passes d b now new → 0 < room_in old
@@ -46,6 +47,7 @@ both_pass d old now new a b p q room = record {
   most = λ few. q.most (p.most few);
   left = q.left ∙ p.left;
   right = q.right ∙ p.right;
+  text = q.text ∙ p.text;
 }
 
 -- of a piece these octets are left, and the others passed
@@ -126,6 +128,7 @@ no_room d piece rest old now some none p =
         most = p.passes.most;
         left = p.passes.left;
         right = p.passes.right;
+        text = p.passes.text;
       };
       first = grind (arith, n);
       within = grind (arith);

@@ -48,6 +48,7 @@ pub record Passes (d : Direction) (octets : List ℕ) (old new : Watch) : Type 0
   pub most : old.octets ≤ 196608 → new.octets ≤ 196608
   pub left : new.left_told ≡ old.left_told
   pub right : new.right_told ≡ old.right_told
+  pub text : new.text ≡ old.text
 
 -- Of a piece so many octets passed, of which the first were judged. The others were not, if there are such, since there is no
 -- more room, and then all of the piece passed.
