@@ -12,7 +12,7 @@ from runs import OTHER, SIDES, played, run_at_random
 
 UNFINISHED = re.compile(r"# (left|right) packet \d+: no call of a script sends this\n\Z")
 # The captures in which a side kept the protocol by a unit that no call of a script sends.
-BEYOND_CALLS = {"in_flight.disputes an abort of a provider without resources"}
+BEYOND_CALLS = {"in_flight.disputes an abort of a provider without resources", "transport_of_class_0.disputes an ER in answer to a CR"}
 
 
 def disputes(top):

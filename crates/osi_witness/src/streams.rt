@@ -213,12 +213,23 @@ impl Stream {
         }
     }
 
+    /// The same, since no call sends what is in this packet.
+    fn stop_without_call(&mut self, place: Place) {
+        self.halt = Halt::NoCall;
+        self.stop_at(place);
+    }
+
     /// A packet with this transport unit passes.
     fn take(&mut self, unit: &[u8], place: Place) -> Result<(), AllocError> {
         if self.stop.is_some() {
             return Ok(());
         }
         match (self.opening, first_unit(unit)) {
+            // It may answer a CR, but no call sends it.
+            (None, Some(Tpdu::Er(_))) => {
+                self.stop_without_call(place);
+                Ok(())
+            }
             (None, Some(unit)) => {
                 self.open(opening_of(self.side, &unit, place), place);
                 Ok(())
@@ -228,8 +239,7 @@ impl Stream {
             }
             // It may answer a DR, but no call sends it.
             (Some(_), Some(Tpdu::Dc(_))) => {
-                self.halt = Halt::NoCall;
-                self.stop_at(place);
+                self.stop_without_call(place);
                 Ok(())
             }
             _ => {
