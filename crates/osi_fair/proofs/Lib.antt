@@ -13,6 +13,7 @@ pub mod a_carrier_follows_lines
 pub mod how_a_connection_opens
 pub mod a_unit_is_an_act_of_its_line
 pub mod what_is_put_before_the_cc_passes
+pub mod calls_of_a_line_join
 pub mod what_holds_of_one_item
 pub mod when_a_connection_has_a_name
 pub mod what_keeps_names_apart

@@ -1,8 +1,8 @@
 //! Laws of the rules of transport and of the ends that keep them. Each function does nothing: its clauses are the laws.
 
-ghost use Rattle.std.specs.Prelude.{◌≡◌, ◌≤◌, ◌⊎◌, ℕ, Bool, true, false, List, [], ◌∷◌, Option, Some, None, length, option_map, position, slice_get, slice_set};
+ghost use Rattle.std.specs.Prelude.{◌≡◌, ◌≤◌, ◌⊎◌, ℕ, Bool, true, false, List, [], ◌∷◌, ◌++◌, Option, Some, None, length, option_map, position, slice_get, slice_set};
 ghost use Rattle.std.specs.List.{AllByRecursion};
-ghost use Rattle.osi_carrier.specs.Calls.{closed_with, open_link, sent};
+ghost use Rattle.osi_carrier.specs.Calls.{closed_with, open_link, sent, sent_all};
 ghost use Rattle.osi_carrier.specs.Negotiation.{acceptance, agreed_size, opened_link, proposal};
 ghost use Rattle.osi_carrier.specs.Orderly.{IsOrderly};
 ghost use Rattle.osi_carrier.specs.React.{react};
@@ -85,8 +85,8 @@ pub fn what_is_put_before_the_cc_passes()
 {}
 
 /// What a carrier of class 2 does to one of its connections is acts of its line, and it writes the units that these put: as a
-/// unit for the connection arrives (`open`, and `closing` if the end has sent a DR), as a TSDU is sent (`sent`), and as the
-/// connection is closed (`closed`). A unit for another connection leaves this one as it is, by
+/// unit for the connection arrives (`open`, and `closing` if the end has sent a DR), as a TSDU is sent (`sent`) or several
+/// together (`together`), and as the connection is closed (`closed`). What is done one after the other joins (`joined`). A unit for another connection leaves this one as it is, by
 /// `a_unit_changes_one_connection` of `osi_carrier`. So [`an_open_end_is_fair`] speaks of every connection of a carrier.
 pub fn a_carrier_follows_its_lines()
     ensures open { (unit : Value) (s : State) (r peer : ℕ) (link : Standing) → IsOrderly s → s.class ≡ Some Two → s.ended ≡ None →
@@ -95,8 +95,12 @@ pub fn a_carrier_follows_its_lines()
         value_at r s.live ≡ Some (closing peer) → destination_of unit ≡ Some r → Follows r peer (unit ∷ []) s (react unit s) }
     ensures sent { (r peer : ℕ) (tsdu : List ℕ) (s : State) (link : Standing) → open_link r s ≡ Some (peer, link) →
         length tsdu ≤ longest_tsdu → Follows r peer [] s (sent r tsdu s) }
+    ensures together { (r peer : ℕ) (tsdus : List (List ℕ)) (s : State) (link : Standing) → open_link r s ≡ Some (peer, link) →
+        AllByRecursion (λ tsdu. length tsdu ≤ longest_tsdu) tsdus → Follows r peer [] s (sent_all r tsdus s) }
     ensures closed { (r peer reason : ℕ) (s : State) (link : Standing) → open_link r s ≡ Some (peer, link) → s.class ≡ Some Two →
         Follows r peer [] s (closed_with r reason s) }
+    ensures joined { (r peer : ℕ) (a b : List Value) (old mid new : State) → Follows r peer a old mid → Follows r peer b mid new →
+        Follows r peer (a ++ b) old new }
 {}
 
 /// The rules of transport find of each unit in class 2 that names a connection what the line of this connection says (`found`),
