@@ -15,9 +15,8 @@ use Rattle.osi_carrier.specs.Pump.{pumped}
 use Rattle.osi_carrier.specs.Rows.{value_at}
 use Rattle.osi_carrier.specs.State.{Connection, State, linked, packets}
 use Rattle.osi_carrier.proofs.references.what_a_change_leaves_there.{put_here}
-use Rattle.osi_rules.specs.declared.directions.Direction.{Direction}
 use Rattle.osi_fair.specs.Following.{Follows, link_now}
-use Rattle.osi_fair.specs.Lines.{Act, ActsAlong, Line}
+use Rattle.osi_fair.specs.Lines.{ActsAlong, Line}
 use Rattle.osi_fair.proofs.a_carrier_follows_lines.{follows_sent, open_is}
 use Rattle.osi_fair.proofs.what_is_put_before_the_cc_passes.{acts_join}
 
@@ -48,10 +47,11 @@ follows_then r peer a b old mid new f g = record {
   along = λ d line later is coming.
       let next : Line = line_with line (link_now (value_at r mid.live)) (line.put ++ f.units) (b ++ later) in
       let first = f.along d line (b ++ later) is (coming ∙ append_assoc a b later) in
+      let last : Line = line_with next (link_now (value_at r new.live)) (next.put ++ g.units) later in
       let second = g.along d next later refl refl in
       subst (λ (l : List Value). ActsAlong d r peer line (f.acts ++ g.acts) (line_with line (link_now (value_at r new.live)) l later))
       (append_assoc line.put f.units g.units)
-      (acts_join d r peer f.acts g.acts line next (line_with next (link_now (value_at r new.live)) (next.put ++ g.units) later) first second);
+      (acts_join d r peer f.acts g.acts line next last first second);
 }
 
 -- ---- TSDUs that are sent together

@@ -126,13 +126,13 @@ named_by j mine known n = not (j && is_over_by mine known) && (not (is_silent kn
 abbrev pub used_by : (j : Bool) → (mine known : Half) → ℕ → Bool
 used_by j mine known n = not (j && is_over_by mine known) && (not (is_silent mine.phase) && (mine.reference == n))
 
-three : (a b c : Bool) → (not (true && a) && (not b && c)) ≡ true → (a ≡ false) × (b ≡ false) × (c ≡ true)
+pub three : (a b c : Bool) → (not (true && a) && (not b && c)) ≡ true → (a ≡ false) × (b ≡ false) × (c ≡ true)
 three true b c h = cc
 three false true c h = cc
 three false false true h = (refl, refl, refl)
 three false false false h = cc
 
-three_make : (a b c : Bool) → a ≡ false → b ≡ false → c ≡ true → (not (true && a) && (not b && c)) ≡ true
+pub three_make : (a b c : Bool) → a ≡ false → b ≡ false → c ≡ true → (not (true && a) && (not b && c)) ≡ true
 three_make a b c h k m = rw (h, k, m) refl
 
 -- a side whose packet begins names only what is in use

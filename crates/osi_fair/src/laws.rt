@@ -18,7 +18,7 @@ ghost use Rattle.osi_fair.specs.Naming.{HoldsOfOne, Passing, all_passed, passes}
 ghost use Rattle.osi_fair.specs.Following.{Follows, IsAtPlace};
 ghost use Rattle.osi_tpdu.specs.Limits.{window_units};
 ghost use Rattle.osi_tpdu.specs.Value.{Connect, IsConnect, Value, confirm, destination_of, disconnect, disconnected};
-ghost use Rattle.osi_rules.specs.Sides.{begins, is_named, is_silent, other, own, theirs, seen, sends, uses};
+ghost use Rattle.osi_rules.specs.Sides.{begins, is_named, is_over, is_silent, other, own, theirs, seen, sends, uses};
 ghost use Rattle.osi_rules.specs.Traffic.{State as Traffic, asked_by, class_for, found, fresh, is_stopped, offer_of, packet_begins, sent_on, silent_half, takes, uses_source};
 ghost use Rattle.osi_rules.specs.declared.connections.Connection.{Connection};
 ghost use Rattle.osi_rules.specs.declared.courses.Course.{Course};
@@ -123,6 +123,24 @@ pub fn a_reference_names_one_connection()
     ensures used { (passings : List Passing) (d : Direction) (n : ℕ) → HoldsOfOne (uses d n) (all_passed passings fresh).connections }
     ensures named { (passings : List Passing) (d : Direction) (n : ℕ) →
         HoldsOfOne (is_named d n) (all_passed passings fresh).connections }
+{}
+
+/// A connection keeps its place and its name. A reference that names it for a side names it at this place until it is over for
+/// this side, whatever passes (`stays`). As long as no connection has lost its judgement, because a side broke a rule, this is the
+/// place at which a unit with this reference is judged (`place`). The reference by which the other side's units name it is the one that this side gave it
+/// (`own`), so a tap and this end say of the same connection that a unit is for it.
+pub fn a_connection_keeps_its_place()
+    ensures stays { (passings : List Passing) (passing : Passing) (d : Direction) (n place : ℕ) (c after : Connection) →
+        slice_get (all_passed passings fresh).connections place ≡ Some c →
+        slice_get (passes passing (all_passed passings fresh)).connections place ≡ Some after → c.is_judged ≡ true →
+        is_named d n c ≡ true → is_over d after ≡ false → is_named d n after ≡ true }
+    ensures place { (passings : List Passing) (d : Direction) (n place : ℕ) (c : Connection) →
+        slice_get (all_passed passings fresh).connections place ≡ Some c → is_named d n c ≡ true →
+        (all_passed passings fresh).course.loose ≡ false →
+        position (is_named d n) (all_passed passings fresh).connections ≡ Some place }
+    ensures own { (passings : List Passing) (d : Direction) (n place : ℕ) (c : Connection) →
+        slice_get (all_passed passings fresh).connections place ≡ Some c → c.is_judged ≡ true →
+        is_named (other d) n c ≡ true → (own d c).reference ≡ n }
 {}
 
 /// A unit that is right on a connection is not blamed, however many connections there are and whatever has passed: the rules of
