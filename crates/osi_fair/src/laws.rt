@@ -1,12 +1,13 @@
 //! Laws of the rules of transport and of the ends that keep them. Each function does nothing: its clauses are the laws.
 
 ghost use Rattle.std.specs.Prelude.{◌≡◌, ◌≤◌, ◌⊎◌, ℕ, Bool, true, false, List, [], ◌∷◌, ◌++◌, Option, Some, None, length, option_map, position, slice_get, slice_set};
-ghost use Rattle.std.specs.List.{AllByRecursion};
-ghost use Rattle.osi_carrier.specs.Calls.{closed_with, open_link, sent, sent_all};
+ghost use Rattle.std.specs.List.{AllByRecursion, list_any};
+ghost use Rattle.osi_carrier.specs.Calls.{closed_with, fresh_state, open_link, sent, sent_all};
 ghost use Rattle.osi_carrier.specs.Negotiation.{acceptance, agreed_size, opened_link, proposal};
 ghost use Rattle.osi_carrier.specs.Orderly.{IsOrderly};
 ghost use Rattle.osi_carrier.specs.React.{react};
 ghost use Rattle.osi_carrier.specs.Rows.{value_at};
+ghost use Rattle.osi_carrier.specs.Runs.{Act as Done};
 ghost use Rattle.osi_carrier.specs.State.{State, closing, linked};
 ghost use Rattle.osi_class.specs.Limits.{longest_tsdu};
 ghost use Rattle.osi_class.specs.Link.{Standing};
@@ -14,12 +15,13 @@ ghost use Rattle.osi_class.specs.Negotiation.{accept, selected_by};
 ghost use Rattle.osi_class.specs.declared.terms.Class.{Class};
 ghost use Rattle.osi_class.specs.declared.terms.Class.TheVariants.{Two, Zero};
 ghost use Rattle.osi_class.specs.declared.terms.Local.{Local};
+ghost use Rattle.osi_fair.specs.Asking.{all_asked, all_written};
 ghost use Rattle.osi_fair.specs.Naming.{HoldsOfOne, Passing, all_passed, passes};
 ghost use Rattle.osi_fair.specs.Following.{Follows, IsAtPlace};
 ghost use Rattle.osi_tpdu.specs.Limits.{window_units};
-ghost use Rattle.osi_tpdu.specs.Value.{Connect, IsConnect, Value, confirm, destination_of, disconnect, disconnected};
+ghost use Rattle.osi_tpdu.specs.Value.{Connect, IsConnect, Value, confirm, destination_of, disconnect, disconnected, request};
 ghost use Rattle.osi_rules.specs.Sides.{begins, is_named, is_over, is_silent, other, own, theirs, seen, sends, uses};
-ghost use Rattle.osi_rules.specs.Traffic.{State as Traffic, asked_by, class_for, found, fresh, is_stopped, offer_of, packet_begins, sent_on, silent_half, takes, uses_source};
+ghost use Rattle.osi_rules.specs.Traffic.{State as Traffic, asked_by, class_for, found, fresh, is_not_judged, is_stopped, offer_of, packet_begins, sent_on, silent_half, takes, uses_source};
 ghost use Rattle.osi_rules.specs.declared.connections.Connection.{Connection};
 ghost use Rattle.osi_rules.specs.declared.courses.Course.{Course};
 ghost use Rattle.osi_rules.specs.declared.directions.Direction.{Direction};
@@ -141,6 +143,25 @@ pub fn a_connection_keeps_its_place()
     ensures own { (passings : List Passing) (d : Direction) (n place : ℕ) (c : Connection) →
         slice_get (all_passed passings fresh).connections place ≡ Some c → c.is_judged ≡ true →
         is_named (other d) n c ≡ true → (own d c).reference ≡ n }
+{}
+
+/// The CRs of a calling end have new references. Take any run of its carrier, any calls and any octets, and a tap that its CRs
+/// pass in order. The next of them gives a reference that the end uses for no connection at the tap (`unused`), and that none
+/// has which is not judged any more (`judged`). So once class 2 is known to be the class, this CR is right, or there are more
+/// connections than the rules look at (`right`).
+pub fn a_new_reference_is_not_in_use()
+    ensures unused { (local : Local) (acts : List Done) (passings : List Passing) (r : ℕ) (rest : List ℕ) →
+        all_written acts (fresh_state true local) ≡ all_asked passings ++ r ∷ rest →
+        list_any (uses Direction.Left r) (all_passed passings fresh).connections ≡ false }
+    ensures judged { (local : Local) (acts : List Done) (passings : List Passing) (r : ℕ) (rest : List ℕ) →
+        all_written acts (fresh_state true local) ≡ all_asked passings ++ r ∷ rest →
+        list_any (is_not_judged r) (all_passed passings fresh).connections ≡ false }
+    ensures right { (local : Local) (acts : List Done) (passings : List Passing) (c : Connect) (rest : List ℕ) →
+        all_written acts (fresh_state true local) ≡ all_asked passings ++ c.source ∷ rest →
+        is_stopped Direction.Left (all_passed passings fresh).course ≡ false →
+        (all_passed passings fresh).course.class_seen ≡ Some Two →
+        ((takes Direction.Left (request c) (all_passed passings fresh)).told.finding ≡ Finding.Kept)
+        ⊎ ((takes Direction.Left (request c) (all_passed passings fresh)).told.finding ≡ Finding.TooMany) }
 {}
 
 /// A unit that is right on a connection is not blamed, however many connections there are and whatever has passed: the rules of
