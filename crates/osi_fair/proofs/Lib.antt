@@ -22,5 +22,6 @@ pub mod a_right_unit_is_not_blamed
 pub mod what_a_side_knows_stays
 pub mod all_are_judged_unless_one_broke
 pub mod what_belongs_to_no_open_connection
+pub mod which_answers_may_be_blamed
 pub mod references_of_requests_rise
 pub mod a_new_reference_is_not_in_use

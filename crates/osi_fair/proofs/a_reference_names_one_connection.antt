@@ -257,7 +257,7 @@ right_sent (error destination cause) s c p a at j sound live r h is =
 
 -- ---- a unit for a connection
 
-applied_judged : (b : Bool) (g : Finding) → is_applied (if b then g else NotJudged) ≡ true → b ≡ true
+pub applied_judged : (b : Bool) (g : Finding) → is_applied (if b then g else NotJudged) ≡ true → b ≡ true
 applied_judged true g h = refl
 applied_judged false g h = cc
 

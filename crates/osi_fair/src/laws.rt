@@ -17,7 +17,7 @@ ghost use Rattle.osi_class.specs.declared.terms.Class.TheVariants.{Two, Zero};
 ghost use Rattle.osi_class.specs.declared.terms.Local.{Local};
 ghost use Rattle.osi_fair.specs.Asking.{all_asked, all_written};
 ghost use Rattle.osi_fair.specs.Naming.{HoldsOfOne, Passing, all_passed, passes};
-ghost use Rattle.osi_fair.specs.Following.{Follows, IsAtPlace};
+ghost use Rattle.osi_fair.specs.Following.{Follows, IsAtPlace, JustCloses};
 ghost use Rattle.osi_tpdu.specs.Limits.{window_units};
 ghost use Rattle.osi_tpdu.specs.Value.{Connect, IsConnect, Value, confirm, destination_of, disconnect, disconnected, request};
 ghost use Rattle.osi_rules.specs.Sides.{begins, is_named, is_over, is_silent, other, own, theirs, seen, sends, uses};
@@ -176,7 +176,8 @@ pub fn a_right_unit_is_not_blamed()
 {}
 
 /// What an end answers without an open connection. A DR that refuses a CR is right (`refusal`). After a DR that closed nothing no
-/// DC is blamed (`dc`), whatever passes after it (`lasts`); a DR of the other side for no connection is such a one (`stray`).
+/// DC is blamed (`dc`), whatever passes after it (`lasts`); a DR of the other side for no connection is such a one (`stray`), and so is each DR except one that just closes an open
+/// connection which is judged (`closes`).
 pub fn what_belongs_to_no_open_connection()
     ensures refusal { (c : Connection) (course : Course) (in_use : Bool) (destination source reason : ℕ) (user : List ℕ) →
         is_silent c.right.phase ≡ true →
@@ -188,4 +189,7 @@ pub fn what_belongs_to_no_open_connection()
     ensures stray { (d : Direction) (s : Traffic) (n source reason : ℕ) (user : List ℕ) → is_stopped d s.course ≡ false →
         class_for d s.course ≡ Some Two → position (is_named d n) s.connections ≡ None →
         (takes d (disconnect n source reason user) s).state.course.strays ≡ true }
+    ensures closes { (d : Direction) (s : Traffic) (n source reason : ℕ) (user : List ℕ) → is_stopped d s.course ≡ false →
+        class_for d s.course ≡ Some Two →
+        ((takes d (disconnect n source reason user) s).state.course.strays ≡ true) ⊎ JustCloses d s n source }
 {}
