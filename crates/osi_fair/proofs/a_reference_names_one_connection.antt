@@ -261,7 +261,7 @@ pub applied_judged : (b : Bool) (g : Finding) → is_applied (if b then g else N
 applied_judged true g h = refl
 applied_judged false g h = cc
 
-applied_found : (b : Bool) (g : Finding) → is_applied (if b then g else NotJudged) ≡ true → is_applied g ≡ true
+pub applied_found : (b : Bool) (g : Finding) → is_applied (if b then g else NotJudged) ≡ true → is_applied g ≡ true
 applied_found true g h = h
 applied_found false g h = cc
 

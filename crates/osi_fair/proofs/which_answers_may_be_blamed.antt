@@ -16,7 +16,7 @@ use Rattle.osi_rules.specs.Reaches.{is_applied, reach_of}
 use Rattle.osi_rules.specs.Sides.{is_closing, is_named, is_open, other, own, theirs}
 use Rattle.osi_rules.specs.Traffic.{Outcome, State, at_found, at_place, class_for, course_after, course_after_none, found, found_on}
 use Rattle.osi_rules.specs.Traffic.{is_stopped, is_stray, none_told, route, route_in, routed, takes, unnamed, uses_source}
-use Rattle.osi_fair.specs.Following.{IsAtPlace, JustCloses}
+use Rattle.osi_fair.specs.Following.{JustCloses}
 use Rattle.osi_fair.proofs.a_reference_names_one_connection.{applied_judged}
 use Rattle.osi_fair.proofs.what_belongs_to_no_open_connection.{reached_strays, two_named}
 

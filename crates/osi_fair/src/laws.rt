@@ -1,6 +1,6 @@
 //! Laws of the rules of transport and of the ends that keep them. Each function does nothing: its clauses are the laws.
 
-ghost use Rattle.std.specs.Prelude.{◌≡◌, ◌≤◌, ◌⊎◌, ℕ, Bool, true, false, List, [], ◌∷◌, ◌++◌, Option, Some, None, length, option_map, position, slice_get, slice_set};
+ghost use Rattle.std.specs.Prelude.{◌≡◌, ◌≤◌, ◌⊎◌, ◌||◌, ℕ, Bool, true, false, List, [], ◌∷◌, ◌++◌, Option, Some, None, length, option_map, position, slice_get, slice_set};
 ghost use Rattle.std.specs.List.{AllByRecursion, list_any};
 ghost use Rattle.osi_carrier.specs.Calls.{closed_with, fresh_state, open_link, sent, sent_all};
 ghost use Rattle.osi_carrier.specs.Negotiation.{acceptance, agreed_size, opened_link, proposal};
@@ -20,7 +20,7 @@ ghost use Rattle.osi_fair.specs.Naming.{HoldsOfOne, Passing, all_passed, passes}
 ghost use Rattle.osi_fair.specs.Following.{Follows, IsAtPlace, JustCloses};
 ghost use Rattle.osi_tpdu.specs.Limits.{window_units};
 ghost use Rattle.osi_tpdu.specs.Value.{Connect, IsConnect, Value, confirm, destination_of, disconnect, disconnected, request};
-ghost use Rattle.osi_rules.specs.Sides.{begins, is_named, is_over, is_silent, other, own, theirs, seen, sends, uses};
+ghost use Rattle.osi_rules.specs.Sides.{begins, is_named, is_open, is_over, is_silent, other, own, theirs, seen, sends, uses};
 ghost use Rattle.osi_rules.specs.Traffic.{State as Traffic, asked_by, class_for, found, fresh, is_not_judged, is_stopped, offer_of, packet_begins, sent_on, silent_half, takes, uses_source};
 ghost use Rattle.osi_rules.specs.declared.connections.Connection.{Connection};
 ghost use Rattle.osi_rules.specs.declared.courses.Course.{Course};
@@ -128,7 +128,7 @@ pub fn a_reference_names_one_connection()
 {}
 
 /// A connection keeps its place and its name. A reference that names it for a side names it at this place until it is over for
-/// this side, whatever passes (`stays`). As long as no connection has lost its judgement, because a side broke a rule, this is the
+/// this side, whatever passes (`stays`); what this side has refused or closed there, it has closed until then (`closed`). As long as no connection has lost its judgement, because a side broke a rule, this is the
 /// place at which a unit with this reference is judged (`place`). The reference by which the other side's units name it is the one that this side gave it
 /// (`own`), so a tap and this end say of the same connection that a unit is for it.
 pub fn a_connection_keeps_its_place()
@@ -136,6 +136,11 @@ pub fn a_connection_keeps_its_place()
         slice_get (all_passed passings fresh).connections place ≡ Some c →
         slice_get (passes passing (all_passed passings fresh)).connections place ≡ Some after → c.is_judged ≡ true →
         is_named d n c ≡ true → is_over d after ≡ false → is_named d n after ≡ true }
+    ensures closed { (passings : List Passing) (passing : Passing) (d : Direction) (place : ℕ) (c after : Connection) →
+        slice_get (all_passed passings fresh).connections place ≡ Some c →
+        slice_get (passes passing (all_passed passings fresh)).connections place ≡ Some after → c.is_judged ≡ true →
+        is_over d c ≡ false → (is_silent (own d c).phase || is_open (own d c).phase) ≡ false →
+        (is_silent (own d after).phase || is_open (own d after).phase) ≡ false }
     ensures place { (passings : List Passing) (d : Direction) (n place : ℕ) (c : Connection) →
         slice_get (all_passed passings fresh).connections place ≡ Some c → is_named d n c ≡ true →
         (all_passed passings fresh).course.loose ≡ false →
