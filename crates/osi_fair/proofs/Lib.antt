@@ -9,6 +9,7 @@ pub mod what_passes_of_an_end
 pub mod what_passes_of_the_other_side
 pub mod what_each_unit_of_the_other_side_does
 pub mod an_open_end_is_fair
+pub mod an_end_closes_last
 pub mod a_carrier_follows_lines
 pub mod how_a_connection_opens
 pub mod a_unit_is_an_act_of_its_line

@@ -1,6 +1,6 @@
 //! Laws of the rules of transport and of the ends that keep them. Each function does nothing: its clauses are the laws.
 
-ghost use Rattle.std.specs.Prelude.{◌≡◌, ◌≤◌, ◌⊎◌, ◌||◌, ℕ, Bool, true, false, List, [], ◌∷◌, ◌++◌, Option, Some, None, length, option_map, position, slice_get, slice_set};
+ghost use Rattle.std.specs.Prelude.{◌≡◌, ◌≢◌, ◌≤◌, ◌⊎◌, ◌||◌, ℕ, Bool, true, false, List, [], ◌∷◌, ◌++◌, Option, Some, None, length, option_map, position, slice_get, slice_set};
 ghost use Rattle.std.specs.List.{AllByRecursion, list_any};
 ghost use Rattle.osi_carrier.specs.Calls.{closed_with, fresh_state, open_link, sent, sent_all};
 ghost use Rattle.osi_carrier.specs.Negotiation.{acceptance, agreed_size, opened_link, proposal};
@@ -74,6 +74,16 @@ pub fn a_connection_opens()
 pub fn an_open_end_is_fair()
     ensures { (d : Direction) (r peer : ℕ) (begin line : Line) (acts : List Act) → IsOpened d r peer begin →
         ActsAlong d r peer begin acts line → IsFair d line }
+{}
+
+/// An end closes a connection last: as long as a unit which it put there has not passed, the tap has seen no DR or DC of it
+/// (`waits`). So its units pass at the place of the connection, which [`a_connection_keeps_its_place`] speaks of. The other side
+/// keeps its reference (`peer`).
+pub fn an_end_closes_last()
+    ensures waits { (d : Direction) (r peer : ℕ) (begin line : Line) (acts : List Act) → IsOpened d r peer begin →
+        ActsAlong d r peer begin acts line → line.tap.is_judged ≡ true → line.put ≢ [] → is_open (own d line.tap).phase ≡ true }
+    ensures peer { (d : Direction) (r peer : ℕ) (begin line : Line) (acts : List Act) → IsOpened d r peer begin →
+        ActsAlong d r peer begin acts line → line.tap.is_judged ≡ true → (theirs d line.tap).reference ≡ peer }
 {}
 
 /// A called end may put units right after its CC. Until the CC has passed no unit of the other side names the connection. So once
