@@ -26,3 +26,4 @@ pub mod what_belongs_to_no_open_connection
 pub mod which_answers_may_be_blamed
 pub mod references_of_requests_rise
 pub mod a_new_reference_is_not_in_use
+pub mod one_request_waits

@@ -384,7 +384,7 @@ if_judged : (b : Bool) (d : Direction) (v : Value) (s : State) (r : Route) → A
 if_judged true d v s r a = a
 if_judged false d v s r a = by_route d v s r a
 
-passes_apart : (p : Passing) (s : State) → AreApart s.connections → AreApart (passes p s).connections
+pub passes_apart : (p : Passing) (s : State) → AreApart s.connections → AreApart (passes p s).connections
 passes_apart (packet d) s a = apart_begins d s.connections a
 passes_apart (unit d v) s a = if_judged (is_stopped d s.course) d v s (route d s.course v) a
 passes_apart (rubbish d) s a = a

@@ -1,6 +1,6 @@
 -- The CRs that a carrier writes have references that rise, and each is above those of the CRs before it.
 -- For the law on new references.
-use Rattle.std.proofs.Common.{◌≡◌, ◌∙◌, ℕ, ◌+◌, ◌<◌, ◌≤◌, Bool, true, false, List, [], ◌∷◌, ◌++◌, refl, subst, arith}
+use Rattle.std.proofs.Common.{◌≡◌, ◌∙◌, ℕ, ◌<◌, ◌≤◌, Bool, true, false, List, [], ◌∷◌, ◌++◌, refl, subst, arith}
 use Rattle.std.proofs.Common.{Option, Some, None, Result, Ok, Err, if◌then◌else◌, is_some}
 use Rattle.std.specs.List.{AllByRecursion}
 use Rattle.osi_tpdu.specs.Packet.{units_of}

@@ -97,7 +97,7 @@ or_last true b h = refl
 or_last false b h = h
 
 -- what is over stays over if the side knows more
-over_still : (p k q : Phase) → (is_refused k ≡ true → is_refused q ≡ true) → (is_closing k ≡ true → is_closing q ≡ true) →
+pub over_still : (p k q : Phase) → (is_refused k ≡ true → is_refused q ≡ true) → (is_closing k ≡ true → is_closing q ≡ true) →
     (is_closed k ≡ true → is_closed q ≡ true) → over_phase p q ≡ false → over_phase p k ≡ false
 over_still Refused k q a b c h = both_ways (over_phase Refused q) refl h
 over_still Closed k q a b c h = both_ways (over_phase Closed q) (over_closed Closed q refl) h

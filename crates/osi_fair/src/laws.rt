@@ -20,7 +20,7 @@ ghost use Rattle.osi_fair.specs.Naming.{HoldsOfOne, Passing, all_passed, passes}
 ghost use Rattle.osi_fair.specs.Following.{Follows, IsAtPlace, JustCloses};
 ghost use Rattle.osi_tpdu.specs.Limits.{window_units};
 ghost use Rattle.osi_tpdu.specs.Value.{Connect, IsConnect, Value, confirm, destination_of, disconnect, disconnected, request};
-ghost use Rattle.osi_rules.specs.Sides.{begins, is_named, is_open, is_over, is_silent, other, own, theirs, seen, sends, uses};
+ghost use Rattle.osi_rules.specs.Sides.{begins, is_live, is_named, is_open, is_over, is_silent, other, own, theirs, seen, sends, uses};
 ghost use Rattle.osi_rules.specs.Traffic.{State as Traffic, asked_by, class_for, found, fresh, is_not_judged, is_stopped, offer_of, packet_begins, sent_on, silent_half, takes, uses_source};
 ghost use Rattle.osi_rules.specs.declared.connections.Connection.{Connection};
 ghost use Rattle.osi_rules.specs.declared.courses.Course.{Course};
@@ -177,6 +177,13 @@ pub fn a_new_reference_is_not_in_use()
         (all_passed passings fresh).course.class_seen ≡ Some Two →
         ((takes Direction.Left (request c) (all_passed passings fresh)).told.finding ≡ Finding.Kept)
         ⊎ ((takes Direction.Left (request c) (all_passed passings fresh)).told.finding ≡ Finding.TooMany) }
+{}
+
+/// While right has selected no class, one CR at most waits for its answer: of the connections that are judged, all but one are over
+/// for left.
+pub fn one_request_waits()
+    ensures { (passings : List Passing) → (all_passed passings fresh).course.class ≡ None →
+        HoldsOfOne (is_live Direction.Left) (all_passed passings fresh).connections }
 {}
 
 /// A unit that is right on a connection is not blamed, however many connections there are and whatever has passed: the rules of

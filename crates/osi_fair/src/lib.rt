@@ -29,7 +29,8 @@
 //!   ([`laws::a_connection_keeps_its_place`]), and an end puts nothing there after the unit that closes it
 //!   ([`laws::an_end_closes_last`]).
 //! - **A calling end** gives each of its CRs a reference that no connection has at the tap:
-//!   [`laws::a_new_reference_is_not_in_use`], over the run of its carrier (`specs/Asking`).
+//!   [`laws::a_new_reference_is_not_in_use`], over the run of its carrier (`specs/Asking`). While no class is selected, one CR at
+//!   most waits for its answer there: [`laws::one_request_waits`].
 //! - **Answers without an open connection**, a DR that refuses a CR and a DC for a DR that closed nothing, are not blamed either,
 //!   and each DR closed nothing that doesn't just close an open connection: [`laws::what_belongs_to_no_open_connection`].
 //!
