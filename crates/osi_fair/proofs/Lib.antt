@@ -27,3 +27,4 @@ pub mod which_answers_may_be_blamed
 pub mod references_of_requests_rise
 pub mod a_new_reference_is_not_in_use
 pub mod one_request_waits
+pub mod a_refused_request_waits_no_more

@@ -29,7 +29,7 @@ use Rattle.osi_fair.proofs.a_right_unit_is_not_blamed.{first_there, is_first}
 
 -- ---- what keeps it so
 
-abbrev IsJudged : Connection → Type 0
+abbrev pub IsJudged : Connection → Type 0
 IsJudged c = c.is_judged ≡ true
 
 abbrev AreJudged : State → Type 0
@@ -172,7 +172,7 @@ still_judged (packet d) s a h = each_map IsJudged (begins d) s.connections (a (s
 still_judged (unit d v) s a h = if_judged (is_stopped d s.course) d v s (route d s.course v) a h
 still_judged (rubbish d) s a h = a (was_firm d (refused_reach d s) s.course h)
 
-all_judged : (ps : List Passing) (s : State) → AreJudged s → AreJudged (all_passed ps s)
+pub all_judged : (ps : List Passing) (s : State) → AreJudged s → AreJudged (all_passed ps s)
 all_judged [] s a = a
 all_judged (p ∷ ps) s a = all_judged ps (passes p s) (still_judged p s a)
 

@@ -89,7 +89,7 @@ judged_live true false e = refl
 judged_live true true e = cc
 judged_live false over e = refl
 
-begun_live : (b : Direction) (c : Connection) → IsEarlier c.seen_by_left c.right → (begins b c).is_judged ≡ true →
+pub begun_live : (b : Direction) (c : Connection) → IsEarlier c.seen_by_left c.right → (begins b c).is_judged ≡ true →
     is_live Left (begins b c) ≡ true → (c.is_judged ≡ true) × (is_live Left c ≡ true)
 begun_live Left c e j h =
     let over = live_judged c.is_judged (is_over_by c.left c.right) j h in (

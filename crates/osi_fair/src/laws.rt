@@ -1,7 +1,7 @@
 //! Laws of the rules of transport and of the ends that keep them. Each function does nothing: its clauses are the laws.
 
 ghost use Rattle.std.specs.Prelude.{◌≡◌, ◌≢◌, ◌≤◌, ◌⊎◌, ◌||◌, ℕ, Bool, true, false, List, [], ◌∷◌, ◌++◌, Option, Some, None, length, option_map, position, slice_get, slice_set};
-ghost use Rattle.std.specs.List.{AllByRecursion, list_any};
+ghost use Rattle.std.specs.List.{AllByRecursion, list_all, list_any};
 ghost use Rattle.osi_carrier.specs.Calls.{closed_with, fresh_state, open_link, sent, sent_all};
 ghost use Rattle.osi_carrier.specs.Negotiation.{acceptance, agreed_size, opened_link, proposal};
 ghost use Rattle.osi_carrier.specs.Orderly.{IsOrderly};
@@ -20,7 +20,7 @@ ghost use Rattle.osi_fair.specs.Naming.{HoldsOfOne, Passing, all_passed, passes}
 ghost use Rattle.osi_fair.specs.Following.{Follows, IsAtPlace, JustCloses};
 ghost use Rattle.osi_tpdu.specs.Limits.{window_units};
 ghost use Rattle.osi_tpdu.specs.Value.{Connect, IsConnect, Value, confirm, destination_of, disconnect, disconnected, request};
-ghost use Rattle.osi_rules.specs.Sides.{begins, is_live, is_named, is_open, is_over, is_silent, other, own, theirs, seen, sends, uses};
+ghost use Rattle.osi_rules.specs.Sides.{begins, is_live, is_named, is_open, is_over, is_refused, is_silent, other, own, theirs, seen, sends, uses};
 ghost use Rattle.osi_rules.specs.Traffic.{State as Traffic, asked_by, class_for, found, fresh, is_not_judged, is_stopped, offer_of, packet_begins, sent_on, silent_half, takes, uses_source};
 ghost use Rattle.osi_rules.specs.declared.connections.Connection.{Connection};
 ghost use Rattle.osi_rules.specs.declared.courses.Course.{Course};
@@ -180,10 +180,14 @@ pub fn a_new_reference_is_not_in_use()
 {}
 
 /// While right has selected no class, one CR at most waits for its answer: of the connections that are judged, all but one are over
-/// for left.
+/// for left (`one`). Once that one has been refused and a packet of left has begun, all are (`refused`): a next CR may come.
 pub fn one_request_waits()
-    ensures { (passings : List Passing) → (all_passed passings fresh).course.class ≡ None →
+    ensures one { (passings : List Passing) → (all_passed passings fresh).course.class ≡ None →
         HoldsOfOne (is_live Direction.Left) (all_passed passings fresh).connections }
+    ensures refused { (passings : List Passing) (place : ℕ) (c : Connection) → (all_passed passings fresh).course.class ≡ None →
+        (all_passed passings fresh).course.loose ≡ false → slice_get (all_passed passings fresh).connections place ≡ Some c →
+        is_live Direction.Left c ≡ true → is_refused c.right.phase ≡ true →
+        list_all (is_over Direction.Left) (packet_begins Direction.Left (all_passed passings fresh)).connections ≡ true }
 {}
 
 /// A unit that is right on a connection is not blamed, however many connections there are and whatever has passed: the rules of
