@@ -128,8 +128,8 @@ module _ (r peer : ℕ) (s new : State) (link mid : Standing) (front : List Move
 same_pair : (a b : ℕ × Standing) → Some a ≡ Some b → a ≡ b
 same_pair a b e = cc
 
-open_is : (ended : Bool) (o : Option Connection) (peer : ℕ) (link : Standing) → (if ended then None else link_of o) ≡ Some (peer, link) →
-    o ≡ Some (linked peer link)
+pub open_is : (ended : Bool) (o : Option Connection) (peer : ℕ) (link : Standing) →
+    (if ended then None else link_of o) ≡ Some (peer, link) → o ≡ Some (linked peer link)
 open_is true o peer link e = cc
 open_is false None peer link e = cc
 open_is false (Some asked) peer link e = cc

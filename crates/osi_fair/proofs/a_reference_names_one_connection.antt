@@ -60,7 +60,7 @@ and_second : (a b : Bool) → (a && b) ≡ true → b ≡ true
 and_second true b h = h
 and_second false b h = cc
 
-differ : {A : Type 0} (b : Bool) → b ≡ true → b ≡ false → A
+pub differ : {A : Type 0} (b : Bool) → b ≡ true → b ≡ false → A
 differ b h k = absurd (cc)
 
 silent_or_open : (p : Phase) → is_silent p ≡ true → is_open p ≡ true → ⊥
@@ -202,7 +202,7 @@ opened_moves mine seen after h e = record {
   closed = λ k. differ (is_closed after.phase) k (ap is_closed e);
 }
 
-not_true : (b : Bool) → not b ≡ true → b ≡ false
+pub not_true : (b : Bool) → not b ≡ true → b ≡ false
 not_true true h = cc
 not_true false h = refl
 
@@ -257,11 +257,11 @@ right_sent (error destination cause) s c p a at j sound live r h is =
 
 -- ---- a unit for a connection
 
-applied_judged : (b : Bool) (g : Finding) → is_applied (if b then g else NotJudged) ≡ true → b ≡ true
+pub applied_judged : (b : Bool) (g : Finding) → is_applied (if b then g else NotJudged) ≡ true → b ≡ true
 applied_judged true g h = refl
 applied_judged false g h = cc
 
-applied_found : (b : Bool) (g : Finding) → is_applied (if b then g else NotJudged) ≡ true → is_applied g ≡ true
+pub applied_found : (b : Bool) (g : Finding) → is_applied (if b then g else NotJudged) ≡ true → is_applied g ≡ true
 applied_found true g h = h
 applied_found false g h = cc
 
@@ -366,7 +366,7 @@ asks d (error destination cause) s a = a
 
 -- ---- by route
 
-not_first : (a b : Bool) → (not a && b) ≡ true → a ≡ false
+pub not_first : (a b : Bool) → (not a && b) ≡ true → a ≡ false
 not_first true b h = cc
 not_first false b h = refl
 
@@ -384,19 +384,19 @@ if_judged : (b : Bool) (d : Direction) (v : Value) (s : State) (r : Route) → A
 if_judged true d v s r a = a
 if_judged false d v s r a = by_route d v s r a
 
-passes_apart : (p : Passing) (s : State) → AreApart s.connections → AreApart (passes p s).connections
+pub passes_apart : (p : Passing) (s : State) → AreApart s.connections → AreApart (passes p s).connections
 passes_apart (packet d) s a = apart_begins d s.connections a
 passes_apart (unit d v) s a = if_judged (is_stopped d s.course) d v s (route d s.course v) a
 passes_apart (rubbish d) s a = a
 
-all_apart : (ps : List Passing) (s : State) → AreApart s.connections → AreApart (all_passed ps s).connections
+pub all_apart : (ps : List Passing) (s : State) → AreApart s.connections → AreApart (all_passed ps s).connections
 all_apart [] s a = a
 all_apart (p ∷ ps) s a = all_apart ps (passes p s) (passes_apart p s a)
 
-no_item : {A : Type 0} (i : ℕ) (c : Connection) → slice_get [] i ≡ Some c → A
+pub no_item : {A : Type 0} (i : ℕ) (c : Connection) → slice_get [] i ≡ Some c → A
 no_item i c h = absurd (cc)
 
-fresh_apart : AreApart fresh.connections
+pub fresh_apart : AreApart fresh.connections
 fresh_apart = record {
   sound = λ i c at. no_item i c at;
   used_left = λ n i j c e at there jc je fc fe. no_item i c at;

@@ -31,7 +31,7 @@ item_there [] i h = absurd (omega arith)
 item_there (x ∷ xs) zero h = (x, refl)
 item_there (x ∷ xs) (suc i) h = item_there xs i (omega arith)
 
-first_there : {X : Type 0} (f : X → Bool) (xs : List X) (p i : ℕ) (d : X) → position f xs ≡ Some i → (x : X) × (slice_get xs i ≡ Some x)
+pub first_there : {X : Type 0} (f : X → Bool) (xs : List X) (p i : ℕ) (d : X) → position f xs ≡ Some i → (x : X) × (slice_get xs i ≡ Some x)
 first_there f xs p i d h = let (within, is, before) = position-Some f xs i d h in item_there xs i within
 
 not_before : (p q : ℕ) → (p < q → ⊥) → q ≤ p
@@ -48,7 +48,7 @@ fails_there f xs p x at h before =
     cc
 
 -- if it holds of one, there is a first
-is_first : {X : Type 0} (f : X → Bool) (xs : List X) (p : ℕ) (x : X) → slice_get xs p ≡ Some x → f x ≡ true →
+pub is_first : {X : Type 0} (f : X → Bool) (xs : List X) (p : ℕ) (x : X) → slice_get xs p ≡ Some x → f x ≡ true →
     position f xs ≡ Some (position_or_len f xs)
 is_first f xs p x at h =
     let q = position_or_len f xs in

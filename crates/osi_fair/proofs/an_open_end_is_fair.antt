@@ -65,7 +65,7 @@ was_judged d f v c h = judged_before d v (is_applied f) (reach_of (Some Two) f) 
 
 -- ---- at left
 
-abbrev Keeps : ℕ → Line → Type 0
+abbrev pub Keeps : ℕ → Line → Type 0
 Keeps peer line = line.tap.is_judged ≡ true → Holds peer line
 
 same_tap : (old new line : Line) → new ≡ line → line.tap ≡ old.tap → new.tap.is_judged ≡ true → old.tap.is_judged ≡ true
@@ -96,7 +96,7 @@ act_keeps r peer (passes_other course in_use unit) old new (range, named, some, 
     let was = was_judged Right (finding_of Right course in_use old.tap unit) unit old.tap still in
     passes_other_holds r peer course in_use unit old new (range, named, some, new_is) was judged (h was)
 
-all_keep : (r peer : ℕ) (acts : List Act) (old new : Line) → ActsAlong Left r peer old acts new → Keeps peer old → Keeps peer new
+pub all_keep : (r peer : ℕ) (acts : List Act) (old new : Line) → ActsAlong Left r peer old acts new → Keeps peer old → Keeps peer new
 all_keep r peer [] old new e h = subst (λ (l : Line). Keeps peer l) (sym e) h
 all_keep r peer (act ∷ acts) old new (mid, a, more) h = all_keep r peer acts mid new more (act_keeps r peer act old mid a h)
 
@@ -106,7 +106,7 @@ fits_most : (o : Option ℕ) (size : ℕ) → 5 ≤ size → IfSome o (λ most. 
 fits_most None size h k = tt
 fits_most (Some most) size h k = omega arith
 
-opened_holds : (r peer : ℕ) (line : Line) → IsOpened Left r peer line → Holds peer line
+pub opened_holds : (r peer : ℕ) (line : Line) → IsOpened Left r peer line → Holds peer line
 opened_holds r peer line o =
     let two = fresh_two o.size o.window o.credit in
     let begun_link = two_standing two.ends two.flow in
@@ -171,10 +171,10 @@ left_is_fair r peer begin line acts o along begun judged =
 
 -- ---- at right
 
-abbrev turned : Connection → Connection
+abbrev pub turned : Connection → Connection
 turned c = record c { left = c.right; right = c.left; seen_by_left = c.seen_by_right; seen_by_right = c.seen_by_left }
 
-abbrev turned_line : Line → Line
+abbrev pub turned_line : Line → Line
 turned_line line = record line { tap = turned line.tap }
 
 sent_turned : (d : Direction) (v : Value) (c : Connection) → turned (sent_on d v c) ≡ sent_on (other d) v (turned c)
@@ -320,12 +320,12 @@ act_turned r peer begins_other old new new_is h judged =
 act_turned r peer (passes_other course in_use unit) old new a h judged =
     other_keeps r peer course in_use unit old new a h (found_other course in_use old.tap unit) judged
 
-all_turned : (r peer : ℕ) (acts : List Act) (old new : Line) → ActsAlong Right r peer old acts new → Keeps peer (turned_line old) →
+pub all_turned : (r peer : ℕ) (acts : List Act) (old new : Line) → ActsAlong Right r peer old acts new → Keeps peer (turned_line old) →
     Keeps peer (turned_line new)
 all_turned r peer [] old new e h = subst (λ (l : Line). Keeps peer l) (sym (ap turned_line e)) h
 all_turned r peer (act ∷ acts) old new (mid, a, more) h = all_turned r peer acts mid new more (act_turned r peer act old mid a h)
 
-opened_turned : (r peer : ℕ) (line : Line) → IsOpened Right r peer line → IsOpened Left r peer (turned_line line)
+pub opened_turned : (r peer : ℕ) (line : Line) → IsOpened Right r peer line → IsOpened Left r peer (turned_line line)
 opened_turned r peer line o = record {
   size = o.size;
   window = o.window;

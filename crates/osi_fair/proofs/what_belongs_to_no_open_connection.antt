@@ -94,7 +94,7 @@ dc_spared d s n source two h = dc_by (is_stopped d s.course) d s n source (route
 
 -- ---- it lasts
 
-reached_strays : (d : Direction) (r : Reach) (c : Course) → c.strays ≡ true → (reached d r c).strays ≡ true
+pub reached_strays : (d : Direction) (r : Reach) (c : Course) → c.strays ≡ true → (reached d r c).strays ≡ true
 reached_strays d reach.Nothing c h = h
 reached_strays d reach.Connection c h = h
 reached_strays Left reach.Side c h = h
@@ -195,7 +195,7 @@ stray_by d s n source reason user none =
     subst (λ (p : Option ℕ). Strays (at_place d (disconnect n source reason user) s p)) (sym none)
     (reached_strays d (reach_of (class_for d c) (unnamed s.course (disconnect n source reason user))) c refl)
 
-two_named : (d : Direction) (s : State) (n source reason : ℕ) (user : List ℕ) →
+pub two_named : (d : Direction) (s : State) (n source reason : ℕ) (user : List ℕ) →
     route_in (Some Two) d (is_stopped (other d) s.course) (disconnect n source reason user) ≡ Named n
 two_named Left s n source reason user = refl
 two_named Right s n source reason user = refl

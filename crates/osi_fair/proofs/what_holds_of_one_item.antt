@@ -19,7 +19,7 @@ shifted i p (inl (e, a)) = inl (ap suc e, a)
 shifted i p (inr b) = inr b
 
 -- the item that was changed, or one that was there
-after_set : {X : Type 0} (xs : List X) (p i : ℕ) (x y : X) → slice_get (set xs p x) i ≡ Some y →
+pub after_set : {X : Type 0} (xs : List X) (p i : ℕ) (x y : X) → slice_get (set xs p x) i ≡ Some y →
     ((i ≡ p) × (y ≡ x)) ⊎ (slice_get xs i ≡ Some y)
 after_set [] p i x y h = inr h
 after_set (z ∷ xs) zero zero x y h = inl (refl, some_same x y h)
@@ -27,7 +27,7 @@ after_set (z ∷ xs) zero (suc i) x y h = inr h
 after_set (z ∷ xs) (suc p) zero x y h = inr h
 after_set (z ∷ xs) (suc p) (suc i) x y h = shifted i p (after_set xs p i x y h)
 
-after_add : {X : Type 0} (xs : List X) (i : ℕ) (x y : X) → slice_get (xs ++ x ∷ []) i ≡ Some y →
+pub after_add : {X : Type 0} (xs : List X) (i : ℕ) (x y : X) → slice_get (xs ++ x ∷ []) i ≡ Some y →
     ((i ≡ length xs) × (y ≡ x)) ⊎ (slice_get xs i ≡ Some y)
 after_add [] zero x y h = inl (refl, some_same x y h)
 after_add [] (suc i) x y h = cc

@@ -15,7 +15,8 @@ use Rattle.osi_fair.specs.Lines.{after_finding, closes, finding_of, ignores, mov
 abbrev without_cc : Connection → List Value → Line → Line
 without_cc tap more line = record line { put = more; begun = false; tap = tap }
 
-acts_join : (d : Direction) (r peer : ℕ) (xs ys : List Act) (a b c : Line) → ActsAlong d r peer a xs b → ActsAlong d r peer b ys c →
+pub acts_join : (d : Direction) (r peer : ℕ) (xs ys : List Act) (a b c : Line) → ActsAlong d r peer a xs b →
+    ActsAlong d r peer b ys c →
     ActsAlong d r peer a (xs ++ ys) c
 acts_join d r peer [] ys a b c e h = subst (λ (l : Line). ActsAlong d r peer l ys c) e h
 acts_join d r peer (x ∷ xs) ys a b c (mid, act, more) h = (mid, act, acts_join d r peer xs ys mid b c more h)

@@ -97,7 +97,7 @@ or_last true b h = refl
 or_last false b h = h
 
 -- what is over stays over if the side knows more
-over_still : (p k q : Phase) → (is_refused k ≡ true → is_refused q ≡ true) → (is_closing k ≡ true → is_closing q ≡ true) →
+pub over_still : (p k q : Phase) → (is_refused k ≡ true → is_refused q ≡ true) → (is_closing k ≡ true → is_closing q ≡ true) →
     (is_closed k ≡ true → is_closed q ≡ true) → over_phase p q ≡ false → over_phase p k ≡ false
 over_still Refused k q a b c h = both_ways (over_phase Refused q) refl h
 over_still Closed k q a b c h = both_ways (over_phase Closed q) (over_closed Closed q refl) h
@@ -126,13 +126,13 @@ named_by j mine known n = not (j && is_over_by mine known) && (not (is_silent kn
 abbrev pub used_by : (j : Bool) → (mine known : Half) → ℕ → Bool
 used_by j mine known n = not (j && is_over_by mine known) && (not (is_silent mine.phase) && (mine.reference == n))
 
-three : (a b c : Bool) → (not (true && a) && (not b && c)) ≡ true → (a ≡ false) × (b ≡ false) × (c ≡ true)
+pub three : (a b c : Bool) → (not (true && a) && (not b && c)) ≡ true → (a ≡ false) × (b ≡ false) × (c ≡ true)
 three true b c h = cc
 three false true c h = cc
 three false false true h = (refl, refl, refl)
 three false false false h = cc
 
-three_make : (a b c : Bool) → a ≡ false → b ≡ false → c ≡ true → (not (true && a) && (not b && c)) ≡ true
+pub three_make : (a b c : Bool) → a ≡ false → b ≡ false → c ≡ true → (not (true && a) && (not b && c)) ≡ true
 three_make a b c h k m = rw (h, k, m) refl
 
 -- a side whose packet begins names only what is in use

@@ -1,5 +1,5 @@
 -- What a carrier of class 2 does to one of its connections, and what the rules of transport find of it, as the acts of a line.
-use Rattle.std.specs.Prelude.{◌≡◌, ℕ, false, List, ◌++◌, Option, Some, None, position, slice_get}
+use Rattle.std.specs.Prelude.{◌≡◌, ℕ, true, false, List, ◌++◌, Option, Some, None, position, slice_get}
 use Rattle.osi_tpdu.specs.Value.{Value}
 use Rattle.osi_class.specs.Link.{Standing}
 use Rattle.osi_class.specs.declared.terms.Class.TheVariants.{Two}
@@ -7,7 +7,7 @@ use Rattle.osi_carrier.specs.Rows.{value_at}
 use Rattle.osi_carrier.specs.State.{Connection, State, asked, linked, closing, packets}
 use Rattle.osi_rules.specs.declared.connections.Connection.{Connection as Tapped}
 use Rattle.osi_rules.specs.declared.directions.Direction.{Direction}
-use Rattle.osi_rules.specs.Sides.{is_named}
+use Rattle.osi_rules.specs.Sides.{is_closing, is_named, is_open, own, theirs}
 use Rattle.osi_rules.specs.Traffic.{State as Traffic, class_for, is_stopped}
 use Rattle.osi_fair.specs.Lines.{Act, ActsAlong, Line}
 
@@ -36,3 +36,13 @@ pub record IsAtPlace (d : Direction) (s : Traffic) (n place : ℕ) (c : Tapped) 
   pub class : class_for d s.course ≡ Some Two
   pub first : position (is_named d n) s.connections ≡ Some place
   pub is : slice_get s.connections place ≡ Some c
+
+-- A DR with these references just closes an open connection that is judged: neither side has closed it before.
+pub record JustCloses (d : Direction) (s : Traffic) (destination source : ℕ) : Type 0 where
+  pub place : ℕ
+  pub closed : Tapped
+  pub at : IsAtPlace d s destination place closed
+  pub judged : closed.is_judged ≡ true
+  pub opened : is_open (own d closed).phase ≡ true
+  pub reference : (own d closed).reference ≡ source
+  pub first : is_closing (theirs d closed).phase ≡ false

@@ -2,3 +2,4 @@ pub mod Later
 pub mod Lines
 pub mod Following
 pub mod Naming
+pub mod Asking

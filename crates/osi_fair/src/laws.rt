@@ -1,12 +1,13 @@
 //! Laws of the rules of transport and of the ends that keep them. Each function does nothing: its clauses are the laws.
 
-ghost use Rattle.std.specs.Prelude.{◌≡◌, ◌≤◌, ◌⊎◌, ℕ, Bool, true, false, List, [], ◌∷◌, Option, Some, None, length, option_map, position, slice_get, slice_set};
-ghost use Rattle.std.specs.List.{AllByRecursion};
-ghost use Rattle.osi_carrier.specs.Calls.{closed_with, open_link, sent};
+ghost use Rattle.std.specs.Prelude.{◌≡◌, ◌≢◌, ◌≤◌, ◌⊎◌, ◌||◌, ℕ, Bool, true, false, List, [], ◌∷◌, ◌++◌, Option, Some, None, length, option_map, position, slice_get, slice_set};
+ghost use Rattle.std.specs.List.{AllByRecursion, list_all, list_any};
+ghost use Rattle.osi_carrier.specs.Calls.{closed_with, fresh_state, open_link, sent, sent_all};
 ghost use Rattle.osi_carrier.specs.Negotiation.{acceptance, agreed_size, opened_link, proposal};
 ghost use Rattle.osi_carrier.specs.Orderly.{IsOrderly};
 ghost use Rattle.osi_carrier.specs.React.{react};
 ghost use Rattle.osi_carrier.specs.Rows.{value_at};
+ghost use Rattle.osi_carrier.specs.Runs.{Act as Done};
 ghost use Rattle.osi_carrier.specs.State.{State, closing, linked};
 ghost use Rattle.osi_class.specs.Limits.{longest_tsdu};
 ghost use Rattle.osi_class.specs.Link.{Standing};
@@ -14,12 +15,13 @@ ghost use Rattle.osi_class.specs.Negotiation.{accept, selected_by};
 ghost use Rattle.osi_class.specs.declared.terms.Class.{Class};
 ghost use Rattle.osi_class.specs.declared.terms.Class.TheVariants.{Two, Zero};
 ghost use Rattle.osi_class.specs.declared.terms.Local.{Local};
+ghost use Rattle.osi_fair.specs.Asking.{all_asked, all_written};
 ghost use Rattle.osi_fair.specs.Naming.{HoldsOfOne, Passing, all_passed, passes};
-ghost use Rattle.osi_fair.specs.Following.{Follows, IsAtPlace};
+ghost use Rattle.osi_fair.specs.Following.{Follows, IsAtPlace, JustCloses};
 ghost use Rattle.osi_tpdu.specs.Limits.{window_units};
-ghost use Rattle.osi_tpdu.specs.Value.{Connect, IsConnect, Value, confirm, destination_of, disconnect, disconnected};
-ghost use Rattle.osi_rules.specs.Sides.{begins, is_named, is_silent, other, own, theirs, seen, sends, uses};
-ghost use Rattle.osi_rules.specs.Traffic.{State as Traffic, asked_by, class_for, found, fresh, is_stopped, offer_of, packet_begins, sent_on, silent_half, takes, uses_source};
+ghost use Rattle.osi_tpdu.specs.Value.{Connect, IsConnect, Value, confirm, destination_of, disconnect, disconnected, request};
+ghost use Rattle.osi_rules.specs.Sides.{begins, is_live, is_named, is_open, is_over, is_refused, is_silent, other, own, theirs, seen, sends, uses};
+ghost use Rattle.osi_rules.specs.Traffic.{State as Traffic, asked_by, class_for, found, fresh, is_not_judged, is_stopped, offer_of, packet_begins, sent_on, silent_half, takes, uses_source};
 ghost use Rattle.osi_rules.specs.declared.connections.Connection.{Connection};
 ghost use Rattle.osi_rules.specs.declared.courses.Course.{Course};
 ghost use Rattle.osi_rules.specs.declared.directions.Direction.{Direction};
@@ -74,6 +76,16 @@ pub fn an_open_end_is_fair()
         ActsAlong d r peer begin acts line → IsFair d line }
 {}
 
+/// An end closes a connection last: as long as a unit which it put there has not passed, the tap has seen no DR or DC of it
+/// (`waits`). So its units pass at the place of the connection, which [`a_connection_keeps_its_place`] speaks of. The other side
+/// keeps its reference (`peer`).
+pub fn an_end_closes_last()
+    ensures waits { (d : Direction) (r peer : ℕ) (begin line : Line) (acts : List Act) → IsOpened d r peer begin →
+        ActsAlong d r peer begin acts line → line.tap.is_judged ≡ true → line.put ≢ [] → is_open (own d line.tap).phase ≡ true }
+    ensures peer { (d : Direction) (r peer : ℕ) (begin line : Line) (acts : List Act) → IsOpened d r peer begin →
+        ActsAlong d r peer begin acts line → line.tap.is_judged ≡ true → (theirs d line.tap).reference ≡ peer }
+{}
+
 /// A called end may put units right after its CC. Until the CC has passed no unit of the other side names the connection. So once
 /// it has passed, the line is what the same acts make of a connection that is opened then: [`an_open_end_is_fair`] speaks of
 /// what was put before, too.
@@ -85,8 +97,8 @@ pub fn what_is_put_before_the_cc_passes()
 {}
 
 /// What a carrier of class 2 does to one of its connections is acts of its line, and it writes the units that these put: as a
-/// unit for the connection arrives (`open`, and `closing` if the end has sent a DR), as a TSDU is sent (`sent`), and as the
-/// connection is closed (`closed`). A unit for another connection leaves this one as it is, by
+/// unit for the connection arrives (`open`, and `closing` if the end has sent a DR), as a TSDU is sent (`sent`) or several
+/// together (`together`), and as the connection is closed (`closed`). What is done one after the other joins (`joined`). A unit for another connection leaves this one as it is, by
 /// `a_unit_changes_one_connection` of `osi_carrier`. So [`an_open_end_is_fair`] speaks of every connection of a carrier.
 pub fn a_carrier_follows_its_lines()
     ensures open { (unit : Value) (s : State) (r peer : ℕ) (link : Standing) → IsOrderly s → s.class ≡ Some Two → s.ended ≡ None →
@@ -95,8 +107,12 @@ pub fn a_carrier_follows_its_lines()
         value_at r s.live ≡ Some (closing peer) → destination_of unit ≡ Some r → Follows r peer (unit ∷ []) s (react unit s) }
     ensures sent { (r peer : ℕ) (tsdu : List ℕ) (s : State) (link : Standing) → open_link r s ≡ Some (peer, link) →
         length tsdu ≤ longest_tsdu → Follows r peer [] s (sent r tsdu s) }
+    ensures together { (r peer : ℕ) (tsdus : List (List ℕ)) (s : State) (link : Standing) → open_link r s ≡ Some (peer, link) →
+        AllByRecursion (λ tsdu. length tsdu ≤ longest_tsdu) tsdus → Follows r peer [] s (sent_all r tsdus s) }
     ensures closed { (r peer reason : ℕ) (s : State) (link : Standing) → open_link r s ≡ Some (peer, link) → s.class ≡ Some Two →
         Follows r peer [] s (closed_with r reason s) }
+    ensures joined { (r peer : ℕ) (a b : List Value) (old mid new : State) → Follows r peer a old mid → Follows r peer b mid new →
+        Follows r peer (a ++ b) old new }
 {}
 
 /// The rules of transport find of each unit in class 2 that names a connection what the line of this connection says (`found`),
@@ -121,6 +137,59 @@ pub fn a_reference_names_one_connection()
         HoldsOfOne (is_named d n) (all_passed passings fresh).connections }
 {}
 
+/// A connection keeps its place and its name. A reference that names it for a side names it at this place until it is over for
+/// this side, whatever passes (`stays`); what this side has refused or closed there, it has closed until then (`closed`). As long as no connection has lost its judgement, because a side broke a rule, this is the
+/// place at which a unit with this reference is judged (`place`). The reference by which the other side's units name it is the one that this side gave it
+/// (`own`), so a tap and this end say of the same connection that a unit is for it.
+pub fn a_connection_keeps_its_place()
+    ensures stays { (passings : List Passing) (passing : Passing) (d : Direction) (n place : ℕ) (c after : Connection) →
+        slice_get (all_passed passings fresh).connections place ≡ Some c →
+        slice_get (passes passing (all_passed passings fresh)).connections place ≡ Some after → c.is_judged ≡ true →
+        is_named d n c ≡ true → is_over d after ≡ false → is_named d n after ≡ true }
+    ensures closed { (passings : List Passing) (passing : Passing) (d : Direction) (place : ℕ) (c after : Connection) →
+        slice_get (all_passed passings fresh).connections place ≡ Some c →
+        slice_get (passes passing (all_passed passings fresh)).connections place ≡ Some after → c.is_judged ≡ true →
+        is_over d c ≡ false → (is_silent (own d c).phase || is_open (own d c).phase) ≡ false →
+        (is_silent (own d after).phase || is_open (own d after).phase) ≡ false }
+    ensures place { (passings : List Passing) (d : Direction) (n place : ℕ) (c : Connection) →
+        slice_get (all_passed passings fresh).connections place ≡ Some c → is_named d n c ≡ true →
+        (all_passed passings fresh).course.loose ≡ false →
+        position (is_named d n) (all_passed passings fresh).connections ≡ Some place }
+    ensures own { (passings : List Passing) (d : Direction) (n place : ℕ) (c : Connection) →
+        slice_get (all_passed passings fresh).connections place ≡ Some c → c.is_judged ≡ true →
+        is_named (other d) n c ≡ true → (own d c).reference ≡ n }
+{}
+
+/// The CRs of a calling end have new references. Take any run of its carrier, any calls and any octets, and a tap that its CRs
+/// pass in order. The next of them gives a reference that the end uses for no connection at the tap (`unused`), and that none
+/// has which is not judged any more (`judged`). So once class 2 is known to be the class, this CR is right, or there are more
+/// connections than the rules look at (`right`).
+pub fn a_new_reference_is_not_in_use()
+    ensures unused { (local : Local) (acts : List Done) (passings : List Passing) (r : ℕ) (rest : List ℕ) →
+        all_written acts (fresh_state true local) ≡ all_asked passings ++ r ∷ rest →
+        list_any (uses Direction.Left r) (all_passed passings fresh).connections ≡ false }
+    ensures judged { (local : Local) (acts : List Done) (passings : List Passing) (r : ℕ) (rest : List ℕ) →
+        all_written acts (fresh_state true local) ≡ all_asked passings ++ r ∷ rest →
+        list_any (is_not_judged r) (all_passed passings fresh).connections ≡ false }
+    ensures right { (local : Local) (acts : List Done) (passings : List Passing) (c : Connect) (rest : List ℕ) →
+        all_written acts (fresh_state true local) ≡ all_asked passings ++ c.source ∷ rest →
+        is_stopped Direction.Left (all_passed passings fresh).course ≡ false →
+        (all_passed passings fresh).course.class_seen ≡ Some Two →
+        ((takes Direction.Left (request c) (all_passed passings fresh)).told.finding ≡ Finding.Kept)
+        ⊎ ((takes Direction.Left (request c) (all_passed passings fresh)).told.finding ≡ Finding.TooMany) }
+{}
+
+/// While right has selected no class, one CR at most waits for its answer: of the connections that are judged, all but one are over
+/// for left (`one`). Once that one has been refused and a packet of left has begun, all are (`refused`): a next CR may come.
+pub fn one_request_waits()
+    ensures one { (passings : List Passing) → (all_passed passings fresh).course.class ≡ None →
+        HoldsOfOne (is_live Direction.Left) (all_passed passings fresh).connections }
+    ensures refused { (passings : List Passing) (place : ℕ) (c : Connection) → (all_passed passings fresh).course.class ≡ None →
+        (all_passed passings fresh).course.loose ≡ false → slice_get (all_passed passings fresh).connections place ≡ Some c →
+        is_live Direction.Left c ≡ true → is_refused c.right.phase ≡ true →
+        list_all (is_over Direction.Left) (packet_begins Direction.Left (all_passed passings fresh)).connections ≡ true }
+{}
+
 /// A unit that is right on a connection is not blamed, however many connections there are and whatever has passed: the rules of
 /// transport find that it is right, or that it is not judged. So the units of which [`an_open_end_is_fair`] speaks are not
 /// blamed.
@@ -133,7 +202,8 @@ pub fn a_right_unit_is_not_blamed()
 {}
 
 /// What an end answers without an open connection. A DR that refuses a CR is right (`refusal`). After a DR that closed nothing no
-/// DC is blamed (`dc`), whatever passes after it (`lasts`); a DR of the other side for no connection is such a one (`stray`).
+/// DC is blamed (`dc`), whatever passes after it (`lasts`); a DR of the other side for no connection is such a one (`stray`), and so is each DR except one that just closes an open
+/// connection which is judged (`closes`).
 pub fn what_belongs_to_no_open_connection()
     ensures refusal { (c : Connection) (course : Course) (in_use : Bool) (destination source reason : ℕ) (user : List ℕ) →
         is_silent c.right.phase ≡ true →
@@ -145,4 +215,7 @@ pub fn what_belongs_to_no_open_connection()
     ensures stray { (d : Direction) (s : Traffic) (n source reason : ℕ) (user : List ℕ) → is_stopped d s.course ≡ false →
         class_for d s.course ≡ Some Two → position (is_named d n) s.connections ≡ None →
         (takes d (disconnect n source reason user) s).state.course.strays ≡ true }
+    ensures closes { (d : Direction) (s : Traffic) (n source reason : ℕ) (user : List ℕ) → is_stopped d s.course ≡ false →
+        class_for d s.course ≡ Some Two →
+        ((takes d (disconnect n source reason user) s).state.course.strays ≡ true) ⊎ JustCloses d s n source }
 {}

@@ -25,12 +25,19 @@
 //!   ([`laws::a_unit_is_an_act_of_its_line`]), and a reference names one connection at most
 //!   ([`laws::a_reference_names_one_connection`]). So a unit that is right on its connection is not blamed, however many
 //!   connections there are: [`laws::a_right_unit_is_not_blamed`].
-//! - **Answers without an open connection**, a DR that refuses a CR and a DC for a DR that closed nothing, are not blamed either:
-//!   [`laws::what_belongs_to_no_open_connection`].
+//! - **A line has a place**: a connection keeps its place at the tap and its name until it is over for the side that names it
+//!   ([`laws::a_connection_keeps_its_place`]), and an end puts nothing there after the unit that closes it
+//!   ([`laws::an_end_closes_last`]).
+//! - **A calling end** gives each of its CRs a reference that no connection has at the tap:
+//!   [`laws::a_new_reference_is_not_in_use`], over the run of its carrier (`specs/Asking`). While no class is selected, one CR at
+//!   most waits for its answer there: [`laws::one_request_waits`].
+//! - **Answers without an open connection**, a DR that refuses a CR and a DC for a DR that closed nothing, are not blamed either,
+//!   and each DR closed nothing that doesn't just close an open connection: [`laws::what_belongs_to_no_open_connection`].
 //!
-//! What is not here: the CR of a calling end among its other connections; that a DR for a reference that is gone at the end has
-//! closed nothing at the tap; and the run of a whole end, in which each connection of its carrier has its line and each line its
-//! place at the tap. So the theorem on a whole end of class 2, as `osi_honest` has it for class 0, doesn't follow yet.
+//! What is not here: that no CR of a calling end is unanswered at the tap when it asks again before the class is known; that a DR
+//! for a reference that is gone at the end doesn't just close an open connection at the tap; and the run of a whole end, in
+//! which each connection of its carrier has its line and each line its place. So the theorem on a whole end of class 2, as
+//! `osi_honest` has it for class 0, doesn't follow yet.
 #![tactic(auto)]
 
 pub mod laws;

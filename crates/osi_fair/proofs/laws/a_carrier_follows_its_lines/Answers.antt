@@ -1,4 +1,5 @@
 use Rattle.osi_fair.proofs.a_carrier_follows_lines.{follows_closed, follows_closed_one, follows_open, follows_sent}
+use Rattle.osi_fair.proofs.calls_of_a_line_join.{follows_then, follows_together}
 use Rattle.osi_fair.proofs.laws.a_carrier_follows_its_lines.Goals as goal
 
 pub returns-clause-open : goal.returns-clause-open
@@ -12,3 +13,9 @@ returns-clause-sent c = follows_sent
 
 pub returns-clause-closed : goal.returns-clause-closed
 returns-clause-closed c = follows_closed
+
+pub returns-clause-together : goal.returns-clause-together
+returns-clause-together c = follows_together
+
+pub returns-clause-joined : goal.returns-clause-joined
+returns-clause-joined c = follows_then

@@ -1,4 +1,5 @@
 use Rattle.osi_fair.proofs.what_belongs_to_no_open_connection.{dc_spared, dr_strays, refusal_right, strays_last}
+use Rattle.osi_fair.proofs.which_answers_may_be_blamed.{dr_closes}
 use Rattle.osi_fair.proofs.laws.what_belongs_to_no_open_connection.Goals as goal
 
 pub returns-clause-refusal : goal.returns-clause-refusal
@@ -12,3 +13,6 @@ returns-clause-lasts c = strays_last
 
 pub returns-clause-stray : goal.returns-clause-stray
 returns-clause-stray c = dr_strays
+
+pub returns-clause-closes : goal.returns-clause-closes
+returns-clause-closes c = dr_closes

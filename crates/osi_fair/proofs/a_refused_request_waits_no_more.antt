@@ -1,0 +1,61 @@
+-- Once the CR that waits has been refused, and a packet of left has begun since, no connection waits: each is over for left.
+-- For the law on CRs that wait.
+use Rattle.std.proofs.Common.{◌≡◌, ◌∙◌, ℕ, zero, suc, Bool, true, false, List, [], ◌∷◌, map, refl, sym, ap, subst, Some, None}
+use Rattle.std.specs.Prelude.{◌&&◌, ◌||◌, not, slice_get}
+use Rattle.std.specs.List.{list_all}
+use Rattle.osi_rules.specs.declared.connections.Connection.{Connection}
+use Rattle.osi_rules.specs.declared.directions.Direction.TheVariants.{Left}
+use Rattle.osi_rules.specs.Sides.{begins, is_live, is_over, is_closed, is_closing, is_over_by, is_refused}
+use Rattle.osi_rules.specs.Traffic.{fresh, packet_begins}
+use Rattle.osi_fair.specs.Naming.{Passing, all_passed}
+use Rattle.osi_fair.proofs.what_holds_of_one_item.{HoldsOfEach, after_map}
+use Rattle.osi_fair.proofs.all_are_judged_unless_one_broke.{IsJudged, all_judged}
+use Rattle.osi_fair.proofs.a_reference_names_one_connection.{all_apart, fresh_apart, no_item}
+use Rattle.osi_fair.proofs.one_request_waits.{begun_live, one_waits}
+
+both : (a b : Bool) → a ≡ true → b ≡ true → (a && b) ≡ true
+both true b h k = k
+both false b h k = cc
+
+all_from : (f : Connection → Bool) (cs : List Connection) → HoldsOfEach (λ (c : Connection). f c ≡ true) cs → list_all f cs ≡ true
+all_from f [] h = refl
+all_from f (c ∷ cs) h = both (f c) (list_all f cs) (h zero c refl) (all_from f cs (λ i e at. h (suc i) e at))
+
+same_item : (x y : Connection) → Some x ≡ Some y → x ≡ y
+same_item x y e = cc
+
+or_known : (a b c : Bool) → b ≡ true → (a || (b || c)) ≡ true
+or_known true b c h = refl
+or_known false true c h = refl
+or_known false false c h = cc
+
+refused_over : (c : Connection) → c.is_judged ≡ true → is_refused c.right.phase ≡ true → is_over Left (begins Left c) ≡ true
+refused_over c j h = both c.is_judged (is_over_by c.left c.right) j (or_known (is_refused c.left.phase) (is_refused c.right.phase)
+    (is_closed c.left.phase || (is_closing c.left.phase && (is_closing c.right.phase || is_closed c.right.phase))) h)
+
+module _ (ps : List Passing) (p : ℕ) (c : Connection) (none : (all_passed ps fresh).course.class ≡ None)
+    (firm : (all_passed ps fresh).course.loose ≡ false) (at : slice_get (all_passed ps fresh).connections p ≡ Some c)
+    (live : is_live Left c ≡ true) (refused : is_refused c.right.phase ≡ true) where
+  judged : HoldsOfEach IsJudged (all_passed ps fresh).connections
+  judged = all_judged ps fresh (λ h i e there. no_item i e there) firm
+
+  over_by : (b : Bool) (i : ℕ) (e : Connection) → slice_get (all_passed ps fresh).connections i ≡ Some e →
+      is_over Left (begins Left e) ≡ b → is_over Left (begins Left e) ≡ true
+  over_by true i e there h = h
+  over_by false i e there h =
+      let j = judged i e there in
+      let sound = (all_apart ps fresh fresh_apart).sound i e there j in
+      let (was, so) = begun_live Left e sound.left_knows j (ap not h) in
+      let same : i ≡ p = one_waits ps none i p e c there at was (judged p c at) so live in
+      let is : e ≡ c = same_item e c (sym there ∙ ap (λ (q : ℕ). slice_get (all_passed ps fresh).connections q) same ∙ at) in
+      subst (λ (x : Connection). is_over Left (begins Left x) ≡ true) (sym is) (refused_over c (judged p c at) refused)
+
+  all_over : list_all (is_over Left) (map (begins Left) (all_passed ps fresh).connections) ≡ true
+  all_over = all_from (is_over Left) (map (begins Left) (all_passed ps fresh).connections) (λ i x there.
+      let (e, was, is) = after_map (begins Left) (all_passed ps fresh).connections i x there in
+      subst (λ (y : Connection). is_over Left y ≡ true) (sym is) (over_by (is_over Left (begins Left e)) i e was refl))
+
+pub waits_no_more : (ps : List Passing) (p : ℕ) (c : Connection) → (all_passed ps fresh).course.class ≡ None →
+    (all_passed ps fresh).course.loose ≡ false → slice_get (all_passed ps fresh).connections p ≡ Some c → is_live Left c ≡ true →
+    is_refused c.right.phase ≡ true → list_all (is_over Left) (packet_begins Left (all_passed ps fresh)).connections ≡ true
+waits_no_more ps p c none firm at live refused = all_over ps p c none firm at live refused
