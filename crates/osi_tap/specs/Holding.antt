@@ -2,6 +2,8 @@
 -- passed of that side and of the other.
 use Rattle.std.specs.Prelude.{◌≡◌, ◌⊎◌, ℕ, Bool, true, false, List, [], ◌∷◌, ◌++◌, Option, Some, None}
 use Rattle.osi_session.specs.Standing.{Seen, seen_calling, seen_called}
+use Rattle.osi_judge.specs.declared.findings.Finding.{Finding}
+use Rattle.osi_judge.specs.declared.findings.Finding.TheVariants as finding
 use Rattle.osi_judge.specs.Judging.{Watched, Watches}
 use Rattle.osi_judge.specs.Outlines.{outline, outlines}
 use Rattle.osi_judge.specs.Sides.{watched}
@@ -11,7 +13,7 @@ use Rattle.osi_tap.specs.declared.lines.Line.{Line}
 use Rattle.osi_tap.specs.declared.lines.Stage.{Stage}
 use Rattle.osi_tap.specs.declared.lines.Stage.TheVariants.{Between, Within, Unheard}
 use Rattle.osi_tap.specs.declared.connections.Connection.{Connection}
-use Rattle.osi_tap.specs.Lines.{Spoken, Begun, told, heard}
+use Rattle.osi_tap.specs.Lines.{Spoken, Said, Begun, told, heard, place_in}
 use Rattle.osi_tap.specs.Connections.{Joined, Sessions}
 use Rattle.osi_tap.specs.Streams.{Front, partial, faulty, whole, Streamed}
 use Rattle.osi_tap.specs.declared.streams.Shape.{Shape}
@@ -72,6 +74,12 @@ IsClear Between octets = octets ≡ []
 IsClear Within octets = Unit {0}
 IsClear Unheard octets = Unit {0}
 
+-- of a session that broke the protocol or left the profile, the packet in which that TSDU ended
+abbrev pub IsPlace : Finding → List Said → ℕ → Type 0
+IsPlace (finding.Broke i) said at = place_in said i ≡ Some at
+IsPlace (finding.Left i) said at = place_in said i ≡ Some at
+IsPlace found said at = Unit {0}
+
 -- What is kept of a side, whose session began so, and of the other side holds what passed of both: its session was told its
 -- TSDUs, and heard those of the other side, but for one that it is still to be given.
 pub record Holds (begin : Seen) (own other : Lined) (mine theirs : Spoken) : Type 0 where
@@ -81,6 +89,7 @@ pub record Holds (begin : Seen) (own other : Lined) (mine theirs : Spoken) : Typ
   pub unfinished : begun_in own ≡ mine.begun
   pub clear : IsClear own.stage own.begun
   pub known : own.since ≡ mine.since
+  pub place : IsPlace own.side.finding mine.said own.last
 
 -- of both sides
 pub record HoldsBoth (own_begin other_begin : Seen) (own other : Lined) (mine theirs : Spoken) : Type 0 where

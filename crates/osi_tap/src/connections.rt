@@ -7,7 +7,7 @@ ghost use Rattle.osi_judge.specs.Judging.{IsFound};
 ghost use Rattle.osi_judge.specs.Tapping.{begin_of};
 ghost use Rattle.osi_tap.specs.Lines.{told, heard};
 ghost use Rattle.osi_tap.specs.Connections.{Joined, asked, packet_begins, opened, shut, adds, spoken, reference_of};
-ghost use Rattle.osi_tap.specs.Holding.{lined, line_in, HoldsJoined};
+ghost use Rattle.osi_tap.specs.Holding.{lined, line_in, HoldsJoined, IsPlace};
 
 use crate::lines::{Line, add};
 use osi_class::Class;
@@ -135,7 +135,8 @@ impl Connection {
 
     /// What was found of the session of a side, by what both sides sent.
     pub fn finding(&self, direction: Direction) -> Finding
-        ensures { (j : Joined) → HoldsJoined self.now j
+        ensures value { result ≡ (line_in direction self.now).side.finding }
+        ensures found { (j : Joined) → HoldsJoined self.now j
             → IsFound (begin_of direction) (heard (spoken (other direction) j)) (told (spoken direction j)) result }
     {
         self.side(direction).finding()
@@ -143,7 +144,9 @@ impl Connection {
 
     /// Where the session of a side broke the protocol or left the profile: the offset, in its direction, of the packet in
     /// which that TSDU ended. Of a side that did neither it says nothing.
-    pub fn offset(&self, direction: Direction) -> u64 {
+    pub fn offset(&self, direction: Direction) -> u64
+        ensures { (j : Joined) → HoldsJoined self.now j → IsPlace (line_in direction self.now).side.finding (spoken direction j).said result }
+    {
         self.line(direction).last
     }
 

@@ -3,7 +3,7 @@
 ghost use Rattle.std.specs.Prelude.{◌≡◌, ◌+◌, ◌++◌, [], false, length, OnOk, OnErr};
 ghost use Rattle.osi_session.specs.Standing.{Seen};
 ghost use Rattle.osi_tpkt.specs.Stream.{offset_of};
-ghost use Rattle.osi_judge.specs.Feeding.{Tells};
+ghost use Rattle.osi_judge.specs.Feeding.{Tells, last_place};
 ghost use Rattle.osi_judge.specs.Sides.{watched};
 ghost use Rattle.osi_tap.specs.Lines.{Spoken, added, begun_before};
 ghost use Rattle.osi_tap.specs.Holding.{lined, unheard, begun_in, is_unheard, Lined, HoldsBoth};
@@ -39,7 +39,9 @@ pub(crate) struct Line {
 }
 
 /// The packet that ended the TSDU at which a session broke the protocol, or the last while it keeps it.
-fn last_place(finding: Finding, at: u64, last: u64) -> u64 {
+fn last_place(finding: Finding, at: u64, last: u64) -> u64
+    ensures { result ≡ last_place finding at last }
+{
     match finding {
         Finding::Kept => at,
         Finding::Broke(_) | Finding::Left(_) | Finding::TooMany => last,
@@ -124,7 +126,7 @@ impl Line {
           side = watched self.new.side;
           begun = (lined self.old).begun ++ octets.now;
           stage = Stage.Unheard;
-          last = self.new.last;
+          last = last_place (lined self.old).side.finding at (lined self.old).last;
         }) }
         ensures tells { OnOk result (Tells ((lined self.old).begun ++ octets.now) since (watched self.old.side) (watched self.new.side)) }
         ensures err { OnErr result (lined self.new ≡ lined self.old) }
