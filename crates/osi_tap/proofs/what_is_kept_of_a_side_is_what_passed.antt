@@ -21,7 +21,7 @@ use Rattle.osi_judge.specs.declared.directions.Direction.TheVariants.{Left, Righ
 use Rattle.osi_tap.specs.declared.connections.Connection.{Connection}
 use Rattle.osi_tap.specs.declared.lines.Line.{Line}
 use Rattle.osi_tap.specs.Connections.{Joined, adds, spoken}
-use Rattle.osi_tap.specs.Holding.{lined, line_in, HoldsJoined}
+use Rattle.osi_tap.specs.Holding.{lined, line_in, HoldsJoined, IsHeard}
 use Rattle.osi_tap.specs.Lines.{Begun, Spoken, told, told_of, octets_of, heard, begun_octets, begun_before, before, added, begins}
 use Rattle.osi_tap.specs.Lines.{silent, Said, place_in}
 use Rattle.osi_tap.specs.Holding.{Lined, unheard, unheard_at, begun_at, begun_in, is_unheard, IsClear, IsPlace, Holds, HoldsBoth}
@@ -287,6 +287,12 @@ pub found_at : (d : Direction) (c : Connection) (j : Joined) → HoldsJoined c j
     → IsFound (begin_of d) (heard (spoken (other d) j)) (told (spoken d j)) (line_in d c).side.finding
 found_at Left c j h = found_in seen_calling (lined c.left) (lined c.right) j.left j.right h.sides.this
 found_at Right c j h = found_in seen_called (lined c.right) (lined c.left) j.right j.left h.sides.that
+
+-- the session of a side has heard all that the other side said
+pub heard_at : (d : Direction) (c : Connection) (j : Joined) → HoldsJoined c j → IsHeard c
+    → (line_in d c).side.heard ≡ outlines (heard (spoken (other d) j))
+heard_at Left c j h k = heard_by_other seen_called seen_calling (lined c.right) (lined c.left) j.right j.left k.right (flipped h.sides)
+heard_at Right c j h k = heard_by_other seen_calling seen_called (lined c.left) (lined c.right) j.left j.right k.left h.sides
 
 -- ---- a DT on a connection
 

@@ -109,6 +109,25 @@ abbrev pub line_in : Direction → Connection → Lined
 line_in Left c = lined c.left
 line_in Right c = lined c.right
 
+-- the session of each side was given all TSDUs of the other
+pub record IsHeard (c : Connection) : Type 0 where
+  pub left : is_unheard c.left.stage ≡ false
+  pub right : is_unheard c.right.stage ≡ false
+
+abbrev pub AreHeard : List Connection → Type 0
+AreHeard [] = Unit {0}
+AreHeard (c ∷ cs) = IsHeard c × AreHeard cs
+
+-- of a connection that is sought
+abbrev pub FoundHeard : Option Connection → Type 0
+FoundHeard None = Unit {0}
+FoundHeard (Some c) = IsHeard c
+
+-- of all connections
+pub record AllHeard (k : Kept) : Type 0 where
+  pub live : AreHeard k.live.items
+  pub done : AreHeard k.done.items
+
 -- of connections, one after the other
 abbrev pub HoldAll : List Connection → List Joined → Type 0
 HoldAll [] [] = Unit {0}

@@ -4,12 +4,13 @@ ghost use Rattle.std.specs.Prelude.{◌≡◌, IfOk, OnOk, OnErr};
 ghost use Rattle.osi_judge.specs.Sides.{watched};
 ghost use Rattle.osi_judge.specs.Captures.{other};
 ghost use Rattle.osi_judge.specs.Judging.{IsFound};
+ghost use Rattle.osi_judge.specs.Outlines.{outlines};
 ghost use Rattle.osi_judge.specs.Tapping.{begin_of};
 ghost use Rattle.osi_tap.specs.Lines.{told, heard};
 ghost use Rattle.osi_tap.specs.Connections.{Joined, asked, packet_begins, opened, shut, adds, spoken, reference_of};
-ghost use Rattle.osi_tap.specs.Holding.{lined, line_in, HoldsJoined, IsPlace};
+ghost use Rattle.osi_tap.specs.Holding.{lined, line_in, HoldsJoined, IsHeard, IsPlace};
 
-use crate::lines::{Line, add};
+use crate::lines::{Line, add, hand_over_both};
 use osi_class::Class;
 use osi_judge::{Direction, Finding, Side};
 use std::alloc::{AllocError, Global};
@@ -86,6 +87,14 @@ impl Connection {
         }
     }
 
+    /// The session of each side is given what it has not heard yet. After `Err` one of them may have been.
+    pub(crate) fn hand_over(&mut self) -> Result<(), AllocError>
+        ensures holds { (j : Joined) → HoldsJoined self.old j → HoldsJoined self.new j }
+        ensures heard { OnOk result (IsHeard self.new) }
+    {
+        hand_over_both(&mut self.left, &mut self.right)
+    }
+
     fn line(&self, direction: Direction) -> &Line
         ensures { lined result.now ≡ line_in direction self.now }
     {
@@ -126,9 +135,11 @@ impl Connection {
         self.closed
     }
 
-    /// The session of a side.
+    /// The session of a side. Once [`crate::Tap::settle`] has said `Ok`, it has heard all that the other side said.
     pub fn side(&self, direction: Direction) -> &Side
-        ensures { watched result.now ≡ (line_in direction self.now).side }
+        ensures value { watched result.now ≡ (line_in direction self.now).side }
+        ensures heard { (j : Joined) → HoldsJoined self.now j → IsHeard self.now
+            → (watched result.now).heard ≡ outlines (heard (spoken (other direction) j)) }
     {
         &self.line(direction).side
     }

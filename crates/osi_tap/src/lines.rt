@@ -164,6 +164,19 @@ pub(crate) fn hand_over(own: &mut Line, other: &mut Line) -> Result<(), AllocErr
     Ok(())
 }
 
+/// Each of the two sessions is given what it has not heard yet. After `Err` one of them may have been.
+pub(crate) fn hand_over_both(own: &mut Line, other: &mut Line) -> Result<(), AllocError>
+    ensures holds { (s t : Seen) (a b : Spoken) → HoldsBoth s t (lined own.old) (lined other.old) a b
+        → HoldsBoth s t (lined own.new) (lined other.new) a b }
+    ensures own { OnOk result (is_unheard own.new.stage ≡ false) }
+    ensures other { OnOk result (is_unheard other.new.stage ≡ false) }
+{
+    match hand_over(own, other) {
+        Ok(()) => hand_over(other, own),
+        Err(refused) => Err(refused),
+    }
+}
+
 /// A DT of a side passes, in the packet at this offset; the other session has heard all TSDUs before it. `Err` changes
 /// nothing.
 fn add_heard(own: &mut Line, at: u64, end: bool, octets: &[u8]) -> Result<(), AllocError>

@@ -12,4 +12,4 @@ pub returns-clause-found : goal.returns-clause-found
 returns-clause-found c j h =
     let d = c.args.direction in
     subst (λ (f : Finding). IsFound (begin_of d) (heard (spoken (other d) j)) (told (spoken d j)) f)
-    (sym (c.finding.ensures.value ∙ ap (λ (w : Watched). w.finding) c.side.ensures)) (found_at d c.args.self.now j h)
+    (sym (c.finding.ensures.value ∙ ap (λ (w : Watched). w.finding) c.side.ensures.value)) (found_at d c.args.self.now j h)
