@@ -80,6 +80,8 @@ impl Connection {
     ) -> Result<(), AllocError>
         ensures ok { OnOk result ((j : Joined) → HoldsJoined self.old j → HoldsJoined self.new (adds direction at end octets.now j)) }
         ensures err { OnErr result ((j : Joined) → HoldsJoined self.old j → HoldsJoined self.new j) }
+        ensures own { OnErr result ((line_in direction self.new).side.finding ≡ (line_in direction self.old).side.finding) }
+        ensures other { (line_in (other direction) self.new).side.finding ≡ (line_in (other direction) self.old).side.finding }
     {
         match direction {
             Direction::Left => add(&mut self.left, &mut self.right, at, end, octets),

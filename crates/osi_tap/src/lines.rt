@@ -154,6 +154,8 @@ pub(crate) fn hand_over(own: &mut Line, other: &mut Line) -> Result<(), AllocErr
         → HoldsBoth s t (lined own.new) (lined other.new) a b }
     ensures heard { OnOk result (is_unheard own.new.stage ≡ false) }
     ensures stage { other.new.stage ≡ other.old.stage }
+    ensures own { (lined own.new).side.finding ≡ (lined own.old).side.finding }
+    ensures other { (lined other.new).side.finding ≡ (lined other.old).side.finding }
 {
     if !own.is_unheard() {
         return Ok(());
@@ -206,6 +208,8 @@ fn add_last(
         → HoldsBoth s t (lined own.new) (lined other.new) (added at end octets.now a) b) }
     ensures err { OnErr result ((s t : Seen) (a b : Spoken) → HoldsBoth s t (lined own.old) (lined other.old) a b
         → HoldsBoth s t (lined own.new) (lined other.new) a b) }
+    ensures own { OnErr result ((lined own.new).side.finding ≡ (lined own.old).side.finding) }
+    ensures other { (lined other.new).side.finding ≡ (lined other.old).side.finding }
 {
     match add_heard(own, at, end, octets) {
         Ok(()) => {
@@ -229,6 +233,8 @@ fn add_known(
         → HoldsBoth s t (lined own.new) (lined other.new) (added at end octets.now a) b) }
     ensures err { OnErr result ((s t : Seen) (a b : Spoken) → HoldsBoth s t (lined own.old) (lined other.old) a b
         → HoldsBoth s t (lined own.new) (lined other.new) a b) }
+    ensures own { OnErr result ((lined own.new).side.finding ≡ (lined own.old).side.finding) }
+    ensures other { (lined other.new).side.finding ≡ (lined other.old).side.finding }
 {
     match hand_over(other, own) {
         Ok(()) => add_last(own, other, at, end, octets),
@@ -248,6 +254,8 @@ pub(crate) fn add(
         → HoldsBoth s t (lined own.new) (lined other.new) (added at end octets.now a) b) }
     ensures err { OnErr result ((s t : Seen) (a b : Spoken) → HoldsBoth s t (lined own.old) (lined other.old) a b
         → HoldsBoth s t (lined own.new) (lined other.new) a b) }
+    ensures own { OnErr result ((lined own.new).side.finding ≡ (lined own.old).side.finding) }
+    ensures other { (lined other.new).side.finding ≡ (lined other.old).side.finding }
 {
     match hand_over(own, other) {
         Ok(()) => add_known(own, other, at, end, octets),
