@@ -57,7 +57,9 @@ impl Connection {
 
     /// A CC opens it.
     pub(crate) fn open(&mut self, called: u16, class: Class)
-        ensures { (j : Joined) → HoldsJoined self.old j → HoldsJoined self.new (opened called class j) }
+        ensures holds { (j : Joined) → HoldsJoined self.old j → HoldsJoined self.new (opened called class j) }
+        ensures left { self.new.left ≡ self.old.left }
+        ensures right { self.new.right ≡ self.old.right }
     {
         self.called = Some(called);
         self.class = Some(class);
@@ -65,7 +67,9 @@ impl Connection {
 
     /// A DR or an ER refuses or closes it.
     pub(crate) fn shut(&mut self)
-        ensures { (j : Joined) → HoldsJoined self.old j → HoldsJoined self.new (shut j) }
+        ensures holds { (j : Joined) → HoldsJoined self.old j → HoldsJoined self.new (shut j) }
+        ensures left { self.new.left ≡ self.old.left }
+        ensures right { self.new.right ≡ self.old.right }
     {
         self.closed = true;
     }

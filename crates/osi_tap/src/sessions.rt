@@ -2,12 +2,13 @@
 
 ghost use Rattle.std.specs.Prelude.{◌≡◌, ◌≤◌, ◌<◌, ◌+◌, ℕ, List, Some, OnOk, OnErr, length, map, take, option_copied, option_map, slice_get, ◌==◌};
 ghost use Rattle.std.specs.List.{find};
+ghost use Rattle.osi_judge.specs.Captures.{other};
 ghost use Rattle.osi_tpdu.specs.View.{value};
 ghost use Rattle.osi_tap.specs.Connections.{Joined, Sessions as Passed, none, count, all_begin, packet_begins, source_of, class_of};
 ghost use Rattle.osi_tap.specs.Connections.{user_of, meant, taken, asked_at, placed, changed, numbered};
 ghost use Rattle.osi_tpkt.specs.Stream.{offset_of};
 ghost use Rattle.osi_tap.specs.Courses.{number_at, number_of};
-ghost use Rattle.osi_tap.specs.Holding.{AllHeard, AreHeard, FoundHeard, HoldAll, HoldsFound, HoldsJoined, HoldsSessions};
+ghost use Rattle.osi_tap.specs.Holding.{line_in, AllHeard, AreHeard, AreUnbroken, AreUnbrokenBut, FoundHeard, HoldAll, HoldsFound, HoldsJoined, HoldsSessions};
 
 use crate::connections::Connection;
 use osi_class::Class;
@@ -250,6 +251,9 @@ impl Sessions {
         ensures ok { OnOk result ((s : Passed) → HoldsSessions self.old s
             → HoldsSessions self.new (changed place (meant direction at (value unit.now) meaning) s (slice_get s.live place))) }
         ensures err { OnErr result ((s : Passed) → HoldsSessions self.old s → HoldsSessions self.new s) }
+        ensures found { OnOk result (AreUnbroken self.old.live.items → AreUnbrokenBut direction place self.new.live.items) }
+        ensures as_found { OnErr result (AreUnbroken self.old.live.items → AreUnbroken self.new.live.items) }
+        ensures done { self.new.done.items ≡ self.old.done.items }
     {
         if place >= count_of(&self.live) {
             return Ok(());
@@ -269,6 +273,8 @@ fn mean(
     ensures ok { OnOk result ((j : Joined) → HoldsJoined connection.old j
         → HoldsJoined connection.new (meant direction at (value unit.now) meaning j)) }
     ensures err { OnErr result ((j : Joined) → HoldsJoined connection.old j → HoldsJoined connection.new j) }
+    ensures own { OnErr result ((line_in direction connection.new).side.finding ≡ (line_in direction connection.old).side.finding) }
+    ensures other { (line_in (other direction) connection.new).side.finding ≡ (line_in (other direction) connection.old).side.finding }
 {
     match meaning {
         Meaning::Opens => {
