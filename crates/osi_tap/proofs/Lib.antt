@@ -1,5 +1,7 @@
 pub mod what_is_kept_of_a_side_is_what_passed
 pub mod each_connection_is_kept
+pub mod each_session_has_heard_all
+pub mod a_unit_changes_one_finding
 pub mod octets_are_looked_at
 pub mod a_piece_comes_to_what_its_octets_do
 pub mod what_holds_of_a_result

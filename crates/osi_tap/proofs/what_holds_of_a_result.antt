@@ -20,3 +20,7 @@ if_ok (Err e) h f = h
 pub any_err : {T E : Type 0} {P : Type 0} (r : Result T E) → P → OnErr r P
 any_err (Ok x) h = tt
 any_err (Err e) h = h
+
+pub any_ok : {T E : Type 0} {P : Type 0} (r : Result T E) → P → OnOk r P
+any_ok (Ok x) h = h
+any_ok (Err e) h = tt

@@ -1,12 +1,15 @@
 -- What is kept of both sides of a connection stays what passed of them, as DTs pass and TSDUs are handed over: for what is
 -- kept of a connection.
-use Rattle.std.proofs.Common.{◌≡◌, ◌∙◌, refl, sym, ap, subst, ℕ, ◌+◌, List, [], ◌∷◌, ◌++◌, length, Bool, true, false, Option, Some}
+use Rattle.std.proofs.Common.{◌≡◌, ◌∙◌, refl, sym, ap, subst, ℕ, zero, suc, ◌+◌, List, [], ◌∷◌, ◌++◌, length, Bool, true, false, Option, Some}
+use Rattle.std.proofs.Common.{arith}
 use Rattle.std.proofs.lemmas.List.{append-nil, map-append, length-map, length-append}
 use Rattle.osi_tpkt.specs.Stream.{offset_of}
 use Rattle.osi_session.specs.Standing.{Seen}
 use Rattle.osi_judge.specs.Explaining.{Told}
-use Rattle.osi_judge.specs.Feeding.{Tells}
-use Rattle.osi_judge.specs.Judging.{Watched, Watches, IsFound}
+use Rattle.osi_judge.specs.Feeding.{Tells, last_place}
+use Rattle.osi_judge.specs.declared.findings.Finding.{Finding}
+use Rattle.osi_judge.specs.declared.findings.Finding.TheVariants.{Kept, Broke, Left as Astray, TooMany}
+use Rattle.osi_judge.specs.Judging.{Watched, Watches, WatchesBy, Keeps, FoundNext, IsFound}
 use Rattle.osi_judge.specs.Outlines.{outline, outlines}
 use Rattle.osi_tap.specs.declared.lines.Stage.{Stage}
 use Rattle.osi_tap.specs.declared.lines.Stage.TheVariants.{Between, Within, Unheard}
@@ -18,10 +21,10 @@ use Rattle.osi_judge.specs.declared.directions.Direction.TheVariants.{Left, Righ
 use Rattle.osi_tap.specs.declared.connections.Connection.{Connection}
 use Rattle.osi_tap.specs.declared.lines.Line.{Line}
 use Rattle.osi_tap.specs.Connections.{Joined, adds, spoken}
-use Rattle.osi_tap.specs.Holding.{lined, line_in, HoldsJoined}
+use Rattle.osi_tap.specs.Holding.{lined, line_in, HoldsJoined, IsHeard}
 use Rattle.osi_tap.specs.Lines.{Begun, Spoken, told, told_of, octets_of, heard, begun_octets, begun_before, before, added, begins}
-use Rattle.osi_tap.specs.Lines.{silent}
-use Rattle.osi_tap.specs.Holding.{Lined, unheard, unheard_at, begun_at, begun_in, is_unheard, IsClear, Holds, HoldsBoth}
+use Rattle.osi_tap.specs.Lines.{silent, Said, place_in}
+use Rattle.osi_tap.specs.Holding.{Lined, unheard, unheard_at, begun_at, begun_in, is_unheard, IsClear, IsPlace, Holds, HoldsBoth}
 use Rattle.osi_judge.proofs.told.what_is_known_of_a_side.{hears, found_as}
 use Rattle.osi_judge.proofs.outlined.alike_tsdus_explain_the_same.{found_of_tsdus}
 
@@ -39,10 +42,10 @@ unheard_stage Within e = cc
 unheard_stage Unheard e = refl
 
 handed_unheard : (s t : Seen) (w v v2 : Watched) (x x2 y : List ℕ) (stage : Stage) (n m l n2 m2 l2 : ℕ) (a b : Spoken) → x2 ≡ []
-    → v2.begin ≡ v.begin → v2.heard ≡ v.heard ++ outline x ∷ [] → ((told : List Told) → Watches v told → Watches v2 told)
+    → v2.begin ≡ v.begin → v2.finding ≡ v.finding → v2.heard ≡ v.heard ++ outline x ∷ [] → ((told : List Told) → Watches v told → Watches v2 told)
     → HoldsBoth s t (line w x Unheard n m l) (line v y stage n2 m2 l2) a b
     → HoldsBoth s t (line w x2 Between n m l) (line v2 y stage n2 m2 l2) a b
-handed_unheard s t w v v2 x x2 y stage n m l n2 m2 l2 a b none begin heard watches h = record {
+handed_unheard s t w v v2 x x2 y stage n m l n2 m2 l2 a b none begin found heard watches h = record {
   this = record {
     begins_so = h.this.begins_so;
     says = h.this.says;
@@ -50,6 +53,7 @@ handed_unheard s t w v v2 x x2 y stage n m l n2 m2 l2 a b none begin heard watch
     unfinished = h.this.unfinished;
     clear = none;
     known = h.this.known;
+    place = h.this.place;
   };
   that = record {
     begins_so = begin ∙ h.that.begins_so;
@@ -58,16 +62,17 @@ handed_unheard s t w v v2 x x2 y stage n m l n2 m2 l2 a b none begin heard watch
     unfinished = h.that.unfinished;
     clear = h.that.clear;
     known = h.that.known;
+    place = subst (λ (f : Finding). IsPlace f b.said l2) (sym found) h.that.place;
   };
 }
 
 pub handed : (s t : Seen) (w v v2 : Watched) (x x2 y : List ℕ) (mine stage : Stage) (n m l n2 m2 l2 : ℕ) (a b : Spoken)
-    → is_unheard mine ≡ true → x2 ≡ [] → v2.begin ≡ v.begin → v2.heard ≡ v.heard ++ outline x ∷ []
+    → is_unheard mine ≡ true → x2 ≡ [] → v2.begin ≡ v.begin → v2.finding ≡ v.finding → v2.heard ≡ v.heard ++ outline x ∷ []
     → ((told : List Told) → Watches v told → Watches v2 told)
     → HoldsBoth s t (line w x mine n m l) (line v y stage n2 m2 l2) a b
     → HoldsBoth s t (line w x2 Between n m l) (line v2 y stage n2 m2 l2) a b
-handed s t w v v2 x x2 y mine stage n m l n2 m2 l2 a b is none begin heard watches h =
-    handed_unheard s t w v v2 x x2 y stage n m l n2 m2 l2 a b none begin heard watches
+handed s t w v v2 x x2 y mine stage n m l n2 m2 l2 a b is none begin found heard watches h =
+    handed_unheard s t w v v2 x x2 y stage n m l n2 m2 l2 a b none begin found heard watches
     (subst (λ (z : Stage). HoldsBoth s t (line w x z n m l) (line v y stage n2 m2 l2) a b) (unheard_stage mine is) h)
 
 -- ---- a part of a TSDU
@@ -113,6 +118,7 @@ part_added s t own new other a b at since octets e since_is is h =
             ∙ before_holds s own other a b h.this);
         clear = tt;
         known = h.this.known;
+        place = h.this.place;
       };
       that = record {
         begins_so = h.that.begins_so;
@@ -121,8 +127,38 @@ part_added s t own new other a b at since octets e since_is is h =
         unfinished = h.that.unfinished;
         clear = h.that.clear;
         known = h.that.known;
+        place = h.that.place;
       };
     })
+
+-- ---- the packet of a break
+
+place_stays : (said : List Said) (t : Said) (i at : ℕ) → place_in said i ≡ Some at → place_in (said ++ t ∷ []) i ≡ Some at
+place_stays [] t i at h = absurd (cc)
+place_stays (x ∷ said) t zero at h = h
+place_stays (x ∷ said) t (suc i) at h = place_stays said t i at h
+
+place_here : (said : List Said) (t : Said) (i : ℕ) → i ≡ length said → place_in (said ++ t ∷ []) i ≡ Some t.at
+place_here [] t zero e = refl
+place_here [] t (suc i) e = absurd (omega arith)
+place_here (x ∷ said) t zero e = absurd (omega arith)
+place_here (x ∷ said) t (suc i) e = place_here said t i (omega arith)
+
+place_next : (f g : Finding) (count last : ℕ) (said : List Said) (t : Said) → FoundNext f count g → (f ≡ Kept → count ≡ length said)
+    → IsPlace f said last → IsPlace g (said ++ t ∷ []) (last_place f t.at last)
+place_next Kept Kept count last said t n c h = tt
+place_next Kept (Broke i) count last said t n c h = place_here said t i (n ∙ c refl)
+place_next Kept (Astray i) count last said t n c h = place_here said t i (n ∙ c refl)
+place_next Kept TooMany count last said t n c h = tt
+place_next (Broke i) g count last said t n c h =
+    subst (λ (x : Finding). IsPlace x (said ++ t ∷ []) last) (sym n) (place_stays said t i last h)
+place_next (Astray i) g count last said t n c h =
+    subst (λ (x : Finding). IsPlace x (said ++ t ∷ []) last) (sym n) (place_stays said t i last h)
+place_next TooMany g count last said t n c h = subst (λ (x : Finding). IsPlace x (said ++ t ∷ []) last) (sym n) tt
+
+count_said : (w : Watched) (a : Spoken) → w.finding ≡ Kept → Watches w (told a) → w.told ≡ length a.said
+count_said w a e h =
+    let k : Keeps w (told a) = subst (λ (f : Finding). WatchesBy f w (told a)) e h in k.count ∙ length-map a.said told_of
 
 -- ---- the end of a TSDU
 
@@ -136,11 +172,11 @@ heard_more a at octets =
     ap outlines (map-append octets_of a.said (record { octets = begun_octets a.begun ++ octets; before = before a; at = at } ∷ []))
     ∙ map-append outline (heard a) ((begun_octets a.begun ++ octets) ∷ [])
 
-pub end_added : (s t : Seen) (own new other : Lined) (a b : Spoken) (at since last : ℕ) (w : Watched) (octets : List ℕ)
+pub end_added : (s t : Seen) (own new other : Lined) (a b : Spoken) (at since : ℕ) (w : Watched) (octets : List ℕ)
     → is_unheard own.stage ≡ false → since ≡ begun_before (begun_in own) own.since
-    → new ≡ record own { side = w; begun = own.begun ++ octets; stage = Unheard; last = last }
+    → new ≡ record own { side = w; begun = own.begun ++ octets; stage = Unheard; last = last_place own.side.finding at own.last }
     → Tells (own.begun ++ octets) since own.side w → HoldsBoth s t own other a b → HoldsBoth s t new other (added at true octets a) b
-end_added s t own new other a b at since last w octets e since_is is tells h =
+end_added s t own new other a b at since w octets e since_is is tells h =
     let same = begun_holds s own other a b e h.this in
     subst (λ (z : Lined). HoldsBoth s t z other (added at true octets a) b) (sym is) (record {
       this = record {
@@ -154,6 +190,9 @@ end_added s t own new other a b at since last w octets e since_is is tells h =
         unfinished = refl;
         clear = tt;
         known = h.this.known;
+        place = place_next own.side.finding w.finding own.side.told own.last a.said
+            (record { octets = begun_octets a.begun ++ octets; before = before a; at = at }) tells.finding
+            (λ kept. count_said own.side a kept h.this.says) h.this.place;
       };
       that = record {
         begins_so = h.that.begins_so;
@@ -163,17 +202,29 @@ end_added s t own new other a b at since last w octets e since_is is tells h =
         unfinished = h.that.unfinished;
         clear = h.that.clear;
         known = h.that.known;
+        place = h.that.place;
       };
     })
 
 -- ---- the beginning of a connection, and of a packet
 
+no_place : (f : Finding) → f ≡ Kept → IsPlace f [] 0
+no_place f e = subst (λ (x : Finding). IsPlace x [] 0) (sym e) tt
+
 pub fresh_both : (s t : Seen) (own other : Lined) (w v : Watched) → own ≡ line w [] Between 0 0 0 → other ≡ line v [] Between 0 0 0
-    → w.begin ≡ s → v.begin ≡ t → w.heard ≡ [] → v.heard ≡ [] → Watches w [] → Watches v [] → HoldsBoth s t own other silent silent
-fresh_both s t own other w v is other_is begin other_begin none other_none watches other_watches =
+    → w.begin ≡ s → v.begin ≡ t → w.heard ≡ [] → v.heard ≡ [] → w.finding ≡ Kept → v.finding ≡ Kept → Watches w [] → Watches v [] → HoldsBoth s t own other silent silent
+fresh_both s t own other w v is other_is begin other_begin none other_none kept other_kept watches other_watches =
     subst (λ (z : Lined). HoldsBoth s t z other silent silent) (sym is)
     (subst (λ (z : Lined). HoldsBoth s t (line w [] Between 0 0 0) z silent silent) (sym other_is) (record {
-      this = record { begins_so = begin; says = watches; hears = append-nil w.heard ∙ none; unfinished = refl; clear = refl; known = refl };
+      this = record {
+        begins_so = begin;
+        says = watches;
+        hears = append-nil w.heard ∙ none;
+        unfinished = refl;
+        clear = refl;
+        known = refl;
+        place = no_place w.finding kept;
+      };
       that = record {
         begins_so = other_begin;
         says = other_watches;
@@ -182,6 +233,7 @@ fresh_both s t own other w v is other_is begin other_begin none other_none watch
         unfinished = refl;
         clear = refl;
         known = refl;
+        place = no_place v.finding other_kept;
       };
     }))
 
@@ -201,6 +253,7 @@ begun_both s t own new other a b is h =
         unfinished = h.this.unfinished;
         clear = h.this.clear;
         known = ap offset_of (said_count own.side.heard (unheard other) b h.this.hears);
+        place = h.this.place;
       };
       that = record {
         begins_so = h.that.begins_so;
@@ -209,6 +262,7 @@ begun_both s t own new other a b is h =
         unfinished = h.that.unfinished;
         clear = h.that.clear;
         known = h.that.known;
+        place = h.that.place;
       };
     })
 
@@ -234,7 +288,18 @@ pub found_at : (d : Direction) (c : Connection) (j : Joined) → HoldsJoined c j
 found_at Left c j h = found_in seen_calling (lined c.left) (lined c.right) j.left j.right h.sides.this
 found_at Right c j h = found_in seen_called (lined c.right) (lined c.left) j.right j.left h.sides.that
 
+-- the session of a side has heard all that the other side said
+pub heard_at : (d : Direction) (c : Connection) (j : Joined) → HoldsJoined c j → IsHeard c
+    → (line_in d c).side.heard ≡ outlines (heard (spoken (other d) j))
+heard_at Left c j h k = heard_by_other seen_called seen_calling (lined c.right) (lined c.left) j.right j.left k.right (flipped h.sides)
+heard_at Right c j h k = heard_by_other seen_calling seen_called (lined c.left) (lined c.right) j.left j.right k.left h.sides
+
 -- ---- a DT on a connection
+
+pub place_at : (d : Direction) (c : Connection) (j : Joined) → HoldsJoined c j
+    → IsPlace (line_in d c).side.finding (spoken d j).said (line_in d c).last
+place_at Left c j h = h.sides.this.place
+place_at Right c j h = h.sides.that.place
 
 pub left_added : (d : Direction) (c : Connection) (own other : Line) (j : Joined) (at : ℕ) (end : Bool) (octets : List ℕ) → d ≡ Left
     → HoldsJoined c j → HoldsBoth seen_calling seen_called (lined own) (lined other) (added at end octets j.left) j.right

@@ -1,17 +1,21 @@
 -- What is kept in memory of the connections that passed: for each side a session of `osi_judge` that was told and heard what
 -- passed of that side and of the other.
-use Rattle.std.specs.Prelude.{◌≡◌, ◌⊎◌, ℕ, Bool, true, false, List, [], ◌∷◌, ◌++◌, Option, Some, None}
+use Rattle.std.specs.Prelude.{◌≡◌, ◌⊎◌, ℕ, zero, suc, Bool, true, false, List, [], ◌∷◌, ◌++◌, Option, Some, None}
 use Rattle.osi_session.specs.Standing.{Seen, seen_calling, seen_called}
+use Rattle.osi_judge.specs.declared.findings.Finding.{Finding}
+use Rattle.osi_judge.specs.declared.findings.Finding.TheVariants as finding
 use Rattle.osi_judge.specs.Judging.{Watched, Watches}
 use Rattle.osi_judge.specs.Outlines.{outline, outlines}
 use Rattle.osi_judge.specs.Sides.{watched}
+use Rattle.osi_judge.specs.Captures.{other}
+use Rattle.osi_judge.specs.Stops.{broke_session}
 use Rattle.osi_tap.specs.declared.marks.First.{First}
 use Rattle.osi_tap.specs.declared.marks.Layer.TheVariants.{Session}
 use Rattle.osi_tap.specs.declared.lines.Line.{Line}
 use Rattle.osi_tap.specs.declared.lines.Stage.{Stage}
 use Rattle.osi_tap.specs.declared.lines.Stage.TheVariants.{Between, Within, Unheard}
 use Rattle.osi_tap.specs.declared.connections.Connection.{Connection}
-use Rattle.osi_tap.specs.Lines.{Spoken, Begun, told, heard}
+use Rattle.osi_tap.specs.Lines.{Spoken, Said, Begun, told, heard, place_in}
 use Rattle.osi_tap.specs.Connections.{Joined, Sessions}
 use Rattle.osi_tap.specs.Streams.{Front, partial, faulty, whole, Streamed}
 use Rattle.osi_tap.specs.declared.streams.Shape.{Shape}
@@ -72,6 +76,12 @@ IsClear Between octets = octets ≡ []
 IsClear Within octets = Unit {0}
 IsClear Unheard octets = Unit {0}
 
+-- of a session that broke the protocol or left the profile, the packet in which that TSDU ended
+abbrev pub IsPlace : Finding → List Said → ℕ → Type 0
+IsPlace (finding.Broke i) said at = place_in said i ≡ Some at
+IsPlace (finding.Left i) said at = place_in said i ≡ Some at
+IsPlace found said at = Unit {0}
+
 -- What is kept of a side, whose session began so, and of the other side holds what passed of both: its session was told its
 -- TSDUs, and heard those of the other side, but for one that it is still to be given.
 pub record Holds (begin : Seen) (own other : Lined) (mine theirs : Spoken) : Type 0 where
@@ -81,6 +91,7 @@ pub record Holds (begin : Seen) (own other : Lined) (mine theirs : Spoken) : Typ
   pub unfinished : begun_in own ≡ mine.begun
   pub clear : IsClear own.stage own.begun
   pub known : own.since ≡ mine.since
+  pub place : IsPlace own.side.finding mine.said own.last
 
 -- of both sides
 pub record HoldsBoth (own_begin other_begin : Seen) (own other : Lined) (mine theirs : Spoken) : Type 0 where
@@ -99,6 +110,39 @@ pub record HoldsJoined (c : Connection) (j : Joined) : Type 0 where
 abbrev pub line_in : Direction → Connection → Lined
 line_in Left c = lined c.left
 line_in Right c = lined c.right
+
+-- the session of each side was given all TSDUs of the other
+pub record IsHeard (c : Connection) : Type 0 where
+  pub left : is_unheard c.left.stage ≡ false
+  pub right : is_unheard c.right.stage ≡ false
+
+abbrev pub AreHeard : List Connection → Type 0
+AreHeard [] = Unit {0}
+AreHeard (c ∷ cs) = IsHeard c × AreHeard cs
+
+-- of a connection that is sought
+abbrev pub FoundHeard : Option Connection → Type 0
+FoundHeard None = Unit {0}
+FoundHeard (Some c) = IsHeard c
+
+-- the session of a side has not broken the protocol, and not left the profile
+abbrev pub IsUnbroken : Direction → Connection → Type 0
+IsUnbroken d c = broke_session (line_in d c).side.finding ≡ false
+
+abbrev pub AreUnbroken : List Connection → Type 0
+AreUnbroken [] = Unit {0}
+AreUnbroken (c ∷ cs) = (IsUnbroken Left c × IsUnbroken Right c) × AreUnbroken cs
+
+-- but for this side of the connection at this place
+abbrev pub AreUnbrokenBut : Direction → (place : ℕ) → List Connection → Type 0
+AreUnbrokenBut d place [] = Unit {0}
+AreUnbrokenBut d zero (c ∷ cs) = IsUnbroken (other d) c × AreUnbroken cs
+AreUnbrokenBut d (suc place) (c ∷ cs) = (IsUnbroken Left c × IsUnbroken Right c) × AreUnbrokenBut d place cs
+
+-- of all connections
+pub record AllHeard (k : Kept) : Type 0 where
+  pub live : AreHeard k.live.items
+  pub done : AreHeard k.done.items
 
 -- of connections, one after the other
 abbrev pub HoldAll : List Connection → List Joined → Type 0

@@ -1,5 +1,5 @@
 -- One side of a connection, by what passed of it.
-use Rattle.std.specs.Prelude.{ℕ, Bool, true, false, List, [], ◌∷◌, ◌++◌, length, map, Option, Some, None}
+use Rattle.std.specs.Prelude.{ℕ, zero, suc, Bool, true, false, List, [], ◌∷◌, ◌++◌, length, map, Option, Some, None}
 use Rattle.osi_tpkt.specs.Stream.{offset_of}
 use Rattle.osi_judge.specs.Explaining.{Told}
 
@@ -14,6 +14,12 @@ pub record Said : Type 0 where
 pub record Begun : Type 0 where
   pub octets : List ℕ
   pub before : ℕ
+
+-- the offset of the packet in which the TSDU ended that has this place among those of a side, counted from 0
+abbrev pub place_in : List Said → ℕ → Option ℕ
+place_in [] i = None
+place_in (t ∷ said) zero = Some t.at
+place_in (t ∷ said) (suc i) = place_in said i
 
 -- a side of a connection: its TSDUs, the unfinished one, and how many of the other side's had passed before its current packet
 -- began

@@ -5,7 +5,7 @@ use Rattle.osi_judge.specs.declared.directions.Direction.{Direction}
 use Rattle.osi_judge.specs.declared.directions.Direction.TheVariants.{Left, Right}
 use Rattle.osi_tap.specs.declared.tap.Tap.{Tap}
 use Rattle.osi_tap.specs.declared.watch.Watch.{Watch}
-use Rattle.osi_tap.specs.Holding.{streamed}
+use Rattle.osi_tap.specs.Holding.{streamed, AllHeard}
 use Rattle.osi_tap.specs.Owing.{HoldsAll, Owes}
 use Rattle.osi_tap.specs.Streams.{Streamed, partial, whole, front_of, advanced}
 use Rattle.osi_tap.specs.Tapping.{State, stream_of, begin, after}
@@ -69,6 +69,11 @@ HoldsState t s = HoldsBy t.due t.watch (streamed t.left) (streamed t.right) s
 -- all that passed is judged
 abbrev pub IsJudged : Tap → Type 0
 IsJudged t = t.due ≡ None
+
+-- and each session was given all that the other side of its connection said
+pub record IsSettled (t : Tap) : Type 0 where
+  pub judged : IsJudged t
+  pub heard : AllHeard t.watch.sessions
 
 -- ---- a capture is fed
 

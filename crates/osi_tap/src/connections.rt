@@ -4,12 +4,13 @@ ghost use Rattle.std.specs.Prelude.{◌≡◌, IfOk, OnOk, OnErr};
 ghost use Rattle.osi_judge.specs.Sides.{watched};
 ghost use Rattle.osi_judge.specs.Captures.{other};
 ghost use Rattle.osi_judge.specs.Judging.{IsFound};
+ghost use Rattle.osi_judge.specs.Outlines.{outlines};
 ghost use Rattle.osi_judge.specs.Tapping.{begin_of};
 ghost use Rattle.osi_tap.specs.Lines.{told, heard};
 ghost use Rattle.osi_tap.specs.Connections.{Joined, asked, packet_begins, opened, shut, adds, spoken, reference_of};
-ghost use Rattle.osi_tap.specs.Holding.{lined, line_in, HoldsJoined};
+ghost use Rattle.osi_tap.specs.Holding.{lined, line_in, HoldsJoined, IsHeard, IsPlace};
 
-use crate::lines::{Line, add};
+use crate::lines::{Line, add, hand_over_both};
 use osi_class::Class;
 use osi_judge::{Direction, Finding, Side};
 use std::alloc::{AllocError, Global};
@@ -56,7 +57,9 @@ impl Connection {
 
     /// A CC opens it.
     pub(crate) fn open(&mut self, called: u16, class: Class)
-        ensures { (j : Joined) → HoldsJoined self.old j → HoldsJoined self.new (opened called class j) }
+        ensures holds { (j : Joined) → HoldsJoined self.old j → HoldsJoined self.new (opened called class j) }
+        ensures left { self.new.left ≡ self.old.left }
+        ensures right { self.new.right ≡ self.old.right }
     {
         self.called = Some(called);
         self.class = Some(class);
@@ -64,7 +67,9 @@ impl Connection {
 
     /// A DR or an ER refuses or closes it.
     pub(crate) fn shut(&mut self)
-        ensures { (j : Joined) → HoldsJoined self.old j → HoldsJoined self.new (shut j) }
+        ensures holds { (j : Joined) → HoldsJoined self.old j → HoldsJoined self.new (shut j) }
+        ensures left { self.new.left ≡ self.old.left }
+        ensures right { self.new.right ≡ self.old.right }
     {
         self.closed = true;
     }
@@ -79,11 +84,21 @@ impl Connection {
     ) -> Result<(), AllocError>
         ensures ok { OnOk result ((j : Joined) → HoldsJoined self.old j → HoldsJoined self.new (adds direction at end octets.now j)) }
         ensures err { OnErr result ((j : Joined) → HoldsJoined self.old j → HoldsJoined self.new j) }
+        ensures own { OnErr result ((line_in direction self.new).side.finding ≡ (line_in direction self.old).side.finding) }
+        ensures other { (line_in (other direction) self.new).side.finding ≡ (line_in (other direction) self.old).side.finding }
     {
         match direction {
             Direction::Left => add(&mut self.left, &mut self.right, at, end, octets),
             Direction::Right => add(&mut self.right, &mut self.left, at, end, octets),
         }
+    }
+
+    /// The session of each side is given what it has not heard yet. After `Err` one of them may have been.
+    pub(crate) fn hand_over(&mut self) -> Result<(), AllocError>
+        ensures holds { (j : Joined) → HoldsJoined self.old j → HoldsJoined self.new j }
+        ensures heard { OnOk result (IsHeard self.new) }
+    {
+        hand_over_both(&mut self.left, &mut self.right)
     }
 
     fn line(&self, direction: Direction) -> &Line
@@ -126,16 +141,19 @@ impl Connection {
         self.closed
     }
 
-    /// The session of a side.
+    /// The session of a side. Once [`crate::Tap::settle`] has said `Ok`, it has heard all that the other side said.
     pub fn side(&self, direction: Direction) -> &Side
-        ensures { watched result.now ≡ (line_in direction self.now).side }
+        ensures value { watched result.now ≡ (line_in direction self.now).side }
+        ensures heard { (j : Joined) → HoldsJoined self.now j → IsHeard self.now
+            → (watched result.now).heard ≡ outlines (heard (spoken (other direction) j)) }
     {
         &self.line(direction).side
     }
 
     /// What was found of the session of a side, by what both sides sent.
     pub fn finding(&self, direction: Direction) -> Finding
-        ensures { (j : Joined) → HoldsJoined self.now j
+        ensures value { result ≡ (line_in direction self.now).side.finding }
+        ensures found { (j : Joined) → HoldsJoined self.now j
             → IsFound (begin_of direction) (heard (spoken (other direction) j)) (told (spoken direction j)) result }
     {
         self.side(direction).finding()
@@ -143,7 +161,9 @@ impl Connection {
 
     /// Where the session of a side broke the protocol or left the profile: the offset, in its direction, of the packet in
     /// which that TSDU ended. Of a side that did neither it says nothing.
-    pub fn offset(&self, direction: Direction) -> u64 {
+    pub fn offset(&self, direction: Direction) -> u64
+        ensures { (j : Joined) → HoldsJoined self.now j → IsPlace (line_in direction self.now).side.finding (spoken direction j).said result }
+    {
         self.line(direction).last
     }
 

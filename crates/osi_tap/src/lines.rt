@@ -3,7 +3,7 @@
 ghost use Rattle.std.specs.Prelude.{◌≡◌, ◌+◌, ◌++◌, [], false, length, OnOk, OnErr};
 ghost use Rattle.osi_session.specs.Standing.{Seen};
 ghost use Rattle.osi_tpkt.specs.Stream.{offset_of};
-ghost use Rattle.osi_judge.specs.Feeding.{Tells};
+ghost use Rattle.osi_judge.specs.Feeding.{Tells, last_place};
 ghost use Rattle.osi_judge.specs.Sides.{watched};
 ghost use Rattle.osi_tap.specs.Lines.{Spoken, added, begun_before};
 ghost use Rattle.osi_tap.specs.Holding.{lined, unheard, begun_in, is_unheard, Lined, HoldsBoth};
@@ -39,7 +39,9 @@ pub(crate) struct Line {
 }
 
 /// The packet that ended the TSDU at which a session broke the protocol, or the last while it keeps it.
-fn last_place(finding: Finding, at: u64, last: u64) -> u64 {
+fn last_place(finding: Finding, at: u64, last: u64) -> u64
+    ensures { result ≡ last_place finding at last }
+{
     match finding {
         Finding::Kept => at,
         Finding::Broke(_) | Finding::Left(_) | Finding::TooMany => last,
@@ -124,7 +126,7 @@ impl Line {
           side = watched self.new.side;
           begun = (lined self.old).begun ++ octets.now;
           stage = Stage.Unheard;
-          last = self.new.last;
+          last = last_place (lined self.old).side.finding at (lined self.old).last;
         }) }
         ensures tells { OnOk result (Tells ((lined self.old).begun ++ octets.now) since (watched self.old.side) (watched self.new.side)) }
         ensures err { OnErr result (lined self.new ≡ lined self.old) }
@@ -152,6 +154,8 @@ pub(crate) fn hand_over(own: &mut Line, other: &mut Line) -> Result<(), AllocErr
         → HoldsBoth s t (lined own.new) (lined other.new) a b }
     ensures heard { OnOk result (is_unheard own.new.stage ≡ false) }
     ensures stage { other.new.stage ≡ other.old.stage }
+    ensures own { (lined own.new).side.finding ≡ (lined own.old).side.finding }
+    ensures other { (lined other.new).side.finding ≡ (lined other.old).side.finding }
 {
     if !own.is_unheard() {
         return Ok(());
@@ -160,6 +164,19 @@ pub(crate) fn hand_over(own: &mut Line, other: &mut Line) -> Result<(), AllocErr
     own.begun.clear();
     own.stage = Stage::Between;
     Ok(())
+}
+
+/// Each of the two sessions is given what it has not heard yet. After `Err` one of them may have been.
+pub(crate) fn hand_over_both(own: &mut Line, other: &mut Line) -> Result<(), AllocError>
+    ensures holds { (s t : Seen) (a b : Spoken) → HoldsBoth s t (lined own.old) (lined other.old) a b
+        → HoldsBoth s t (lined own.new) (lined other.new) a b }
+    ensures own { OnOk result (is_unheard own.new.stage ≡ false) }
+    ensures other { OnOk result (is_unheard other.new.stage ≡ false) }
+{
+    match hand_over(own, other) {
+        Ok(()) => hand_over(other, own),
+        Err(refused) => Err(refused),
+    }
 }
 
 /// A DT of a side passes, in the packet at this offset; the other session has heard all TSDUs before it. `Err` changes
@@ -191,6 +208,8 @@ fn add_last(
         → HoldsBoth s t (lined own.new) (lined other.new) (added at end octets.now a) b) }
     ensures err { OnErr result ((s t : Seen) (a b : Spoken) → HoldsBoth s t (lined own.old) (lined other.old) a b
         → HoldsBoth s t (lined own.new) (lined other.new) a b) }
+    ensures own { OnErr result ((lined own.new).side.finding ≡ (lined own.old).side.finding) }
+    ensures other { (lined other.new).side.finding ≡ (lined other.old).side.finding }
 {
     match add_heard(own, at, end, octets) {
         Ok(()) => {
@@ -214,6 +233,8 @@ fn add_known(
         → HoldsBoth s t (lined own.new) (lined other.new) (added at end octets.now a) b) }
     ensures err { OnErr result ((s t : Seen) (a b : Spoken) → HoldsBoth s t (lined own.old) (lined other.old) a b
         → HoldsBoth s t (lined own.new) (lined other.new) a b) }
+    ensures own { OnErr result ((lined own.new).side.finding ≡ (lined own.old).side.finding) }
+    ensures other { (lined other.new).side.finding ≡ (lined other.old).side.finding }
 {
     match hand_over(other, own) {
         Ok(()) => add_last(own, other, at, end, octets),
@@ -233,6 +254,8 @@ pub(crate) fn add(
         → HoldsBoth s t (lined own.new) (lined other.new) (added at end octets.now a) b) }
     ensures err { OnErr result ((s t : Seen) (a b : Spoken) → HoldsBoth s t (lined own.old) (lined other.old) a b
         → HoldsBoth s t (lined own.new) (lined other.new) a b) }
+    ensures own { OnErr result ((lined own.new).side.finding ≡ (lined own.old).side.finding) }
+    ensures other { (lined other.new).side.finding ≡ (lined other.old).side.finding }
 {
     match hand_over(own, other) {
         Ok(()) => add_known(own, other, at, end, octets),

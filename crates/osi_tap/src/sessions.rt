@@ -1,13 +1,14 @@
 //! The connections of a byte connection, by their places.
 
-ghost use Rattle.std.specs.Prelude.{◌≡◌, ◌≤◌, ◌<◌, ℕ, List, Some, OnOk, OnErr, length, map, option_copied, option_map, slice_get, ◌==◌};
+ghost use Rattle.std.specs.Prelude.{◌≡◌, ◌≤◌, ◌<◌, ◌+◌, ℕ, List, Some, OnOk, OnErr, length, map, take, option_copied, option_map, slice_get, ◌==◌};
 ghost use Rattle.std.specs.List.{find};
+ghost use Rattle.osi_judge.specs.Captures.{other};
 ghost use Rattle.osi_tpdu.specs.View.{value};
 ghost use Rattle.osi_tap.specs.Connections.{Joined, Sessions as Passed, none, count, all_begin, packet_begins, source_of, class_of};
 ghost use Rattle.osi_tap.specs.Connections.{user_of, meant, taken, asked_at, placed, changed, numbered};
 ghost use Rattle.osi_tpkt.specs.Stream.{offset_of};
 ghost use Rattle.osi_tap.specs.Courses.{number_at, number_of};
-ghost use Rattle.osi_tap.specs.Holding.{HoldAll, HoldsFound, HoldsJoined, HoldsSessions};
+ghost use Rattle.osi_tap.specs.Holding.{line_in, AllHeard, AreHeard, AreUnbroken, AreUnbrokenBut, FoundHeard, HoldAll, HoldsFound, HoldsJoined, HoldsSessions};
 
 use crate::connections::Connection;
 use osi_class::Class;
@@ -97,6 +98,29 @@ fn begin_each(direction: Direction, live: &mut Vec<Connection>)
     }
 }
 
+/// The sessions of the connection at a place are given what they have not heard yet.
+fn hand_over_at(live: &mut Vec<Connection>, place: usize) -> Result<(), AllocError>
+    requires { place < length live.old.items }
+    ensures holds { (js : List Joined) → HoldAll live.old.items js → HoldAll live.new.items js }
+    ensures count { length live.new.items ≡ length live.old.items }
+    ensures heard { OnOk result (AreHeard (take place live.old.items) → AreHeard (take (place + 1) live.new.items)) }
+{
+    live[place].hand_over()
+}
+
+/// The sessions of all are given what they have not heard yet, one connection after the other, as long as memory lasts.
+fn hand_over_each(live: &mut Vec<Connection>) -> Result<(), AllocError>
+    ensures holds { (js : List Joined) → HoldAll live.old.items js → HoldAll live.new.items js }
+    ensures heard { OnOk result (AreHeard live.new.items) }
+{
+    let mut place = 0;
+    'connections: while place < live.len() {
+        hand_over_at(live, place)?;
+        place += 1;
+    }
+    Ok(())
+}
+
 impl Sessions {
     pub(crate) fn new(alloc: Global) -> Sessions
         ensures { HoldsSessions result none }
@@ -131,7 +155,8 @@ impl Sessions {
 
     /// The connection with a number.
     pub(crate) fn numbered(&self, number: usize) -> Option<&Connection>
-        ensures { (s : Passed) → HoldsSessions self.now s → HoldsFound (option_copied result) (numbered number s) }
+        ensures held { (s : Passed) → HoldsSessions self.now s → HoldsFound (option_copied result) (numbered number s) }
+        ensures heard { AllHeard self.now → FoundHeard (option_copied result) }
     {
         if let Some(connection) = find_in(&self.live, number) {
             return Some(connection);
@@ -144,6 +169,15 @@ impl Sessions {
         ensures { (s : Passed) → HoldsSessions self.old s → HoldsSessions self.new (all_begin direction s) }
     {
         begin_each(direction, &mut self.live);
+    }
+
+    /// The sessions of all are given what they have not heard yet, as long as memory lasts.
+    pub(crate) fn hand_over(&mut self) -> Result<(), AllocError>
+        ensures holds { (s : Passed) → HoldsSessions self.old s → HoldsSessions self.new s }
+        ensures heard { OnOk result (AllHeard self.new) }
+    {
+        hand_over_each(&mut self.live)?;
+        hand_over_each(&mut self.done)
     }
 
     /// A CR with this reference requests a connection, which gets this place. `Err` changes nothing.
@@ -217,6 +251,9 @@ impl Sessions {
         ensures ok { OnOk result ((s : Passed) → HoldsSessions self.old s
             → HoldsSessions self.new (changed place (meant direction at (value unit.now) meaning) s (slice_get s.live place))) }
         ensures err { OnErr result ((s : Passed) → HoldsSessions self.old s → HoldsSessions self.new s) }
+        ensures found { OnOk result (AreUnbroken self.old.live.items → AreUnbrokenBut direction place self.new.live.items) }
+        ensures as_found { OnErr result (AreUnbroken self.old.live.items → AreUnbroken self.new.live.items) }
+        ensures done { self.new.done.items ≡ self.old.done.items }
     {
         if place >= count_of(&self.live) {
             return Ok(());
@@ -236,6 +273,8 @@ fn mean(
     ensures ok { OnOk result ((j : Joined) → HoldsJoined connection.old j
         → HoldsJoined connection.new (meant direction at (value unit.now) meaning j)) }
     ensures err { OnErr result ((j : Joined) → HoldsJoined connection.old j → HoldsJoined connection.new j) }
+    ensures own { OnErr result ((line_in direction connection.new).side.finding ≡ (line_in direction connection.old).side.finding) }
+    ensures other { (line_in (other direction) connection.new).side.finding ≡ (line_in (other direction) connection.old).side.finding }
 {
     match meaning {
         Meaning::Opens => {

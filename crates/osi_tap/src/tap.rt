@@ -5,9 +5,9 @@ ghost use Rattle.osi_judge.specs.Captures.{piece};
 ghost use Rattle.osi_tpkt.specs.Stream.{offset_of};
 ghost use Rattle.osi_tap.specs.Connections.{count, numbered};
 ghost use Rattle.osi_tap.specs.Courses.{packet_begins, marks_of, Course};
-ghost use Rattle.osi_tap.specs.Holding.{streamed, HoldsFound, IsFirst};
+ghost use Rattle.osi_tap.specs.Holding.{streamed, AllHeard, FoundHeard, HoldsFound, IsFirst};
 ghost use Rattle.osi_tap.specs.Owing.{HoldsAll};
-ghost use Rattle.osi_tap.specs.Standing.{due_if, pick, HoldsBy, HoldsDue, HoldsNow, HoldsOpen, HoldsStream, HoldsState, HoldsWhole, IsJudged};
+ghost use Rattle.osi_tap.specs.Standing.{due_if, pick, HoldsBy, HoldsDue, HoldsNow, HoldsOpen, HoldsStream, HoldsState, HoldsWhole, IsJudged, IsSettled};
 ghost use Rattle.osi_tap.specs.Streams.{front_of, used_of, reading_of};
 ghost use Rattle.osi_tap.specs.Tapping.{State, begin, after, looked_at, stream_of};
 
@@ -123,7 +123,7 @@ impl Tap {
             → HoldsState self.new (after (piece direction (take n octets.now)) s)) }
         ensures err { OnErr result ((s : State) → HoldsState self.old s → HoldsState self.new s) }
     {
-        self.settle()?;
+        self.pass_due()?;
         let (used, is_whole) = self.take(direction, octets)?;
         self.pass(direction, is_whole);
         Ok(used)
@@ -157,12 +157,31 @@ impl Tap {
             return;
         }
         self.due = Some(direction);
-        let _ = self.settle();
+        let _ = self.pass_due();
     }
 
-    /// What passed and could not be judged for lack of memory is judged now. Without it, all that passed was judged
-    /// unless an allocation failed.
+    /// What passed and could not be judged for lack of memory is judged now, and each session is given what it has not
+    /// heard yet of the other side. Without it, that is so unless an allocation failed. It looks at each connection once.
     pub fn settle(&mut self) -> Result<(), AllocError>
+        ensures holds { (s : State) → HoldsState self.old s → HoldsState self.new s }
+        ensures judged { OnOk result (IsJudged self.new) }
+        ensures settled { OnOk result (IsSettled self.new) }
+    {
+        self.pass_due()?;
+        self.hand_over()
+    }
+
+    /// The sessions are given what they have not heard yet, when nothing is still to pass.
+    fn hand_over(&mut self) -> Result<(), AllocError>
+        ensures holds { (s : State) → IsJudged self.old → HoldsState self.old s → HoldsState self.new s }
+        ensures judged { IsJudged self.old → IsJudged self.new }
+        ensures heard { OnOk result (AllHeard self.new.watch.sessions) }
+    {
+        self.watch.hand_over()
+    }
+
+    /// The packet that is whole passes, if there is one.
+    fn pass_due(&mut self) -> Result<(), AllocError>
         ensures holds { (s : State) → HoldsState self.old s → HoldsState self.new s }
         ensures judged { OnOk result (IsJudged self.new) }
     {
@@ -213,8 +232,9 @@ impl Tap {
 
     /// The connection with a number: its place in the order of the CRs, counted from 0.
     pub fn connection(&self, number: usize) -> Option<&Connection>
-        ensures { (s : State) → HoldsState self.now s → IsJudged self.now
+        ensures held { (s : State) → HoldsState self.now s → IsJudged self.now
             → HoldsFound (option_copied result) (numbered number s.course.sessions) }
+        ensures heard { IsSettled self.now → FoundHeard (option_copied result) }
     {
         self.watch.sessions.numbered(number)
     }

@@ -7,7 +7,7 @@ ghost use Rattle.osi_tpdu.specs.View.{value};
 ghost use Rattle.osi_tap.specs.Connections.{Sessions as Passed};
 ghost use Rattle.osi_tap.specs.Courses.{Course, fresh, way_of, cause_of, packet_begins, number_at, noted, marked, first_marked, reached, changes};
 ghost use Rattle.osi_tap.specs.Courses.{breaks, unread, unit_passes, marks_of};
-ghost use Rattle.osi_tap.specs.Holding.{HoldsCourse, HoldsSessions, IsDue, IsTold, unit_due};
+ghost use Rattle.osi_tap.specs.Holding.{AllHeard, HoldsCourse, HoldsSessions, IsDue, IsTold, unit_due};
 ghost use Rattle.osi_tap.specs.Owing.{HoldsAll, Owes, OwesLast, OwesUnits};
 
 use crate::marks::{Cause, First, Layer, Mark, Marks, UnitKind, first_by, first_if};
@@ -156,6 +156,14 @@ impl Watch {
     {
         self.traffic.begin(way(direction));
         self.sessions.begin(direction);
+    }
+
+    /// The sessions of all connections are given what they have not heard yet, as long as memory lasts.
+    pub(crate) fn hand_over(&mut self) -> Result<(), AllocError>
+        ensures holds { (c : Course) → HoldsAll self.old c → HoldsAll self.new c }
+        ensures heard { OnOk result (AllHeard self.new.sessions) }
+    {
+        self.sessions.hand_over()
     }
 
     /// A unit of a side passes, in the packet at this offset. After `Err` it has still to pass, or its session has.

@@ -8,7 +8,7 @@ pub returns-then-end-clause-ok : goal.returns-then-end-clause-ok
 returns-then-end-clause-ok c =
     on_ok_both c.end_part.result c.end_part.ensures.ok c.end_part.ensures.tells (λ e tells s t other a b h. rw c.if-end.true
     (end_added s t (lined c.args.own.now)
-    (lined c.end_part.new.self) other a b c.args.at c.since_first-since.result c.end_part.new.self.last
+    (lined c.end_part.new.self) other a b c.args.at c.since_first-since.result
     (watched c.end_part.new.self.side) c.args.octets.now c.requires c.since_first-since.ensures e tells h))
 
 pub returns-clause-ok : goal.returns-clause-ok

@@ -8,8 +8,8 @@ use Rattle.osi_tap.specs.Connections.{spoken}
 use Rattle.osi_tap.proofs.what_is_kept_of_a_side_is_what_passed.{found_at}
 use Rattle.osi_tap.proofs.connections.Connection.finding.Goals as goal
 
-pub returns : goal.returns
-returns c j h =
+pub returns-clause-found : goal.returns-clause-found
+returns-clause-found c j h =
     let d = c.args.direction in
     subst (λ (f : Finding). IsFound (begin_of d) (heard (spoken (other d) j)) (told (spoken d j)) f)
-    (sym (c.finding.ensures.value ∙ ap (λ (w : Watched). w.finding) c.side.ensures)) (found_at d c.args.self.now j h)
+    (sym (c.finding.ensures.value ∙ ap (λ (w : Watched). w.finding) c.side.ensures.value)) (found_at d c.args.self.now j h)

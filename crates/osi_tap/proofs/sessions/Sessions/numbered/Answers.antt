@@ -1,17 +1,31 @@
-use Rattle.std.proofs.Common.{◌∙◌, ap, sym, List, ◌==◌}
+use Rattle.std.proofs.Common.{◌∙◌, ap, subst, sym, List, Option, ◌==◌}
 use Rattle.std.specs.List.{find}
 use Rattle.std.specs.Option.{option_copied}
 use Rattle.osi_tap.specs.declared.connections.Connection.{Connection}
+use Rattle.osi_tap.specs.Holding.{FoundHeard}
 use Rattle.osi_tap.proofs.each_connection_is_kept.{live_found, done_found}
+use Rattle.osi_tap.proofs.each_session_has_heard_all.{found_heard}
 use Rattle.osi_tap.proofs.sessions.Sessions.numbered.Goals as goal
 
-pub returns-in-Some : goal.returns-in-Some
-returns-in-Some c s h =
+pub returns-in-Some-clause-held : goal.returns-in-Some-clause-held
+returns-in-Some-clause-held c s h =
     live_found c.args.number c.args.self.now.live.items c.in-Some.connection.now s
     (sym (c.in-Some.ensures ∙ ap (λ (l : List Connection). find (λ k. k.number == c.args.number) l) c.deref.ensures.value)) h.live
 
-pub returns : goal.returns
-returns c s h =
+pub returns-clause-held : goal.returns-clause-held
+returns-clause-held c s h =
     done_found c.args.number c.args.self.now.live.items c.args.self.now.done.items (option_copied c.find_in-2.result) s
     (sym (c.in_default.ensures ∙ ap (λ (l : List Connection). find (λ k. k.number == c.args.number) l) c.deref.ensures.value))
     (c.find_in-2.ensures ∙ ap (λ (l : List Connection). find (λ k. k.number == c.args.number) l) c.deref-2.ensures.value) h.live h.done
+
+pub returns-in-Some-clause-heard : goal.returns-in-Some-clause-heard
+returns-in-Some-clause-heard c k =
+    subst (λ (o : Option Connection). FoundHeard o)
+    (sym (c.in-Some.ensures ∙ ap (λ (l : List Connection). find (λ k. k.number == c.args.number) l) c.deref.ensures.value))
+    (found_heard c.args.number c.args.self.now.live.items k.live)
+
+pub returns-clause-heard : goal.returns-clause-heard
+returns-clause-heard c k =
+    subst (λ (o : Option Connection). FoundHeard o)
+    (sym (c.find_in-2.ensures ∙ ap (λ (l : List Connection). find (λ k. k.number == c.args.number) l) c.deref-2.ensures.value))
+    (found_heard c.args.number c.args.self.now.done.items k.done)

@@ -1,10 +1,12 @@
-use Rattle.std.proofs.Common.{◌<◌, ◌≤◌, length, ap, subst, sym, arith}
+use Rattle.std.proofs.Common.{◌<◌, ◌≤◌, ◌∙◌, length, ap, subst, sym, arith}
+use Rattle.osi_judge.specs.Captures.{other}
 use Rattle.osi_tpdu.specs.View.{value}
 use Rattle.osi_tap.specs.declared.connections.Connection.{Connection}
 use Rattle.osi_tap.specs.Connections.{meant}
-use Rattle.osi_tap.specs.Holding.{HoldsJoined}
-use Rattle.osi_tap.proofs.what_holds_of_a_result.{on_ok, on_err}
+use Rattle.osi_tap.specs.Holding.{line_in, HoldsJoined}
+use Rattle.osi_tap.proofs.what_holds_of_a_result.{on_ok, on_err, any_ok}
 use Rattle.osi_tap.proofs.each_connection_is_kept.{none_changed, one_changed, one_kept}
+use Rattle.osi_tap.proofs.a_unit_changes_one_finding.{all_but, one_found, none_found}
 use Rattle.osi_tap.proofs.sessions.Sessions.take_at.Goals as goal
 
 pub returns-then-place-count_of-clause-ok : goal.returns-then-place-count_of-clause-ok
@@ -35,3 +37,21 @@ returns-clause-err c =
           (λ j hj. k j (subst (λ (x : Connection). HoldsJoined x j) (sym c.index_mut.ensures.value) hj)) h.live;
       done = h.done;
     })
+
+pub returns-then-place-count_of-clause-found : goal.returns-then-place-count_of-clause-found
+returns-then-place-count_of-clause-found c h = all_but c.args.direction c.args.place c.args.self.now.live.items h
+
+pub returns-clause-found : goal.returns-clause-found
+returns-clause-found c =
+    let d = c.args.direction in
+    on_ok c.mean.result (any_ok c.mean.result c.mean.ensures.other) (λ e h.
+    one_found d c.args.self.now.live.items c.args.place c.index_mut.result.now c.mean.new.connection
+    (e ∙ ap (λ (x : Connection). (line_in (other d) x).side.finding) c.index_mut.ensures.value) h)
+
+pub returns-clause-as_found : goal.returns-clause-as_found
+returns-clause-as_found c =
+    let d = c.args.direction in
+    on_err c.mean.result c.mean.ensures.own (λ e h.
+    none_found d c.args.self.now.live.items c.args.place c.index_mut.result.now c.mean.new.connection
+    (e ∙ ap (λ (x : Connection). (line_in d x).side.finding) c.index_mut.ensures.value)
+    (c.mean.ensures.other ∙ ap (λ (x : Connection). (line_in (other d) x).side.finding) c.index_mut.ensures.value) h)

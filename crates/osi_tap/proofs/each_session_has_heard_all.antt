@@ -1,0 +1,47 @@
+-- The sessions of connections have heard all that the other side said: for the functions that hand it over, one connection after
+-- the other, and for those that find a connection.
+use Rattle.std.proofs.Common.{◌≡◌, ℕ, zero, suc, ◌+◌, ◌<◌, ◌≤◌, List, [], ◌∷◌, length, take, set, arith, subst, sym, add-one}
+use Rattle.std.proofs.Common.{Bool, true, false, cond, ◌==◌, Option, Some, None}
+use Rattle.std.specs.List.{find}
+use Rattle.osi_judge.specs.declared.directions.Direction.{Direction}
+use Rattle.osi_tap.specs.declared.connections.Connection.{Connection}
+use Rattle.osi_tap.specs.declared.watch.Watch.{Watch}
+use Rattle.osi_tap.specs.Courses.{Course}
+use Rattle.osi_tap.specs.Holding.{AreHeard, FoundHeard, IsHeard}
+use Rattle.osi_tap.specs.Owing.{HoldsAll}
+use Rattle.osi_tap.specs.Standing.{HoldsBy}
+use Rattle.osi_tap.specs.Streams.{Streamed}
+use Rattle.osi_tap.specs.Tapping.{State}
+
+front_at : (cs : List Connection) (i : ℕ) (d : Connection) → i < length cs → IsHeard d → AreHeard (take i cs)
+    → AreHeard (take (suc i) (set cs i d))
+front_at [] i d lt h k = absurd (omega arith)
+front_at (c ∷ cs) zero d lt h k = (h, tt)
+front_at (c ∷ cs) (suc i) d lt h k = (k.0, front_at cs i d (omega arith) h k.1)
+
+pub front_heard : (cs : List Connection) (i : ℕ) (d : Connection) → i < length cs → IsHeard d → AreHeard (take i cs)
+    → AreHeard (take (i + 1) (set cs i d))
+front_heard cs i d lt h k = subst (λ (n : ℕ). AreHeard (take n (set cs i d))) (sym (add-one i)) (front_at cs i d lt h k)
+
+pub whole_heard : (cs : List Connection) (n : ℕ) → length cs ≤ n → AreHeard (take n cs) → AreHeard cs
+whole_heard [] n le h = tt
+whole_heard (c ∷ cs) zero le h = absurd (omega arith)
+whole_heard (c ∷ cs) (suc n) le h = (h.0, whole_heard cs n (omega arith) h.1)
+
+-- ---- the one with a number
+
+one_found : (b : Bool) (c : Connection) (o : Option Connection) → IsHeard c → FoundHeard o → FoundHeard (cond b (Some c) o)
+one_found true c o h k = h
+one_found false c o h k = k
+
+pub found_heard : (number : ℕ) (cs : List Connection) → AreHeard cs → FoundHeard (find (λ c. c.number == number) cs)
+found_heard number [] h = tt
+found_heard number (c ∷ cs) h =
+    one_found (c.number == number) c (find (λ c. c.number == number) cs) h.0 (found_heard number cs h.1)
+
+-- ---- what a tap holds
+
+pub still_holds : (due : Option Direction) (w v : Watch) (l r : Streamed) (s : State) → due ≡ None
+    → ((c : Course) → HoldsAll w c → HoldsAll v c) → HoldsBy due w l r s → HoldsBy due v l r s
+still_holds None w v l r s e keeps h = record { left = h.left; right = h.right; course = keeps s.course h.course }
+still_holds (Some d) w v l r s e keeps h = cc

@@ -1,0 +1,13 @@
+use Rattle.std.proofs.Common.{◌∙◌, ap}
+use Rattle.osi_tap.specs.Holding.{is_unheard}
+use Rattle.osi_tap.proofs.what_is_kept_of_a_side_is_what_passed.{flipped}
+use Rattle.osi_tap.proofs.what_holds_of_a_result.{on_ok}
+use Rattle.osi_tap.proofs.lines.hand_over_both.Goals as goal
+
+pub returns-in-Ok-clause-holds : goal.returns-in-Ok-clause-holds
+returns-in-Ok-clause-holds c s t a b h =
+    flipped (c.hand_over-in-Ok.ensures.holds t s b a (flipped (c.hand_over.ensures.holds s t a b h)))
+
+pub returns-in-Ok-clause-own : goal.returns-in-Ok-clause-own
+returns-in-Ok-clause-own c =
+    on_ok c.hand_over-in-Ok.result c.hand_over-in-Ok.ensures.heard (λ e. ap is_unheard c.hand_over-in-Ok.ensures.stage ∙ c.in-Ok.ensures.heard)

@@ -1,0 +1,21 @@
+use Rattle.std.proofs.Common.{subst, sym}
+use Rattle.std.proofs.lemmas.List.{length-set}
+use Rattle.osi_tap.specs.declared.connections.Connection.{Connection}
+use Rattle.osi_tap.specs.Holding.{HoldsJoined}
+use Rattle.osi_tap.proofs.what_holds_of_a_result.{on_ok}
+use Rattle.osi_tap.proofs.each_connection_is_kept.{one_kept}
+use Rattle.osi_tap.proofs.each_session_has_heard_all.{front_heard}
+use Rattle.osi_tap.proofs.sessions.hand_over_at.Goals as goal
+
+pub returns-clause-holds : goal.returns-clause-holds
+returns-clause-holds c js h =
+    one_kept c.args.live.now.items js c.args.place c.index_mut.result.now c.hand_over.new.self c.requires
+    (λ j hj. c.hand_over.ensures.holds j (subst (λ (x : Connection). HoldsJoined x j) (sym c.index_mut.ensures.value) hj)) h
+
+pub returns-clause-count : goal.returns-clause-count
+returns-clause-count c = length-set c.args.live.now.items c.args.place c.hand_over.new.self
+
+pub returns-clause-heard : goal.returns-clause-heard
+returns-clause-heard c =
+    on_ok c.hand_over.result c.hand_over.ensures.heard (λ e k.
+    front_heard c.args.live.now.items c.args.place c.hand_over.new.self c.requires e k)

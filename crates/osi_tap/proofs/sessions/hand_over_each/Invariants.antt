@@ -1,0 +1,11 @@
+use Rattle.std.proofs.Common.{List, length, take, ◌-◌}
+use Rattle.osi_tap.specs.Connections.{Joined}
+use Rattle.osi_tap.specs.Holding.{AreHeard, HoldAll}
+use Rattle.osi_tap.proofs.sessions.hand_over_each.Given as goal
+
+abbrev pub invariant-connections : goal.invariant-connections
+invariant-connections l = ((js : List Joined) → HoldAll l.fn.live.items js → HoldAll l.live.items js)
+    × AreHeard (take l.place l.live.items)
+
+abbrev pub decreases-connections : goal.decreases-connections
+decreases-connections l = length l.live.items - l.place

@@ -1,0 +1,16 @@
+use Rattle.osi_tap.proofs.what_holds_of_a_result.{on_ok}
+use Rattle.osi_tap.proofs.tap.Tap.settle.Goals as goal
+
+pub returns-clause-holds : goal.returns-clause-holds
+returns-clause-holds c s h = c.hand_over.ensures.holds s c.in_ok-pass_due.ensures.judged (c.pass_due.ensures.holds s h)
+
+pub returns-clause-judged : goal.returns-clause-judged
+returns-clause-judged c =
+    on_ok c.hand_over.result c.hand_over.ensures.heard (λ e. c.hand_over.ensures.judged c.in_ok-pass_due.ensures.judged)
+
+pub returns-clause-settled : goal.returns-clause-settled
+returns-clause-settled c =
+    on_ok c.hand_over.result c.hand_over.ensures.heard (λ e. record {
+      judged = c.hand_over.ensures.judged c.in_ok-pass_due.ensures.judged;
+      heard = e;
+    })
