@@ -1,5 +1,5 @@
 -- A unit changes what is found of the session of one side of one connection: for the functions that give a unit to a connection.
-use Rattle.std.proofs.Common.{◌≡◌, ℕ, zero, suc, List, [], ◌∷◌, get_or, set, subst, sym, ap, ◌∙◌, Bool, false}
+use Rattle.std.proofs.Common.{◌≡◌, ℕ, zero, suc, List, [], ◌∷◌, get_or, set, ap, ◌∙◌}
 use Rattle.osi_judge.specs.Captures.{other}
 use Rattle.osi_judge.specs.Stops.{broke_session}
 use Rattle.osi_judge.specs.declared.directions.Direction.{Direction}
