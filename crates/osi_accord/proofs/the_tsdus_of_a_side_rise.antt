@@ -21,7 +21,7 @@ pub rise_from : (m n : ℕ) (sent : List Sent) → m ≤ n → Rise n sent → R
 rise_from m n [] l r = tt
 rise_from m n (t ∷ sent) l r = let k : n ≤ t.first = r.0 in (omega arith, r.1, r.2)
 
--- ---- the first packet of the TSDU that is under way
+-- ---- the first packet of the unfinished TSDU
 
 -- it is none after the packet at this offset, and none before the first packet until now
 abbrev GoesOn : Stage → ℕ → Stage → ℕ → Type 0

@@ -130,7 +130,7 @@ ends_behind d met s at m n (u ∷ us) l k =
 
 -- ---- the TSDUs of a side
 
--- these TSDUs are those, which all began in the shorter stream, and then more, which end behind it
+-- these TSDUs are those, which all began in the shorter stream, and then more, which end after it
 pub record SentOn (n : ℕ) (mine whole : List Sent) : Type 0 where
   pub more : List Sent
   pub is : whole ≡ mine ++ more
