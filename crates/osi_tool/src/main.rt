@@ -34,8 +34,6 @@ mod jobs;
 mod judging;
 mod pairing;
 mod showing;
-#[cfg(test)]
-mod tests;
 mod texts;
 mod watched;
 mod witnessing;
