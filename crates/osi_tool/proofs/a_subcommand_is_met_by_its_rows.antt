@@ -15,9 +15,6 @@ after : {A B C : Type 0} (f : A → B) (g : B → C) (o : Option A) → option_m
 after f g None = refl
 after f g (Some x) = refl
 
-pub name_of_rows : (m : ArgMatches) → option_map (λ p. p.0) (subcommand_rows_of m) ≡ subcommand_name_of m
-name_of_rows m = after _ (λ p. p.0) (out-ArgMatches m).subcommand
-
 from_some : {A : Type 0} → A → Option A → A
 from_some other None = other
 from_some other (Some x) = x
@@ -30,10 +27,6 @@ unfolding from_some
 asked_with None name rows name_is rows_are = absurd (none-some name (sym name_is))
 asked_with (Some p) name rows name_is rows_are =
     ap₂ (λ n r. Some (n, wants_script r)) (ap (from_some name) name_is) (ap (from_some rows) rows_are)
-
-pub asked_nothing : (o : Option (Text × List Row)) → None ≡ option_map (λ p. p.0) o → None ≡ asked_in o
-asked_nothing None is = refl
-asked_nothing (Some p) is = absurd (none-some p.0 is)
 
 -- whether a script is wanted, by the option's value
 pub wants_by_value : (f : Found)

@@ -89,28 +89,6 @@ pub record HasPlayed (all : Lines) (old : TwoEnds) (before : List ℕ) (left : L
 pub played_none : (all : Lines) (old : TwoEnds) (before : List ℕ) → HasPlayed all old before all old before
 played_none all old before = record { text = []; says = sym (append-nil before); plays = λ more status rest. rest }
 
-pub played_more : (all : Lines) (old : TwoEnds) (before : List ℕ) (number : ℕ) (line : List ℕ) (left lines : Lines) (mid new : TwoEnds)
-    (said after : List ℕ) →
-    HasPlayed all old before lines mid said → lines ≡ (number, line) ∷ left → GoesBehind number line mid said new after →
-    HasPlayed all old before left new after
-played_more all old before number line left lines mid new said after h next more = record {
-  text = h.text ++ more.text;
-  says = more.says ∙ ap (λ (t : List ℕ). t ++ more.text) h.says ∙ append_assoc before h.text more.text;
-  plays = λ rest status behind. subst (λ (t : List ℕ). Plays all old t status) (sym (append_assoc h.text more.text rest))
-      (h.plays (more.text ++ rest) status
-      (subst (λ (ls : Lines). Plays ls mid (more.text ++ rest) status) (sym next) (more.plays left rest status behind)));
-}
-
-pub played_last : (all : Lines) (old : TwoEnds) (before : List ℕ) (number : ℕ) (line : List ℕ) (left lines : Lines) (mid : TwoEnds)
-    (said after : List ℕ) →
-    HasPlayed all old before lines mid said → lines ≡ (number, line) ∷ left → StopsAtLine number line mid said after →
-    PlaysAll all old before after 1
-played_last all old before number line left lines mid said after h next more = record {
-  text = h.text ++ more.text;
-  says = more.says ∙ ap (λ (t : List ℕ). t ++ more.text) h.says ∙ append_assoc before h.text more.text;
-  plays = h.plays more.text 1 (subst (λ (ls : Lines). Plays ls mid more.text 1) (sym next) (more.plays left));
-}
-
 pub played_all : (all : Lines) (old : TwoEnds) (before : List ℕ) (lines : Lines) (new : TwoEnds) (said after : List ℕ) →
     HasPlayed all old before lines new said → lines ≡ [] → after ≡ said ++ all_standings new → PlaysAll all old before after 0
 played_all all old before lines new said after h none says = record {
@@ -121,14 +99,6 @@ played_all all old before lines new said after h none says = record {
 }
 
 -- ---- the effect of a line, by whether the next is to be read
-
-pub goes_behind : (b : Bool) (number : ℕ) (line : List ℕ) (old : TwoEnds) (before : List ℕ) (new : TwoEnds) (after : List ℕ) → b ≡ true →
-    PlaysOne b number line old before new after → GoesBehind number line old before new after
-goes_behind b number line old before new after e h = subst (λ (x : Bool). PlaysOne x number line old before new after) e h
-
-pub stops_at : (b : Bool) (number : ℕ) (line : List ℕ) (old : TwoEnds) (before : List ℕ) (new : TwoEnds) (after : List ℕ) → b ≡ false →
-    PlaysOne b number line old before new after → StopsAtLine number line old before after
-stops_at b number line old before new after e h = subst (λ (x : Bool). PlaysOne x number line old before new after) e h
 
 pub event_goes : (b : Bool) (number : ℕ) (event : Event) (old : TwoEnds) (before : List ℕ) (new : TwoEnds) (after : List ℕ) → b ≡ true →
     PlaysEvent b number event old before new after → DoesEvent event old before new after
@@ -170,13 +140,3 @@ transcribed lines left number line p before text status is starts none h =
     let said : text ≡ h.text = h.says ∙ ap (λ (t : List ℕ). t ++ h.text) none in
     subst (λ (ls : Lines). Transcribes ls text status) (sym is)
     (begins number (command_of line) left p text status starts (subst (λ (t : List ℕ). Plays left p t status) (sym said) h.plays))
-
--- the first line is another
-pub not_begun : (lines left : Lines) (number : ℕ) (line : List ℕ) (text : List ℕ) → lines ≡ (number, line) ∷ left →
-    IsNoStart (command_of line) →
-    text ≡ answer_line (LineRefused number) → Transcribes lines text 1
-not_begun lines left number line text is starts says =
-    subst (λ (ls : Lines). Transcribes ls text 1) (sym is) (refused number (command_of line) left text starts says)
-
-pub nothing_asked : (lines : Lines) (text : List ℕ) → lines ≡ [] → text ≡ [] → Transcribes lines text 0
-nothing_asked lines text none says = subst (λ (ls : Lines). Transcribes ls text 0) (sym none) (says, refl)

@@ -24,21 +24,6 @@ use Rattle.osi_transcript.specs.Entries.{entry_text, entry_texts}
 use Rattle.osi_transcript.specs.Playing.{carried_by, event_text, new_texts, fault_by, fault_of}
 use Rattle.osi_transcript.specs.Steps.{DoesEvent, FailsEvent}
 
--- one more entry
-pub texts_more : (before mid after : List ℕ) (entries : List Entry) (i : ℕ) (entry : Entry) → i < length entries →
-    entry ≡ get_or entries i entry →
-    mid ≡ before ++ entry_texts (map entry_by (take i entries)) → after ≡ mid ++ entry_text (entry_by entry) →
-    after ≡ before ++ entry_texts (map entry_by (take (i + 1) entries))
-texts_more before mid after entries i entry within is h says =
-    let more : take (i + 1) entries ≡ take i entries ++ entry ∷ [] =
-    take_more entries i entry within ∙ ap (λ (e : Entry). take i entries ++ e ∷ []) (sym is) in
-    says ∙ ap (λ (t : List ℕ). t ++ entry_text (entry_by entry)) h
-    ∙ append_assoc before (entry_texts (map entry_by (take i entries))) (entry_text (entry_by entry))
-    ∙ ap (λ (t : List ℕ). before ++ (entry_texts (map entry_by (take i entries)) ++ t)) (sym (append-nil (entry_text (entry_by entry))))
-    ∙ ap (λ (t : List ℕ). before ++ t) (sym (flat_map-append entry_text (map entry_by (take i entries)) (entry_by entry ∷ [])))
-    ∙ ap (λ t. before ++ entry_texts t) (sym (map-append entry_by (take i entries) (entry ∷ [])))
-    ∙ ap (λ (l : List Entry). before ++ entry_texts (map entry_by l)) (sym more)
-
 -- the lines of the new entries of the journal
 pub new_texts_are : (old new : TwoEnds) (xs ys : List Entry) → map entry_by xs ≡ old.journal → map entry_by ys ≡ new.journal →
     entry_texts (map entry_by (drop (length xs) ys)) ≡ new_texts old new
@@ -85,21 +70,6 @@ fault_is : (error : PairError) (why : LineFault) → fault_by error ≡ Some why
 fault_is NotBroken why is = is
 fault_is AlreadyBroken why is = is
 fault_is OutOfMemory why is = is
-
--- an event does not fit
-pub event_failed : (number : ℕ) (event : Event) (old : TwoEnds) (before after : List ℕ) (error : PairError) (why : LineFault) →
-    error_by_rule error ≡ misfit event old → fault_by error ≡ Some why → after ≡ before ++ answer_line (LineFailed number why) →
-    FailsEvent number event old before after
-event_failed number event old before after error why rule is says = record {
-  text = answer_line (LineFailed number why);
-  fails = record {
-    why = why;
-    misfit = ap fault_of (sym rule) ∙ fault_is error why is;
-    says = refl;
-    bad = refl;
-  };
-  says = says;
-}
 
 -- no side has ended because memory ran out
 pub found_memory : (p : TwoEnds) → p.left.end.carrier.ended ≢ Some NoMemory → p.right.end.carrier.ended ≢ Some NoMemory → FoundMemory p

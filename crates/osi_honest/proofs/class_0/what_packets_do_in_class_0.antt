@@ -127,10 +127,6 @@ module _ (begin : Listener) (r : ℕ) where
     all = x.all;
   }
 
-  -- what is said at a TSDU, and then what comes after it
-  now_said : (took : List (List ℕ)) (session : Listener) (tsdu : List ℕ) → List Said
-  now_said took session tsdu = said_after (length took + 1) (sends session (came tsdu))
-
   now_put : (took : List (List ℕ)) (session : Listener) (tsdu : List ℕ) (old mid : Carrier) → Puts (sends session (came tsdu)) old mid →
       Puts (octets_said (said_after (length took + 1) (sends session (came tsdu)))) old mid
   now_put took session tsdu old mid p = subst (λ (x : List (List ℕ)). Puts x old mid)

@@ -119,14 +119,6 @@ module _ (d : Direction) (met : ℕ → Handshake) where
   ignored (within first octets) h v never = absurd never
   ignored (stopped stop place) h v never = absurd never
 
-  ignoring_stands : (s : Stage) (h : Handshake) → Ignores s h → IsStanding s × IsInnocent s
-  ignoring_stands asking h i = (tt, tt)
-  ignoring_stands (refused place) h i = (tt, tt)
-  ignoring_stands opening h never = absurd never
-  ignoring_stands between h never = absurd never
-  ignoring_stands (within first octets) h never = absurd never
-  ignoring_stands (stopped stop place) h never = absurd never
-
 -- each packet has a unit that can be read
 abbrev pub IsRead : List ℕ → Type 0
 IsRead u = (v : Value) × (first_unit (units_of u) ≡ Ok (Some v))

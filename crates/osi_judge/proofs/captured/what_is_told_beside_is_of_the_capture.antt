@@ -345,10 +345,3 @@ count_kept w said k e = count_by w.finding w said k e
 pub count_told : (d : Direction) (c : Capture) (mine others : List Sent) (w : Watched) → Watches w (told d c mine others)
     → w.finding ≡ Kept → w.told ≡ length mine
 count_told d c mine others w k e = count_kept w (told d c mine others) k e ∙ length_told d c mine others
-
--- what was found stays, or it was that the side kept the protocol
-pub found_same : (f g : Finding) (count : ℕ) → g ≡ f → FoundNext f count g
-found_same Kept g count e = subst (λ (x : Finding). FoundNext Kept count x) (sym e) tt
-found_same (Broke i) g count e = e
-found_same (Left i) g count e = e
-found_same TooMany g count e = e

@@ -61,14 +61,6 @@ said_anew w octets old new from s h c e =
 
 -- ---- an answer
 
-pub answered_not : (w : Word) (reply : Meaning) (m : Member) (old : List Member) → false ≡ answers_word reply w
-    → old ≡ fold added old (if_answer w (Some reply) m)
-answered_not w reply m old e = ap (λ (b : Bool). fold added old (if b then m ∷ [] else [])) e
-
-pub answered_one : (w : Word) (reply : Meaning) (m : Member) (old new : List Member) → true ≡ answers_word reply w → new ≡ added old m
-    → new ≡ fold added old (if_answer w (Some reply) m)
-answered_one w reply m old new e h = h ∙ ap (λ (b : Bool). fold added old (if b then m ∷ [] else [])) e
-
 -- ---- one step
 
 -- what is kept here, the answer, and the rest of the walk
@@ -193,12 +185,6 @@ restarts_with us w octets before m l =
     not_lt : (b : Bool) → nat_lt 999999 m.standing.state.numbers.lowest ≡ b → nat_lt 999999 m.standing.state.numbers.lowest ≡ false
     not_lt false e = e
     not_lt true e = grind arith
-
-pub restarts_without : (us : List (List ℕ)) (w : Word) (octets before : ℕ) (m : Member) → 999999 < m.standing.state.numbers.lowest
-    → senders us w octets (before - m.taken) None (Some m) ≡ restarters us w octets before m
-restarts_without us w octets before m l =
-    sym (ap (λ (b : Bool). if b then senders us w octets (before - m.taken) None (Some m)
-    else askers us (way_to w octets m.standing) (before - m.taken) None (Some m)) (lt-ltb 999999 m.standing.state.numbers.lowest l))
 
 abbrev place_by : Bool → Bool → List (List ℕ) → Word → ℕ → ℕ → Member → List Member
 place_by restart steady us w octets before m =

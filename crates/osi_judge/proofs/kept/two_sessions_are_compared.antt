@@ -243,12 +243,6 @@ seen_told b s t h = by b (same_seen s t) refl h
         let k : same_seen s t ≡ true = ap (λ (x : Seen). same_seen s x) (sym h) ∙ same_seen_refl s in absurd (cc)
     by false true e h = absurd (h (same_seen_is s t e))
 
-pub seen_is : (s t : Seen) → same_seen s t ≡ true → s ≡ t
-seen_is s t e = same_seen_is s t e
-
-pub seen_refl : (s : Seen) → same_seen s s ≡ true
-seen_refl s = same_seen_refl s
-
 -- another number of TSDUs, or another V(A)
 pub apart : (m n : Member) → (m.standing.state.numbers.confirmed ≡ n.standing.state.numbers.confirmed → ⊥) → false ≡ same_member m n
 apart m n h = by (same_seen m.standing n.standing) refl

@@ -412,11 +412,6 @@ part_has_one_outline tsdu octets place item h i l =
 
 -- ---- for the code
 
-pub several_not_one : {X : Type 0} (f : X → List ℕ) (xs : List X) (o : List ℕ) → 1 < length xs → map f xs ≡ o ∷ [] → ⊥
-several_not_one f [] o l e = absurd (omega (arith, l))
-several_not_one f (x ∷ []) o l e = absurd (omega (arith, l))
-several_not_one f (x ∷ y ∷ xs) o l e = let n = ap (λ (z : List (List ℕ)). length z) e in omega (arith, n)
-
 more_whole : (tsdu : List ℕ) (w v u : Word) (ws : Words) → outline_by tsdu (Ok (w ∷ v ∷ u ∷ ws)) ≡ tsdu
 more_whole tsdu (says m) v u ws = refl
 more_whole tsdu (part place octets) v u ws = refl

@@ -102,9 +102,6 @@ pub goes_stop : (us : List (List ℕ)) (m first : Member) (turn : Turn) (owes : 
 goes_stop us m first turn owes l e g h =
     sym (ap (λ (ms : List Member). last_in m ms) (reached_stops us (length us) m owes l (subst (λ (x : Turn). GoesOn us m x) e g))) ∙ h
 
-pub goes_end : (us : List (List ℕ)) (m first : Member) → length us ≤ m.taken → goes_to us m ≡ goes_to us first → m ≡ goes_to us first
-goes_end us m first l h = sym (ap (λ (ms : List Member). last_in m ms) (reached_end us (length us) m l)) ∙ h
-
 -- ---- a walk of one member
 
 abbrev pub tries : Unsaid → List (List ℕ) → ℕ → Near → Member → Near
@@ -123,11 +120,6 @@ pub tries_stop : (u : Unsaid) (us : List (List ℕ)) (before : ℕ) (old new all
 tries_stop u us before old new all m turn owes l e g n h =
     n ∙ sym (ap (λ (ms : List Member). fold (tried u) old ms)
     (reached_stops us before m owes l (subst (λ (x : Turn). GoesOn us m x) e g))) ∙ h
-
-pub tries_end : (u : Unsaid) (us : List (List ℕ)) (before : ℕ) (old new all : Near) (m : Member) → before ≤ m.taken → new ≡ tried u old m
-    → tries u us before old m ≡ all → new ≡ all
-tries_end u us before old new all m l n h =
-    n ∙ sym (ap (λ (ms : List Member). fold (tried u) old ms) (reached_end us before m l)) ∙ h
 
 -- ---- one element of a list after the other
 
@@ -163,26 +155,12 @@ all_tried u us before first best members i l f h =
     sym (ap (λ (ms : List Member). fold (tries u us before) best ms) (no_more members i l)) ∙ h
     ∙ ap (λ (n : Near). fold (tries u us before) n members) f ∙ sym (fold_flat u us before (far members) members)
 
-pub tried_next : (u : Unsaid) (us : List (List ℕ)) (before : ℕ) (all old new : Near) (members : List Member) (i : ℕ) (x : Member)
-    → i < length members
-    → x ≡ get_or members i x → new ≡ tries u us before old x → fold (tries u us before) old (drop i members) ≡ all
-    → fold (tries u us before) new (drop (i + 1) members) ≡ all
-tried_next u us before all old new members i x l e n h =
-    ap (λ (z : Near). fold (tries u us before) z (drop (i + 1) members)) n ∙ sym (one_more (tries u us before) old members i x l e) ∙ h
-
 -- ---- the units of a TSDU
 
 -- what breaks at the units that are left breaks at the whole
 abbrev pub Continues : List (List ℕ) → ℕ → ℕ → List Member → Units → List Member → Units → Type 0
 Continues heard octets before members whole now left = (at : List Member) (by : Break) → BreaksIn heard octets before now left at by
     → BreaksIn heard octets before members whole at by
-
-pub breaks_first : (heard : List (List ℕ)) (octets before : ℕ) (members now : List Member) (whole left : Units) → now ≡ members
-    → left ≡ whole
-    → Continues heard octets before members whole now left
-breaks_first heard octets before members now whole left e f = λ at by h.
-    subst (λ (z : List Member). BreaksIn heard octets before z whole at by) e
-    (subst (λ (z : Units). BreaksIn heard octets before now z at by) f h)
 
 pub breaks_later : (heard : List (List ℕ)) (octets before : ℕ) (members now next : List Member) (whole units left : Units)
     (first unit : Contents)

@@ -452,10 +452,6 @@ kept_by (Broke i) w told j k = k.1.1.kept w.heard (λ i l. refl)
 kept_by (Left i) w told j (k, (x, s, h)) = s.kept w.heard (λ i l. refl)
 kept_by TooMany w told j k = absurd (cc)
 
-pub members_as : (w : Watched) (told : List Told) → is_judged w.finding ≡ true → Watches w told
-    → w.members ≡ kept w.begin w.heard (up_to (place_of w.finding) told)
-members_as w told j k = kept_by w.finding w told j k
-
 pub few_by : (w : Watched) (told : List Told) → w.finding ≡ Kept → Watches w told → length w.members ≤ 4096
 few_by w told f k =
     let h : Keeps w told = subst (λ (g : Finding). WatchesBy g w told) f k in

@@ -135,10 +135,6 @@ said_is us later w o at said h = (
   λ k. (said.standing, h.1, k),
 )
 
-pub not_said : (us : List (List ℕ)) (later : List Remark) (w : Word) (o : ℕ) (at : Member) (K : Type 0) → SaysTo at w o None
-    → (K ⊎ SaidHere us later w o at) ↔ K
-not_said us later w o at K h = (λ k. elim k [ inl x ↦ x | inr x ↦ absurd (h x.0 x.1) ], λ k. inl k)
-
 pub with_said : (us : List (List ℕ)) (later : List Remark) (w : Word) (o : ℕ) (at said : Member) (K L : Type 0)
     → SaysTo at w o (Some said) → ((K ⊎ Explains us later at.taken said.standing) ↔ L)
     → (K ⊎ SaidHere us later w o at) ↔ L
@@ -179,17 +175,6 @@ still_wait us later before taken old a b h v w =
       λ k. elim k [ inl m ↦ inl m | inr m ↦ inr (elim m [ inl x ↦ inl (f.0 x) | inr x ↦ inr (l.0 x) ]) ],
       λ k. elim k [ inl m ↦ inl m | inr m ↦ inr (elim m [ inl x ↦ inl (f.1 x) | inr x ↦ inr (l.1 x) ]) ],
     )
-
-pub two_kept : (us : List (List ℕ)) (later : List Remark) (taken : ℕ) (old mid new : List Member) (a : Asked)
-    → (SomeExplains us old later ⊎ Explains us later taken a.first) ↔ SomeExplains us mid later
-    → (SomeExplains us mid later ⊎ Explains us later taken a.last) ↔ SomeExplains us new later
-    → Known us later taken old (Some a) ↔ SomeExplains us new later
-two_kept us later taken old mid new a f g = (there, back)
-  where
-    there : Known us later taken old (Some a) → SomeExplains us new later
-    there (inl m) = g.0 (inl (f.0 (inl m)))
-    there (inr (inl m)) = g.0 (inl (f.0 (inr m)))
-    there (inr (inr m)) = g.0 (inr m)
 
     one : (SomeExplains us old later ⊎ Explains us later taken a.first) → Known us later taken old (Some a)
     one (inl m) = inl m
@@ -300,11 +285,6 @@ JoinsBy taken old new asked said shown r = (restart other : Word) (octets : ℕ)
 abbrev pub asked_once : Seen → Seen → Asked
 asked_once said shown = record { first = said; last = said; shown = shown }
 
-pub joins_first : (taken : ℕ) (old : List Member) (asked : Option Asked) (said shown : Seen) → asked ≡ None
-    → JoinsBy taken old old asked said shown (Some (asked_once said shown))
-joins_first taken old asked said shown e = λ r q o p k m x.
-    (record { first = x; last = x }, λ us later. begins_with us later taken old asked (asked_once said shown) said e refl refl)
-
 pub joins_apart : (taken : ℕ) (old new : List Member) (asked : Option Asked) (said shown : Seen) (b : Asked) → asked ≡ Some b
     → ((us : List (List ℕ)) (later : List Remark) → Known us later taken old (Some b) ↔ SomeExplains us new later)
     → JoinsBy taken old new asked said shown (Some (asked_once said shown))
@@ -367,11 +347,6 @@ pub restarted_by : (r q : Word) (o : ℕ) (at said shown : Member) → SaysTo at
 restarted_by r q o at said shown h k = record { from = at.standing; sent = h.1; shows = k.1 }
 
 -- ---- what `step` and `walk_with` ensure
-
-pub still_asked : (r q : Word) (o : ℕ) (asked after : Option Asked) → IfSome after (λ a. asked ≡ Some a) → MayBeAsked r q o asked
-    → MayBeAsked r q o after
-still_asked r q o asked None h m = tt
-still_asked r q o asked (Some a) h m = subst (λ (x : Option Asked). MayBeAsked r q o x) h m
 
 pub steps_on : (us heard : List (List ℕ)) (later : List Remark) (w : Word) (o before : ℕ) (from to : Asker) (old mid new : List Member)
     (asked : Option Asked) → is_restart_word w ≡ true → from.at.taken < before

@@ -27,9 +27,6 @@ use Rattle.osi_session.specs.declared.faults.CallError.TheVariants as error
 
 -- ---- a unit that fits, and any unit at a side that is over
 
-unit_that_fits : (s : State) (u : Meaning) → Fits s u → is_over s.phase ≡ false → is_faulty (verdict s u) ≡ false
-unit_that_fits s u f o = search (arith, cases_Bool, good_is_fine)
-
 unit_when_over : (s : State) (u : Meaning) → is_over s.phase ≡ true → is_faulty (verdict s u) ≡ false
 unit_when_over s u o = rw o refl
 
