@@ -1,11 +1,14 @@
 #!/usr/bin/env bash
-# Messages over loopback TCP: by the programs of examples/gateway, in class 0 and in class 2 with a window of 15, compared with
-# plain C in the same loop that only frames and copies them (plain.c), without a window and with one of 15.
+# Messages over loopback TCP: by the programs of examples/gateway, in class 0 and in class 2 with a window of 15, compared with C
+# in the same loop: with stacks written by hand (byhand.c), and with nothing but frames and copies (plain.c), without a window and
+# with one of 15.
 set -eu
 cd "$(dirname "$0")/.."
 make lib >&2
 mkdir -p bench/out
-gcc -O2 -Wall -Wextra -o bench/out/plain bench/plain.c
+for name in plain byhand; do
+    gcc -O2 -Wall -Wextra -o "bench/out/$name" "bench/$name.c"
+done
 for name in server client; do
     gcc -std=c99 -O2 -Wall -Wextra -Iinclude -o "bench/out/$name" "examples/gateway/$name.c" examples/gateway/gateway.c build/libosi-session.a
 done
@@ -25,8 +28,8 @@ def rate_of(text):
     return int(re.search(r": (\d+) messages/s", text).group(1))
 
 
-def plain(*window):
-    words = [f"{OUT}/plain", str(COUNT), str(OCTETS), *window]
+def in_c(name, *more):
+    words = [f"{OUT}/{name}", str(COUNT), str(OCTETS), *more]
     return rate_of(subprocess.run(words, capture_output=True, text=True, check=True).stdout)
 
 
@@ -41,8 +44,9 @@ def gateway(number):
     return rate_of(client.stdout)
 
 
-WAYS = {"class 0": lambda: gateway("0"), "class 2, a window of 15": lambda: gateway("2"), "plain C": plain,
-        "plain C, a window of 15": lambda: plain("15")}
+WAYS = {"class 0": lambda: gateway("0"), "class 2, a window of 15": lambda: gateway("2"),
+        "C by hand, class 0": lambda: in_c("byhand", "0"), "C by hand, class 2": lambda: in_c("byhand", "2"),
+        "plain C": lambda: in_c("plain"), "plain C, a window of 15": lambda: in_c("plain", "15")}
 
 
 def measure(place, processors):

@@ -7,53 +7,10 @@
  * each message is answered, by as many octets as the packet of an AK has, and at most WINDOW messages are unanswered, as in
  * class 2. Sockets, pieces and bounds are those of examples/gateway. */
 #define _POSIX_C_SOURCE 200809L
-#include "timer.h"
+#include "loop.h"
 
-#include <arpa/inet.h>
-#include <netinet/in.h>
-#include <netinet/tcp.h>
-#include <poll.h>
-#include <stdint.h>
-#include <stdlib.h>
-#include <sys/socket.h>
-#include <sys/time.h>
-#include <sys/wait.h>
-#include <unistd.h>
-
-#define PIECE 65536
-#define MOST_WAITING 262144u
 #define HEADER 4
 #define ANSWER 9
-
-struct task {
-    unsigned long count, window;
-    size_t octets;
-};
-
-static void must(int holds, const char *what)
-{
-    if (holds)
-        return;
-    perror(what);
-    exit(1);
-}
-
-static short wait_for(int socket, short events)
-{
-    struct pollfd waits = {socket, events, 0};
-    must(poll(&waits, 1, 10000) == 1, "poll");
-    return waits.revents;
-}
-
-static int settled(int socket)
-{
-    const int yes = 1;
-    const struct timeval patience = {10, 0};
-    must(socket >= 0, "socket");
-    setsockopt(socket, IPPROTO_TCP, TCP_NODELAY, &yes, sizeof yes);
-    setsockopt(socket, SOL_SOCKET, SO_RCVTIMEO, &patience, sizeof patience);
-    return socket;
-}
 
 /* ---- the side that sends */
 
@@ -156,30 +113,6 @@ static void take_all(int socket, const struct task *t)
     }
 }
 
-/* ---- both */
-
-static double seconds_of(const struct task *t)
-{
-    struct sockaddr_in own = {.sin_family = AF_INET, .sin_addr.s_addr = htonl(INADDR_LOOPBACK)};
-    socklen_t size = sizeof own;
-    int status;
-    const int listener = socket(AF_INET, SOCK_STREAM, 0), made = socket(AF_INET, SOCK_STREAM, 0);
-    must(bind(listener, (struct sockaddr *)&own, size) == 0 && listen(listener, 1) == 0, "listen");
-    getsockname(listener, (struct sockaddr *)&own, &size);
-    const pid_t taker = fork();
-    must(taker >= 0, "fork");
-    if (taker == 0) {
-        take_all(settled(accept(listener, NULL, NULL)), t);
-        _exit(0);
-    }
-    must(connect(made, (struct sockaddr *)&own, size) == 0, "connect");
-    const double began = now();
-    send_all(settled(made), t);
-    const double took = now() - began;
-    must(waitpid(taker, &status, 0) == taker && status == 0, "the side that takes");
-    return took;
-}
-
 int main(int words, char **word)
 {
     if (words != 3 && words != 4)
@@ -187,8 +120,6 @@ int main(int words, char **word)
     const struct task t = {strtoul(word[1], NULL, 10), words == 4 ? strtoul(word[3], NULL, 10) : 0, strtoul(word[2], NULL, 10)};
     if (t.count == 0 || t.octets == 0 || t.octets > PIECE - 1 - HEADER)
         return 2;
-    const double took = seconds_of(&t);
-    printf("%lu messages of %zu octets: %.0f messages/s, %.0f MB/s\n", t.count, t.octets, (double)t.count / took,
-           (double)t.count * (double)t.octets / took / 1e6);
+    tell(&t, seconds_of(&t, send_all, take_all));
     return 0;
 }
