@@ -2,7 +2,7 @@
 use Rattle.std.proofs.Common.{◌≡◌, ℕ, ◌+◌, ◌≤◌, ◌/◌, ◌%◌, Bool, true, false, eqb, ltb, leb, List, length, get_or, drop, Result, Ok, Err}
 use Rattle.std.proofs.Common.{refl, sym, ◌∙◌, subst, arith, inl, inr}
 use Rattle.osi_tpdu.proofs.Vocabulary.{ne_eqb, eqb-true, TpduFault, BadLi, UnknownCode, Value, request, confirm, disconnect, disconnected}
-use Rattle.osi_tpdu.proofs.Vocabulary.{data0, data2, acknowledge, error, may_be_followed, header_at, reference_at, all_skipped_at}
+use Rattle.osi_tpdu.proofs.Vocabulary.{IsOk, data0, data2, acknowledge, error, may_be_followed, header_at, reference_at, all_skipped_at}
 use Rattle.osi_tpdu.proofs.Vocabulary.{connect_of, request_of, confirm_of, disconnect_of, disconnected_of, transfer_of, acknowledge_of}
 use Rattle.osi_tpdu.proofs.Vocabulary.{error_of, value_of, is_lead_code, used_by, unit_at, can_be_read}
 use Rattle.osi_tpdu.proofs.the_steps_of_reading.{bind_ok, unless_ok, when_ok, chosen, ok_is}
@@ -89,3 +89,7 @@ read_by at b x (Err f) some can header fields = absurd (no_bad_fields at b x f s
 pub first_stands : (at : ℕ) (b : List ℕ) (x : List ℕ × List ℕ) → 1 ≤ length b → can_be_read at b ≡ true → header_at at b ≡ Ok x
     → (v : Value) × (value_of at x.0 x.1 ≡ Ok v) × (unit_at at b ≡ Ok (v, used_by x.0 (length b)))
 first_stands at b x some can header = read_by at b x (value_of at x.0 x.1) some can header refl
+
+pub first_known : (at : ℕ) (b : List ℕ) (x : List ℕ × List ℕ) → 1 ≤ length b → can_be_read at b ≡ true → header_at at b ≡ Ok x →
+    IsOk (value_of at x.0 x.1)
+first_known at b x some can header = rw (first_stands at b x some can header).1 refl

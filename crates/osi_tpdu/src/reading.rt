@@ -1,6 +1,6 @@
 //! Reading one unit (X.224 section 13).
 
-ghost use Rattle.std.specs.Prelude.{◌≡◌, ◌+◌, ◌<◌, ◌≤◌, ◌^◌, length, Ok, IfOk, IsOk};
+ghost use Rattle.std.specs.Prelude.{◌≡◌, ◌+◌, ◌<◌, ◌≤◌, ◌^◌, ℕ, List, length, slice_index, Ok, IfOk, IsOk};
 ghost use Rattle.osi_tpkt.specs.Octets.{IsOctets};
 ghost use Rattle.osi_tpdu.specs.Reading.{ReadsAs, header_at, connect_of, request_of, confirm_of, disconnect_of, disconnected_of, transfer_of, acknowledge_of, error_of, value_of, is_lead_code, used_by, unit_at};
 ghost use Rattle.osi_tpdu.specs.View.{connect_content, value};
@@ -42,19 +42,23 @@ fn read_header(at: usize, octets: &[u8]) -> Result<(&[u8], &[u8]), TpduFault>
     Ok(counted.split_at(li))
 }
 
-// Whether this is the code octet of a unit that another one may follow: AK, DC or ER.
+// Whether another unit may follow the one with this header, as after AK, DC and ER, where a unit with it is known to be
+// there: then the high half of its code tells.
 #[inline(always)]
-#[tactic(auto, unfolding(crate::specs::Reading::is_lead_code))]
-fn is_lead_code(code: u8) -> bool
-    ensures { result ≡ is_lead_code code }
+#[tactic(auto, unfolding(crate::specs::Reading::value_of, crate::specs::Reading::is_lead_code))]
+fn known_to_lead(_at: usize, header: &[u8], _user: &[u8]) -> bool
+    requires least { 1 ≤ length header.now }
+    requires known { IsOk (value_of _at header.now _user.now) }
+    ensures { result ≡ is_lead_code (slice_index header.now 0) }
 {
-    high_half(code) == 0x6 || code == 0xC0 || code == 0x70
+    matches!(high_half(header[0]), 0x6 | 0x7 | 0xC)
 }
 
 /// The header of the first unit of the octets, the octets after the header, and how many octets the unit takes, if a
 /// unit with this header can be read.
 #[inline(always)]
 pub(crate) fn read_front(at: usize, octets: &[u8]) -> Result<(&[u8], &[u8], usize), TpduFault>
+    requires { (header user : List ℕ) → header_at at octets.now ≡ Ok (header, user) → IsOk (value_of at header user) }
     ensures gives { ReadsAs (λ r. (r.0.now, r.1.now)) result (header_at at octets.now) }
     ensures lengths { IfOk result (λ r. length r.0.now + length r.1.now + 1 ≡ length octets.now) }
     ensures least { IfOk result (λ r. 1 ≤ length r.0.now) }
@@ -63,7 +67,7 @@ pub(crate) fn read_front(at: usize, octets: &[u8]) -> Result<(&[u8], &[u8], usiz
     ensures most { IfOk result (λ r. r.2 ≤ length octets.now) }
 {
     let (header, behind) = read_header(at, octets)?;
-    let used = if is_lead_code(header[0]) {
+    let used = if known_to_lead(at, header, behind) {
         1 + header.len()
     } else {
         octets.len()
@@ -252,16 +256,14 @@ pub(crate) fn known_fields<'a>(at: usize, header: &'a [u8], user: &'a [u8]) -> T
         0xE => known(read_request(at, header, user)),
         0xD => known(read_confirm(at, header, user)),
         0x6 => known(read_acknowledge(at, header)),
-        _ => match code {
-            0x80 => known(read_disconnect(at, header, user)),
-            0xC0 => known(read_disconnected(at, header)),
-            0xF0 if header.len() == 2 => Tpdu::Dt0(DataClass0 {
-                end: header[1] >= 0x80,
-                user,
-            }),
-            0xF0 => known(read_transfer(at, header, user)),
-            _ => known(read_error(at, header)),
-        },
+        0x8 => known(read_disconnect(at, header, user)),
+        0xC => known(read_disconnected(at, header)),
+        0xF if header.len() == 2 => Tpdu::Dt0(DataClass0 {
+            end: header[1] >= 0x80,
+            user,
+        }),
+        0xF => known(read_transfer(at, header, user)),
+        _ => known(read_error(at, header)),
     }
 }
 

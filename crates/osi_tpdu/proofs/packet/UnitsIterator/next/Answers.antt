@@ -1,11 +1,17 @@
 use Rattle.std.proofs.Common.{◌≡◌, ◌≤◌, [], length, refl, ap, arith, rules}
 use Rattle.std.proofs.lemmas.List.{nil_from_length}
-use Rattle.osi_tpdu.proofs.which_units_another_may_follow.{first_read, first_stands, no_bad_header}
+use Rattle.osi_tpdu.proofs.which_units_another_may_follow.{first_known, first_read, first_stands, no_bad_header}
 use Rattle.osi_tpdu.proofs.the_units_of_a_packet.{first_left, nothing_left, read_fits}
 use Rattle.osi_tpdu.proofs.packet.UnitsIterator.next.Goals as goal
 
 pub returns-then-is_empty-clause-steps : goal.returns-then-is_empty-clause-steps
 returns-then-is_empty-clause-steps c = grind (arith, nil_from_length, nothing_left)
+
+pub read_front-requires : goal.read_front-requires
+read_front-requires c header user e =
+    let s = c.args.self.now in
+    let some : 1 ≤ length s.rest.now = search rules in
+    first_known s.at s.rest.now (header, user) some s.readable e
 
 pub unreachable-requires : goal.unreachable-requires
 unreachable-requires c = grind (arith, no_bad_header)
