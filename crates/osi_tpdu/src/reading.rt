@@ -244,7 +244,7 @@ fn known(read: Result<Tpdu<'_>, TpduFault>) -> Tpdu<'_>
 /// The same if a unit with this header is known to be there. Each kind is built on its own, without a `Result` in
 /// between, so that a caller's `match` on the unit needs no copy of it.
 #[inline(always)]
-#[tactic(auto, unfolding(crate::specs::Reading::value_of, crate::specs::Reading::transfer_of))]
+#[tactic(auto, unfolding(crate::specs::Reading::value_of, crate::specs::Reading::transfer_of, crate::specs::Reading::acknowledge_of, crate::specs::Reading::disconnected_of))]
 pub(crate) fn known_fields<'a>(at: usize, header: &'a [u8], user: &'a [u8]) -> Tpdu<'a>
     requires least { 1 ≤ length header.now }
     requires room { at + length header.now + 1 < 2 ^ 64 }
@@ -255,14 +255,24 @@ pub(crate) fn known_fields<'a>(at: usize, header: &'a [u8], user: &'a [u8]) -> T
     match high_half(code) {
         0xE => known(read_request(at, header, user)),
         0xD => known(read_confirm(at, header, user)),
-        0x6 => known(read_acknowledge(at, header)),
+        0x6 => Tpdu::Ak(DataAcknowledgement::from_header(
+            header[0], header[1], header[2], header[3],
+        )),
         0x8 => known(read_disconnect(at, header, user)),
-        0xC => known(read_disconnected(at, header)),
+        0xC => Tpdu::Dc(DisconnectConfirm {
+            destination: reference(1, header),
+            source: reference(3, header),
+        }),
         0xF if header.len() == 2 => Tpdu::Dt0(DataClass0 {
             end: header[1] >= 0x80,
             user,
         }),
-        0xF => known(read_transfer(at, header, user)),
+        0xF => Tpdu::Dt2(DataClass2 {
+            destination: reference(1, header),
+            number: number(header[3]),
+            end: header[3] >= 0x80,
+            user,
+        }),
         _ => known(read_error(at, header)),
     }
 }
