@@ -93,3 +93,11 @@ first_stands at b x some can header = read_by at b x (value_of at x.0 x.1) some 
 pub first_known : (at : ℕ) (b : List ℕ) (x : List ℕ × List ℕ) → 1 ≤ length b → can_be_read at b ≡ true → header_at at b ≡ Ok x →
     IsOk (value_of at x.0 x.1)
 first_known at b x some can header = rw (first_stands at b x some can header).1 refl
+
+header_stands : (at : ℕ) (b : List ℕ) (r : Result (List ℕ × List ℕ) TpduFault) → 1 ≤ length b → can_be_read at b ≡ true → header_at at b ≡ r
+    → IsOk (header_at at b)
+header_stands at b (Ok x) some can read = rw read refl
+header_stands at b (Err f) some can read = absurd (no_bad_header at b f some can read)
+
+pub header_known : (at : ℕ) (b : List ℕ) → 1 ≤ length b → can_be_read at b ≡ true → IsOk (header_at at b)
+header_known at b some can = header_stands at b (header_at at b) some can refl

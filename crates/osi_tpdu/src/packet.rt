@@ -3,7 +3,7 @@
 ghost use Rattle.std.specs.Prelude.{◌≡◌, ◌+◌, ◌<◌, ◌^◌, true, length};
 ghost use Rattle.osi_tpdu.specs.Rest.{can_be_read};
 
-use crate::reading::{known_fields, read_front};
+use crate::reading::{known_fields, known_front};
 use crate::unit::Tpdu;
 use std::iter::FusedIterator;
 
@@ -37,9 +37,7 @@ impl<'a> Iterator for Units<'a> {
             return None;
         }
         let (place, octets) = (self.at, self.rest);
-        let Ok((header, behind, used)) = read_front(place, octets) else {
-            unreachable!()
-        };
+        let (header, behind, used) = known_front(place, octets);
         let (_, rest) = octets.split_at(used);
         let at = place + used;
         *self = Units { at, rest };

@@ -54,25 +54,40 @@ fn known_to_lead(_at: usize, header: &[u8], _user: &[u8]) -> bool
     matches!(high_half(header[0]), 0x6 | 0x7 | 0xC)
 }
 
-/// The header of the first unit of the octets, the octets after the header, and how many octets the unit takes, if a
-/// unit with this header can be read.
+// The header of the unit at the front, where one is known to be there, and the octets after it.
 #[inline(always)]
-pub(crate) fn read_front(at: usize, octets: &[u8]) -> Result<(&[u8], &[u8], usize), TpduFault>
-    requires { (header user : List ℕ) → header_at at octets.now ≡ Ok (header, user) → IsOk (value_of at header user) }
-    ensures gives { ReadsAs (λ r. (r.0.now, r.1.now)) result (header_at at octets.now) }
-    ensures lengths { IfOk result (λ r. length r.0.now + length r.1.now + 1 ≡ length octets.now) }
-    ensures least { IfOk result (λ r. 1 ≤ length r.0.now) }
-    ensures octets { IsOctets octets.now }
-    ensures used { IfOk result (λ r. r.2 ≡ used_by r.0.now (length octets.now)) }
-    ensures most { IfOk result (λ r. r.2 ≤ length octets.now) }
+#[tactic(auto, unfolding(crate::specs::Reading::header_at))]
+fn known_header(_at: usize, octets: &[u8]) -> (&[u8], &[u8])
+    requires { IsOk (header_at _at octets.now) }
+    ensures gives { header_at _at octets.now ≡ Ok (result.0.now, result.1.now) }
+    ensures lengths { length result.0.now + length result.1.now + 1 ≡ length octets.now }
+    ensures least { 1 ≤ length result.0.now }
 {
-    let (header, behind) = read_header(at, octets)?;
+    let li = octets[0] as usize;
+    let (_, counted) = octets.split_at(1);
+    counted.split_at(li)
+}
+
+/// The header of the first unit of the octets, the octets after the header, and how many octets the unit takes, where a
+/// unit is known to be there: nothing is tested again.
+#[inline(always)]
+pub(crate) fn known_front(at: usize, octets: &[u8]) -> (&[u8], &[u8], usize)
+    requires header { IsOk (header_at at octets.now) }
+    requires fields { (header user : List ℕ) → header_at at octets.now ≡ Ok (header, user) → IsOk (value_of at header user) }
+    ensures gives { header_at at octets.now ≡ Ok (result.0.now, result.1.now) }
+    ensures lengths { length result.0.now + length result.1.now + 1 ≡ length octets.now }
+    ensures least { 1 ≤ length result.0.now }
+    ensures octets { IsOctets octets.now }
+    ensures used { result.2 ≡ used_by result.0.now (length octets.now) }
+    ensures most { result.2 ≤ length octets.now }
+{
+    let (header, behind) = known_header(at, octets);
     let used = if known_to_lead(at, header, behind) {
         1 + header.len()
     } else {
         octets.len()
     };
-    Ok((header, behind, used))
+    (header, behind, used)
 }
 
 // The fields that a CR and a CC share. It is inlined, as `read_fields` is.
