@@ -1,11 +1,13 @@
 //! The carrier: its calls, and what it reports.
 
+ghost use Rattle.std.specs.Prelude.{◌≡◌, ◌++◌, length, nat_lt};
+
 use crate::ends::EndReason;
 use crate::events::{Event, Ref};
 use crate::faults::{OpenError, SendError};
 use crate::selectors::Tsaps;
 use crate::switch::Switch;
-use osi_class::Local;
+use osi_class::{LONGEST_TSDU, Local};
 use osi_tpdu::Tsap;
 use osi_tpkt::{Cutter, Fed};
 use std::alloc::Global;
@@ -23,6 +25,17 @@ pub struct Carrier {
     alloc: Global,
     switch: Switch,
     cutter: Cutter,
+}
+
+/// Whether two pieces have more octets together than a TSDU may.
+#[inline(always)]
+fn is_too_long(head: &[u8], body: &[u8]) -> bool
+    ensures { result ≡ nat_lt 1048576 (length (head.now ++ body.now)) }
+{
+    if head.len() > LONGEST_TSDU {
+        return true;
+    }
+    body.len() > LONGEST_TSDU - head.len()
 }
 
 impl Model for Carrier {
@@ -98,7 +111,7 @@ impl Carrier {
         ensures refused { IfErr result (λ e. call_error e ≡ send_error tsdu.now (open_link reference.0 self.old.state)) }
         ensures err { OnErr result (self.new ≡ self.old) }
     {
-        self.switch.send_headed(reference.0, &[], tsdu)
+        self.send_headed(reference, &[], tsdu)
     }
 
     /// Sends a TSDU as [`Carrier::send`] does, and takes over the buffer with its octets: octets that may not be sent
@@ -118,13 +131,35 @@ impl Carrier {
     /// as a header and what follows it. What may be sent now is written straight from the pieces; if not all of it
     /// may, the rest is kept.
     #[inline(always)]
+    #[tactic(auto, using(crate::proofs::written::tsdus_that_are_sent_together::open_here))]
     pub fn send_headed(&mut self, reference: Ref, head: &[u8], body: &[u8]) -> Result<(), SendError>
         ensures ok { OnOk result (self.new ≡ record self.old { state = sent reference.0 (head.now ++ body.now) self.old.state }) }
         ensures allowed { OnOk result (send_error (head.now ++ body.now) (open_link reference.0 self.old.state) ≡ None) }
         ensures refused { IfErr result (λ e. call_error e ≡ send_error (head.now ++ body.now) (open_link reference.0 self.old.state)) }
         ensures err { OnErr result (self.new ≡ self.old) }
     {
-        self.switch.send_headed(reference.0, head, body)
+        if self.switch.ended.is_some() {
+            return Err(SendError::NotOpen);
+        }
+        let Some((place, peer)) = self.switch.live.open_at(reference.0) else {
+            return Err(SendError::NotOpen);
+        };
+        if is_too_long(head, body) {
+            return Err(SendError::TooLong);
+        }
+        let Ok(()) = self.switch.live.hand_in_headed(
+            self.alloc,
+            place,
+            reference.0,
+            peer,
+            head,
+            body,
+            &mut self.switch.outgoing,
+        )
+        else {
+            return Err(SendError::OutOfMemory);
+        };
+        Ok(())
     }
 
     /// Sends TSDUs of at most 1,048,576 octets each together on an open connection, all or none, in order, as

@@ -107,64 +107,6 @@ impl Row {
         }
     }
 
-    /// Hands a unit to the link of the connection, which is open with this reference of the peer.
-    #[inline(always)]
-    fn step(&mut self, peer: u16, unit: &Tpdu<'_>, out: &mut BytesMut) -> Result<Step, AllocError>
-        requires { peer_in (Some self.old.1) ≡ Some peer }
-        ensures reference { self.new.0 ≡ self.old.0 }
-        ensures step { IfOk result (λ s. StepsTo s (taken (link_in (Some self.old.1)) (value unit.now))) }
-        ensures row { OnOk result (self.new ≡ (self.old.0, linked peer (link_after (link_in (Some self.old.1)) (taken (link_in (Some self.old.1)) (value unit.now))))) }
-        ensures ok { OnOk result (out.new.items ≡ out.old.items ++ packets (units_after peer (taken (link_in (Some self.old.1)) (value unit.now)))) }
-        ensures err { OnErr result (out.new.items ≡ out.old.items) }
-        ensures needs { OnErr result (link_grows peer (link_in (Some self.old.1)) (taken (link_in (Some self.old.1)) (value unit.now)) ≡ true) }
-    {
-        let Phase::Linked(_, link) = &mut self.phase else {
-            unreachable!()
-        };
-        match link.take(unit) {
-            Ok(()) => {}
-            Err(LinkFault::OutOfMemory) => {
-                give_up(&mut self.phase, peer);
-                return Err(AllocError);
-            }
-            Err(fault) => return Ok(Step::Broke(fault)),
-        }
-        let whole = link.next_tsdu();
-        let Ok(()) = pump(link, peer, out) else {
-            give_up(&mut self.phase, peer);
-            return Err(AllocError);
-        };
-        Ok(Step::Took(whole))
-    }
-
-    /// Hands in a TSDU, given as its first octets and the others, at the link of the connection, which is open with
-    /// this reference of the peer, and writes what the link then gives: if all of it may be sent now, straight from
-    /// these octets. An allocation failure changes nothing.
-    #[inline(always)]
-    fn send_headed(
-        &mut self,
-        alloc: Global,
-        peer: u16,
-        head: &[u8],
-        body: &[u8],
-        out: &mut BytesMut,
-    ) -> Result<(), AllocError>
-        requires open { peer_in (Some self.old.1) ≡ Some peer }
-        requires long { length head.now + length body.now ≤ 1048576 }
-        ensures reference { self.new.0 ≡ self.old.0 }
-        ensures row { OnOk result (self.new ≡ (self.old.0, linked peer (pumped (with_tsdu (link_in (Some self.old.1)) (head.now ++ body.now))))) }
-        ensures ok { OnOk result (out.new.items ≡ out.old.items ++ packets (written_by peer (with_tsdu (link_in (Some self.old.1)) (head.now ++ body.now)))) }
-        ensures err { OnErr result ((self.new ≡ self.old) × (out.new.items ≡ out.old.items)) }
-    {
-        let Phase::Linked(_, link) = &mut self.phase else {
-            unreachable!()
-        };
-        if send_whole(link, peer, head, body, out) {
-            return Ok(());
-        }
-        send_headed_parts(alloc, link, peer, head, body, out)
-    }
-
     /// Hands in TSDUs together at the link of the connection, which is open with this reference of the peer, and
     /// writes what the link then gives. An allocation failure changes nothing; owned TSDUs that only wait need no
     /// memory.
@@ -285,7 +227,7 @@ impl Connections {
         ensures open { IfSome result (λ o. (place_of reference self.now ≡ Some o.0) × (peer_in (value_at reference self.now) ≡ Some o.1)) }
         ensures none { result ≡ None → link_of (value_at reference self.now) ≡ None }
     {
-        let Some(place) = self.find(reference) else {
+        let Some(place) = place_in(self.rows.as_slice(), self.rises, reference) else {
             return None;
         };
         match self.phase(place, reference) {
@@ -397,7 +339,21 @@ impl Connections {
         ensures err { OnErr result (out.new.items ≡ out.old.items) }
         ensures needs { OnErr result (link_grows peer (link_in (value_at reference self.old)) (taken (link_in (value_at reference self.old)) (value unit.now)) ≡ true) }
     {
-        self.rows[place].step(peer, unit, out)
+        let row = &mut self.rows[place];
+        let Phase::Linked(_, link) = &mut row.phase else {
+            unreachable!()
+        };
+        match link.take(unit) {
+            Ok(()) => {}
+            Err(LinkFault::OutOfMemory) => return Err(AllocError),
+            Err(fault) => return Ok(Step::Broke(fault)),
+        }
+        let whole = link.next_tsdu();
+        let Ok(()) = pump(link, peer, out) else {
+            give_up(&mut row.phase, peer);
+            return Err(AllocError);
+        };
+        Ok(Step::Took(whole))
     }
 
     /// Hands in a TSDU at the link of the connection at this place, which is open with this reference of the peer, and
@@ -432,7 +388,7 @@ impl Connections {
     /// is open with this reference of the peer, and writes what the link then gives. An allocation failure changes
     /// nothing.
     #[inline(always)]
-    pub fn send_headed(
+    pub fn hand_in_headed(
         &mut self,
         alloc: Global,
         place: usize,
@@ -449,7 +405,13 @@ impl Connections {
         ensures ok { OnOk result (out.new.items ≡ out.old.items ++ packets (written_by peer (with_tsdu (link_in (value_at reference self.old)) (head.now ++ body.now)))) }
         ensures err { OnErr result ((self.new ≡ self.old) × (out.new.items ≡ out.old.items)) }
     {
-        self.rows[place].send_headed(alloc, peer, head, body, out)
+        let Phase::Linked(_, link) = &mut self.rows[place].phase else {
+            unreachable!()
+        };
+        if send_whole(link, peer, head, body, out) {
+            return Ok(());
+        }
+        send_headed_parts(alloc, link, peer, head, body, out)
     }
 
     /// Hands in TSDUs together at the link of the connection at this place, which is open with this reference of the
