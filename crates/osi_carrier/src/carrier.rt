@@ -1,13 +1,11 @@
 //! The carrier: its calls, and what it reports.
 
-ghost use Rattle.std.specs.Prelude.{◌≡◌, ◌++◌, length, nat_lt};
-
 use crate::ends::EndReason;
 use crate::events::{Event, Ref};
 use crate::faults::{OpenError, SendError};
 use crate::selectors::Tsaps;
 use crate::switch::Switch;
-use osi_class::{LONGEST_TSDU, Local};
+use osi_class::Local;
 use osi_tpdu::Tsap;
 use osi_tpkt::{Cutter, Fed};
 use std::alloc::Global;
@@ -25,17 +23,6 @@ pub struct Carrier {
     alloc: Global,
     switch: Switch,
     cutter: Cutter,
-}
-
-/// Whether two pieces have more octets together than a TSDU may.
-#[inline(always)]
-fn is_too_long(head: &[u8], body: &[u8]) -> bool
-    ensures { result ≡ nat_lt 1048576 (length (head.now ++ body.now)) }
-{
-    if head.len() > LONGEST_TSDU {
-        return true;
-    }
-    body.len() > LONGEST_TSDU - head.len()
 }
 
 impl Model for Carrier {
@@ -141,25 +128,16 @@ impl Carrier {
         if self.switch.ended.is_some() {
             return Err(SendError::NotOpen);
         }
-        let Some((place, peer)) = self.switch.live.open_at(reference.0) else {
-            return Err(SendError::NotOpen);
-        };
-        if is_too_long(head, body) {
-            return Err(SendError::TooLong);
-        }
-        let Ok(()) = self.switch.live.hand_in_headed(
+        match self.switch.live.hand_in_headed(
             self.alloc,
-            place,
             reference.0,
-            peer,
             head,
             body,
             &mut self.switch.outgoing,
-        )
-        else {
-            return Err(SendError::OutOfMemory);
-        };
-        Ok(())
+        ) {
+            Ok(_) => Ok(()),
+            Err(error) => Err(error),
+        }
     }
 
     /// Sends TSDUs of at most 1,048,576 octets each together on an open connection, all or none, in order, as

@@ -1,8 +1,8 @@
 //! The live connections, in the order of their references.
 
-ghost use Rattle.std.specs.Prelude.{◌≡◌, ◌+◌, ◌*◌, ◌^◌, ◌-◌, ◌<◌, ◌≤◌, ◌∷◌, ◌++◌, ◌==◌, [], None, Some, true, length, map, min, is_some, IsOk, IfOk, IfSome, OnOk, OnErr};
+ghost use Rattle.std.specs.Prelude.{◌≡◌, ◌+◌, ◌*◌, ◌^◌, ◌-◌, ◌<◌, ◌≤◌, ◌∷◌, ◌++◌, ◌==◌, [], None, Some, true, length, map, min, nat_lt, is_some, IsOk, IfOk, IfErr, IfSome, OnOk, OnErr};
 ghost use Rattle.std.specs.Cow.{cow_slice_items, IsOwnedSlice};
-ghost use Rattle.osi_carrier.specs.Calls.{backlog_of, begun_by, kept_in, link_of, unsent_at, unsent_by, WaitsAlone, WaitTogether};
+ghost use Rattle.osi_carrier.specs.Calls.{backlog_of, begun_by, call_error, kept_in, length_error, link_of, send_error, unsent_at, unsent_by, WaitsAlone, WaitTogether};
 ghost use Rattle.osi_carrier.specs.Live.{connection, IsPumped};
 ghost use Rattle.osi_carrier.specs.Opened.{link_in, peer_in};
 ghost use Rattle.osi_carrier.specs.Orderly.{RiseFrom};
@@ -15,10 +15,11 @@ ghost use Rattle.osi_class.specs.Giving.{one_by_one};
 ghost use Rattle.osi_class.specs.Link.{taken, with_tsdu};
 ghost use Rattle.osi_tpdu.specs.View.{value};
 
+use crate::faults::SendError;
 use crate::links::{Step, pump, send_all_on, send_headed_parts, send_parts, send_whole};
 use crate::lookup::{Referred, is_above, place_in};
 use bytes::BytesMut;
-use osi_class::{AnyLink, Link, LinkFault};
+use osi_class::{AnyLink, LONGEST_TSDU, Link, LinkFault};
 use osi_tpdu::Tpdu;
 use std::alloc::{AllocError, Global};
 use std::borrow::CowSlice;
@@ -191,6 +192,17 @@ fn backlog_of(rows: &[Row]) -> usize
         octets = octets.saturating_add(row.unsent());
     }
     octets
+}
+
+/// Whether two pieces have more octets together than a TSDU may.
+#[inline(always)]
+fn is_too_long(head: &[u8], body: &[u8]) -> bool
+    ensures { result ≡ nat_lt 1048576 (length (head.now ++ body.now)) }
+{
+    if head.len() > LONGEST_TSDU {
+        return true;
+    }
+    body.len() > LONGEST_TSDU - head.len()
 }
 
 impl Connections {
@@ -384,34 +396,41 @@ impl Connections {
         send_parts(alloc, link, peer, tsdu, out)
     }
 
-    /// Hands in a TSDU, given as its first octets and the others, at the link of the connection at this place, which
-    /// is open with this reference of the peer, and writes what the link then gives. An allocation failure changes
-    /// nothing.
+    /// Hands in a TSDU, given as its first octets and the others, at the link of the open connection with this
+    /// reference, and writes what the link then gives. Returns the peer's reference. An error changes nothing.
     #[inline(always)]
     pub fn hand_in_headed(
         &mut self,
         alloc: Global,
-        place: usize,
         reference: u16,
-        peer: u16,
         head: &[u8],
         body: &[u8],
         out: &mut BytesMut,
-    ) -> Result<(), AllocError>
-        requires place { place_of reference self.old ≡ Some place }
-        requires open { peer_in (value_at reference self.old) ≡ Some peer }
-        requires long { length head.now + length body.now ≤ 1048576 }
-        ensures rows { OnOk result (self.new ≡ put reference (linked peer (pumped (with_tsdu (link_in (value_at reference self.old)) (head.now ++ body.now)))) self.old) }
-        ensures ok { OnOk result (out.new.items ≡ out.old.items ++ packets (written_by peer (with_tsdu (link_in (value_at reference self.old)) (head.now ++ body.now)))) }
+    ) -> Result<u16, SendError>
+        ensures open { IfOk result (λ peer. peer_in (value_at reference self.old) ≡ Some peer) }
+        ensures rows { IfOk result (λ peer. self.new ≡ put reference (linked peer (pumped (with_tsdu (link_in (value_at reference self.old)) (head.now ++ body.now)))) self.old) }
+        ensures ok { IfOk result (λ peer. out.new.items ≡ out.old.items ++ packets (written_by peer (with_tsdu (link_in (value_at reference self.old)) (head.now ++ body.now)))) }
+        ensures fits { OnOk result (length_error (head.now ++ body.now) ≡ None) }
+        ensures refused { IfErr result (λ e. call_error e ≡ send_error (head.now ++ body.now) (link_of (value_at reference self.old))) }
         ensures err { OnErr result ((self.new ≡ self.old) × (out.new.items ≡ out.old.items)) }
     {
-        let Phase::Linked(_, link) = &mut self.rows[place].phase else {
-            unreachable!()
+        let Some(place) = place_in(self.rows.as_slice(), self.rises, reference) else {
+            return Err(SendError::NotOpen);
         };
-        if send_whole(link, peer, head, body, out) {
-            return Ok(());
+        let Phase::Linked(peer, link) = &mut self.rows[place].phase else {
+            return Err(SendError::NotOpen);
+        };
+        let peer = *peer;
+        if is_too_long(head, body) {
+            return Err(SendError::TooLong);
         }
-        send_headed_parts(alloc, link, peer, head, body, out)
+        if send_whole(link, peer, head, body, out) {
+            return Ok(peer);
+        }
+        let Ok(()) = send_headed_parts(alloc, link, peer, head, body, out) else {
+            return Err(SendError::OutOfMemory);
+        };
+        Ok(peer)
     }
 
     /// Hands in TSDUs together at the link of the connection at this place, which is open with this reference of the
