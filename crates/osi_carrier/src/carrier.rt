@@ -205,7 +205,7 @@ impl Carrier {
         }
         let mut rest = piece;
         'packets: loop {
-            let used = match self.fetch(rest) {
+            let used = match self.read_packet(rest) {
                 Fetched::Over | Fetched::Part => return self.fed(piece.len()),
                 Fetched::Packet(used) => used,
             };

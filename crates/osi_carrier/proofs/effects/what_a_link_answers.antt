@@ -1,6 +1,7 @@
 -- What a unit does to its link, from the answers of the link: it was refused and nothing has changed, or it was taken, a
 -- complete TSDU was handed out, and what the link then gave was written. For the call that hands a unit to its link.
-use Rattle.std.proofs.Common.{◌≡◌, ℕ, Bool, List, take, Option, Some, None, Result, Ok, Err, IsOk, option_to_list, refl, sym, ap, subst, ◌∙◌}
+use Rattle.std.proofs.Common.{◌≡◌, ℕ, Bool, List, take, Option, Some, None, Result, Ok, Err, IsOk, option_to_list}
+use Rattle.std.proofs.Common.{refl, sym, ap, subst, ◌∙◌}
 use Rattle.osi_class.specs.Taking.{TakesUnit}
 use Rattle.osi_class.specs.declared.faults.LinkFault.TheVariants.{WrongForm, OutOfSequence, CreditReduced, TsduTooLong, OutOfMemory}
 use Rattle.osi_carrier.proofs.Vocabulary.{Standing, Hands, LinkFault, pumped, written_by, link_after, units_after, whole_after}

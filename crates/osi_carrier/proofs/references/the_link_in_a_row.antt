@@ -6,13 +6,14 @@ use Rattle.osi_class.specs.declared.either.AnyLink.{AnyLink}
 use Rattle.osi_carrier.specs.Calls.{length_error}
 use Rattle.osi_carrier.specs.declared.faults.SendError.TheVariants.{TooLong}
 use Rattle.osi_carrier.specs.declared.rows.Phase.TheVariants.{Linked}
-use Rattle.osi_carrier.proofs.Vocabulary.{any_standing, Standing, connection, Rows, value_at, place_of, peer_in, link_in, Connection, linked}
-use Rattle.osi_carrier.proofs.Vocabulary.{Phase, RiseFrom, link_of}
+use Rattle.osi_carrier.proofs.Vocabulary.{any_standing, Standing, connection, Rows, value_at, place_of, peer_in, link_in, linked}
+use Rattle.osi_carrier.proofs.Vocabulary.{Connection, Phase, RiseFrom, link_of}
 use Rattle.osi_carrier.proofs.references.rows_in_order.{AreKept}
 use Rattle.osi_carrier.proofs.references.the_row_at_a_place.{here_is}
 
 -- the phase of an open connection
-pub linked_phase : (p : Phase) (peer : ℕ) → peer_in (Some (connection p)) ≡ Some peer → ((q : ℕ) (link : AnyLink) → p ≡ Linked q link → ⊥) → ⊥
+pub linked_phase : (p : Phase) (peer : ℕ) → peer_in (Some (connection p)) ≡ Some peer →
+    ((q : ℕ) (link : AnyLink) → p ≡ Linked q link → ⊥) → ⊥
 linked_phase (Linked q link) peer e other = other q link refl
 linked_phase phase peer e other = cc
 

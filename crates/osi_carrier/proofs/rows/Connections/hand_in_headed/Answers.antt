@@ -1,4 +1,4 @@
-use Rattle.std.proofs.Common.{◌≡◌, ℕ, List, ◌++◌, Some, refl, ap, sym, ◌∙◌}
+use Rattle.std.proofs.Common.{ℕ, List, ◌++◌, Some, refl, ap, sym, ◌∙◌}
 use Rattle.osi_carrier.proofs.Vocabulary.{any_standing, Standing, with_tsdu, link_of, send_error, pumped, written_by, value_at, peer_in}
 use Rattle.osi_carrier.proofs.Vocabulary.{connection, link_in, Connection, linked, packets}
 use Rattle.osi_carrier.proofs.references.rows_in_order.{set_kept}
@@ -75,12 +75,14 @@ returns-then-send_whole-clause-rows c =
     c.peer.view_is c.in-Linked.is in
     put_row c.args.reference c.args.self.now c.self.inside.rows.items c.in-Some.place c.index_mut.result.now
     (c.peer.inside.reference, linked c.in-Linked.peer (any_standing c.send_whole.new.link))
-    (linked c.in-Linked.peer (pumped (with_tsdu (link_in (value_at c.args.reference c.args.self.now)) (c.args.head.now ++ c.args.body.now))))
+    (linked c.in-Linked.peer
+    (pumped (with_tsdu (link_in (value_at c.args.reference c.args.self.now)) (c.args.head.now ++ c.args.body.now))))
     at c.index_mut.ensures.value c.self.view_is
     (row_linked c.peer.inside.reference c.index_mut.result.now.0 c.in-Linked.peer c.in-Linked.peer (any_standing c.send_whole.new.link)
     (pumped (with_tsdu (link_in (value_at c.args.reference c.args.self.now)) (c.args.head.now ++ c.args.body.now)))
     (ap (λ (x : ℕ × Connection). x.0) c.peer.view_is) refl
-    (c.send_whole.ensures.link c.if-send_whole.true ∙ ap (λ (s : Standing). pumped (with_tsdu s (c.args.head.now ++ c.args.body.now))) (sym (ap link_in row))))
+    (c.send_whole.ensures.link c.if-send_whole.true ∙
+    ap (λ (s : Standing). pumped (with_tsdu s (c.args.head.now ++ c.args.body.now))) (sym (ap link_in row))))
 
 pub returns-then-send_whole-clause-ok : goal.returns-then-send_whole-clause-ok
 returns-then-send_whole-clause-ok c =
@@ -115,12 +117,15 @@ returns-clause-rows c =
     let none = c.send_whole.ensures.none c.if-send_whole.false in
     put_row c.args.reference c.args.self.now c.self.inside.rows.items c.in-Some.place c.index_mut.result.now
     (c.peer.inside.reference, linked c.in-Linked.peer (any_standing c.send_headed_parts.new.link))
-    (linked c.in-Linked.peer (pumped (with_tsdu (link_in (value_at c.args.reference c.args.self.now)) (c.args.head.now ++ c.args.body.now))))
+    (linked c.in-Linked.peer
+    (pumped (with_tsdu (link_in (value_at c.args.reference c.args.self.now)) (c.args.head.now ++ c.args.body.now))))
     at c.index_mut.ensures.value c.self.view_is
-    (row_linked c.peer.inside.reference c.index_mut.result.now.0 c.in-Linked.peer c.in-Linked.peer (any_standing c.send_headed_parts.new.link)
+    (row_linked c.peer.inside.reference c.index_mut.result.now.0 c.in-Linked.peer c.in-Linked.peer
+    (any_standing c.send_headed_parts.new.link)
     (pumped (with_tsdu (link_in (value_at c.args.reference c.args.self.now)) (c.args.head.now ++ c.args.body.now)))
     (ap (λ (x : ℕ × Connection). x.0) c.peer.view_is) refl
-    (c.in-Ok.ensures.link ∙ ap (λ (s : Standing). pumped (with_tsdu s (c.args.head.now ++ c.args.body.now))) (none.0 ∙ sym (ap link_in row))))
+    (c.in-Ok.ensures.link ∙
+    ap (λ (s : Standing). pumped (with_tsdu s (c.args.head.now ++ c.args.body.now))) (none.0 ∙ sym (ap link_in row))))
 
 pub returns-clause-ok : goal.returns-clause-ok
 returns-clause-ok c =
@@ -131,5 +136,6 @@ returns-clause-ok c =
     let none = c.send_whole.ensures.none c.if-send_whole.false in
     c.in-Ok.ensures.ok ∙ ap (λ (o : List ℕ). o ++
     packets (written_by c.in-Linked.peer (with_tsdu (any_standing c.send_whole.new.link) (c.args.head.now ++ c.args.body.now)))) none.1
-    ∙ ap (λ (s : Standing). c.args.out.now.items ++ packets (written_by c.in-Linked.peer (with_tsdu s (c.args.head.now ++ c.args.body.now))))
+    ∙ ap (λ (s : Standing). c.args.out.now.items ++
+    packets (written_by c.in-Linked.peer (with_tsdu s (c.args.head.now ++ c.args.body.now))))
     (none.0 ∙ sym (ap link_in row))
