@@ -98,7 +98,7 @@ impl Carrier {
         ensures refused { IfErr result (λ e. call_error e ≡ send_error tsdu.now (open_link reference.0 self.old.state)) }
         ensures err { OnErr result (self.new ≡ self.old) }
     {
-        self.switch.send_headed(reference.0, &[], tsdu)
+        self.send_headed(reference, &[], tsdu)
     }
 
     /// Sends a TSDU as [`Carrier::send`] does, and takes over the buffer with its octets: octets that may not be sent
@@ -118,13 +118,26 @@ impl Carrier {
     /// as a header and what follows it. What may be sent now is written straight from the pieces; if not all of it
     /// may, the rest is kept.
     #[inline(always)]
+    #[tactic(auto, using(crate::proofs::written::tsdus_that_are_sent_together::open_here))]
     pub fn send_headed(&mut self, reference: Ref, head: &[u8], body: &[u8]) -> Result<(), SendError>
         ensures ok { OnOk result (self.new ≡ record self.old { state = sent reference.0 (head.now ++ body.now) self.old.state }) }
         ensures allowed { OnOk result (send_error (head.now ++ body.now) (open_link reference.0 self.old.state) ≡ None) }
         ensures refused { IfErr result (λ e. call_error e ≡ send_error (head.now ++ body.now) (open_link reference.0 self.old.state)) }
         ensures err { OnErr result (self.new ≡ self.old) }
     {
-        self.switch.send_headed(reference.0, head, body)
+        if self.switch.ended.is_some() {
+            return Err(SendError::NotOpen);
+        }
+        match self.switch.live.hand_in_headed(
+            self.alloc,
+            reference.0,
+            head,
+            body,
+            &mut self.switch.outgoing,
+        ) {
+            Ok(_) => Ok(()),
+            Err(error) => Err(error),
+        }
     }
 
     /// Sends TSDUs of at most 1,048,576 octets each together on an open connection, all or none, in order, as
@@ -192,7 +205,7 @@ impl Carrier {
         }
         let mut rest = piece;
         'packets: loop {
-            let used = match self.fetch(rest) {
+            let used = match self.read_packet(rest) {
                 Fetched::Over | Fetched::Part => return self.fed(piece.len()),
                 Fetched::Packet(used) => used,
             };

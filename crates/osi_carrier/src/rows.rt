@@ -1,8 +1,8 @@
 //! The live connections, in the order of their references.
 
-ghost use Rattle.std.specs.Prelude.{◌≡◌, ◌+◌, ◌*◌, ◌^◌, ◌-◌, ◌<◌, ◌≤◌, ◌∷◌, ◌++◌, ◌==◌, [], None, Some, true, length, map, min, is_some, IsOk, IfOk, IfSome, OnOk, OnErr};
+ghost use Rattle.std.specs.Prelude.{◌≡◌, ◌+◌, ◌*◌, ◌^◌, ◌-◌, ◌<◌, ◌≤◌, ◌∷◌, ◌++◌, ◌==◌, [], None, Some, true, length, map, min, nat_lt, is_some, IsOk, IfOk, IfErr, IfSome, OnOk, OnErr};
 ghost use Rattle.std.specs.Cow.{cow_slice_items, IsOwnedSlice};
-ghost use Rattle.osi_carrier.specs.Calls.{backlog_of, begun_by, kept_in, link_of, unsent_at, unsent_by, WaitsAlone, WaitTogether};
+ghost use Rattle.osi_carrier.specs.Calls.{backlog_of, begun_by, call_error, kept_in, length_error, link_of, send_error, unsent_at, unsent_by, WaitsAlone, WaitTogether};
 ghost use Rattle.osi_carrier.specs.Live.{connection, IsPumped};
 ghost use Rattle.osi_carrier.specs.Opened.{link_in, peer_in};
 ghost use Rattle.osi_carrier.specs.Orderly.{RiseFrom};
@@ -15,10 +15,11 @@ ghost use Rattle.osi_class.specs.Giving.{one_by_one};
 ghost use Rattle.osi_class.specs.Link.{taken, with_tsdu};
 ghost use Rattle.osi_tpdu.specs.View.{value};
 
+use crate::faults::SendError;
 use crate::links::{Step, pump, send_all_on, send_headed_parts, send_parts, send_whole};
 use crate::lookup::{Referred, is_above, place_in};
 use bytes::BytesMut;
-use osi_class::{AnyLink, Link, LinkFault};
+use osi_class::{AnyLink, LONGEST_TSDU, Link, LinkFault};
 use osi_tpdu::Tpdu;
 use std::alloc::{AllocError, Global};
 use std::borrow::CowSlice;
@@ -107,64 +108,6 @@ impl Row {
         }
     }
 
-    /// Hands a unit to the link of the connection, which is open with this reference of the peer.
-    #[inline(always)]
-    fn step(&mut self, peer: u16, unit: &Tpdu<'_>, out: &mut BytesMut) -> Result<Step, AllocError>
-        requires { peer_in (Some self.old.1) ≡ Some peer }
-        ensures reference { self.new.0 ≡ self.old.0 }
-        ensures step { IfOk result (λ s. StepsTo s (taken (link_in (Some self.old.1)) (value unit.now))) }
-        ensures row { OnOk result (self.new ≡ (self.old.0, linked peer (link_after (link_in (Some self.old.1)) (taken (link_in (Some self.old.1)) (value unit.now))))) }
-        ensures ok { OnOk result (out.new.items ≡ out.old.items ++ packets (units_after peer (taken (link_in (Some self.old.1)) (value unit.now)))) }
-        ensures err { OnErr result (out.new.items ≡ out.old.items) }
-        ensures needs { OnErr result (link_grows peer (link_in (Some self.old.1)) (taken (link_in (Some self.old.1)) (value unit.now)) ≡ true) }
-    {
-        let Phase::Linked(_, link) = &mut self.phase else {
-            unreachable!()
-        };
-        match link.take(unit) {
-            Ok(()) => {}
-            Err(LinkFault::OutOfMemory) => {
-                give_up(&mut self.phase, peer);
-                return Err(AllocError);
-            }
-            Err(fault) => return Ok(Step::Broke(fault)),
-        }
-        let whole = link.next_tsdu();
-        let Ok(()) = pump(link, peer, out) else {
-            give_up(&mut self.phase, peer);
-            return Err(AllocError);
-        };
-        Ok(Step::Took(whole))
-    }
-
-    /// Hands in a TSDU, given as its first octets and the others, at the link of the connection, which is open with
-    /// this reference of the peer, and writes what the link then gives: if all of it may be sent now, straight from
-    /// these octets. An allocation failure changes nothing.
-    #[inline(always)]
-    fn send_headed(
-        &mut self,
-        alloc: Global,
-        peer: u16,
-        head: &[u8],
-        body: &[u8],
-        out: &mut BytesMut,
-    ) -> Result<(), AllocError>
-        requires open { peer_in (Some self.old.1) ≡ Some peer }
-        requires long { length head.now + length body.now ≤ 1048576 }
-        ensures reference { self.new.0 ≡ self.old.0 }
-        ensures row { OnOk result (self.new ≡ (self.old.0, linked peer (pumped (with_tsdu (link_in (Some self.old.1)) (head.now ++ body.now))))) }
-        ensures ok { OnOk result (out.new.items ≡ out.old.items ++ packets (written_by peer (with_tsdu (link_in (Some self.old.1)) (head.now ++ body.now)))) }
-        ensures err { OnErr result ((self.new ≡ self.old) × (out.new.items ≡ out.old.items)) }
-    {
-        let Phase::Linked(_, link) = &mut self.phase else {
-            unreachable!()
-        };
-        if send_whole(link, peer, head, body, out) {
-            return Ok(());
-        }
-        send_headed_parts(alloc, link, peer, head, body, out)
-    }
-
     /// Hands in TSDUs together at the link of the connection, which is open with this reference of the peer, and
     /// writes what the link then gives. An allocation failure changes nothing; owned TSDUs that only wait need no
     /// memory.
@@ -251,6 +194,17 @@ fn backlog_of(rows: &[Row]) -> usize
     octets
 }
 
+/// Whether two pieces have more octets together than a TSDU may.
+#[inline(always)]
+fn is_too_long(head: &[u8], body: &[u8]) -> bool
+    ensures { result ≡ nat_lt 1048576 (length (head.now ++ body.now)) }
+{
+    if head.len() > LONGEST_TSDU {
+        return true;
+    }
+    body.len() > LONGEST_TSDU - head.len()
+}
+
 impl Connections {
     /// No connection is live.
     pub fn new(alloc: Global) -> Self
@@ -285,7 +239,7 @@ impl Connections {
         ensures open { IfSome result (λ o. (place_of reference self.now ≡ Some o.0) × (peer_in (value_at reference self.now) ≡ Some o.1)) }
         ensures none { result ≡ None → link_of (value_at reference self.now) ≡ None }
     {
-        let Some(place) = self.find(reference) else {
+        let Some(place) = place_in(self.rows.as_slice(), self.rises, reference) else {
             return None;
         };
         match self.phase(place, reference) {
@@ -397,7 +351,21 @@ impl Connections {
         ensures err { OnErr result (out.new.items ≡ out.old.items) }
         ensures needs { OnErr result (link_grows peer (link_in (value_at reference self.old)) (taken (link_in (value_at reference self.old)) (value unit.now)) ≡ true) }
     {
-        self.rows[place].step(peer, unit, out)
+        let row = &mut self.rows[place];
+        let Phase::Linked(_, link) = &mut row.phase else {
+            unreachable!()
+        };
+        match link.take(unit) {
+            Ok(()) => {}
+            Err(LinkFault::OutOfMemory) => return Err(AllocError),
+            Err(fault) => return Ok(Step::Broke(fault)),
+        }
+        let whole = link.next_tsdu();
+        let Ok(()) = pump(link, peer, out) else {
+            give_up(&mut row.phase, peer);
+            return Err(AllocError);
+        };
+        Ok(Step::Took(whole))
     }
 
     /// Hands in a TSDU at the link of the connection at this place, which is open with this reference of the peer, and
@@ -428,28 +396,41 @@ impl Connections {
         send_parts(alloc, link, peer, tsdu, out)
     }
 
-    /// Hands in a TSDU, given as its first octets and the others, at the link of the connection at this place, which
-    /// is open with this reference of the peer, and writes what the link then gives. An allocation failure changes
-    /// nothing.
+    /// Hands in a TSDU, given as its first octets and the others, at the link of the open connection with this
+    /// reference, and writes what the link then gives. Returns the peer's reference. An error changes nothing.
     #[inline(always)]
-    pub fn send_headed(
+    pub fn hand_in_headed(
         &mut self,
         alloc: Global,
-        place: usize,
         reference: u16,
-        peer: u16,
         head: &[u8],
         body: &[u8],
         out: &mut BytesMut,
-    ) -> Result<(), AllocError>
-        requires place { place_of reference self.old ≡ Some place }
-        requires open { peer_in (value_at reference self.old) ≡ Some peer }
-        requires long { length head.now + length body.now ≤ 1048576 }
-        ensures rows { OnOk result (self.new ≡ put reference (linked peer (pumped (with_tsdu (link_in (value_at reference self.old)) (head.now ++ body.now)))) self.old) }
-        ensures ok { OnOk result (out.new.items ≡ out.old.items ++ packets (written_by peer (with_tsdu (link_in (value_at reference self.old)) (head.now ++ body.now)))) }
+    ) -> Result<u16, SendError>
+        ensures open { IfOk result (λ peer. peer_in (value_at reference self.old) ≡ Some peer) }
+        ensures rows { IfOk result (λ peer. self.new ≡ put reference (linked peer (pumped (with_tsdu (link_in (value_at reference self.old)) (head.now ++ body.now)))) self.old) }
+        ensures ok { IfOk result (λ peer. out.new.items ≡ out.old.items ++ packets (written_by peer (with_tsdu (link_in (value_at reference self.old)) (head.now ++ body.now)))) }
+        ensures fits { OnOk result (length_error (head.now ++ body.now) ≡ None) }
+        ensures refused { IfErr result (λ e. call_error e ≡ send_error (head.now ++ body.now) (link_of (value_at reference self.old))) }
         ensures err { OnErr result ((self.new ≡ self.old) × (out.new.items ≡ out.old.items)) }
     {
-        self.rows[place].send_headed(alloc, peer, head, body, out)
+        let Some(place) = place_in(self.rows.as_slice(), self.rises, reference) else {
+            return Err(SendError::NotOpen);
+        };
+        let Phase::Linked(peer, link) = &mut self.rows[place].phase else {
+            return Err(SendError::NotOpen);
+        };
+        let peer = *peer;
+        if is_too_long(head, body) {
+            return Err(SendError::TooLong);
+        }
+        if send_whole(link, peer, head, body, out) {
+            return Ok(peer);
+        }
+        let Ok(()) = send_headed_parts(alloc, link, peer, head, body, out) else {
+            return Err(SendError::OutOfMemory);
+        };
+        Ok(peer)
     }
 
     /// Hands in TSDUs together at the link of the connection at this place, which is open with this reference of the

@@ -1,10 +1,10 @@
 -- A part of a TSDU in the data unit that a link lets a caller send, if the TSDU is given in two pieces.
 -- For `send_whole`, `write_parts` and `write_headed` of links.
-use Rattle.std.proofs.Common.{◌≡◌, ℕ, ◌+◌, ◌-◌, ◌<◌, ◌≤◌, Bool, true, false, leb, eqb, List, ◌++◌, length, take, drop, Option, Some, None}
+use Rattle.std.proofs.Common.{◌≡◌, ℕ, ◌+◌, ◌-◌, ◌≤◌, Bool, true, false, leb, eqb, List, ◌++◌, length, take, drop, Option, Some, None}
 use Rattle.std.proofs.Common.{refl, sym, ap, ◌∙◌, arith, length-append, length-drop}
 use Rattle.std.proofs.Math.Seq.{take-append-add, drop-append-add}
 use Rattle.osi_carrier.proofs.Vocabulary.{eq-eqb, ne_eqb, le-leb, leb-true, leb-false, length-take-le, min, take_all, Slot, first_in}
-use Rattle.osi_carrier.proofs.Vocabulary.{number_in, octets_of, Given, part_under}
+use Rattle.osi_carrier.proofs.Vocabulary.{number_in, octets_of, part_under}
 
 pub part_octets : (number : Option ℕ) (end : Bool) (octets : List ℕ) → octets_of (part_under number end octets) ≡ length octets
 part_octets None end octets = refl

@@ -76,7 +76,7 @@ pub want_taken : {A : Type 0} (r : Result A LinkFault) (f : LinkFault) (needs : 
 want_taken (Err OutOfMemory) f needs t old new e g h = (h.0, h.1)
 want_taken r f needs t old new e g h = cc
 
-handed_is : (o : Option (List ℕ)) (old new : Standing) → Hands o old new → new ≡ handed_out old
+pub handed_is : (o : Option (List ℕ)) (old new : Standing) → Hands o old new → new ≡ handed_out old
 handed_is None old new h =
     h.1 ∙ ap (λ (w : List (List ℕ)). record old { ends = record old.ends { joining = record old.ends.joining { whole = w } } })
     (h.0 ∙ sym (ap (drop 1) h.0))

@@ -23,7 +23,7 @@ impl Carrier {
     /// Takes octets up to the end of the first packet that they complete, and that packet takes effect; it is not
     /// copied if it is complete within these octets. If the carrier ends by them, the held octets are dropped.
     #[inline(always)]
-    pub(super) fn fetch(&mut self, octets: &[u8]) -> Fetched
+    pub(super) fn read_packet(&mut self, octets: &[u8]) -> Fetched
         requires { stops self.old.state ≡ false }
         ensures { Fetches self.old octets.now result self.new }
     {

@@ -1,6 +1,6 @@
 //! Closing connections, the end, and pending events.
 
-ghost use Rattle.std.specs.Prelude.{◌≡◌, ◌≢◌, ◌<◌, ◌≤◌, ◌*◌, ◌-◌, ◌++◌, ◌∷◌, [], length, nat_lt, Err, IfErr, None, Some, IsOk, OnOk, OnErr, is_some};
+ghost use Rattle.std.specs.Prelude.{◌≡◌, ◌≢◌, ◌<◌, ◌≤◌, ◌*◌, ◌-◌, ◌++◌, ◌∷◌, [], length, Err, IfErr, None, Some, IsOk, OnOk, OnErr, is_some};
 ghost use Rattle.std.specs.Cow.{cow_slice_items, IsOwnedSlice};
 ghost use Rattle.osi_carrier.specs.Calls.{open_link, close_error, send_error, call_error, closed_with, closes, sent, ended_by, kept_in, WaitsOn};
 ghost use Rattle.osi_carrier.specs.Packets.{stops, waits, is_spoilt};
@@ -17,17 +17,6 @@ use bytes::BytesMut;
 use osi_class::{Class, LONGEST_TSDU};
 use std::alloc::{AllocError, Global};
 use std::borrow::CowSlice;
-
-/// Whether two pieces have more octets together than a TSDU may.
-#[inline(always)]
-fn is_too_long(head: &[u8], body: &[u8]) -> bool
-    ensures { result ≡ nat_lt 1048576 (length (head.now ++ body.now)) }
-{
-    if head.len() > LONGEST_TSDU {
-        return true;
-    }
-    body.len() > LONGEST_TSDU - head.len()
-}
 
 /// Asks the peer by a DR to close the connection at this place, which is then closing. Memory is needed only if there
 /// is no room for the DR.
@@ -172,39 +161,6 @@ impl Switch {
             return Err(SendError::TooLong);
         }
         let Ok(()) = self.live.send(self.alloc, place, reference, peer, tsdu, &mut self.outgoing)
-        else {
-            return Err(SendError::OutOfMemory);
-        };
-        Ok(())
-    }
-
-    /// Sends a TSDU, given as its first octets and the others, on an open connection, as [`Switch::send`] does.
-    #[inline(always)]
-    #[tactic(auto, using(crate::proofs::written::tsdus_that_are_sent_together::open_here))]
-    pub fn send_headed(&mut self, reference: u16, head: &[u8], body: &[u8]) -> Result<(), SendError>
-        ensures ok { OnOk result (self.new ≡ sent reference (head.now ++ body.now) self.old) }
-        ensures allowed { OnOk result (send_error (head.now ++ body.now) (open_link reference self.old) ≡ None) }
-        ensures refused { IfErr result (λ e. call_error e ≡ send_error (head.now ++ body.now) (open_link reference self.old)) }
-        ensures err { OnErr result (self.new ≡ self.old) }
-    {
-        if self.ended.is_some() {
-            return Err(SendError::NotOpen);
-        }
-        let Some((place, peer)) = self.live.open_at(reference) else {
-            return Err(SendError::NotOpen);
-        };
-        if is_too_long(head, body) {
-            return Err(SendError::TooLong);
-        }
-        let Ok(()) = self.live.send_headed(
-            self.alloc,
-            place,
-            reference,
-            peer,
-            head,
-            body,
-            &mut self.outgoing,
-        )
         else {
             return Err(SendError::OutOfMemory);
         };

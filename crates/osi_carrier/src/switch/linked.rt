@@ -46,13 +46,13 @@ impl Switch {
             | Tpdu::Dt0(_)
             | Tpdu::Dt2(_)
             | Tpdu::Ak(_)
-            | Tpdu::Er(_) => self.take(place, reference, peer, unit),
+            | Tpdu::Er(_) => self.hand_to_link(place, reference, peer, unit),
         }
     }
 
     /// The link takes the unit or refuses it. Room for an event is made only if there is one.
     #[inline(always)]
-    pub fn take(
+    pub fn hand_to_link(
         &mut self,
         place: usize,
         reference: u16,

@@ -85,7 +85,7 @@ impl Switch {
         let Some((place, peer)) = self.live.open_at(reference) else {
             return false;
         };
-        let Ok(()) = self.take(place, reference, peer, unit) else {
+        let Ok(()) = self.hand_to_link(place, reference, peer, unit) else {
             self.end(EndReason::NoMemory);
             return true;
         };

@@ -1,4 +1,4 @@
-use Rattle.std.proofs.Common.{◌++◌, length, sym, arith, ◌∙◌, length-append}
+use Rattle.std.proofs.Common.{◌++◌, arith, length-append}
 use Rattle.osi_carrier.proofs.Vocabulary.{any_standing, all_given, with_tsdu}
 use Rattle.osi_carrier.proofs.written.all_that_a_link_gives.{packets_most}
 use Rattle.osi_carrier.proofs.links.send_headed_parts.Goals as goal

@@ -1,4 +1,4 @@
-use Rattle.std.proofs.Common.{◌≡◌, ◌<◌, ◌≤◌, ◌+◌, ℕ, List, [], ◌∷◌, ◌++◌, length, drop, sym, ap, subst, ◌∙◌, arith}
+use Rattle.std.proofs.Common.{◌≡◌, ◌≤◌, ◌+◌, [], ◌∷◌, ◌++◌, length, drop, sym, ap, subst, ◌∙◌, arith}
 use Rattle.osi_carrier.proofs.Vocabulary.{eqb-true, eqb-false, any_standing, first_in, octets_of, Given, unit_of, packets, with_tsdu}
 use Rattle.osi_carrier.proofs.written.a_tsdu_part_after_part.{Goes, parting_first, parting_then, parting_last, parting_all, part_goes}
 use Rattle.osi_carrier.proofs.written.a_tsdu_part_after_part.{part_room, empty_list}

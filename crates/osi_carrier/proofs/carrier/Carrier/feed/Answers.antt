@@ -15,14 +15,14 @@ packets-init c =
 
 pub returns-in-Over-clause-feeds : goal.returns-in-Over-clause-feeds
 returns-in-Over-clause-feeds c =
-    let goes : Goes c.args.self.now c.args.piece.now (length c.args.piece.now) c.fetch.new.self = elim c.in-Over.is [
-      | inl over ↦ read_over c.args.self.now c.args.piece.now c.packets.self c.packets.rest.now c.fetch.new.self c.packets.invariant
-          (subst (λ (f : Fetched). Fetches c.packets.self c.packets.rest.now f c.fetch.new.self) over c.fetch.ensures)
-      | inr part ↦ read_part c.args.self.now c.args.piece.now c.packets.self c.packets.rest.now c.fetch.new.self c.packets.invariant
-          (subst (λ (f : Fetched). Fetches c.packets.self c.packets.rest.now f c.fetch.new.self) part c.fetch.ensures)
+    let goes : Goes c.args.self.now c.args.piece.now (length c.args.piece.now) c.read_packet.new.self = elim c.in-Over.is [
+      | inl over ↦ read_over c.args.self.now c.args.piece.now c.packets.self c.packets.rest.now c.read_packet.new.self c.packets.invariant
+          (subst (λ (f : Fetched). Fetches c.packets.self c.packets.rest.now f c.read_packet.new.self) over c.read_packet.ensures)
+      | inr part ↦ read_part c.args.self.now c.args.piece.now c.packets.self c.packets.rest.now c.read_packet.new.self c.packets.invariant
+          (subst (λ (f : Fetched). Fetches c.packets.self c.packets.rest.now f c.read_packet.new.self) part c.read_packet.ensures)
     ] in
     fed_goes c.args.self.now c.args.piece.now c.packets.self c.packets.rest.now (length c.args.piece.now) c.fed-in-Over.result
-    c.fetch.new.self c.packets.invariant goes (omega arith)
+    c.read_packet.new.self c.packets.invariant goes (omega arith)
     c.fed-in-Over.ensures.used c.fed-in-Over.ensures.whole
 
 pub returns-then-is_spoilt-clause-feeds : goal.returns-then-is_spoilt-clause-feeds
@@ -30,8 +30,9 @@ returns-then-is_spoilt-clause-feeds c =
     let spoilt = ap (λ (x : Carrying). is_spoilt x.state.ended) (sym c.self-in-packets.view_is) ∙
     (sym c.is_spoilt.ensures ∙ c.if-is_spoilt.true) in
     fed_goes c.args.self.now c.args.piece.now c.packets.self c.packets.rest.now (length c.args.piece.now) c.fed-then-is_spoilt.result
-    c.fetch.new.self c.packets.invariant
-    (read_spoilt c.args.self.now c.args.piece.now c.packets.self c.packets.rest.now c.in-Packet.used c.fetch.new.self c.packets.invariant
+    c.read_packet.new.self c.packets.invariant
+    (read_spoilt c.args.self.now c.args.piece.now c.packets.self c.packets.rest.now c.in-Packet.used c.read_packet.new.self
+    c.packets.invariant
     c.in-Packet.ensures spoilt) (omega arith)
     c.fed-then-is_spoilt.ensures.used c.fed-then-is_spoilt.ensures.whole
 
@@ -40,17 +41,19 @@ returns-then-stops-clause-feeds c =
     let sound = ap (λ (x : Carrying). is_spoilt x.state.ended) (sym c.self-in-packets.view_is) ∙
     (sym c.is_spoilt.ensures ∙ c.if-is_spoilt.false) in
     let stopped = ap (λ (x : Carrying). stops x.state) (sym c.self-in-packets.view_is) ∙ (sym c.stops.ensures ∙ c.if-stops.true) in
-    let goes = subst (λ (l : List ℕ). Goes c.args.self.now c.args.piece.now (length c.args.piece.now - length l) c.fetch.new.self)
+    let goes = subst (λ (l : List ℕ). Goes c.args.self.now c.args.piece.now (length c.args.piece.now - length l) c.read_packet.new.self)
     (sym c.split_at.ensures.back)
-    (read_stops c.args.self.now c.args.piece.now c.packets.self c.packets.rest.now c.in-Packet.used c.fetch.new.self c.packets.invariant
+    (read_stops c.args.self.now c.args.piece.now c.packets.self c.packets.rest.now c.in-Packet.used c.read_packet.new.self
+    c.packets.invariant
     c.in-Packet.ensures stopped sound) in
     fed_goes c.args.self.now c.args.piece.now c.packets.self c.packets.rest.now (length c.args.piece.now - length c.split_at.result.1.now)
-    c.fed-then-stops.result c.fetch.new.self c.packets.invariant goes (omega arith)
+    c.fed-then-stops.result c.read_packet.new.self c.packets.invariant goes (omega arith)
     c.fed-then-stops.ensures.used c.fed-then-stops.ensures.whole
 
 pub packets-preserved : goal.packets-preserved
 packets-preserved c =
     let quiet = ap (λ (x : Carrying). stops x.state) (sym c.self-in-packets.view_is) ∙ (sym c.stops.ensures ∙ c.if-stops.false) in
-    subst (λ (l : List ℕ). IsRead c.args.self.now c.args.piece.now c.fetch.new.self l) (sym c.split_at.ensures.back)
-    (read_next c.args.self.now c.args.piece.now c.packets.self c.packets.rest.now c.in-Packet.used c.fetch.new.self c.packets.invariant
+    subst (λ (l : List ℕ). IsRead c.args.self.now c.args.piece.now c.read_packet.new.self l) (sym c.split_at.ensures.back)
+    (read_next c.args.self.now c.args.piece.now c.packets.self c.packets.rest.now c.in-Packet.used c.read_packet.new.self
+    c.packets.invariant
     c.in-Packet.ensures quiet)

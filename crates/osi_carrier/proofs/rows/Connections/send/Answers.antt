@@ -1,34 +1,11 @@
-use Rattle.std.proofs.Common.{◌≡◌, ℕ, List, ◌++◌, get_or, Some, Result, Ok, Err, OnOk, refl, ap, sym, arith, subst, ◌∙◌}
-use Rattle.osi_class.specs.declared.either.AnyLink.{AnyLink}
-use Rattle.osi_carrier.specs.declared.rows.Phase.TheVariants.{Linked}
+use Rattle.std.proofs.Common.{◌≡◌, ℕ, List, ◌++◌, Some, ap, sym, subst, ◌∙◌}
 use Rattle.osi_carrier.proofs.Vocabulary.{cow_slice_items, any_standing, Standing, next, with_tsdu, WaitsAlone, connection, IsPumped}
-use Rattle.osi_carrier.proofs.Vocabulary.{pumped, written_by, Rows, value_at, place_of, peer_in, link_in, Connection, linked, packets}
+use Rattle.osi_carrier.proofs.Vocabulary.{pumped, written_by, value_at, peer_in, link_in, Connection, linked, packets}
 use Rattle.osi_carrier.proofs.Vocabulary.{Phase}
 use Rattle.osi_carrier.proofs.references.rows_in_order.{set_kept}
+use Rattle.osi_carrier.proofs.references.the_link_in_a_row.{linked_phase, found_at, row_linked, ok_then}
 use Rattle.osi_carrier.proofs.references.the_row_at_a_place.{here_is, put_row}
 use Rattle.osi_carrier.proofs.rows.Connections.send.Goals as goal
-
--- the phase of an open connection
-linked_phase : (p : Phase) (peer : ℕ) → peer_in (Some (connection p)) ≡ Some peer → ((q : ℕ) (link : AnyLink) → p ≡ Linked q link → ⊥) → ⊥
-linked_phase (Linked q link) peer e other = other q link refl
-linked_phase phase peer e other = cc
-
--- the link in the row of an open connection is the link of it
-found_at : (r peer i n q : ℕ) (rows items : Rows Connection) (row : ℕ × Connection) (p : Phase) (link : AnyLink) →
-    place_of r rows ≡ Some i → row ≡ get_or items i row → items ≡ rows →
-    ◌≡◌ {A = ℕ × Connection} (n, connection p) row → p ≡ Linked q link → peer_in (value_at r rows) ≡ Some peer →
-    (any_standing link ≡ link_in (value_at r rows)) × (q ≡ peer)
-found_at r peer i n q rows items row p link e here same view is opened =
-    let at = here_is r rows items i row e here same ∙ ap (λ (x : ℕ × Connection). Some x.1) (sym view) ∙
-    ap (λ (p : Phase). Some (connection p)) is in
-    let named : Some q ≡ Some peer = sym (ap peer_in at) ∙ opened in (sym (ap link_in at), cc)
-
-row_linked : (n m q peer : ℕ) (t u : Standing) → n ≡ m → q ≡ peer → t ≡ u → ◌≡◌ {A = ℕ × Connection} (n, linked q t) (m, linked peer u)
-row_linked n m q peer t u a b e = first_of (cc, grind arith)
-
-ok_then : {A E P Q : Type 0} (result : Result A E) → (P → Q) → OnOk result P → OnOk result Q
-ok_then (Ok a) f p = f p
-ok_then (Err e) f p = tt
 
 pub unreachable-requires : goal.unreachable-requires
 unreachable-requires c =

@@ -2,7 +2,7 @@ use Rattle.std.proofs.Common.{◌+◌, length, sym, ap, ◌∙◌, subst}
 use Rattle.osi_carrier.specs.contracts.carrier.Carrier.{the_view}
 use Rattle.osi_carrier.proofs.Vocabulary.{Held, PacketActs, Carrying}
 use Rattle.osi_carrier.proofs.stream.what_the_cutter_returns.{passed_packet}
-use Rattle.osi_carrier.proofs.carrier.Carrier.fetch.Goals as goal
+use Rattle.osi_carrier.proofs.carrier.Carrier.read_packet.Goals as goal
 
 pub returns : goal.returns
 returns c =

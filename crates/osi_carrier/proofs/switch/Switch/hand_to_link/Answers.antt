@@ -4,7 +4,7 @@ use Rattle.osi_carrier.specs.declared.links.Step.TheVariants.{Took}
 use Rattle.osi_carrier.proofs.Vocabulary.{value, taken, grows, taking, value_at, place_of, link_in, peer_in, State, StepsTo, the_view}
 use Rattle.osi_carrier.proofs.effects.a_refused_unit_changes_nothing.{broke_rows, broke_octets, broke_taking, changed}
 use Rattle.osi_carrier.proofs.written.what_needs_memory_does_something.{taking_grows, took_grows, broke_grows, on_want}
-use Rattle.osi_carrier.proofs.switch.Switch.take.Goals as goal
+use Rattle.osi_carrier.proofs.switch.Switch.hand_to_link.Goals as goal
 
 pub fail_link-requires : goal.fail_link-requires
 fail_link-requires c =
