@@ -10,18 +10,18 @@ ghost use Rattle.osi_session.specs.Shown.{Lost, shown_by};
 ghost use Rattle.osi_session.specs.Sizes.{limit_of};
 ghost use Rattle.osi_stack.specs.Calls.{move_refusal, session_refusal, session_error, Refuses, first_shown, without_first, TellsOf};
 ghost use Rattle.osi_stack.specs.Disconnecting.{given_up, gives_up};
+ghost use Rattle.osi_stack.specs.Events.{event_input};
 ghost use Rattle.osi_stack.specs.Hearing.{loses, all_lost};
 ghost use Rattle.osi_stack.specs.Moving.{answers, line_by, carrier_by, to_session};
 ghost use Rattle.osi_stack.specs.Needs.{session_needs};
 ghost use Rattle.osi_stack.specs.State.{line_waits, waits, how_many_wait, is_used, used_lines, fresh_line, session_in, joined_live, joined_in};
 ghost use Rattle.osi_stack.specs.Addresses.{selectors_in};
 ghost use Rattle.osi_stack.specs.Selectors.{selectors_sent, selectors_told, session_selectors};
-ghost use Rattle.osi_stack.specs.Telling.{told_input};
 
 use crate::calls::make_call;
-use crate::hearing::{data_in, hear, put};
-use crate::names::SessionSelectors;
-use crate::told::Told;
+use crate::events::SessionEvent;
+use crate::handling::{data_in, handle_event, push_indication};
+use crate::selectors::SessionSelectors;
 use osi_carrier::lookup::{Referred, is_above, place_in};
 use osi_carrier::{Carrier, Ref};
 use osi_session::{AbortCause, CallError, Indication, Request, Session};
@@ -92,10 +92,10 @@ fn forget(session: &mut Option<Session>, waiting: &mut VecDeque<Indication>, is_
 /// Keeps the session selectors of a CN. The function is kept out of line: otherwise stack space for them would be
 /// reserved on the data path, too.
 #[inline(never)]
-fn note(selectors: &mut Option<SessionSelectors>, told: &Told)
-    ensures { option_map session_selectors selectors.new ≡ selectors_told (told_input told.now) }
+fn keep_selectors(selectors: &mut Option<SessionSelectors>, event: &SessionEvent)
+    ensures { option_map session_selectors selectors.new ≡ selectors_told (event_input event.now) }
 {
-    *selectors = SessionSelectors::told(told);
+    *selectors = SessionSelectors::of_event(event);
 }
 
 impl Referred for Line {
@@ -169,20 +169,25 @@ impl Line {
     /// The session handles an event: data that it expects is indicated from the buffer in which it arrived. If memory
     /// runs out, the session is lost in its previous state.
     #[inline(always)]
-    fn hear(&mut self, alloc: Global, told: Told, carrier: &mut Carrier) -> Result<(), AllocError>
+    fn receive(
+        &mut self,
+        alloc: Global,
+        event: SessionEvent,
+        carrier: &mut Carrier,
+    ) -> Result<(), AllocError>
         ensures reference { self.new.0 ≡ self.old.0 }
-        ensures ok { OnOk result (self.new ≡ (self.old.0, line_by self.old.1 self.old.1.session (told_input told))) }
-        ensures carrier { OnOk result (carrier.new ≡ record carrier.old { state = carrier_by self.old.0 self.old.1.session (told_input told) carrier.old.state }) }
+        ensures ok { OnOk result (self.new ≡ (self.old.0, line_by self.old.1 self.old.1.session (event_input event))) }
+        ensures carrier { OnOk result (carrier.new ≡ record carrier.old { state = carrier_by self.old.0 self.old.1.session (event_input event) carrier.old.state }) }
         ensures lost { OnErr result (self.new ≡ (self.old.0, loses self.old.1)) }
         ensures err { OnErr result (carrier.new ≡ carrier.old) }
-        ensures needed { OnErr result (session_needs self.old.0 self.old.1.session (told_input told) carrier.old.state ≡ true) }
+        ensures needed { OnErr result (session_needs self.old.0 self.old.1.session (event_input event) carrier.old.state ≡ true) }
     {
         let Some(session) = &self.session else {
             return Ok(());
         };
-        match data_in(session, told) {
+        match data_in(session, event) {
             Ok(shown) => self.show(shown),
-            Err(told) => self.hear_any(alloc, &told, carrier),
+            Err(event) => self.receive_any(alloc, &event, carrier),
         }
     }
 
@@ -194,7 +199,7 @@ impl Line {
         ensures ok { OnOk result (self.new ≡ (self.old.0, record self.old.1 { waiting = self.old.1.waiting ++ shown_by shown ∷ [] })) }
         ensures lost { OnErr result (self.new ≡ (self.old.0, loses self.old.1)) }
     {
-        if put(&mut self.waiting, shown).is_err() {
+        if push_indication(&mut self.waiting, shown).is_err() {
             self.lose();
             return Err(AllocError);
         }
@@ -203,28 +208,28 @@ impl Line {
 
     /// The session handles an event other than data that it expects. If memory runs out, the session is lost in its
     /// previous state.
-    fn hear_any(
+    fn receive_any(
         &mut self,
         alloc: Global,
-        told: &Told,
+        event: &SessionEvent,
         carrier: &mut Carrier,
     ) -> Result<(), AllocError>
         ensures reference { self.new.0 ≡ self.old.0 }
-        ensures ok { OnOk result (self.new ≡ (self.old.0, line_by self.old.1 self.old.1.session (told_input told.now))) }
-        ensures carrier { OnOk result (carrier.new ≡ record carrier.old { state = carrier_by self.old.0 self.old.1.session (told_input told.now) carrier.old.state }) }
+        ensures ok { OnOk result (self.new ≡ (self.old.0, line_by self.old.1 self.old.1.session (event_input event.now))) }
+        ensures carrier { OnOk result (carrier.new ≡ record carrier.old { state = carrier_by self.old.0 self.old.1.session (event_input event.now) carrier.old.state }) }
         ensures lost { OnErr result (self.new ≡ (self.old.0, loses self.old.1)) }
         ensures err { OnErr result (carrier.new ≡ carrier.old) }
-        ensures needed { OnErr result (session_needs self.old.0 self.old.1.session (told_input told.now) carrier.old.state ≡ true) }
+        ensures needed { OnErr result (session_needs self.old.0 self.old.1.session (event_input event.now) carrier.old.state ≡ true) }
     {
         let Some(session) = &mut self.session else {
             return Ok(());
         };
         let phase = session.phase();
-        let Ok(connects) = hear(
+        let Ok(connects) = handle_event(
             alloc,
             session,
             &mut self.waiting,
-            told,
+            event,
             carrier,
             self.reference,
         ) else {
@@ -232,7 +237,7 @@ impl Line {
             return Err(AllocError);
         };
         if connects {
-            note(&mut self.selectors, told);
+            keep_selectors(&mut self.selectors, event);
         }
         Ok(())
     }
@@ -449,25 +454,25 @@ impl Lines {
 
     /// The session of a reference handles an event. If memory runs out, the session is lost in its previous state.
     #[inline(always)]
-    pub fn hear(
+    pub fn tell(
         &mut self,
         alloc: Global,
         reference: u16,
-        told: Told,
+        event: SessionEvent,
         carrier: &mut Carrier,
     ) -> Result<(), AllocError>
-        ensures ok { OnOk result (record { carrier = carrier.new.state; lines = self.new } ≡ to_session reference (told_input told) (record { carrier = carrier.old.state; lines = self.old })) }
+        ensures ok { OnOk result (record { carrier = carrier.new.state; lines = self.new } ≡ to_session reference (event_input event) (record { carrier = carrier.old.state; lines = self.old })) }
         ensures held { carrier.new.held ≡ carrier.old.held }
         ensures lost { OnErr result (all_lost self.new ≡ all_lost self.old) }
         ensures err { OnErr result (carrier.new ≡ carrier.old) }
-        ensures needed { OnErr result (session_needs reference (session_in (value_at reference self.old)) (told_input told) carrier.old.state ≡ true) }
+        ensures needed { OnErr result (session_needs reference (session_in (value_at reference self.old)) (event_input event) carrier.old.state ≡ true) }
     {
         let Some(place) = self.find(reference) else {
             return Ok(());
         };
         let line = &mut self.rows[place];
         let waited = line.waits();
-        let result = line.hear(alloc, told, carrier);
+        let result = line.receive(alloc, event, carrier);
         if line.waits() && !waited {
             self.waiting += 1;
         }

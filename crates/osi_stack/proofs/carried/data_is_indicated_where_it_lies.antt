@@ -1,5 +1,5 @@
 -- Data that a session indicates from the buffer in which it arrived.
--- For `hear` of a line.
+-- For `receive` of a line.
 use Rattle.std.proofs.Common.{◌≡◌, ℕ, ◌||◌, Bool, true, List, [], ◌∷◌, ◌++◌, Option, Some, None, Result, Ok, Err, OnOk, OnErr, refl, sym}
 use Rattle.std.proofs.Common.{ap, ◌∙◌, if◌then◌else◌}
 use Rattle.osi_carrier.specs.Growth.{grows}
@@ -8,7 +8,7 @@ use Rattle.osi_session.specs.Sessions.{takes_memory}
 use Rattle.osi_session.specs.Shown.{Data}
 use Rattle.osi_stack.specs.Moving.{line_after}
 use Rattle.osi_stack.specs.Selectors.{Selectors, selectors_told, shows_connect}
-use Rattle.osi_stack.specs.Telling.{ShowsData}
+use Rattle.osi_stack.specs.Events.{ShowsData}
 use Rattle.osi_stack.proofs.Vocabulary.{Carrying, State as Carrier, Input, Listener, Move, react, limit_for, answers, Shown, line_by}
 use Rattle.osi_stack.proofs.Vocabulary.{carrier_by, session_needs, Line}
 use Rattle.osi_stack.proofs.called.tsdus_that_are_handed_together.{hands_none}
