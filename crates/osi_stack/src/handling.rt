@@ -6,7 +6,7 @@ ghost use Rattle.std.specs.VecDeque.{deque_len, deque_capacity};
 ghost use Rattle.osi_session.specs.Listening.{came, react};
 ghost use Rattle.osi_session.specs.Sessions.{Takes};
 ghost use Rattle.osi_session.specs.Shown.{shown_by};
-ghost use Rattle.osi_stack.specs.Events.{event_input, ShowsData};
+ghost use Rattle.osi_stack.specs.Events.{event_input};
 ghost use Rattle.osi_stack.specs.Moving.{limit_for, answers};
 ghost use Rattle.osi_stack.specs.Needs.{session_needs};
 ghost use Rattle.osi_stack.specs.Selectors.{is_connect, shows_connect};
@@ -69,10 +69,7 @@ fn push_indications(waiting: &mut VecDeque<Indication>, first: Indication, more:
 /// Adds a pending indication, and leaves room for one more after it. Memory is needed only if there is not room for
 /// both; if it runs out, the indications that were pending stay so.
 #[inline(always)]
-pub fn push_indication(
-    waiting: &mut VecDeque<Indication>,
-    shown: Indication,
-) -> Result<(), AllocError>
+fn push_indication(waiting: &mut VecDeque<Indication>, shown: Indication) -> Result<(), AllocError>
     ensures items { OnOk result (map shown_by waiting.new.items ≡ map shown_by waiting.old.items ++ shown_by shown ∷ []) }
     ensures room { OnOk result (deque_len waiting.new < deque_capacity waiting.new) }
     ensures kept { OnErr result (waiting.new.items ≡ waiting.old.items) }
@@ -130,22 +127,6 @@ fn handle_unexpected(
     let connects = is_connect(&first);
     push_indications(waiting, first, more);
     Ok(connects)
-}
-
-/// The indication of data that a session expects, in the buffer of its TSDU: its octets are not copied, and nothing is
-/// allocated. Any other event is returned.
-#[inline(always)]
-pub fn data_in(session: &Session, event: SessionEvent) -> Result<Indication, SessionEvent>
-    ensures shows { IfOk result (λ i. ShowsData session.now (event_input event) (shown_by i)) }
-    ensures other { IfErr result (λ e. e ≡ event) }
-{
-    match event {
-        SessionEvent::Tsdu(tsdu) => match session.show_data(tsdu) {
-            Ok(data) => Ok(data),
-            Err(tsdu) => Err(SessionEvent::Tsdu(tsdu)),
-        },
-        _ => Err(event),
-    }
 }
 
 /// A session handles an event; returns whether it indicates that a connection is requested. There is room for one

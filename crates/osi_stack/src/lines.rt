@@ -20,7 +20,7 @@ ghost use Rattle.osi_stack.specs.Selectors.{selectors_sent, selectors_told, sess
 
 use crate::calls::make_call;
 use crate::events::SessionEvent;
-use crate::handling::{data_in, handle_event, push_indication};
+use crate::handling::handle_event;
 use crate::selectors::SessionSelectors;
 use osi_carrier::lookup::{Referred, is_above, place_in};
 use osi_carrier::{Carrier, Ref};
@@ -166,8 +166,9 @@ impl Line {
         }
     }
 
-    /// The session handles an event: data that it expects is indicated from the buffer in which it arrived. If memory
-    /// runs out, the session is lost in its previous state.
+    /// The session handles an event. Data that it expects is indicated in the buffer of its TSDU: its octets are not
+    /// copied. There is room for this indication, and afterwards for one more. If memory runs out, the session is lost
+    /// in its previous state.
     #[inline(always)]
     fn receive(
         &mut self,
@@ -185,25 +186,20 @@ impl Line {
         let Some(session) = &self.session else {
             return Ok(());
         };
-        match data_in(session, event) {
-            Ok(shown) => self.show(shown),
-            Err(event) => self.receive_any(alloc, &event, carrier),
+        match event {
+            SessionEvent::Tsdu(tsdu) => match session.show_data(tsdu) {
+                Ok(shown) => {
+                    let Ok(()) = self.waiting.reserve(2) else {
+                        self.lose();
+                        return Err(AllocError);
+                    };
+                    self.waiting.push_back_reserved(shown);
+                    Ok(())
+                }
+                Err(tsdu) => self.receive_any(alloc, &SessionEvent::Tsdu(tsdu), carrier),
+            },
+            _ => self.receive_any(alloc, &event, carrier),
         }
-    }
-
-    /// Adds a pending indication, and leaves room for one more. If memory runs out, the session is lost.
-    #[inline(always)]
-    fn show(&mut self, shown: Indication) -> Result<(), AllocError>
-        requires { is_some self.old.1.session ≡ true }
-        ensures reference { self.new.0 ≡ self.old.0 }
-        ensures ok { OnOk result (self.new ≡ (self.old.0, record self.old.1 { waiting = self.old.1.waiting ++ shown_by shown ∷ [] })) }
-        ensures lost { OnErr result (self.new ≡ (self.old.0, loses self.old.1)) }
-    {
-        if push_indication(&mut self.waiting, shown).is_err() {
-            self.lose();
-            return Err(AllocError);
-        }
-        Ok(())
     }
 
     /// The session handles an event other than data that it expects. If memory runs out, the session is lost in its
@@ -262,22 +258,6 @@ impl Line {
             return;
         };
         let _unseen = session.broken();
-    }
-
-    /// A call of the user, which causes no indication. An error changes nothing.
-    fn call(&mut self, request: Request, carrier: &mut Carrier) -> Result<(), CallError>
-        ensures reference { self.new.0 ≡ self.old.0 }
-        ensures waits { line_waits self.new.1 ≡ line_waits self.old.1 }
-        ensures ok { OnOk result (self.new ≡ (self.old.0, line_by self.old.1 self.old.1.session (called (called_by request.entry)))) }
-        ensures carrier { OnOk result (carrier.new ≡ record carrier.old { state = carrier_by self.old.0 self.old.1.session (called (called_by request.entry)) carrier.old.state }) }
-        ensures allowed { OnOk result (session_refusal self.old.0 self.old.1.session (called_by request.entry) carrier.old.state ≡ None) }
-        ensures refused { IfErr result (λ e. Refuses e (session_error self.old.1.session (called_by request.entry)) (session_refusal self.old.0 self.old.1.session (called_by request.entry) carrier.old.state)) }
-        ensures err { OnErr result ((self.new ≡ self.old) × (carrier.new ≡ carrier.old)) }
-    {
-        let Some(session) = &mut self.session else {
-            return Err(CallError::Ended);
-        };
-        make_call(session, carrier, self.reference, request)
     }
 }
 
@@ -393,41 +373,41 @@ impl Lines {
         count_joined(self.rows.as_slice(), carrier)
     }
 
+    /// The line of a reference.
+    fn line(&self, reference: u16) -> Option<&Line>
+        ensures { option_map (λ l. l.now.1) result ≡ value_at reference self.now }
+    {
+        match place_in(self.rows.as_slice(), self.rises, reference) {
+            None => None,
+            Some(place) => Some(&self.rows[place]),
+        }
+    }
+
     /// Whether a connection has this reference.
     pub fn has(&self, reference: u16) -> bool
         ensures { result ≡ is_some (value_at reference self.now) }
     {
-        self.find(reference).is_some()
-    }
-
-    /// The place of a reference.
-    #[inline(always)]
-    fn find(&self, reference: u16) -> Option<usize>
-        ensures { result ≡ place_of reference self.now }
-    {
-        place_in(self.rows.as_slice(), self.rises, reference)
+        self.line(reference).is_some()
     }
 
     /// The session of a reference.
     pub fn session(&self, reference: u16) -> Option<&Session>
         ensures { option_map (λ s. s.now) result ≡ session_in (value_at reference self.now) }
     {
-        let place = self.find(reference);
-        let Some(place) = place else {
-            return None;
-        };
-        self.rows[place].session()
+        match self.line(reference) {
+            None => None,
+            Some(line) => line.session(),
+        }
     }
 
     /// The session selectors of a reference.
     pub fn selectors(&self, reference: u16) -> Option<SessionSelectors>
         ensures { option_map session_selectors result ≡ selectors_in (value_at reference self.now) }
     {
-        let place = self.find(reference);
-        let Some(place) = place else {
-            return None;
-        };
-        self.rows[place].selectors()
+        match self.line(reference) {
+            None => None,
+            Some(line) => line.selectors(),
+        }
     }
 
     /// The oldest indication of the first connection that has one.
@@ -467,7 +447,7 @@ impl Lines {
         ensures err { OnErr result (carrier.new ≡ carrier.old) }
         ensures needed { OnErr result (session_needs reference (session_in (value_at reference self.old)) (event_input event) carrier.old.state ≡ true) }
     {
-        let Some(place) = self.find(reference) else {
+        let Some(place) = place_in(self.rows.as_slice(), self.rises, reference) else {
             return Ok(());
         };
         let line = &mut self.rows[place];
@@ -480,7 +460,7 @@ impl Lines {
         result
     }
 
-    /// A call of the user of the session of a reference.
+    /// A call of the user of the session of a reference, which causes no indication. An error changes nothing.
     pub fn call(
         &mut self,
         reference: u16,
@@ -493,12 +473,14 @@ impl Lines {
         ensures refused { IfErr result (λ e. Refuses e (session_error (session_in (value_at reference self.old)) (called_by request.entry)) (session_refusal reference (session_in (value_at reference self.old)) (called_by request.entry) carrier.old.state)) }
         ensures err { OnErr result ((self.new ≡ self.old) × (carrier.new ≡ carrier.old)) }
     {
-        let place = self.find(reference);
-        let Some(place) = place else {
+        let Some(place) = place_in(self.rows.as_slice(), self.rises, reference) else {
             return Err(CallError::Ended);
         };
         let line = &mut self.rows[place];
-        line.call(request, carrier)
+        let Some(session) = &mut line.session else {
+            return Err(CallError::Ended);
+        };
+        make_call(session, carrier, line.reference, request)
     }
 
     /// The carrier has ended, and all sessions are lost.
@@ -513,7 +495,7 @@ impl Lines {
     pub fn give_up(&mut self, reference: u16)
         ensures { self.new ≡ gives_up reference self.old }
     {
-        let Some(place) = self.find(reference) else {
+        let Some(place) = place_in(self.rows.as_slice(), self.rises, reference) else {
             return;
         };
         self.rows[place].give_up();

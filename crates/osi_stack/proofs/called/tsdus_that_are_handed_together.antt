@@ -15,6 +15,9 @@ one_error tsdu None = refl
 one_error tsdu (Some link) =
     ap (λ (b : Bool). if◌then◌else◌ {A = Option SendError} b (Some TooLong) None) (or-false (nat_lt 1048576 (length tsdu)))
 
+pub hands_one : (r : ℕ) (tsdu : List ℕ) (c : Carrier) → send_error tsdu (open_link r c) ≡ None → hands r (tsdu ∷ []) c ≡ sent r tsdu c
+hands_one r tsdu c none = ap (λ o. sent_unless o r (tsdu ∷ []) c) (one_error tsdu (open_link r c) ∙ none)
+
 none_by : (r : ℕ) (c : Carrier) (o : Option (ℕ × Link)) → sent_unless (send_all_error [] o) r [] c ≡ c
 none_by r c None = refl
 none_by r c (Some link) = refl

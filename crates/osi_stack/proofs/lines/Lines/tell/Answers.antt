@@ -1,7 +1,7 @@
 use Rattle.std.proofs.Common.{length, ◌≡◌, ◌+◌, true, false, Some, None, get_or, set, refl, sym, ap, subst, arith, ◌∙◌}
 use Rattle.osi_stack.specs.declared.lines.Lines.TheInside.{Inside}
 use Rattle.osi_stack.proofs.Vocabulary.{OnOk, OnErr, placed, Rows, place_of, all_lost, to_session, Line, event_input}
-use Rattle.osi_stack.proofs.each_line.the_line_of_a_reference.{unheard, heard_rows}
+use Rattle.osi_stack.proofs.each_line.the_line_of_a_reference.{found, unheard, heard_rows}
 use Rattle.osi_stack.proofs.carried.sessions_that_are_lost.{stopped_rows}
 use Rattle.osi_stack.proofs.stream.what_needs_memory_does_something.{needs_at}
 use Rattle.osi_stack.proofs.each_line.how_many_lines_wait.{AreKept, room_of, set_kept, heard_stays, still_quiet, still_counted}
@@ -11,13 +11,19 @@ use Rattle.osi_stack.proofs.lines.Lines.tell.Goals as goal
 
 pub returns-in_default-clause-ok : goal.returns-in_default-clause-ok
 returns-in_default-clause-ok c =
-    let none : place_of c.args.reference c.args.self.now ≡ None = sym c.find.ensures ∙ c.in_default.is in
+    let none : place_of c.args.reference c.args.self.now ≡ None =
+    found c.args.reference c.self.inside.rises c.place_in.result c.as_slice.result.now c.self.inside.rows.items c.args.self.now
+    c.as_slice.ensures.value c.self.view_is c.self.invariant.1 c.place_in.ensures
+    ∙ c.in_default.is in
     unheard c.args.reference c.args.self.now (event_input c.args.event) c.args.carrier.now.state none
 
 pub returns-clause-ok : goal.returns-clause-ok
 returns-clause-ok c =
     let row = c.index_mut-line.result.now in
-    let some : place_of c.args.reference c.args.self.now ≡ Some c.in-Some.place = sym c.find.ensures ∙ c.in-Some.is in
+    let some : place_of c.args.reference c.args.self.now ≡ Some c.in-Some.place =
+    found c.args.reference c.self.inside.rises c.place_in.result c.as_slice.result.now c.self.inside.rows.items c.args.self.now
+    c.as_slice.ensures.value c.self.view_is c.self.invariant.1 c.place_in.ensures
+    ∙ c.in-Some.is in
     let here = c.index_mut-line.ensures.value ∙ ap (λ (l : Rows Line). get_or l c.in-Some.place row) c.self.view_is in
     let eq : c.if-waits.self-inside.rows.items ≡ set c.self.inside.rows.items c.in-Some.place c.receive-result.new.self =
     elim c.if-waits.branch [
@@ -36,7 +42,10 @@ returns-clause-ok c =
 pub returns-clause-lost : goal.returns-clause-lost
 returns-clause-lost c =
     let row = c.index_mut-line.result.now in
-    let some : place_of c.args.reference c.args.self.now ≡ Some c.in-Some.place = sym c.find.ensures ∙ c.in-Some.is in
+    let some : place_of c.args.reference c.args.self.now ≡ Some c.in-Some.place =
+    found c.args.reference c.self.inside.rises c.place_in.result c.as_slice.result.now c.self.inside.rows.items c.args.self.now
+    c.as_slice.ensures.value c.self.view_is c.self.invariant.1 c.place_in.ensures
+    ∙ c.in-Some.is in
     let here = c.index_mut-line.ensures.value ∙ ap (λ (l : Rows Line). get_or l c.in-Some.place row) c.self.view_is in
     let eq : c.if-waits.self-inside.rows.items ≡ set c.self.inside.rows.items c.in-Some.place c.receive-result.new.self =
     elim c.if-waits.branch [
@@ -51,7 +60,10 @@ returns-clause-lost c =
 pub returns-clause-needed : goal.returns-clause-needed
 returns-clause-needed c =
     let row = c.index_mut-line.result.now in
-    let some : place_of c.args.reference c.args.self.now ≡ Some c.in-Some.place = sym c.find.ensures ∙ c.in-Some.is in
+    let some : place_of c.args.reference c.args.self.now ≡ Some c.in-Some.place =
+    found c.args.reference c.self.inside.rises c.place_in.result c.as_slice.result.now c.self.inside.rows.items c.args.self.now
+    c.as_slice.ensures.value c.self.view_is c.self.invariant.1 c.place_in.ensures
+    ∙ c.in-Some.is in
     let here = c.index_mut-line.ensures.value ∙ ap (λ (l : Rows Line). get_or l c.in-Some.place row) c.self.view_is in
     needs_at c.receive-result.result c.args.reference c.args.self.now c.in-Some.place row (event_input c.args.event) c.args.carrier.now.state
     some here c.receive-result.ensures.needed
@@ -59,7 +71,10 @@ returns-clause-needed c =
 pub overflow_add-self : goal.overflow_add-self
 overflow_add-self c =
     let row = c.index_mut-line.result.now in
-    let some : place_of c.args.reference c.args.self.now ≡ Some c.in-Some.place = sym c.find.ensures ∙ c.in-Some.is in
+    let some : place_of c.args.reference c.args.self.now ≡ Some c.in-Some.place =
+    found c.args.reference c.self.inside.rises c.place_in.result c.as_slice.result.now c.self.inside.rows.items c.args.self.now
+    c.as_slice.ensures.value c.self.view_is c.self.invariant.1 c.place_in.ensures
+    ∙ c.in-Some.is in
     let here = c.index_mut-line.ensures.value ∙ ap (λ (l : Rows Line). get_or l c.in-Some.place row) c.self.view_is in
     let less = room_of c.args.reference c.args.self.now c.self.inside.rows.items c.in-Some.place row c.self.inside.waiting
     (length c.self.inside.rows.items) some here c.self.view_is
@@ -74,7 +89,9 @@ pub invariant_of-self : goal.invariant_of-self
 invariant_of-self c =
     let row = c.index_mut-line.result.now in
     let some : place_of c.args.reference c.self.inside.rows.items ≡ Some c.in-Some.place =
-    ap (λ (l : Rows Line). place_of c.args.reference l) c.self.view_is ∙ sym c.find.ensures ∙ c.in-Some.is in
+    found c.args.reference c.self.inside.rises c.place_in.result c.as_slice.result.now c.self.inside.rows.items c.self.inside.rows.items
+    c.as_slice.ensures.value refl c.self.invariant.1 c.place_in.ensures
+    ∙ c.in-Some.is in
     let within = (placed c.args.reference c.self.inside.rows.items c.in-Some.place row some).within in
     let stays = (λ (h : c.waits-waited.result ≡ true). c.waits.ensures
     ∙ heard_stays c.receive-result.result row c.receive-result.new.self (event_input c.args.event) c.receive-result.ensures.ok
