@@ -1,6 +1,6 @@
 //! Events reach a session: the carrier gets what the session sends, and its user what it indicates.
 
-ghost use Rattle.std.specs.Prelude.{◌≡◌, [], ◌∷◌, None, Some, true, false, ◌<◌, ◌≤◌, ◌+◌, ◌++◌, map, length, IfOk, IfErr, OnOk, OnErr};
+ghost use Rattle.std.specs.Prelude.{◌≡◌, [], ◌∷◌, None, Some, true, false, ◌<◌, ◌≤◌, ◌+◌, ◌++◌, map, length, IfOk, OnOk, OnErr};
 ghost use Rattle.std.specs.Vec.{vec_len};
 ghost use Rattle.std.specs.VecDeque.{deque_len, deque_capacity};
 ghost use Rattle.osi_session.specs.Listening.{came, react};

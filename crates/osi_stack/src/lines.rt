@@ -3,7 +3,7 @@
 ghost use Rattle.std.specs.Prelude.{◌≡◌, ◌+◌, ◌*◌, ◌<◌, ◌≤◌, ◌++◌, ◌∷◌, ◌==◌, [], true, false, cond, length, take, position, is_some, map, Some, None, IfOk, IfErr, IfSome, OnOk, OnErr, option_map, if◌then◌else◌};
 ghost use Rattle.std.specs.VecDeque.{deque_len, deque_capacity};
 ghost use Rattle.osi_carrier.specs.Orderly.{RiseFrom};
-ghost use Rattle.osi_carrier.specs.Rows.{value_at, place_of};
+ghost use Rattle.osi_carrier.specs.Rows.{value_at};
 ghost use Rattle.osi_session.specs.Calls.{called_by};
 ghost use Rattle.osi_session.specs.Listening.{called, react};
 ghost use Rattle.osi_session.specs.Shown.{Lost, shown_by};
