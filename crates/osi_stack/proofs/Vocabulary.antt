@@ -99,7 +99,7 @@ pub use Rattle.osi_stack.specs.Calls.{terms_error, without_first}
 pub use Rattle.osi_stack.specs.Coming.{IsUnheard, TakesSome, TakesUnits, after_unit, carries_out}
 pub use Rattle.osi_stack.specs.Disconnecting.{awaits_transport, disconnect_error, disconnects}
 pub use Rattle.osi_stack.specs.Feeding.{Feeds, FindsNoMemory, FindsNoRoom, Goes, RunsDry, StopsBehind, TakesPackets, stops, uses_all}
-pub use Rattle.osi_stack.specs.Fetching.{Fetches, Interrupted, LeftOff}
+pub use Rattle.osi_stack.specs.Attending.{FeedsToEvent, Interrupted, LeftOff}
 pub use Rattle.osi_stack.specs.Folds.{AllCameAbout, AllNamed, CameAbout, IsNamed, IsProfiled, OfLines, OfSession, OfSessions}
 pub use Rattle.osi_stack.specs.Hearing.{RunsOut, Starves, all_lost, attends, concludes, ends, hears, hears_all, hears_first, hears_next}
 pub use Rattle.osi_stack.specs.Hearing.{hears_times, loses, opens, shown_at_loss, starves, with_carrier, with_events}
@@ -125,8 +125,8 @@ pub use Rattle.osi_stack.specs.Selectors.{Selectors, selectors_of, selectors_sai
 pub use Rattle.osi_stack.specs.Settled.{IsGone, IsSettled}
 pub use Rattle.osi_stack.specs.State.{End, Holding, IsAttended, Line, fresh_end, fresh_line, holding, how_many_wait, is_used, joined_in}
 pub use Rattle.osi_stack.specs.State.{joined_live, joined_of, joins, kept_octets, line_waits, session_at, session_in, used_lines, waits}
-pub use Rattle.osi_stack.specs.Telling.{told_input}
+pub use Rattle.osi_stack.specs.Events.{event_input}
 pub use Rattle.osi_stack.specs.Transport.{answers_by, hands, sent_unless}
 pub use Rattle.osi_stack.specs.declared.connecting.Connect.{Connect}
 pub use Rattle.osi_stack.specs.declared.connecting.ConnectError.{ConnectError}
-pub use Rattle.osi_stack.specs.declared.told.Told.{Told}
+pub use Rattle.osi_stack.specs.declared.events.SessionEvent.{SessionEvent}

@@ -4,7 +4,7 @@ pub mod Transport
 pub mod Moving
 pub mod Needs
 pub mod Parted
-pub mod Telling
+pub mod Events
 pub mod Hearing
 pub mod Feeding
 pub mod Coming
@@ -13,7 +13,7 @@ pub mod Links
 pub mod Calls
 pub mod Disconnecting
 pub mod Addresses
-pub mod Fetching
+pub mod Attending
 pub mod Folds
 pub mod Settled
 pub mod Ordered

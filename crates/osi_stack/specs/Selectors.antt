@@ -5,7 +5,7 @@ use Rattle.osi_message.specs.Words.{Words, as_message}
 use Rattle.osi_session.specs.Listening.{Input, taken}
 pub use Rattle.osi_session.specs.Shown.{is_connect, shows_connect}
 use Rattle.osi_stack.specs.declared.selectors.SessionSelector.{SessionSelector}
-use Rattle.osi_stack.specs.declared.names.SessionSelectors.{SessionSelectors}
+use Rattle.osi_stack.specs.declared.selectors.SessionSelectors.{SessionSelectors}
 
 pub record Selectors : Type 0 where
   pub calling : Option (List ℕ)

@@ -10,8 +10,8 @@ ghost use Rattle.osi_stack.specs.Calls.{move_refusal, send_refusal, Refuses};
 ghost use Rattle.osi_stack.specs.Moving.{answers};
 ghost use Rattle.osi_stack.specs.Transport.{hands};
 
-use crate::transport::{send_call, send_headed_call, send_owned_call};
-use osi_carrier::Carrier;
+use crate::transport::{call_error, send_call, send_owned_call};
+use osi_carrier::{Carrier, Ref};
 use osi_session::{CallError, PlannedPoint, Request, Session};
 
 /// Sends a point, and then the session continues after it. An error changes nothing.
@@ -124,8 +124,8 @@ fn make_parted_call(
     send_owned_call(carrier, reference, sent)
 }
 
-/// Sends what a call of the user sends, and then the session carries the call out; data leaves its state unchanged. An
-/// error changes nothing.
+/// Sends what a call of the user sends, and then the session carries the call out. Data leaves its state unchanged, and
+/// what of it may be sent now is written straight from its octets. An error changes nothing.
 pub fn make_call(
     session: &mut Session,
     carrier: &mut Carrier,
@@ -143,7 +143,10 @@ pub fn make_call(
             let Some(head) = session.data_head(user_data) else {
                 return make_parted_call(session, carrier, reference, user_data);
             };
-            send_headed_call(carrier, reference, head, user_data)
+            match carrier.send_headed(Ref(reference), head, user_data) {
+                Ok(()) => Ok(()),
+                Err(error) => Err(call_error(error)),
+            }
         }
         Request::Minor { confirm, user_data } => {
             make_minor_call(session, carrier, reference, confirm, user_data)

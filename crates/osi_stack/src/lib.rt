@@ -41,17 +41,15 @@
 mod addresses;
 mod calls;
 mod connecting;
-mod connects;
 mod disconnecting;
-mod hearing;
+mod dispatching;
+mod events;
+mod feeding;
+mod handling;
 pub mod laws;
 mod lines;
-mod names;
-mod reading;
 mod selectors;
 mod stacks;
-mod telling;
-mod told;
 mod transport;
 
 pub use addresses::Addresses;

@@ -3,25 +3,25 @@
 ghost use Rattle.std.specs.Prelude.{◌≡◌, ◌+◌, ◌*◌, ◌<◌, ◌≤◌, ◌++◌, ◌∷◌, ◌==◌, [], true, false, cond, length, take, position, is_some, map, Some, None, IfOk, IfErr, IfSome, OnOk, OnErr, option_map, if◌then◌else◌};
 ghost use Rattle.std.specs.VecDeque.{deque_len, deque_capacity};
 ghost use Rattle.osi_carrier.specs.Orderly.{RiseFrom};
-ghost use Rattle.osi_carrier.specs.Rows.{value_at, place_of};
+ghost use Rattle.osi_carrier.specs.Rows.{value_at};
 ghost use Rattle.osi_session.specs.Calls.{called_by};
 ghost use Rattle.osi_session.specs.Listening.{called, react};
 ghost use Rattle.osi_session.specs.Shown.{Lost, shown_by};
 ghost use Rattle.osi_session.specs.Sizes.{limit_of};
 ghost use Rattle.osi_stack.specs.Calls.{move_refusal, session_refusal, session_error, Refuses, first_shown, without_first, TellsOf};
 ghost use Rattle.osi_stack.specs.Disconnecting.{given_up, gives_up};
+ghost use Rattle.osi_stack.specs.Events.{event_input};
 ghost use Rattle.osi_stack.specs.Hearing.{loses, all_lost};
 ghost use Rattle.osi_stack.specs.Moving.{answers, line_by, carrier_by, to_session};
 ghost use Rattle.osi_stack.specs.Needs.{session_needs};
 ghost use Rattle.osi_stack.specs.State.{line_waits, waits, how_many_wait, is_used, used_lines, fresh_line, session_in, joined_live, joined_in};
 ghost use Rattle.osi_stack.specs.Addresses.{selectors_in};
 ghost use Rattle.osi_stack.specs.Selectors.{selectors_sent, selectors_told, session_selectors};
-ghost use Rattle.osi_stack.specs.Telling.{told_input};
 
 use crate::calls::make_call;
-use crate::hearing::{data_in, hear, put};
-use crate::names::SessionSelectors;
-use crate::told::Told;
+use crate::events::SessionEvent;
+use crate::handling::handle_event;
+use crate::selectors::SessionSelectors;
 use osi_carrier::lookup::{Referred, is_above, place_in};
 use osi_carrier::{Carrier, Ref};
 use osi_session::{AbortCause, CallError, Indication, Request, Session};
@@ -92,10 +92,10 @@ fn forget(session: &mut Option<Session>, waiting: &mut VecDeque<Indication>, is_
 /// Keeps the session selectors of a CN. The function is kept out of line: otherwise stack space for them would be
 /// reserved on the data path, too.
 #[inline(never)]
-fn note(selectors: &mut Option<SessionSelectors>, told: &Told)
-    ensures { option_map session_selectors selectors.new ≡ selectors_told (told_input told.now) }
+fn keep_selectors(selectors: &mut Option<SessionSelectors>, event: &SessionEvent)
+    ensures { option_map session_selectors selectors.new ≡ selectors_told (event_input event.now) }
 {
-    *selectors = SessionSelectors::told(told);
+    *selectors = SessionSelectors::of_event(event);
 }
 
 impl Referred for Line {
@@ -166,65 +166,66 @@ impl Line {
         }
     }
 
-    /// The session handles an event: data that it expects is indicated from the buffer in which it arrived. If memory
-    /// runs out, the session is lost in its previous state.
+    /// The session handles an event. Data that it expects is indicated in the buffer of its TSDU: its octets are not
+    /// copied. There is room for this indication, and afterwards for one more. If memory runs out, the session is lost
+    /// in its previous state.
     #[inline(always)]
-    fn hear(&mut self, alloc: Global, told: Told, carrier: &mut Carrier) -> Result<(), AllocError>
+    fn receive(
+        &mut self,
+        alloc: Global,
+        event: SessionEvent,
+        carrier: &mut Carrier,
+    ) -> Result<(), AllocError>
         ensures reference { self.new.0 ≡ self.old.0 }
-        ensures ok { OnOk result (self.new ≡ (self.old.0, line_by self.old.1 self.old.1.session (told_input told))) }
-        ensures carrier { OnOk result (carrier.new ≡ record carrier.old { state = carrier_by self.old.0 self.old.1.session (told_input told) carrier.old.state }) }
+        ensures ok { OnOk result (self.new ≡ (self.old.0, line_by self.old.1 self.old.1.session (event_input event))) }
+        ensures carrier { OnOk result (carrier.new ≡ record carrier.old { state = carrier_by self.old.0 self.old.1.session (event_input event) carrier.old.state }) }
         ensures lost { OnErr result (self.new ≡ (self.old.0, loses self.old.1)) }
         ensures err { OnErr result (carrier.new ≡ carrier.old) }
-        ensures needed { OnErr result (session_needs self.old.0 self.old.1.session (told_input told) carrier.old.state ≡ true) }
+        ensures needed { OnErr result (session_needs self.old.0 self.old.1.session (event_input event) carrier.old.state ≡ true) }
     {
         let Some(session) = &self.session else {
             return Ok(());
         };
-        match data_in(session, told) {
-            Ok(shown) => self.show(shown),
-            Err(told) => self.hear_any(alloc, &told, carrier),
+        match event {
+            SessionEvent::Tsdu(tsdu) => match session.show_data(tsdu) {
+                Ok(shown) => {
+                    let Ok(()) = self.waiting.reserve(2) else {
+                        self.lose();
+                        return Err(AllocError);
+                    };
+                    self.waiting.push_back_reserved(shown);
+                    Ok(())
+                }
+                Err(tsdu) => self.receive_any(alloc, &SessionEvent::Tsdu(tsdu), carrier),
+            },
+            _ => self.receive_any(alloc, &event, carrier),
         }
-    }
-
-    /// Adds a pending indication, and leaves room for one more. If memory runs out, the session is lost.
-    #[inline(always)]
-    fn show(&mut self, shown: Indication) -> Result<(), AllocError>
-        requires { is_some self.old.1.session ≡ true }
-        ensures reference { self.new.0 ≡ self.old.0 }
-        ensures ok { OnOk result (self.new ≡ (self.old.0, record self.old.1 { waiting = self.old.1.waiting ++ shown_by shown ∷ [] })) }
-        ensures lost { OnErr result (self.new ≡ (self.old.0, loses self.old.1)) }
-    {
-        if put(&mut self.waiting, shown).is_err() {
-            self.lose();
-            return Err(AllocError);
-        }
-        Ok(())
     }
 
     /// The session handles an event other than data that it expects. If memory runs out, the session is lost in its
     /// previous state.
-    fn hear_any(
+    fn receive_any(
         &mut self,
         alloc: Global,
-        told: &Told,
+        event: &SessionEvent,
         carrier: &mut Carrier,
     ) -> Result<(), AllocError>
         ensures reference { self.new.0 ≡ self.old.0 }
-        ensures ok { OnOk result (self.new ≡ (self.old.0, line_by self.old.1 self.old.1.session (told_input told.now))) }
-        ensures carrier { OnOk result (carrier.new ≡ record carrier.old { state = carrier_by self.old.0 self.old.1.session (told_input told.now) carrier.old.state }) }
+        ensures ok { OnOk result (self.new ≡ (self.old.0, line_by self.old.1 self.old.1.session (event_input event.now))) }
+        ensures carrier { OnOk result (carrier.new ≡ record carrier.old { state = carrier_by self.old.0 self.old.1.session (event_input event.now) carrier.old.state }) }
         ensures lost { OnErr result (self.new ≡ (self.old.0, loses self.old.1)) }
         ensures err { OnErr result (carrier.new ≡ carrier.old) }
-        ensures needed { OnErr result (session_needs self.old.0 self.old.1.session (told_input told.now) carrier.old.state ≡ true) }
+        ensures needed { OnErr result (session_needs self.old.0 self.old.1.session (event_input event.now) carrier.old.state ≡ true) }
     {
         let Some(session) = &mut self.session else {
             return Ok(());
         };
         let phase = session.phase();
-        let Ok(connects) = hear(
+        let Ok(connects) = handle_event(
             alloc,
             session,
             &mut self.waiting,
-            told,
+            event,
             carrier,
             self.reference,
         ) else {
@@ -232,7 +233,7 @@ impl Line {
             return Err(AllocError);
         };
         if connects {
-            note(&mut self.selectors, told);
+            keep_selectors(&mut self.selectors, event);
         }
         Ok(())
     }
@@ -257,22 +258,6 @@ impl Line {
             return;
         };
         let _unseen = session.broken();
-    }
-
-    /// A call of the user, which causes no indication. An error changes nothing.
-    fn call(&mut self, request: Request, carrier: &mut Carrier) -> Result<(), CallError>
-        ensures reference { self.new.0 ≡ self.old.0 }
-        ensures waits { line_waits self.new.1 ≡ line_waits self.old.1 }
-        ensures ok { OnOk result (self.new ≡ (self.old.0, line_by self.old.1 self.old.1.session (called (called_by request.entry)))) }
-        ensures carrier { OnOk result (carrier.new ≡ record carrier.old { state = carrier_by self.old.0 self.old.1.session (called (called_by request.entry)) carrier.old.state }) }
-        ensures allowed { OnOk result (session_refusal self.old.0 self.old.1.session (called_by request.entry) carrier.old.state ≡ None) }
-        ensures refused { IfErr result (λ e. Refuses e (session_error self.old.1.session (called_by request.entry)) (session_refusal self.old.0 self.old.1.session (called_by request.entry) carrier.old.state)) }
-        ensures err { OnErr result ((self.new ≡ self.old) × (carrier.new ≡ carrier.old)) }
-    {
-        let Some(session) = &mut self.session else {
-            return Err(CallError::Ended);
-        };
-        make_call(session, carrier, self.reference, request)
     }
 }
 
@@ -388,41 +373,41 @@ impl Lines {
         count_joined(self.rows.as_slice(), carrier)
     }
 
+    /// The line of a reference.
+    fn line(&self, reference: u16) -> Option<&Line>
+        ensures { option_map (λ l. l.now.1) result ≡ value_at reference self.now }
+    {
+        match place_in(self.rows.as_slice(), self.rises, reference) {
+            None => None,
+            Some(place) => Some(&self.rows[place]),
+        }
+    }
+
     /// Whether a connection has this reference.
     pub fn has(&self, reference: u16) -> bool
         ensures { result ≡ is_some (value_at reference self.now) }
     {
-        self.find(reference).is_some()
-    }
-
-    /// The place of a reference.
-    #[inline(always)]
-    fn find(&self, reference: u16) -> Option<usize>
-        ensures { result ≡ place_of reference self.now }
-    {
-        place_in(self.rows.as_slice(), self.rises, reference)
+        self.line(reference).is_some()
     }
 
     /// The session of a reference.
     pub fn session(&self, reference: u16) -> Option<&Session>
         ensures { option_map (λ s. s.now) result ≡ session_in (value_at reference self.now) }
     {
-        let place = self.find(reference);
-        let Some(place) = place else {
-            return None;
-        };
-        self.rows[place].session()
+        match self.line(reference) {
+            None => None,
+            Some(line) => line.session(),
+        }
     }
 
     /// The session selectors of a reference.
     pub fn selectors(&self, reference: u16) -> Option<SessionSelectors>
         ensures { option_map session_selectors result ≡ selectors_in (value_at reference self.now) }
     {
-        let place = self.find(reference);
-        let Some(place) = place else {
-            return None;
-        };
-        self.rows[place].selectors()
+        match self.line(reference) {
+            None => None,
+            Some(line) => line.selectors(),
+        }
     }
 
     /// The oldest indication of the first connection that has one.
@@ -449,25 +434,25 @@ impl Lines {
 
     /// The session of a reference handles an event. If memory runs out, the session is lost in its previous state.
     #[inline(always)]
-    pub fn hear(
+    pub fn tell(
         &mut self,
         alloc: Global,
         reference: u16,
-        told: Told,
+        event: SessionEvent,
         carrier: &mut Carrier,
     ) -> Result<(), AllocError>
-        ensures ok { OnOk result (record { carrier = carrier.new.state; lines = self.new } ≡ to_session reference (told_input told) (record { carrier = carrier.old.state; lines = self.old })) }
+        ensures ok { OnOk result (record { carrier = carrier.new.state; lines = self.new } ≡ to_session reference (event_input event) (record { carrier = carrier.old.state; lines = self.old })) }
         ensures held { carrier.new.held ≡ carrier.old.held }
         ensures lost { OnErr result (all_lost self.new ≡ all_lost self.old) }
         ensures err { OnErr result (carrier.new ≡ carrier.old) }
-        ensures needed { OnErr result (session_needs reference (session_in (value_at reference self.old)) (told_input told) carrier.old.state ≡ true) }
+        ensures needed { OnErr result (session_needs reference (session_in (value_at reference self.old)) (event_input event) carrier.old.state ≡ true) }
     {
-        let Some(place) = self.find(reference) else {
+        let Some(place) = place_in(self.rows.as_slice(), self.rises, reference) else {
             return Ok(());
         };
         let line = &mut self.rows[place];
         let waited = line.waits();
-        let result = line.hear(alloc, told, carrier);
+        let result = line.receive(alloc, event, carrier);
         if line.waits() && !waited {
             self.waiting += 1;
         }
@@ -475,7 +460,7 @@ impl Lines {
         result
     }
 
-    /// A call of the user of the session of a reference.
+    /// A call of the user of the session of a reference, which causes no indication. An error changes nothing.
     pub fn call(
         &mut self,
         reference: u16,
@@ -488,12 +473,14 @@ impl Lines {
         ensures refused { IfErr result (λ e. Refuses e (session_error (session_in (value_at reference self.old)) (called_by request.entry)) (session_refusal reference (session_in (value_at reference self.old)) (called_by request.entry) carrier.old.state)) }
         ensures err { OnErr result ((self.new ≡ self.old) × (carrier.new ≡ carrier.old)) }
     {
-        let place = self.find(reference);
-        let Some(place) = place else {
+        let Some(place) = place_in(self.rows.as_slice(), self.rises, reference) else {
             return Err(CallError::Ended);
         };
         let line = &mut self.rows[place];
-        line.call(request, carrier)
+        let Some(session) = &mut line.session else {
+            return Err(CallError::Ended);
+        };
+        make_call(session, carrier, line.reference, request)
     }
 
     /// The carrier has ended, and all sessions are lost.
@@ -508,7 +495,7 @@ impl Lines {
     pub fn give_up(&mut self, reference: u16)
         ensures { self.new ≡ gives_up reference self.old }
     {
-        let Some(place) = self.find(reference) else {
+        let Some(place) = place_in(self.rows.as_slice(), self.rises, reference) else {
             return;
         };
         self.rows[place].give_up();

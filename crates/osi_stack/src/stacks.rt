@@ -1,15 +1,14 @@
 //! One end of a byte connection: what a gateway holds.
 
 use crate::addresses::Addresses;
-use crate::connecting::{Connect, ConnectError};
-use crate::connects::ask;
+use crate::connecting::{Connect, ConnectError, request_connection};
 use crate::disconnecting::give_up;
+use crate::feeding::feed_to_indication;
 use crate::laws::{
     a_call_of_a_settled_end_is_answered_by_its_session, an_end_is_settled_between_calls,
     what_waits_is_told_in_order,
 };
 use crate::lines::Lines;
-use crate::reading::read;
 use osi_carrier::{Carrier, EndReason, Ref};
 use osi_class::Local;
 use osi_message::Tokens;
@@ -113,7 +112,7 @@ impl Stack {
         ensures err { OnErr result (self.new ≡ self.old) }
     {
         an_end_is_settled_between_calls();
-        ask(self.alloc, &mut self.carrier, &mut self.lines, connect)
+        request_connection(self.alloc, &mut self.carrier, &mut self.lines, connect)
     }
 
     /// A call of the user of a connection (X.225 section 7), answered by the table of its session. An error changes
@@ -198,7 +197,7 @@ impl Stack {
                 whole: true,
             };
         }
-        let used = read(self.alloc, &mut self.carrier, &mut self.lines, piece);
+        let used = feed_to_indication(self.alloc, &mut self.carrier, &mut self.lines, piece);
         Fed {
             used,
             whole: self.lines.wait(),

@@ -1,6 +1,6 @@
 //! What sessions hand to the carrier.
 
-ghost use Rattle.std.specs.Prelude.{◌≡◌, [], ◌∷◌, ◌++◌, ◌||◌, map, true, None, is_some, unwrap_or, IfErr, OnOk, OnErr};
+ghost use Rattle.std.specs.Prelude.{◌≡◌, [], ◌||◌, map, true, None, is_some, unwrap_or, IfErr, OnOk, OnErr};
 ghost use Rattle.osi_carrier.specs.Calls.{closed_with, sent_all, send_all_error, open_link, call_error as sending_error};
 ghost use Rattle.osi_carrier.specs.Growth.{grows};
 ghost use Rattle.osi_message.specs.Tsdus.{octets_lent};
@@ -91,7 +91,7 @@ pub fn answer(
 }
 
 /// The error of a call of the user if the carrier does not take what it sends.
-fn call_error(error: SendError) -> CallError
+pub fn call_error(error: SendError) -> CallError
     ensures { Refuses result None (send_refusal (sending_error error)) }
 {
     match error {
@@ -109,27 +109,6 @@ pub fn send_call(carrier: &mut Carrier, reference: u16, sent: &Sent) -> Result<(
     ensures err { OnErr result (carrier.new ≡ carrier.old) }
 {
     match send(carrier, reference, sent.tsdus()) {
-        Ok(()) => Ok(()),
-        Err(error) => Err(call_error(error)),
-    }
-}
-
-/// The same for one TSDU, given as its first octets and the others: what may be sent now is written straight from
-/// these.
-#[inline(always)]
-#[tactic(auto, using(crate::proofs::called::tsdus_that_are_handed_together::one_error))]
-pub fn send_headed_call(
-    carrier: &mut Carrier,
-    reference: u16,
-    head: &[u8],
-    body: &[u8],
-) -> Result<(), CallError>
-    ensures ok { OnOk result (carrier.new ≡ record carrier.old { state = hands reference ((head.now ++ body.now) ∷ []) carrier.old.state }) }
-    ensures allowed { OnOk result (send_refusal (send_all_error ((head.now ++ body.now) ∷ []) (open_link reference carrier.old.state)) ≡ None) }
-    ensures refused { IfErr result (λ e. Refuses e None (send_refusal (send_all_error ((head.now ++ body.now) ∷ []) (open_link reference carrier.old.state)))) }
-    ensures err { OnErr result (carrier.new ≡ carrier.old) }
-{
-    match carrier.send_headed(Ref(reference), head, body) {
         Ok(()) => Ok(()),
         Err(error) => Err(call_error(error)),
     }
@@ -159,7 +138,10 @@ pub fn send_owned_call(carrier: &mut Carrier, reference: u16, sent: Sent) -> Res
     ensures err { OnErr result (carrier.new ≡ carrier.old) }
 {
     match sent.into_tsdus() {
-        Tsdus::Short(tsdu) => send_headed_call(carrier, reference, &[], tsdu.as_slice()),
+        Tsdus::Short(tsdu) => match carrier.send_headed(Ref(reference), &[], tsdu.as_slice()) {
+            Ok(()) => Ok(()),
+            Err(error) => Err(call_error(error)),
+        },
         Tsdus::One(tsdu) => match carrier.send_owned(Ref(reference), tsdu) {
             Ok(()) => Ok(()),
             Err(error) => Err(call_error(error)),

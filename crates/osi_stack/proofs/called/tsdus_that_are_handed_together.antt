@@ -2,11 +2,11 @@
 use Rattle.std.proofs.Common.{◌≡◌, ◌∙◌, refl, sym, ap, ℕ, ◌≤◌, Bool, true, false, ◌||◌, List, [], ◌∷◌, length, map, nat_lt, Option, Some}
 use Rattle.std.proofs.Common.{None, option_map, unwrap_or, arith, if◌then◌else◌}
 use Rattle.osi_carrier.specs.declared.faults.SendError.TheVariants.{TooLong}
-use Rattle.osi_stack.specs.declared.told.Told.TheVariants.{Tsdu}
+use Rattle.osi_stack.specs.declared.events.SessionEvent.TheVariants.{Tsdu}
 use Rattle.osi_stack.proofs.Vocabulary.{list_any, nat_tests, or-false, send_error, send_all_error, lengths_error, open_link, sent, sent_on}
 use Rattle.osi_stack.proofs.Vocabulary.{sent_all, State as Carrier, SendError, Standing as Link, Meaning, DT, is_parted, tsdus_sent, in_one}
 use Rattle.osi_stack.proofs.Vocabulary.{Words, Word, says, part, word_octets, sent_alone, Listener, Move, came, AreShort, message_of, does}
-use Rattle.osi_stack.proofs.Vocabulary.{puts, limit_for, answers, told_input, sent_unless, hands, answers_by, Told}
+use Rattle.osi_stack.proofs.Vocabulary.{puts, limit_for, answers, event_input, sent_unless, hands, answers_by, SessionEvent}
 
 -- ---- one, and none
 
@@ -14,6 +14,9 @@ pub one_error : (tsdu : List ℕ) (o : Option (ℕ × Link)) → send_all_error 
 one_error tsdu None = refl
 one_error tsdu (Some link) =
     ap (λ (b : Bool). if◌then◌else◌ {A = Option SendError} b (Some TooLong) None) (or-false (nat_lt 1048576 (length tsdu)))
+
+pub hands_one : (r : ℕ) (tsdu : List ℕ) (c : Carrier) → send_error tsdu (open_link r c) ≡ None → hands r (tsdu ∷ []) c ≡ sent r tsdu c
+hands_one r tsdu c none = ap (λ o. sent_unless o r (tsdu ∷ []) c) (one_error tsdu (open_link r c) ∙ none)
 
 none_by : (r : ℕ) (c : Carrier) (o : Option (ℕ × Link)) → sent_unless (send_all_error [] o) r [] c ≡ c
 none_by r c None = refl
@@ -74,12 +77,12 @@ sent_by_itself (Some m) = sym (sent_alone 0 m (not_parted m))
 pub came_unbounded : (s : Listener) (octets : List ℕ) → limit_for s (came octets) ≡ 0
 came_unbounded s octets = grind arith
 
-pub told_unbounded : (s : Listener) (told : Told) → limit_for s (told_input told) ≡ 0
+pub told_unbounded : (s : Listener) (told : SessionEvent) → limit_for s (event_input told) ≡ 0
 told_unbounded s (Tsdu octets) = came_unbounded s octets.items
 told_unbounded s _ = refl
 
 -- what is handed over for a session that handles an event
-pub answer_heard : (s : Listener) (told : Told) (r : ℕ) (reply : Option (List (List ℕ))) (closes : Bool) (move : Move) (c : Carrier) →
+pub answer_heard : (s : Listener) (told : SessionEvent) (r : ℕ) (reply : Option (List (List ℕ))) (closes : Bool) (move : Move) (c : Carrier) →
     reply ≡ option_map in_one move.reply → closes ≡ move.closes →
-    answers_by closes r (unwrap_or reply []) c ≡ answers r (limit_for s (told_input told)) move c
+    answers_by closes r (unwrap_or reply []) c ≡ answers r (limit_for s (event_input told)) move c
 answer_heard s told r reply closes move c e f = grind (arith, answers_by, unwrap_or, sent_by_itself, answers, told_unbounded)

@@ -1,17 +1,22 @@
 -- Data that a session indicates from the buffer in which it arrived.
--- For `hear` of a line.
-use Rattle.std.proofs.Common.{◌≡◌, ℕ, ◌||◌, Bool, true, List, [], ◌∷◌, ◌++◌, Option, Some, None, Result, Ok, Err, OnOk, OnErr, refl, sym}
+-- For `receive` of a line.
+use Rattle.std.proofs.Common.{◌≡◌, ℕ, ◌||◌, true, List, [], ◌∷◌, ◌++◌, Option, Some, sym, subst}
 use Rattle.std.proofs.Common.{ap, ◌∙◌, if◌then◌else◌}
 use Rattle.osi_carrier.specs.Growth.{grows}
 use Rattle.osi_session.specs.Points.{only_shows}
 use Rattle.osi_session.specs.Sessions.{takes_memory}
 use Rattle.osi_session.specs.Shown.{Data}
 use Rattle.osi_stack.specs.Moving.{line_after}
-use Rattle.osi_stack.specs.Selectors.{Selectors, selectors_told, shows_connect}
-use Rattle.osi_stack.specs.Telling.{ShowsData}
-use Rattle.osi_stack.proofs.Vocabulary.{Carrying, State as Carrier, Input, Listener, Move, react, limit_for, answers, Shown, line_by}
+use Rattle.osi_stack.specs.Selectors.{selectors_told, shows_connect}
+use Rattle.osi_stack.proofs.Vocabulary.{came, State as Carrier, Input, Listener, Move, react, limit_for, answers, Shown, line_by}
 use Rattle.osi_stack.proofs.Vocabulary.{carrier_by, session_needs, Line}
 use Rattle.osi_stack.proofs.called.tsdus_that_are_handed_together.{hands_none}
+
+-- data is indicated, and nothing else happens
+pub record ShowsData (session : Listener) (input : Input) (shown : Shown) : Type 0 where
+  pub octets : List ℕ
+  pub is : shown ≡ Data octets
+  pub shows : react session input ≡ only_shows session (Data octets)
 
 -- the line after a move
 abbrev moved_line : Line → Input → Move → Line
@@ -38,24 +43,18 @@ straight_needs r session s input shown c here h =
     ap (λ (o : Option Listener). session_needs r o input c) here
     ∙ ap (λ (m : Move). takes_memory s m || grows c (carrier_by r (Some s) input c)) h.shows
 
--- ---- the answers of a call that indicates it
+-- data that came in a TSDU
+pub came_data : (s : Listener) (input : Input) (tsdu octets : List ℕ) (shown : Shown) → input ≡ came tsdu → shown ≡ Data octets →
+    react s (came tsdu) ≡ only_shows s (Data octets) → ShowsData s input shown
+came_data s input tsdu octets shown at is shows = record { octets = octets; is = is; shows = ap (react s) at ∙ shows }
 
-pub heard_line : {A E : Type 0} (result : Result A E) (row new : ℕ × Line) (s : Listener) (input : Input) (shown : Shown) →
-    row.1.session ≡ Some s → ShowsData s input shown →
-    OnOk result (new ≡ (row.0, record row.1 { waiting = row.1.waiting ++ shown ∷ [] })) →
-    OnOk result (new ≡ (row.0, line_by row.1 row.1.session input))
-heard_line (Ok a) row new s input shown here h e = e ∙ ap (λ (l : Line). (row.0, l)) (sym (straight_line row.1 s input shown here h))
-heard_line (Err f) row new s input shown here h e = tt
+-- ---- a line that indicates it
 
-pub heard_carrier : {A E : Type 0} (result : Result A E) (row : ℕ × Line) (s : Listener) (input : Input) (shown : Shown) (c : Carrying) →
-    row.1.session ≡ Some s → ShowsData s input shown →
-    OnOk result (c ≡ record c { state = carrier_by row.0 row.1.session input c.state })
-heard_carrier (Ok a) row s input shown c here h =
-    ap (λ (x : Carrier). record c { state = x }) (sym (straight_carrier row.0 row.1.session s input shown c.state here h))
-heard_carrier (Err f) row s input shown c here h = tt
-
-pub heard_needs : {A E : Type 0} (result : Result A E) (row : ℕ × Line) (s : Listener) (input : Input) (shown : Shown) (c : Carrier) →
-    row.1.session ≡ Some s → ShowsData s input shown →
-    OnErr result (session_needs row.0 row.1.session input c ≡ true)
-heard_needs (Ok a) row s input shown c here h = tt
-heard_needs (Err f) row s input shown c here h = straight_needs row.0 row.1.session s input shown c here h
+pub shown_line : (v : ℕ × Line) (r : ℕ) (line : Line) (s : Listener) (input : Input) (shown : Shown) (waiting : List Shown) → (r, line) ≡ v →
+    line.session ≡ Some s → ShowsData s input shown →
+    waiting ≡ line.waiting ++ shown ∷ [] →
+    ◌≡◌ {A = ℕ × Line} (r, record line { waiting = waiting }) (v.0, line_by v.1 v.1.session input)
+shown_line v r line s input shown waiting is here h more =
+    subst (λ (x : ℕ × Line). ◌≡◌ {A = ℕ × Line} (r, record line { waiting = waiting }) (x.0, line_by x.1 x.1.session input)) is
+    (ap (λ (w : List Shown). (r, record line { waiting = w })) more
+    ∙ ap (λ (l : Line). (r, l)) (sym (straight_line line s input shown here h)))

@@ -3,7 +3,7 @@ use Rattle.std.proofs.Common.{◌≡◌, ℕ, ◌+◌, ◌<◌, ◌==◌, zero, 
 use Rattle.std.proofs.Common.{subst, ◌∙◌, inl, inr, arith, if◌then◌else◌, []}
 use Rattle.osi_carrier.specs.Packets as carriers
 use Rattle.osi_stack.proofs.Vocabulary.{eqb-true, not-false, Fed, Tells, Happening, Carrying, is_spoilt, Rows, State as Carrier}
-use Rattle.osi_stack.proofs.Vocabulary.{Interrupted, LeftOff, Fetches, hears, hears_first, hears_next, hears_times, hears_all, with_events}
+use Rattle.osi_stack.proofs.Vocabulary.{Interrupted, LeftOff, FeedsToEvent, hears, hears_first, hears_next, hears_times, hears_all, with_events}
 use Rattle.osi_stack.proofs.Vocabulary.{with_carrier, all_lost, concludes, starves, RunsOut, needs_memory, Line, End, Holding, IsAttended}
 use Rattle.osi_stack.proofs.Vocabulary.{holding}
 use Rattle.osi_stack.proofs.carried.what_sessions_leave_of_the_carrier.{hears_keep}
@@ -140,7 +140,7 @@ pub fetched : (old : Holding) (octets : List ℕ) (fed : Fed) (told : Carrying) 
     carriers.Feeds (carrying_of old) octets fed told → HasHeard (holding told old.end.lines) heard →
     Tells None heard.end.carrier carrier.state → carrier.held ≡ heard.held →
     is_some carrier.state.ended ≡ b → lines ≡ (if b then all_lost heard.end.lines else heard.end.lines) →
-    Fetches old octets fed.used (holding carrier lines)
+    FeedsToEvent old octets fed.used (holding carrier lines)
 fetched old octets fed told heard carrier lines b feeds so_far none held over left =
     let is : (holding carrier lines).end ≡ concludes heard.end =
     ap (λ (c : Carrier). record { carrier = c; lines = lines }) none.1
@@ -158,7 +158,7 @@ fetched old octets fed told heard carrier lines b feeds so_far none held over le
 pub fetched_not : (old : Holding) (octets : List ℕ) (fed : Fed) (told : Carrying) (heard new : Holding) →
     carriers.Feeds (carrying_of old) octets fed told →
     LeftOff (with_carrier told.state old.end) heard.end → heard.held ≡ told.held → new ≡ record heard { end = starves heard.end } →
-    Fetches old octets (length octets) new
+    FeedsToEvent old octets (length octets) new
 fetched_not old octets fed told heard new feeds left held is = record {
   fed = fed;
   told = told;

@@ -1,16 +1,15 @@
 -- The line of a reference, at its place among the lines.
-use Rattle.std.proofs.Common.{◌≡◌, ℕ, [], get_or, set, is_some, Option, Some, None, Result, Ok, Err, OnOk, IfErr, refl, sym, ap, subst, ◌∙◌}
+use Rattle.std.proofs.Common.{◌≡◌, ℕ, Bool, true, get_or, set, Option, Some, None, Result, Ok, Err, OnOk, IfErr, refl, sym, ap, subst, ◌∙◌}
 pub use Rattle.osi_carrier.proofs.references.the_row_at_a_place.{nowhere}
-use Rattle.osi_stack.proofs.Vocabulary.{placed, here_is, Carrying, Rows, value_at, place_of, put, State as Carrier, Call, Input, Listener}
-use Rattle.osi_stack.proofs.Vocabulary.{CallError, session_refusal, session_error, Refuses, line_by, carrier_by, by_line, to_session, Line}
+use Rattle.osi_stack.proofs.Vocabulary.{placed, here_is, Carrying, RiseFrom, Rows, value_at, place_of, put, State as Carrier, Call, Input}
+use Rattle.osi_stack.proofs.Vocabulary.{Listener, CallError, session_refusal, session_error, Refuses, line_by, carrier_by, by_line, to_session, Line}
 use Rattle.osi_stack.proofs.Vocabulary.{End, session_in}
 
-found_by : (r : ℕ) (rows : Rows Line) (o : Option ℕ) → place_of r rows ≡ o → is_some o ≡ is_some (value_at r rows)
-found_by r rows None e = sym (ap is_some (nowhere r rows e))
-found_by r rows (Some i) e = sym (ap is_some (placed r rows i (0, record { session = None; waiting = []; selectors = None }) e).there)
-
-pub found : (r : ℕ) (rows : Rows Line) → is_some (place_of r rows) ≡ is_some (value_at r rows)
-found r rows = found_by r rows (place_of r rows) refl
+-- what a search in rows that rise, if they are said to, has found among the lines
+pub found : (r : ℕ) (rises : Bool) (o : Option ℕ) (slice items rows : Rows Line) → slice ≡ items → items ≡ rows →
+    (rises ≡ true → RiseFrom 0 items) → ((rises ≡ true → RiseFrom 0 slice) → o ≡ place_of r slice) → place_of r rows ≡ o
+found r rises o slice items rows same is rise search =
+    sym (search (λ e. subst (RiseFrom 0) (sym same) (rise e)) ∙ ap (place_of r) (same ∙ is))
 
 -- ---- an event for the line at a place
 

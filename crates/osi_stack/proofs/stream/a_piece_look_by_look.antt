@@ -9,7 +9,7 @@ use Rattle.osi_stack.specs.Feeding.{Refuses}
 use Rattle.osi_stack.proofs.Vocabulary.{append-nil, take-append-drop, take_at, or_right, or_left, IsPartial, IsFaultOf, ArePackets}
 use Rattle.osi_stack.proofs.Vocabulary.{offset_of, TpktFault, Value, TpduFault, packets_more, packets_leave, Carrying, HasToHold, is_spoilt}
 use Rattle.osi_stack.proofs.Vocabulary.{ActsBy, Rows, State as Carrier, Tpkt, EndReason, Fault, NoMemory, stops, uses_all, TakesPackets}
-use Rattle.osi_stack.proofs.Vocabulary.{RunsDry, StopsBehind, FindsNoRoom, FindsNoMemory, Goes, Fetches, attends, with_carrier, ends}
+use Rattle.osi_stack.proofs.Vocabulary.{RunsDry, StopsBehind, FindsNoRoom, FindsNoMemory, Goes, FeedsToEvent, attends, with_carrier, ends}
 use Rattle.osi_stack.proofs.Vocabulary.{hears_all, RunsOut, Starves, Line, End, Holding, IsAttended, waits}
 use Rattle.osi_stack.proofs.carried.events_one_after_the_other.{never_starved, concluded_carrier, all_keep_by}
 use Rattle.osi_stack.proofs.stream.the_room_for_a_packet.{room_stays, less_room, packet_faultless, first_part}
@@ -346,7 +346,7 @@ starved_how old piece now rest fed told new read g heard =
     ]
 
 looks : (old : Holding) (piece : List ℕ) (now : Holding) (rest : List ℕ) (used : ℕ) (new : Holding) → IsRead old piece now rest →
-    Fetches now rest used new → Look old piece rest used new
+    FeedsToEvent now rest used new → Look old piece rest used new
 looks old piece now rest used new read fetch =
     let there = with_carrier fetch.told.state now.end in
     elim (fetch.feeds.goes (quiet_end now.end read.quiet read.attended)) [
@@ -419,7 +419,7 @@ behind_stops : (old : Holding) (piece rest : List ℕ) (used uses : ℕ) (new : 
 behind_stops old piece rest used uses new b stopped e = grind arith
 
 pub read_waits : (old : Holding) (piece : List ℕ) (now : Holding) (rest : List ℕ) (used : ℕ) (new : Holding) → IsRead old piece now rest →
-    Fetches now rest used new →
+    FeedsToEvent now rest used new →
     waits new.end.lines ≡ true → Goes old piece (length piece - length (drop used rest)) new
 read_waits old piece now rest used new read fetch waiting = elim (looks old piece now rest used new read fetch) [
   | inl (inl dry) ↦ both (waits new.end.lines) waiting (or_second (is_some new.end.carrier.ended) (waits new.end.lines) dry.runs.quiet)
@@ -435,7 +435,7 @@ read_waits old piece now rest used new read fetch waiting = elim (looks old piec
 ]
 
 pub read_ended : (old : Holding) (piece : List ℕ) (now : Holding) (rest : List ℕ) (used : ℕ) (new : Holding) → IsRead old piece now rest →
-    Fetches now rest used new →
+    FeedsToEvent now rest used new →
     waits new.end.lines ≡ false → is_some new.end.carrier.ended ≡ true → Goes old piece (length piece) new
 read_ended old piece now rest used new read fetch none over = elim (looks old piece now rest used new read fetch) [
   | inl (inl dry) ↦ inl (inl dry.runs)
@@ -474,7 +474,7 @@ behind_on old piece rest used new none lasts attended b =
     }
 
 pub read_on : (old : Holding) (piece : List ℕ) (now : Holding) (rest : List ℕ) (used : ℕ) (new : Holding) → IsRead old piece now rest →
-    Fetches now rest used new →
+    FeedsToEvent now rest used new →
     waits new.end.lines ≡ false → is_some new.end.carrier.ended ≡ false → 0 < length (drop used rest) →
     IsRead old piece new (drop used rest)
 read_on old piece now rest used new read fetch none lasts some = elim (looks old piece now rest used new read fetch) [
@@ -499,7 +499,7 @@ end_of_read old piece new [] nothing held e read place =
 end_of_read old piece new (x ∷ rest) nothing held e read place = absurd (omega arith)
 
 pub read_dry : (old : Holding) (piece : List ℕ) (now : Holding) (rest : List ℕ) (used : ℕ) (new : Holding) → IsPartial [] →
-    IsRead old piece now rest → Fetches now rest used new →
+    IsRead old piece now rest → FeedsToEvent now rest used new →
     waits new.end.lines ≡ false → is_some new.end.carrier.ended ≡ false → length (drop used rest) ≡ 0 → Goes old piece (length piece) new
 read_dry old piece now rest used new nothing read fetch none lasts e = elim (looks old piece now rest used new read fetch) [
   | inl (inl dry) ↦ inl (inl dry.runs)

@@ -1,0 +1,56 @@
+use Rattle.std.proofs.Common.{ℕ, ◌-◌, ◌<◌, List, length, is_some, sym, ap, subst, ◌∙◌}
+use Rattle.osi_stack.proofs.Vocabulary.{eqb-true, Goes, holding}
+use Rattle.osi_stack.proofs.stream.a_piece_look_by_look.{IsRead, read_first, read_waits, read_ended, read_dry, read_on, nonzero}
+use Rattle.osi_stack.proofs.stream.an_empty_piece_changes_nothing.{idle_goes}
+use Rattle.osi_stack.proofs.feeding.feed_to_indication.Goals as goal
+
+pub returns-then-is_empty-clause-goes : goal.returns-then-is_empty-clause-goes
+returns-then-is_empty-clause-goes c =
+    let i = idle_goes (holding c.args.carrier.now c.args.lines.now) c.args.piece.now c.feed.result c.feed.new.self
+    (sym c.is_empty.ensures ∙ c.if-is_empty.true)
+    c.requires.quiet c.requires.attended c.feed.ensures.feeds c.feed.ensures.empty in
+    i.goes
+
+pub returns-then-is_empty-clause-empty : goal.returns-then-is_empty-clause-empty
+returns-then-is_empty-clause-empty c =
+    let i = idle_goes (holding c.args.carrier.now c.args.lines.now) c.args.piece.now c.feed.result c.feed.new.self
+    (sym c.is_empty.ensures ∙ c.if-is_empty.true)
+    c.requires.quiet c.requires.attended c.feed.ensures.feeds c.feed.ensures.empty in
+    λ e. (i.none, i.same)
+
+pub packets-init : goal.packets-init
+packets-init c = read_first (holding c.args.carrier.now c.args.lines.now) c.args.piece.now c.requires.quiet c.requires.attended
+
+pub returns-then-wait-clause-goes : goal.returns-then-wait-clause-goes
+returns-then-wait-clause-goes c =
+    subst (λ (l : List ℕ). Goes (holding c.args.carrier.now c.args.lines.now) c.args.piece.now (length c.args.piece.now - length l)
+    (holding c.feed_to_event-used.new.carrier c.feed_to_event-used.new.lines)) (sym c.split_at.ensures.back)
+    (read_waits (holding c.args.carrier.now c.args.lines.now) c.args.piece.now (holding c.packets.carrier c.packets.lines)
+    c.packets.rest.now c.feed_to_event-used.result (holding c.feed_to_event-used.new.carrier c.feed_to_event-used.new.lines) c.packets.invariant
+    c.feed_to_event-used.ensures
+    (sym c.wait.ensures ∙ c.if-wait.true))
+
+pub returns-then-is_some-clause-goes : goal.returns-then-is_some-clause-goes
+returns-then-is_some-clause-goes c =
+    read_ended (holding c.args.carrier.now c.args.lines.now) c.args.piece.now (holding c.packets.carrier c.packets.lines) c.packets.rest.now
+    c.feed_to_event-used.result (holding c.feed_to_event-used.new.carrier c.feed_to_event-used.new.lines) c.packets.invariant c.feed_to_event-used.ensures
+    (sym c.wait.ensures ∙ c.if-wait.false) (ap is_some (sym c.ended.ensures) ∙ sym c.is_some.ensures ∙ c.if-is_some.true)
+
+pub returns-then-is_empty-2-clause-goes : goal.returns-then-is_empty-2-clause-goes
+returns-then-is_empty-2-clause-goes c =
+    let none = eqb-true (length c.split_at.result.1.now) 0 (sym c.is_empty-in-packets.ensures ∙ c.if-is_empty-2.true) in
+    read_dry (holding c.args.carrier.now c.args.lines.now) c.args.piece.now (holding c.packets.carrier c.packets.lines) c.packets.rest.now
+    c.feed_to_event-used.result (holding c.feed_to_event-used.new.carrier c.feed_to_event-used.new.lines) c.a_prefix_of_a_packet.ensures.nothing
+    c.packets.invariant c.feed_to_event-used.ensures (sym c.wait.ensures ∙ c.if-wait.false)
+    (ap is_some (sym c.ended.ensures) ∙ sym c.is_some.ensures ∙ c.if-is_some.false)
+    (ap length (sym c.split_at.ensures.back) ∙ none)
+
+pub packets-preserved : goal.packets-preserved
+packets-preserved c =
+    let some = nonzero (length c.split_at.result.1.now) (sym c.is_empty-in-packets.ensures ∙ c.if-is_empty-2.false) in
+    subst (λ (l : List ℕ). IsRead (holding c.args.carrier.now c.args.lines.now) c.args.piece.now
+    (holding c.feed_to_event-used.new.carrier c.feed_to_event-used.new.lines) l) (sym c.split_at.ensures.back)
+    (read_on (holding c.args.carrier.now c.args.lines.now) c.args.piece.now (holding c.packets.carrier c.packets.lines) c.packets.rest.now
+    c.feed_to_event-used.result (holding c.feed_to_event-used.new.carrier c.feed_to_event-used.new.lines) c.packets.invariant c.feed_to_event-used.ensures
+    (sym c.wait.ensures ∙ c.if-wait.false) (ap is_some (sym c.ended.ensures) ∙ sym c.is_some.ensures ∙ c.if-is_some.false)
+    (subst (λ (l : List ℕ). 0 < length l) c.split_at.ensures.back some))

@@ -1,0 +1,14 @@
+use Rattle.std.proofs.Common.{ap, sym, ◌∙◌}
+use Rattle.osi_spdu.specs.Groups.{first_of, behind_of}
+use Rattle.osi_stack.proofs.Vocabulary.{meaning, selectors_of}
+use Rattle.osi_stack.proofs.opening.the_selectors_of_what_arrives.{read_selectors, bad_selectors}
+use Rattle.osi_stack.proofs.selectors.SessionSelectors.of_tsdu.Goals as goal
+
+pub returns-in-Ok : goal.returns-in-Ok
+returns-in-Ok c =
+    let group = c.in-Ok.group in
+    c.of_unit.ensures ∙ ap selectors_of (c.of.ensures ∙ ap meaning c.first.ensures)
+    ∙ sym (read_selectors c.args.tsdu.now (first_of group) (behind_of group) c.in-Ok.ensures.exact)
+
+pub returns-in-Err : goal.returns-in-Err
+returns-in-Err c = sym (bad_selectors c.args.tsdu.now c.in-Err.field-0 c.in-Err.ensures.exact)

@@ -1,0 +1,168 @@
+//! Events reach a session: the carrier gets what the session sends, and its user what it indicates.
+
+ghost use Rattle.std.specs.Prelude.{◌≡◌, [], ◌∷◌, None, Some, true, false, ◌<◌, ◌≤◌, ◌+◌, ◌++◌, map, length, IfOk, OnOk, OnErr};
+ghost use Rattle.std.specs.Vec.{vec_len};
+ghost use Rattle.std.specs.VecDeque.{deque_len, deque_capacity};
+ghost use Rattle.osi_session.specs.Listening.{came, react};
+ghost use Rattle.osi_session.specs.Sessions.{Takes};
+ghost use Rattle.osi_session.specs.Shown.{shown_by};
+ghost use Rattle.osi_stack.specs.Events.{event_input};
+ghost use Rattle.osi_stack.specs.Moving.{limit_for, answers};
+ghost use Rattle.osi_stack.specs.Needs.{session_needs};
+ghost use Rattle.osi_stack.specs.Selectors.{is_connect, shows_connect};
+
+use crate::events::SessionEvent;
+use crate::transport::answer;
+use osi_carrier::Carrier;
+use osi_session::{Expected, Indication, Session, Taken};
+use std::alloc::{AllocError, Global};
+use std::collections::VecDeque;
+
+/// The effect of an event for which a session has at most one indication, sends nothing and closes nothing.
+fn quiet_effect(alloc: Global, shown: Option<Indication>) -> Taken
+    ensures first { result.first ≡ shown }
+    ensures more { result.more.items ≡ [] }
+    ensures reply { result.reply ≡ None }
+    ensures closes { result.closes ≡ false }
+{
+    Taken {
+        first: shown,
+        more: Vec::new(alloc),
+        reply: None,
+        closes: false,
+    }
+}
+
+/// The effect of an event on a session. A TSDU goes to the general reader, and is not tried as one that is expected.
+/// An allocation failure changes nothing.
+fn take_event(
+    alloc: Global,
+    session: &mut Session,
+    event: &SessionEvent,
+) -> Result<Taken, AllocError>
+    ensures { Takes result (react session.old (event_input event.now)) session.old session.new }
+{
+    match event {
+        SessionEvent::Opened => Ok(Taken {
+            reply: session.opened(),
+            ..quiet_effect(alloc, None)
+        }),
+        SessionEvent::Refused(reason) => Ok(quiet_effect(alloc, session.refused(*reason))),
+        SessionEvent::Tsdu(octets) => session.take_unexpected(octets.as_slice()),
+        SessionEvent::Lost => Ok(quiet_effect(alloc, session.broken())),
+    }
+}
+
+/// Adds pending indications; there is room for them, and for one more.
+fn push_indications(waiting: &mut VecDeque<Indication>, first: Indication, more: Vec<Indication>)
+    requires { deque_len waiting.old + vec_len more + 1 < deque_capacity waiting.old }
+    ensures items { map shown_by waiting.new.items ≡ map shown_by waiting.old.items ++ shown_by first ∷ map shown_by more.items }
+    ensures room { deque_len waiting.new < deque_capacity waiting.new }
+{
+    waiting.push_back_reserved(first);
+    let mut more = VecDeque::from_vec(more);
+    let Ok(()) = waiting.append(&mut more) else {
+        unreachable!()
+    };
+}
+
+/// Adds a pending indication, and leaves room for one more after it. Memory is needed only if there is not room for
+/// both; if it runs out, the indications that were pending stay so.
+#[inline(always)]
+fn push_indication(waiting: &mut VecDeque<Indication>, shown: Indication) -> Result<(), AllocError>
+    ensures items { OnOk result (map shown_by waiting.new.items ≡ map shown_by waiting.old.items ++ shown_by shown ∷ []) }
+    ensures room { OnOk result (deque_len waiting.new < deque_capacity waiting.new) }
+    ensures kept { OnErr result (waiting.new.items ≡ waiting.old.items) }
+    ensures len { OnErr result (deque_len waiting.new ≡ deque_len waiting.old) }
+    ensures capacity { OnErr result (deque_capacity waiting.old ≤ deque_capacity waiting.new) }
+    ensures full { OnErr result (deque_capacity waiting.old < deque_len waiting.old + 2) }
+{
+    waiting.reserve(2)?;
+    waiting.push_back_reserved(shown);
+    Ok(())
+}
+
+/// Whether this indicates that a connection is requested.
+fn is_connect(shown: &Indication) -> bool
+    ensures { result ≡ is_connect (shown_by shown.now) }
+{
+    matches!(shown, Indication::Connect { .. })
+}
+
+/// A session handles any event; a TSDU as one that is not expected, because [`handle_event`] tried that. The function
+/// is kept out of line: otherwise stack space for everything that it may do would be reserved on the data path, too.
+#[inline(never)]
+fn handle_unexpected(
+    alloc: Global,
+    session: &mut Session,
+    waiting: &mut VecDeque<Indication>,
+    event: &SessionEvent,
+    carrier: &mut Carrier,
+    reference: u16,
+) -> Result<bool, AllocError>
+    requires { deque_len waiting.old < deque_capacity waiting.old }
+    ensures connects { IfOk result (λ b. b ≡ shows_connect (react session.old (event_input event.now)).shown) }
+    ensures session { OnOk result (session.new ≡ (react session.old (event_input event.now)).next) }
+    ensures shown { OnOk result (map shown_by waiting.new.items ≡ map shown_by waiting.old.items ++ (react session.old (event_input event.now)).shown) }
+    ensures room { OnOk result (deque_len waiting.new < deque_capacity waiting.new) }
+    ensures carrier { OnOk result (carrier.new ≡ record carrier.old { state = answers reference (limit_for session.old (event_input event.now)) (react session.old (event_input event.now)) carrier.old.state }) }
+    ensures kept { OnErr result (waiting.new.items ≡ waiting.old.items) }
+    ensures len { OnErr result (deque_len waiting.new ≡ deque_len waiting.old) }
+    ensures capacity { OnErr result (deque_capacity waiting.old ≤ deque_capacity waiting.new) }
+    ensures err { OnErr result (carrier.new ≡ carrier.old) }
+    ensures needed { OnErr result (session_needs reference (Some session.old) (event_input event.now) carrier.old.state ≡ true) }
+{
+    let Taken {
+        first,
+        more,
+        reply,
+        closes,
+    } = take_event(alloc, session, event)?;
+    let Some(first) = first else {
+        answer(carrier, reference, reply, closes)?;
+        return Ok(false);
+    };
+    waiting.reserve(more.len() + 2)?;
+    answer(carrier, reference, reply, closes)?;
+    let connects = is_connect(&first);
+    push_indications(waiting, first, more);
+    Ok(connects)
+}
+
+/// A session handles an event; returns whether it indicates that a connection is requested. There is room for one
+/// pending indication, and afterwards for one more. Memory is needed only if something is indicated, sent or joined,
+/// or a DR is written; an allocation failure leaves the pending indications and the carrier unchanged. A TSDU is tried
+/// once as one that is expected, which is the fast path; any other goes to the general reader.
+pub fn handle_event(
+    alloc: Global,
+    session: &mut Session,
+    waiting: &mut VecDeque<Indication>,
+    event: &SessionEvent,
+    carrier: &mut Carrier,
+    reference: u16,
+) -> Result<bool, AllocError>
+    requires { deque_len waiting.old < deque_capacity waiting.old }
+    ensures connects { IfOk result (λ b. b ≡ shows_connect (react session.old (event_input event.now)).shown) }
+    ensures session { OnOk result (session.new ≡ (react session.old (event_input event.now)).next) }
+    ensures shown { OnOk result (map shown_by waiting.new.items ≡ map shown_by waiting.old.items ++ (react session.old (event_input event.now)).shown) }
+    ensures room { OnOk result (deque_len waiting.new < deque_capacity waiting.new) }
+    ensures carrier { OnOk result (carrier.new ≡ record carrier.old { state = answers reference (limit_for session.old (event_input event.now)) (react session.old (event_input event.now)) carrier.old.state }) }
+    ensures kept { OnErr result (waiting.new.items ≡ waiting.old.items) }
+    ensures len { OnErr result (deque_len waiting.new ≡ deque_len waiting.old) }
+    ensures capacity { OnErr result (deque_capacity waiting.old ≤ deque_capacity waiting.new) }
+    ensures err { OnErr result (carrier.new ≡ carrier.old) }
+    ensures needed { OnErr result (session_needs reference (Some session.old) (event_input event.now) carrier.old.state ≡ true) }
+{
+    if let SessionEvent::Tsdu(octets) = event {
+        match session.take_expected(octets.as_slice())? {
+            Expected::Shown(indication) => {
+                let connects = is_connect(&indication);
+                push_indication(waiting, indication)?;
+                return Ok(connects);
+            }
+            Expected::Joined => return Ok(false),
+            Expected::Other => (),
+        }
+    }
+    handle_unexpected(alloc, session, waiting, event, carrier, reference)
+}
