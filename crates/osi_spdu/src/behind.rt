@@ -1,6 +1,6 @@
 //! The units of category 2 that follow the first unit of a TSDU.
 
-ghost use Rattle.std.specs.Prelude.{◌≡◌, ◌≤◌, ◌<◌, ◌+◌, ◌^◌, true, length, Some, None, Err, [], ◌∷◌, option_map, OnOk, IfErr, IfSome};
+ghost use Rattle.std.specs.Prelude.{◌≡◌, ◌≤◌, ◌<◌, ◌+◌, ◌^◌, true, length, Some, None, Err, [], ◌∷◌, drop, option_map, OnOk, IfErr, IfSome, MatchOption};
 ghost use Rattle.osi_spdu.specs.declared.kinds.Category.TheVariants.{Two};
 ghost use Rattle.osi_spdu.specs.Behind.{AreLeft, left_prop, is_behind};
 ghost use Rattle.osi_spdu.specs.Kinds.{category_of, kind_named};
@@ -73,6 +73,31 @@ impl<'a> Behind<'a> {
                 }
             }
         }
+    }
+
+    /// The next unit, borrowed.
+    #[inline(always)]
+    pub(crate) fn first(&self) -> Option<&Spdu<'a>>
+        ensures { MatchOption result (units_behind self.now ≡ [])
+            (λ unit. units_behind self.now ≡ said_by unit.now ∷ drop 1 (units_behind self.now)) }
+    {
+        match &self.next {
+            None => None,
+            Some(unit) => Some(unit),
+        }
+    }
+
+    /// The units after the next one.
+    #[inline(always)]
+    pub(crate) fn after_first(&self) -> Behind<'a>
+        ensures { units_behind result ≡ drop 1 (units_behind self.now) }
+    {
+        if self.rest.is_empty() {
+            return Behind::none();
+        }
+        let mut later = *self;
+        let _first = later.next();
+        later
     }
 
     /// The units that these octets are, or their first fault.
