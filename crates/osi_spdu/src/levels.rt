@@ -269,9 +269,11 @@ fn number_alone<'a>(kind: Kind, octets: &[u8]) -> Option<Params<'a>>
     Some(Params::numbered(number))
 }
 
-/// The parameters and groups of a unit. Most units have none; for these no `Params` is filled.
+/// The parameters and groups of a unit. Most units have none; for these no `Params` is filled. Only a unit that follows
+/// another can have a serial number alone.
 #[inline(always)]
 pub(crate) fn read_parameters<'a>(
+    second: bool,
     kind: Kind,
     at: usize,
     octets: &'a [u8],
@@ -282,8 +284,10 @@ pub(crate) fn read_parameters<'a>(
     if octets.is_empty() {
         return Ok(Params::none());
     }
-    if let Some(params) = number_alone(kind, octets) {
-        return Ok(params);
+    if second {
+        if let Some(params) = number_alone(kind, octets) {
+            return Ok(params);
+        }
     }
     some_parameters(kind, at, octets)
 }

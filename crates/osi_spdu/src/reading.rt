@@ -69,7 +69,7 @@ fn unit_at<'a>(
     };
     let kind = placed_kind(second, at, *si)?;
     let counted = measured_at(at, after)?;
-    *params = read_parameters(kind, at + (1 + counted.used), counted.value)?;
+    *params = read_parameters(second, kind, at + (1 + counted.used), counted.value)?;
     check_there(at, kind, params)?;
     let end = at + (1 + counted.used + counted.value.len());
     Ok(Found {
