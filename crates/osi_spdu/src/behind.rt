@@ -2,7 +2,7 @@
 
 ghost use Rattle.std.specs.Prelude.{◌≡◌, ◌≤◌, ◌<◌, ◌+◌, ◌^◌, true, length, Some, None, Err, [], ◌∷◌, drop, option_map, OnOk, IfErr, IfSome, MatchOption};
 ghost use Rattle.osi_spdu.specs.declared.kinds.Category.TheVariants.{Two};
-ghost use Rattle.osi_spdu.specs.Behind.{AreLeft, left_prop, is_behind};
+ghost use Rattle.osi_spdu.specs.Behind.{AreLeft, left_prop, left_at, is_behind};
 ghost use Rattle.osi_spdu.specs.Kinds.{category_of, kind_named};
 ghost use Rattle.osi_spdu.specs.Reading.{Gives, behind_at, crowded};
 ghost use Rattle.osi_spdu.specs.Units.{said_by};
@@ -55,6 +55,23 @@ impl<'a> Behind<'a> {
             room: 0,
             at: 0,
             rest: &[],
+        }
+    }
+
+    /// A unit, and the units that these octets are.
+    #[inline(always)]
+    pub(crate) fn after(unit: Spdu<'a>, at: usize, rest: &'a [u8]) -> Behind<'a>
+        requires within { at + length rest.now < 2 ^ 64 }
+        requires stands { is_behind (Some unit.kind) rest.now ≡ true }
+        requires left { AreLeft 15 at rest.now }
+        ensures units { units_behind result ≡ said_by unit.entry ∷ left_at 15 at rest.now }
+        ensures next { result.next ≡ Some unit.entry }
+    {
+        Behind {
+            next: Some(unit),
+            room: 15,
+            at,
+            rest,
         }
     }
 
@@ -165,7 +182,7 @@ fn crowded(at: usize, si: u8) -> SpduFault
 }
 
 /// Reads the units after the first one, to the end of the TSDU or to the first fault.
-fn read_others(room: usize, at: usize, octets: &[u8]) -> Result<(), SpduFault>
+pub(crate) fn read_others(room: usize, at: usize, octets: &[u8]) -> Result<(), SpduFault>
     requires { at + length octets.now < 2 ^ 64 }
     ensures left { OnOk result (AreLeft room at octets.now) }
     ensures refused { IfErr result (λ f. behind_at room at octets.now ≡ Err f) }

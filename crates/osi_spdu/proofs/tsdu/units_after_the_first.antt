@@ -169,6 +169,7 @@ pub none_after_one : (next : Option Spdu) (others : Units) → others ≡ [] →
 none_after_one None others e = refl
 none_after_one (Some unit) others e = sym e
 
-pub others_given : (old : Behind) (next : Option Spdu) (new : Behind) → GivesBehind old next new → units_behind new ≡ drop 1 (units_behind old)
+pub others_given : (old : Behind) (next : Option Spdu) (new : Behind) → GivesBehind old next new →
+    units_behind new ≡ drop 1 (units_behind old)
 others_given old (Some unit) new e = sym (ap (λ (us : Units). drop 1 us) e)
 others_given old None new e = e.1 ∙ sym (ap (λ (us : Units). drop 1 us) e.0)
