@@ -17,3 +17,4 @@ pub mod Units
 pub mod Made
 pub mod Found
 pub mod Faults
+pub mod Kept

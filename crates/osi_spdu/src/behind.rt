@@ -1,8 +1,8 @@
 //! The units of category 2 that follow the first unit of a TSDU.
 
-ghost use Rattle.std.specs.Prelude.{◌≡◌, ◌≤◌, ◌<◌, ◌+◌, ◌^◌, true, length, Some, None, Err, [], ◌∷◌, option_map, OnOk, IfErr, IfSome};
+ghost use Rattle.std.specs.Prelude.{◌≡◌, ◌≤◌, ◌<◌, ◌+◌, ◌^◌, true, length, Some, None, Err, [], ◌∷◌, drop, option_map, OnOk, IfErr, IfSome, MatchOption};
 ghost use Rattle.osi_spdu.specs.declared.kinds.Category.TheVariants.{Two};
-ghost use Rattle.osi_spdu.specs.Behind.{AreLeft, left_prop, is_behind};
+ghost use Rattle.osi_spdu.specs.Behind.{AreLeft, left_prop, left_at, is_behind};
 ghost use Rattle.osi_spdu.specs.Kinds.{category_of, kind_named};
 ghost use Rattle.osi_spdu.specs.Reading.{Gives, behind_at, crowded};
 ghost use Rattle.osi_spdu.specs.Units.{said_by};
@@ -58,6 +58,23 @@ impl<'a> Behind<'a> {
         }
     }
 
+    /// A unit, and the units that these octets are.
+    #[inline(always)]
+    pub(crate) fn after(unit: Spdu<'a>, at: usize, rest: &'a [u8]) -> Behind<'a>
+        requires within { at + length rest.now < 2 ^ 64 }
+        requires stands { is_behind (Some unit.kind) rest.now ≡ true }
+        requires left { AreLeft 15 at rest.now }
+        ensures units { units_behind result ≡ said_by unit.entry ∷ left_at 15 at rest.now }
+        ensures next { result.next ≡ Some unit.entry }
+    {
+        Behind {
+            next: Some(unit),
+            room: 15,
+            at,
+            rest,
+        }
+    }
+
     /// The only unit that is left, or `None` if there is none or more than one.
     #[inline(always)]
     pub(crate) fn only(&self) -> Option<&Spdu<'a>>
@@ -73,6 +90,31 @@ impl<'a> Behind<'a> {
                 }
             }
         }
+    }
+
+    /// The next unit, borrowed.
+    #[inline(always)]
+    pub(crate) fn first(&self) -> Option<&Spdu<'a>>
+        ensures { MatchOption result (units_behind self.now ≡ [])
+            (λ unit. units_behind self.now ≡ said_by unit.now ∷ drop 1 (units_behind self.now)) }
+    {
+        match &self.next {
+            None => None,
+            Some(unit) => Some(unit),
+        }
+    }
+
+    /// The units after the next one.
+    #[inline(always)]
+    pub(crate) fn after_first(&self) -> Behind<'a>
+        ensures { units_behind result ≡ drop 1 (units_behind self.now) }
+    {
+        if self.rest.is_empty() {
+            return Behind::none();
+        }
+        let mut later = *self;
+        let _first = later.next();
+        later
     }
 
     /// The units that these octets are, or their first fault.
@@ -140,7 +182,7 @@ fn crowded(at: usize, si: u8) -> SpduFault
 }
 
 /// Reads the units after the first one, to the end of the TSDU or to the first fault.
-fn read_others(room: usize, at: usize, octets: &[u8]) -> Result<(), SpduFault>
+pub(crate) fn read_others(room: usize, at: usize, octets: &[u8]) -> Result<(), SpduFault>
     requires { at + length octets.now < 2 ^ 64 }
     ensures left { OnOk result (AreLeft room at octets.now) }
     ensures refused { IfErr result (λ f. behind_at room at octets.now ≡ Err f) }

@@ -1,6 +1,6 @@
 //! The units of one TSDU.
 
-ghost use Rattle.std.specs.Prelude.{◌≡◌, true, option_map, Some, None, [], ◌∷◌};
+ghost use Rattle.std.specs.Prelude.{◌≡◌, true, option_map, drop, MatchOption, Some, None, [], ◌∷◌};
 ghost use Rattle.osi_spdu.specs.Kinds.{category_of};
 ghost use Rattle.osi_spdu.specs.declared.kinds.Category.TheVariants.{Two};
 ghost use Rattle.osi_spdu.specs.Params.{known_of, no_params};
@@ -74,6 +74,24 @@ impl<'a> Group<'a> {
     {
         self.behind
     }
+
+    /// The second unit, borrowed.
+    #[inline(always)]
+    pub fn second(&self) -> Option<&Spdu<'a>>
+        ensures { MatchOption result (behind_of self.now ≡ [])
+            (λ unit. behind_of self.now ≡ said_by unit.now ∷ drop 1 (behind_of self.now)) }
+    {
+        self.others().first()
+    }
+
+    /// The units after the second one.
+    #[inline(always)]
+    pub fn after_second(&self) -> Behind<'a>
+        ensures { units_behind result ≡ drop 1 (behind_of self.now) }
+    {
+        self.others().after_first()
+    }
+
     /// The units after the first one, borrowed.
     #[inline(always)]
     pub(crate) fn others(&self) -> &Behind<'a>

@@ -1,11 +1,12 @@
 //! Parameters of one level: those of a unit, and those of a group within it.
 
-ghost use Rattle.std.specs.Prelude.{◌≡◌, ◌≤◌, ◌<◌, ◌+◌, ◌^◌, [], ◌∷◌, length, is_some, if◌then◌else◌, ℕ, Ok, IfOk, IfSome};
+ghost use Rattle.std.specs.Prelude.{set, Some, ◌≡◌, ◌≤◌, ◌<◌, ◌+◌, ◌^◌, [], ◌∷◌, length, is_some, if◌then◌else◌, ℕ, Ok, IfOk, IfSome};
 ghost use Rattle.osi_spdu.specs.Reading.{Gives, Taking, counted_at, long_at, measured_at, parameter_at, stored, in_group, in_unit, params_of, all_there};
 ghost use Rattle.osi_spdu.specs.Kinds.{members_of, required_of};
 ghost use Rattle.osi_spdu.specs.Known.{nothing};
 ghost use Rattle.osi_spdu.specs.Codes.{number_of, slot_of};
-ghost use Rattle.osi_spdu.specs.Params.{slots_of};
+ghost use Rattle.osi_spdu.specs.Params.{cells_of, slots_of};
+ghost use Rattle.osi_spdu.specs.Values.{digits_of};
 ghost use Rattle.osi_spdu.specs.Counted.{measured_of, parameter_of};
 
 use crate::codes::Code;
@@ -254,24 +255,27 @@ fn digits_alone(octets: &[u8]) -> Option<&[u8]>
     Some(digits)
 }
 
-/// The parameters of a unit that has a serial number and nothing else, as most points and confirmations do. They are
-/// read without the loop over parameters, so that their `Params` needs no place in memory.
+/// The serial number of a unit that has this parameter and nothing else, as most points and confirmations do. It is read
+/// without the loop over parameters, so that the `Params` of such a unit needs no place in memory.
 #[inline(always)]
-fn number_alone<'a>(kind: Kind, octets: &[u8]) -> Option<Params<'a>>
-    ensures { IfSome result (λ params. (at : ℕ) →
-        params_of (in_unit kind) at nothing octets.now ≡ Ok (slots_of params)) }
+fn number_alone(kind: Kind, octets: &[u8]) -> Option<Serial>
+    ensures { IfSome result (λ number. (at : ℕ) → (p q : Params) → slots_of p ≡ nothing →
+        cells_of q ≡ set (cells_of p) 17 (Some (digits_of number.number)) →
+        params_of (in_unit kind) at nothing octets.now ≡ Ok (slots_of q)) }
 {
     let digits = digits_alone(octets)?;
     if !kind.is_numbered() {
         return None;
     }
     let number = Serial::read(digits)?;
-    Some(Params::numbered(number))
+    Some(number)
 }
 
-/// The parameters and groups of a unit. Most units have none; for these no `Params` is filled.
+/// The parameters and groups of a unit. Most units have none; for these no `Params` is filled. Only a unit that follows
+/// another can have a serial number alone.
 #[inline(always)]
-pub(crate) fn read_parameters<'a>(
+fn read_parameters<'a>(
+    second: bool,
     kind: Kind,
     at: usize,
     octets: &'a [u8],
@@ -282,10 +286,62 @@ pub(crate) fn read_parameters<'a>(
     if octets.is_empty() {
         return Ok(Params::none());
     }
-    if let Some(params) = number_alone(kind, octets) {
-        return Ok(params);
+    if second {
+        if let Some(number) = number_alone(kind, octets) {
+            let mut params = Params::none();
+            params.put_number(number);
+            return Ok(params);
+        }
     }
     some_parameters(kind, at, octets)
+}
+
+/// The parameters and groups of a unit, for a caller that keeps them in memory: they are put where they stay, and none were
+/// there before.
+#[inline(always)]
+fn fill_parameters<'a>(
+    second: bool,
+    kind: Kind,
+    at: usize,
+    octets: &'a [u8],
+    params: &mut Params<'a>,
+) -> Result<(), SpduFault>
+    requires room { at + length octets.now < 2 ^ 64 }
+    requires none { slots_of params.old ≡ nothing }
+    ensures { Gives (λ _. slots_of params.new) result (params_of (in_unit kind) at nothing octets.now) }
+{
+    if octets.is_empty() {
+        return Ok(());
+    }
+    if second {
+        if let Some(number) = number_alone(kind, octets) {
+            params.put_number(number);
+            return Ok(());
+        }
+    }
+    take_all(&OfUnit { kind }, at, octets, params)
+}
+
+/// Puts the parameters and groups of a unit where they are `kept` in memory, or else into a `Params` of their own, which
+/// then moves.
+#[inline(always)]
+pub(crate) fn parameters_at<'a>(
+    kept: bool,
+    second: bool,
+    kind: Kind,
+    at: usize,
+    octets: &'a [u8],
+    params: &mut Params<'a>,
+) -> Result<(), SpduFault>
+    requires room { at + length octets.now < 2 ^ 64 }
+    requires none { slots_of params.old ≡ nothing }
+    ensures { Gives (λ _. slots_of params.new) result (params_of (in_unit kind) at nothing octets.now) }
+{
+    if kept {
+        return fill_parameters(second, kind, at, octets, params);
+    }
+    *params = read_parameters(second, kind, at, octets)?;
+    Ok(())
 }
 
 /// Whether a mandatory parameter is there.

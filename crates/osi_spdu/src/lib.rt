@@ -52,7 +52,7 @@ pub use kinds::{Category, Kind};
 pub use making::Terms;
 pub use octets::Value;
 pub use params::Params;
-pub use reading::read_tsdu;
+pub use reading::{read_group, read_tsdu};
 pub use requirements::Requirements;
 pub use selectors::Selector;
 pub use serials::Serial;

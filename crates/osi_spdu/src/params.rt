@@ -110,16 +110,13 @@ impl<'a> Params<'a> {
         Params::NONE
     }
 
-    /// The parameters of a unit that has a serial number and nothing else.
+    /// Puts a serial number into its slot.
     #[inline(always)]
     #[tactic(auto, unfolding(crate::specs::Params::cells_of))]
-    pub(crate) fn numbered(number: Serial) -> Params<'a>
-        ensures { cells_of result ≡ set (cells_of no_params) 17 (Some (digits_of number.number)) }
+    pub(crate) fn put_number(&mut self, number: Serial)
+        ensures { cells_of self.new ≡ set (cells_of self.old) 17 (Some (digits_of number.number)) }
     {
-        Params {
-            number: Some(number),
-            ..Params::NONE
-        }
+        self.number = Some(number);
     }
 
     /// Normalises the parameters: a token item keeps only the bits that name a token, and empty user data counts as

@@ -67,6 +67,23 @@ impl<'a> Spdu<'a> {
         }
     }
 
+    /// A unit with these parameters, which are normalised already, and the user information of a DT.
+    #[inline(always)]
+    pub(crate) fn settled(kind: Kind, params: Params<'a>, octets: &'a [u8]) -> Spdu<'a>
+        requires settled { is_settled params ≡ true }
+        requires formed { is_formed kind (known_of params) ≡ true }
+        requires informed { is_informed kind octets.now ≡ true }
+        ensures value { said_by result
+            ≡ record { kind = kind; known = known_of params.entry; information = octets.now } }
+        ensures kind { (said_by result).kind ≡ kind }
+    {
+        Spdu {
+            kind,
+            params,
+            information: octets,
+        }
+    }
+
     /// The kind of the unit.
     pub fn kind(&self) -> Kind
         ensures { result ≡ (said_by self.now).kind }

@@ -4,12 +4,11 @@ use Rattle.std.proofs.Common.{◌≡◌, ℕ, ◌+◌, ◌≤◌, Bool, true, fa
 use Rattle.std.proofs.Common.{◌-◌, option_map, refl, sym, ap, subst, ◌∙◌, arith}
 use Rattle.osi_spdu.proofs.Vocabulary.{le-ltb, ne_eqb, drop_all, take_all, is_some, numeral, digits_of, canonical, canonical_in, may_enclose}
 use Rattle.osi_spdu.proofs.Vocabulary.{Code, Number, number_of, slot_of, is_group, Kind, codes_of, among, Params, place_of, cells_of, slots_of}
-use Rattle.osi_spdu.proofs.Vocabulary.{no_params, filled, Known, nothing, Measured, measured_at, counted_at, parameter_at, params_of, in_unit}
+use Rattle.osi_spdu.proofs.Vocabulary.{filled, Known, nothing, Measured, measured_at, counted_at, parameter_at, params_of, in_unit}
 use Rattle.osi_spdu.proofs.Vocabulary.{parameter_taken, stored, code_among}
 use Rattle.osi_spdu.specs.Reading.{opened}
 use Rattle.osi_spdu.proofs.basics.the_steps_of_reading.{bind_of}
 use Rattle.osi_spdu.proofs.parameters.a_code_is_looked_up.{if_among, looked_up}
-use Rattle.osi_spdu.proofs.parameters.a_slot_is_filled.{no_slots}
 use Rattle.osi_spdu.proofs.parameters.parameters_one_after_the_other.{stored_done, taking_start, taking_next, taking_end}
 
 -- the code 42, a length, and so many octets
@@ -35,35 +34,35 @@ number_found kind knows =
     let is : if_among (codes_of kind) (Some Number) ≡ Some Number = ap (λ (b : Bool). cond b (Some Number) None) knows in
     looked_up (codes_of kind) 42 ∙ is
 
-number_stored : (kind : Kind) (at number : ℕ) (digits : List ℕ) (q : Params) → Some number ≡ numeral digits →
-    cells_of q ≡ set (cells_of no_params) 17 (Some (digits_of number)) → stored kind at Number digits nothing ≡ Ok (slots_of q)
+number_stored : (kind : Kind) (at number : ℕ) (digits : List ℕ) (p q : Params) → Some number ≡ numeral digits → slots_of p ≡ nothing →
+    cells_of q ≡ set (cells_of p) 17 (Some (digits_of number)) → stored kind at Number digits nothing ≡ Ok (slots_of q)
 unfolding slot_of place_of
-number_stored kind at number digits q e cells =
+number_stored kind at number digits p q e none cells =
     let form = form_of_number kind number digits e in
-    let free : is_some (slots_of no_params (slot_of Number)) ≡ false = ap (λ (k : Known). is_some (k (slot_of Number))) no_slots in
+    let free : is_some (slots_of p (slot_of Number)) ≡ false = ap (λ (k : Known). is_some (k (slot_of Number))) none in
     let good : is_some (canonical_in kind Number digits) ≡ true = ap is_some form in
-    let filled_is : cells_of q ≡ filled (cells_of no_params) (place_of (slot_of Number)) (canonical_in kind Number digits) =
-    cells ∙ ap (filled (cells_of no_params) (place_of (slot_of Number))) (sym form) in
-    subst (λ (k : Known). stored kind at Number digits k ≡ Ok (slots_of q)) no_slots
-    (stored_done kind at Number digits no_params q free good filled_is)
+    let filled_is : cells_of q ≡ filled (cells_of p) (place_of (slot_of Number)) (canonical_in kind Number digits) =
+    cells ∙ ap (filled (cells_of p) (place_of (slot_of Number))) (sym form) in
+    subst (λ (k : Known). stored kind at Number digits k ≡ Ok (slots_of q)) none
+    (stored_done kind at Number digits p q free good filled_is)
 
-number_taken : (kind : Kind) (at body number : ℕ) (digits : List ℕ) (q : Params) → among (codes_of kind) Number ≡ true →
-    Some number ≡ numeral digits → cells_of q ≡ set (cells_of no_params) 17 (Some (digits_of number)) →
+number_taken : (kind : Kind) (at body number : ℕ) (digits : List ℕ) (p q : Params) → among (codes_of kind) Number ≡ true →
+    Some number ≡ numeral digits → slots_of p ≡ nothing → cells_of q ≡ set (cells_of p) 17 (Some (digits_of number)) →
     in_unit kind at body 42 digits nothing ≡ Ok (slots_of q)
 unfolding in_unit is_group
-number_taken kind at body number digits q knows e cells =
+number_taken kind at body number digits p q knows e none cells =
     ap (parameter_taken kind at body digits nothing) (number_found kind knows)
     ∙ bind_of (stored kind at Number digits nothing) (opened kind body Number digits) (slots_of q) (Ok (slots_of q))
-    (number_stored kind at number digits q e cells) refl
+    (number_stored kind at number digits p q e none cells) refl
 
-pub number_alone : (kind : Kind) (at n number : ℕ) (digits : List ℕ) (q : Params) → n ≤ 6 → n ≡ length digits →
-    among (codes_of kind) Number ≡ true → Some number ≡ numeral digits →
-    cells_of q ≡ set (cells_of no_params) 17 (Some (digits_of number)) →
+pub number_alone : (kind : Kind) (at n number : ℕ) (digits : List ℕ) (p q : Params) → n ≤ 6 → n ≡ length digits →
+    among (codes_of kind) Number ≡ true → Some number ≡ numeral digits → slots_of p ≡ nothing →
+    cells_of q ≡ set (cells_of p) 17 (Some (digits_of number)) →
     params_of (in_unit kind) at nothing (42 ∷ n ∷ digits) ≡ Ok (slots_of q)
-number_alone kind at n number digits q few same knows e cells =
+number_alone kind at n number digits p q few same knows e none cells =
     let octets : List ℕ = 42 ∷ n ∷ digits in
     let m : Measured = record { used = 1; value = digits; rest = [] } in
-    let taken = number_taken kind at (at + (1 + 1)) number digits q knows e cells in
+    let taken = number_taken kind at (at + (1 + 1)) number digits p q knows e none cells in
     let all = taking_next (in_unit kind) at 42 m nothing (slots_of q) octets at nothing octets (counted at n digits few same) (omega arith)
     taken (taking_start (in_unit kind) at nothing octets) in
     taking_end (in_unit kind) (at + (1 + 1 + length digits)) (slots_of q) [] at nothing octets refl all

@@ -1,10 +1,11 @@
 -- How the reader of a TSDU continues after the first unit.
-use Rattle.std.proofs.Common.{◌≡◌, ℕ, Bool, true, false, ◌&&◌, List, [], ◌∷◌, length, Some, Result, Ok, Err, refl, sym, ◌∙◌, arith}
+use Rattle.std.proofs.Common.{◌≡◌, ℕ, Bool, true, false, ◌&&◌, List, [], ◌∷◌, length, Some, Result, Ok, Err, refl, sym, ap, ◌∙◌, arith}
 use Rattle.osi_spdu.specs.declared.reading.Found.{Found}
 use Rattle.osi_spdu.proofs.Vocabulary.{IfOk, IsOkAnd, IsOctets, SpduFault, TrailingOctets, Kind, category_of, may_stand, Category, Zero}
 use Rattle.osi_spdu.proofs.Vocabulary.{One, Two, Behind, Group, Contents, Units, Params, known_of, is_formed, is_joined, IsFormedTsdu}
 use Rattle.osi_spdu.proofs.Vocabulary.{TsduFits, Gives, Placed, unit_at, contents_of, behind_at, ended, continued, tsdu_at, SpellsTsdu}
-use Rattle.osi_spdu.proofs.Vocabulary.{placed_of, units_behind, units_of}
+use Rattle.osi_spdu.proofs.Vocabulary.{placed_of, units_behind, units_of, Known, ◌>>=◌}
+use Rattle.osi_spdu.specs.Kept.{followed_at}
 use Rattle.osi_spdu.proofs.basics.the_steps_of_reading.{ok_is}
 use Rattle.osi_spdu.proofs.form.what_is_read_has_a_form.{placed_formed}
 use Rattle.osi_spdu.proofs.form.values_in_memory_are_in_their_form.{group_formed}
@@ -22,6 +23,16 @@ found_formed params (Err d) second at octets fits e = tt
 pub tsdu_goes : (octets : List ℕ) (p : Placed) → unit_at false 0 octets ≡ Ok p → tsdu_at octets ≡ continued (category_of p.kind) p
 unfolding tsdu_at
 tsdu_goes octets p e = rw e refl
+
+abbrev pub unit_with : Kind → Known → Contents
+unit_with kind known = record { kind = kind; known = known; information = [] }
+
+pub tsdu_followed : (octets : List ℕ) (p : Placed) (known : Known) → unit_at false 0 octets ≡ Ok p → category_of p.kind ≡ Zero →
+    known ≡ p.known → tsdu_at octets ≡ followed_at (unit_with p.kind known) p.end p.rest
+unfolding followed_at
+tsdu_followed octets p known e zero same =
+    tsdu_goes octets p e ∙ ap (λ (category : Category). continued category p) zero
+    ∙ ap (λ (k : Known). behind_at 16 p.end p.rest >>= λ behind. Ok (unit_with p.kind k ∷ behind)) (sym same)
 
 ended_none : (at : ℕ) (octets : List ℕ) (unit : Contents) → length octets ≡ 0 → ended at octets unit ≡ Ok (unit ∷ [])
 ended_none at [] unit e = refl

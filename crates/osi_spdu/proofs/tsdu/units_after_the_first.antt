@@ -1,9 +1,12 @@
 -- Units after the first one, given one after the other.
-use Rattle.std.proofs.Common.{◌≡◌, ℕ, zero, suc, ◌-◌, ◌≤◌, ◌==◌, ◌&&◌, ◌||◌, not, true, false, List, [], ◌∷◌, length, get_or, Option, Some}
+use Rattle.std.proofs.Common.{◌≡◌, ℕ, zero, suc, ◌-◌, ◌≤◌, ◌==◌, ◌&&◌, ◌||◌, not, true, false, List, [], ◌∷◌, length, drop, get_or, Option, Some}
 use Rattle.std.proofs.Common.{None, Result, Ok, Err, refl, sym, ap, subst, ◌∙◌, arith}
 use Rattle.osi_spdu.proofs.Vocabulary.{is_ok, AllByRecursion, result_unwrap_or, and_parts, or_right, eq-eqb, SpduFault, Kind, Category}
 use Rattle.osi_spdu.proofs.Vocabulary.{Zero, One, Two, kind_named, category_of, may_stand, Units, ◌>>=◌, Next, next_at, behind_at, crowded}
-use Rattle.osi_spdu.proofs.Vocabulary.{takes_rest, is_zero, is_joined, IsFormedUnit, left_at, AreLeft, is_behind}
+use Rattle.osi_spdu.proofs.Vocabulary.{takes_rest, is_zero, is_joined, IsFormedUnit, left_at, AreLeft, is_behind, Contents, Behind}
+use Rattle.osi_spdu.proofs.Vocabulary.{said_by, units_from, units_behind}
+use Rattle.osi_spdu.specs.declared.units.Spdu.{Spdu}
+use Rattle.osi_spdu.specs.Groups.{GivesBehind}
 use Rattle.osi_spdu.proofs.tsdu.units_and_tsdus_are_read.{left_read}
 
 abbrev Read : Type 0
@@ -156,3 +159,17 @@ pub joined_behind : (first : Kind) (next : Option Kind) (rest : List ℕ) → ca
     is_joined first next ≡ true
 unfolding is_joined is_behind may_stand
 joined_behind first next rest h0 h1 = grind (arith, and_parts)
+
+-- ---- the first of the units, borrowed, and those after it
+
+pub first_apart : (u : Contents) (us others : Units) → us ≡ u ∷ others → us ≡ u ∷ drop 1 us
+first_apart u us others e = subst (λ (l : Units). l ≡ u ∷ drop 1 l) (sym e) refl
+
+pub none_after_one : (next : Option Spdu) (others : Units) → others ≡ [] → [] ≡ drop 1 (units_from next others)
+none_after_one None others e = refl
+none_after_one (Some unit) others e = sym e
+
+pub others_given : (old : Behind) (next : Option Spdu) (new : Behind) → GivesBehind old next new →
+    units_behind new ≡ drop 1 (units_behind old)
+others_given old (Some unit) new e = sym (ap (λ (us : Units). drop 1 us) e)
+others_given old None new e = e.1 ∙ sym (ap (λ (us : Units). drop 1 us) e.0)

@@ -4,9 +4,9 @@ use Rattle.osi_spdu.proofs.parameters.a_number_alone_is_read.{number_alone}
 use Rattle.osi_spdu.proofs.levels.number_alone.Goals as goal
 
 pub returns : goal.returns
-returns c = λ at.
+returns c = λ at p q none cells.
     let digits = c.in_ok-digits.digits.now in
     let knows : among (codes_of c.args.kind) Number ≡ true = search rules in
-    subst (λ (o : List ℕ). params_of (in_unit c.args.kind) at nothing o ≡ Ok (slots_of c.numbered.result)) (sym c.in_ok-digits.ensures.alone)
-    (number_alone c.args.kind at (length digits) c.in_ok-number.number.number digits c.numbered.result c.in_ok-digits.ensures.short refl
-    knows c.in_ok-number.ensures c.numbered.ensures)
+    subst (λ (o : List ℕ). params_of (in_unit c.args.kind) at nothing o ≡ Ok (slots_of q)) (sym c.in_ok-digits.ensures.alone)
+    (number_alone c.args.kind at (length digits) c.in_ok-number.number.number digits p q c.in_ok-digits.ensures.short refl
+    knows c.in_ok-number.ensures none cells)
