@@ -11,7 +11,7 @@ ghost use Rattle.osi_spdu.specs.Units.{said_by};
 ghost use Rattle.osi_judge.specs.Outlines.{bare, no_data, outline_as, outline_behind, outline_by, outline};
 
 use osi_message::{Message, Octets, Place, PlainUnit, Sent, Tsdus, data_head};
-use osi_spdu::{Group, Spdu, read_tsdu};
+use osi_spdu::{Group, Spdu, read_group};
 use std::alloc::{AllocError, Global};
 
 /// The code of an enclosure (X.225 section 8).
@@ -250,7 +250,7 @@ pub(crate) fn outline(alloc: Global, tsdu: &[u8]) -> Result<Octets, AllocError>
     if let Some(_user_data) = PlainUnit::data(tsdu) {
         return Octets::copy(alloc, data_head());
     }
-    match read_tsdu(tsdu) {
+    match read_group(tsdu) {
         Ok(group) => outline_of(alloc, tsdu, &group),
         Err(_) => Octets::copy(alloc, tsdu),
     }

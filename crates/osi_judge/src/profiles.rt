@@ -15,7 +15,7 @@ use crate::rules::{Break, Rule};
 use bitflags::Flags;
 use osi_message::Message;
 use osi_session::{Breach, is_profile};
-use osi_spdu::{Requirements, Spdu, SpduFault, read_tsdu};
+use osi_spdu::{Requirements, Spdu, SpduFault, read_group};
 
 /// The functional units that a CN offers.
 fn offered_in(message: &Message) -> Option<Requirements>
@@ -60,7 +60,7 @@ fn accepted_by(unit: &Spdu) -> Option<Requirements>
 fn offered(tsdu: &[u8]) -> Option<Requirements>
     ensures { option_map unit_bits result ≡ in_first offered_in (said_at tsdu.now) }
 {
-    match read_tsdu(tsdu) {
+    match read_group(tsdu) {
         Ok(group) => offered_by(group.first()),
         Err(_) => None,
     }
@@ -71,7 +71,7 @@ fn offered(tsdu: &[u8]) -> Option<Requirements>
 fn accepted(tsdu: &[u8]) -> Option<Requirements>
     ensures { option_map unit_bits result ≡ in_first accepted_in (said_at tsdu.now) }
 {
-    match read_tsdu(tsdu) {
+    match read_group(tsdu) {
         Ok(group) => accepted_by(group.first()),
         Err(_) => None,
     }

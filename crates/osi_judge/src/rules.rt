@@ -14,7 +14,7 @@ use crate::members::{Member, none_is_left};
 use crate::standings::{Turn, first_of, foremost, is_before, take_next};
 use crate::telling::behind_unit;
 use osi_session::{Breach, CallError, Standing};
-use osi_spdu::{Group, Kind, Spdu, SpduFault, read_tsdu};
+use osi_spdu::{Group, Kind, Spdu, SpduFault, read_group};
 use std::alloc::{AllocError, Global};
 
 /// Why a side may not send what it sent (X.225 sections 7 and 8).
@@ -273,7 +273,7 @@ pub(crate) fn break_at(
     requires { before ≤ length heard.now }
     ensures { IfOk result (λ by. BreaksAt heard.now tsdu.now before members.now by) }
 {
-    match read_tsdu(tsdu) {
+    match read_group(tsdu) {
         Ok(group) => break_in(alloc, heard, &group, tsdu.len(), before, members),
         Err(fault) => nearest(alloc, heard, &Question::Fault(fault), before, members),
     }

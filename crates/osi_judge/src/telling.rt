@@ -14,7 +14,7 @@ use crate::heard::Heard;
 use crate::members::Member;
 use crate::walks::walk;
 use osi_session::is_restart_unit;
-use osi_spdu::{Group, Spdu, read_tsdu};
+use osi_spdu::{Group, Spdu, read_group};
 use std::alloc::{AllocError, Global};
 
 /// The members after a unit of a TSDU of this many octets.
@@ -90,7 +90,7 @@ pub(crate) fn behind_tsdu(
     ensures value { IfOk result (λ next. next.items
         ≡ after_tsdu heard.now members.now (record { octets = tsdu.now; before = before })) }
 {
-    match read_tsdu(tsdu) {
+    match read_group(tsdu) {
         Ok(group) => behind_units(alloc, heard, &group, tsdu.len(), before, members),
         Err(_) => Ok(Vec::new(alloc)),
     }

@@ -21,7 +21,7 @@ use crate::reactions::{Reaction, Reply};
 use crate::state::State;
 use crate::words::Word;
 use osi_message::{Message, Octets, Place};
-use osi_spdu::{Group, Kind, read_tsdu};
+use osi_spdu::{Group, Kind, read_group};
 use std::alloc::{AllocError, Global};
 
 /// The state and the answer after the units of a TSDU.
@@ -214,7 +214,7 @@ pub(crate) fn count_tsdu(
 ) -> Result<Counting, AllocError>
     ensures { IfOk result (λ c. CountsCame state.now joined (said_at tsdu.now) (count_of c)) }
 {
-    match read_tsdu(tsdu) {
+    match read_group(tsdu) {
         Ok(group) => count_all(alloc, state, joined, &group),
         Err(fault) => Ok(Counting::of(judge_unread(state, fault), joined)),
     }

@@ -27,7 +27,7 @@ use crate::sizes::{limit_of, size_limit};
 use crate::state::State;
 use crate::taken::Taken;
 use osi_message::{Message, Octets, Sent, data_head, laws};
-use osi_spdu::{Group, SpduFault, TokenSet, read_tsdu};
+use osi_spdu::{Group, SpduFault, TokenSet, read_group};
 use std::alloc::{AllocError, Global};
 use std::marker::Model;
 
@@ -363,7 +363,7 @@ impl Session {
     pub fn take_unexpected(&mut self, tsdu: &[u8]) -> Result<Taken, AllocError>
         ensures { Takes result (react self.old (came tsdu.now)) self.old self.new }
     {
-        match read_tsdu(tsdu) {
+        match read_group(tsdu) {
             Ok(group) => self.take(&group),
             Err(fault) => self.take_bad(fault),
         }
