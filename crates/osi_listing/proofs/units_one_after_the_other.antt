@@ -127,17 +127,12 @@ then_more (Ok x) old mid new was then now entry before entries line told h = λ 
     now entry (entries e) line told (h e k)
 then_more (Err x) old mid new was then now entry before entries line told h = tt
 
--- a unit, and then what it brings to its stream
-pub then_brought : {A E : Type 0} (r : Result A E) (old mid new : List ℕ) (was then now : Counts) (v : Value) (before : Streams)
-    (brought : List Entry) →
-    mid ≡ old ++ line_of (TransportUnit v) → then ≡ one_more was (TransportUnit v) →
-    ((e : List Part) → Holds before e → brought ≡ part_entries e (part_of v)) →
-    OnOk r (Says mid new then now brought) →
-    OnOk r ((e : List Part) → Holds before e → Says old new was now (TransportUnit v ∷ part_entries e (part_of v)))
-then_brought (Ok x) old mid new was then now v before brought line told same h = λ e k.
-    says_next old mid new was then now (TransportUnit v) (part_entries e (part_of v)) line told
-    (subst (λ es. Says mid new then now es) (same e k) h)
-then_brought (Err x) old mid new was then now v before brought line told same h = tt
+-- what a unit brings to its stream
+pub then_brought : {A E : Type 0} (r : Result A E) (old new : List ℕ) (was now : Counts) (v : Value) (before : Streams)
+    (brought : List Entry) → ((e : List Part) → Holds before e → brought ≡ part_entries e (part_of v)) →
+    OnOk r (Says old new was now brought) → OnOk r ((e : List Part) → Holds before e → Says old new was now (part_entries e (part_of v)))
+then_brought (Ok x) old new was now v before brought same h = λ e k. subst (λ es. Says old new was now es) (same e k) h
+then_brought (Err x) old new was now v before brought same h = tt
 
 -- ---- the units of a packet
 

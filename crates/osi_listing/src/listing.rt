@@ -100,6 +100,25 @@ fn list_unit(
 {
     push_unit(text, unit)?;
     counts.add_unit();
+    list_part(alloc, text, streams, counts, unit)
+}
+
+/// Lists what a unit adds to its stream. A TSDU of one part is listed where it is; others are joined first.
+fn list_part(
+    alloc: Global,
+    text: &mut Vec<u8>,
+    streams: &mut Streams,
+    counts: &mut Counts,
+    unit: &Tpdu,
+) -> Result<(), AllocError>
+    ensures says { OnOk result ((earlier : List Part) → Holds streams.old earlier →
+        Says text.old.items text.new.items counts.old counts.new (part_entries earlier (part_of (value unit.now)))) }
+    ensures holds { OnOk result ((earlier : List Part) → Holds streams.old earlier →
+        Holds streams.new (earlier ++ option_to_list (part_of (value unit.now)))) }
+{
+    if let Some(tsdu) = streams.lone_tsdu(unit) {
+        return list_tsdu(text, counts, tsdu);
+    }
     let outcome = streams.take(alloc, unit)?;
     list_outcome(text, counts, &outcome)
 }
