@@ -1,5 +1,5 @@
 -- The listing of units, one after the other.
-use Rattle.std.proofs.Common.{◌≡◌, ℕ, List, [], ◌∷◌, ◌++◌, length, map, refl, sym, ◌∙◌, ap, subst, option_to_list, Result, Ok, Err, OnOk}
+use Rattle.std.proofs.Common.{◌≡◌, ℕ, List, [], ◌∷◌, ◌++◌, length, map, refl, sym, ◌∙◌, ap, subst, option_to_list, Result, Ok, Err, OnOk, arith}
 use Rattle.std.specs.List.{flat_map}
 use Rattle.std.proofs.lemmas.List.{append_assoc, append-nil}
 use Rattle.std.proofs.lemmas.List.Concat.{flat_map-append}
@@ -7,8 +7,9 @@ use Rattle.osi_tpdu.specs.Packet.{units_of}
 use Rattle.osi_tpdu.specs.Value.{Value}
 use Rattle.osi_tpdu.specs.declared.faults.TpduFault.{TpduFault}
 use Rattle.osi_spdu.specs.Known.{Contents, Units}
-use Rattle.osi_spdu.specs.Reading.{tsdu_at}
+use Rattle.osi_spdu.specs.Reading.{tsdu_at, unit_at}
 use Rattle.osi_spdu.specs.declared.faults.SpduFault.{SpduFault}
+use Rattle.osi_spdu.specs.declared.faults.SpduFault.TheVariants.{LengthPastEnd}
 use Rattle.osi_listing.specs.declared.counting.Counts.{Counts}
 use Rattle.osi_listing.specs.declared.streams.Streams.{Streams}
 use Rattle.osi_listing.specs.Counting.{one_more, counted}
@@ -90,6 +91,12 @@ pub lists_end : (old text : List ℕ) (was now : Counts) (left all : Units) → 
 lists_end old text was now left all e so_far =
     subst (λ us. Says old text was now (map SessionUnit us))
     (sym (append-nil so_far.said) ∙ ap (λ (us : Units). so_far.said ++ us) (sym e) ∙ so_far.whole) so_far.says
+
+-- an empty TSDU
+pub nothing_read : (octets : List ℕ) → length octets ≡ 0 → tsdu_at octets ≡ Err (LengthPastEnd 0)
+unfolding tsdu_at unit_at
+nothing_read [] e = refl
+nothing_read (x ∷ xs) e = absurd (omega arith)
 
 -- a TSDU, and its session units or their fault
 pub says_tsdu : {A E : Type 0} (r : Result A E) (old mid new octets : List ℕ) (was then now : Counts) (read : Result Units SpduFault)

@@ -5,7 +5,7 @@ ghost use Rattle.osi_tpdu.specs.Packet.{units_of};
 ghost use Rattle.osi_tpdu.specs.Units.{units_left};
 ghost use Rattle.osi_tpdu.specs.View.{value};
 ghost use Rattle.osi_spdu.specs.Groups.{units_of as units_in};
-ghost use Rattle.osi_spdu.specs.Reading.{tsdu_at};
+ghost use Rattle.osi_spdu.specs.Reading.{Gives, tsdu_at};
 ghost use Rattle.osi_listing.specs.Joins.{outcome_value};
 ghost use Rattle.osi_listing.specs.Listing.{session_entries, outcome_entries, part_entries, unit_entries, read_entries, read_parts};
 ghost use Rattle.osi_listing.specs.Listing.Entry.{Packet, TransportUnit, Tsdu, SessionUnit};
@@ -17,7 +17,7 @@ use crate::lines::{push_packet, push_too_long, push_tsdu, push_unit_fault};
 use crate::session_lines::{push_session_fault, push_session_unit};
 use crate::streams::{Outcome, Streams};
 use crate::units::push_unit;
-use osi_spdu::{Group, read_tsdu};
+use osi_spdu::{Group, SpduFault, read_tsdu};
 use osi_tpdu::{Tpdu, Units, read_units};
 use std::alloc::{AllocError, Global};
 
@@ -149,13 +149,33 @@ fn list_tsdu(text: &mut Vec<u8>, counts: &mut Counts, tsdu: &[u8]) -> Result<(),
 {
     push_tsdu(text, tsdu.len() as u64)?;
     counts.add_tsdu();
-    match read_tsdu(tsdu) {
+    match read_whole(tsdu) {
         Ok(group) => list_group(text, counts, &group),
         Err(fault) => {
             counts.add_refused();
             push_session_fault(text, fault)
         }
     }
+}
+
+/// Reads the session units of a TSDU. An empty one needs no reading.
+#[inline(always)]
+#[tactic(auto, using(crate::proofs::units_one_after_the_other::nothing_read))]
+fn read_whole(tsdu: &[u8]) -> Result<Group<'_>, SpduFault>
+    ensures exact { Gives units_in result (tsdu_at tsdu.now) }
+{
+    if tsdu.is_empty() {
+        return Err(SpduFault::LengthPastEnd(0));
+    }
+    read_apart(tsdu)
+}
+
+// It is not inlined: otherwise the caller would move each parameter of the units from place to place.
+#[inline(never)]
+fn read_apart(tsdu: &[u8]) -> Result<Group<'_>, SpduFault>
+    ensures { Gives units_in result (tsdu_at tsdu.now) }
+{
+    read_tsdu(tsdu)
 }
 
 /// Lists the session units of a TSDU.

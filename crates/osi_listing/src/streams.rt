@@ -195,7 +195,8 @@ impl Streams {
         match unit {
             Tpdu::Dt0(data) => self.class_0.lone_tsdu(data.end, data.user),
             Tpdu::Dt2(data) => {
-                lone_tsdu_for(&self.class_2, data.destination, data.end, data.user)
+                let to = data.destination;
+                lone_tsdu_for(&self.class_2, to, data.end, data.user)
             }
             _ => None,
         }
