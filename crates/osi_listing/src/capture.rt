@@ -230,8 +230,12 @@ fn digit_value(character: u8) -> Option<u8>
     ensures value { result ≡ hex_digit_value character }
     ensures small { IfSome result (λ value. value < 16) }
 {
+    // A decimal digit takes one comparison.
+    let digit = character.wrapping_sub(b'0');
+    if digit < 10 {
+        return Some(digit);
+    }
     match character {
-        b'0'..=b'9' => Some(character - b'0'),
         b'a'..=b'f' => Some(character - b'a' + 10),
         b'A'..=b'F' => Some(character - b'A' + 10),
         _ => None,

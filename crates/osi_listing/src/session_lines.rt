@@ -88,6 +88,7 @@ fn push_parameter(text: &mut Vec<u8>, unit: &Spdu, code: Code) -> Result<(), All
 }
 
 /// A blank, a code and its value.
+#[inline(always)]
 fn push_next_value(text: &mut Vec<u8>, code: Code, value: Value) -> Result<(), AllocError>
     ensures { OnOk result (text.new.items
         ≡ text.old.items ++ (codes " " ++ value_field code (octets_of value.entry))) }
