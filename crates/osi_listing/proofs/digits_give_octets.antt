@@ -173,3 +173,9 @@ after_both a b None = refl
 pub after_none : (more : Option (List ℕ)) → after_octets [] more ≡ more
 after_none (Some octets) = refl
 after_none None = refl
+
+-- four octets, one after the other
+pub four_read : (a b c d : ℕ) (all p q r rest : Option (List ℕ)) → all ≡ after_octets (a ∷ []) p → p ≡ after_octets (b ∷ []) q →
+    q ≡ after_octets (c ∷ []) r → r ≡ after_octets (d ∷ []) rest → all ≡ after_octets (a ∷ b ∷ c ∷ d ∷ []) rest
+four_read a b c d all p q r (Some octets) e f g h = rw (e, f, g, h) refl
+four_read a b c d all p q r None e f g h = rw (e, f, g, h) refl

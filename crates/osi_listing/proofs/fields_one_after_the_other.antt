@@ -1,12 +1,14 @@
 -- The fields of a session unit, from one to the next.
-use Rattle.std.proofs.Common.{◌≡◌, ℕ, ◌+◌, ◌/◌, ◌%◌, ◌^◌, ◌<◌, ◌≤◌, true, false, drop, length, List, [], ◌∷◌, ◌++◌, refl, sym, ap, ◌∙◌}
+use Rattle.std.proofs.Common.{◌≡◌, ℕ, Bool, ◌+◌, ◌/◌, ◌%◌, ◌^◌, ◌<◌, ◌≤◌, true, false, drop, length, List, [], ◌∷◌, ◌++◌, refl, sym, ap, ◌∙◌}
 use Rattle.std.proofs.Common.{append_assoc, arith, codes}
-use Rattle.std.specs.Prelude.{slice_index}
+use Rattle.std.specs.Prelude.{slice_index, option_map, is_some, Option, Some, None}
 use Rattle.std.specs.Fmt.{decimal}
 use Rattle.std.specs.List.{join_with_byte}
 use Rattle.std.proofs.lemmas.Fmt.{decimal_digit, decimal_step}
 use Rattle.std.proofs.lemmas.List.{append-nil, drop_all, drop_more}
 use Rattle.hex.specs.Hex.{encode_with, encode_lower, lower_digits}
+use Rattle.osi_tpdu.specs.Value.{data0}
+use Rattle.osi_listing.specs.Lines.{bit, unit_fields, unit_line}
 use Rattle.osi_listing.specs.SessionLines.{fields_left}
 
 -- a number of two digits
@@ -15,6 +17,42 @@ two_digits n some few =
     let small : n < 2 ^ 64 = omega arith in
     let tens : n / 10 < 10 = omega arith in
     decimal_step n some small ∙ ap (λ d. d ++ (48 + n % 10) ∷ []) (decimal_digit (n / 10) tens)
+
+-- and one of three digits
+pub three_digits : (n : ℕ) → 100 ≤ n → n < 1000 → decimal n ≡ (48 + n / 100) ∷ (48 + n / 10 % 10) ∷ (48 + n % 10) ∷ []
+three_digits n some few =
+    let small : n < 2 ^ 64 = omega arith in
+    let at_least : 10 ≤ n = omega arith in
+    let some_tens : 10 ≤ n / 10 = omega arith in
+    let few_tens : n / 10 < 100 = omega arith in
+    let hundreds : n / 10 / 10 ≡ n / 100 = omega arith in
+    decimal_step n at_least small ∙ ap (λ d. d ++ (48 + n % 10) ∷ []) (two_digits (n / 10) some_tens few_tens)
+    ∙ ap (λ h. (48 + h) ∷ (48 + n / 10 % 10) ∷ (48 + n % 10) ∷ []) hundreds
+
+-- the line of a data unit of class 0
+pub line_of_data_0 : (end : Bool) (user : List ℕ) → unit_line (data0 end user)
+    ≡ (codes "  DT number 0 eot " ++ (48 + bit end) ∷ codes " octets ") ++ (decimal (length user) ++ codes "\n")
+unfolding unit_line unit_fields
+line_of_data_0 true user = rw (decimal_digit 0 (omega arith), decimal_digit 1 (omega arith)) refl
+line_of_data_0 false user = rw (decimal_digit 0 (omega arith)) refl
+
+pub data_0_added : (text mid new words : List ℕ) (end : Bool) (user : List ℕ) →
+    words ≡ codes "  DT number 0 eot " ++ (48 + bit end) ∷ codes " octets " → mid ≡ text ++ words →
+    new ≡ mid ++ (decimal (length user) ++ codes "\n") → new ≡ text ++ unit_line (data0 end user)
+data_0_added text mid new words end user e h k =
+    let beginning : List ℕ = codes "  DT number 0 eot " ++ (48 + bit end) ∷ codes " octets " in
+    let rest : List ℕ = decimal (length user) ++ codes "\n" in
+    k ∙ ap (λ t. t ++ rest) (h ∙ ap (λ w. text ++ w) e) ∙ append_assoc text beginning rest
+    ∙ ap (λ t. text ++ t) (sym (line_of_data_0 end user))
+
+-- a value that is not there
+pub not_there : (o : Option (List ℕ)) → is_some o ≡ false → o ≡ None
+not_there None e = refl
+not_there (Some x) e = absurd (cc)
+
+pub mapped : {A B : Type 0} (f : A → B) (o : Option A) → is_some (option_map f o) ≡ is_some o
+mapped f None = refl
+mapped f (Some x) = refl
 
 pub encode_lower_append : (a b : List ℕ) → encode_lower (a ++ b) ≡ encode_lower a ++ encode_lower b
 unfolding encode_with
@@ -51,15 +89,11 @@ reference_added old word mid more new a b e h k =
     ∙ ap (λ t. (old ++ word) ++ t) (sym (encode_lower_cons a (b ∷ []))) ∙ append_assoc old word (encode_lower (a ∷ b ∷ []))
 
 -- a value is added in two parts
-pub value_added : (text number made lent mid more new : List ℕ) → mid ≡ (text ++ number) ++ codes "=" → more ≡ mid ++ encode_lower made →
-    new ≡ more ++ encode_lower lent → new ≡ text ++ ((number ++ codes "=") ++ encode_lower (made ++ lent))
-value_added text number made lent mid more new e h k =
-    let front : List ℕ = number ++ codes "=" in
-    let first : mid ≡ text ++ front = e ∙ append_assoc text number (codes "=") in
-    k ∙ ap (λ t. t ++ encode_lower lent) (h ∙ ap (λ t. t ++ encode_lower made) first)
-    ∙ append_assoc (text ++ front) (encode_lower made) (encode_lower lent)
-    ∙ append_assoc text front (encode_lower made ++ encode_lower lent)
-    ∙ ap (λ t. text ++ (front ++ t)) (sym (encode_lower_append made lent))
+pub value_added : (text made lent mid new : List ℕ) → mid ≡ text ++ encode_lower made → new ≡ mid ++ encode_lower lent →
+    new ≡ text ++ encode_lower (made ++ lent)
+value_added text made lent mid new h k =
+    k ∙ ap (λ t. t ++ encode_lower lent) h ∙ append_assoc text (encode_lower made) (encode_lower lent)
+    ∙ ap (λ t. text ++ t) (sym (encode_lower_append made lent))
 
 -- ---- fields with a blank between each two
 

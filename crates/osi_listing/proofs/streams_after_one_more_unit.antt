@@ -1,6 +1,7 @@
 -- The joins of streams after one more data unit.
 use Rattle.std.proofs.Common.{◌≡◌, ℕ, Bool, true, false, cond, List, [], ◌∷◌, ◌++◌, Option, Some, None, refl, sym, ◌∙◌, ap, ◌==◌, ◌≢◌, ◌⊎◌}
 use Rattle.std.proofs.Common.{inl, inr, filter, Result, Ok, Err, IfOk, OnOk}
+use Rattle.std.specs.Prelude.{IfSome}
 use Rattle.std.proofs.lemmas.Bool.Decides.{eqb_tells}
 use Rattle.osi_listing.specs.Streams.{Part, Join, joined, after_parts, join_of, is_same_stream}
 use Rattle.osi_listing.specs.Streams.Join.{Begun}
@@ -72,7 +73,21 @@ took_two first others changed destination earlier end octets e h = record {
       ∙ sym (join_of-push (Some d) earlier (record { stream = Some destination; end = end; octets = octets }));
 }
 
+-- a stream that a part leaves as it was
+pub left_as_it_was : (others : ℕ → Join) (destination : ℕ) (end : Bool) (octets : List ℕ) →
+    others destination ≡ joined (others destination) end octets →
+    (d : ℕ) → others d ≡ cond (d == destination) (joined (others destination) end octets) (others d)
+left_as_it_was others destination end octets e d = elim (eqb_tells d destination) [
+  | inl same ↦ ap others same.1 ∙ e ∙ sym (ap (λ b. cond b (joined (others destination) end octets) (others d)) same.0)
+  | inr other ↦ sym (ap (λ b. cond b (joined (others destination) end octets) (others d)) other.0)
+]
+
 -- what follows if a call has succeeded
 pub then_ok : {A E : Type 0} (r : Result A E) (P Q : Type 0) → (P → Q) → IfOk r (λ x. P) → OnOk r Q
 then_ok (Ok x) P Q f h = f h
 then_ok (Err e) P Q f h = tt
+
+-- what follows if there is a value
+pub then_some : {A : Type 0} (r : Option A) (P Q : Type 0) → (P → Q) → IfSome r (λ x. P) → IfSome r (λ x. Q)
+then_some (Some x) P Q f h = f h
+then_some None P Q f h = tt

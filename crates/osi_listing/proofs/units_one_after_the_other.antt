@@ -1,5 +1,5 @@
 -- The listing of units, one after the other.
-use Rattle.std.proofs.Common.{◌≡◌, ℕ, List, [], ◌∷◌, ◌++◌, length, map, refl, sym, ◌∙◌, ap, subst, option_to_list, Result, Ok, Err, OnOk}
+use Rattle.std.proofs.Common.{◌≡◌, ℕ, List, [], ◌∷◌, ◌++◌, length, map, refl, sym, ◌∙◌, ap, subst, option_to_list, Result, Ok, Err, OnOk, arith}
 use Rattle.std.specs.List.{flat_map}
 use Rattle.std.proofs.lemmas.List.{append_assoc, append-nil}
 use Rattle.std.proofs.lemmas.List.Concat.{flat_map-append}
@@ -7,8 +7,9 @@ use Rattle.osi_tpdu.specs.Packet.{units_of}
 use Rattle.osi_tpdu.specs.Value.{Value}
 use Rattle.osi_tpdu.specs.declared.faults.TpduFault.{TpduFault}
 use Rattle.osi_spdu.specs.Known.{Contents, Units}
-use Rattle.osi_spdu.specs.Reading.{tsdu_at}
+use Rattle.osi_spdu.specs.Reading.{tsdu_at, unit_at}
 use Rattle.osi_spdu.specs.declared.faults.SpduFault.{SpduFault}
+use Rattle.osi_spdu.specs.declared.faults.SpduFault.TheVariants.{LengthPastEnd}
 use Rattle.osi_listing.specs.declared.counting.Counts.{Counts}
 use Rattle.osi_listing.specs.declared.streams.Streams.{Streams}
 use Rattle.osi_listing.specs.Counting.{one_more, counted}
@@ -91,16 +92,46 @@ lists_end old text was now left all e so_far =
     subst (λ us. Says old text was now (map SessionUnit us))
     (sym (append-nil so_far.said) ∙ ap (λ (us : Units). so_far.said ++ us) (sym e) ∙ so_far.whole) so_far.says
 
--- a TSDU, and its session units or their fault
-pub says_tsdu : {A E : Type 0} (r : Result A E) (old mid new octets : List ℕ) (was then now : Counts) (read : Result Units SpduFault)
-    (entries : List Entry) → mid ≡ old ++ tsdu_line (length octets) →
-    then ≡ one_more was (Tsdu octets) → tsdu_at octets ≡ read → entries ≡ session_entries read → OnOk r (Says mid new then now entries) →
+-- a unit that is listed before others
+pub says_unit : (old mid new : List ℕ) (was then now : Counts) (unit : Contents) (units : Units) → mid ≡ old ++ session_line unit →
+    then ≡ one_more was (SessionUnit unit) → Says mid new then now (map SessionUnit units) →
+    Says old new was now (map SessionUnit (unit ∷ units))
+unfolding line_of
+says_unit old mid new was then now unit units line told h =
+    says_next old mid new was then now (SessionUnit unit) (map SessionUnit units) line told h
+
+-- the same of the last of them
+pub says_last : (old new : List ℕ) (was now : Counts) (unit : Contents) (units : Units) → units ≡ [] → new ≡ old ++ session_line unit →
+    now ≡ one_more was (SessionUnit unit) → Says old new was now (map SessionUnit (unit ∷ units))
+unfolding line_of
+says_last old new was now unit units none line told =
+    subst (λ (us : Units). Says old new was now (map SessionUnit (unit ∷ us))) (sym none)
+    (says_one old new was now (SessionUnit unit) line told)
+
+-- an empty TSDU
+pub nothing_read : (octets : List ℕ) → length octets ≡ 0 → tsdu_at octets ≡ Err (LengthPastEnd 0)
+unfolding tsdu_at unit_at
+nothing_read [] e = refl
+nothing_read (x ∷ xs) e = absurd (omega arith)
+
+-- a TSDU, and then the lines of a call
+pub then_units : {A E : Type 0} (r : Result A E) (old mid new octets : List ℕ) (was then now : Counts) (read : Result Units SpduFault)
+    (entries : List Entry) → mid ≡ old ++ tsdu_line (length octets) → then ≡ one_more was (Tsdu octets) → tsdu_at octets ≡ read →
+    entries ≡ session_entries read → OnOk r (Says mid new then now entries) →
     OnOk r (Says old new was now (Tsdu octets ∷ session_entries (tsdu_at octets)))
 unfolding line_of
-says_tsdu (Ok x) old mid new octets was then now read entries line told exact same h =
+then_units (Ok x) old mid new octets was then now read entries line told exact same h =
     subst (λ es. Says old new was now (Tsdu octets ∷ es)) (same ∙ ap session_entries (sym exact))
     (says_next old mid new was then now (Tsdu octets) entries line told h)
-says_tsdu (Err x) old mid new octets was then now read entries line told exact same h = tt
+then_units (Err x) old mid new octets was then now read entries line told exact same h = tt
+
+-- the session units of a TSDU, or their fault, as they were read
+pub then_read : {A E : Type 0} (r : Result A E) (old new octets : List ℕ) (was now : Counts) (read : Result Units SpduFault)
+    (entries : List Entry) → tsdu_at octets ≡ read → entries ≡ session_entries read → OnOk r (Says old new was now entries) →
+    OnOk r (Says old new was now (session_entries (tsdu_at octets)))
+then_read (Ok x) old new octets was now read entries exact same h =
+    subst (λ es. Says old new was now es) (same ∙ ap session_entries (sym exact)) h
+then_read (Err x) old new octets was now read entries exact same h = tt
 
 -- one line that a call writes
 pub then_one : {A E : Type 0} (r : Result A E) (old new : List ℕ) (was now : Counts) (entry : Entry) → OnOk r (new ≡ old ++ line_of entry) →
@@ -127,17 +158,12 @@ then_more (Ok x) old mid new was then now entry before entries line told h = λ 
     now entry (entries e) line told (h e k)
 then_more (Err x) old mid new was then now entry before entries line told h = tt
 
--- a unit, and then what it brings to its stream
-pub then_brought : {A E : Type 0} (r : Result A E) (old mid new : List ℕ) (was then now : Counts) (v : Value) (before : Streams)
-    (brought : List Entry) →
-    mid ≡ old ++ line_of (TransportUnit v) → then ≡ one_more was (TransportUnit v) →
-    ((e : List Part) → Holds before e → brought ≡ part_entries e (part_of v)) →
-    OnOk r (Says mid new then now brought) →
-    OnOk r ((e : List Part) → Holds before e → Says old new was now (TransportUnit v ∷ part_entries e (part_of v)))
-then_brought (Ok x) old mid new was then now v before brought line told same h = λ e k.
-    says_next old mid new was then now (TransportUnit v) (part_entries e (part_of v)) line told
-    (subst (λ es. Says mid new then now es) (same e k) h)
-then_brought (Err x) old mid new was then now v before brought line told same h = tt
+-- what a unit brings to its stream
+pub then_brought : {A E : Type 0} (r : Result A E) (old new : List ℕ) (was now : Counts) (v : Value) (before : Streams)
+    (brought : List Entry) → ((e : List Part) → Holds before e → brought ≡ part_entries e (part_of v)) →
+    OnOk r (Says old new was now brought) → OnOk r ((e : List Part) → Holds before e → Says old new was now (part_entries e (part_of v)))
+then_brought (Ok x) old new was now v before brought same h = λ e k. subst (λ es. Says old new was now es) (same e k) h
+then_brought (Err x) old new was now v before brought same h = tt
 
 -- ---- the units of a packet
 

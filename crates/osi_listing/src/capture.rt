@@ -72,8 +72,38 @@ fn read_whole<'t>(
 }
 
 /// Reads octets whose two digits stand side by side, and returns the rest of the text.
-#[tactic(auto, using(crate::proofs::digits_give_octets::after_both))]
 fn read_octets<'t>(octets: &mut Vec<u8>, text: &'t [u8]) -> Result<&'t [u8], CaptureFault>
+    ensures ok { IfOk result (λ rest. after_octets octets.new.items (octets_from (digits_of rest.now) None)
+        ≡ after_octets octets.old.items (octets_from (digits_of text.now) None)) }
+    ensures shorter { IfOk result (λ rest. length rest.now ≤ length text.now) }
+    ensures memory { IfErr result (λ fault. fault ≡ CaptureFault.OutOfMemory) }
+{
+    let rest = read_by_fours(octets, text)?;
+    read_by_ones(octets, rest)
+}
+
+/// Reads such octets four at a time, and returns the rest of the text.
+#[tactic(auto, using(crate::proofs::digits_give_octets::after_both))]
+fn read_by_fours<'t>(octets: &mut Vec<u8>, text: &'t [u8]) -> Result<&'t [u8], CaptureFault>
+    ensures ok { IfOk result (λ rest. after_octets octets.new.items (octets_from (digits_of rest.now) None)
+        ≡ after_octets octets.old.items (octets_from (digits_of text.now) None)) }
+    ensures shorter { IfOk result (λ rest. length rest.now ≤ length text.now) }
+    ensures memory { IfErr result (λ fault. fault ≡ CaptureFault.OutOfMemory) }
+{
+    let mut rest = text;
+    'fours: while let Some((first, second, third, fourth, behind)) = front_octets(rest) {
+        let four = [first, second, third, fourth];
+        if octets.extend_from_slice(&four).is_err() {
+            return Err(CaptureFault::OutOfMemory);
+        }
+        rest = behind;
+    }
+    Ok(rest)
+}
+
+/// Reads such octets one at a time, and returns the rest of the text.
+#[tactic(auto, using(crate::proofs::digits_give_octets::after_both))]
+fn read_by_ones<'t>(octets: &mut Vec<u8>, text: &'t [u8]) -> Result<&'t [u8], CaptureFault>
     ensures ok { IfOk result (λ rest. after_octets octets.new.items (octets_from (digits_of rest.now) None)
         ≡ after_octets octets.old.items (octets_from (digits_of text.now) None)) }
     ensures shorter { IfOk result (λ rest. length rest.now ≤ length text.now) }
@@ -87,6 +117,21 @@ fn read_octets<'t>(octets: &mut Vec<u8>, text: &'t [u8]) -> Result<&'t [u8], Cap
         rest = behind;
     }
     Ok(rest)
+}
+
+/// The four octets whose digits a text begins with, and the text after them.
+#[inline(always)]
+#[tactic(auto, using(crate::proofs::digits_give_octets::four_read))]
+fn front_octets(text: &[u8]) -> Option<(u8, u8, u8, u8, &[u8])>
+    ensures read { IfSome result (λ front. octets_from (digits_of text.now) None
+        ≡ after_octets (front.0 ∷ front.1 ∷ front.2 ∷ front.3 ∷ []) (octets_from (digits_of front.4.now) None)) }
+    ensures shorter { IfSome result (λ front. length front.4.now < length text.now) }
+{
+    let (first, rest) = front_octet(text)?;
+    let (second, rest) = front_octet(rest)?;
+    let (third, rest) = front_octet(rest)?;
+    let (fourth, rest) = front_octet(rest)?;
+    Some((first, second, third, fourth, rest))
 }
 
 /// The octet whose two digits a text begins with, and the text after them.
@@ -185,8 +230,12 @@ fn digit_value(character: u8) -> Option<u8>
     ensures value { result ≡ hex_digit_value character }
     ensures small { IfSome result (λ value. value < 16) }
 {
+    // A decimal digit takes one comparison.
+    let digit = character.wrapping_sub(b'0');
+    if digit < 10 {
+        return Some(digit);
+    }
     match character {
-        b'0'..=b'9' => Some(character - b'0'),
         b'a'..=b'f' => Some(character - b'a' + 10),
         b'A'..=b'F' => Some(character - b'A' + 10),
         _ => None,

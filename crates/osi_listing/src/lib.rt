@@ -35,6 +35,7 @@ pub mod laws;
 mod lines;
 mod listing;
 mod pieces;
+mod presence;
 mod session_lines;
 mod streams;
 mod traces;

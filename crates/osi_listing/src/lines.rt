@@ -1,6 +1,6 @@
 //! Pieces of a line of the listing.
 
-ghost use Rattle.std.specs.Prelude.{◌≡◌, ◌++◌, ◌<◌, ◌≤◌, ◌^◌, ◌+◌, ◌∷◌, [], length, option_copied, OnOk};
+ghost use Rattle.std.specs.Prelude.{◌≡◌, ◌++◌, ◌<◌, ◌≤◌, ◌^◌, ◌+◌, ◌∷◌, [], length, codes, option_copied, OnOk};
 ghost use Rattle.std.specs.Fmt.{decimal};
 ghost use Rattle.hex.specs.Hex.{encode_lower};
 ghost use Rattle.osi_listing.specs.Lines.{code_end, packet_line, fault_line, rest_line, unit_fault_line, tsdu_line, too_long_line, number_field, reference_field, octet_field, octets_field};
@@ -64,15 +64,44 @@ fn push_long_decimal(text: &mut Vec<u8>, number: u64) -> Result<(), AllocError>
     text.extend_from_slice(buffer.format(number).as_bytes())
 }
 
-/// Adds octets in hexadecimal.
-#[tactic(auto, using(crate::proofs::fields_one_after_the_other::encode_lower_cons))]
+/// Adds octets in hexadecimal. Most values have one octet or two.
+#[inline(always)]
+#[tactic(auto, unfolding(hex::specs::Hex::encode_with))]
 pub(crate) fn push_hex(text: &mut Vec<u8>, octets: &[u8]) -> Result<(), AllocError>
+    ensures { OnOk result (text.new.items ≡ text.old.items ++ encode_lower octets.now) }
+{
+    match octets {
+        [] => Ok(()),
+        [octet] => push_octet(text, *octet),
+        [first, second] => push_two_octets(text, *first, *second),
+        _ => push_long_hex(text, octets),
+    }
+}
+
+/// Adds any number of octets in hexadecimal.
+#[tactic(auto, using(crate::proofs::fields_one_after_the_other::encode_lower_cons))]
+fn push_long_hex(text: &mut Vec<u8>, octets: &[u8]) -> Result<(), AllocError>
     ensures { OnOk result (text.new.items ≡ text.old.items ++ encode_lower octets.now) }
 {
     'octets: for octet in octets {
         push_octet(text, *octet)?;
     }
     Ok(())
+}
+
+/// Adds two octets in hexadecimal.
+#[inline(always)]
+#[tactic(auto, unfolding(hex::specs::Hex::encode_with))]
+fn push_two_octets(text: &mut Vec<u8>, first: u8, second: u8) -> Result<(), AllocError>
+    ensures { OnOk result (text.new.items ≡ text.old.items ++ encode_lower (first ∷ second ∷ [])) }
+{
+    let digits = [
+        DIGITS[usize::from(first / 16)],
+        DIGITS[usize::from(first % 16)],
+        DIGITS[usize::from(second / 16)],
+        DIGITS[usize::from(second % 16)],
+    ];
+    text.extend_from_slice(&digits)
 }
 
 /// Adds an octet in hexadecimal.
@@ -95,6 +124,16 @@ pub fn push_number_field(text: &mut Vec<u8>, word: &str, number: u64) -> Result<
 {
     push_words(text, word)?;
     push_decimal(text, number)
+}
+
+/// Adds a word and a number that ends a line.
+#[inline(always)]
+pub(crate) fn push_last_field(text: &mut Vec<u8>, word: &str, count: u64) -> Result<(), AllocError>
+    ensures { OnOk result (text.new.items
+        ≡ text.old.items ++ (number_field word.now count ++ codes "\n")) }
+{
+    push_words(text, word)?;
+    push_last_number(text, count)
 }
 
 /// Adds a word and a reference.
@@ -155,9 +194,55 @@ pub(crate) fn push_packet(text: &mut Vec<u8>, offset: u64, unit: &[u8]) -> Resul
 {
     push_words(text, "packet ")?;
     push_decimal(text, offset)?;
+    push_packet_end(text, unit.len() as u64 + 4, unit[1])
+}
+
+/// Ends the line of a packet with its length and the code of its first transport unit. A length of one or two digits
+/// is added in one piece with what is around it.
+#[inline(always)]
+fn push_packet_end(text: &mut Vec<u8>, length: u64, code: u8) -> Result<(), AllocError>
+    ensures { OnOk result (text.new.items
+        ≡ text.old.items ++ (codes " length " ++ decimal length ++ code_end code)) }
+{
+    if length < 10 {
+        return push_end_of_one_digit(text, length as u8, code);
+    }
+    if length < 100 {
+        return push_end_of_two_digits(text, length as u8, code);
+    }
     push_words(text, " length ")?;
-    push_decimal(text, unit.len() as u64 + 4)?;
-    push_code(text, unit[1])
+    push_decimal(text, length)?;
+    push_code(text, code)
+}
+
+#[inline(always)]
+#[tactic(auto, using(std::proofs::lemmas::Fmt::decimal_digit), unfolding(hex::specs::Hex::encode_with))]
+fn push_end_of_one_digit(text: &mut Vec<u8>, length: u8, code: u8) -> Result<(), AllocError>
+    requires { length < 10 }
+    ensures { OnOk result (text.new.items
+        ≡ text.old.items ++ (codes " length " ++ decimal length ++ code_end code)) }
+{
+    let mut end = *b" length 0 code 00\n";
+    end[8] = b'0' + length;
+    end[15] = DIGITS[usize::from(code / 16)];
+    end[16] = DIGITS[usize::from(code % 16)];
+    text.extend_from_slice(&end)
+}
+
+#[inline(always)]
+#[tactic(auto, using(crate::proofs::fields_one_after_the_other::two_digits), unfolding(hex::specs::Hex::encode_with))]
+fn push_end_of_two_digits(text: &mut Vec<u8>, length: u8, code: u8) -> Result<(), AllocError>
+    requires at_least { 10 ≤ length }
+    requires at_most { length < 100 }
+    ensures { OnOk result (text.new.items
+        ≡ text.old.items ++ (codes " length " ++ decimal length ++ code_end code)) }
+{
+    let mut end = *b" length 00 code 00\n";
+    end[8] = b'0' + length / 10;
+    end[9] = b'0' + length % 10;
+    end[16] = DIGITS[usize::from(code / 16)];
+    end[17] = DIGITS[usize::from(code % 16)];
+    text.extend_from_slice(&end)
 }
 
 /// Ends the line of a packet with the code of its first transport unit.
@@ -221,8 +306,28 @@ pub(crate) fn push_tsdu(text: &mut Vec<u8>, octets: u64) -> Result<(), AllocErro
     ensures { OnOk result (text.new.items ≡ text.old.items ++ tsdu_line octets) }
 {
     push_words(text, "    tsdu ")?;
-    push_decimal(text, octets)?;
+    push_last_number(text, octets)
+}
+
+/// Adds a number that ends a line.
+#[inline(always)]
+pub(crate) fn push_last_number(text: &mut Vec<u8>, count: u64) -> Result<(), AllocError>
+    ensures { OnOk result (text.new.items ≡ text.old.items ++ (decimal count ++ codes "\n")) }
+{
+    if count < 10 {
+        return push_last_digit(text, count as u8);
+    }
+    push_decimal(text, count)?;
     push_words(text, "\n")
+}
+
+#[inline(always)]
+#[tactic(auto, using(std::proofs::lemmas::Fmt::decimal_digit))]
+fn push_last_digit(text: &mut Vec<u8>, digit: u8) -> Result<(), AllocError>
+    requires { digit < 10 }
+    ensures { OnOk result (text.new.items ≡ text.old.items ++ (decimal digit ++ codes "\n")) }
+{
+    text.extend_from_slice(&[b'0' + digit, b'\n'])
 }
 
 /// Adds the line of a TSDU that has passed its limit.

@@ -1,14 +1,15 @@
 //! The lines of a packet, of its transport units, and of what they add to their streams.
 
-ghost use Rattle.std.specs.Prelude.{◌≡◌, ◌<◌, ◌+◌, ◌^◌, ◌++◌, ◌∷◌, ℕ, List, length, map, option_to_list, OnOk};
+ghost use Rattle.std.specs.Prelude.{◌≡◌, ◌<◌, ◌+◌, ◌^◌, ◌++◌, ◌∷◌, [], ℕ, List, length, map, option_to_list, Err, IfSome, OnOk};
 ghost use Rattle.osi_tpdu.specs.Packet.{units_of};
 ghost use Rattle.osi_tpdu.specs.Units.{units_left};
 ghost use Rattle.osi_tpdu.specs.View.{value};
-ghost use Rattle.osi_spdu.specs.Groups.{units_of as units_in};
+ghost use Rattle.osi_spdu.specs.Groups.{units_behind, units_of as units_in};
 ghost use Rattle.osi_spdu.specs.Reading.{tsdu_at};
+ghost use Rattle.osi_spdu.specs.Units.{said_by};
 ghost use Rattle.osi_listing.specs.Joins.{outcome_value};
 ghost use Rattle.osi_listing.specs.Listing.{session_entries, outcome_entries, part_entries, unit_entries, read_entries, read_parts};
-ghost use Rattle.osi_listing.specs.Listing.Entry.{Packet, TransportUnit, Tsdu, SessionUnit};
+ghost use Rattle.osi_listing.specs.Listing.Entry.{Packet, TransportUnit, Tsdu, SessionFault, SessionUnit};
 ghost use Rattle.osi_listing.specs.Says.{Says, Holds};
 ghost use Rattle.osi_listing.specs.Streams.{Part, part_of, parts_of};
 
@@ -17,7 +18,7 @@ use crate::lines::{push_packet, push_too_long, push_tsdu, push_unit_fault};
 use crate::session_lines::{push_session_fault, push_session_unit};
 use crate::streams::{Outcome, Streams};
 use crate::units::push_unit;
-use osi_spdu::{Group, read_tsdu};
+use osi_spdu::{Behind, Group, Spdu, SpduFault, read_tsdu};
 use osi_tpdu::{Tpdu, Units, read_units};
 use std::alloc::{AllocError, Global};
 
@@ -100,6 +101,25 @@ fn list_unit(
 {
     push_unit(text, unit)?;
     counts.add_unit();
+    list_part(alloc, text, streams, counts, unit)
+}
+
+/// Lists what a unit adds to its stream. A TSDU of one part is listed where it is; others are joined first.
+fn list_part(
+    alloc: Global,
+    text: &mut Vec<u8>,
+    streams: &mut Streams,
+    counts: &mut Counts,
+    unit: &Tpdu,
+) -> Result<(), AllocError>
+    ensures says { OnOk result ((earlier : List Part) → Holds streams.old earlier →
+        Says text.old.items text.new.items counts.old counts.new (part_entries earlier (part_of (value unit.now)))) }
+    ensures holds { OnOk result ((earlier : List Part) → Holds streams.old earlier →
+        Holds streams.new (earlier ++ option_to_list (part_of (value unit.now)))) }
+{
+    if let Some(tsdu) = streams.lone_tsdu(unit) {
+        return list_tsdu(text, counts, tsdu);
+    }
     let outcome = streams.take(alloc, unit)?;
     list_outcome(text, counts, &outcome)
 }
@@ -130,16 +150,53 @@ fn list_tsdu(text: &mut Vec<u8>, counts: &mut Counts, tsdu: &[u8]) -> Result<(),
 {
     push_tsdu(text, tsdu.len() as u64)?;
     counts.add_tsdu();
-    match read_tsdu(tsdu) {
-        Ok(group) => list_group(text, counts, &group),
-        Err(fault) => {
-            counts.add_refused();
-            push_session_fault(text, fault)
-        }
+    if let Some(fault) = fault_if_empty(tsdu) {
+        return list_fault(text, counts, fault);
+    }
+    list_session_units(text, counts, tsdu)
+}
+
+/// The fault of an empty TSDU, which needs no reading.
+#[inline(always)]
+#[tactic(auto, using(crate::proofs::units_one_after_the_other::nothing_read))]
+fn fault_if_empty(tsdu: &[u8]) -> Option<SpduFault>
+    ensures { IfSome result (λ fault. tsdu_at tsdu.now ≡ Err fault) }
+{
+    if tsdu.is_empty() {
+        Some(SpduFault::LengthPastEnd(0))
+    } else {
+        None
     }
 }
 
-/// Lists the session units of a TSDU.
+/// Lists the fault of the session units of a TSDU.
+fn list_fault(text: &mut Vec<u8>, counts: &mut Counts, fault: SpduFault) -> Result<(), AllocError>
+    ensures { OnOk result (Says text.old.items text.new.items counts.old counts.new
+        (SessionFault fault ∷ [])) }
+{
+    counts.add_refused();
+    push_session_fault(text, fault)
+}
+
+/// Lists the session units of a TSDU, or only their fault.
+// It is not inlined: the units that it reads need much room, and an empty TSDU has none.
+#[inline(never)]
+fn list_session_units(
+    text: &mut Vec<u8>,
+    counts: &mut Counts,
+    tsdu: &[u8],
+) -> Result<(), AllocError>
+    ensures { OnOk result (Says text.old.items text.new.items counts.old counts.new
+        (session_entries (tsdu_at tsdu.now))) }
+{
+    match read_tsdu(tsdu) {
+        Ok(group) => list_group(text, counts, &group),
+        Err(fault) => list_fault(text, counts, fault),
+    }
+}
+
+/// Lists the session units of a TSDU. Almost every TSDU has one or two, so these are listed before the loop over others.
+#[inline(always)]
 fn list_group(text: &mut Vec<u8>, counts: &mut Counts, group: &Group) -> Result<(), AllocError>
     ensures { OnOk result (Says text.old.items text.new.items counts.old counts.new
         (map SessionUnit (units_in group.now))) }
@@ -147,6 +204,30 @@ fn list_group(text: &mut Vec<u8>, counts: &mut Counts, group: &Group) -> Result<
     push_session_unit(text, group.first())?;
     counts.add_session_unit();
     let mut behind = group.behind();
+    let Some(second) = behind.next() else {
+        return Ok(());
+    };
+    push_session_unit(text, &second)?;
+    counts.add_session_unit();
+    let Some(third) = behind.next() else {
+        return Ok(());
+    };
+    list_more(text, counts, &third, behind)
+}
+
+/// Lists a session unit and those after it.
+#[inline(never)]
+fn list_more(
+    text: &mut Vec<u8>,
+    counts: &mut Counts,
+    unit: &Spdu,
+    mut behind: Behind,
+) -> Result<(), AllocError>
+    ensures { OnOk result (Says text.old.items text.new.items counts.old counts.new
+        (map SessionUnit (said_by unit.now ∷ units_behind behind.entry))) }
+{
+    push_session_unit(text, unit)?;
+    counts.add_session_unit();
     'units: while let Some(unit) = behind.next() {
         push_session_unit(text, &unit)?;
         counts.add_session_unit();

@@ -1,12 +1,15 @@
 //! The lines of session units.
 
-ghost use Rattle.std.specs.Prelude.{◌≡◌, ◌++◌, ℕ, List, IfOk, OnOk};
+ghost use Rattle.std.specs.Prelude.{◌≡◌, ◌++◌, ◌≤◌, ◌<◌, ℕ, List, codes, IfOk, OnOk};
+ghost use Rattle.std.specs.Fmt.{decimal};
+ghost use Rattle.hex.specs.Hex.{encode_lower};
 ghost use Rattle.std.specs.List.{flat_map};
 ghost use Rattle.osi_spdu.specs.Octets.{octets_of};
 ghost use Rattle.osi_spdu.specs.Units.{said_by};
 ghost use Rattle.osi_listing.specs.SessionLines.{kind_name, value_field, member_fields, members_text, separator_of, fields_left, group_field, parameter_field, session_fields, information_field, session_line, session_fault_name, session_fault_offset, session_fault_code, session_fault_line};
 
 use crate::lines::{push_decimal, push_hex, push_number_field, push_words};
+use crate::presence::is_there;
 use osi_spdu::{Code, Kind, Spdu, SpduFault, Value};
 use std::alloc::AllocError;
 
@@ -15,36 +18,35 @@ use std::alloc::AllocError;
 pub(crate) fn push_session_unit(text: &mut Vec<u8>, unit: &Spdu) -> Result<(), AllocError>
     ensures { OnOk result (text.new.items ≡ text.old.items ++ session_line (said_by unit.now)) }
 {
-    push_words(text, "    ")?;
-    push_words(text, name(unit.kind()))?;
+    push_name(text, unit.kind())?;
     push_parameters(text, unit)?;
     push_information(text, unit)?;
     push_words(text, "\n")
 }
 
-/// The name of a unit in X.225 section 8.
+/// Begins the line of a unit with its name in X.225 section 8.
 #[tactic(auto, unfolding(crate::specs::SessionLines::kind_name))]
-fn name(kind: Kind) -> &'static str
-    ensures { result.now ≡ kind_name kind }
+fn push_name(text: &mut Vec<u8>, kind: Kind) -> Result<(), AllocError>
+    ensures { OnOk result (text.new.items ≡ text.old.items ++ (codes "    " ++ kind_name kind)) }
 {
     match kind {
-        Kind::GiveTokens => "GT",
-        Kind::PleaseTokens => "PT",
-        Kind::DataTransfer => "DT",
-        Kind::NotFinished => "NF",
-        Kind::Finish => "FN",
-        Kind::Disconnect => "DN",
-        Kind::Refuse => "RF",
-        Kind::Connect => "CN",
-        Kind::Accept => "AC",
-        Kind::Abort => "AB",
-        Kind::AbortAccept => "AA",
-        Kind::ResynchronizeAck => "RA",
-        Kind::MajorSyncPoint => "MAP",
-        Kind::MajorSyncAck => "MAA",
-        Kind::MinorSyncPoint => "MIP",
-        Kind::MinorSyncAck => "MIA",
-        Kind::Resynchronize => "RS",
+        Kind::GiveTokens => push_words(text, "    GT"),
+        Kind::PleaseTokens => push_words(text, "    PT"),
+        Kind::DataTransfer => push_words(text, "    DT"),
+        Kind::NotFinished => push_words(text, "    NF"),
+        Kind::Finish => push_words(text, "    FN"),
+        Kind::Disconnect => push_words(text, "    DN"),
+        Kind::Refuse => push_words(text, "    RF"),
+        Kind::Connect => push_words(text, "    CN"),
+        Kind::Accept => push_words(text, "    AC"),
+        Kind::Abort => push_words(text, "    AB"),
+        Kind::AbortAccept => push_words(text, "    AA"),
+        Kind::ResynchronizeAck => push_words(text, "    RA"),
+        Kind::MajorSyncPoint => push_words(text, "    MAP"),
+        Kind::MajorSyncAck => push_words(text, "    MAA"),
+        Kind::MinorSyncPoint => push_words(text, "    MIP"),
+        Kind::MinorSyncAck => push_words(text, "    MIA"),
+        Kind::Resynchronize => push_words(text, "    RS"),
     }
 }
 
@@ -68,18 +70,75 @@ fn push_each(text: &mut Vec<u8>, unit: &Spdu, codes: &[Code]) -> Result<(), Allo
 }
 
 /// A parameter or a group, if it is present.
+#[tactic(auto, using(crate::proofs::fields_one_after_the_other::not_there))]
 fn push_parameter(text: &mut Vec<u8>, unit: &Spdu, code: Code) -> Result<(), AllocError>
     ensures { OnOk result (text.new.items ≡ text.old.items
         ++ parameter_field (said_by unit.now) code ((said_by unit.now).known code)) }
 {
+    if !is_there(unit.params(), code) {
+        return Ok(());
+    }
     let Some(value) = unit.value(code) else {
         return Ok(());
     };
-    push_words(text, " ")?;
     if code.is_group() {
         return push_group(text, unit, code);
     }
-    push_value(text, unit.written_code(code), value)
+    push_next_value(text, unit.written_code(code), value)
+}
+
+/// A blank, a code and its value.
+#[inline(always)]
+fn push_next_value(text: &mut Vec<u8>, code: Code, value: Value) -> Result<(), AllocError>
+    ensures { OnOk result (text.new.items
+        ≡ text.old.items ++ (codes " " ++ value_field code (octets_of value.entry))) }
+{
+    push_next_code(text, code.number())?;
+    push_octets(text, value)
+}
+
+/// A blank, the number of a code and a sign of equality. They are added in one piece.
+#[inline(always)]
+fn push_next_code(text: &mut Vec<u8>, number: u8) -> Result<(), AllocError>
+    ensures { OnOk result (text.new.items
+        ≡ text.old.items ++ (codes " " ++ decimal number ++ codes "=")) }
+{
+    if number < 10 {
+        push_number_field(text, " ", u64::from(number))?;
+        return push_words(text, "=");
+    }
+    if number < 100 {
+        return push_code_of_two_digits(text, number);
+    }
+    push_code_of_three_digits(text, number)
+}
+
+#[inline(always)]
+#[tactic(auto, using(crate::proofs::fields_one_after_the_other::two_digits))]
+fn push_code_of_two_digits(text: &mut Vec<u8>, number: u8) -> Result<(), AllocError>
+    requires at_least { 10 ≤ number }
+    requires at_most { number < 100 }
+    ensures { OnOk result (text.new.items
+        ≡ text.old.items ++ (codes " " ++ decimal number ++ codes "=")) }
+{
+    text.extend_from_slice(&[b' ', b'0' + number / 10, b'0' + number % 10, b'='])
+}
+
+#[inline(always)]
+#[tactic(auto, using(crate::proofs::fields_one_after_the_other::three_digits))]
+fn push_code_of_three_digits(text: &mut Vec<u8>, number: u8) -> Result<(), AllocError>
+    requires { 100 ≤ number }
+    ensures { OnOk result (text.new.items
+        ≡ text.old.items ++ (codes " " ++ decimal number ++ codes "=")) }
+{
+    let digits = [
+        b' ',
+        b'0' + number / 100,
+        b'0' + number / 10 % 10,
+        b'0' + number % 10,
+        b'=',
+    ];
+    text.extend_from_slice(&digits)
 }
 
 /// A code and its value.
@@ -88,15 +147,24 @@ fn push_value(text: &mut Vec<u8>, code: Code, value: Value) -> Result<(), AllocE
 {
     push_decimal(text, u64::from(code.number()))?;
     push_words(text, "=")?;
+    push_octets(text, value)
+}
+
+/// The octets of a value.
+#[inline(always)]
+fn push_octets(text: &mut Vec<u8>, value: Value) -> Result<(), AllocError>
+    ensures { OnOk result (text.new.items ≡ text.old.items ++ encode_lower (octets_of value.entry)) }
+{
     push_hex(text, value.made())?;
     push_hex(text, value.lent())
 }
 
-/// A group, by its code and the parameters in it.
+/// A blank, and a group by its code and the parameters in it.
 fn push_group(text: &mut Vec<u8>, unit: &Spdu, code: Code) -> Result<(), AllocError>
-    ensures { OnOk result (text.new.items ≡ text.old.items ++ group_field (said_by unit.now) code) }
+    ensures { OnOk result (text.new.items
+        ≡ text.old.items ++ (codes " " ++ group_field (said_by unit.now) code)) }
 {
-    push_decimal(text, u64::from(code.number()))?;
+    push_number_field(text, " ", u64::from(code.number()))?;
     push_words(text, "(")?;
     push_members(text, unit, unit.kind().members(code))?;
     push_words(text, ")")
@@ -115,6 +183,7 @@ fn push_members(text: &mut Vec<u8>, unit: &Spdu, members: &[Code]) -> Result<(),
 }
 
 /// A parameter of a group, if it is present. Returns whether the next one is the first.
+#[tactic(auto, using(crate::proofs::fields_one_after_the_other::not_there))]
 fn push_member(
     text: &mut Vec<u8>,
     unit: &Spdu,
@@ -125,19 +194,31 @@ fn push_member(
         ≡ text.old.items
         ++ fields_left is_first (member_fields member ((said_by unit.now).known member) ++ fields)) }
 {
+    if !is_there(unit.params(), member) {
+        return Ok(is_first);
+    }
     let Some(value) = unit.value(member) else {
         return Ok(is_first);
     };
-    push_words(text, separator(is_first))?;
-    push_value(text, member, value)?;
+    push_separated(text, member, value, is_first)?;
     Ok(false)
 }
 
-/// What separates a parameter of a group from the one before it.
-fn separator(is_first: bool) -> &'static str
-    ensures { result.now ≡ separator_of is_first }
+/// A code and its value, with a blank between it and the one before it.
+#[inline(always)]
+fn push_separated(
+    text: &mut Vec<u8>,
+    code: Code,
+    value: Value,
+    is_first: bool,
+) -> Result<(), AllocError>
+    ensures { OnOk result (text.new.items
+        ≡ text.old.items ++ (separator_of is_first ++ value_field code (octets_of value.entry))) }
 {
-    if is_first { "" } else { " " }
+    if is_first {
+        return push_value(text, code, value);
+    }
+    push_next_value(text, code, value)
 }
 
 /// How many octets of user information a DT has.

@@ -1,8 +1,9 @@
 //! Joining data units into TSDUs, stream by stream.
 
-ghost use Rattle.std.specs.Prelude.{◌≡◌, ◌==◌, ℕ, List, [], if◌then◌else◌, IfOk, OnOk, IsTrue};
+ghost use Rattle.std.specs.Prelude.{◌≡◌, ◌==◌, ℕ, List, [], if◌then◌else◌, IfOk, IfSome, OnOk, IsTrue};
 ghost use Rattle.osi_listing.specs.Streams.{joined, brought};
 ghost use Rattle.osi_listing.specs.Streams.Join.{Begun};
+ghost use Rattle.osi_listing.specs.Streams.Outcome.{Whole};
 ghost use Rattle.osi_listing.specs.Joins.{join_value, outcome_value, join_at};
 
 use osi_class::LONGEST_TSDU;
@@ -52,6 +53,17 @@ impl Join {
         self.octets.is_empty()
     }
 
+    /// The octets of a part that is a TSDU by itself, if the stream is between two TSDUs.
+    fn lone_tsdu<'a>(&self, end: bool, part: &'a [u8]) -> Option<&'a [u8]>
+        ensures joined { IfSome result (λ tsdu. join_value self.now ≡ joined (join_value self.now) end part.now) }
+        ensures brought { IfSome result (λ tsdu. Whole tsdu.now ≡ brought (join_value self.now) end part.now) }
+    {
+        if !self.is_between() {
+            return None;
+        }
+        lone_part(end, part)
+    }
+
     /// Takes the next part of the stream; EOT marks the last part of a TSDU.
     pub(crate) fn take(
         &mut self,
@@ -80,8 +92,38 @@ impl Join {
     }
 }
 
+/// The octets of a part that is a TSDU by itself, in a stream that is between two TSDUs.
+fn lone_part(end: bool, part: &[u8]) -> Option<&[u8]>
+    ensures joined { IfSome result (λ tsdu. joined (Begun []) end part.now ≡ Begun []) }
+    ensures brought { IfSome result (λ tsdu. brought (Begun []) end part.now ≡ Whole tsdu.now) }
+{
+    if end && part.len() <= LONGEST_TSDU {
+        Some(part)
+    } else {
+        None
+    }
+}
+
 /// The streams of class 2 that are within a TSDU, each under its DST-REF.
 type References = BTreeMap<u16, Join>;
+
+/// The octets of a part that is a TSDU by itself, if the stream with this DST-REF is between two TSDUs.
+fn lone_tsdu_for<'a>(
+    references: &References,
+    destination: u16,
+    end: bool,
+    part: &'a [u8],
+) -> Option<&'a [u8]>
+    ensures joined { IfSome result (λ tsdu. join_at references.now destination
+        ≡ joined (join_at references.now destination) end part.now) }
+    ensures brought { IfSome result (λ tsdu. Whole tsdu.now
+        ≡ brought (join_at references.now destination) end part.now) }
+{
+    if references.contains_key(&destination) {
+        return None;
+    }
+    lone_part(end, part)
+}
 
 /// Takes the next part of the stream with this DST-REF, and leaves the others as they were.
 fn take_for(
@@ -140,6 +182,24 @@ impl Streams {
         ensures { result ≡ btree_map_len self.now.class_2 }
     {
         self.class_2.len()
+    }
+
+    /// The octets of a data unit that is a TSDU by itself: its only part, in a stream that is between two TSDUs. It
+    /// changes no stream, so it need not be taken.
+    pub(crate) fn lone_tsdu<'a>(&self, unit: &Tpdu<'a>) -> Option<&'a [u8]>
+        ensures entries { IfSome result (λ tsdu. (earlier : List Part) → Holds self.now earlier →
+            outcome_entries (Whole tsdu.now) ≡ part_entries earlier (part_of (value unit.now))) }
+        ensures holds { IfSome result (λ tsdu. (earlier : List Part) → Holds self.now earlier →
+            Holds self.now (earlier ++ option_to_list (part_of (value unit.now)))) }
+    {
+        match unit {
+            Tpdu::Dt0(data) => self.class_0.lone_tsdu(data.end, data.user),
+            Tpdu::Dt2(data) => {
+                let to = data.destination;
+                lone_tsdu_for(&self.class_2, to, data.end, data.user)
+            }
+            _ => None,
+        }
     }
 
     /// Takes a unit; a data unit adds to its stream.

@@ -1,13 +1,14 @@
 //! The lines of transport units.
 
-ghost use Rattle.std.specs.Prelude.{◌≡◌, ◌++◌, option_copied, option_map, OnOk};
+ghost use Rattle.std.specs.Prelude.{◌≡◌, ◌++◌, ◌+◌, ◌∷◌, codes, option_copied, option_map, OnOk};
 ghost use Rattle.osi_tpdu.specs.Limits.{size_code, selector_octets};
-ghost use Rattle.osi_tpdu.specs.Value.{request as a_request, confirm as a_confirm};
+ghost use Rattle.osi_tpdu.specs.Value.{request as a_request, confirm as a_confirm, data0};
 ghost use Rattle.osi_tpdu.specs.View.{value, request_content, confirm_content, parameter_values};
-ghost use Rattle.osi_listing.specs.Lines.{fixed_fields, parameter_fields, unit_fields, unit_line};
+ghost use Rattle.osi_listing.specs.Lines.{bit, fixed_fields, parameter_fields, unit_line};
 
 use crate::lines::{
-    push_number_field, push_octet_field, push_octets_field, push_reference_field, push_words,
+    push_last_field, push_last_number, push_number_field, push_octet_field, push_octets_field,
+    push_reference_field, push_words,
 };
 use osi_tpdu::{
     ConnectConfirm, ConnectFields, ConnectParameters, ConnectRequest, Selector, SizeCode, Tpdu,
@@ -15,74 +16,85 @@ use osi_tpdu::{
 use std::alloc::AllocError;
 
 /// Adds the line of a transport unit.
-#[tactic(auto, unfolding(crate::specs::Lines::unit_line))]
+#[tactic(auto, unfolding(crate::specs::Lines::unit_line, crate::specs::Lines::unit_fields))]
 pub(crate) fn push_unit(text: &mut Vec<u8>, unit: &Tpdu) -> Result<(), AllocError>
     ensures { OnOk result (text.new.items ≡ text.old.items ++ unit_line (value unit.now)) }
-{
-    push_words(text, "  ")?;
-    push_unit_fields(text, unit)?;
-    push_words(text, "\n")
-}
-
-#[tactic(auto, unfolding(crate::specs::Lines::unit_fields))]
-fn push_unit_fields(text: &mut Vec<u8>, unit: &Tpdu) -> Result<(), AllocError>
-    ensures { OnOk result (text.new.items ≡ text.old.items ++ unit_fields (value unit.now)) }
 {
     match unit {
         Tpdu::Cr(request) => push_request(text, request),
         Tpdu::Cc(confirm) => push_confirm(text, confirm),
         Tpdu::Dr(request) => {
-            push_reference_field(text, "DR dst ", request.destination)?;
+            push_reference_field(text, "  DR dst ", request.destination)?;
             push_reference_field(text, " src ", request.source)?;
-            push_number_field(text, " reason ", u64::from(request.reason))
+            push_last_field(text, " reason ", u64::from(request.reason))
         }
         Tpdu::Dc(confirm) => {
-            push_reference_field(text, "DC dst ", confirm.destination)?;
-            push_reference_field(text, " src ", confirm.source)
+            push_reference_field(text, "  DC dst ", confirm.destination)?;
+            push_reference_field(text, " src ", confirm.source)?;
+            push_words(text, "\n")
         }
-        Tpdu::Dt0(data) => {
-            push_number_field(text, "DT number ", 0)?;
-            push_number_field(text, " eot ", u64::from(data.end))?;
-            push_number_field(text, " octets ", data.user.len() as u64)
-        }
+        Tpdu::Dt0(data) => push_data_0(text, data.end, data.user),
         Tpdu::Dt2(data) => {
-            push_reference_field(text, "DT dst ", data.destination)?;
+            push_reference_field(text, "  DT dst ", data.destination)?;
             push_number_field(text, " number ", u64::from(data.number))?;
             push_number_field(text, " eot ", u64::from(data.end))?;
-            push_number_field(text, " octets ", data.user.len() as u64)
+            push_last_field(text, " octets ", data.user.len() as u64)
         }
         Tpdu::Ak(ack) => {
-            push_number_field(text, "AK credit ", u64::from(ack.credit))?;
+            push_number_field(text, "  AK credit ", u64::from(ack.credit))?;
             push_reference_field(text, " dst ", ack.destination)?;
-            push_number_field(text, " number ", u64::from(ack.number))
+            push_last_field(text, " number ", u64::from(ack.number))
         }
         Tpdu::Er(report) => {
-            push_reference_field(text, "ER dst ", report.destination)?;
-            push_number_field(text, " cause ", u64::from(report.cause))
+            push_reference_field(text, "  ER dst ", report.destination)?;
+            push_last_field(text, " cause ", u64::from(report.cause))
         }
     }
 }
 
-/// A CR. It has no DST-REF of its own, so 0000 is printed.
-#[tactic(auto, unfolding(crate::specs::Lines::unit_fields))]
-fn push_request(text: &mut Vec<u8>, request: &ConnectRequest) -> Result<(), AllocError>
-    ensures { OnOk result (text.new.items
-        ≡ text.old.items ++ unit_fields (a_request (request_content request.now))) }
+/// Adds the line of a DT of class 0. It has no number of its own, so 0 is printed.
+#[inline(always)]
+fn push_data_0(text: &mut Vec<u8>, end: bool, user: &[u8]) -> Result<(), AllocError>
+    ensures { OnOk result (text.new.items ≡ text.old.items ++ unit_line (data0 end user.now)) }
 {
-    push_words(text, "CR")?;
-    push_connect_fields(text, 0, &request.fields)?;
-    push_parameter_fields(text, &request.fields.parameters)
+    push_words(text, beginning_of_data_0(end))?;
+    push_last_number(text, user.len() as u64)
 }
 
-/// A CC.
-#[tactic(auto, unfolding(crate::specs::Lines::unit_fields))]
+/// The beginning of such a line, up to the number of octets.
+#[inline(always)]
+fn beginning_of_data_0(end: bool) -> &'static str
+    ensures { result.now ≡ codes "  DT number 0 eot " ++ (48 + bit end) ∷ codes " octets " }
+{
+    if end {
+        "  DT number 0 eot 1 octets "
+    } else {
+        "  DT number 0 eot 0 octets "
+    }
+}
+
+/// Adds the line of a CR. It has no DST-REF of its own, so 0000 is printed.
+#[tactic(auto, unfolding(crate::specs::Lines::unit_line, crate::specs::Lines::unit_fields))]
+fn push_request(text: &mut Vec<u8>, request: &ConnectRequest) -> Result<(), AllocError>
+    ensures { OnOk result (text.new.items
+        ≡ text.old.items ++ unit_line (a_request (request_content request.now))) }
+{
+    push_words(text, "  CR")?;
+    push_connect_fields(text, 0, &request.fields)?;
+    push_parameter_fields(text, &request.fields.parameters)?;
+    push_words(text, "\n")
+}
+
+/// Adds the line of a CC.
+#[tactic(auto, unfolding(crate::specs::Lines::unit_line, crate::specs::Lines::unit_fields))]
 fn push_confirm(text: &mut Vec<u8>, confirm: &ConnectConfirm) -> Result<(), AllocError>
     ensures { OnOk result (text.new.items
-        ≡ text.old.items ++ unit_fields (a_confirm confirm.now.destination (confirm_content confirm.now))) }
+        ≡ text.old.items ++ unit_line (a_confirm confirm.now.destination (confirm_content confirm.now))) }
 {
-    push_words(text, "CC")?;
+    push_words(text, "  CC")?;
     push_connect_fields(text, confirm.destination, &confirm.fields)?;
-    push_parameter_fields(text, &confirm.fields.parameters)
+    push_parameter_fields(text, &confirm.fields.parameters)?;
+    push_words(text, "\n")
 }
 
 /// The fixed part of a CR or CC, with this DST-REF.

@@ -1,22 +1,62 @@
+use Rattle.std.proofs.Common.{◌≡◌, ◌∷◌, ◌++◌, ◌∙◌, map, sym, ap, subst}
+use Rattle.std.proofs.lemmas.Result.{on_ok_weaker}
+use Rattle.osi_spdu.specs.Known.{Units}
 use Rattle.osi_spdu.specs.Units.{said_by}
-use Rattle.osi_spdu.specs.Groups.{units_behind, first_of, behind_of, units_of}
-use Rattle.std.proofs.Common.{refl}
+use Rattle.osi_spdu.specs.Groups.{units_behind, first_of, behind_of}
 use Rattle.osi_listing.specs.Counting.{one_more}
-use Rattle.osi_listing.proofs.units_one_after_the_other.{lists_first, lists_next}
+use Rattle.osi_listing.specs.Listing.Entry.{SessionUnit}
+use Rattle.osi_listing.specs.Says.{Says}
+use Rattle.osi_listing.specs.SessionLines.{session_line}
+use Rattle.osi_listing.proofs.units_one_after_the_other.{says_last, says_unit}
 use Rattle.osi_listing.proofs.listing.list_group.Goals as goal
 
-pub units-init : goal.units-init
+pub returns-in_default : goal.returns-in_default
 unfolding one_more
-units-init c =
-    lists_first c.args.text.now.items c.push_session_unit.new.text.items c.args.counts.now c.add_session_unit.new.self
-    (said_by c.first.result.now)
-    (units_behind c.behind-behind.result) (units_of c.args.group.now) (first_of c.args.group.now) (behind_of c.args.group.now)
-    refl c.first.ensures c.behind-behind.ensures c.in_ok-push_session_unit.ensures c.add_session_unit.ensures
+returns-in_default c =
+    let group = c.args.group.now in
+    let text = c.args.text.now.items in
+    says_last text c.push_session_unit.new.text.items c.args.counts.now c.add_session_unit.new.self (first_of group) (behind_of group)
+    (sym c.behind-behind.ensures ∙ c.in_default.ensures.steps.0)
+    (c.in_ok-push_session_unit.ensures ∙ ap (λ u. text ++ session_line u) c.first.ensures)
+    c.add_session_unit.ensures
 
-pub units-preserved : goal.units-preserved
+pub returns-in_default-next : goal.returns-in_default-next
 unfolding one_more
-units-preserved c =
-    lists_next c.args.text.now.items c.units.text.items c.push_session_unit-in-Some.new.text.items c.args.counts.now c.units.counts
-    c.add_session_unit-in-Some.new.self (said_by c.in-Some.unit) (units_behind c.units.behind) (units_behind c.next.new.self)
-    (units_of c.args.group.now)
-    c.in-Some.ensures.steps c.in_ok-push_session_unit-2.ensures c.add_session_unit-in-Some.ensures c.units.invariant
+returns-in_default-next c =
+    let group = c.args.group.now in
+    let text = c.args.text.now.items in
+    let mid = c.push_session_unit.new.text.items in
+    let new = c.push_session_unit-2.new.text.items in
+    let then = c.add_session_unit.new.self in
+    let now = c.add_session_unit-2.new.self in
+    let second = said_by c.in-Some.second in
+    let whole : behind_of group ≡ second ∷ units_behind c.next.new.self = sym c.behind-behind.ensures ∙ c.in-Some.ensures.steps in
+    says_unit text mid new c.args.counts.now then now (first_of group) (behind_of group)
+    (c.in_ok-push_session_unit.ensures ∙ ap (λ u. text ++ session_line u) c.first.ensures)
+    c.add_session_unit.ensures
+    (subst (λ (us : Units). Says mid new then now (map SessionUnit us)) (sym whole)
+    (says_last mid new then now second (units_behind c.next.new.self) c.in_default-next.ensures.steps.0 c.in_ok-push_session_unit-2.ensures
+    c.add_session_unit-2.ensures))
+
+pub returns : goal.returns
+unfolding one_more
+returns c =
+    let group = c.args.group.now in
+    let text = c.args.text.now.items in
+    let mid = c.push_session_unit.new.text.items in
+    let more = c.push_session_unit-2.new.text.items in
+    let new = c.list_more.new.text.items in
+    let then = c.add_session_unit.new.self in
+    let later = c.add_session_unit-2.new.self in
+    let now = c.list_more.new.counts in
+    let second = said_by c.in-Some.second in
+    let whole : behind_of group ≡ second ∷ units_behind c.next.new.self = sym c.behind-behind.ensures ∙ c.in-Some.ensures.steps in
+    on_ok_weaker c.list_more.result
+    (λ says. says_unit text mid new c.args.counts.now then now (first_of group) (behind_of group)
+    (c.in_ok-push_session_unit.ensures ∙ ap (λ u. text ++ session_line u) c.first.ensures)
+    c.add_session_unit.ensures
+    (subst (λ (us : Units). Says mid new then now (map SessionUnit us)) (sym whole)
+    (says_unit mid more new then later now second (units_behind c.next.new.self) c.in_ok-push_session_unit-2.ensures
+    c.add_session_unit-2.ensures
+    (subst (λ (us : Units). Says more new later now (map SessionUnit us)) (sym c.in-Some-next.ensures.steps) says))))
+    c.list_more.ensures

@@ -1,6 +1,6 @@
 use Rattle.std.proofs.Common.{arith}
 use Rattle.osi_listing.proofs.fields_one_after_the_other.{hex_ends, hex_goes_on}
-use Rattle.osi_listing.proofs.lines.push_hex.Goals as goal
+use Rattle.osi_listing.proofs.lines.push_long_hex.Goals as goal
 
 pub octets-preserved : goal.octets-preserved
 octets-preserved c =

@@ -1,14 +1,14 @@
 use Rattle.std.proofs.Common.{◌≡◌, ◌≤◌, length, None}
 use Rattle.osi_listing.specs.Capture.{after_octets, digits_of, octets_from}
-use Rattle.osi_listing.proofs.capture.read_octets.Given as goal
+use Rattle.osi_listing.proofs.capture.read_by_fours.Given as goal
 
 -- the octets read, and after them those of the rest of the text, are those of before
-abbrev pub invariant-octets : goal.invariant-octets
-invariant-octets l = record {
+abbrev pub invariant-fours : goal.invariant-fours
+invariant-fours l = record {
   octets : after_octets l.octets.items (octets_from (digits_of l.rest) None) ≡ after_octets l.fn.octets.items
       (octets_from (digits_of l.text) None);
   shorter : length l.rest ≤ length l.text;
 }
 
-abbrev pub decreases-octets : goal.decreases-octets
-decreases-octets l = length l.rest
+abbrev pub decreases-fours : goal.decreases-fours
+decreases-fours l = length l.rest

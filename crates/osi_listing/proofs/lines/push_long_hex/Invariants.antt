@@ -1,6 +1,6 @@
 use Rattle.std.proofs.Common.{◌≡◌, ◌++◌, drop}
 use Rattle.hex.specs.Hex.{encode_lower}
-use Rattle.osi_listing.proofs.lines.push_hex.Given as goal
+use Rattle.osi_listing.proofs.lines.push_long_hex.Given as goal
 
 -- what is still to be added follows what was added
 abbrev pub invariant-octets : goal.invariant-octets
