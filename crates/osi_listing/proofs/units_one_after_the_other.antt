@@ -60,15 +60,8 @@ pub record ListsUnits (old text : List ℕ) (was now : Counts) (left all : Units
   pub says : Says old text was now (map SessionUnit said)
   pub whole : said ++ left ≡ all
 
-pub lists_first : (old text : List ℕ) (was now : Counts) (first : Contents) (left all : Units) (a : Contents) (bs : Units) → all ≡ a ∷ bs →
-    first ≡ a → left ≡ bs →
-    text ≡ old ++ session_line first → now ≡ one_more was (SessionUnit first) → ListsUnits old text was now left all
-unfolding line_of
-lists_first old text was now first left all a bs whole e f line told = record {
-  said = first ∷ [];
-  says = says_one old text was now (SessionUnit first) line told;
-  whole = (λ i. e i ∷ f i) ∙ sym whole;
-}
+pub lists_none : (text : List ℕ) (c : Counts) (all : Units) → ListsUnits text text c c all all
+lists_none text c all = record { said = []; says = says_none text c; whole = refl }
 
 map-push : (us : Units) (u : Contents) → map SessionUnit (us ++ u ∷ []) ≡ map SessionUnit us ++ SessionUnit u ∷ []
 map-push [] u = refl

@@ -6,7 +6,6 @@ ghost use Rattle.osi_tpdu.specs.Units.{units_left};
 ghost use Rattle.osi_tpdu.specs.View.{value};
 ghost use Rattle.osi_spdu.specs.Groups.{units_behind, units_of as units_in};
 ghost use Rattle.osi_spdu.specs.Reading.{tsdu_at};
-ghost use Rattle.osi_spdu.specs.Units.{said_by};
 ghost use Rattle.osi_listing.specs.Joins.{outcome_value};
 ghost use Rattle.osi_listing.specs.Listing.{session_entries, outcome_entries, part_entries, unit_entries, read_entries, read_parts};
 ghost use Rattle.osi_listing.specs.Listing.Entry.{Packet, TransportUnit, Tsdu, SessionFault, SessionUnit};
@@ -18,7 +17,7 @@ use crate::lines::{push_packet, push_too_long, push_tsdu, push_unit_fault};
 use crate::session_lines::{push_session_fault, push_session_unit};
 use crate::streams::{Outcome, Streams};
 use crate::units::push_unit;
-use osi_spdu::{Behind, Group, Spdu, SpduFault, read_tsdu};
+use osi_spdu::{Behind, Group, SpduFault, read_group};
 use osi_tpdu::{Tpdu, Units, read_units};
 use std::alloc::{AllocError, Global};
 
@@ -189,7 +188,7 @@ fn list_session_units(
     ensures { OnOk result (Says text.old.items text.new.items counts.old counts.new
         (session_entries (tsdu_at tsdu.now))) }
 {
-    match read_tsdu(tsdu) {
+    match read_group(tsdu) {
         Ok(group) => list_group(text, counts, &group),
         Err(fault) => list_fault(text, counts, fault),
     }
@@ -203,32 +202,20 @@ fn list_group(text: &mut Vec<u8>, counts: &mut Counts, group: &Group) -> Result<
 {
     push_session_unit(text, group.first())?;
     counts.add_session_unit();
-    let mut behind = group.behind();
-    let Some(second) = behind.next() else {
+    let Some(second) = group.second() else {
         return Ok(());
     };
-    push_session_unit(text, &second)?;
+    push_session_unit(text, second)?;
     counts.add_session_unit();
-    let Some(third) = behind.next() else {
-        return Ok(());
-    };
-    list_more(text, counts, &third, behind)
+    list_more(text, counts, group.after_second())
 }
 
-/// Lists a session unit and those after it.
-#[inline(never)]
-fn list_more(
-    text: &mut Vec<u8>,
-    counts: &mut Counts,
-    unit: &Spdu,
-    mut behind: Behind,
-) -> Result<(), AllocError>
+/// Lists the session units after the second one.
+fn list_more(text: &mut Vec<u8>, counts: &mut Counts, mut left: Behind) -> Result<(), AllocError>
     ensures { OnOk result (Says text.old.items text.new.items counts.old counts.new
-        (map SessionUnit (said_by unit.now ∷ units_behind behind.entry))) }
+        (map SessionUnit (units_behind left.entry))) }
 {
-    push_session_unit(text, unit)?;
-    counts.add_session_unit();
-    'units: while let Some(unit) = behind.next() {
+    'units: while let Some(unit) = left.next() {
         push_session_unit(text, &unit)?;
         counts.add_session_unit();
     }

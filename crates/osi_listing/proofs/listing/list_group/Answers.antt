@@ -1,8 +1,8 @@
-use Rattle.std.proofs.Common.{◌≡◌, ◌∷◌, ◌++◌, ◌∙◌, map, sym, ap, subst}
+use Rattle.std.proofs.Common.{◌≡◌, ◌∷◌, ◌++◌, ◌∙◌, map, drop, sym, ap, subst}
 use Rattle.std.proofs.lemmas.Result.{on_ok_weaker}
 use Rattle.osi_spdu.specs.Known.{Units}
 use Rattle.osi_spdu.specs.Units.{said_by}
-use Rattle.osi_spdu.specs.Groups.{units_behind, first_of, behind_of}
+use Rattle.osi_spdu.specs.Groups.{first_of, behind_of}
 use Rattle.osi_listing.specs.Counting.{one_more}
 use Rattle.osi_listing.specs.Listing.Entry.{SessionUnit}
 use Rattle.osi_listing.specs.Says.{Says}
@@ -16,27 +16,9 @@ returns-in_default c =
     let group = c.args.group.now in
     let text = c.args.text.now.items in
     says_last text c.push_session_unit.new.text.items c.args.counts.now c.add_session_unit.new.self (first_of group) (behind_of group)
-    (sym c.behind-behind.ensures ∙ c.in_default.ensures.steps.0)
+    c.in_default.ensures
     (c.in_ok-push_session_unit.ensures ∙ ap (λ u. text ++ session_line u) c.first.ensures)
     c.add_session_unit.ensures
-
-pub returns-in_default-next : goal.returns-in_default-next
-unfolding one_more
-returns-in_default-next c =
-    let group = c.args.group.now in
-    let text = c.args.text.now.items in
-    let mid = c.push_session_unit.new.text.items in
-    let new = c.push_session_unit-2.new.text.items in
-    let then = c.add_session_unit.new.self in
-    let now = c.add_session_unit-2.new.self in
-    let second = said_by c.in-Some.second in
-    let whole : behind_of group ≡ second ∷ units_behind c.next.new.self = sym c.behind-behind.ensures ∙ c.in-Some.ensures.steps in
-    says_unit text mid new c.args.counts.now then now (first_of group) (behind_of group)
-    (c.in_ok-push_session_unit.ensures ∙ ap (λ u. text ++ session_line u) c.first.ensures)
-    c.add_session_unit.ensures
-    (subst (λ (us : Units). Says mid new then now (map SessionUnit us)) (sym whole)
-    (says_last mid new then now second (units_behind c.next.new.self) c.in_default-next.ensures.steps.0 c.in_ok-push_session_unit-2.ensures
-    c.add_session_unit-2.ensures))
 
 pub returns : goal.returns
 unfolding one_more
@@ -49,14 +31,14 @@ returns c =
     let then = c.add_session_unit.new.self in
     let later = c.add_session_unit-2.new.self in
     let now = c.list_more.new.counts in
-    let second = said_by c.in-Some.second in
-    let whole : behind_of group ≡ second ∷ units_behind c.next.new.self = sym c.behind-behind.ensures ∙ c.in-Some.ensures.steps in
+    let second = said_by c.in-Some.second.now in
+    let whole : behind_of group ≡ second ∷ drop 1 (behind_of group) = c.in-Some.ensures in
     on_ok_weaker c.list_more.result
     (λ says. says_unit text mid new c.args.counts.now then now (first_of group) (behind_of group)
     (c.in_ok-push_session_unit.ensures ∙ ap (λ u. text ++ session_line u) c.first.ensures)
     c.add_session_unit.ensures
     (subst (λ (us : Units). Says mid new then now (map SessionUnit us)) (sym whole)
-    (says_unit mid more new then later now second (units_behind c.next.new.self) c.in_ok-push_session_unit-2.ensures
+    (says_unit mid more new then later now second (drop 1 (behind_of group)) c.in_ok-push_session_unit-2.ensures
     c.add_session_unit-2.ensures
-    (subst (λ (us : Units). Says more new later now (map SessionUnit us)) (sym c.in-Some-next.ensures.steps) says))))
+    (subst (λ (us : Units). Says more new later now (map SessionUnit us)) c.after_second.ensures says))))
     c.list_more.ensures

@@ -1,12 +1,10 @@
-use Rattle.std.proofs.Common.{◌∷◌, length}
+use Rattle.std.proofs.Common.{length}
 use Rattle.osi_spdu.specs.Groups.{units_behind}
-use Rattle.osi_spdu.specs.Units.{said_by}
 use Rattle.osi_listing.proofs.units_one_after_the_other.{ListsUnits}
 use Rattle.osi_listing.proofs.listing.list_more.Given as goal
 
 abbrev pub invariant-units : goal.invariant-units
-invariant-units l =
-    ListsUnits l.fn.text.items l.text.items l.fn.counts l.counts (units_behind l.behind) (said_by l.fn.unit ∷ units_behind l.fn.behind)
+invariant-units l = ListsUnits l.fn.text.items l.text.items l.fn.counts l.counts (units_behind l.left) (units_behind l.fn.left)
 
 abbrev pub decreases-units : goal.decreases-units
-decreases-units l = length (units_behind l.behind)
+decreases-units l = length (units_behind l.left)
