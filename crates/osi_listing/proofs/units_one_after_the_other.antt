@@ -79,12 +79,6 @@ lists_next old text more was then now unit left others all e line told so_far = 
   whole = append_assoc so_far.said (unit ∷ []) others ∙ ap (λ (us : Units). so_far.said ++ us) (sym e) ∙ so_far.whole;
 }
 
-pub lists_end : (old text : List ℕ) (was now : Counts) (left all : Units) → left ≡ [] → ListsUnits old text was now left all →
-    Says old text was now (map SessionUnit all)
-lists_end old text was now left all e so_far =
-    subst (λ us. Says old text was now (map SessionUnit us))
-    (sym (append-nil so_far.said) ∙ ap (λ (us : Units). so_far.said ++ us) (sym e) ∙ so_far.whole) so_far.says
-
 -- a unit that is listed before others
 pub says_unit : (old mid new : List ℕ) (was then now : Counts) (unit : Contents) (units : Units) → mid ≡ old ++ session_line unit →
     then ≡ one_more was (SessionUnit unit) → Says mid new then now (map SessionUnit units) →
