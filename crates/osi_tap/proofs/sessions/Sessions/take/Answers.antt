@@ -1,0 +1,19 @@
+use Rattle.std.proofs.Common.{sym, subst, ℕ, Option}
+use Rattle.osi_tpdu.specs.View.{value}
+use Rattle.osi_rules.specs.declared.findings.Meaning.{Meaning}
+use Rattle.osi_rules.specs.declared.findings.Meaning.TheVariants.{Asks}
+use Rattle.osi_tap.specs.Blaming.{NobodyElse}
+use Rattle.osi_tap.specs.Connections.{source_of, taken}
+use Rattle.osi_tap.proofs.what_holds_of_a_result.{any_ok}
+use Rattle.osi_tap.proofs.who_is_to_blame.{one_asked}
+use Rattle.osi_tap.proofs.sessions.Sessions.take.Goals as goal
+
+pub returns-in-Asks-clause-others : goal.returns-in-Asks-clause-others
+returns-in-Asks-clause-others c =
+    let d = c.args.direction in
+    let v = value c.args.unit.now in
+    let told = c.args.told.now in
+    any_ok c.ask.result (λ s h b.
+    subst (λ (m : Meaning). NobodyElse d told.place (taken d c.args.at v m told.place s)) (sym c.in-Asks.is)
+    (subst (λ (o : Option ℕ). NobodyElse d o (taken d c.args.at v Asks o s)) (sym c.in-Some.is)
+    (one_asked d c.in-Some.place (source_of v) s b)))
