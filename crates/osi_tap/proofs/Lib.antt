@@ -15,3 +15,4 @@ pub mod a_capture_has_one_first_break
 pub mod moments_pass_one_after_the_other
 pub mod no_more_is_kept_than_passed
 pub mod the_first_break_of_transport_is_told_of_its_side
+pub mod who_broke_first_stays_to_blame

@@ -9,7 +9,7 @@ use Rattle.osi_tap.specs.declared.marks.Mark.{Mark}
 use Rattle.osi_tap.specs.declared.tap.Tap.{Tap}
 use Rattle.osi_tap.specs.declared.watch.Watch.{Watch}
 use Rattle.osi_tap.specs.Blaming.{IsToBlame, IsBlameless, AreBlameless, AreBlamelessBut, NobodyIs, IsToBlameAt, IsQuiet, IsSpotless}
-use Rattle.osi_tap.specs.Blaming.{AreSpotless, IsBreakOf, BreaksFirst, IsFirstOf, IsEarliest}
+use Rattle.osi_tap.specs.Blaming.{AreSpotless, IsBreakOf, BreaksFirst, IsFirstOf, IsEarliest, IsStill}
 use Rattle.osi_tap.specs.Blaming.IsBreakOf.{of_transport, of_session}
 use Rattle.osi_tap.specs.Connections.{Joined, Sessions}
 use Rattle.osi_tap.specs.Courses.{Moment, is_break, first_of}
@@ -31,7 +31,7 @@ held t s h judged = held_by t.due t.watch (streamed t.left) (streamed t.right) s
 
 earliest_first : (o : Option First) (past : List Moment) (s : Sessions) → IsEarliest o past s → IsFirstOf o past
 earliest_first None past s h = h.0
-earliest_first (Some f) past s h = h
+earliest_first (Some f) past s h = h.0
 
 pub first_held : (t : Tap) (s : State) → HoldsState t s → IsJudged t → IsFirstOf (first_in t) s.course.past
 first_held t s h judged = earliest_first (first_in t) s.course.past s.course.sessions (held t s h judged)
@@ -39,6 +39,10 @@ first_held t s h judged = earliest_first (first_in t) s.course.past s.course.ses
 pub nobody_held : (t : Tap) (s : State) → HoldsState t s → IsJudged t → first_in t ≡ None → NobodyIs s.course.sessions
 nobody_held t s h judged none =
     let e = subst (λ (o : Option First). IsEarliest o s.course.past s.course.sessions) none (held t s h judged) in e.1
+
+pub still_held : (t : Tap) (s : State) (f : First) → HoldsState t s → IsJudged t → first_in t ≡ Some f → IsStill f s.course.sessions
+still_held t s f h judged some =
+    let e = subst (λ (o : Option First). IsEarliest o s.course.past s.course.sessions) some (held t s h judged) in e.1
 
 -- ---- a moment with a break is not spotless
 

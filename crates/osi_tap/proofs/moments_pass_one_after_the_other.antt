@@ -1,6 +1,6 @@
 -- What passes later comes after the moments that have passed: for the law of the first break.
-use Rattle.std.proofs.Common.{◌≡◌, ◌∙◌, refl, sym, ap, subst, ℕ, Bool, true, false, if◌then◌else◌, is_some, List, [], ◌∷◌, ◌++◌}
-use Rattle.std.proofs.Common.{append_assoc, length, Option, Some, None, Result, Ok, Err}
+use Rattle.std.proofs.Common.{◌≡◌, ◌∙◌, refl, sym, ap, ℕ, Bool, true, false, if◌then◌else◌, is_some, List, [], ◌∷◌, ◌++◌}
+use Rattle.std.proofs.Common.{append_assoc, length, Result, Ok, Err}
 use Rattle.std.proofs.lemmas.List.{append-nil}
 use Rattle.osi_rules.specs.Traffic as traffic
 use Rattle.osi_tpdu.specs.Packet.{units_of}
@@ -12,7 +12,7 @@ use Rattle.osi_judge.specs.declared.directions.Direction.TheVariants.{Left, Righ
 use Rattle.osi_tap.specs.declared.marks.Cause.{Cause}
 use Rattle.osi_tap.specs.declared.marks.Cause.TheVariants.{BadUnit, BadPacket}
 use Rattle.osi_tap.specs.Courses.{Course, Moment, way_of, cause_of, marks_of, marked, moved, unit_passes, units_pass, unread, unread_mark}
-use Rattle.osi_tap.specs.Courses.{unread_moment, packet_by, packet_passes}
+use Rattle.osi_tap.specs.Courses.{unread_moment, packet_by}
 use Rattle.osi_tap.specs.Streams.{Front, partial, faulty, whole, front_of, Streamed, counted, gathered}
 use Rattle.osi_tap.specs.Tapping.{State, stream_of, with_stream, looked_at, begun, octet_passes, begin, after, comes_to}
 use Rattle.osi_tap.proofs.a_piece_comes_to_what_its_octets_do.{looks, after_more}

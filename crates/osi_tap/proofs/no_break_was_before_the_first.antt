@@ -2,7 +2,6 @@
 -- For the functions that let a unit pass, and for octets that can't be read.
 use Rattle.std.proofs.Common.{◌≡◌, ◌∙◌, refl, sym, ap, subst, ℕ, Bool, true, false, if◌then◌else◌, List, [], ◌∷◌, ◌++◌, append_assoc}
 use Rattle.std.proofs.Common.{Option, Some, None}
-use Rattle.std.specs.Prelude.{slice_get}
 use Rattle.std.specs.Option.{option_map}
 use Rattle.osi_tpdu.specs.Value.{Value}
 use Rattle.osi_judge.specs.declared.directions.Direction.{Direction}
@@ -12,16 +11,18 @@ use Rattle.osi_rules.specs.declared.findings.Reach.TheVariants as reach
 use Rattle.osi_rules.specs.declared.findings.Told.{Told}
 use Rattle.osi_tap.specs.declared.marks.Cause.{Cause}
 use Rattle.osi_tap.specs.declared.marks.First.{First}
-use Rattle.osi_tap.specs.declared.marks.Layer.TheVariants.{Session}
+use Rattle.osi_tap.specs.declared.marks.Layer.TheVariants.{Session, Transport}
 use Rattle.osi_tap.specs.declared.marks.Mark.{Mark}
 use Rattle.osi_tap.specs.declared.marks.Marks.{Marks}
 use Rattle.osi_tap.specs.Connections.{Sessions, taken, all_begin}
-use Rattle.osi_tap.specs.Courses.{Course, Moment, is_break, first_of, first_by, first_after, first_marked, changes, breaks, reached, marked}
-use Rattle.osi_tap.specs.Courses.{cause_of, noted, noted_by, moved, moment_of, applied, number_of, number_at, unread_mark, unread_moment}
-use Rattle.osi_tap.specs.Blaming.{NobodyIs, NobodyElse, IsToBlameAt, IsQuiet, AreSpotless, IsSpotless, BreaksFirst, IsEarliest}
-use Rattle.osi_tap.specs.Blaming.{BlamesBy, IsSessionOf, IsToldOf}
+use Rattle.osi_tap.specs.Courses.{Course, Moment, is_break, first_of, first_by, first_after, first_marked, changes, breaks, reached}
+use Rattle.osi_tap.specs.Courses.{marked}
+use Rattle.osi_tap.specs.Courses.{cause_of, noted_by, moved, moment_of, applied, number_of, number_at, unread_mark, unread_moment}
+use Rattle.osi_tap.specs.Blaming.{NobodyIs, NobodyElse, IsToBlameAt, IsQuiet, AreSpotless, IsSpotless, BreaksFirst, IsEarliest, IsBreakOf}
+use Rattle.osi_tap.specs.Blaming.{BlamesBy, IsSessionOf, IsToldOf, IsStill, SomeoneIs}
 use Rattle.osi_tap.specs.Blaming.IsBreakOf.{of_transport, of_session}
 use Rattle.osi_tap.proofs.who_is_to_blame.{nobody_begun}
+use Rattle.osi_tap.proofs.who_broke_first_stays_to_blame.{still_begun, told_some}
 
 -- ---- what is found of the transport changes neither the moments nor the connections
 
@@ -69,6 +70,9 @@ spotless_more : (past : List Moment) (m : Moment) → AreSpotless past → IsSpo
 spotless_more [] m h k = (k, tt)
 spotless_more (x ∷ past) m h k = (h.0, spotless_more past m h.1 k)
 
+not_session : Transport ≡ Session → ⊥
+not_session e = absurd (cc)
+
 still_first : (f : First) (past : List Moment) (m : Moment) → BreaksFirst f past → BreaksFirst f (past ++ m ∷ [])
 still_first f past m h = record {
   front = h.front;
@@ -79,29 +83,39 @@ still_first f past m h = record {
   breaks = h.breaks;
 }
 
+break_still : (f : First) (m : Moment) → IsBreakOf f m → IsStill f m.sessions
+break_still f m (of_transport k e b is) = λ l. absurd (not_session (ap (λ (x : First). x.layer) (sym is) ∙ l))
+break_still f m (of_session i q l d b) =
+    λ e. told_some f.direction f.connection i m.sessions b.connection b.there b.number_is b.broke
+
 now_first : (n : Option First) (past : List Moment) (m : Moment) → AreSpotless past → IsToldOf n m
     → IsEarliest n (past ++ m ∷ []) m.sessions
 now_first None past m h t = (spotless_more past m h t, t.sessions)
-now_first (Some f) past m h t = record { front = past; moment = m; back = []; parts = refl; before = h; breaks = t }
+now_first (Some f) past m h t =
+    (record { front = past; moment = m; back = []; parts = refl; before = h; breaks = t }, break_still f m t)
 
 earliest : (o n : Option First) (past : List Moment) (s : Sessions) (m : Moment) → IsEarliest o past s
-    → (o ≡ None → NobodyIs s → IsToldOf n m) → ((f : First) → o ≡ Some f → n ≡ Some f) → IsEarliest n (past ++ m ∷ []) m.sessions
-earliest None n past s m h told kept = now_first n past m h.0 (told refl h.1)
-earliest (Some f) n past s m h told kept =
-    subst (λ (o : Option First). IsEarliest o (past ++ m ∷ []) m.sessions) (sym (kept f refl)) (still_first f past m h)
+    → ((f : First) → IsStill f s → IsStill f m.sessions) → (o ≡ None → NobodyIs s → IsToldOf n m)
+    → ((f : First) → o ≡ Some f → n ≡ Some f) → IsEarliest n (past ++ m ∷ []) m.sessions
+earliest None n past s m h still told kept = now_first n past m h.0 (told refl h.1)
+earliest (Some f) n past s m h still told kept =
+    subst (λ (o : Option First). IsEarliest o (past ++ m ∷ []) m.sessions) (sym (kept f refl))
+    (still_first f past m h.0, still f h.1)
 
 -- a unit passes
 pub unit_earliest : (d : Direction) (at : ℕ) (v : Value) (told : Told) (k : Course) (o n : Option First) → IsEarliest o k.past k.sessions
+    → ((e : Direction) (number : Option ℕ) → SomeoneIs e number k.sessions
+    → SomeoneIs e number (taken d at v told.meaning told.place k.sessions))
     → (NobodyIs k.sessions → NobodyElse d told.place (taken d at v told.meaning told.place k.sessions))
     → (o ≡ None → NobodyElse d told.place (taken d at v told.meaning told.place k.sessions)
     → IsToldOf n (moment_of d at v told (taken d at v told.meaning told.place k.sessions)))
     → ((f : First) → o ≡ Some f → n ≡ Some f) → IsEarliest n (applied d at v told k).past (applied d at v told k).sessions
-unit_earliest d at v told k o n h others told_so kept =
+unit_earliest d at v told k o n h still others told_so kept =
     let m = moment_of d at v told (taken d at v told.meaning told.place k.sessions) in
     subst (λ (past : List Moment). IsEarliest n past (applied d at v told k).sessions)
     (sym (noted_past d at v told (cause_of told.finding) (moved m k)))
     (subst (λ (s : Sessions). IsEarliest n (k.past ++ m ∷ []) s) (sym (noted_sessions d at v told (cause_of told.finding) (moved m k)))
-    (earliest o n k.past k.sessions m h (λ e b. told_so e (others b)) kept))
+    (earliest o n k.past k.sessions m h (λ f b l. still f.direction f.connection (b l)) (λ e b. told_so e (others b)) kept))
 
 pub first_stays : (mark : Option Mark) (f : First) → first_after mark (Some f) ≡ Some f
 first_stays None f = refl
@@ -111,7 +125,7 @@ first_stays (Some m) f = refl
 pub begun_earliest : (d : Direction) (o : Option First) (past : List Moment) (s : Sessions) → IsEarliest o past s
     → IsEarliest o past (all_begin d s)
 begun_earliest d None past s h = (h.0, nobody_begun d s h.1)
-begun_earliest d (Some f) past s h = h
+begun_earliest d (Some f) past s h = (h.0, λ l. still_begun d f.direction f.connection s (h.1 l))
 
 -- ---- octets that can't be read
 
@@ -129,7 +143,7 @@ unread_earliest d at cause r k o n is h =
     let mark = unread_mark d at cause in
     subst (λ (past : List Moment). IsEarliest n past (marked mark r (moved m k)).sessions) (sym (marked_past mark r (moved m k)))
     (subst (λ (s : Sessions). IsEarliest n (k.past ++ m ∷ []) s) (sym (marked_sessions mark r (moved m k)))
-    (earliest o n k.past k.sessions m h
+    (earliest o n k.past k.sessions m h (λ f b. b)
     (λ e b. subst (λ (x : Option First). IsToldOf x m) (sym (is ∙ ap (first_by mark) e))
     (unread_told (is_break cause) d at cause k.sessions refl b))
     (λ f e. is ∙ ap (first_by mark) e)))

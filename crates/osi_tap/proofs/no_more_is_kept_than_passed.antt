@@ -1,5 +1,5 @@
 -- What is kept of a connection, and of the packets of a direction, is no more than passed of it: for the law that says so.
-use Rattle.std.proofs.Common.{◌≡◌, ◌∙◌, refl, sym, ap, subst, ℕ, ◌+◌, ◌≤◌, Bool, true, false, if◌then◌else◌, List, [], ◌∷◌, length, arith}
+use Rattle.std.proofs.Common.{◌≡◌, ap, ℕ, ◌+◌, ◌≤◌, Bool, true, false, if◌then◌else◌, List, [], ◌∷◌, length, arith}
 use Rattle.std.proofs.Common.{Option, Some, None}
 use Rattle.osi_judge.specs.Captures.{other}
 use Rattle.osi_judge.specs.Keeping.{is_same, kept_in, once, once_behind}
@@ -13,13 +13,13 @@ use Rattle.osi_tap.specs.declared.connections.Connection.{Connection}
 use Rattle.osi_tap.specs.declared.tap.Tap.{Tap}
 use Rattle.osi_tap.specs.declared.watch.Watch.{Watch}
 use Rattle.osi_tap.specs.Connections.{Joined, spoken}
-use Rattle.osi_tap.specs.Holding.{line_in, lined, streamed, is_unheard, HoldsJoined, IsHeard}
+use Rattle.osi_tap.specs.Holding.{line_in, lined, streamed, HoldsJoined, IsHeard}
 use Rattle.osi_tap.specs.Lines.{told, heard, begun_octets}
 use Rattle.osi_tap.specs.Standing.{pick, HoldsBy, HoldsState, IsJudged, IsPart}
 use Rattle.osi_tap.specs.Streams.{Streamed}
 use Rattle.osi_tap.specs.Tapping.{State}
 use Rattle.osi_session.specs.Standing.{seen_calling, seen_called}
-use Rattle.osi_tap.proofs.what_is_kept_of_a_side_is_what_passed.{begun_holds, heard_at, flipped}
+use Rattle.osi_tap.proofs.what_is_kept_of_a_side_is_what_passed.{begun_holds, heard_at}
 
 -- ---- a direction
 

@@ -1,5 +1,5 @@
 -- The break of transport that is told as the first is the one that is told of its side: for the law of the first break.
-use Rattle.std.proofs.Common.{◌≡◌, ◌∙◌, refl, sym, ap, subst, ℕ, Bool, true, false, if◌then◌else◌, is_some, List, [], ◌∷◌, ◌⊎◌, inl, inr}
+use Rattle.std.proofs.Common.{◌≡◌, ◌∙◌, refl, sym, ap, subst, ℕ, Bool, true, false, if◌then◌else◌, is_some, List, [], ◌∷◌, inl, inr}
 use Rattle.std.proofs.Common.{length, Option, Some, None, Result, Ok, Err}
 use Rattle.osi_rules.specs.Traffic as traffic
 use Rattle.osi_rules.specs.declared.findings.Reach.{Reach}

@@ -164,7 +164,7 @@ count_said w a e h =
 
 -- ---- the end of a TSDU
 
-told_more : (a : Spoken) (at : ℕ) (octets : List ℕ)
+pub told_more : (a : Spoken) (at : ℕ) (octets : List ℕ)
     → told (added at true octets a) ≡ told a ++ record { octets = begun_octets a.begun ++ octets; before = before a } ∷ []
 told_more a at octets = map-append told_of a.said (record { octets = begun_octets a.begun ++ octets; before = before a; at = at } ∷ [])
 

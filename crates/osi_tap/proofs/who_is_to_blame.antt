@@ -1,12 +1,13 @@
 -- A side of a connection is to blame or it is not, and a unit changes that of its own side of its own connection alone.
 -- For the functions that give a unit to a connection, and for those that look whether a session broke the protocol.
-use Rattle.std.proofs.Common.{◌≡◌, ◌∙◌, refl, sym, ap, subst, ℕ, zero, suc, ◌+◌, ◌<◌, ◌≤◌, inl, inr, Bool, true, false, List, [], ◌∷◌, ◌++◌}
+use Rattle.std.proofs.Common.{◌≡◌, ◌∙◌, refl, sym, ap, subst, ℕ, zero, suc, ◌+◌, ◌<◌, ◌≤◌, inl, Bool, true, false, List, [], ◌∷◌, ◌++◌}
 use Rattle.std.proofs.Common.{length, map, take, get_or, set, Option, Some, None, arith}
+use Rattle.std.proofs.lemmas.List.{take-append-le}
 use Rattle.std.specs.Prelude.{slice_get}
 use Rattle.osi_session.specs.Standing.{Seen}
 use Rattle.osi_judge.specs.Captures.{other}
 use Rattle.osi_judge.specs.Explaining.{Told, done}
-use Rattle.osi_judge.specs.Judging.{IsFound, IsFew, HasRoom}
+use Rattle.osi_judge.specs.Judging.{IsFound, IsKept, IsAstray, IsFew, HasRoom}
 use Rattle.osi_judge.specs.Kept.{kept}
 use Rattle.osi_judge.specs.Stops.{broke_session}
 use Rattle.osi_judge.specs.Tapping.{begin_of}
@@ -40,6 +41,26 @@ module _ (begin : Seen) (us : List (List ℕ)) (said : List Told) where
   same_blame (Broke i) g e h r k q = strayed i g (record { so_far = (h.0.so_far, h.1); astray = inl h.0.broke }) r k q
   same_blame (Astray i) g e h r k q = strayed i g (record { so_far = h.1; astray = h.2 }) r k q
 
+-- and as it says more
+pub blame_stays : (begin : Seen) (us : List (List ℕ)) (said more : List Told) (f g : Finding) → broke_session f ≡ true
+    → IsFound begin us said f → HasRoom begin us said f → IsFound begin us (said ++ more) g → HasRoom begin us (said ++ more) g
+    → broke_session g ≡ true
+blame_stays begin us said more f g e h r k q = by f e h r
+  where
+    on : (i : ℕ) → i < length said → Strays begin us said i → IsFew begin us (take i said) → broke_session g ≡ true
+    on i l s few =
+        strayed begin us (said ++ more) i g (record {
+          so_far = subst (λ (z : List Told). IsKept begin us z) (sym (take-append-le i said more (omega (arith, l)))) s.so_far;
+          astray = subst (λ (z : List Told). IsAstray begin us z) (sym (take-append-le (i + 1) said more (omega (arith, l)))) s.astray;
+        })
+        (subst (λ (z : List Told). IsFew begin us z) (sym (take-append-le i said more (omega (arith, l)))) few) k q
+
+    by : (f : Finding) → broke_session f ≡ true → IsFound begin us said f → HasRoom begin us said f → broke_session g ≡ true
+    by Kept e h r = absurd (cc)
+    by TooMany e h r = absurd (cc)
+    by (Broke i) e h r = on i h.0.there (record { so_far = (h.0.so_far, h.1); astray = inl h.0.broke }) r
+    by (Astray i) e h r = on i h.0 (record { so_far = h.1; astray = h.2 }) r
+
 pub not_both : (d : Direction) (j : Joined) → IsToBlame d j → IsBlameless d j → ⊥
 not_both d j h k =
     let b = same_blame (begin_of d) _ _ h.finding k.finding h.broke h.found.found h.found.room k.found.found k.found.room in
@@ -47,12 +68,16 @@ not_both d j h k =
 
 -- ---- by what is kept of the connection
 
-found_of : (d : Direction) (c : Connection) (j : Joined) → HoldsJoined c j → IsFoundOf d j (line_in d c).side.finding
+pub found_of : (d : Direction) (c : Connection) (j : Joined) → HoldsJoined c j → IsFoundOf d j (line_in d c).side.finding
 found_of d c j h = record { found = found_at d c j h; room = room_at d c j h }
 
 not_true : (b : Bool) → (b ≡ true → ⊥) → b ≡ false
 not_true true f = absurd (f refl)
 not_true false f = refl
+
+pub broken : (d : Direction) (c : Connection) (j : Joined) → HoldsJoined c j → IsToBlame d j
+    → broke_session (line_in d c).side.finding ≡ true
+broken d c j h k = same_blame (begin_of d) _ _ k.finding _ k.broke k.found.found k.found.room (found_at d c j h) (room_at d c j h)
 
 unbroken : (d : Direction) (c : Connection) (j : Joined) → HoldsJoined c j → IsBlameless d j
     → broke_session (line_in d c).side.finding ≡ false

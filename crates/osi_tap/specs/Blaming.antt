@@ -1,5 +1,5 @@
 -- Who is to blame, and for which break first: of transport or of a session, in the order in which what they sent passed.
-use Rattle.std.specs.Prelude.{◌≡◌, ℕ, zero, suc, Bool, true, false, List, [], ◌∷◌, ◌++◌, Option, Some, None, slice_get}
+use Rattle.std.specs.Prelude.{◌≡◌, ◌⊎◌, ℕ, zero, suc, Bool, true, false, List, [], ◌∷◌, ◌++◌, Option, Some, None, slice_get}
 use Rattle.osi_judge.specs.declared.directions.Direction.{Direction}
 use Rattle.osi_judge.specs.declared.directions.Direction.TheVariants.{Left, Right}
 use Rattle.osi_judge.specs.declared.findings.Finding.{Finding}
@@ -66,6 +66,14 @@ pub record IsToBlameAt (d : Direction) (place : ℕ) (number : Option ℕ) (s : 
   pub broke : IsToBlame d connection
   pub others : NobodyElseIs d place s
 
+-- this side of some connection with this number is to blame
+abbrev pub SomeIs : Direction → Option ℕ → List Joined → Type 0
+SomeIs d number [] = ⊥
+SomeIs d number (j ∷ js) = ((number ≡ Some j.number) × IsToBlame d j) ⊎ SomeIs d number js
+
+abbrev pub SomeoneIs : Direction → Option ℕ → Sessions → Type 0
+SomeoneIs d number s = SomeIs d number s.live ⊎ SomeIs d number s.done
+
 -- ---- of a moment
 
 -- no break of transport
@@ -105,10 +113,15 @@ abbrev pub IsFirstOf : Option First → List Moment → Type 0
 IsFirstOf None past = AreSpotless past
 IsFirstOf (Some f) past = BreaksFirst f past
 
--- and as long as none has, nobody is to blame for what has passed by now
+-- if it is of a session, that session is to blame
+abbrev pub IsStill : First → Sessions → Type 0
+IsStill f s = f.layer ≡ Session → SomeoneIs f.direction f.connection s
+
+-- As long as no moment has a break, nobody is to blame for what has passed by now; and who broke the protocol first is to blame from
+-- then on.
 abbrev pub IsEarliest : Option First → List Moment → Sessions → Type 0
 IsEarliest None past s = AreSpotless past × NobodyIs s
-IsEarliest (Some f) past s = BreaksFirst f past
+IsEarliest (Some f) past s = BreaksFirst f past × IsStill f s
 
 -- if it is of transport, it is where its side first broke a rule or left the profile
 abbrev pub IsMarkOf : Direction → First → Course → Type 0

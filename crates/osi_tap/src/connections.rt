@@ -167,7 +167,8 @@ impl Connection {
     /// Where the session of a side broke the protocol or left the profile: the offset, in its direction, of the packet in
     /// which that TSDU ended. Of a side that did neither it says nothing.
     pub fn offset(&self, direction: Direction) -> u64
-        ensures { (j : Joined) → HoldsJoined self.now j → IsPlace (line_in direction self.now).side.finding (spoken direction j).said result }
+        ensures { (j : Joined) → HoldsJoined self.now j
+            → IsPlace (line_in direction self.now).side.finding (spoken direction j).said result }
     {
         self.line(direction).last
     }

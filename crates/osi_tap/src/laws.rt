@@ -7,7 +7,7 @@ ghost use Rattle.osi_judge.specs.declared.findings.Finding.{Finding};
 ghost use Rattle.osi_judge.specs.declared.directions.Direction.{Direction as Side};
 ghost use Rattle.osi_tap.specs.declared.marks.First.{First};
 ghost use Rattle.osi_tap.specs.declared.marks.Layer.{Layer};
-ghost use Rattle.osi_tap.specs.Blaming.{IsFirstOf, IsMarkOf, NobodyIs};
+ghost use Rattle.osi_tap.specs.Blaming.{IsFirstOf, IsMarkOf, NobodyIs, SomeoneIs};
 ghost use Rattle.osi_tap.specs.declared.connections.Connection.{Connection};
 ghost use Rattle.osi_tap.specs.Connections.{Joined, spoken};
 ghost use Rattle.osi_tap.specs.Courses.{Moment};
@@ -33,7 +33,8 @@ pub fn a_tap_holds_what_passed()
 
 /// A tap that was fed a capture, and has judged all that passed, tells the first break of all, of transport and of sessions:
 /// no unit that passed before it had one. If it tells none, no unit of the capture had a break, and no session of any
-/// connection is to blame. A first break of transport is the one that is told of its side, with its packet, unit and cause.
+/// connection is to blame. A first break of transport is the one that is told of its side, with its packet, unit and cause;
+/// and a session that broke the protocol first is to blame for all that passed.
 /// So a capture has one first break, whatever the pieces were. The units pass in the order of
 /// the octets that complete their packets: those of a prefix pass before all others.
 pub fn the_first_break_is_the_earliest()
@@ -42,6 +43,8 @@ pub fn the_first_break_is_the_earliest()
         → NobodyIs (comes_to capture).course.sessions }
     ensures transport { (capture : Capture) (t : Tap) (f : First) → IsFed capture t → IsJudged t → first_in t ≡ Some f
         → f.layer ≡ Layer.Transport → IsMarkOf f.direction f (comes_to capture).course }
+    ensures session { (capture : Capture) (t : Tap) (f : First) → IsFed capture t → IsJudged t → first_in t ≡ Some f
+        → f.layer ≡ Layer.Session → SomeoneIs f.direction f.connection (comes_to capture).course.sessions }
     ensures one { (past : List Moment) (f g : Option First) → IsFirstOf f past → IsFirstOf g past → f ≡ g }
     ensures order { (capture more : Capture) → (rest : List Moment)
         × ((comes_to (capture ++ more)).course.past ≡ (comes_to capture).course.past ++ rest) }

@@ -1,6 +1,7 @@
 //! The connections of a byte connection, by their places.
 
-ghost use Rattle.std.specs.Prelude.{◌≡◌, ◌≤◌, ◌<◌, ◌+◌, ℕ, List, Some, OnOk, OnErr, length, map, take, option_copied, option_map, slice_get, ◌==◌};
+ghost use Rattle.std.specs.Prelude.{◌≡◌, ◌≤◌, ◌<◌, ◌+◌, ℕ, List, Option, Some, OnOk, OnErr, length, map, take, ◌==◌};
+ghost use Rattle.std.specs.Prelude.{option_copied, option_map, slice_get};
 ghost use Rattle.std.specs.List.{find};
 ghost use Rattle.osi_judge.specs.Captures.{other};
 ghost use Rattle.osi_tpdu.specs.View.{value};
@@ -8,7 +9,7 @@ ghost use Rattle.osi_tap.specs.Connections.{Joined, Sessions as Passed, none, co
 ghost use Rattle.osi_tap.specs.Connections.{user_of, meant, taken, asked_at, placed, changed, numbered};
 ghost use Rattle.osi_tpkt.specs.Stream.{offset_of};
 ghost use Rattle.osi_tap.specs.Courses.{number_at, number_of};
-ghost use Rattle.osi_tap.specs.Blaming.{Blames, NobodyElse, NobodyElseIs, NobodyIs};
+ghost use Rattle.osi_tap.specs.Blaming.{Blames, NobodyElse, NobodyElseIs, NobodyIs, SomeoneIs};
 ghost use Rattle.osi_tap.specs.Holding.{line_in, AllHeard, AreHeard, FoundHeard, HoldAll, HoldsFound, HoldsJoined, HoldsSessions};
 
 use crate::connections::Connection;
@@ -241,6 +242,8 @@ impl Sessions {
     ) -> Result<(), AllocError>
         ensures ok { OnOk result ((s : Passed) → HoldsSessions self.old s
             → HoldsSessions self.new (taken direction at (value unit.now) told.now.meaning told.now.place s)) }
+        ensures still { OnOk result ((s : Passed) (d : Direction) (number : Option ℕ) → HoldsSessions self.old s → SomeoneIs d number s
+            → SomeoneIs d number (taken direction at (value unit.now) told.now.meaning told.now.place s)) }
         ensures others { OnOk result ((s : Passed) → HoldsSessions self.old s → NobodyIs s
             → NobodyElse direction told.now.place (taken direction at (value unit.now) told.now.meaning told.now.place s)) }
         ensures err { OnErr result ((s : Passed) → HoldsSessions self.old s → HoldsSessions self.new s) }
@@ -266,6 +269,8 @@ impl Sessions {
         ensures ok { OnOk result ((s : Passed) → HoldsSessions self.old s
             → HoldsSessions self.new (changed place (meant direction at (value unit.now) meaning) s (slice_get s.live place))) }
         ensures err { OnErr result ((s : Passed) → HoldsSessions self.old s → HoldsSessions self.new s) }
+        ensures still { OnOk result ((s : Passed) (d : Direction) (number : Option ℕ) → HoldsSessions self.old s → SomeoneIs d number s
+            → SomeoneIs d number (changed place (meant direction at (value unit.now) meaning) s (slice_get s.live place))) }
         ensures others { OnOk result ((s : Passed) → HoldsSessions self.old s → NobodyIs s → NobodyElseIs direction place
             (changed place (meant direction at (value unit.now) meaning) s (slice_get s.live place))) }
     {

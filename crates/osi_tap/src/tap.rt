@@ -1,9 +1,10 @@
 //! A byte connection, judged while it passes.
 
-ghost use Rattle.std.specs.Prelude.{◌≡◌, ◌≤◌, ◌<◌, None, true, [], length, take, option_copied, if◌then◌else◌, IfOk, IsOk, OnOk, OnErr};
+ghost use Rattle.std.specs.Prelude.{◌≡◌, ◌≤◌, ◌<◌, None, Some, true, [], length, take, option_copied};
+ghost use Rattle.std.specs.Prelude.{if◌then◌else◌, IfOk, IsOk, OnOk, OnErr};
 ghost use Rattle.osi_judge.specs.Captures.{piece};
 ghost use Rattle.osi_tpkt.specs.Stream.{offset_of};
-ghost use Rattle.osi_tap.specs.Blaming.{IsFirstOf, NobodyIs};
+ghost use Rattle.osi_tap.specs.Blaming.{IsFirstOf, IsStill, NobodyIs};
 ghost use Rattle.osi_tap.specs.Connections.{count, numbered};
 ghost use Rattle.osi_tap.specs.Courses.{packet_begins, marks_of, Course};
 ghost use Rattle.osi_tap.specs.Holding.{streamed, AllHeard, FoundHeard, HoldsFound, IsFirst};
@@ -271,6 +272,8 @@ impl Tap {
         ensures transport { (s : State) → HoldsState self.now s → IsJudged self.now → IsFirst result s.course.first }
         ensures first { (s : State) → HoldsState self.now s → IsJudged self.now → IsFirstOf result s.course.past }
         ensures none { (s : State) → HoldsState self.now s → IsJudged self.now → result ≡ None → NobodyIs s.course.sessions }
+        ensures still { (s : State) (f : First) → HoldsState self.now s → IsJudged self.now → result ≡ Some f
+            → IsStill f s.course.sessions }
     {
         self.watch.first
     }

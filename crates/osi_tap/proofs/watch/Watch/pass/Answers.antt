@@ -63,6 +63,7 @@ returns-clause-ok c k h =
       right = r.right;
       first = r.first;
       order = unit_earliest d c.args.at v told t.by_now c.tell.new.self.first c.note.new.self.first t.holds.order
+          (λ e number. c.in_ok-take.ensures.still t.by_now.sessions e number t.holds.sessions)
           (c.in_ok-take.ensures.others t.by_now.sessions t.holds.sessions) (c.note.ensures.first next p)
           (λ f e. c.note.ensures.kept next f p e);
     })
