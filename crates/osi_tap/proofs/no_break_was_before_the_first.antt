@@ -55,7 +55,8 @@ marked_sessions m r c =
     reached_sessions m r (changes m.direction (breaks m) (first_marked m c))
     ∙ changes_sessions m.direction (breaks m) (first_marked m c)
 
-pub noted_past : (d : Direction) (at : ℕ) (v : Value) (told : Told) (o : Option Cause) (c : Course) → (noted_by d at v told o c).past ≡ c.past
+pub noted_past : (d : Direction) (at : ℕ) (v : Value) (told : Told) (o : Option Cause) (c : Course)
+    → (noted_by d at v told o c).past ≡ c.past
 noted_past d at v told None c = refl
 noted_past d at v told (Some cause) c = marked_past _ told.reach c
 

@@ -1,6 +1,6 @@
 //! One connection on the byte connection.
 
-ghost use Rattle.std.specs.Prelude.{◌≡◌, IfOk, OnOk, OnErr};
+ghost use Rattle.std.specs.Prelude.{◌≡◌, IfOk, IsOk, OnOk, OnErr};
 ghost use Rattle.osi_judge.specs.Sides.{watched};
 ghost use Rattle.osi_judge.specs.Captures.{other};
 ghost use Rattle.osi_judge.specs.Judging.{IsFound, HasRoom};
@@ -98,6 +98,7 @@ impl Connection {
     pub(crate) fn hand_over(&mut self) -> Result<(), AllocError>
         ensures holds { (j : Joined) → HoldsJoined self.old j → HoldsJoined self.new j }
         ensures heard { OnOk result (IsHeard self.new) }
+        ensures free { IsHeard self.old → IsOk result }
     {
         hand_over_both(&mut self.left, &mut self.right)
     }

@@ -1,6 +1,6 @@
 //! The connections of a byte connection, by their places.
 
-ghost use Rattle.std.specs.Prelude.{◌≡◌, ◌≤◌, ◌<◌, ◌+◌, ℕ, List, Option, Some, OnOk, OnErr, length, map, take, ◌==◌};
+ghost use Rattle.std.specs.Prelude.{◌≡◌, ◌≤◌, ◌<◌, ◌+◌, ℕ, List, Option, Some, IsOk, OnOk, OnErr, length, map, take, ◌==◌};
 ghost use Rattle.std.specs.Prelude.{option_copied, option_map, slice_get};
 ghost use Rattle.std.specs.List.{find};
 ghost use Rattle.osi_judge.specs.Captures.{other};
@@ -116,6 +116,7 @@ fn hand_over_at(live: &mut Vec<Connection>, place: usize) -> Result<(), AllocErr
     ensures holds { (js : List Joined) → HoldAll live.old.items js → HoldAll live.new.items js }
     ensures count { length live.new.items ≡ length live.old.items }
     ensures heard { OnOk result (AreHeard (take place live.old.items) → AreHeard (take (place + 1) live.new.items)) }
+    ensures free { AreHeard live.old.items → IsOk result × AreHeard live.new.items }
 {
     live[place].hand_over()
 }
@@ -124,6 +125,7 @@ fn hand_over_at(live: &mut Vec<Connection>, place: usize) -> Result<(), AllocErr
 fn hand_over_each(live: &mut Vec<Connection>) -> Result<(), AllocError>
     ensures holds { (js : List Joined) → HoldAll live.old.items js → HoldAll live.new.items js }
     ensures heard { OnOk result (AreHeard live.new.items) }
+    ensures free { AreHeard live.old.items → IsOk result }
 {
     let mut place = 0;
     'connections: while place < live.len() {
@@ -189,6 +191,7 @@ impl Sessions {
     pub(crate) fn hand_over(&mut self) -> Result<(), AllocError>
         ensures holds { (s : Passed) → HoldsSessions self.old s → HoldsSessions self.new s }
         ensures heard { OnOk result (AllHeard self.new) }
+        ensures free { AllHeard self.old → IsOk result }
     {
         hand_over_each(&mut self.live)?;
         hand_over_each(&mut self.done)

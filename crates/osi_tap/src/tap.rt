@@ -173,10 +173,12 @@ impl Tap {
 
     /// What passed and could not be judged for lack of memory is judged now, and each session is given what it has not
     /// heard yet of the other side. Without it, that is so unless an allocation failed. It looks at each connection once.
+    /// After `Err` an allocation has failed; the same call goes on. If nothing is left to do, no memory is needed.
     pub fn settle(&mut self) -> Result<(), AllocError>
         ensures holds { (s : State) → HoldsState self.old s → HoldsState self.new s }
         ensures judged { OnOk result (IsJudged self.new) }
         ensures settled { OnOk result (IsSettled self.new) }
+        ensures free { IsSettled self.old → IsOk result }
     {
         self.pass_due()?;
         self.hand_over()
@@ -187,6 +189,7 @@ impl Tap {
         ensures holds { (s : State) → IsJudged self.old → HoldsState self.old s → HoldsState self.new s }
         ensures judged { IsJudged self.old → IsJudged self.new }
         ensures heard { OnOk result (AllHeard self.new.watch.sessions) }
+        ensures free { AllHeard self.old.watch.sessions → IsOk result }
     {
         self.watch.hand_over()
     }
@@ -196,6 +199,7 @@ impl Tap {
         ensures holds { (s : State) → HoldsState self.old s → HoldsState self.new s }
         ensures judged { OnOk result (IsJudged self.new) }
         ensures free { IsJudged self.old → IsOk result }
+        ensures still { IsJudged self.old → self.new ≡ self.old }
     {
         let Some(direction) = self.due else {
             return Ok(());

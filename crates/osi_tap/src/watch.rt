@@ -1,6 +1,6 @@
 //! What passes on a byte connection: its transport, its sessions, and what was found of both.
 
-ghost use Rattle.std.specs.Prelude.{◌≡◌, ◌+◌, ℕ, None, Some, List, drop, IfOk, OnOk, OnErr};
+ghost use Rattle.std.specs.Prelude.{◌≡◌, ◌+◌, ℕ, None, Some, List, drop, IfOk, IsOk, OnOk, OnErr};
 ghost use Rattle.osi_tpdu.specs.Units.{units_left};
 ghost use Rattle.osi_tpdu.specs.Value.{Value};
 ghost use Rattle.osi_tpdu.specs.View.{value};
@@ -163,6 +163,7 @@ impl Watch {
     pub(crate) fn hand_over(&mut self) -> Result<(), AllocError>
         ensures holds { (c : Course) → HoldsAll self.old c → HoldsAll self.new c }
         ensures heard { OnOk result (AllHeard self.new.sessions) }
+        ensures free { AllHeard self.old.sessions → IsOk result }
     {
         self.sessions.hand_over()
     }
