@@ -154,13 +154,20 @@ unread_earliest d at cause r k o n is h =
 pub session_first : (b : Bool) (d : Direction) (place number : Option ℕ) (s : Sessions) → BlamesBy b d place s → number ≡ number_at place s
     → NobodyElse d place s → IsSessionOf (if b then Some (record { direction = d; layer = Session; connection = number }) else None) d s
 session_first true d None number s h e k = absurd h
-session_first true d (Some i) number s h e k = (refl, refl, (i, record {
-  connection = h.0;
-  there = h.1;
-  number_is = e ∙ ap (option_map number_of) h.1;
-  broke = h.2;
-  others = k;
-}))
+session_first true d (Some i) number s h e k = (
+  refl,
+  refl,
+  (
+    i,
+    record {
+      connection = h.0;
+      there = h.1;
+      number_is = e ∙ ap (option_map number_of) h.1;
+      broke = h.2;
+      others = k;
+    },
+  ),
+)
 session_first false d None number s h e k = k
 session_first false d (Some i) number s h e k = record { live = h k.live; done = k.done }
 

@@ -59,12 +59,18 @@ now_marked : (d : Direction) (m : Mark) (c : Course) (b : Bool) → m.direction 
     → Marked (if b then Some (first_of m) else None) (changes d (mark_if b m) c)
 now_marked Left m c false e h = h
 now_marked Right m c false e h = h
-now_marked Left m c true e h =
-    (m, subst (λ (d : Direction). (marks_in d (mark_if true m c.left) c.right).broke ≡ Some m) (sym e)
-    (ap (λ (x : Option Mark). earlier x m) h.0), refl)
-now_marked Right m c true e h =
-    (m, subst (λ (d : Direction). (marks_in d c.left (mark_if true m c.right)).broke ≡ Some m) (sym e)
-    (ap (λ (x : Option Mark). earlier x m) h.1), refl)
+now_marked Left m c true e h = (
+  m,
+  subst (λ (d : Direction). (marks_in d (mark_if true m c.left) c.right).broke ≡ Some m) (sym e)
+      (ap (λ (x : Option Mark). earlier x m) h.0),
+  refl,
+)
+now_marked Right m c true e h = (
+  m,
+  subst (λ (d : Direction). (marks_in d c.left (mark_if true m c.right)).broke ≡ Some m) (sym e)
+      (ap (λ (x : Option Mark). earlier x m) h.1),
+  refl,
+)
 
 still_marked : (d e : Direction) (b : Bool) (m k : Mark) (c : Course) → (marks_in d c.left c.right).broke ≡ Some k
     → (marks_in d (changes e (mark_if b m) c).left (changes e (mark_if b m) c).right).broke ≡ Some k

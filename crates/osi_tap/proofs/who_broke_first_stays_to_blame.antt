@@ -166,9 +166,9 @@ placed_some : (d : Direction) (number : Option ℕ) (i : ℕ) (j : Joined) (s : 
 placed_some d number i j s None e h = elim h [ inl a ↦ inl (some_more d number s.live (j ∷ []) a) | inr r ↦ inr r ]
 placed_some d number i j s (Some over) e h = elim h [
   | inl a ↦ elim (stays_or_goes d number s.live i j over e a) [
-      | inl k ↦ inl k
-      | inr g ↦ inr (some_last d number s.done over g.0 g.1)
-    ]
+    | inl k ↦ inl k
+    | inr g ↦ inr (some_last d number s.done over g.0 g.1)
+  ]
   | inr r ↦ inr (some_more d number s.done (over ∷ []) r)
 ]
 

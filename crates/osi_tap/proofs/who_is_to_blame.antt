@@ -199,8 +199,10 @@ placed_at i j s (Some over) e b h = record {
 
 pub one_asked : (d : Direction) (i calling : ℕ) (s : Sessions) → NobodyIs s → NobodyElseIs d i (asked_at i calling s)
 one_asked d i calling s h =
-    else_is d i (asked_at i calling s) (placed_at i _ s (slice_get s.live i) refl (begin_blameless Left _ calling,
-    begin_blameless Right _ calling) h)
+    else_is d i (asked_at i calling s) (placed_at i _ s (slice_get s.live i) refl (
+      begin_blameless Left _ calling,
+      begin_blameless Right _ calling,
+    ) h)
 
 -- ---- a packet begins
 

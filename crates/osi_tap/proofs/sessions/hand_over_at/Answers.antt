@@ -22,6 +22,7 @@ returns-clause-heard c =
 
 pub returns-clause-free : goal.returns-clause-free
 returns-clause-free c h =
-    let one = subst IsHeard (sym c.index_mut.ensures.value) (heard_at c.args.live.now.items c.args.place c.index_mut.result.now c.requires h) in
+    let one = subst IsHeard (sym c.index_mut.ensures.value)
+    (heard_at c.args.live.now.items c.args.place c.index_mut.result.now c.requires h) in
     let free = c.hand_over.ensures.free one in
     (free, still_heard c.args.live.now.items c.args.place c.hand_over.new.self (now_so c.hand_over.result free c.hand_over.ensures.heard) h)
