@@ -9,3 +9,10 @@ pub mod what_a_packet_still_owes
 pub mod what_is_taken_of_a_piece_passes
 pub mod a_tap_holds_what_passed
 pub mod the_first_break_is_kept
+pub mod who_is_to_blame
+pub mod no_break_was_before_the_first
+pub mod a_capture_has_one_first_break
+pub mod moments_pass_one_after_the_other
+pub mod no_more_is_kept_than_passed
+pub mod the_first_break_of_transport_is_told_of_its_side
+pub mod who_broke_first_stays_to_blame

@@ -26,13 +26,13 @@ all_more (d ∷ cs) [] c j h e = absurd h
 all_more (d ∷ cs) (i ∷ js) c j h e = (h.0, all_more cs js c j h.1 e)
 
 -- the one at a place, and the list after it is changed
-record HasElement (cs : List Connection) (js : List Joined) (i : ℕ) (c : Connection) : Type 0 where
-  joined : Joined
-  there : slice_get js i ≡ Some joined
-  holds : HoldsJoined c joined
-  next : (d : Connection) (j : Joined) → HoldsJoined d j → HoldAll (set cs i d) (set js i j)
+pub record HasElement (cs : List Connection) (js : List Joined) (i : ℕ) (c : Connection) : Type 0 where
+  pub joined : Joined
+  pub there : slice_get js i ≡ Some joined
+  pub holds : HoldsJoined c joined
+  pub next : (d : Connection) (j : Joined) → HoldsJoined d j → HoldAll (set cs i d) (set js i j)
 
-element : (cs : List Connection) (js : List Joined) (i : ℕ) (c : Connection) → i < length cs → HoldAll cs js
+pub element : (cs : List Connection) (js : List Joined) (i : ℕ) (c : Connection) → i < length cs → HoldAll cs js
     → HasElement cs js i (get_or cs i c)
 element [] js i c lt h = absurd (omega arith)
 element (c ∷ cs) [] i d lt h = absurd h
@@ -50,7 +50,7 @@ one_changed cs ds s i c d f lt step live done =
     subst (λ (o : Option Joined). HoldAll (set cs i d) (changed i f s o).live × HoldAll ds (changed i f s o).done) (sym r.there)
     (r.next d (f r.joined) (step r.joined r.holds), done)
 
-none_there : (js : List Joined) (i : ℕ) → length js ≤ i → slice_get js i ≡ None
+pub none_there : (js : List Joined) (i : ℕ) → length js ≤ i → slice_get js i ≡ None
 none_there [] i le = refl
 none_there (j ∷ js) zero le = absurd (omega arith)
 none_there (j ∷ js) (suc i) le = none_there js i (omega arith)

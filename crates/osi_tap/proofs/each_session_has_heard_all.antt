@@ -1,6 +1,6 @@
 -- The sessions of connections have heard all that the other side said: for the functions that hand it over, one connection after
 -- the other, and for those that find a connection.
-use Rattle.std.proofs.Common.{◌≡◌, ℕ, zero, suc, ◌+◌, ◌<◌, ◌≤◌, List, [], ◌∷◌, length, take, set, arith, subst, sym, add-one}
+use Rattle.std.proofs.Common.{◌≡◌, ℕ, zero, suc, ◌+◌, ◌<◌, ◌≤◌, List, [], ◌∷◌, length, take, set, get_or, arith, subst, sym, add-one}
 use Rattle.std.proofs.Common.{Bool, true, false, cond, ◌==◌, Option, Some, None}
 use Rattle.std.specs.List.{find}
 use Rattle.osi_judge.specs.declared.directions.Direction.{Direction}
@@ -27,6 +27,16 @@ pub whole_heard : (cs : List Connection) (n : ℕ) → length cs ≤ n → AreHe
 whole_heard [] n le h = tt
 whole_heard (c ∷ cs) zero le h = absurd (omega arith)
 whole_heard (c ∷ cs) (suc n) le h = (h.0, whole_heard cs n (omega arith) h.1)
+
+pub heard_at : (cs : List Connection) (i : ℕ) (c : Connection) → i < length cs → AreHeard cs → IsHeard (get_or cs i c)
+heard_at [] i c lt h = absurd (omega arith)
+heard_at (x ∷ cs) zero c lt h = h.0
+heard_at (x ∷ cs) (suc i) c lt h = heard_at cs i c (omega arith) h.1
+
+pub still_heard : (cs : List Connection) (i : ℕ) (c : Connection) → IsHeard c → AreHeard cs → AreHeard (set cs i c)
+still_heard [] i c k h = tt
+still_heard (x ∷ cs) zero c k h = (k, h.1)
+still_heard (x ∷ cs) (suc i) c k h = (h.0, still_heard cs i c k h.1)
 
 -- ---- the one with a number
 

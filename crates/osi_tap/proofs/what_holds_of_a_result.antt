@@ -1,5 +1,5 @@
 -- What a call says of its result holds of what follows from it: for functions that return what they call.
-use Rattle.std.proofs.Common.{Result, Ok, Err, IfOk, OnOk, OnErr}
+use Rattle.std.proofs.Common.{Result, Ok, Err, IfOk, IsOk, OnOk, OnErr}
 
 pub on_ok : {T E : Type 0} {P Q : Type 0} (r : Result T E) → OnOk r P → (P → Q) → OnOk r Q
 on_ok (Ok x) h f = f h
@@ -24,3 +24,7 @@ any_err (Err e) h = h
 pub any_ok : {T E : Type 0} {P : Type 0} (r : Result T E) → P → OnOk r P
 any_ok (Ok x) h = h
 any_ok (Err e) h = tt
+
+pub now_so : {T E : Type 0} {P : Type 0} (r : Result T E) → IsOk r → OnOk r P → P
+now_so (Ok x) e h = h
+now_so (Err e) k h = absurd (cc)

@@ -1,7 +1,7 @@
 -- What is kept of both sides of a connection stays what passed of them, as DTs pass and TSDUs are handed over: for what is
 -- kept of a connection.
-use Rattle.std.proofs.Common.{◌≡◌, ◌∙◌, refl, sym, ap, subst, ℕ, zero, suc, ◌+◌, List, [], ◌∷◌, ◌++◌, length, Bool, true, false, Option, Some}
-use Rattle.std.proofs.Common.{arith}
+use Rattle.std.proofs.Common.{◌≡◌, ◌∙◌, refl, sym, ap, subst, ℕ, zero, suc, ◌+◌, List, [], ◌∷◌, ◌++◌, length, Bool, true, false}
+use Rattle.std.proofs.Common.{Option, Some, arith}
 use Rattle.std.proofs.lemmas.List.{append-nil, map-append, length-map, length-append}
 use Rattle.osi_tpkt.specs.Stream.{offset_of}
 use Rattle.osi_session.specs.Standing.{Seen}
@@ -9,7 +9,7 @@ use Rattle.osi_judge.specs.Explaining.{Told}
 use Rattle.osi_judge.specs.Feeding.{Tells, last_place}
 use Rattle.osi_judge.specs.declared.findings.Finding.{Finding}
 use Rattle.osi_judge.specs.declared.findings.Finding.TheVariants.{Kept, Broke, Left as Astray, TooMany}
-use Rattle.osi_judge.specs.Judging.{Watched, Watches, WatchesBy, Keeps, FoundNext, IsFound}
+use Rattle.osi_judge.specs.Judging.{Watched, Watches, WatchesBy, Keeps, FoundNext, IsFound, HasRoom}
 use Rattle.osi_judge.specs.Outlines.{outline, outlines}
 use Rattle.osi_tap.specs.declared.lines.Stage.{Stage}
 use Rattle.osi_tap.specs.declared.lines.Stage.TheVariants.{Between, Within, Unheard}
@@ -25,8 +25,9 @@ use Rattle.osi_tap.specs.Holding.{lined, line_in, HoldsJoined, IsHeard}
 use Rattle.osi_tap.specs.Lines.{Begun, Spoken, told, told_of, octets_of, heard, begun_octets, begun_before, before, added, begins}
 use Rattle.osi_tap.specs.Lines.{silent, Said, place_in}
 use Rattle.osi_tap.specs.Holding.{Lined, unheard, unheard_at, begun_at, begun_in, is_unheard, IsClear, IsPlace, Holds, HoldsBoth}
-use Rattle.osi_judge.proofs.told.what_is_known_of_a_side.{hears, found_as}
+use Rattle.osi_judge.proofs.told.what_is_known_of_a_side.{hears, found_as, room_as}
 use Rattle.osi_judge.proofs.outlined.alike_tsdus_explain_the_same.{found_of_tsdus}
+use Rattle.osi_judge.proofs.outlined.a_rule_of_outlines_is_one_of_tsdus.{room_of_tsdus}
 
 abbrev line : Watched → List ℕ → Stage → (begun_since since last : ℕ) → Lined
 line w x stage n m last = record { side = w; begun = x; stage = stage; begun_since = n; since = m; last = last }
@@ -42,7 +43,8 @@ unheard_stage Within e = cc
 unheard_stage Unheard e = refl
 
 handed_unheard : (s t : Seen) (w v v2 : Watched) (x x2 y : List ℕ) (stage : Stage) (n m l n2 m2 l2 : ℕ) (a b : Spoken) → x2 ≡ []
-    → v2.begin ≡ v.begin → v2.finding ≡ v.finding → v2.heard ≡ v.heard ++ outline x ∷ [] → ((told : List Told) → Watches v told → Watches v2 told)
+    → v2.begin ≡ v.begin → v2.finding ≡ v.finding → v2.heard ≡ v.heard ++ outline x ∷ []
+    → ((told : List Told) → Watches v told → Watches v2 told)
     → HoldsBoth s t (line w x Unheard n m l) (line v y stage n2 m2 l2) a b
     → HoldsBoth s t (line w x2 Between n m l) (line v2 y stage n2 m2 l2) a b
 handed_unheard s t w v v2 x x2 y stage n m l n2 m2 l2 a b none begin found heard watches h = record {
@@ -162,7 +164,7 @@ count_said w a e h =
 
 -- ---- the end of a TSDU
 
-told_more : (a : Spoken) (at : ℕ) (octets : List ℕ)
+pub told_more : (a : Spoken) (at : ℕ) (octets : List ℕ)
     → told (added at true octets a) ≡ told a ++ record { octets = begun_octets a.begun ++ octets; before = before a } ∷ []
 told_more a at octets = map-append told_of a.said (record { octets = begun_octets a.begun ++ octets; before = before a; at = at } ∷ [])
 
@@ -212,7 +214,8 @@ no_place : (f : Finding) → f ≡ Kept → IsPlace f [] 0
 no_place f e = subst (λ (x : Finding). IsPlace x [] 0) (sym e) tt
 
 pub fresh_both : (s t : Seen) (own other : Lined) (w v : Watched) → own ≡ line w [] Between 0 0 0 → other ≡ line v [] Between 0 0 0
-    → w.begin ≡ s → v.begin ≡ t → w.heard ≡ [] → v.heard ≡ [] → w.finding ≡ Kept → v.finding ≡ Kept → Watches w [] → Watches v [] → HoldsBoth s t own other silent silent
+    → w.begin ≡ s → v.begin ≡ t → w.heard ≡ [] → v.heard ≡ [] → w.finding ≡ Kept → v.finding ≡ Kept → Watches w [] → Watches v []
+    → HoldsBoth s t own other silent silent
 fresh_both s t own other w v is other_is begin other_begin none other_none kept other_kept watches other_watches =
     subst (λ (z : Lined). HoldsBoth s t z other silent silent) (sym is)
     (subst (λ (z : Lined). HoldsBoth s t (line w [] Between 0 0 0) z silent silent) (sym other_is) (record {
@@ -287,6 +290,19 @@ pub found_at : (d : Direction) (c : Connection) (j : Joined) → HoldsJoined c j
     → IsFound (begin_of d) (heard (spoken (other d) j)) (told (spoken d j)) (line_in d c).side.finding
 found_at Left c j h = found_in seen_calling (lined c.left) (lined c.right) j.left j.right h.sides.this
 found_at Right c j h = found_in seen_called (lined c.right) (lined c.left) j.right j.left h.sides.that
+
+room_in : (s : Seen) (own other : Lined) (a b : Spoken) → Holds s own other a b → HasRoom s (heard b) (told a) own.side.finding
+room_in s own other a b h =
+    subst (λ (z : Seen). HasRoom z (heard b) (told a) own.side.finding) h.begins_so
+    (room_of_tsdus (heard b) own.side.begin (told a) own.side.finding
+    (subst (λ (x : List (List ℕ)). HasRoom own.side.begin x (told a) own.side.finding) h.hears
+    (room_as (record own.side { heard = own.side.heard ++ unheard other }) (told a)
+    (given_all own.side other.stage other.begun (told a) h.says))))
+
+pub room_at : (d : Direction) (c : Connection) (j : Joined) → HoldsJoined c j
+    → HasRoom (begin_of d) (heard (spoken (other d) j)) (told (spoken d j)) (line_in d c).side.finding
+room_at Left c j h = room_in seen_calling (lined c.left) (lined c.right) j.left j.right h.sides.this
+room_at Right c j h = room_in seen_called (lined c.right) (lined c.left) j.right j.left h.sides.that
 
 -- the session of a side has heard all that the other side said
 pub heard_at : (d : Direction) (c : Connection) (j : Joined) → HoldsJoined c j → IsHeard c

@@ -1,5 +1,5 @@
 -- What has passed on a byte connection, and what a unit or a packet does to it.
-use Rattle.std.specs.Prelude.{ℕ, ◌∷◌, [], Bool, true, false, if◌then◌else◌, List, slice_get, Option, Some, None, is_some, option_map}
+use Rattle.std.specs.Prelude.{ℕ, ◌∷◌, ◌++◌, [], Bool, true, false, if◌then◌else◌, List, slice_get, Option, Some, None, is_some, option_map}
 use Rattle.std.specs.Prelude.{Result, Ok, Err}
 use Rattle.osi_tpdu.specs.Packet.{units_of}
 use Rattle.osi_tpdu.specs.Value.{Value, request, confirm, disconnect, disconnected, data0, data2, acknowledge, error}
@@ -24,19 +24,29 @@ use Rattle.osi_tap.specs.declared.marks.UnitKind.{UnitKind}
 use Rattle.osi_tap.specs.declared.marks.UnitKind.TheVariants as kind
 use Rattle.osi_tap.specs.Connections.{Joined, Sessions, none, all_begin, taken}
 
--- the transport, the connections, what was found of the transport of each side, and which break of transport was first
+-- what passed at one moment, a unit or octets that can't be read: the side that sent it, the offset of the packet in its direction,
+-- what was found of the transport, and the connections after it
+pub record Moment : Type 0 where
+  pub direction : Direction
+  pub at : ℕ
+  pub mark : Option Mark
+  pub sessions : Sessions
+
+-- the transport, the connections, what was found of the transport of each side, which break of transport was first, and the moments
+-- in the order in which they passed
 pub record Course : Type 0 where
   pub traffic : traffic.State
   pub sessions : Sessions
   pub left : Marks
   pub right : Marks
   pub first : Option First
+  pub past : List Moment
 
 abbrev pub unmarked : Marks
 unmarked = record { broke = None; halted = None }
 
 abbrev pub fresh : Course
-fresh = record { traffic = traffic.fresh; sessions = none; left = unmarked; right = unmarked; first = None }
+fresh = record { traffic = traffic.fresh; sessions = none; left = unmarked; right = unmarked; first = None; past = [] }
 
 -- a direction as `osi_rules` names it
 abbrev pub way_of : Direction → Way
@@ -87,6 +97,11 @@ abbrev pub first_by : Mark → Option First → Option First
 first_by m None = if is_break m.cause then Some (first_of m) else None
 first_by m (Some f) = Some f
 
+-- a mark, or none
+abbrev pub first_after : Option Mark → Option First → Option First
+first_after None first = first
+first_after (Some m) first = first_by m first
+
 abbrev pub first_marked : Mark → Course → Course
 first_marked m c = record c { first = first_by m c.first }
 
@@ -121,6 +136,14 @@ abbrev pub number_at : Option ℕ → Sessions → Option ℕ
 number_at None s = None
 number_at (Some place) s = option_map number_of (slice_get s.live place)
 
+abbrev pub mark_by : Direction → (at : ℕ) → Value → Option ℕ → Option Cause → Option Mark
+mark_by d at v number None = None
+mark_by d at v number (Some cause) =
+    Some (record { direction = d; offset = at; unit = Some (kind_of v); connection = number; cause = cause })
+
+abbrev pub mark_of : Direction → (at : ℕ) → Value → Told → Sessions → Option Mark
+mark_of d at v told s = mark_by d at v (number_at told.place s) (cause_of told.finding)
+
 abbrev pub noted_by : Direction → (at : ℕ) → Value → Told → Option Cause → Course → Course
 noted_by d at v told None c = c
 noted_by d at v told (Some cause) c = marked
@@ -136,9 +159,18 @@ noted_by d at v told (Some cause) c = marked
 abbrev pub noted : Direction → (at : ℕ) → Value → Told → Course → Course
 noted d at v told c = noted_by d at v told (cause_of told.finding) c
 
+-- one moment more has passed, after which these are the connections
+abbrev pub moved : Moment → Course → Course
+moved m c = record c { sessions = m.sessions; past = c.past ++ m ∷ [] }
+
+-- a unit of which this is told, after which these are the connections
+abbrev pub moment_of : Direction → (at : ℕ) → Value → Told → Sessions → Moment
+moment_of d at v told s = record { direction = d; at = at; mark = mark_of d at v told s; sessions = s }
+
 -- what a unit does of which this is told: to its connection, and to what is found
 abbrev pub applied : Direction → (at : ℕ) → Value → Told → Course → Course
-applied d at v told c = noted d at v told (record c { sessions = taken d at v told.meaning told.place c.sessions })
+applied d at v told c =
+    noted d at v told (moved (moment_of d at v told (taken d at v told.meaning told.place c.sessions)) c)
 
 -- a unit of a side passes, in the packet at this offset
 abbrev pub unit_passes : Direction → (at : ℕ) → Value → Course → Course
@@ -151,11 +183,17 @@ units_pass d at (v ∷ vs) c = units_pass d at vs (unit_passes d at v c)
 
 -- ---- a packet
 
+abbrev pub unread_mark : Direction → (at : ℕ) → Cause → Mark
+unread_mark d at cause = record { direction = d; offset = at; unit = None; connection = None; cause = cause }
+
+abbrev pub unread_moment : Direction → (at : ℕ) → Cause → Sessions → Moment
+unread_moment d at cause s = record { direction = d; at = at; mark = Some (unread_mark d at cause); sessions = s }
+
 -- what a side sends at this offset can't be read; of a side of which nothing more is judged that is no break
 abbrev pub unread : Direction → (at : ℕ) → Cause → Course → Course
-unread d at cause c = if is_some (marks_of d c).halted then c else marked
-    (record { direction = d; offset = at; unit = None; connection = None; cause = cause }) (traffic.refused_reach (way_of d) c.traffic)
-    (record c { traffic = traffic.refused (way_of d) c.traffic })
+unread d at cause c = if is_some (marks_of d c).halted then c else marked (unread_mark d at cause)
+    (traffic.refused_reach (way_of d) c.traffic)
+    (moved (unread_moment d at cause c.sessions) (record c { traffic = traffic.refused (way_of d) c.traffic }))
 
 abbrev pub packet_by : Direction → (at : ℕ) → Result (List Value) TpduFault → Course → Course
 packet_by d at (Ok vs) c = units_pass d at vs c

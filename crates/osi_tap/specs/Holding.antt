@@ -22,6 +22,7 @@ use Rattle.osi_tap.specs.declared.streams.Shape.{Shape}
 use Rattle.osi_tap.specs.declared.streams.Shape.TheVariants.{Partial, Faulty, Whole}
 use Rattle.osi_tap.specs.declared.streams.Stream.{Stream}
 use Rattle.osi_tap.specs.Courses.{Course, applied, unit_passes}
+use Rattle.osi_tap.specs.Blaming.{IsEarliest}
 use Rattle.osi_tap.specs.declared.sessions.Sessions.{Sessions as Kept}
 use Rattle.osi_tap.specs.declared.watch.Watch.{Watch}
 use Rattle.osi_tpdu.specs.Value.{Value}
@@ -170,6 +171,14 @@ IsFirst None (Some f) = ⊥
 IsFirst (Some told) None = told.layer ≡ Session
 IsFirst (Some told) (Some f) = (told ≡ f) ⊎ (told.layer ≡ Session)
 
+-- of a byte connection, but for which break was first
+pub record HoldsPassed (w : Watch) (c : Course) : Type 0 where
+  pub traffic : w.traffic ≡ c.traffic
+  pub sessions : HoldsSessions w.sessions c.sessions
+  pub left : w.left ≡ c.left
+  pub right : w.right ≡ c.right
+  pub first : IsFirst w.first c.first
+
 -- of a byte connection
 pub record HoldsCourse (w : Watch) (c : Course) : Type 0 where
   pub traffic : w.traffic ≡ c.traffic
@@ -177,6 +186,7 @@ pub record HoldsCourse (w : Watch) (c : Course) : Type 0 where
   pub left : w.left ≡ c.left
   pub right : w.right ≡ c.right
   pub first : IsFirst w.first c.first
+  pub order : IsEarliest w.first c.past c.sessions
 
 -- ---- a packet of which some has passed, and the rest waits for memory
 

@@ -1,6 +1,7 @@
 pub mod Lines
 pub mod Connections
 pub mod Courses
+pub mod Blaming
 pub mod Streams
 pub mod Tapping
 pub mod Holding

@@ -3,6 +3,7 @@ use Rattle.std.specs.Prelude.{◌≡◌, ℕ, Bool, true, false, List, [], ◌++
 use Rattle.osi_judge.specs.Captures.{Capture, other, piece}
 use Rattle.osi_judge.specs.declared.directions.Direction.{Direction}
 use Rattle.osi_judge.specs.declared.directions.Direction.TheVariants.{Left, Right}
+use Rattle.osi_tap.specs.declared.marks.First.{First}
 use Rattle.osi_tap.specs.declared.tap.Tap.{Tap}
 use Rattle.osi_tap.specs.declared.watch.Watch.{Watch}
 use Rattle.osi_tap.specs.Holding.{streamed, AllHeard}
@@ -74,6 +75,10 @@ IsJudged t = t.due ≡ None
 pub record IsSettled (t : Tap) : Type 0 where
   pub judged : IsJudged t
   pub heard : AllHeard t.watch.sessions
+
+-- the break that is told as the first
+abbrev pub first_in : Tap → Option First
+first_in t = t.watch.first
 
 -- ---- a capture is fed
 

@@ -1,5 +1,6 @@
 -- The packets of one direction, octet by octet (RFC 1006 section 6).
-use Rattle.std.specs.Prelude.{ℕ, ◌+◌, ◌-◌, ◌*◌, ◌==◌, nat_lt, min, max, Bool, true, false, if◌then◌else◌, List, [], ◌∷◌, ◌++◌, length, take}
+use Rattle.std.specs.Prelude.{ℕ, ◌+◌, ◌-◌, ◌*◌, ◌==◌, nat_lt, min, max, Bool, true, false, ◌||◌, if◌then◌else◌}
+use Rattle.std.specs.Prelude.{List, [], ◌∷◌, ◌++◌, length, take}
 use Rattle.osi_tpkt.specs.Packet.{stated_length}
 use Rattle.osi_tpkt.specs.Stream.{offset_of}
 use Rattle.osi_judge.specs.declared.judge.Reading.{Reading}
@@ -75,6 +76,10 @@ wanted held = max (whole_of held - length held) 1
 -- how many octets of a piece are taken at once
 abbrev pub used_of : Streamed → List ℕ → ℕ
 used_of t octets = if t.spent then length octets else min (wanted t.held) (length octets)
+
+-- they are not kept: there are none, or nothing more is read
+abbrev pub needs_none : Streamed → List ℕ → Bool
+needs_none t octets = t.spent || are_none octets
 
 -- what was read of the direction
 abbrev pub reading_of : Streamed → Reading

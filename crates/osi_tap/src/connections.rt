@@ -1,10 +1,11 @@
 //! One connection on the byte connection.
 
-ghost use Rattle.std.specs.Prelude.{◌≡◌, IfOk, OnOk, OnErr};
+ghost use Rattle.std.specs.Prelude.{◌≡◌, IfOk, IsOk, OnOk, OnErr};
 ghost use Rattle.osi_judge.specs.Sides.{watched};
 ghost use Rattle.osi_judge.specs.Captures.{other};
-ghost use Rattle.osi_judge.specs.Judging.{IsFound};
+ghost use Rattle.osi_judge.specs.Judging.{IsFound, HasRoom};
 ghost use Rattle.osi_judge.specs.Outlines.{outlines};
+ghost use Rattle.osi_judge.specs.Stops.{broke_session};
 ghost use Rattle.osi_judge.specs.Tapping.{begin_of};
 ghost use Rattle.osi_tap.specs.Lines.{told, heard};
 ghost use Rattle.osi_tap.specs.Connections.{Joined, asked, packet_begins, opened, shut, adds, spoken, reference_of};
@@ -97,6 +98,7 @@ impl Connection {
     pub(crate) fn hand_over(&mut self) -> Result<(), AllocError>
         ensures holds { (j : Joined) → HoldsJoined self.old j → HoldsJoined self.new j }
         ensures heard { OnOk result (IsHeard self.new) }
+        ensures free { IsHeard self.old → IsOk result }
     {
         hand_over_both(&mut self.left, &mut self.right)
     }
@@ -150,11 +152,15 @@ impl Connection {
         &self.line(direction).side
     }
 
-    /// What was found of the session of a side, by what both sides sent.
+    /// What was found of the session of a side, by what both sides sent. [`Finding::TooMany`] means that it is not judged any
+    /// further: it kept the protocol up to one of its TSDUs and with it, and then more than 4,096 sessions explained it.
+    /// That stays, and it is no break.
     pub fn finding(&self, direction: Direction) -> Finding
         ensures value { result ≡ (line_in direction self.now).side.finding }
         ensures found { (j : Joined) → HoldsJoined self.now j
             → IsFound (begin_of direction) (heard (spoken (other direction) j)) (told (spoken direction j)) result }
+        ensures room { (j : Joined) → HoldsJoined self.now j
+            → HasRoom (begin_of direction) (heard (spoken (other direction) j)) (told (spoken direction j)) result }
     {
         self.side(direction).finding()
     }
@@ -162,16 +168,19 @@ impl Connection {
     /// Where the session of a side broke the protocol or left the profile: the offset, in its direction, of the packet in
     /// which that TSDU ended. Of a side that did neither it says nothing.
     pub fn offset(&self, direction: Direction) -> u64
-        ensures { (j : Joined) → HoldsJoined self.now j → IsPlace (line_in direction self.now).side.finding (spoken direction j).said result }
+        ensures { (j : Joined) → HoldsJoined self.now j
+            → IsPlace (line_in direction self.now).side.finding (spoken direction j).said result }
     {
         self.line(direction).last
     }
 
     /// Whether the session of a side broke the protocol or left the profile.
-    pub(crate) fn has_broken(&self, direction: Direction) -> bool {
-        matches!(
-            self.finding(direction),
-            Finding::Broke(_) | Finding::Left(_)
-        )
+    pub(crate) fn has_broken(&self, direction: Direction) -> bool
+        ensures { result ≡ broke_session (line_in direction self.now).side.finding }
+    {
+        match self.finding(direction) {
+            Finding::Broke(_) | Finding::Left(_) => true,
+            Finding::Kept | Finding::TooMany => false,
+        }
     }
 }

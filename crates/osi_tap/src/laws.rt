@@ -1,9 +1,19 @@
 //! What holds of all captures. Each law is the contract of a function that does nothing.
 
-ghost use Rattle.std.specs.Prelude.{◌≡◌, ◌++◌, ◌∷◌, ℕ, List, false};
-ghost use Rattle.osi_judge.specs.Captures.{Capture, piece};
+ghost use Rattle.std.specs.Prelude.{◌≡◌, ◌≤◌, ◌+◌, ◌++◌, ◌∷◌, ℕ, List, Option, None, Some, false, length};
+ghost use Rattle.osi_judge.specs.Captures.{Capture, other, piece};
+ghost use Rattle.osi_judge.specs.Keeping.{kept_in, once};
+ghost use Rattle.osi_judge.specs.declared.findings.Finding.{Finding};
 ghost use Rattle.osi_judge.specs.declared.directions.Direction.{Direction as Side};
-ghost use Rattle.osi_tap.specs.Standing.{HoldsState, IsFed};
+ghost use Rattle.osi_tap.specs.declared.marks.First.{First};
+ghost use Rattle.osi_tap.specs.declared.marks.Layer.{Layer};
+ghost use Rattle.osi_tap.specs.Blaming.{IsFirstOf, IsMarkOf, NobodyIs, SomeoneIs};
+ghost use Rattle.osi_tap.specs.declared.connections.Connection.{Connection};
+ghost use Rattle.osi_tap.specs.Connections.{Joined, spoken};
+ghost use Rattle.osi_tap.specs.Courses.{Moment};
+ghost use Rattle.osi_tap.specs.Holding.{line_in, streamed, HoldsJoined, IsHeard};
+ghost use Rattle.osi_tap.specs.Lines.{begun_octets, heard};
+ghost use Rattle.osi_tap.specs.Standing.{pick, HoldsState, IsFed, IsJudged, IsPart, first_in};
 ghost use Rattle.osi_tap.specs.Tapping.{State, stream_of, octets_pass, after, comes_to, GoesOn};
 ghost use Rattle.osi_tap.specs.declared.tap.Tap.{Tap};
 
@@ -19,4 +29,37 @@ pub fn pieces_do_not_matter()
 /// were fed one capture hold the same, and say the same.
 pub fn a_tap_holds_what_passed()
     ensures { (capture : Capture) (t : Tap) → IsFed capture t → HoldsState t (comes_to capture) }
+{}
+
+/// A tap that was fed a capture, and has judged all that passed, tells the first break of all, of transport and of sessions:
+/// no unit that passed before it had one. If it tells none, no unit of the capture had a break, and no session of any
+/// connection is to blame. A first break of transport is the one that is told of its side, with its packet, unit and cause;
+/// and a session that broke the protocol first is to blame for all that passed.
+/// So a capture has one first break, whatever the pieces were. The units pass in the order of
+/// the octets that complete their packets: those of a prefix pass before all others.
+pub fn the_first_break_is_the_earliest()
+    ensures first { (capture : Capture) (t : Tap) → IsFed capture t → IsJudged t → IsFirstOf (first_in t) (comes_to capture).course.past }
+    ensures nobody { (capture : Capture) (t : Tap) → IsFed capture t → IsJudged t → first_in t ≡ None
+        → NobodyIs (comes_to capture).course.sessions }
+    ensures transport { (capture : Capture) (t : Tap) (f : First) → IsFed capture t → IsJudged t → first_in t ≡ Some f
+        → f.layer ≡ Layer.Transport → IsMarkOf f.direction f (comes_to capture).course }
+    ensures session { (capture : Capture) (t : Tap) (f : First) → IsFed capture t → IsJudged t → first_in t ≡ Some f
+        → f.layer ≡ Layer.Session → SomeoneIs f.direction f.connection (comes_to capture).course.sessions }
+    ensures one { (past : List Moment) (f g : Option First) → IsFirstOf f past → IsFirstOf g past → f ≡ g }
+    ensures order { (capture more : Capture) → (rest : List Moment)
+        × ((comes_to (capture ++ more)).course.past ≡ (comes_to capture).course.past ++ rest) }
+{}
+
+/// What a tap keeps. Of each direction at most a part of a packet, once all that passed is judged. Of a session that kept
+/// the protocol at most 4,096 sessions that explain it: beyond that it is not judged any further. And of what a side
+/// of a connection said no more than that: of each TSDU its outline, of equal outlines in a row only one, even if each
+/// counts for seven octets more than it has; and the octets of the unfinished TSDU.
+pub fn no_more_is_kept_than_passed()
+    ensures packets { (d : Side) (t : Tap) (s : State) → HoldsState t s → IsJudged t
+        → IsPart (pick d (streamed t.left) (streamed t.right)) }
+    ensures sessions { (d : Side) (c : Connection) (j : Joined) → HoldsJoined c j → (line_in d c).side.finding ≡ Finding.Kept
+        → length (line_in d c).side.members ≤ 4096 }
+    ensures octets { (d : Side) (c : Connection) (j : Joined) → HoldsJoined c j → IsHeard c
+        → kept_in (once (line_in (other d) c).side.heard) + length (line_in d c).begun
+        ≤ kept_in (heard (spoken d j)) + length (begun_octets (spoken d j).begun) }
 {}

@@ -26,9 +26,11 @@
 //! packet of that side began.
 //!
 //! **Memory.** The tap holds the octets of at most one packet of each direction. Of each connection it keeps the unfinished
-//! TSDU of each side, and what `osi_judge` keeps of a session: outlines of the TSDUs that passed, and the sessions that
-//! explain them. At most 128 connections are looked at together. A connection that is over stays in the list of results
-//! with all that is kept of it, so the memory grows with the number of connections.
+//! TSDU of each side, and what `osi_judge` keeps of a session: outlines of the TSDUs that passed, and at most 4,096 sessions
+//! that explain them. A side that more sessions explain is not judged any further (`Finding::TooMany`). At most 128
+//! connections are looked at together: a CR for one more is told (`Cause::TooMany`), and nothing after it is judged. A
+//! connection that is over stays in the list of results with all that is kept of it, so the memory grows with the number of
+//! connections. If an allocation fails, no octet is lost and none counts twice: make the same call again.
 #![tactic(auto)]
 
 mod connections;

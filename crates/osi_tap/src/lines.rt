@@ -1,6 +1,6 @@
 //! The TSDUs of one side of a connection.
 
-ghost use Rattle.std.specs.Prelude.{◌≡◌, ◌+◌, ◌++◌, [], false, length, OnOk, OnErr};
+ghost use Rattle.std.specs.Prelude.{◌≡◌, ◌+◌, ◌++◌, [], false, length, IsOk, OnOk, OnErr};
 ghost use Rattle.osi_session.specs.Standing.{Seen};
 ghost use Rattle.osi_tpkt.specs.Stream.{offset_of};
 ghost use Rattle.osi_judge.specs.Feeding.{Tells, last_place};
@@ -153,6 +153,7 @@ pub(crate) fn hand_over(own: &mut Line, other: &mut Line) -> Result<(), AllocErr
     ensures holds { (s t : Seen) (a b : Spoken) → HoldsBoth s t (lined own.old) (lined other.old) a b
         → HoldsBoth s t (lined own.new) (lined other.new) a b }
     ensures heard { OnOk result (is_unheard own.new.stage ≡ false) }
+    ensures free { is_unheard own.old.stage ≡ false → IsOk result }
     ensures stage { other.new.stage ≡ other.old.stage }
     ensures own { (lined own.new).side.finding ≡ (lined own.old).side.finding }
     ensures other { (lined other.new).side.finding ≡ (lined other.old).side.finding }
@@ -172,6 +173,7 @@ pub(crate) fn hand_over_both(own: &mut Line, other: &mut Line) -> Result<(), All
         → HoldsBoth s t (lined own.new) (lined other.new) a b }
     ensures own { OnOk result (is_unheard own.new.stage ≡ false) }
     ensures other { OnOk result (is_unheard other.new.stage ≡ false) }
+    ensures free { is_unheard own.old.stage ≡ false → is_unheard other.old.stage ≡ false → IsOk result }
 {
     match hand_over(own, other) {
         Ok(()) => hand_over(other, own),

@@ -1,6 +1,7 @@
 //! The connections of a byte connection, by their places.
 
-ghost use Rattle.std.specs.Prelude.{◌≡◌, ◌≤◌, ◌<◌, ◌+◌, ℕ, List, Some, OnOk, OnErr, length, map, take, option_copied, option_map, slice_get, ◌==◌};
+ghost use Rattle.std.specs.Prelude.{◌≡◌, ◌≤◌, ◌<◌, ◌+◌, ℕ, List, Option, Some, IsOk, OnOk, OnErr, length, map, take, ◌==◌};
+ghost use Rattle.std.specs.Prelude.{option_copied, option_map, slice_get};
 ghost use Rattle.std.specs.List.{find};
 ghost use Rattle.osi_judge.specs.Captures.{other};
 ghost use Rattle.osi_tpdu.specs.View.{value};
@@ -8,7 +9,8 @@ ghost use Rattle.osi_tap.specs.Connections.{Joined, Sessions as Passed, none, co
 ghost use Rattle.osi_tap.specs.Connections.{user_of, meant, taken, asked_at, placed, changed, numbered};
 ghost use Rattle.osi_tpkt.specs.Stream.{offset_of};
 ghost use Rattle.osi_tap.specs.Courses.{number_at, number_of};
-ghost use Rattle.osi_tap.specs.Holding.{line_in, AllHeard, AreHeard, AreUnbroken, AreUnbrokenBut, FoundHeard, HoldAll, HoldsFound, HoldsJoined, HoldsSessions};
+ghost use Rattle.osi_tap.specs.Blaming.{Blames, NobodyElse, NobodyElseIs, NobodyIs, SomeoneIs};
+ghost use Rattle.osi_tap.specs.Holding.{line_in, AllHeard, AreHeard, FoundHeard, HoldAll, HoldsFound, HoldsJoined, HoldsSessions};
 
 use crate::connections::Connection;
 use osi_class::Class;
@@ -82,6 +84,16 @@ fn number_in(live: &[Connection], place: usize) -> Option<usize>
     Some(number)
 }
 
+/// Whether the session of a side of the connection at a place has broken the protocol or left the profile.
+fn broke_in(live: &[Connection], direction: Direction, place: usize) -> bool
+    ensures { (js : List Joined) → HoldAll live.now js → Blames result direction place js }
+{
+    if place >= live.len() {
+        return false;
+    }
+    live[place].has_broken(direction)
+}
+
 /// The first of the connections with a number.
 fn find_in(connections: &[Connection], number: usize) -> Option<&Connection>
     ensures { option_copied result ≡ find (λ c. c.number == number) connections.now }
@@ -104,6 +116,7 @@ fn hand_over_at(live: &mut Vec<Connection>, place: usize) -> Result<(), AllocErr
     ensures holds { (js : List Joined) → HoldAll live.old.items js → HoldAll live.new.items js }
     ensures count { length live.new.items ≡ length live.old.items }
     ensures heard { OnOk result (AreHeard (take place live.old.items) → AreHeard (take (place + 1) live.new.items)) }
+    ensures free { AreHeard live.old.items → IsOk result × AreHeard live.new.items }
 {
     live[place].hand_over()
 }
@@ -112,6 +125,7 @@ fn hand_over_at(live: &mut Vec<Connection>, place: usize) -> Result<(), AllocErr
 fn hand_over_each(live: &mut Vec<Connection>) -> Result<(), AllocError>
     ensures holds { (js : List Joined) → HoldAll live.old.items js → HoldAll live.new.items js }
     ensures heard { OnOk result (AreHeard live.new.items) }
+    ensures free { AreHeard live.old.items → IsOk result }
 {
     let mut place = 0;
     'connections: while place < live.len() {
@@ -141,9 +155,11 @@ impl Sessions {
         live.saturating_add(done)
     }
 
-    /// The connection at a place.
-    pub(crate) fn at(&self, place: usize) -> Option<&Connection> {
-        self.live.get(place)
+    /// Whether the session of a side of the connection at a place has broken the protocol or left the profile.
+    pub(crate) fn has_broken(&self, direction: Direction, place: usize) -> bool
+        ensures { (s : Passed) → HoldsSessions self.now s → Blames result direction place s.live }
+    {
+        broke_in(&self.live, direction, place)
     }
 
     /// The number of the connection at a place.
@@ -175,6 +191,7 @@ impl Sessions {
     pub(crate) fn hand_over(&mut self) -> Result<(), AllocError>
         ensures holds { (s : Passed) → HoldsSessions self.old s → HoldsSessions self.new s }
         ensures heard { OnOk result (AllHeard self.new) }
+        ensures free { AllHeard self.old → IsOk result }
     {
         hand_over_each(&mut self.live)?;
         hand_over_each(&mut self.done)
@@ -228,6 +245,10 @@ impl Sessions {
     ) -> Result<(), AllocError>
         ensures ok { OnOk result ((s : Passed) → HoldsSessions self.old s
             → HoldsSessions self.new (taken direction at (value unit.now) told.now.meaning told.now.place s)) }
+        ensures still { OnOk result ((s : Passed) (d : Direction) (number : Option ℕ) → HoldsSessions self.old s → SomeoneIs d number s
+            → SomeoneIs d number (taken direction at (value unit.now) told.now.meaning told.now.place s)) }
+        ensures others { OnOk result ((s : Passed) → HoldsSessions self.old s → NobodyIs s
+            → NobodyElse direction told.now.place (taken direction at (value unit.now) told.now.meaning told.now.place s)) }
         ensures err { OnErr result ((s : Passed) → HoldsSessions self.old s → HoldsSessions self.new s) }
     {
         let Some(place) = told.place else {
@@ -251,9 +272,10 @@ impl Sessions {
         ensures ok { OnOk result ((s : Passed) → HoldsSessions self.old s
             → HoldsSessions self.new (changed place (meant direction at (value unit.now) meaning) s (slice_get s.live place))) }
         ensures err { OnErr result ((s : Passed) → HoldsSessions self.old s → HoldsSessions self.new s) }
-        ensures found { OnOk result (AreUnbroken self.old.live.items → AreUnbrokenBut direction place self.new.live.items) }
-        ensures as_found { OnErr result (AreUnbroken self.old.live.items → AreUnbroken self.new.live.items) }
-        ensures done { self.new.done.items ≡ self.old.done.items }
+        ensures still { OnOk result ((s : Passed) (d : Direction) (number : Option ℕ) → HoldsSessions self.old s → SomeoneIs d number s
+            → SomeoneIs d number (changed place (meant direction at (value unit.now) meaning) s (slice_get s.live place))) }
+        ensures others { OnOk result ((s : Passed) → HoldsSessions self.old s → NobodyIs s → NobodyElseIs direction place
+            (changed place (meant direction at (value unit.now) meaning) s (slice_get s.live place))) }
     {
         if place >= count_of(&self.live) {
             return Ok(());
@@ -273,7 +295,6 @@ fn mean(
     ensures ok { OnOk result ((j : Joined) → HoldsJoined connection.old j
         → HoldsJoined connection.new (meant direction at (value unit.now) meaning j)) }
     ensures err { OnErr result ((j : Joined) → HoldsJoined connection.old j → HoldsJoined connection.new j) }
-    ensures own { OnErr result ((line_in direction connection.new).side.finding ≡ (line_in direction connection.old).side.finding) }
     ensures other { (line_in (other direction) connection.new).side.finding ≡ (line_in (other direction) connection.old).side.finding }
 {
     match meaning {

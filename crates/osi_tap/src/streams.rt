@@ -1,6 +1,6 @@
 //! The packets of one direction.
 
-ghost use Rattle.std.specs.Prelude.{◌≡◌, ◌≤◌, ◌<◌, ◌+◌, true, false, IfOk, OnErr, length, take};
+ghost use Rattle.std.specs.Prelude.{◌≡◌, ◌≤◌, ◌<◌, ◌+◌, true, false, IfOk, IsOk, OnErr, length, take};
 ghost use Rattle.osi_tap.specs.Streams.{front_of, untouched, counted, gathered, advanced, ended, wanted, begins_at, used_of, reading_of};
 ghost use Rattle.osi_tap.specs.Holding.{streamed, look_as};
 
@@ -91,6 +91,7 @@ impl Stream {
         ensures within { IfOk result (λ n. n ≤ length piece.now) }
         ensures spent { self.old.spent ≡ true → IfOk result (λ n. streamed self.new ≡ counted n (streamed self.old)) }
         ensures takes { self.old.spent ≡ false → IfOk result (λ n. streamed self.new ≡ gathered (take n piece.now) (streamed self.old)) }
+        ensures free { self.old.spent ≡ true → IsOk result }
         ensures err { OnErr result (streamed self.new ≡ streamed self.old) }
     {
         if self.spent {

@@ -1,14 +1,17 @@
 //! A byte connection, judged while it passes.
 
-ghost use Rattle.std.specs.Prelude.{◌≡◌, ◌≤◌, ◌<◌, None, true, [], length, take, option_copied, if◌then◌else◌, IfOk, OnOk, OnErr};
+ghost use Rattle.std.specs.Prelude.{◌≡◌, ◌≤◌, ◌<◌, None, Some, true, [], length, take, option_copied};
+ghost use Rattle.std.specs.Prelude.{if◌then◌else◌, IfOk, IsOk, OnOk, OnErr};
 ghost use Rattle.osi_judge.specs.Captures.{piece};
 ghost use Rattle.osi_tpkt.specs.Stream.{offset_of};
+ghost use Rattle.osi_tap.specs.Blaming.{IsFirstOf, IsStill, NobodyIs};
 ghost use Rattle.osi_tap.specs.Connections.{count, numbered};
 ghost use Rattle.osi_tap.specs.Courses.{packet_begins, marks_of, Course};
 ghost use Rattle.osi_tap.specs.Holding.{streamed, AllHeard, FoundHeard, HoldsFound, IsFirst};
 ghost use Rattle.osi_tap.specs.Owing.{HoldsAll};
-ghost use Rattle.osi_tap.specs.Standing.{due_if, pick, HoldsBy, HoldsDue, HoldsNow, HoldsOpen, HoldsStream, HoldsState, HoldsWhole, IsJudged, IsSettled};
-ghost use Rattle.osi_tap.specs.Streams.{front_of, used_of, reading_of};
+ghost use Rattle.osi_tap.specs.Standing.{due_if, pick, HoldsBy, HoldsDue, HoldsNow, HoldsOpen, HoldsStream, HoldsState};
+ghost use Rattle.osi_tap.specs.Standing.{HoldsWhole, IsJudged, IsSettled, first_in};
+ghost use Rattle.osi_tap.specs.Streams.{front_of, needs_none, used_of, reading_of};
 ghost use Rattle.osi_tap.specs.Tapping.{State, begin, after, looked_at, stream_of};
 
 use crate::connections::Connection;
@@ -87,6 +90,7 @@ fn take_octets(
     ensures within { IfOk result (λ r. r.0 ≤ length octets.now) }
     ensures ok { IfOk result (λ r. (s : State) → HoldsOpen direction watch.old (streamed stream.old) s
         → HoldsStream r.1 direction watch.new (streamed stream.new) (after (piece direction (take r.0 octets.now)) s)) }
+    ensures free { needs_none (streamed stream.old) octets.now ≡ true → IsOk result }
     ensures err { OnErr result ((s : State) → HoldsOpen direction watch.old (streamed stream.old) s
         → HoldsOpen direction watch.new (streamed stream.new) s) }
 {
@@ -114,13 +118,19 @@ impl Tap {
     }
 
     /// Octets of a side pass: those of the piece up to the end of the header or of the current packet. Returns how
-    /// many these are; 0 only for an empty piece. After `Err` none has passed.
+    /// many these are; 0 only for an empty piece.
+    ///
+    /// After `Err` an allocation has failed and none of the octets has passed. The same call made again goes on: of a packet
+    /// that was whole before, those units have passed that had memory, each once. No memory is needed if all that
+    /// passed before is judged, and the piece is empty or nothing more is read of its direction.
     pub fn feed(&mut self, direction: Direction, octets: &[u8]) -> Result<usize, AllocError>
         ensures used { IfOk result (λ n. (s : State) → HoldsState self.old s → n ≡ used_of (stream_of direction s) octets.now) }
         ensures some { IfOk result (λ n. 0 < length octets.now → 0 < n) }
         ensures within { IfOk result (λ n. n ≤ length octets.now) }
         ensures ok { IfOk result (λ n. (s : State) → HoldsState self.old s
             → HoldsState self.new (after (piece direction (take n octets.now)) s)) }
+        ensures free { (s : State) → HoldsState self.old s → IsJudged self.old → needs_none (stream_of direction s) octets.now ≡ true
+            → IsOk result }
         ensures err { OnErr result ((s : State) → HoldsState self.old s → HoldsState self.new s) }
     {
         self.pass_due()?;
@@ -137,6 +147,7 @@ impl Tap {
         ensures ok { IfOk result (λ r. (s : State) → HoldsNow self.old.watch (streamed self.old.left) (streamed self.old.right) s
             → HoldsBy (due_if r.1 direction) self.new.watch (streamed self.new.left) (streamed self.new.right)
             (after (piece direction (take r.0 octets.now)) s)) }
+        ensures free { needs_none (pick direction (streamed self.old.left) (streamed self.old.right)) octets.now ≡ true → IsOk result }
         ensures err { OnErr result ((s : State) → HoldsNow self.old.watch (streamed self.old.left) (streamed self.old.right) s
             → HoldsNow self.new.watch (streamed self.new.left) (streamed self.new.right) s) }
         ensures due { self.new.due ≡ self.old.due }
@@ -162,10 +173,12 @@ impl Tap {
 
     /// What passed and could not be judged for lack of memory is judged now, and each session is given what it has not
     /// heard yet of the other side. Without it, that is so unless an allocation failed. It looks at each connection once.
+    /// After `Err` an allocation has failed; the same call goes on. If nothing is left to do, no memory is needed.
     pub fn settle(&mut self) -> Result<(), AllocError>
         ensures holds { (s : State) → HoldsState self.old s → HoldsState self.new s }
         ensures judged { OnOk result (IsJudged self.new) }
         ensures settled { OnOk result (IsSettled self.new) }
+        ensures free { IsSettled self.old → IsOk result }
     {
         self.pass_due()?;
         self.hand_over()
@@ -176,6 +189,7 @@ impl Tap {
         ensures holds { (s : State) → IsJudged self.old → HoldsState self.old s → HoldsState self.new s }
         ensures judged { IsJudged self.old → IsJudged self.new }
         ensures heard { OnOk result (AllHeard self.new.watch.sessions) }
+        ensures free { AllHeard self.old.watch.sessions → IsOk result }
     {
         self.watch.hand_over()
     }
@@ -184,6 +198,8 @@ impl Tap {
     fn pass_due(&mut self) -> Result<(), AllocError>
         ensures holds { (s : State) → HoldsState self.old s → HoldsState self.new s }
         ensures judged { OnOk result (IsJudged self.new) }
+        ensures free { IsJudged self.old → IsOk result }
+        ensures still { IsJudged self.old → self.new ≡ self.old }
     {
         let Some(direction) = self.due else {
             return Ok(());
@@ -253,9 +269,15 @@ impl Tap {
         self.watch.marks(direction).halted
     }
 
-    /// The break, of a session or of transport, that passed first.
+    /// The break, of a session or of transport, that passed first of all; `None` if there is none. If one unit breaks a rule
+    /// of transport and ends the TSDU with which its session breaks the protocol, the break of transport is told.
     pub fn first(&self) -> Option<First>
-        ensures { (s : State) → HoldsState self.now s → IsJudged self.now → IsFirst result s.course.first }
+        ensures value { result ≡ first_in self.now }
+        ensures transport { (s : State) → HoldsState self.now s → IsJudged self.now → IsFirst result s.course.first }
+        ensures first { (s : State) → HoldsState self.now s → IsJudged self.now → IsFirstOf result s.course.past }
+        ensures none { (s : State) → HoldsState self.now s → IsJudged self.now → result ≡ None → NobodyIs s.course.sessions }
+        ensures still { (s : State) (f : First) → HoldsState self.now s → IsJudged self.now → result ≡ Some f
+            → IsStill f s.course.sessions }
     {
         self.watch.first
     }

@@ -1,13 +1,14 @@
 //! What passes on a byte connection: its transport, its sessions, and what was found of both.
 
-ghost use Rattle.std.specs.Prelude.{◌≡◌, ◌+◌, ℕ, None, Some, List, drop, IfOk, OnOk, OnErr};
+ghost use Rattle.std.specs.Prelude.{◌≡◌, ◌+◌, ℕ, None, Some, List, drop, IfOk, IsOk, OnOk, OnErr};
 ghost use Rattle.osi_tpdu.specs.Units.{units_left};
 ghost use Rattle.osi_tpdu.specs.Value.{Value};
 ghost use Rattle.osi_tpdu.specs.View.{value};
 ghost use Rattle.osi_tap.specs.Connections.{Sessions as Passed};
-ghost use Rattle.osi_tap.specs.Courses.{Course, fresh, way_of, cause_of, packet_begins, number_at, noted, marked, first_marked, reached, changes};
-ghost use Rattle.osi_tap.specs.Courses.{breaks, unread, unit_passes, marks_of};
-ghost use Rattle.osi_tap.specs.Holding.{AllHeard, HoldsCourse, HoldsSessions, IsDue, IsTold, unit_due};
+ghost use Rattle.osi_tap.specs.Courses.{Course, fresh, way_of, cause_of, packet_begins, number_at, noted, marked, first_marked};
+ghost use Rattle.osi_tap.specs.Courses.{reached, changes, breaks, unread, unit_passes, marks_of, mark_of, moment_of, first_by, first_after};
+ghost use Rattle.osi_tap.specs.Blaming.{BlamesBy, IsSessionOf, IsToldOf, NobodyElse};
+ghost use Rattle.osi_tap.specs.Holding.{AllHeard, HoldsCourse, HoldsPassed, HoldsSessions, IsDue, IsTold, unit_due};
 ghost use Rattle.osi_tap.specs.Owing.{HoldsAll, Owes, OwesLast, OwesUnits};
 
 use crate::marks::{Cause, First, Layer, Mark, Marks, UnitKind, first_by, first_if};
@@ -162,6 +163,7 @@ impl Watch {
     pub(crate) fn hand_over(&mut self) -> Result<(), AllocError>
         ensures holds { (c : Course) → HoldsAll self.old c → HoldsAll self.new c }
         ensures heard { OnOk result (AllHeard self.new.sessions) }
+        ensures free { AllHeard self.old.sessions → IsOk result }
     {
         self.sessions.hand_over()
     }
@@ -218,7 +220,10 @@ impl Watch {
 
     /// What was found of a unit.
     fn note(&mut self, direction: Direction, at: u64, unit: &Tpdu<'_>, told: &Told)
-        ensures holds { (c : Course) → HoldsCourse self.old c → HoldsCourse self.new (noted direction at (value unit.now) told.now c) }
+        ensures holds { (c : Course) → HoldsPassed self.old c → HoldsPassed self.new (noted direction at (value unit.now) told.now c) }
+        ensures first { (c : Course) → HoldsPassed self.old c → self.old.first ≡ None → NobodyElse direction told.now.place c.sessions
+            → IsToldOf self.new.first (moment_of direction at (value unit.now) told.now c.sessions) }
+        ensures kept { (c : Course) (f : First) → HoldsPassed self.old c → self.old.first ≡ Some f → self.new.first ≡ Some f }
         ensures told { self.new.told ≡ self.old.told }
         ensures passed { self.new.passed ≡ self.old.passed }
     {
@@ -236,8 +241,11 @@ impl Watch {
         told: &Told,
         connection: Option<usize>,
     )
-        ensures holds { (c : Course) → HoldsCourse self.old c → connection ≡ number_at told.now.place c.sessions
-            → HoldsCourse self.new (noted direction at (value unit.now) told.now c) }
+        ensures holds { (c : Course) → HoldsPassed self.old c → connection ≡ number_at told.now.place c.sessions
+            → HoldsPassed self.new (noted direction at (value unit.now) told.now c) }
+        ensures first { (s : Passed) → connection ≡ number_at told.now.place s
+            → self.new.first ≡ first_after (mark_of direction at (value unit.now) told.now s) self.old.first }
+        ensures sessions { self.new.sessions ≡ self.old.sessions }
         ensures told { self.new.told ≡ self.old.told }
         ensures passed { self.new.passed ≡ self.old.passed }
     {
@@ -264,7 +272,9 @@ impl Watch {
         place: Option<usize>,
         connection: Option<usize>,
     )
-        ensures holds { (c : Course) → HoldsCourse self.old c → HoldsCourse self.new c }
+        ensures holds { (c : Course) → HoldsPassed self.old c → HoldsPassed self.new c }
+        ensures first { (s : Passed) → HoldsSessions self.old.sessions s → connection ≡ number_at place s → self.old.first ≡ None
+            → NobodyElse direction place s → IsSessionOf self.new.first direction s }
         ensures kept { (f : First) → self.old.first ≡ Some f → self.new.first ≡ Some f }
         ensures told { self.new.told ≡ self.old.told }
         ensures passed { self.new.passed ≡ self.old.passed }
@@ -290,20 +300,20 @@ impl Watch {
     }
 
     /// Whether the session of a side of the connection at a place has broken the protocol.
-    fn session_broke(&self, direction: Direction, place: Option<usize>) -> bool {
+    fn session_broke(&self, direction: Direction, place: Option<usize>) -> bool
+        ensures { (s : Passed) → HoldsSessions self.now.sessions s → BlamesBy result direction place s }
+    {
         let Some(place) = place else {
             return false;
         };
-        let Some(connection) = self.sessions.at(place) else {
-            return false;
-        };
-        connection.has_broken(direction)
+        self.sessions.has_broken(direction, place)
     }
 
     /// The mark is the first of all breaks, if it is one and there was none before it.
     fn mark_first(&mut self, mark: Mark)
-        ensures holds { (c : Course) → HoldsCourse self.old c → HoldsCourse self.new (first_marked mark c) }
-        ensures kept { (f : First) → self.old.first ≡ Some f → self.new.first ≡ Some f }
+        ensures holds { (c : Course) → HoldsPassed self.old c → HoldsPassed self.new (first_marked mark c) }
+        ensures first { self.new.first ≡ first_by mark self.old.first }
+        ensures sessions { self.new.sessions ≡ self.old.sessions }
         ensures told { self.new.told ≡ self.old.told }
         ensures passed { self.new.passed ≡ self.old.passed }
     {
@@ -313,7 +323,9 @@ impl Watch {
 
     /// What was found of the transport of a side, and how much is not judged any more.
     fn mark(&mut self, mark: Mark, reach: Reach)
-        ensures holds { (c : Course) → HoldsCourse self.old c → HoldsCourse self.new (marked mark reach c) }
+        ensures holds { (c : Course) → HoldsPassed self.old c → HoldsPassed self.new (marked mark reach c) }
+        ensures first { self.new.first ≡ first_by mark self.old.first }
+        ensures sessions { self.new.sessions ≡ self.old.sessions }
         ensures told { self.new.told ≡ self.old.told }
         ensures passed { self.new.passed ≡ self.old.passed }
     {
@@ -324,7 +336,9 @@ impl Watch {
 
     /// The side that sent the packet broke a rule, or left the profile.
     fn breaks(&mut self, mark: Mark)
-        ensures holds { (c : Course) → HoldsCourse self.old c → HoldsCourse self.new (changes mark.direction (breaks mark) c) }
+        ensures holds { (c : Course) → HoldsPassed self.old c → HoldsPassed self.new (changes mark.direction (breaks mark) c) }
+        ensures first { self.new.first ≡ self.old.first }
+        ensures sessions { self.new.sessions ≡ self.old.sessions }
         ensures told { self.new.told ≡ self.old.told }
         ensures passed { self.new.passed ≡ self.old.passed }
     {
@@ -336,7 +350,9 @@ impl Watch {
 
     /// So much is not judged any more.
     fn halt(&mut self, mark: Mark, reach: Reach)
-        ensures holds { (c : Course) → HoldsCourse self.old c → HoldsCourse self.new (reached mark reach c) }
+        ensures holds { (c : Course) → HoldsPassed self.old c → HoldsPassed self.new (reached mark reach c) }
+        ensures first { self.new.first ≡ self.old.first }
+        ensures sessions { self.new.sessions ≡ self.old.sessions }
         ensures told { self.new.told ≡ self.old.told }
         ensures passed { self.new.passed ≡ self.old.passed }
     {

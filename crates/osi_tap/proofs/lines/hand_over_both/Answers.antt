@@ -10,4 +10,8 @@ returns-in-Ok-clause-holds c s t a b h =
 
 pub returns-in-Ok-clause-own : goal.returns-in-Ok-clause-own
 returns-in-Ok-clause-own c =
-    on_ok c.hand_over-in-Ok.result c.hand_over-in-Ok.ensures.heard (λ e. ap is_unheard c.hand_over-in-Ok.ensures.stage ∙ c.in-Ok.ensures.heard)
+    on_ok c.hand_over-in-Ok.result c.hand_over-in-Ok.ensures.heard (λ e.
+    ap is_unheard c.hand_over-in-Ok.ensures.stage ∙ c.in-Ok.ensures.heard)
+
+pub returns-in-Ok-clause-free : goal.returns-in-Ok-clause-free
+returns-in-Ok-clause-free c own beside = c.hand_over-in-Ok.ensures.free (ap is_unheard c.hand_over.ensures.stage ∙ beside)

@@ -1,10 +1,10 @@
 use Rattle.std.proofs.Common.{subst, sym}
 use Rattle.std.proofs.lemmas.List.{length-set}
 use Rattle.osi_tap.specs.declared.connections.Connection.{Connection}
-use Rattle.osi_tap.specs.Holding.{HoldsJoined}
-use Rattle.osi_tap.proofs.what_holds_of_a_result.{on_ok}
+use Rattle.osi_tap.specs.Holding.{HoldsJoined, IsHeard}
+use Rattle.osi_tap.proofs.what_holds_of_a_result.{on_ok, now_so}
 use Rattle.osi_tap.proofs.each_connection_is_kept.{one_kept}
-use Rattle.osi_tap.proofs.each_session_has_heard_all.{front_heard}
+use Rattle.osi_tap.proofs.each_session_has_heard_all.{front_heard, heard_at, still_heard}
 use Rattle.osi_tap.proofs.sessions.hand_over_at.Goals as goal
 
 pub returns-clause-holds : goal.returns-clause-holds
@@ -19,3 +19,10 @@ pub returns-clause-heard : goal.returns-clause-heard
 returns-clause-heard c =
     on_ok c.hand_over.result c.hand_over.ensures.heard (λ e k.
     front_heard c.args.live.now.items c.args.place c.hand_over.new.self c.requires e k)
+
+pub returns-clause-free : goal.returns-clause-free
+returns-clause-free c h =
+    let one = subst IsHeard (sym c.index_mut.ensures.value)
+    (heard_at c.args.live.now.items c.args.place c.index_mut.result.now c.requires h) in
+    let free = c.hand_over.ensures.free one in
+    (free, still_heard c.args.live.now.items c.args.place c.hand_over.new.self (now_so c.hand_over.result free c.hand_over.ensures.heard) h)

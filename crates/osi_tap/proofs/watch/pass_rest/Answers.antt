@@ -10,7 +10,14 @@ returns-clause-ok c = λ k h.
     c.units_after-rest.ensures h in
     let r = c.in_ok-pass_units.ensures.ok all k o in
     record {
-      course = record { traffic = r.traffic; sessions = r.sessions; left = r.left; right = r.right; first = r.first };
+      course = record {
+        traffic = r.traffic;
+        sessions = r.sessions;
+        left = r.left;
+        right = r.right;
+        first = r.first;
+        order = r.order;
+      };
       told = c.in_ok-pass_units.ensures.told all k o;
       passed = refl;
     }

@@ -15,3 +15,6 @@ returns-clause-holds c j h = record {
 pub returns-clause-heard : goal.returns-clause-heard
 returns-clause-heard c =
     on_ok_both c.hand_over_both.result c.hand_over_both.ensures.own c.hand_over_both.ensures.other (λ l r. record { left = l; right = r })
+
+pub returns-clause-free : goal.returns-clause-free
+returns-clause-free c h = c.hand_over_both.ensures.free h.left h.right

@@ -4,9 +4,10 @@ use Rattle.osi_tpdu.specs.View.{value}
 use Rattle.osi_tap.specs.declared.connections.Connection.{Connection}
 use Rattle.osi_tap.specs.Connections.{meant}
 use Rattle.osi_tap.specs.Holding.{line_in, HoldsJoined}
-use Rattle.osi_tap.proofs.what_holds_of_a_result.{on_ok, on_err, any_ok}
+use Rattle.osi_tap.proofs.what_holds_of_a_result.{on_ok, on_ok_both, on_err, any_ok}
 use Rattle.osi_tap.proofs.each_connection_is_kept.{none_changed, one_changed, one_kept}
-use Rattle.osi_tap.proofs.a_unit_changes_one_finding.{all_but, one_found, none_found}
+use Rattle.osi_tap.proofs.who_is_to_blame.{none_changes, one_changes}
+use Rattle.osi_tap.proofs.who_broke_first_stays_to_blame.{still_none, still_one}
 use Rattle.osi_tap.proofs.sessions.Sessions.take_at.Goals as goal
 
 pub returns-then-place-count_of-clause-ok : goal.returns-then-place-count_of-clause-ok
@@ -38,20 +39,38 @@ returns-clause-err c =
       done = h.done;
     })
 
-pub returns-then-place-count_of-clause-found : goal.returns-then-place-count_of-clause-found
-returns-then-place-count_of-clause-found c h = all_but c.args.direction c.args.place c.args.self.now.live.items h
+pub returns-then-place-count_of-clause-still : goal.returns-then-place-count_of-clause-still
+returns-then-place-count_of-clause-still c s d number h b =
+    let same = ap length c.deref.ensures.value in
+    let le : length c.args.self.now.live.items ≤ c.args.place = omega arith in
+    still_none d number c.args.self.now.live.items s c.args.place
+    (meant c.args.direction c.args.at (value c.args.unit.now) c.args.meaning) le h.live b
 
-pub returns-clause-found : goal.returns-clause-found
-returns-clause-found c =
+pub returns-clause-still : goal.returns-clause-still
+returns-clause-still c =
     let d = c.args.direction in
-    on_ok c.mean.result (any_ok c.mean.result c.mean.ensures.other) (λ e h.
-    one_found d c.args.self.now.live.items c.args.place c.index_mut.result.now c.mean.new.connection
-    (e ∙ ap (λ (x : Connection). (line_in (other d) x).side.finding) c.index_mut.ensures.value) h)
+    on_ok_both c.mean.result c.mean.ensures.ok (any_ok c.mean.result c.mean.ensures.other) (λ k e s x number h b.
+    let same = ap length c.deref.ensures.value in
+    let lt : c.args.place < length c.args.self.now.live.items = omega arith in
+    still_one d x number c.args.self.now.live.items s c.args.place c.index_mut.result.now c.mean.new.connection c.args.at
+    (value c.args.unit.now) c.args.meaning lt
+    (λ j hj. k j (subst (λ (x : Connection). HoldsJoined x j) (sym c.index_mut.ensures.value) hj))
+    (e ∙ ap (λ (x : Connection). (line_in (other d) x).side.finding) c.index_mut.ensures.value) h.live b)
 
-pub returns-clause-as_found : goal.returns-clause-as_found
-returns-clause-as_found c =
+pub returns-then-place-count_of-clause-others : goal.returns-then-place-count_of-clause-others
+returns-then-place-count_of-clause-others c s h b =
+    let same = ap length c.deref.ensures.value in
+    let le : length c.args.self.now.live.items ≤ c.args.place = omega arith in
+    none_changes c.args.direction c.args.self.now.live.items s c.args.place
+    (meant c.args.direction c.args.at (value c.args.unit.now) c.args.meaning) le h.live b
+
+pub returns-clause-others : goal.returns-clause-others
+returns-clause-others c =
     let d = c.args.direction in
-    on_err c.mean.result c.mean.ensures.own (λ e h.
-    none_found d c.args.self.now.live.items c.args.place c.index_mut.result.now c.mean.new.connection
-    (e ∙ ap (λ (x : Connection). (line_in d x).side.finding) c.index_mut.ensures.value)
-    (c.mean.ensures.other ∙ ap (λ (x : Connection). (line_in (other d) x).side.finding) c.index_mut.ensures.value) h)
+    on_ok_both c.mean.result c.mean.ensures.ok (any_ok c.mean.result c.mean.ensures.other) (λ k e s h b.
+    let same = ap length c.deref.ensures.value in
+    let lt : c.args.place < length c.args.self.now.live.items = omega arith in
+    one_changes d c.args.self.now.live.items s c.args.place c.index_mut.result.now c.mean.new.connection
+    (meant d c.args.at (value c.args.unit.now) c.args.meaning) lt
+    (λ j hj. k j (subst (λ (x : Connection). HoldsJoined x j) (sym c.index_mut.ensures.value) hj))
+    (e ∙ ap (λ (x : Connection). (line_in (other d) x).side.finding) c.index_mut.ensures.value) h.live b)

@@ -1,3 +1,6 @@
+use Rattle.std.proofs.Common.{sym, subst}
+use Rattle.osi_tap.specs.declared.tap.Tap.{Tap}
+use Rattle.osi_tap.specs.Holding.{AllHeard}
 use Rattle.osi_tap.proofs.what_holds_of_a_result.{on_ok}
 use Rattle.osi_tap.proofs.tap.Tap.settle.Goals as goal
 
@@ -14,3 +17,7 @@ returns-clause-settled c =
       judged = c.hand_over.ensures.judged c.in_ok-pass_due.ensures.judged;
       heard = e;
     })
+
+pub returns-clause-free : goal.returns-clause-free
+returns-clause-free c h =
+    c.hand_over.ensures.free (subst (λ (t : Tap). AllHeard t.watch.sessions) (sym (c.pass_due.ensures.still h.judged)) h.heard)

@@ -1,4 +1,4 @@
-use Rattle.std.proofs.Common.{◌∙◌, ap, sym, subst, Option}
+use Rattle.std.proofs.Common.{sym, subst, Option}
 use Rattle.osi_tap.specs.declared.marks.First.{First}
 use Rattle.osi_tap.specs.Courses.{first_by}
 use Rattle.osi_tap.specs.Holding.{IsFirst}
@@ -14,6 +14,3 @@ returns-clause-holds c k h = record {
   first = subst (λ (o : Option First). IsFirst o (first_by c.args.mark k.first)) (sym c.first_by-first.ensures)
       (transport_told c.args.mark c.args.self.now.first k.first h.first);
 }
-
-pub returns-clause-kept : goal.returns-clause-kept
-returns-clause-kept c f e = c.first_by-first.ensures ∙ ap (first_by c.args.mark) e

@@ -1,9 +1,10 @@
 use Rattle.std.proofs.Common.{◌∙◌, ◌+◌, ap, subst, Option, None}
 use Rattle.osi_rules.specs.declared.findings.Told.{Told}
 use Rattle.osi_tpdu.specs.View.{value}
-use Rattle.osi_tap.specs.Courses.{Course}
+use Rattle.osi_tap.specs.Courses.{Course, moved, moment_of}
 use Rattle.osi_tap.specs.Connections.{taken}
-use Rattle.osi_tap.specs.Holding.{HoldsCourse, unit_due}
+use Rattle.osi_tap.specs.Holding.{HoldsCourse, HoldsPassed, unit_due}
+use Rattle.osi_tap.proofs.no_break_was_before_the_first.{unit_earliest}
 use Rattle.osi_tap.proofs.what_holds_of_a_result.{any_err}
 use Rattle.osi_tap.proofs.watch.Watch.pass.Goals as goal
 
@@ -30,6 +31,7 @@ returns-in_err-take-clause-err c =
         left = t.holds.left;
         right = t.holds.right;
         first = t.holds.first;
+        order = t.holds.order;
       };
       comes = ap (λ (o : Option Told). unit_due o c.args.direction c.args.at (value c.args.unit.now) t.by_now) c.in_ok-told.ensures.told
           ∙ t.comes;
@@ -41,16 +43,27 @@ returns-in_err-take-clause-as_many c = any_err c.from_residual-in_err-take.resul
 pub returns-clause-ok : goal.returns-clause-ok
 returns-clause-ok c k h =
     let t = c.in_ok-told.ensures.ok c.args.at k h in
-    let r = c.note.ensures.holds (record t.by_now {
-      sessions = taken c.args.direction c.args.at
-          (value c.args.unit.now) c.in_ok-told.told.meaning c.in_ok-told.told.place t.by_now.sessions;
-    })
-    (record {
+    let told = c.in_ok-told.told in
+    let d = c.args.direction in
+    let v = value c.args.unit.now in
+    let next = moved (moment_of d c.args.at v told (taken d c.args.at v told.meaning told.place t.by_now.sessions)) t.by_now in
+    let p : HoldsPassed (record c.tell.new.self { sessions = c.take.new.self }) next = record {
       traffic = t.holds.traffic;
       sessions = c.in_ok-take.ensures.ok _ t.holds.sessions;
       left = t.holds.left;
       right = t.holds.right;
       first = t.holds.first;
-    }) in
+    } in
+    let r = c.note.ensures.holds next p in
     subst (λ (x : Course). HoldsCourse (record c.note.new.self { told = None; passed = c.note.new.self.passed + 1 }) x) t.comes
-    (record { traffic = r.traffic; sessions = r.sessions; left = r.left; right = r.right; first = r.first })
+    (record {
+      traffic = r.traffic;
+      sessions = r.sessions;
+      left = r.left;
+      right = r.right;
+      first = r.first;
+      order = unit_earliest d c.args.at v told t.by_now c.tell.new.self.first c.note.new.self.first t.holds.order
+          (λ e number. c.in_ok-take.ensures.still t.by_now.sessions e number t.holds.sessions)
+          (c.in_ok-take.ensures.others t.by_now.sessions t.holds.sessions) (c.note.ensures.first next p)
+          (λ f e. c.note.ensures.kept next f p e);
+    })

@@ -15,6 +15,13 @@ returns-clause-ok c at k h =
     ∙ ap (λ (t : State). takes (way_of d) v t) h.traffic in
     record {
       by_now = record k { traffic = o.state };
-      holds = record { traffic = ap (λ (x : Outcome). x.state) e; sessions = h.sessions; left = h.left; right = h.right; first = h.first };
+      holds = record {
+        traffic = ap (λ (x : Outcome). x.state) e;
+        sessions = h.sessions;
+        left = h.left;
+        right = h.right;
+        first = h.first;
+        order = h.order;
+      };
       comes = ap (λ (x : Outcome). applied d at v x.told (record k { traffic = o.state })) e;
     }

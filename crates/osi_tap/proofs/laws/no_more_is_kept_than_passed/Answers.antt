@@ -1,0 +1,11 @@
+use Rattle.osi_tap.proofs.no_more_is_kept_than_passed.{part_held, few_sessions, no_more_kept}
+use Rattle.osi_tap.proofs.laws.no_more_is_kept_than_passed.Goals as goal
+
+pub returns-clause-packets : goal.returns-clause-packets
+returns-clause-packets c = part_held
+
+pub returns-clause-sessions : goal.returns-clause-sessions
+returns-clause-sessions c = few_sessions
+
+pub returns-clause-octets : goal.returns-clause-octets
+returns-clause-octets c = no_more_kept

@@ -1,0 +1,7 @@
+use Rattle.std.proofs.Common.{List, subst, sym}
+use Rattle.osi_tap.specs.declared.connections.Connection.{Connection}
+use Rattle.osi_tap.specs.Holding.{HoldAll}
+use Rattle.osi_tap.proofs.sessions.Sessions.has_broken.Goals as goal
+
+pub returns : goal.returns
+returns c s h = c.broke_in.ensures s.live (subst (λ (l : List Connection). HoldAll l s.live) (sym c.deref.ensures.value) h.live)

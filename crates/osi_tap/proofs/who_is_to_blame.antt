@@ -1,0 +1,246 @@
+-- A side of a connection is to blame or it is not, and a unit changes that of its own side of its own connection alone.
+-- For the functions that give a unit to a connection, and for those that look whether a session broke the protocol.
+use Rattle.std.proofs.Common.{◌≡◌, ◌∙◌, refl, sym, ap, subst, ℕ, zero, suc, ◌+◌, ◌<◌, ◌≤◌, inl, Bool, true, false, List, [], ◌∷◌, ◌++◌}
+use Rattle.std.proofs.Common.{length, map, take, get_or, set, Option, Some, None, arith}
+use Rattle.std.proofs.lemmas.List.{take-append-le}
+use Rattle.std.specs.Prelude.{slice_get}
+use Rattle.osi_session.specs.Standing.{Seen}
+use Rattle.osi_judge.specs.Captures.{other}
+use Rattle.osi_judge.specs.Explaining.{Told, done}
+use Rattle.osi_judge.specs.Judging.{IsFound, IsKept, IsAstray, IsFew, HasRoom}
+use Rattle.osi_judge.specs.Kept.{kept}
+use Rattle.osi_judge.specs.Stops.{broke_session}
+use Rattle.osi_judge.specs.Tapping.{begin_of}
+use Rattle.osi_judge.specs.declared.directions.Direction.{Direction}
+use Rattle.osi_judge.specs.declared.directions.Direction.TheVariants.{Left, Right}
+use Rattle.osi_judge.specs.declared.findings.Finding.{Finding}
+use Rattle.osi_judge.specs.declared.findings.Finding.TheVariants.{Kept, Broke, Left as Astray, TooMany}
+use Rattle.osi_judge.proofs.told.a_side_strays_at_one_place.{Strays, never_strays, no_crowd}
+use Rattle.osi_tap.specs.declared.connections.Connection.{Connection}
+use Rattle.osi_tap.specs.Blaming.{IsFoundOf, IsBlameless, IsToBlame, AreBlameless, AreBlamelessBut, NobodyIs, NobodyElse, NobodyElseIs}
+use Rattle.osi_tap.specs.Blaming.{Blames}
+use Rattle.osi_tap.specs.Connections.{Joined, Sessions, asked, asked_at, placed, changed, packet_begins, all_begin}
+use Rattle.osi_tap.specs.Holding.{line_in, HoldsJoined, HoldAll}
+use Rattle.osi_tap.proofs.each_connection_is_kept.{element, all_length, none_there}
+use Rattle.osi_tap.proofs.what_is_kept_of_a_side_is_what_passed.{found_at, room_at}
+
+-- ---- one thing is found of a side
+
+module _ (begin : Seen) (us : List (List ℕ)) (said : List Told) where
+  strayed : (i : ℕ) (g : Finding) → Strays begin us said i → IsFew begin us (take i said) → IsFound begin us said g
+      → HasRoom begin us said g → broke_session g ≡ true
+  strayed i Kept s few k r = absurd (never_strays begin us said i k s)
+  strayed i (Broke j) s few k r = refl
+  strayed i (Astray j) s few k r = refl
+  strayed i TooMany s few k r = absurd (no_crowd begin us said i s few r)
+
+  same_blame : (f g : Finding) → broke_session f ≡ true → IsFound begin us said f → HasRoom begin us said f → IsFound begin us said g
+      → HasRoom begin us said g → broke_session g ≡ true
+  same_blame Kept g e h r k q = absurd (cc)
+  same_blame TooMany g e h r k q = absurd (cc)
+  same_blame (Broke i) g e h r k q = strayed i g (record { so_far = (h.0.so_far, h.1); astray = inl h.0.broke }) r k q
+  same_blame (Astray i) g e h r k q = strayed i g (record { so_far = h.1; astray = h.2 }) r k q
+
+-- and as it says more
+pub blame_stays : (begin : Seen) (us : List (List ℕ)) (said more : List Told) (f g : Finding) → broke_session f ≡ true
+    → IsFound begin us said f → HasRoom begin us said f → IsFound begin us (said ++ more) g → HasRoom begin us (said ++ more) g
+    → broke_session g ≡ true
+blame_stays begin us said more f g e h r k q = by f e h r
+  where
+    on : (i : ℕ) → i < length said → Strays begin us said i → IsFew begin us (take i said) → broke_session g ≡ true
+    on i l s few =
+        strayed begin us (said ++ more) i g (record {
+          so_far = subst (λ (z : List Told). IsKept begin us z) (sym (take-append-le i said more (omega (arith, l)))) s.so_far;
+          astray = subst (λ (z : List Told). IsAstray begin us z) (sym (take-append-le (i + 1) said more (omega (arith, l)))) s.astray;
+        })
+        (subst (λ (z : List Told). IsFew begin us z) (sym (take-append-le i said more (omega (arith, l)))) few) k q
+
+    by : (f : Finding) → broke_session f ≡ true → IsFound begin us said f → HasRoom begin us said f → broke_session g ≡ true
+    by Kept e h r = absurd (cc)
+    by TooMany e h r = absurd (cc)
+    by (Broke i) e h r = on i h.0.there (record { so_far = (h.0.so_far, h.1); astray = inl h.0.broke }) r
+    by (Astray i) e h r = on i h.0 (record { so_far = h.1; astray = h.2 }) r
+
+pub not_both : (d : Direction) (j : Joined) → IsToBlame d j → IsBlameless d j → ⊥
+not_both d j h k =
+    let b = same_blame (begin_of d) _ _ h.finding k.finding h.broke h.found.found h.found.room k.found.found k.found.room in
+    let n = k.none in absurd (cc)
+
+-- ---- by what is kept of the connection
+
+pub found_of : (d : Direction) (c : Connection) (j : Joined) → HoldsJoined c j → IsFoundOf d j (line_in d c).side.finding
+found_of d c j h = record { found = found_at d c j h; room = room_at d c j h }
+
+not_true : (b : Bool) → (b ≡ true → ⊥) → b ≡ false
+not_true true f = absurd (f refl)
+not_true false f = refl
+
+pub broken : (d : Direction) (c : Connection) (j : Joined) → HoldsJoined c j → IsToBlame d j
+    → broke_session (line_in d c).side.finding ≡ true
+broken d c j h k = same_blame (begin_of d) _ _ k.finding _ k.broke k.found.found k.found.room (found_at d c j h) (room_at d c j h)
+
+unbroken : (d : Direction) (c : Connection) (j : Joined) → HoldsJoined c j → IsBlameless d j
+    → broke_session (line_in d c).side.finding ≡ false
+unbroken d c j h k =
+    not_true (broke_session (line_in d c).side.finding) (λ e.
+    not_both d j (record { finding = (line_in d c).side.finding; found = found_of d c j h; broke = e }) k)
+
+-- what is found of it stays, so it stays blameless
+still_blameless : (d : Direction) (c e : Connection) (j i : Joined) → HoldsJoined c j → HoldsJoined e i
+    → (line_in d e).side.finding ≡ (line_in d c).side.finding → IsBlameless d j → IsBlameless d i
+still_blameless d c e j i h k same b = record {
+  finding = (line_in d e).side.finding;
+  found = found_of d e i k;
+  none = ap broke_session same ∙ unbroken d c j h b;
+}
+
+-- ---- both sides of all connections
+
+one_of : (d : Direction) (j : Joined) → IsBlameless Left j × IsBlameless Right j → IsBlameless d j
+one_of Left j h = h.0
+one_of Right j h = h.1
+
+both_of : (d : Direction) (j : Joined) → IsBlameless d j → IsBlameless (other d) j → IsBlameless Left j × IsBlameless Right j
+both_of Left j h k = (h, k)
+both_of Right j h k = (k, h)
+
+all_but : (d : Direction) (i : ℕ) (js : List Joined) → AreBlameless js → AreBlamelessBut d i js
+all_but d i [] h = tt
+all_but d zero (j ∷ js) h = (one_of (other d) j h.0, h.1)
+all_but d (suc i) (j ∷ js) h = (h.0, all_but d i js h.1)
+
+else_is : (d : Direction) (i : ℕ) (s : Sessions) → NobodyIs s → NobodyElseIs d i s
+else_is d i s h = record { live = all_but d i s.live h.live; done = h.done }
+
+pub nobody_else : (d : Direction) (place : Option ℕ) (s : Sessions) → NobodyIs s → NobodyElse d place s
+nobody_else d None s h = h
+nobody_else d (Some i) s h = else_is d i s h
+
+-- ---- a unit for a connection
+
+record Changes (d : Direction) (i : ℕ) (js : List Joined) (f : Joined → Joined) : Type 0 where
+  joined : Joined
+  there : slice_get js i ≡ Some joined
+  others : AreBlamelessBut d i (set js i (f joined))
+
+changes : (d : Direction) (cs : List Connection) (js : List Joined) (i : ℕ) (c e : Connection) (f : Joined → Joined) → i < length cs
+    → ((j : Joined) → HoldsJoined (get_or cs i c) j → HoldsJoined e (f j))
+    → (line_in (other d) e).side.finding ≡ (line_in (other d) (get_or cs i c)).side.finding → HoldAll cs js → AreBlameless js
+    → Changes d i js f
+changes d [] js i c e f lt step same h b = absurd (omega arith)
+changes d (x ∷ cs) [] i c e f lt step same h b = absurd h
+changes d (x ∷ cs) (j ∷ js) zero c e f lt step same h b = record {
+  joined = j;
+  there = refl;
+  others = (still_blameless (other d) x e j (f j) h.0 (step j h.0) same (one_of (other d) j b.0), b.1);
+}
+changes d (x ∷ cs) (j ∷ js) (suc i) c e f lt step same h b =
+    let r = changes d cs js i c e f (omega arith) step same h.1 b.1 in
+    record { joined = r.joined; there = r.there; others = (b.0, r.others) }
+
+pub one_changes : (d : Direction) (cs : List Connection) (s : Sessions) (i : ℕ) (c e : Connection) (f : Joined → Joined) → i < length cs
+    → ((j : Joined) → HoldsJoined (get_or cs i c) j → HoldsJoined e (f j))
+    → (line_in (other d) e).side.finding ≡ (line_in (other d) (get_or cs i c)).side.finding → HoldAll cs s.live → NobodyIs s
+    → NobodyElseIs d i (changed i f s (slice_get s.live i))
+one_changes d cs s i c e f lt step same h b =
+    let r = changes d cs s.live i c e f lt step same h b.live in
+    subst (λ (o : Option Joined). NobodyElseIs d i (changed i f s o)) (sym r.there) (record { live = r.others; done = b.done })
+
+pub none_changes : (d : Direction) (cs : List Connection) (s : Sessions) (i : ℕ) (f : Joined → Joined) → length cs ≤ i → HoldAll cs s.live
+    → NobodyIs s → NobodyElseIs d i (changed i f s (slice_get s.live i))
+none_changes d cs s i f le h b =
+    let e = all_length cs s.live h in
+    subst (λ (o : Option Joined). NobodyElseIs d i (changed i f s o)) (sym (none_there s.live i (omega arith))) (else_is d i s b)
+
+-- ---- a connection is requested
+
+one_session : (begin : Seen) (n : ℕ) → length (kept begin [] (take n [])) ≤ 4096
+unfolding kept
+one_session begin zero = omega arith
+one_session begin (suc n) = omega arith
+
+begin_blameless : (d : Direction) (number calling : ℕ) → IsBlameless d (asked number calling)
+begin_blameless Left number calling = record {
+  finding = Kept;
+  found = record { found = (done 0 (begin_of Left), refl); room = one_session (begin_of Left) };
+  none = refl;
+}
+begin_blameless Right number calling = record {
+  finding = Kept;
+  found = record { found = (done 0 (begin_of Right), refl); room = one_session (begin_of Right) };
+  none = refl;
+}
+
+one_more : (js : List Joined) (j : Joined) → IsBlameless Left j × IsBlameless Right j → AreBlameless js → AreBlameless (js ++ j ∷ [])
+one_more [] j b h = (b, tt)
+one_more (i ∷ js) j b h = (h.0, one_more js j b h.1)
+
+abbrev BothOf : Option Joined → Type 0
+BothOf None = ⊥
+BothOf (Some j) = IsBlameless Left j × IsBlameless Right j
+
+at_place : (js : List Joined) (i : ℕ) (j : Joined) → slice_get js i ≡ Some j → AreBlameless js → IsBlameless Left j × IsBlameless Right j
+at_place [] i j e h = absurd (cc)
+at_place (x ∷ js) zero j e h = subst BothOf e h.0
+at_place (x ∷ js) (suc i) j e h = at_place js i j e h.1
+
+one_over : (js : List Joined) (i : ℕ) (j : Joined) → IsBlameless Left j × IsBlameless Right j → AreBlameless js → AreBlameless (set js i j)
+one_over [] i j b h = tt
+one_over (x ∷ js) zero j b h = (b, h.1)
+one_over (x ∷ js) (suc i) j b h = (h.0, one_over js i j b h.1)
+
+placed_at : (i : ℕ) (j : Joined) (s : Sessions) (o : Option Joined) → slice_get s.live i ≡ o → IsBlameless Left j × IsBlameless Right j
+    → NobodyIs s → NobodyIs (placed i j s o)
+placed_at i j s None e b h = record { live = one_more s.live j b h.live; done = h.done }
+placed_at i j s (Some over) e b h = record {
+  live = one_over s.live i j b h.live;
+  done = one_more s.done over (at_place s.live i over e h.live) h.done;
+}
+
+pub one_asked : (d : Direction) (i calling : ℕ) (s : Sessions) → NobodyIs s → NobodyElseIs d i (asked_at i calling s)
+one_asked d i calling s h =
+    else_is d i (asked_at i calling s) (placed_at i _ s (slice_get s.live i) refl (
+      begin_blameless Left _ calling,
+      begin_blameless Right _ calling,
+    ) h)
+
+-- ---- a packet begins
+
+begun : (e d : Direction) (j : Joined) → IsBlameless d j → IsBlameless d (packet_begins e j)
+begun Left Left j h = record { finding = h.finding; found = record { found = h.found.found; room = h.found.room }; none = h.none }
+begun Left Right j h = record { finding = h.finding; found = record { found = h.found.found; room = h.found.room }; none = h.none }
+begun Right Left j h = record { finding = h.finding; found = record { found = h.found.found; room = h.found.room }; none = h.none }
+begun Right Right j h = record { finding = h.finding; found = record { found = h.found.found; room = h.found.room }; none = h.none }
+
+all_begun : (e : Direction) (js : List Joined) → AreBlameless js → AreBlameless (map (packet_begins e) js)
+all_begun e [] h = tt
+all_begun e (j ∷ js) h = ((begun e Left j h.0.0, begun e Right j h.0.1), all_begun e js h.1)
+
+pub nobody_begun : (e : Direction) (s : Sessions) → NobodyIs s → NobodyIs (all_begin e s)
+nobody_begun e s h = record { live = all_begun e s.live h.live; done = h.done }
+
+-- ---- whether the session of a side of the one at a place is to blame
+
+nowhere : (d : Direction) (i : ℕ) (js : List Joined) → length js ≤ i → AreBlamelessBut d i js → AreBlameless js
+nowhere d i [] le h = tt
+nowhere d zero (j ∷ js) le h = absurd (omega arith)
+nowhere d (suc i) (j ∷ js) le h = (h.0, nowhere d i js (omega arith) h.1)
+
+pub none_blamed : (d : Direction) (cs : List Connection) (js : List Joined) (i : ℕ) → length cs ≤ i → HoldAll cs js
+    → AreBlamelessBut d i js → AreBlameless js
+none_blamed d cs js i le h b = let e = all_length cs js h in nowhere d i js (omega arith) b
+
+with_one : (d : Direction) (cs : List Connection) (js : List Joined) (i : ℕ) (c : Connection) → i < length cs → HoldAll cs js
+    → broke_session (line_in d (get_or cs i c)).side.finding ≡ false → AreBlamelessBut d i js → AreBlameless js
+with_one d [] js i c lt h e b = absurd (omega arith)
+with_one d (x ∷ cs) [] i c lt h e b = absurd h
+with_one d (x ∷ cs) (j ∷ js) zero c lt h e b =
+    (both_of d j (record { finding = (line_in d x).side.finding; found = found_of d x j h.0; none = e }) b.0, b.1)
+with_one d (x ∷ cs) (j ∷ js) (suc i) c lt h e b = (b.0, with_one d cs js i c (omega arith) h.1 e b.1)
+
+pub one_blamed : (b : Bool) (d : Direction) (cs : List Connection) (js : List Joined) (i : ℕ) (c : Connection) → i < length cs
+    → HoldAll cs js → broke_session (line_in d (get_or cs i c)).side.finding ≡ b → Blames b d i js
+one_blamed true d cs js i c lt h e =
+    let r = element cs js i c lt h in
+    (r.joined, r.there, record { finding = (line_in d (get_or cs i c)).side.finding; found = found_of d _ r.joined r.holds; broke = e })
+one_blamed false d cs js i c lt h e = with_one d cs js i c lt h e
