@@ -1,6 +1,6 @@
 -- The text of a report is added one part after the other, and one connection after the other: for the functions of `report_texts`.
-use Rattle.std.proofs.Common.{◌≡◌, ◌∙◌, refl, sym, ap, ℕ, ◌+◌, ◌≤◌, ◌<◌, Bool, true, false, ◌&&◌, List, [], ◌∷◌, ◌++◌, length, arith, subst}
-use Rattle.std.specs.List.{flat_map, list_all}
+use Rattle.std.proofs.Common.{◌≡◌, ◌∙◌, refl, sym, ap, ℕ, ◌+◌, Bool, true, false, ◌&&◌, List, [], ◌∷◌, ◌++◌, length, arith, subst}
+use Rattle.std.specs.List.{flat_map}
 use Rattle.std.proofs.lemmas.List.{append-nil, append_assoc}
 use Rattle.std.proofs.lemmas.Grind.{flat_map-append}
 use Rattle.osi_tap.specs.Connections.{Sessions, numbered, count}
@@ -11,7 +11,7 @@ use Rattle.osi_dispute.specs.declared.reports.Pair.{Pair}
 use Rattle.osi_dispute.specs.declared.reports.Last.{Last}
 use Rattle.osi_dispute.specs.declared.reports.Transport.{Transport}
 use Rattle.osi_dispute.specs.Adding.{AddsPair, AddsPairs, AddsReport}
-use Rattle.osi_dispute.specs.Reports.{Report, IsReport, IsLast, IsPairOf, ArePairs, all_keep, carried}
+use Rattle.osi_dispute.specs.Reports.{Report, IsLast, IsPairOf, all_keep, carried}
 use Rattle.osi_dispute.specs.ReportTexts.{pair_lines, read_lines, transport_lines, report_front, report_text, last_line, last_status}
 use Rattle.osi_dispute.proofs.a_report_says_what_a_tap_holds.{more_pairs}
 

@@ -1,5 +1,5 @@
 -- What is reported of connections is what a tap holds of them: for the functions of `reports`.
-use Rattle.std.proofs.Common.{◌≡◌, ◌∙◌, refl, sym, ap, subst, ℕ, zero, suc, ◌+◌, Bool, true, false, not, ◌&&◌, List, [], ◌∷◌, ◌++◌}
+use Rattle.std.proofs.Common.{◌≡◌, ◌∙◌, refl, sym, ap, subst, ℕ, ◌+◌, Bool, true, false, not, ◌&&◌, List, [], ◌∷◌, ◌++◌}
 use Rattle.std.proofs.Common.{length, Option, Some, None, IfSome, inl, inr, arith}
 use Rattle.osi_judge.specs.declared.directions.Direction.{Direction}
 use Rattle.osi_judge.specs.declared.directions.Direction.TheVariants.{Left, Right}
@@ -27,7 +27,7 @@ use Rattle.osi_dispute.specs.declared.reports.Transport.{Transport as Carried}
 use Rattle.osi_dispute.specs.declared.verdicts.Told.{Told}
 use Rattle.osi_dispute.specs.declared.verdicts.Told.TheVariants as what
 use Rattle.osi_dispute.specs.Facts.{connection_by}
-use Rattle.osi_dispute.specs.Reports.{IsSession, Strayed, SaysSo, is_opened, is_refused_in, is_dropped, Tells, IsPair, IsPairOf, ArePairs}
+use Rattle.osi_dispute.specs.Reports.{IsSession, SaysSo, is_opened, is_refused_in, is_dropped, Tells, IsPair, IsPairOf, ArePairs}
 use Rattle.osi_dispute.specs.Reports.{no_pair, all_keep, carried, is_clear, kept_last, IsStrayOf, IsLast}
 
 -- ---- the session of a side
@@ -126,8 +126,8 @@ transport_first told (Some f) e (inr h) = absurd (layers (sym e ∙ h))
 kept_by : (s : State) (ps : List Pair) (l r all : Bool) → is_clear (carried Left s) ≡ l → is_clear (carried Right s) ≡ r → all_keep ps ≡ all
     → IsLast s ps (kept_last (l && r) all)
 kept_by s ps true true true l r a = record { sessions = a; left = l; right = r }
-kept_by s ps true false true l r a = tt
-kept_by s ps false r true l e a = tt
+kept_by s ps true false true l r a = (a, λ i. l i && r i)
+kept_by s ps false r true l e a = (a, λ i. l i && e i)
 kept_by s ps l r false e f a = a
 
 pub kept_is : (s : State) (ps : List Pair) (left right : Carried) (all : Bool) (last : Last) → left ≡ carried Left s → right ≡ carried Right s

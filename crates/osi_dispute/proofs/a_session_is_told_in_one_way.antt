@@ -1,5 +1,5 @@
 -- Of a session one thing is found, and by one rule, from what it said and heard: for the law on reports.
-use Rattle.std.proofs.Common.{◌≡◌, ◌∙◌, ◌⊎◌, inl, inr, refl, sym, ap, subst, ℕ, zero, suc, ◌+◌, ◌<◌, ◌≤◌, Bool, true, false, List, [], ◌∷◌}
+use Rattle.std.proofs.Common.{◌≡◌, ◌∙◌, ◌⊎◌, inl, inr, refl, sym, ap, subst, ℕ, ◌+◌, ◌<◌, ◌≤◌, true, false, List}
 use Rattle.std.proofs.Common.{length, take, get_or, arith}
 use Rattle.osi_session.specs.Standing.{Seen}
 use Rattle.osi_judge.specs.declared.directions.Direction.{Direction}

@@ -1,10 +1,9 @@
 -- Two reports of what a capture comes to say the same of each connection and of transport: for the law that a text has one judgement.
-use Rattle.std.proofs.Common.{◌≡◌, ◌∙◌, refl, sym, ap, subst, ℕ, ◌+◌, Bool, true, false, not, ◌&&◌, List, [], ◌∷◌, ◌++◌, length}
+use Rattle.std.proofs.Common.{◌≡◌, ◌∙◌, refl, sym, ap, subst, ℕ, ◌+◌, not, ◌&&◌, List, [], ◌∷◌, ◌++◌, length}
 use Rattle.std.proofs.Common.{Option, Some, None}
 use Rattle.std.specs.List.{flat_map}
 use Rattle.osi_judge.specs.declared.directions.Direction.{Direction}
 use Rattle.osi_judge.specs.declared.directions.Direction.TheVariants as side
-use Rattle.osi_judge.specs.declared.findings.Finding.{Finding}
 use Rattle.osi_judge.specs.declared.findings.Finding.TheVariants as finding
 use Rattle.osi_judge.specs.declared.members.Member.{Member}
 use Rattle.osi_judge.specs.declared.rules.Break.{Break}
@@ -18,7 +17,6 @@ use Rattle.osi_tap.specs.Connections.{Joined, Sessions, spoken, reference_of, nu
 use Rattle.osi_tap.specs.Lines.{told, place_in}
 use Rattle.osi_tap.specs.Tapping.{State}
 use Rattle.osi_dispute.specs.declared.reports.Pair.{Pair}
-use Rattle.osi_dispute.specs.declared.reports.Transport.{Transport}
 use Rattle.osi_dispute.specs.declared.verdicts.Told.{Told}
 use Rattle.osi_dispute.specs.declared.verdicts.Told.TheVariants as what
 use Rattle.osi_dispute.specs.declared.verdicts.Connection.{Connection}

@@ -2,7 +2,6 @@
 -- all of them: a judge, or a tap. For `feed_all`, `feed_pieces`, `tap_all` and `tap_pieces`.
 use Rattle.std.proofs.Common.{◌≡◌, ◌∙◌, refl, sym, ap, subst, ℕ, ◌==◌, Bool, true, false, not, arith, length, List, [], ◌∷◌, ◌++◌, take}
 use Rattle.std.proofs.Common.{drop}
-use Rattle.std.specs.List.{flat_map}
 use Rattle.std.proofs.lemmas.List.{append-nil, append_assoc, map-append, take-append-drop}
 use Rattle.std.proofs.lemmas.Grind.{flat_map-append}
 use Rattle.osi_judge.specs.declared.directions.Direction.{Direction}

@@ -1,5 +1,5 @@
 -- The text of a report on all connections of a byte connection.
-use Rattle.std.specs.Prelude.{ℕ, Bool, true, false, List, [], ◌∷◌, ◌++◌, codes, Option, Some, None}
+use Rattle.std.specs.Prelude.{ℕ, Bool, true, false, List, [], ◌++◌, codes, Option, Some, None}
 use Rattle.std.specs.List.{flat_map}
 use Rattle.osi_judge.specs.declared.directions.Direction.{Direction}
 use Rattle.osi_judge.specs.declared.directions.Direction.TheVariants as side

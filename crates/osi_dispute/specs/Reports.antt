@@ -15,7 +15,6 @@ use Rattle.osi_judge.specs.Stops.{broke_session}
 use Rattle.osi_judge.specs.Tapping.{begin_of}
 use Rattle.osi_tap.specs.declared.marks.First.{First}
 use Rattle.osi_tap.specs.declared.marks.Mark.{Mark}
-use Rattle.osi_tap.specs.declared.marks.Marks.{Marks}
 use Rattle.osi_tap.specs.Connections.{Joined, Sessions, spoken, reference_of, numbered, count}
 use Rattle.osi_tap.specs.Courses.{marks_of}
 use Rattle.osi_tap.specs.Lines.{told, heard, place_in}
@@ -150,7 +149,7 @@ IsLast s ps (Broke d offset by) = IsStrayOf s d (told.Broke offset by)
 IsLast s ps (Left d offset by) = IsStrayOf s d (told.Left offset by)
 IsLast s ps (Transport d m) = IsMarkOf s d m
 IsLast s ps TooManySessions = all_keep ps ≡ false
-IsLast s ps TooManyConnections = Unit {0}
+IsLast s ps TooManyConnections = (all_keep ps ≡ true) × ((is_clear (carried side.Left s) && is_clear (carried side.Right s)) ≡ false)
 
 -- ---- the report
 

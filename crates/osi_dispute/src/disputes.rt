@@ -75,11 +75,7 @@ fn tap_all(tap: &mut Tap, direction: Direction, octets: &[u8]) -> Result<(), All
 }
 
 /// Feeds pieces to a tap; `left_is_tabbed` says whether the lines of left begin with a tab.
-fn tap_pieces(
-    tap: &mut Tap,
-    pieces: Pieces<'_>,
-    left_is_tabbed: bool,
-) -> Result<(), AllocError>
+fn tap_pieces(tap: &mut Tap, pieces: Pieces<'_>, left_is_tabbed: bool) -> Result<(), AllocError>
     ensures { OnOk result ((capture : Capture) → HoldsState tap.old (comes_to capture)
         → HoldsState tap.new (comes_to (capture ++ passed_by left_is_tabbed (rows_left pieces.entry)))) }
 {

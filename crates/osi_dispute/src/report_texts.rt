@@ -12,9 +12,7 @@ ghost use Rattle.osi_dispute.specs.ReportTexts.{first_verb, mark_first, last_lin
 use crate::causes;
 use crate::lines::{push_reading, push_side};
 use crate::reports::{Last, Pair, Transport, last_of, pair_at, transport_of};
-use crate::texts::{
-    push_broke_first, push_connection, push_first, push_left_first, push_unjudged,
-};
+use crate::texts::{push_broke_first, push_connection, push_first, push_left_first, push_unjudged};
 use crate::verdicts::Unjudged;
 use osi_judge::Direction;
 use osi_listing::{push_number_field, push_words};
@@ -144,11 +142,7 @@ fn push_pairs(text: &mut Vec<u8>, tap: &Tap) -> Result<bool, AllocError>
 
 /// Adds the lines of the transport of both sides.
 #[tactic(auto, unfolding(crate::specs::ReportTexts::transport_lines))]
-fn push_transport(
-    text: &mut Vec<u8>,
-    left: &Transport,
-    right: &Transport,
-) -> Result<(), AllocError>
+fn push_transport(text: &mut Vec<u8>, left: &Transport, right: &Transport) -> Result<(), AllocError>
     ensures { OnOk result (text.new.items ≡ text.old.items ++ transport_lines left.now right.now) }
 {
     push_marks(text, Direction::Left, left.broke)?;

@@ -1,7 +1,5 @@
 use Rattle.std.proofs.Common.{◌∙◌, sym, refl, []}
-use Rattle.osi_judge.specs.Captures.{Capture}
-use Rattle.osi_dispute.specs.Disputes.{is_wide}
-use Rattle.osi_dispute.specs.Rows.{passed_by, capture_of, rows_of}
+use Rattle.osi_dispute.specs.Rows.{capture_of, rows_of}
 use Rattle.osi_dispute.specs.Reading.{rows_left}
 use Rattle.osi_dispute.specs.Verdicts.{Knows}
 use Rattle.osi_dispute.proofs.a_capture_is_judged_in_one_of_two_ways.{fed_rows, as_narrow, as_wide}

@@ -1,4 +1,4 @@
-use Rattle.std.proofs.Common.{◌≡◌, ◌∙◌, ap, List, ℕ, ◌++◌}
+use Rattle.std.proofs.Common.{◌∙◌, ap, List, ℕ, ◌++◌}
 use Rattle.osi_dispute.specs.ReportTexts.{report_text}
 use Rattle.osi_dispute.proofs.disputes.judgement_by_tap.Goals as goal
 

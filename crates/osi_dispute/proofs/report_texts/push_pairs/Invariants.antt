@@ -1,4 +1,4 @@
-use Rattle.std.proofs.Common.{◌≡◌, ◌≤◌, ◌-◌}
+use Rattle.std.proofs.Common.{◌≤◌, ◌-◌}
 use Rattle.osi_tap.specs.Standing.{HoldsState, IsSettled}
 use Rattle.osi_tap.specs.Tapping.{State}
 use Rattle.osi_dispute.specs.Adding.{AddsPairs}

@@ -1,11 +1,11 @@
-use Rattle.std.proofs.Common.{◌≡◌, ◌∙◌, refl, sym, ap, subst, Bool, true, false, not, Some, None}
+use Rattle.std.proofs.Common.{◌∙◌, refl, sym, ap, subst, true, false, Some, None}
 use Rattle.osi_judge.specs.declared.directions.Direction.{Direction}
 use Rattle.osi_judge.specs.Captures.{other}
 use Rattle.osi_judge.specs.Stops.{broke_session}
-use Rattle.osi_tap.specs.Connections.{Joined, reference_of}
+use Rattle.osi_tap.specs.Connections.{reference_of}
 use Rattle.osi_tap.specs.Holding.{line_in}
 use Rattle.osi_dispute.specs.declared.verdicts.Connection.{Connection}
-use Rattle.osi_dispute.specs.Reports.{is_opened, is_refused_in, is_dropped, Tells}
+use Rattle.osi_dispute.specs.Reports.{is_opened, is_refused_in, Tells}
 use Rattle.osi_dispute.proofs.a_report_says_what_a_tap_holds.{tells_as, dropped_as}
 use Rattle.osi_dispute.proofs.reports.connection_in.Goals as goal
 
