@@ -90,7 +90,8 @@ one_on ss n m p e h = subst (λ (z : ℕ). IsPairOf (numbered z ss) p) e h
 pub more_pairs : (ss : Sessions) (n : ℕ) (ps : List Pair) (p : Pair) → ArePairs ss n ps → IsPairOf (numbered (n + length ps) ss) p
     → ArePairs ss n (ps ++ p ∷ [])
 more_pairs ss n [] p h k = (one_on ss (n + 0) n p (omega arith) k, tt)
-more_pairs ss n (q ∷ ps) p h k = (h.0, more_pairs ss (n + 1) ps p h.1 (one_on ss (n + length (q ∷ ps)) (n + 1 + length ps) p (omega arith) k))
+more_pairs ss n (q ∷ ps) p h k =
+    (h.0, more_pairs ss (n + 1) ps p h.1 (one_on ss (n + length (q ∷ ps)) (n + 1 + length ps) p (omega arith) k))
 
 -- ---- what is found of a number
 
@@ -130,7 +131,8 @@ kept_by s ps true false true l r a = (a, λ i. l i && r i)
 kept_by s ps false r true l e a = (a, λ i. l i && e i)
 kept_by s ps l r false e f a = a
 
-pub kept_is : (s : State) (ps : List Pair) (left right : Carried) (all : Bool) (last : Last) → left ≡ carried Left s → right ≡ carried Right s
+pub kept_is : (s : State) (ps : List Pair) (left right : Carried) (all : Bool) (last : Last) → left ≡ carried Left s
+    → right ≡ carried Right s
     → all ≡ all_keep ps → last ≡ kept_last (is_clear left && is_clear right) all → IsLast s ps last
 kept_is s ps left right all last l r a e =
     subst (λ (x : Last). IsLast s ps x) (sym e)

@@ -126,7 +126,8 @@ Leaves d us said i x m at b =
     (BreaksWith us x.octets x.before m at b × (leaves x.octets b ≡ true) × (IsExplained (begin_of d) us (take (i + 1) said) → ⊥))
     ⊎ ((b ≡ selection_of x.before m) × IsExplained (begin_of d) us (take (i + 1) said))
 
-pub left_same : (d : Direction) (us vs : List (List ℕ)) (said others : List Told) (i : ℕ) (x y : Told) (m n at o : List Member) (b e : Break)
+pub left_same : (d : Direction) (us vs : List (List ℕ)) (said others : List Told) (i : ℕ) (x y : Told) (m n at o : List Member)
+    (b e : Break)
     → said ≡ others → us ≡ vs → x ≡ y → m ≡ n → Leaves d us said i x m at b → Leaves d vs others i y n o e → b ≡ e
 left_same d us vs said others i x y m n at o b e s u t p (inl h) (inl k) = break_same us vs x y m n at o b e u t p h.0 k.0
 left_same d us vs said others i x y m n at o b e s u t p (inl h) (inr k) =
@@ -152,7 +153,8 @@ one_rule one d c TooMany b e f h k x = absurd (cc)
 -- ---- one finding
 
 -- a side that broke the protocol did not leave the profile there
-pub left_broken : (d : Direction) (us vs : List (List ℕ)) (said others : List Told) (i : ℕ) (x y : Told) (m n at o : List Member) (b e : Break)
+pub left_broken : (d : Direction) (us vs : List (List ℕ)) (said others : List Told) (i : ℕ) (x y : Told) (m n at o : List Member)
+    (b e : Break)
     → said ≡ others → us ≡ vs → x ≡ y → m ≡ n → BreaksWith us x.octets x.before m at b → leaves x.octets b ≡ false
     → (IsExplained (begin_of d) us (take (i + 1) said) → ⊥) → Leaves d vs others i y n o e → ⊥
 left_broken d us vs said others i x y m n at o b e s u t p h l z (inl k) =

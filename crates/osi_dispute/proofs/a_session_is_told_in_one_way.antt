@@ -151,7 +151,11 @@ one_known d us said Kept TooMany m n b e h (i, l, y, c) =
 one_known d us said (Broke i) Kept m n b e h k = absurd (never_strays (begin_of d) us said i k.0 h.1.strays)
 one_known d us said (Broke i) (Broke j) m n b e h k =
     let same = one_place (begin_of d) us said i j h.1.strays k.1.strays in
-    record { found = ap Broke same; rule = λ t. both_broke d us said i m n b e h (broke_at d us said i j n e (sym same) k); sessions = λ t. cc }
+    record {
+      found = ap Broke same;
+      rule = λ t. both_broke d us said i m n b e h (broke_at d us said i j n e (sym same) k);
+      sessions = λ t. cc;
+    }
 one_known d us said (Broke i) (Left j) m n b e h k =
     let same = one_place (begin_of d) us said i j h.1.strays k.1.strays in
     absurd (broke_or_left d us said i m n b e h (left_at d us said i j n e (sym same) k))
@@ -162,7 +166,11 @@ one_known d us said (Left i) (Broke j) m n b e h k =
     absurd (broke_or_left d us said j n m e b k (left_at d us said j i m b same h))
 one_known d us said (Left i) (Left j) m n b e h k =
     let same = one_place (begin_of d) us said i j h.1.strays k.1.strays in
-    record { found = ap Left same; rule = λ t. both_left d us said i m n b e h (left_at d us said i j n e (sym same) k); sessions = λ t. cc }
+    record {
+      found = ap Left same;
+      rule = λ t. both_left d us said i m n b e h (left_at d us said i j n e (sym same) k);
+      sessions = λ t. cc;
+    }
 one_known d us said (Left i) TooMany m n b e h k = absurd (no_crowd (begin_of d) us said i h.1.strays h.1.few k)
 one_known d us said TooMany Kept m n b e (i, l, y, c) k =
     absurd (too_many (length (kept (begin_of d) us (take (i + 1) said))) c.1 (k.1 (i + 1)))

@@ -111,7 +111,8 @@ one_pair : (j : Joined) (p q : Pair) → IsPair j p → IsPair j q → p ≡ q
 one_pair j p q h k =
     let left = (same_session side.Left j h.left k.left h.of_left k.of_left).found in
     let right = (same_session side.Right j h.right k.right h.of_right k.of_right).found in
-    let of_left = one_connection side.Left j h.left h.right k.left k.right p.left q.left h.of_left k.of_left right h.tells_left k.tells_left in
+    let of_left =
+    one_connection side.Left j h.left h.right k.left k.right p.left q.left h.of_left k.of_left right h.tells_left k.tells_left in
     let of_right =
     one_connection side.Right j h.right h.left k.right k.left p.right q.right h.of_right k.of_right left h.tells_right k.tells_right in
     let keeps = h.keeps ∙ (λ i. is_kept (left i) && is_kept (right i)) ∙ sym k.keeps in

@@ -38,7 +38,8 @@ passes_as old new more t f = λ capture k. record { taps = t capture k.taps; fir
 abbrev pub Comes : Tap → Capture → Type 0
 Comes t capture = HoldsState t (comes_to capture)
 
-pub comes_as : (old new : Tap) (more : Capture) → ((s : State) → HoldsState old s → HoldsState new (after more s)) → Passes Comes old new more
+pub comes_as : (old new : Tap) (more : Capture) → ((s : State) → HoldsState old s → HoldsState new (after more s))
+    → Passes Comes old new more
 comes_as old new more t = λ capture k.
     subst (λ (s : State). HoldsState new s) (sym (after_more capture more begin)) (t (comes_to capture) k)
 
@@ -50,7 +51,8 @@ IsFed k d old now octets rest = (fed : List ℕ) × (octets ≡ fed ++ rest) × 
 pub fed_none : {T : Type 0} (k : T → Capture → Type 0) (d : Direction) (j : T) (octets : List ℕ) → IsFed k d j j octets octets
 fed_none k d j octets = ([], refl, passes_none k j)
 
-pub fed_more : {T : Type 0} (k : T → Capture → Type 0) (d : Direction) (old now new : T) (octets rest : List ℕ) (n : ℕ) → IsFed k d old now octets rest
+pub fed_more : {T : Type 0} (k : T → Capture → Type 0) (d : Direction) (old now new : T) (octets rest : List ℕ) (n : ℕ)
+    → IsFed k d old now octets rest
     → Passes k now new (piece d (take n rest)) → IsFed k d old new octets (drop n rest)
 fed_more k d old now new octets rest n (fed, e, p) q = (
   fed ++ take n rest,
@@ -58,7 +60,8 @@ fed_more k d old now new octets rest n (fed, e, p) q = (
   passes_more k old now new (piece d fed) (piece d (take n rest)) (piece d (fed ++ take n rest)) (map-append (of d) fed (take n rest)) p q,
 )
 
-pub fed_all : {T : Type 0} (k : T → Capture → Type 0) (d : Direction) (old now : T) (octets rest : List ℕ) → rest ≡ [] → IsFed k d old now octets rest
+pub fed_all : {T : Type 0} (k : T → Capture → Type 0) (d : Direction) (old now : T) (octets rest : List ℕ) → rest ≡ []
+    → IsFed k d old now octets rest
     → Passes k old now (piece d octets)
 fed_all k d old now octets rest n (fed, e, p) =
     subst (λ (z : List ℕ). Passes k old now (piece d z)) (sym (e ∙ ap (λ (z : List ℕ). fed ++ z) n ∙ append-nil fed)) p
@@ -82,7 +85,8 @@ none_fed k left j rows = ([], refl, passes_none k j)
 one_row : (left : Bool) (r : Row) → passed_by left (r ∷ []) ≡ piece (side_of r.is_tabbed left) r.octets
 one_row left r = append-nil (piece (side_of r.is_tabbed left) r.octets)
 
-pub more_fed : {T : Type 0} (k : T → Capture → Type 0) (left : Bool) (old now new : T) (rows rest later : List Row) (r : Row) → rest ≡ r ∷ later → AreFed k left old now rows rest
+pub more_fed : {T : Type 0} (k : T → Capture → Type 0) (left : Bool) (old now new : T) (rows rest later : List Row) (r : Row)
+    → rest ≡ r ∷ later → AreFed k left old now rows rest
     → Passes k now new (piece (side_of r.is_tabbed left) r.octets) → AreFed k left old new rows later
 more_fed k left old now new rows rest later r g (fed, e, p) q = (
   fed ++ r ∷ [],
@@ -92,7 +96,8 @@ more_fed k left old now new rows rest later r g (fed, e, p) q = (
       (subst (λ (z : Capture). Passes k now new z) (sym (one_row left r)) q),
 )
 
-pub all_fed : {T : Type 0} (k : T → Capture → Type 0) (left : Bool) (old now : T) (rows rest : List Row) → rest ≡ [] → AreFed k left old now rows rest
+pub all_fed : {T : Type 0} (k : T → Capture → Type 0) (left : Bool) (old now : T) (rows rest : List Row) → rest ≡ []
+    → AreFed k left old now rows rest
     → Passes k old now (passed_by left rows)
 all_fed k left old now rows rest n (fed, e, p) =
     subst (λ (z : List Row). Passes k old now (passed_by left z)) (sym (e ∙ ap (λ (z : List Row). fed ++ z) n ∙ append-nil fed)) p

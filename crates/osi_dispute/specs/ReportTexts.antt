@@ -44,8 +44,8 @@ mark_lines d (Some m) = mark_line d m
 -- a side of which nothing more is judged, and the packet after which that is so
 unfoldable pub halt_line : Direction → Mark → List ℕ
 halt_line d m =
-    side_name d ++ codes " not judged after " ++ side_name m.direction ++ number_field (codes " packet ") m.offset ++ codes " " ++ mark_text m
-    ++ codes "\n"
+    side_name d ++ codes " not judged after " ++ side_name m.direction ++ number_field (codes " packet ") m.offset ++ codes " "
+    ++ mark_text m ++ codes "\n"
 
 abbrev pub halt_lines : Direction → Option Mark → List ℕ
 halt_lines d None = []

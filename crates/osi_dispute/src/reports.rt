@@ -159,7 +159,8 @@ fn connection_in(joint: &Joint, direction: Direction) -> Result<Connection, Allo
 
 /// Whether the sessions of both sides kept the protocol.
 fn both_keep(joint: &Joint) -> bool
-    ensures { result ≡ (is_kept (line_in Direction.Left joint.now).side.finding && is_kept (line_in Direction.Right joint.now).side.finding) }
+    ensures { result ≡ (is_kept (line_in Direction.Left joint.now).side.finding
+        && is_kept (line_in Direction.Right joint.now).side.finding) }
 {
     if !is_kept(joint.finding(Direction::Left)) {
         return false;

@@ -1,7 +1,7 @@
 use Rattle.std.proofs.Common.{List, ℕ, sym, subst, take, ◌≡◌, []}
 use Rattle.osi_judge.specs.Captures.{piece}
-use Rattle.osi_dispute.proofs.what_is_fed_piece_by_piece_passes_whole.{Comes, Passes, IsFed, comes_as, fed_none, fed_more, fed_all, empty_yes}
-use Rattle.osi_dispute.proofs.what_is_fed_piece_by_piece_passes_whole.{empty_not}
+use Rattle.osi_dispute.proofs.what_is_fed_piece_by_piece_passes_whole.{Comes, Passes, IsFed, comes_as, fed_none, fed_more}
+use Rattle.osi_dispute.proofs.what_is_fed_piece_by_piece_passes_whole.{fed_all, empty_yes, empty_not}
 use Rattle.osi_dispute.proofs.disputes.tap_all.Goals as goal
 
 pub rest-preserved : goal.rest-preserved

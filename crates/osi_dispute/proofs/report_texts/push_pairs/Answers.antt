@@ -11,7 +11,8 @@ pub connections-preserved : goal.connections-preserved
 connections-preserved c = (
   λ s h k.
       more_added s.course.sessions c.connections.number c.args.text.now.items c.connections.text.items c.push_pair_at.new.text.items
-      c.connections.keeps c.in_ok-one_keeps.one_keeps c.both-keeps.result (c.connections.invariant.0 s h k) (c.in_ok-one_keeps.ensures s h k)
+      c.connections.keeps c.in_ok-one_keeps.one_keeps c.both-keeps.result (c.connections.invariant.0 s h k)
+      (c.in_ok-one_keeps.ensures s h k)
       c.both-keeps.ensures,
   omega arith,
 )

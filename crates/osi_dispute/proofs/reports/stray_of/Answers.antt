@@ -13,5 +13,6 @@ returns-in-Broke c = λ s ps number j e h k.
 pub returns-in-Left : goal.returns-in-Left
 returns-in-Left c = λ s ps number j e h k.
     stray_held s c.args.direction c.args.joint.now (what.Left c.offset-in-Left.result c.by-in-Left.result) number j e h k
-    (left_says c.args.direction c.args.joint.now j c.in-Left.field-0 c.offset-in-Left.result c.by-in-Left.result (sym c.in-Left.ensures.value)
+    (left_says c.args.direction c.args.joint.now j c.in-Left.field-0 c.offset-in-Left.result c.by-in-Left.result
+    (sym c.in-Left.ensures.value)
     (c.offset-in-Left.ensures j h) (c.by-in-Left.ensures.value ∙ ap (λ (w : Watched). w.by) c.side-side.ensures.value))

@@ -16,5 +16,6 @@ returns-in-Broke c = λ j h k.
 
 pub returns-in-Left : goal.returns-in-Left
 returns-in-Left c = λ j h k.
-    left_says c.args.direction c.args.joint.now j c.in-Left.field-0 c.offset-in-Left.result c.by-in-Left.result (sym c.in-Left.ensures.value)
+    left_says c.args.direction c.args.joint.now j c.in-Left.field-0 c.offset-in-Left.result c.by-in-Left.result
+    (sym c.in-Left.ensures.value)
     (c.offset-in-Left.ensures j h) (c.by-in-Left.ensures.value ∙ ap (λ (w : Watched). w.by) c.side-side.ensures.value)
