@@ -14,7 +14,8 @@ LINES = {name: re.compile(text) for name, text in (
     ("knew", OWN + r"knew (?P<taken>\d+) of (?P<passed>\d+) " + STATE),
     ("fault", OWN + r"fault (?P<at>\d+) (?P<fault>\w+)(?: (?P<code>\d+))?"),
     ("leaves", OWN + "leaves " + PLACE),
-    ("stopped", r"(?P<side>left|right) broke " + PLACE),
+    ("stopped", r"(?P<side>left|right) (?:broke|leaves) " + PLACE),
+    ("halted", r"(?P<side>left|right) not judged after (?:left|right) " + PLACE),
     ("without", OWN + r"(?P<why>refused|unanswered|too many)"))}
 LAST = re.compile(r"both kept the protocol|not judged: (?P<why>.+)"
                   r"|(?P<first>left|right) (?P<did>broke the protocol|leaves the profile) first, "
@@ -88,8 +89,8 @@ class Verdict:
         return State(found) if found else None
 
     def break_of(self, side):
-        """Where a side broke the protocol or left the profile: offset, what and rule; or None."""
-        return self.fields(side, "broke", "leaves", "stopped")
+        """Where a side broke the protocol or left the profile: offset, what and rule; or None. On several connections, the first."""
+        return self.last if side == self.first else self.fields(side, "broke", "leaves", "stopped")
 
 
 def line_of(row):

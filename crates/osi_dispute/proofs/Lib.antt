@@ -8,3 +8,8 @@ pub mod what_is_told_is_by_facts
 pub mod a_rule_tells_a_break_from_leaving
 pub mod facts_have_one_verdict
 pub mod a_last_line_is_never_empty
+pub mod a_report_says_what_a_tap_holds
+pub mod a_capture_is_judged_in_one_of_two_ways
+pub mod a_session_is_told_in_one_way
+pub mod reports_are_alike
+pub mod a_report_is_added_part_by_part

@@ -1,9 +1,8 @@
 -- A capture has one finding of a side: a run that explains more explains less, so a side breaks the protocol once.
 use Rattle.std.proofs.Common.{◌≡◌, ◌∙◌, refl, sym, ap, subst, ℕ, zero, suc, ◌+◌, ◌<◌, ◌≤◌, ◌⊎◌, inl, inr, List, [], ◌∷◌, ◌++◌, take, drop}
-use Rattle.std.proofs.Common.{length, Some, Option, arith}
+use Rattle.std.proofs.Common.{Some, arith}
 use Rattle.std.proofs.lemmas.List.{append_assoc, take-append-drop}
 use Rattle.osi_session.specs.Standing.{Seen, CanSay, after_count}
-use Rattle.osi_message.specs.Words.{Word}
 use Rattle.osi_judge.specs.declared.directions.Direction.{Direction}
 use Rattle.osi_judge.specs.declared.findings.Finding.{Finding}
 use Rattle.osi_judge.specs.declared.findings.Finding.TheVariants.{Kept, Broke, Left, TooMany}
@@ -48,7 +47,7 @@ explained_less begin us said n d =
     front_of us (remarks (take n said)) (remarks (drop n said)) (remarks said) 0 begin
     (ap remarks (sym (take-append-drop n said)) ∙ remarks_both (take n said) (drop n said)) d
 
-take_less : (xs : List Told) (n m : ℕ) → n ≤ m → take n (take m xs) ≡ take n xs
+pub take_less : (xs : List Told) (n m : ℕ) → n ≤ m → take n (take m xs) ≡ take n xs
 take_less xs zero m l = refl
 take_less [] (suc n) zero l = refl
 take_less [] (suc n) (suc m) l = refl
@@ -66,7 +65,7 @@ not_later begin us said i j b c l =
     b.broke (subst (λ (z : List Told). IsExplained begin us z) (take_less said (i + 1) j (omega arith))
     (explained_less begin us (take j said) (i + 1) c.so_far))
 
-compare : (i j : ℕ) → (i < j) ⊎ ((j < i) ⊎ (i ≡ j))
+pub compare : (i j : ℕ) → (i < j) ⊎ ((j < i) ⊎ (i ≡ j))
 compare zero zero = inr (inr refl)
 compare zero (suc j) = inl (omega arith)
 compare (suc i) zero = inr (inl (omega arith))

@@ -1,6 +1,6 @@
 -- The line of the side that broke the protocol first has words, so a verdict ends with one: for the laws.
-use Rattle.std.proofs.Common.{◌≡◌, ◌∙◌, refl, sym, ap, subst, ℕ, ◌+◌, ◌<◌, Bool, true, false, is_some, codes, ◌||◌, ◌&&◌, List, [], ◌∷◌}
-use Rattle.std.proofs.Common.{◌++◌, length, Option, Some, None, arith}
+use Rattle.std.proofs.Common.{◌≡◌, refl, sym, ap, subst, ℕ, ◌<◌, Bool, true, false, ◌||◌, ◌&&◌, List, []}
+use Rattle.std.proofs.Common.{length, Option, Some, None, arith}
 use Rattle.osi_judge.specs.declared.directions.Direction.{Direction}
 use Rattle.osi_judge.specs.declared.directions.Direction.TheVariants as side
 use Rattle.osi_judge.specs.declared.findings.Finding.{Finding}
@@ -10,26 +10,20 @@ use Rattle.osi_judge.specs.declared.standings.Stands.{Stands}
 use Rattle.osi_judge.specs.declared.stops.Stopped.{Stopped}
 use Rattle.osi_judge.specs.Captures.{Capture}
 use Rattle.osi_judge.specs.Stops.{breaks, broke_session}
-use Rattle.osi_judge.specs.Tapping.{IsFoundIn, IsReferenceIn, told, tell}
+use Rattle.osi_judge.specs.Tapping.{IsFoundIn, IsReferenceIn, told}
 use Rattle.osi_judge.specs.Transport.{Sent, IsSent}
 use Rattle.osi_judge.proofs.captured.what_is_known_of_a_side_is_of_the_capture.{nameless_said_nothing}
-use Rattle.osi_dispute.specs.declared.verdicts.Told.{Told}
-use Rattle.osi_dispute.specs.declared.verdicts.Told.TheVariants as what
-use Rattle.osi_dispute.specs.declared.verdicts.Connection.{Connection}
-use Rattle.osi_dispute.specs.declared.verdicts.Connection.TheVariants.{Silent, Refused, Unanswered, Session}
-use Rattle.osi_dispute.specs.declared.verdicts.Outcome.{Outcome}
-use Rattle.osi_dispute.specs.declared.verdicts.Outcome.TheVariants.{BothKept, First, NotJudged}
 use Rattle.osi_dispute.specs.declared.verdicts.Unjudged.{Unjudged}
 use Rattle.osi_dispute.specs.declared.verdicts.Unjudged.TheVariants.{Transport, TooMany as Many}
 use Rattle.osi_dispute.specs.declared.verdicts.Verdict.{Verdict}
 use Rattle.osi_judge.specs.declared.stops.Stop.TheVariants as stop
-use Rattle.osi_dispute.specs.Names.{side_name, unjudged_text}
-use Rattle.osi_dispute.specs.Texts.{first_text, broke_first, left_first as left_first_line, stopped_first, told_first, connection_first}
+use Rattle.osi_dispute.specs.Names.{unjudged_text}
+use Rattle.osi_dispute.specs.Texts.{first_text, broke_first, left_first as left_first_line, stopped_first, connection_first}
 use Rattle.osi_dispute.specs.Texts.{first_line, unjudged_line, line_by, outcome_line}
-use Rattle.osi_dispute.specs.Facts.{Facts, AreFacts, is_broken, told_by, told_of, is_refused, is_unanswered}
-use Rattle.osi_dispute.specs.Facts.{connection_with, connection_by, is_first}
-use Rattle.osi_dispute.specs.Facts.{is_left, left_first, account_by, keeps, unjudged, kept_outcome, outcome_by, verdict_by, IsFirstOf}
-use Rattle.osi_dispute.specs.Facts.{IsToldBy, IsDetermined}
+use Rattle.osi_dispute.specs.Facts.{Facts, AreFacts, is_broken, told_by, is_refused, is_unanswered}
+use Rattle.osi_dispute.specs.Facts.{connection_by}
+use Rattle.osi_dispute.specs.Facts.{account_by, keeps, unjudged, kept_outcome, verdict_by, IsFirstOf}
+use Rattle.osi_dispute.specs.Facts.{IsDetermined}
 
 abbrev HasWords : List ℕ → Type 0
 HasWords line = line ≡ [] → ⊥

@@ -24,11 +24,11 @@ abbrev pub HasOnePlace : Type 0
 HasOnePlace = (d : Direction) (capture : Capture) (f g : Finding) → is_judged f ≡ true → is_judged g ≡ true → IsFoundIn d capture f
     → IsFoundIn d capture g → place_of f ≡ place_of g
 
-not_both : (b : Bool) → b ≡ true → b ≡ false → ⊥
+pub not_both : (b : Bool) → b ≡ true → b ≡ false → ⊥
 not_both b h k = cc
 
 -- a list has one element at a place
-one_element : (said : List Told) (i : ℕ) (x y : Told) → i < length said → x ≡ get_or said i x → y ≡ get_or said i y → x ≡ y
+pub one_element : (said : List Told) (i : ℕ) (x y : Told) → i < length said → x ≡ get_or said i x → y ≡ get_or said i y → x ≡ y
 one_element [] i x y l e f = absurd (omega arith)
 one_element (t ∷ said) zero x y l e f = e ∙ sym f
 one_element (t ∷ said) (suc i) x y l e f = one_element said i x y (omega arith) e f
@@ -47,7 +47,7 @@ same_tsdu : (said others : List Told) (i : ℕ) (x y : Told) → said ≡ others
 same_tsdu said others i x y e l h k =
     one_element others i x y (subst (λ (z : List Told). i < length z) e l) (subst (λ (z : List Told). x ≡ get_or z i x) e h) k
 
-break_same : (us vs : List (List ℕ)) (x y : Told) (m n at o : List Member) (b e : Break) → us ≡ vs → x ≡ y → m ≡ n
+pub break_same : (us vs : List (List ℕ)) (x y : Told) (m n at o : List Member) (b e : Break) → us ≡ vs → x ≡ y → m ≡ n
     → BreaksWith us x.octets x.before m at b → BreaksWith vs y.octets y.before n o e → b ≡ e
 break_same us vs x y m n at o b e u t p h k =
     (one_break vs y.octets y.before n at o b e
@@ -121,12 +121,13 @@ one_broken one d c m n at o i b e f h k p =
     break_same (heard h.others) (heard k.others) h.tsdu k.tsdu m n at o b e s.1 s.2 p h.near k.near
 
 -- how a side left the profile
-abbrev Leaves : Direction → List (List ℕ) → List Told → (i : ℕ) → Told → (members at : List Member) → Break → Type 0
+abbrev pub Leaves : Direction → List (List ℕ) → List Told → (i : ℕ) → Told → (members at : List Member) → Break → Type 0
 Leaves d us said i x m at b =
     (BreaksWith us x.octets x.before m at b × (leaves x.octets b ≡ true) × (IsExplained (begin_of d) us (take (i + 1) said) → ⊥))
     ⊎ ((b ≡ selection_of x.before m) × IsExplained (begin_of d) us (take (i + 1) said))
 
-left_same : (d : Direction) (us vs : List (List ℕ)) (said others : List Told) (i : ℕ) (x y : Told) (m n at o : List Member) (b e : Break)
+pub left_same : (d : Direction) (us vs : List (List ℕ)) (said others : List Told) (i : ℕ) (x y : Told) (m n at o : List Member)
+    (b e : Break)
     → said ≡ others → us ≡ vs → x ≡ y → m ≡ n → Leaves d us said i x m at b → Leaves d vs others i y n o e → b ≡ e
 left_same d us vs said others i x y m n at o b e s u t p (inl h) (inl k) = break_same us vs x y m n at o b e u t p h.0 k.0
 left_same d us vs said others i x y m n at o b e s u t p (inl h) (inr k) =
@@ -152,7 +153,8 @@ one_rule one d c TooMany b e f h k x = absurd (cc)
 -- ---- one finding
 
 -- a side that broke the protocol did not leave the profile there
-left_broken : (d : Direction) (us vs : List (List ℕ)) (said others : List Told) (i : ℕ) (x y : Told) (m n at o : List Member) (b e : Break)
+pub left_broken : (d : Direction) (us vs : List (List ℕ)) (said others : List Told) (i : ℕ) (x y : Told) (m n at o : List Member)
+    (b e : Break)
     → said ≡ others → us ≡ vs → x ≡ y → m ≡ n → BreaksWith us x.octets x.before m at b → leaves x.octets b ≡ false
     → (IsExplained (begin_of d) us (take (i + 1) said) → ⊥) → Leaves d vs others i y n o e → ⊥
 left_broken d us vs said others i x y m n at o b e s u t p h l z (inl k) =

@@ -1,5 +1,6 @@
 -- Two verdicts on one capture are one: for the laws.
-use Rattle.std.proofs.Common.{◌≡◌, ◌∙◌, refl, sym, ap, subst, ℕ, ◌-◌, Bool, true, false, List, length, Option, Some, None, option_map}
+use Rattle.std.proofs.Common.{◌≡◌, ◌∙◌, ◌⊎◌, inl, inr, refl, sym, ap, subst, ℕ, ◌-◌, Bool, true, false, List, length, Option, Some}
+use Rattle.std.proofs.Common.{None, option_map}
 use Rattle.osi_tpkt.specs.Stream.{Ending, offset_of}
 use Rattle.osi_tpkt.proofs.a_stream_is_cut_in_one_way.{one_cut}
 use Rattle.osi_judge.specs.declared.directions.Direction.{Direction}
@@ -25,7 +26,10 @@ use Rattle.osi_judge.proofs.told.a_side_strays_at_one_place.{one_judged, one_lis
 use Rattle.osi_judge.specs.Onward.{StandsBehind}
 use Rattle.osi_judge.proofs.told.a_session_stands_in_one_way.{one_stands}
 use Rattle.osi_dispute.specs.declared.verdicts.Connection.TheVariants.{Session}
-use Rattle.osi_dispute.specs.Disputes.{IsJudgement}
+use Rattle.osi_tap.specs.Tapping.{comes_to}
+use Rattle.osi_dispute.specs.Disputes.{is_wide, IsJudgement, IsNarrow, IsWide}
+use Rattle.osi_dispute.specs.Laws.{DifferInLast, IsNarrowJudgement, IsWideJudgement}
+use Rattle.osi_dispute.proofs.reports_are_alike.{one_report}
 use Rattle.osi_dispute.specs.Texts.{verdict_text, verdict_status}
 use Rattle.osi_dispute.proofs.a_capture_has_one_finding.{HasOneList}
 use Rattle.osi_dispute.proofs.a_rule_tells_a_break_from_leaving.{HasOnePlace, one_rule, same_found}
@@ -219,13 +223,47 @@ one_verdict one place only c v w a b = one_determined one place only c v w a b
 
 -- ---- of a text
 
-pub one_judgement : HasOneList → HasOnePlace → HasOneFirst → (text lines others : List ℕ) (status other : ℕ)
-    → IsJudgement text lines status → IsJudgement text others other → (lines ≡ others) × (status ≡ other)
-one_judgement has place only text lines others status other one two =
+narrow_or_wide : (o : Verdict) → is_wide o ≡ false → is_wide o ≡ true → ⊥
+narrow_or_wide o n w = not_both (is_wide o) n w
+  where
+    not_both : (b : Bool) → b ≡ false → b ≡ true → ⊥
+    not_both true n w = cc
+    not_both false n w = cc
+
+both_narrow : HasOneList → HasOnePlace → HasOneFirst → (c : Capture) (lines others : List ℕ) (status other : ℕ)
+    → IsNarrow c lines status → IsNarrow c others other → (lines ≡ others) × (status ≡ other)
+both_narrow has place only c lines others status other one two =
     let v = one.judged.verdict in
     let w = two.judged.verdict in
-    let capture = one_text text one.capture two.capture one.reads two.reads in
-    let e = one_verdict has place only two.capture v w (subst (λ (x : Capture). IsDetermined x v) capture one.judged.judged.determined)
-    two.judged.judged.determined in
+    let e = one_verdict has place only c v w one.judged.judged.determined two.judged.judged.determined in
     let answered = ap (λ (x : Verdict). verdict_status x.outcome) e in
     (one.judged.told ∙ ap verdict_text e ∙ sym two.judged.told, one.judged.answered ∙ answered ∙ sym two.judged.answered)
+
+one_narrow : HasOneList → HasOnePlace → HasOneFirst → (c : Capture) (lines others : List ℕ) (status other : ℕ)
+    → IsNarrow c lines status → IsNarrow c others other ⊎ IsWide c others other → (lines ≡ others) × (status ≡ other)
+one_narrow has place only c lines others status other one (inl two) = both_narrow has place only c lines others status other one two
+one_narrow has place only c lines others status other one (inr two) =
+    let e = one_verdict has place only c one.judged.verdict two.verdict one.judged.judged.determined two.judged.determined in
+    absurd (narrow_or_wide two.verdict (subst (λ (x : Verdict). is_wide x ≡ false) e one.narrow) two.wide)
+
+pub one_judgement : HasOneList → HasOnePlace → HasOneFirst → (text lines others : List ℕ) (status other : ℕ)
+    → IsNarrowJudgement text lines status → IsJudgement text others other → (lines ≡ others) × (status ≡ other)
+one_judgement has place only text lines others status other one two =
+    let capture = one_text text one.capture two.capture one.reads two.reads in
+    one_narrow has place only two.capture lines others status other
+    (subst (λ (x : Capture). IsNarrow x lines status) capture one.judged) two.judged
+
+one_wide : HasOneList → HasOnePlace → HasOneFirst → (c : Capture) (lines others : List ℕ) (status other : ℕ)
+    → IsWide c lines status → IsNarrow c others other ⊎ IsWide c others other → DifferInLast lines others
+one_wide has place only c lines others status other one (inl two) =
+    let e = one_verdict has place only c one.verdict two.judged.verdict one.judged.determined two.judged.judged.determined in
+    absurd (narrow_or_wide two.judged.verdict two.narrow (subst (λ (x : Verdict). is_wide x ≡ true) e one.wide))
+one_wide has place only c lines others status other one (inr two) =
+    one_report (comes_to c) lines others status other one.reported two.reported
+
+pub one_report_of : HasOneList → HasOnePlace → HasOneFirst → (text lines others : List ℕ) (status other : ℕ)
+    → IsWideJudgement text lines status → IsJudgement text others other → DifferInLast lines others
+one_report_of has place only text lines others status other one two =
+    let capture = one_text text one.capture two.capture one.reads two.reads in
+    one_wide has place only two.capture lines others status other
+    (subst (λ (x : Capture). IsWide x lines status) capture one.judged) two.judged

@@ -1,10 +1,6 @@
 -- The rows of a text, one after the other: for `next_piece` and `is_left_tabbed`.
-use Rattle.std.proofs.Common.{◌≡◌, ◌∙◌, refl, sym, ap, ap₂, subst, ℕ, Bool, true, false, List, [], ◌∷◌, take, drop, length, Option, Some}
-use Rattle.std.proofs.Common.{None, option_map}
-use Rattle.std.specs.Option.{option_map_or}
-use Rattle.osi_script.specs.Scripts.{lines_of}
+use Rattle.std.proofs.Common.{◌≡◌, ◌∙◌, refl, ap, ℕ, Bool, List, [], ◌∷◌, take, drop}
 use Rattle.osi_dispute.specs.Rows.{Row, is_tabbed, digits_on, begun_on, ends_within, rows_from, left_by, left_is_tabbed}
-use Rattle.osi_dispute.specs.Reading.{lines_left}
 
 -- the row of the first line
 abbrev pub row_on : Bool → List ℕ → List ℕ → Row

@@ -1,5 +1,5 @@
 -- What is told of a side is told by what a judge keeps of it, and that is so of the capture: for the functions of `verdicts`.
-use Rattle.std.proofs.Common.{◌≡◌, ◌∙◌, refl, sym, ap, subst, ℕ, Bool, true, false, is_some, List, Option, Some, None}
+use Rattle.std.proofs.Common.{◌≡◌, ◌∙◌, refl, sym, ap, subst, ℕ, Bool, true, false, List, Option, Some, None}
 use Rattle.osi_session.specs.Standing.{seen_called}
 use Rattle.osi_judge.specs.declared.directions.Direction.{Direction}
 use Rattle.osi_judge.specs.declared.directions.Direction.TheVariants as side
@@ -24,10 +24,9 @@ use Rattle.osi_dispute.specs.declared.verdicts.Connection.{Connection}
 use Rattle.osi_dispute.specs.declared.verdicts.Connection.TheVariants.{Silent, Refused, Unanswered, Session}
 use Rattle.osi_dispute.specs.declared.verdicts.Account.{Account}
 use Rattle.osi_dispute.specs.declared.verdicts.Outcome.{Outcome}
-use Rattle.osi_dispute.specs.declared.verdicts.Verdict.{Verdict}
-use Rattle.osi_dispute.specs.Facts.{Facts, AreFacts, told_by, told_of, is_refused, is_unanswered, connection_by}
-use Rattle.osi_dispute.specs.Facts.{account_by, left_first, verdict_by}
-use Rattle.osi_dispute.specs.Facts.{IsFirstOf, IsDetermined, StandsIn, facts_of, IsStandingOf, StandsBy, IsToldOf, Connects, Accounts}
+use Rattle.osi_dispute.specs.Facts.{AreFacts, told_by, told_of, is_refused, is_unanswered, connection_by}
+use Rattle.osi_dispute.specs.Facts.{left_first}
+use Rattle.osi_dispute.specs.Facts.{IsFirstOf, IsDetermined, StandsIn, facts_of, StandsBy, IsToldOf, Connects, Accounts}
 use Rattle.osi_dispute.specs.Facts.{outcome_in}
 use Rattle.osi_dispute.specs.Verdicts.{Knows}
 

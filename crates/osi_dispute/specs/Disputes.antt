@@ -1,7 +1,13 @@
 -- What was found of a text of both sides of a capture.
-use Rattle.std.specs.Prelude.{◌≡◌, ℕ, List}
+use Rattle.std.specs.Prelude.{◌≡◌, ◌⊎◌, ◌||◌, ℕ, Bool, true, false, List, Option, Some, None}
+use Rattle.osi_judge.specs.declared.stops.Stop.{Stop}
+use Rattle.osi_judge.specs.declared.stops.Stopped.{Stopped}
+use Rattle.osi_judge.specs.declared.stops.Stop.TheVariants.{OtherClass, MoreConnections}
 use Rattle.osi_judge.specs.Captures.{Capture}
+use Rattle.osi_tap.specs.Tapping.{State, comes_to}
 use Rattle.osi_dispute.specs.declared.verdicts.Verdict.{Verdict}
+use Rattle.osi_dispute.specs.Reports.{Report, IsReport}
+use Rattle.osi_dispute.specs.ReportTexts.{report_text, last_status}
 use Rattle.osi_dispute.specs.Rows.{IsCaptureOf}
 use Rattle.osi_dispute.specs.Texts.{verdict_text, verdict_status}
 use Rattle.osi_dispute.specs.Verdicts.{IsVerdict}
@@ -13,8 +19,40 @@ pub record Judged (capture : Capture) (lines : List ℕ) (status : ℕ) : Type 0
   pub told : lines ≡ verdict_text verdict
   pub answered : status ≡ verdict_status verdict.outcome
 
--- the text is a capture, of which they report a verdict
+-- they report all connections, by what a capture comes to
+pub record Reported (s : State) (lines : List ℕ) (status : ℕ) : Type 0 where
+  pub report : Report
+  pub reported : IsReport s report
+  pub told : lines ≡ report_text report
+  pub answered : status ≡ last_status report.last
+
+-- a side is not judged any further because there is a connection of another class than 0, or more than one
+abbrev pub is_other : Stop → Bool
+is_other OtherClass = true
+is_other MoreConnections = true
+is_other stop = false
+
+abbrev pub stops_at_other : Option Stopped → Bool
+stops_at_other None = false
+stops_at_other (Some s) = is_other s.stop
+
+abbrev pub is_wide : Verdict → Bool
+is_wide v = stops_at_other v.left.stopped || stops_at_other v.right.stopped
+
+-- The capture has one connection of class 0, and they report a verdict on it.
+pub record IsNarrow (capture : Capture) (lines : List ℕ) (status : ℕ) : Type 0 where
+  pub judged : Judged capture lines status
+  pub narrow : is_wide judged.verdict ≡ false
+
+-- Or it has one of another class, or more than one, and they report all connections.
+pub record IsWide (capture : Capture) (lines : List ℕ) (status : ℕ) : Type 0 where
+  pub verdict : Verdict
+  pub judged : IsVerdict capture verdict
+  pub wide : is_wide verdict ≡ true
+  pub reported : Reported (comes_to capture) lines status
+
+-- the text is a capture, of which they report one or the other
 pub record IsJudgement (text lines : List ℕ) (status : ℕ) : Type 0 where
   pub capture : Capture
   pub reads : IsCaptureOf text capture
-  pub judged : Judged capture lines status
+  pub judged : IsNarrow capture lines status ⊎ IsWide capture lines status

@@ -4,6 +4,10 @@ pub mod Texts
 pub mod Rows
 pub mod Reading
 pub mod Facts
+pub mod Causes
+pub mod Reports
+pub mod ReportTexts
+pub mod Adding
 pub mod Verdicts
 pub mod Disputes
 pub mod Laws

@@ -1,6 +1,5 @@
 -- The lines of a judgement. Numbers are decimal, tokens hexadecimal.
-use Rattle.std.specs.Prelude.{ℕ, Bool, true, false, if◌then◌else◌, List, [], ◌∷◌, ◌++◌, codes, Option, Some, None}
-use Rattle.std.specs.Fmt.{decimal}
+use Rattle.std.specs.Prelude.{ℕ, false, if◌then◌else◌, List, [], ◌∷◌, ◌++◌, codes, Option, Some, None}
 use Rattle.hex.specs.Hex.{encode_lower}
 use Rattle.osi_judge.specs.declared.directions.Direction.{Direction}
 use Rattle.osi_judge.specs.declared.judge.Reading.{Reading}
@@ -18,7 +17,6 @@ use Rattle.osi_session.specs.declared.numbers.Numbers.{Numbers}
 use Rattle.osi_session.specs.declared.reactions.Reply.{Reply}
 use Rattle.osi_session.specs.Phases.{is_over}
 use Rattle.osi_session.specs.Standing.{Seen}
-use Rattle.osi_spdu.specs.declared.faults.SpduFault.{SpduFault}
 use Rattle.osi_dispute.specs.Names.{side_name, said_name, rule_name, reply_name, stopped_at_name, stop_name}
 
 -- a side and its own reference

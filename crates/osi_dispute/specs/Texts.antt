@@ -1,9 +1,8 @@
 -- The text of a judgement.
-use Rattle.std.specs.Prelude.{ℕ, Bool, true, false, List, [], ◌∷◌, ◌++◌, codes, Option, Some, None}
+use Rattle.std.specs.Prelude.{ℕ, Bool, true, false, List, [], ◌++◌, codes, Option, Some, None}
 use Rattle.osi_judge.specs.declared.directions.Direction.{Direction}
 use Rattle.osi_judge.specs.declared.directions.Direction.TheVariants.{Left, Right}
 use Rattle.osi_judge.specs.declared.stops.Stopped.{Stopped}
-use Rattle.osi_judge.specs.declared.stops.Stop.{Stop}
 use Rattle.osi_judge.specs.declared.rules.Break.{Break}
 use Rattle.osi_judge.specs.Stops.{is_break}
 use Rattle.osi_dispute.specs.declared.verdicts.Told.{Told}
@@ -16,7 +15,7 @@ use Rattle.osi_dispute.specs.declared.verdicts.Outcome.TheVariants.{BothKept, Fi
 use Rattle.osi_dispute.specs.declared.verdicts.Unjudged.{Unjudged}
 use Rattle.osi_dispute.specs.declared.verdicts.Verdict.{Verdict}
 use Rattle.osi_listing.specs.Lines.{number_field}
-use Rattle.osi_dispute.specs.Names.{side_name, said_name, unjudged_text}
+use Rattle.osi_dispute.specs.Names.{side_name, unjudged_text}
 use Rattle.osi_dispute.specs.Lines.{reading_line, kept_line, broke_lines, leaves_line, without_line, stopped_line, stop_text, break_text}
 use Rattle.osi_dispute.specs.Lines.{outside_text}
 

@@ -3,16 +3,20 @@
 ghost use Rattle.std.specs.Prelude.{◌≡◌, ◌++◌, ◌⊎◌, ◌<◌, Err, IfOk, OnOk, List};
 ghost use Rattle.osi_judge.specs.Captures.{Capture, piece};
 ghost use Rattle.osi_listing.specs.Capture.{IsNoCapture};
-ghost use Rattle.osi_dispute.specs.Disputes.{IsJudgement, Judged};
+ghost use Rattle.osi_tap.specs.Standing.{HoldsState};
+ghost use Rattle.osi_tap.specs.Tapping.{State, comes_to};
+ghost use Rattle.osi_dispute.specs.Disputes.{stops_at_other, is_wide, IsJudgement, IsNarrow, IsWide, Reported};
 ghost use Rattle.osi_dispute.specs.Rows.{side_of, passed_by, capture_of, rows_of};
 ghost use Rattle.osi_dispute.specs.Reading.{rows_left};
 ghost use Rattle.osi_dispute.specs.Verdicts.{Knows};
 
 use crate::pieces::{Pieces, is_left_tabbed};
+use crate::report_texts::push_report;
 use crate::texts::Judgement;
-use crate::verdicts::judgement_of;
-use osi_judge::{Direction, Judge};
+use crate::verdicts::{Verdict, judgement_by, verdict_of};
+use osi_judge::{Direction, Judge, Stop, Stopped};
 use osi_listing::{CaptureFault, octets_of};
+use osi_tap::Tap;
 use std::alloc::{AllocError, Global};
 
 /// Feeds all of a piece.
@@ -56,16 +60,87 @@ fn feed_pieces(
     Ok(())
 }
 
+/// Feeds all of a piece to a tap.
+fn tap_all(tap: &mut Tap, direction: Direction, octets: &[u8]) -> Result<(), AllocError>
+    ensures { OnOk result ((capture : Capture) → HoldsState tap.old (comes_to capture)
+        → HoldsState tap.new (comes_to (capture ++ piece direction octets.now))) }
+{
+    let mut rest = octets;
+    'rest: while !rest.is_empty() {
+        let used = tap.feed(direction, rest)?;
+        let (_, behind) = rest.split_at(used);
+        rest = behind;
+    }
+    Ok(())
+}
+
+/// Feeds pieces to a tap; `left_is_tabbed` says whether the lines of left begin with a tab.
+fn tap_pieces(tap: &mut Tap, pieces: Pieces<'_>, left_is_tabbed: bool) -> Result<(), AllocError>
+    ensures { OnOk result ((capture : Capture) → HoldsState tap.old (comes_to capture)
+        → HoldsState tap.new (comes_to (capture ++ passed_by left_is_tabbed (rows_left pieces.entry)))) }
+{
+    let mut pieces = pieces;
+    'pieces: while let Some(piece) = pieces.next_piece() {
+        let direction = direction_of(piece.is_tabbed, left_is_tabbed);
+        tap_all(tap, direction, piece.octets)?;
+    }
+    Ok(())
+}
+
+/// The report of everything that a tap was fed.
+fn judgement_by_tap(alloc: Global, tap: &mut Tap) -> Result<Judgement, AllocError>
+    ensures reported { IfOk result (λ j. (s : State) → HoldsState tap.old s → Reported s j.lines.items j.status) }
+    ensures small { IfOk result (λ j. j.status < 2) }
+{
+    tap.settle()?;
+    let mut lines = Vec::new(alloc);
+    let status = push_report(&mut lines, tap)?;
+    Ok(Judgement { lines, status })
+}
+
+/// The judgement of pieces in which there is a connection of class 2, or more than one.
+fn tapped(alloc: Global, pieces: Pieces<'_>) -> Result<Judgement, AllocError>
+    ensures reported { IfOk result (λ j. Reported (comes_to (capture_of (rows_left pieces.entry))) j.lines.items j.status) }
+    ensures small { IfOk result (λ j. j.status < 2) }
+{
+    let mut tap = Tap::new(alloc);
+    tap_pieces(&mut tap, pieces, is_left_tabbed(pieces))?;
+    judgement_by_tap(alloc, &mut tap)
+}
+
+/// Whether a side is not judged any further because there is a connection of another class than 0, or more than one.
+fn stops_at_other(stopped: Option<Stopped>) -> bool
+    ensures { result ≡ stops_at_other stopped }
+{
+    match stopped {
+        None => false,
+        Some(stopped) => matches!(stopped.stop, Stop::OtherClass | Stop::MoreConnections),
+    }
+}
+
+/// Whether that is so of one of the sides.
+fn is_wide(verdict: &Verdict) -> bool
+    ensures { result ≡ is_wide verdict.now }
+{
+    stops_at_other(verdict.left.stopped) || stops_at_other(verdict.right.stopped)
+}
+
 /// The judgement of a text that captures these octets.
 fn judge_octets(alloc: Global, text: &[u8], octets: &[u8]) -> Result<Judgement, AllocError>
-    ensures judged { IfOk result (λ j. Judged (capture_of (rows_of text.now octets.now)) j.lines.items j.status) }
+    ensures judged { IfOk result (λ j. IsNarrow (capture_of (rows_of text.now octets.now)) j.lines.items j.status
+        ⊎ IsWide (capture_of (rows_of text.now octets.now)) j.lines.items j.status) }
     ensures small { IfOk result (λ j. j.status < 2) }
 {
     let mut judge = Judge::new(alloc)?;
     let pieces = Pieces::of(text, octets);
     feed_pieces(&mut judge, pieces, is_left_tabbed(pieces))?;
-    let judgement = judgement_of(alloc, &judge)?;
-    Ok(judgement)
+    let Ok(verdict) = verdict_of(&judge) else {
+        return Err(AllocError);
+    };
+    if is_wide(&verdict) {
+        return tapped(alloc, pieces);
+    }
+    judgement_by(alloc, &verdict)
 }
 
 /// Judges the capture of both sides in a text. Returns [`CaptureFault::BadHex`] if the text has a character other than

@@ -18,23 +18,43 @@
 //! read, its [`Connection`], and where its transport was stopped), and the [`Outcome`]. [`push_verdict`] writes
 //! a verdict as lines, and [`status_of`] says which status the program ends with.
 //!
+//! That is so for one connection of class 0. If there is more than one, or one of another class, the octets are fed
+//! to a `Tap` of `osi_tap` in place of the judge. [`push_report`] asks it what it found of each connection (a [`Pair`])
+//! and of the [`Transport`] of each side, and who was first ([`Last`]), and writes all that:
+//!
+//! ```text
+//! left 1 kept 1 phase Ready held 55 next 1 below 1 lowest 1
+//! right 2 kept 1 phase Ready held 00 next 1 below 1 lowest 1
+//! left broke packet 92 CR ReferenceInUse
+//! left not judged after left packet 92 CR ReferenceInUse
+//! right not judged after left packet 92 CR ReferenceInUse
+//! left broke the protocol first, packet 92: CR ReferenceInUse
+//! ```
+//!
 //! A verdict is a function of facts of the capture (`specs/Facts`), so a capture has one verdict
-//! (`laws::a_text_has_one_judgement`). Numbers, offsets and names are those of the listing of that side
+//! (`laws::a_text_has_one_judgement`). A report says what the capture comes to (`specs/Reports`): all of it is a function
+//! of the capture but for the last line, of which it is proved that what it says is so, and not that no session broke the
+//! protocol before. Numbers, offsets and names are those of the listing of that side
 //! (`osi_listing`) and of transcripts (`osi_script`).
 //!
-//! It leaves the judgement to `osi_judge`, and standard input and output to the program.
+//! It leaves the judgement to `osi_judge` and `osi_tap`, and standard input and output to the program.
 #![tactic(auto)]
 
+mod causes;
 mod disputes;
 pub mod laws;
 mod lines;
 mod names;
 mod pieces;
+mod report_texts;
+mod reports;
 mod texts;
 mod verdicts;
 
 pub use disputes::judge_text;
 pub use pieces::{Piece, Pieces, is_left_tabbed};
+pub use report_texts::push_report;
+pub use reports::{Last, Pair, Transport};
 pub use texts::{Judgement, push_verdict, status_of};
 pub use verdicts::{
     Account, Connection, Outcome, Told, Unjudged, Verdict, judgement_of, verdict_of,

@@ -64,7 +64,7 @@ fn breach(breach: Breach) -> &'static str
     }
 }
 
-fn packet_fault(fault: TpktFault) -> &'static str
+pub(crate) fn packet_fault(fault: TpktFault) -> &'static str
     ensures { result.now ≡ fault_name fault }
 {
     match fault {
@@ -74,7 +74,7 @@ fn packet_fault(fault: TpktFault) -> &'static str
     }
 }
 
-fn unit_fault(fault: TpduFault) -> &'static str
+pub(crate) fn unit_fault(fault: TpduFault) -> &'static str
     ensures { result.now ≡ unit_fault_name fault }
 {
     match fault {

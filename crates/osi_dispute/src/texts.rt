@@ -40,7 +40,7 @@ fn push_told(
     }
 }
 
-fn push_connection(
+pub(crate) fn push_connection(
     text: &mut Vec<u8>,
     direction: Direction,
     connection: &Connection,
@@ -88,7 +88,7 @@ fn push_where(text: &mut Vec<u8>, offset: u64) -> Result<(), AllocError>
 
 /// Who did something first, and where.
 #[tactic(auto, unfolding(crate::specs::Texts::first_text))]
-fn push_first(
+pub(crate) fn push_first(
     text: &mut Vec<u8>,
     direction: Direction,
     what: &str,
@@ -101,7 +101,7 @@ fn push_first(
 }
 
 #[tactic(auto, unfolding(crate::specs::Texts::broke_first))]
-fn push_broke_first(
+pub(crate) fn push_broke_first(
     text: &mut Vec<u8>,
     direction: Direction,
     offset: u64,
@@ -115,7 +115,7 @@ fn push_broke_first(
 }
 
 #[tactic(auto, unfolding(crate::specs::Texts::left_first))]
-fn push_left_first(
+pub(crate) fn push_left_first(
     text: &mut Vec<u8>,
     direction: Direction,
     offset: u64,
@@ -159,7 +159,7 @@ fn push_whose(text: &mut Vec<u8>, direction: Direction, account: &Account) -> Re
 }
 
 #[tactic(auto, unfolding(crate::specs::Texts::unjudged_line))]
-fn push_unjudged(text: &mut Vec<u8>, why: Unjudged) -> Result<(), AllocError>
+pub(crate) fn push_unjudged(text: &mut Vec<u8>, why: Unjudged) -> Result<(), AllocError>
     ensures { OnOk result (text.new.items ≡ text.old.items ++ unjudged_line why) }
 {
     push_words(text, names::unjudged(why))?;

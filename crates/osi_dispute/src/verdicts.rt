@@ -2,6 +2,7 @@
 
 ghost use Rattle.std.specs.Prelude.{◌≡◌, ◌<◌, true, false, Some, IfOk};
 ghost use Rattle.osi_dispute.specs.Disputes.{Judged};
+ghost use Rattle.osi_dispute.specs.Texts.{verdict_text, verdict_status};
 ghost use Rattle.osi_dispute.specs.Facts.{is_refused, is_unanswered, is_first, is_left, other_left, unjudged, keeps};
 ghost use Rattle.osi_dispute.specs.Facts.{kept_outcome_of, outcome_in};
 ghost use Rattle.osi_dispute.specs.Facts.{IsToldOf, Connects, Accounts};
@@ -298,6 +299,20 @@ pub fn verdict_of(judge: &Judge) -> Result<Verdict, AllocError>
     })
 }
 
+/// The judgement that a verdict gives.
+pub(crate) fn judgement_by(alloc: Global, verdict: &Verdict) -> Result<Judgement, AllocError>
+    ensures lines { IfOk result (λ j. j.lines.items ≡ verdict_text verdict.now) }
+    ensures status { IfOk result (λ j. j.status ≡ verdict_status verdict.now.outcome) }
+    ensures small { IfOk result (λ j. j.status < 2) }
+{
+    let mut lines = Vec::new(alloc);
+    push_verdict(&mut lines, verdict)?;
+    Ok(Judgement {
+        lines,
+        status: status_of(verdict),
+    })
+}
+
 /// The judgement of everything that a judge was fed. `Err` means that memory ran out.
 pub fn judgement_of(alloc: Global, judge: &Judge) -> Result<Judgement, AllocError>
     ensures judged { IfOk result (λ j. (capture : Capture) → Knows judge.now capture → Judged capture j.lines.items j.status) }
@@ -306,10 +321,5 @@ pub fn judgement_of(alloc: Global, judge: &Judge) -> Result<Judgement, AllocErro
     let Ok(verdict) = verdict_of(judge) else {
         return Err(AllocError);
     };
-    let mut lines = Vec::new(alloc);
-    push_verdict(&mut lines, &verdict)?;
-    Ok(Judgement {
-        lines,
-        status: status_of(&verdict),
-    })
+    judgement_by(alloc, &verdict)
 }

@@ -1,16 +1,27 @@
-use Rattle.std.proofs.Common.{◌∙◌, ap, subst, Bool, List, []}
-use Rattle.osi_judge.specs.Captures.{Capture}
-use Rattle.osi_dispute.specs.Disputes.{Judged}
-use Rattle.osi_dispute.specs.Rows.{Row, passed_by, left_is_tabbed, capture_of, rows_of}
+use Rattle.std.proofs.Common.{◌∙◌, sym, refl, []}
+use Rattle.osi_dispute.specs.Rows.{capture_of, rows_of}
 use Rattle.osi_dispute.specs.Reading.{rows_left}
 use Rattle.osi_dispute.specs.Verdicts.{Knows}
+use Rattle.osi_dispute.proofs.a_capture_is_judged_in_one_of_two_ways.{fed_rows, as_narrow, as_wide}
 use Rattle.osi_dispute.proofs.disputes.judge_octets.Goals as goal
+
+pub returns-then-is_wide-clause-judged : goal.returns-then-is_wide-clause-judged
+returns-then-is_wide-clause-judged c =
+    let rows = rows_left c.of-pieces.result in
+    let begins : Knows c.in_ok-judge.judge [] = record { taps = c.in_ok-judge.ensures.taps; first = c.in_ok-judge.ensures.first } in
+    let knows = fed_rows c.feed_pieces.new.judge c.is_left_tabbed.result rows (rows_of c.args.text.now c.args.octets.now)
+    c.is_left_tabbed.ensures c.of-pieces.ensures (c.in_ok-feed_pieces.ensures [] begins) in
+    as_wide c.tapped.result (capture_of (rows_of c.args.text.now c.args.octets.now)) c.in-Ok.verdict rows
+    (rows_of c.args.text.now c.args.octets.now)
+    (c.in-Ok.ensures (capture_of (rows_of c.args.text.now c.args.octets.now)) knows)
+    (sym c.is_wide.ensures ∙ c.if-is_wide.true) c.of-pieces.ensures refl c.tapped.ensures.reported
 
 pub returns-clause-judged : goal.returns-clause-judged
 returns-clause-judged c =
-    let j = c.in_ok-judgement.judgement in
     let rows = rows_left c.of-pieces.result in
     let begins : Knows c.in_ok-judge.judge [] = record { taps = c.in_ok-judge.ensures.taps; first = c.in_ok-judge.ensures.first } in
-    let fed = c.in_ok-judgement.ensures.judged (passed_by c.is_left_tabbed.result rows) (c.in_ok-feed_pieces.ensures [] begins) in
-    let left = subst (λ (b : Bool). Judged (passed_by b rows) j.lines.items j.status) c.is_left_tabbed.ensures fed in
-    subst (λ (z : List Row). Judged (capture_of z) j.lines.items j.status) c.of-pieces.ensures left
+    let knows = fed_rows c.feed_pieces.new.judge c.is_left_tabbed.result rows (rows_of c.args.text.now c.args.octets.now)
+    c.is_left_tabbed.ensures c.of-pieces.ensures (c.in_ok-feed_pieces.ensures [] begins) in
+    as_narrow c.judgement_by.result (capture_of (rows_of c.args.text.now c.args.octets.now)) c.in-Ok.verdict
+    (c.in-Ok.ensures (capture_of (rows_of c.args.text.now c.args.octets.now)) knows)
+    (sym c.is_wide.ensures ∙ c.if-is_wide.false) c.judgement_by.ensures.lines c.judgement_by.ensures.status

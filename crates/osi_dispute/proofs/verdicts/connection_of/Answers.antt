@@ -1,4 +1,4 @@
-use Rattle.std.proofs.Common.{◌∙◌, sym, ap, subst, Bool}
+use Rattle.std.proofs.Common.{◌∙◌, sym, subst, Bool}
 use Rattle.osi_judge.specs.Captures.{other}
 use Rattle.osi_judge.specs.Following.{judged, half_of, first_in}
 use Rattle.osi_judge.specs.declared.directions.Direction.TheVariants.{Right}

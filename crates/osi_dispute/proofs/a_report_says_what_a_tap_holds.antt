@@ -1,0 +1,159 @@
+-- What is reported of connections is what a tap holds of them: for the functions of `reports`.
+use Rattle.std.proofs.Common.{◌≡◌, ◌∙◌, refl, sym, ap, subst, ℕ, ◌+◌, Bool, true, false, not, ◌&&◌, List, [], ◌∷◌, ◌++◌}
+use Rattle.std.proofs.Common.{length, Option, Some, None, IfSome, inl, inr, arith}
+use Rattle.osi_judge.specs.declared.directions.Direction.{Direction}
+use Rattle.osi_judge.specs.declared.directions.Direction.TheVariants.{Left, Right}
+use Rattle.osi_judge.specs.declared.findings.Finding.{Finding}
+use Rattle.osi_judge.specs.declared.findings.Finding.TheVariants as finding
+use Rattle.osi_judge.specs.declared.rules.Break.{Break}
+use Rattle.osi_judge.specs.declared.standings.Stands.{Stands}
+use Rattle.osi_judge.specs.Captures.{other}
+use Rattle.osi_judge.specs.Explaining.{Told as Said}
+use Rattle.osi_judge.specs.Judging.{Watched, Watches, WatchesBy, Keeps}
+use Rattle.osi_judge.specs.Onward.{StandsFor}
+use Rattle.osi_judge.specs.Stops.{broke_session}
+use Rattle.osi_judge.specs.Tapping.{begin_of}
+use Rattle.osi_tap.specs.declared.connections.Connection.{Connection as Joint}
+use Rattle.osi_tap.specs.Connections.{Joined, Sessions, spoken, reference_of, numbered}
+use Rattle.osi_tap.specs.Holding.{line_in, HoldsJoined, HoldsFound, IsHeard, IsFirst, IsPlace}
+use Rattle.osi_tap.specs.declared.marks.First.{First}
+use Rattle.osi_tap.specs.declared.marks.Layer.TheVariants.{Session, Transport}
+use Rattle.osi_tap.specs.Lines.{told}
+use Rattle.osi_tap.specs.Tapping.{State}
+use Rattle.osi_tap.proofs.what_is_kept_of_a_side_is_what_passed.{heard_at}
+use Rattle.osi_dispute.specs.declared.reports.Last.{Last}
+use Rattle.osi_dispute.specs.declared.reports.Pair.{Pair}
+use Rattle.osi_dispute.specs.declared.reports.Transport.{Transport as Carried}
+use Rattle.osi_dispute.specs.declared.verdicts.Told.{Told}
+use Rattle.osi_dispute.specs.declared.verdicts.Told.TheVariants as what
+use Rattle.osi_dispute.specs.Facts.{connection_by}
+use Rattle.osi_dispute.specs.Reports.{IsSession, SaysSo, is_opened, is_refused_in, is_dropped, Tells, IsPair, IsPairOf, ArePairs}
+use Rattle.osi_dispute.specs.Reports.{no_pair, all_keep, carried, is_clear, kept_last, IsStrayOf, IsLast}
+
+-- ---- the session of a side
+
+watches_at : (d : Direction) (c : Joint) (j : Joined) → HoldsJoined c j → Watches (line_in d c).side (told (spoken d j))
+watches_at Left c j h = h.sides.this.says
+watches_at Right c j h = h.sides.that.says
+
+begins_at : (d : Direction) (c : Joint) (j : Joined) → HoldsJoined c j → (line_in d c).side.begin ≡ begin_of d
+begins_at Left c j h = h.sides.this.begins_so
+begins_at Right c j h = h.sides.that.begins_so
+
+pub session_at : (d : Direction) (c : Joint) (j : Joined) → HoldsJoined c j → IsHeard c → IsSession d j (line_in d c).side
+session_at d c j h k = record { begins = begins_at d c j h; says = watches_at d c j h; hears = heard_at d c j h k }
+
+pub kept_says : (d : Direction) (c : Joint) (j : Joined) (v : Watched) (n : ℕ) (s : Stands) → v ≡ (line_in d c).side
+    → (line_in d c).side.finding ≡ finding.Kept
+    → ((said : List Said) → Watches v said → v.finding ≡ finding.Kept → n ≡ length said)
+    → ((said : List Said) → Keeps v said → StandsFor v said s)
+    → HoldsJoined c j → SaysSo d j (line_in d c).side (what.Kept n s)
+kept_says d c j v n s e k counts stands h =
+    let w = (line_in d c).side in
+    let said = told (spoken d j) in
+    let says = watches_at d c j h in
+    let counted : (said : List Said) → Watches w said → w.finding ≡ finding.Kept → n ≡ length said =
+    subst (λ (x : Watched). (said : List Said) → Watches x said → x.finding ≡ finding.Kept → n ≡ length said) e counts in
+    let standing : (said : List Said) → Keeps w said → StandsFor w said s =
+    subst (λ (x : Watched). (said : List Said) → Keeps x said → StandsFor x said s) e stands in
+    (k, counted said says k, standing said (subst (λ (f : Finding). WatchesBy f w said) k says))
+
+pub broke_says : (d : Direction) (c : Joint) (j : Joined) (i o : ℕ) (b : Break) → (line_in d c).side.finding ≡ finding.Broke i
+    → IsPlace (line_in d c).side.finding (spoken d j).said o → b ≡ (line_in d c).side.by
+    → SaysSo d j (line_in d c).side (what.Broke o b)
+broke_says d c j i o b k place e =
+    (i, k, record { place = subst (λ (f : Finding). IsPlace f (spoken d j).said o) k place; rule = e })
+
+pub left_says : (d : Direction) (c : Joint) (j : Joined) (i o : ℕ) (b : Break) → (line_in d c).side.finding ≡ finding.Left i
+    → IsPlace (line_in d c).side.finding (spoken d j).said o → b ≡ (line_in d c).side.by
+    → SaysSo d j (line_in d c).side (what.Left o b)
+left_says d c j i o b k place e =
+    (i, k, record { place = subst (λ (f : Finding). IsPlace f (spoken d j).said o) k place; rule = e })
+
+-- ---- the connection of a side
+
+pub tells_as : (d : Direction) (j : Joined) (own other : Watched) (t : Told) (r : Option ℕ) (dropped blamed refused opened : Bool)
+    → SaysSo d j own t → is_dropped own.finding other.finding ≡ dropped → reference_of d j ≡ r → broke_session own.finding ≡ blamed
+    → is_refused_in j ≡ refused → is_opened j ≡ opened
+    → Tells d j own other (connection_by dropped r blamed refused (not opened) t)
+tells_as d j own other t r dropped blamed refused opened h e g b f o = record {
+  session = t;
+  says = h;
+  is = λ i. connection_by (sym e i) (sym g i) (sym b i) (sym f i) (not (sym o i)) t;
+}
+
+-- ---- one connection after the other
+
+one_on : (ss : Sessions) (n m : ℕ) (p : Pair) → n ≡ m → IsPairOf (numbered n ss) p → IsPairOf (numbered m ss) p
+one_on ss n m p e h = subst (λ (z : ℕ). IsPairOf (numbered z ss) p) e h
+
+pub more_pairs : (ss : Sessions) (n : ℕ) (ps : List Pair) (p : Pair) → ArePairs ss n ps → IsPairOf (numbered (n + length ps) ss) p
+    → ArePairs ss n (ps ++ p ∷ [])
+more_pairs ss n [] p h k = (one_on ss (n + 0) n p (omega arith) k, tt)
+more_pairs ss n (q ∷ ps) p h k =
+    (h.0, more_pairs ss (n + 1) ps p h.1 (one_on ss (n + length (q ∷ ps)) (n + 1 + length ps) p (omega arith) k))
+
+-- ---- what is found of a number
+
+-- the connection that has it
+pub joined_at : (o : Option Joined) (c : Joint) → HoldsFound (Some c) o → (j : Joined) × (o ≡ Some j) × HoldsJoined c j
+joined_at None c h = absurd h
+joined_at (Some j) c h = (j, refl, h)
+
+pub pair_held : (o : Option Joined) (c : Joint) (p : Pair) → HoldsFound (Some c) o → ((j : Joined) → HoldsJoined c j → IsPair j p)
+    → IsPairOf o p
+pair_held None c p h k = absurd h
+pair_held (Some j) c p h k = k j h
+
+pub pair_missing : (o : Option Joined) (p : Pair) → HoldsFound None o → p ≡ no_pair → IsPairOf o p
+pair_missing None p h k = k
+pair_missing (Some j) p h k = absurd h
+
+-- ---- the last line
+
+-- the break that is told as the first is of transport, and no transport broke a rule before
+pub transport_first : (told : First) (o : Option First) → told.layer ≡ Transport → IsFirst (Some told) o
+    → (f : First) × (o ≡ Some f) × (f.direction ≡ told.direction)
+transport_first told None e h = absurd (layers (sym e ∙ h))
+  where
+    layers : Transport ≡ Session → ⊥
+    layers e = cc
+transport_first told (Some f) e (inl h) = (f, refl, ap (λ (x : First). x.direction) (sym h))
+transport_first told (Some f) e (inr h) = absurd (layers (sym e ∙ h))
+  where
+    layers : Transport ≡ Session → ⊥
+    layers e = cc
+
+kept_by : (s : State) (ps : List Pair) (l r all : Bool) → is_clear (carried Left s) ≡ l → is_clear (carried Right s) ≡ r → all_keep ps ≡ all
+    → IsLast s ps (kept_last (l && r) all)
+kept_by s ps true true true l r a = record { sessions = a; left = l; right = r }
+kept_by s ps true false true l r a = (a, λ i. l i && r i)
+kept_by s ps false r true l e a = (a, λ i. l i && e i)
+kept_by s ps l r false e f a = a
+
+pub kept_is : (s : State) (ps : List Pair) (left right : Carried) (all : Bool) (last : Last) → left ≡ carried Left s
+    → right ≡ carried Right s
+    → all ≡ all_keep ps → last ≡ kept_last (is_clear left && is_clear right) all → IsLast s ps last
+kept_is s ps left right all last l r a e =
+    subst (λ (x : Last). IsLast s ps x) (sym e)
+    (kept_by s ps (is_clear left) (is_clear right) all (ap is_clear (sym l)) (ap is_clear (sym r)) (sym a))
+
+-- a session that strayed
+pub stray_held : (s : State) (d : Direction) (c : Joint) (t : Told) (number : ℕ) (j : Joined) → numbered number s.course.sessions ≡ Some j
+    → HoldsJoined c j → IsHeard c → SaysSo d j (line_in d c).side t → IsStrayOf s d t
+stray_held s d c t number j n h k says = record {
+  number = number;
+  connection = j;
+  session = (line_in d c).side;
+  numbered_so = n;
+  is_session = session_at d c j h k;
+  says = says;
+}
+
+-- whether nothing is told of a side
+pub dropped_as : (own beside f g : Finding) (r x : Bool) → own ≡ f → beside ≡ g → r ≡ is_dropped own beside → r ≡ x → is_dropped f g ≡ x
+dropped_as own beside f g r x a b e h = (λ i. is_dropped (sym a i) (sym b i)) ∙ sym e ∙ h
+
+pub if_some : {T : Type 0} {P Q : T → Type 0} (o : Option T) → IfSome o P → ((x : T) → P x → Q x) → IfSome o Q
+if_some None h f = tt
+if_some (Some x) h f = f x h

@@ -1,0 +1,186 @@
+-- Of a session one thing is found, and by one rule, from what it said and heard: for the law on reports.
+use Rattle.std.proofs.Common.{◌≡◌, ◌∙◌, ◌⊎◌, inl, inr, refl, sym, ap, subst, ℕ, ◌+◌, ◌<◌, ◌≤◌, true, false, List}
+use Rattle.std.proofs.Common.{length, take, get_or, arith}
+use Rattle.osi_session.specs.Standing.{Seen}
+use Rattle.osi_judge.specs.declared.directions.Direction.{Direction}
+use Rattle.osi_judge.specs.declared.findings.Finding.{Finding}
+use Rattle.osi_judge.specs.declared.findings.Finding.TheVariants.{Kept, Broke, Left, TooMany}
+use Rattle.osi_judge.specs.declared.members.Member.{Member}
+use Rattle.osi_judge.specs.declared.rules.Break.{Break}
+use Rattle.osi_judge.specs.Breaking.{BreaksAt}
+use Rattle.osi_judge.specs.Explaining.{Told, IsExplained}
+use Rattle.osi_judge.specs.Judging.{Watched, Watches, WatchesBy, IsKept, IsFew, HasRoom, IsFound}
+use Rattle.osi_judge.specs.Kept.{kept}
+use Rattle.osi_judge.specs.Profiles.{leaves, selects_outside}
+use Rattle.osi_judge.specs.Stops.{broke_session}
+use Rattle.osi_judge.specs.Tapping.{begin_of}
+use Rattle.osi_judge.proofs.told.a_side_strays_at_one_place.{Strays, never_strays, no_crowd}
+use Rattle.osi_judge.proofs.told.what_is_known_of_a_side.{room_as, found_as}
+use Rattle.osi_dispute.proofs.a_capture_has_one_finding.{take_less, compare}
+use Rattle.osi_dispute.proofs.a_rule_tells_a_break_from_leaving.{one_element, break_same, Leaves, left_same, left_broken}
+
+-- ---- what is known of a session
+
+abbrev Unexplained : Seen → List (List ℕ) → List Told → ℕ → Type 0
+Unexplained begin us said i = IsExplained begin us (take (i + 1) said) → ⊥
+
+-- the TSDU at which it strayed, and the sessions that explain what it said before
+pub record StraysAt (begin : Seen) (us : List (List ℕ)) (said : List Told) (i : ℕ) (members : List Member) (x : Told) : Type 0 where
+  pub strays : Strays begin us said i
+  pub there : i < length said
+  pub few : IsFew begin us (take i said)
+  pub is : x ≡ get_or said i x
+  pub kept_so : members ≡ kept begin us (take i said)
+
+-- and how it strayed
+abbrev Breaks : Seen → List (List ℕ) → List Told → ℕ → List Member → Break → Told → Type 0
+Breaks begin us said i members by x =
+    BreaksAt us x.octets x.before members by × (leaves x.octets by ≡ false) × Unexplained begin us said i
+
+abbrev KnownBy : Finding → Direction → List (List ℕ) → List Told → List Member → Break → Type 0
+KnownBy Kept d us said members by = IsKept (begin_of d) us said × IsFew (begin_of d) us said × (members ≡ kept (begin_of d) us said)
+KnownBy (Broke i) d us said members by =
+    (x : Told) × StraysAt (begin_of d) us said i members x × Breaks (begin_of d) us said i members by x
+KnownBy (Left i) d us said members by =
+    (x : Told) × StraysAt (begin_of d) us said i members x × ((at : List Member) × Leaves d us said i x members at by)
+KnownBy TooMany d us said members by = HasRoom (begin_of d) us said TooMany
+
+known_by : (f : Finding) (d : Direction) (w : Watched) (said : List Told) → w.begin ≡ begin_of d → WatchesBy f w said
+    → IsFound (begin_of d) w.heard said f → HasRoom (begin_of d) w.heard said f → KnownBy f d w.heard said w.members w.by
+known_by Kept d w said e k f r =
+    (f, r, subst (λ (z : Seen). w.members ≡ kept z w.heard said) e (k.kept w.heard (λ i l. refl)))
+known_by (Broke i) d w said e (b, (x, s, h, l)) f r = (
+  x,
+  record {
+    strays = record { so_far = (f.0.so_far, f.1); astray = inl f.0.broke };
+    there = f.0.there;
+    few = r;
+    is = s.is;
+    kept_so = subst (λ (z : Seen). w.members ≡ kept z w.heard (take i said)) e (s.kept w.heard (λ i l. refl));
+  },
+  (h, l, f.0.broke),
+)
+known_by (Left i) d w said e (b, (x, s, inl (h, l, u))) f r = (
+  x,
+  record {
+    strays = record { so_far = f.1; astray = f.2 };
+    there = f.0;
+    few = r;
+    is = s.is;
+    kept_so = subst (λ (z : Seen). w.members ≡ kept z w.heard (take i said)) e (s.kept w.heard (λ i l. refl));
+  },
+  (h.0, inl (h.1, l, subst (λ (z : Seen). Unexplained z w.heard said i) e (u.1 w.heard (λ i l. refl)).1)),
+)
+known_by (Left i) d w said e (b, (x, s, inr (h, u))) f r = (
+  x,
+  record {
+    strays = record { so_far = f.1; astray = f.2 };
+    there = f.0;
+    few = r;
+    is = s.is;
+    kept_so = subst (λ (z : Seen). w.members ≡ kept z w.heard (take i said)) e (s.kept w.heard (λ i l. refl));
+  },
+  (w.members, inr (h, subst (λ (z : Seen). IsExplained z w.heard (take (i + 1) said)) e (u w.heard (λ i l. refl)))),
+)
+known_by TooMany d w said e k f r = r
+
+known : (d : Direction) (w : Watched) (said : List Told) → w.begin ≡ begin_of d → Watches w said
+    → KnownBy w.finding d w.heard said w.members w.by
+known d w said e k =
+    known_by w.finding d w said e k (subst (λ (z : Seen). IsFound z w.heard said w.finding) e (found_as w said k))
+    (subst (λ (z : Seen). HasRoom z w.heard said w.finding) e (room_as w said k))
+
+-- ---- one place
+
+not_later : (begin : Seen) (us : List (List ℕ)) (said : List Told) (i j : ℕ) → Strays begin us said i → Strays begin us said j → i < j → ⊥
+not_later begin us said i j b c l =
+    never_strays begin us (take j said) i c.so_far (record {
+      so_far = subst (λ (z : List Told). IsKept begin us z) (sym (take_less said i j (omega (arith, l)))) b.so_far;
+      astray = subst (λ (z : List Told). (IsExplained begin us z → ⊥) ⊎ (selects_outside us z ≡ true))
+          (sym (take_less said (i + 1) j (omega (arith, l)))) b.astray;
+    })
+
+one_place : (begin : Seen) (us : List (List ℕ)) (said : List Told) (i j : ℕ) → Strays begin us said i → Strays begin us said j → i ≡ j
+one_place begin us said i j b c = elim (compare i j) [
+  | inl l ↦ absurd (not_later begin us said i j b c l)
+  | inr k ↦ elim k [ inl l ↦ absurd (not_later begin us said j i c b l) | inr e ↦ e ]
+]
+
+too_many : (n : ℕ) → 4096 < n → n ≤ 4096 → ⊥
+too_many n h k = omega arith
+
+-- ---- one finding
+
+pub record IsOne (f g : Finding) (m n : List Member) (b e : Break) : Type 0 where
+  pub found : f ≡ g
+  pub rule : broke_session f ≡ true → b ≡ e
+  pub sessions : f ≡ Kept → m ≡ n
+
+both_broke : (d : Direction) (us : List (List ℕ)) (said : List Told) (i : ℕ) (m n : List Member) (b e : Break)
+    → KnownBy (Broke i) d us said m b → KnownBy (Broke i) d us said n e → b ≡ e
+both_broke d us said i m n b e (x, s, (h, l, u)) (y, t, (k, m2, v)) =
+    break_same us us x y m n h.0 k.0 b e refl (one_element said i x y s.there s.is t.is) (s.kept_so ∙ sym t.kept_so) h.1 k.1
+
+both_left : (d : Direction) (us : List (List ℕ)) (said : List Told) (i : ℕ) (m n : List Member) (b e : Break)
+    → KnownBy (Left i) d us said m b → KnownBy (Left i) d us said n e → b ≡ e
+both_left d us said i m n b e (x, s, h) (y, t, k) =
+    left_same d us us said said i x y m n h.0 k.0 b e refl refl (one_element said i x y s.there s.is t.is) (s.kept_so ∙ sym t.kept_so)
+    h.1 k.1
+
+broke_or_left : (d : Direction) (us : List (List ℕ)) (said : List Told) (i : ℕ) (m n : List Member) (b e : Break)
+    → KnownBy (Broke i) d us said m b → KnownBy (Left i) d us said n e → ⊥
+broke_or_left d us said i m n b e (x, s, (h, l, u)) (y, t, k) =
+    left_broken d us us said said i x y m n h.0 k.0 b e refl refl (one_element said i x y s.there s.is t.is) (s.kept_so ∙ sym t.kept_so)
+    h.1 l u k.1
+
+broke_at : (d : Direction) (us : List (List ℕ)) (said : List Told) (i j : ℕ) (m : List Member) (b : Break) → j ≡ i
+    → KnownBy (Broke j) d us said m b → KnownBy (Broke i) d us said m b
+broke_at d us said i j m b e h = subst (λ (z : ℕ). KnownBy (Broke z) d us said m b) e h
+
+left_at : (d : Direction) (us : List (List ℕ)) (said : List Told) (i j : ℕ) (m : List Member) (b : Break) → j ≡ i
+    → KnownBy (Left j) d us said m b → KnownBy (Left i) d us said m b
+left_at d us said i j m b e h = subst (λ (z : ℕ). KnownBy (Left z) d us said m b) e h
+
+one_known : (d : Direction) (us : List (List ℕ)) (said : List Told) (f g : Finding) (m n : List Member) (b e : Break)
+    → KnownBy f d us said m b → KnownBy g d us said n e → IsOne f g m n b e
+one_known d us said Kept Kept m n b e h k = record { found = refl; rule = λ t. cc; sessions = λ t. h.2 ∙ sym k.2 }
+one_known d us said Kept (Broke j) m n b e h k = absurd (never_strays (begin_of d) us said j h.0 k.1.strays)
+one_known d us said Kept (Left j) m n b e h k = absurd (never_strays (begin_of d) us said j h.0 k.1.strays)
+one_known d us said Kept TooMany m n b e h (i, l, y, c) =
+    absurd (too_many (length (kept (begin_of d) us (take (i + 1) said))) c.1 (h.1 (i + 1)))
+one_known d us said (Broke i) Kept m n b e h k = absurd (never_strays (begin_of d) us said i k.0 h.1.strays)
+one_known d us said (Broke i) (Broke j) m n b e h k =
+    let same = one_place (begin_of d) us said i j h.1.strays k.1.strays in
+    record {
+      found = ap Broke same;
+      rule = λ t. both_broke d us said i m n b e h (broke_at d us said i j n e (sym same) k);
+      sessions = λ t. cc;
+    }
+one_known d us said (Broke i) (Left j) m n b e h k =
+    let same = one_place (begin_of d) us said i j h.1.strays k.1.strays in
+    absurd (broke_or_left d us said i m n b e h (left_at d us said i j n e (sym same) k))
+one_known d us said (Broke i) TooMany m n b e h k = absurd (no_crowd (begin_of d) us said i h.1.strays h.1.few k)
+one_known d us said (Left i) Kept m n b e h k = absurd (never_strays (begin_of d) us said i k.0 h.1.strays)
+one_known d us said (Left i) (Broke j) m n b e h k =
+    let same = one_place (begin_of d) us said i j h.1.strays k.1.strays in
+    absurd (broke_or_left d us said j n m e b k (left_at d us said j i m b same h))
+one_known d us said (Left i) (Left j) m n b e h k =
+    let same = one_place (begin_of d) us said i j h.1.strays k.1.strays in
+    record {
+      found = ap Left same;
+      rule = λ t. both_left d us said i m n b e h (left_at d us said i j n e (sym same) k);
+      sessions = λ t. cc;
+    }
+one_known d us said (Left i) TooMany m n b e h k = absurd (no_crowd (begin_of d) us said i h.1.strays h.1.few k)
+one_known d us said TooMany Kept m n b e (i, l, y, c) k =
+    absurd (too_many (length (kept (begin_of d) us (take (i + 1) said))) c.1 (k.1 (i + 1)))
+one_known d us said TooMany (Broke j) m n b e h k = absurd (no_crowd (begin_of d) us said j k.1.strays k.1.few h)
+one_known d us said TooMany (Left j) m n b e h k = absurd (no_crowd (begin_of d) us said j k.1.strays k.1.few h)
+one_known d us said TooMany TooMany m n b e h k = record { found = refl; rule = λ t. cc; sessions = λ t. cc }
+
+-- two sessions that said and heard the same
+pub one_session : (d : Direction) (w v : Watched) (said : List Told) → w.begin ≡ begin_of d → v.begin ≡ begin_of d → w.heard ≡ v.heard
+    → Watches w said → Watches v said → IsOne w.finding v.finding w.members v.members w.by v.by
+one_session d w v said a b e h k =
+    one_known d v.heard said w.finding v.finding w.members v.members w.by v.by
+    (subst (λ (us : List (List ℕ)). KnownBy w.finding d us said w.members w.by) e (known d w said a h)) (known d v said b k)

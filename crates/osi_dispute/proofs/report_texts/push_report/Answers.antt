@@ -1,0 +1,11 @@
+use Rattle.osi_dispute.proofs.a_report_is_added_part_by_part.{report_added}
+use Rattle.osi_dispute.proofs.report_texts.push_report.Goals as goal
+
+pub returns-clause-told : goal.returns-clause-told
+returns-clause-told c = λ s h k.
+    report_added s c.transport_of-left.result c.transport_of-right.result c.last_of-last.result c.args.text.now.items
+    c.push_read.new.text.items c.push_pairs.new.text.items c.push_transport.new.text.items c.push_last.new.text.items
+    c.in_ok-keeps.keeps c.last_status.result (c.transport_of-left.ensures s h k) (c.transport_of-right.ensures s h k)
+    c.in_ok-push_read.ensures (c.in_ok-keeps.ensures s h k) c.in_ok-push_transport.ensures
+    (λ ps e. c.last_of-last.ensures s ps h k (c.transport_of-left.ensures s h k) (c.transport_of-right.ensures s h k) e)
+    c.in_ok-push_last.ensures c.last_status.ensures.value

@@ -1,0 +1,30 @@
+-- What is added to a text as a report is written.
+use Rattle.std.specs.Prelude.{◌≡◌, ℕ, Bool, List, ◌++◌, length, Option}
+use Rattle.std.specs.List.{flat_map}
+use Rattle.osi_tap.specs.Connections.{Joined, Sessions}
+use Rattle.osi_tap.specs.Tapping.{State}
+use Rattle.osi_dispute.specs.declared.reports.Pair.{Pair}
+use Rattle.osi_dispute.specs.Reports.{Report, IsReport, IsPairOf, ArePairs, all_keep}
+use Rattle.osi_dispute.specs.ReportTexts.{pair_lines, report_text, last_status}
+
+-- the lines of one connection, of which both sides kept the protocol or not
+pub record AddsPair (o : Option Joined) (old new : List ℕ) (keeps : Bool) : Type 0 where
+  pub pair : Pair
+  pub is_pair : IsPairOf o pair
+  pub added : new ≡ old ++ pair_lines pair
+  pub kept : keeps ≡ pair.keeps
+
+-- those of the first so many connections
+pub record AddsPairs (s : Sessions) (count : ℕ) (old new : List ℕ) (keeps : Bool) : Type 0 where
+  pub pairs : List Pair
+  pub as_many : length pairs ≡ count
+  pub each : ArePairs s 0 pairs
+  pub added : new ≡ old ++ flat_map pair_lines pairs
+  pub kept : keeps ≡ all_keep pairs
+
+-- a report, and its status
+pub record AddsReport (s : State) (old new : List ℕ) (status : ℕ) : Type 0 where
+  pub report : Report
+  pub reported : IsReport s report
+  pub added : new ≡ old ++ report_text report
+  pub answered : status ≡ last_status report.last

@@ -1,0 +1,99 @@
+-- The text of a report on all connections of a byte connection.
+use Rattle.std.specs.Prelude.{ℕ, Bool, true, false, List, [], ◌++◌, codes, Option, Some, None}
+use Rattle.std.specs.List.{flat_map}
+use Rattle.osi_judge.specs.declared.directions.Direction.{Direction}
+use Rattle.osi_judge.specs.declared.directions.Direction.TheVariants as side
+use Rattle.osi_tap.specs.declared.marks.Cause.{Cause}
+use Rattle.osi_tap.specs.declared.marks.Cause.TheVariants.{Outside}
+use Rattle.osi_tap.specs.declared.marks.Mark.{Mark}
+use Rattle.osi_listing.specs.Lines.{number_field}
+use Rattle.osi_dispute.specs.declared.reports.Pair.{Pair}
+use Rattle.osi_dispute.specs.declared.reports.Transport.{Transport as Carried}
+use Rattle.osi_dispute.specs.declared.reports.Last.{Last}
+use Rattle.osi_dispute.specs.declared.reports.Last.TheVariants.{BothKept, Broke, Left, Transport, TooManySessions, TooManyConnections}
+use Rattle.osi_dispute.specs.Reports.{Report}
+use Rattle.osi_dispute.specs.declared.verdicts.Unjudged.TheVariants.{TooMany}
+use Rattle.osi_dispute.specs.Names.{side_name}
+use Rattle.osi_dispute.specs.Causes.{marked_at_name, cause_name}
+use Rattle.osi_dispute.specs.Lines.{reading_line}
+use Rattle.osi_dispute.specs.Texts.{connection_lines, first_text, broke_first, left_first, unjudged_line}
+
+-- ---- transport
+
+-- what a mark is at, and what was found there
+unfoldable pub mark_text : Mark → List ℕ
+mark_text m = marked_at_name m ++ codes " " ++ cause_name m.cause
+
+-- the side left the profile
+abbrev pub is_outside : Cause → Bool
+is_outside Outside = true
+is_outside cause = false
+
+abbrev pub mark_verb : (is_outside : Bool) → List ℕ
+mark_verb true = codes " leaves packet "
+mark_verb false = codes " broke packet "
+
+-- the transport of a side that broke a rule, or left the profile
+unfoldable pub mark_line : Direction → Mark → List ℕ
+mark_line d m = side_name d ++ number_field (mark_verb (is_outside m.cause)) m.offset ++ codes " " ++ mark_text m ++ codes "\n"
+
+abbrev pub mark_lines : Direction → Option Mark → List ℕ
+mark_lines d None = []
+mark_lines d (Some m) = mark_line d m
+
+-- a side of which nothing more is judged, and the packet after which that is so
+unfoldable pub halt_line : Direction → Mark → List ℕ
+halt_line d m =
+    side_name d ++ codes " not judged after " ++ side_name m.direction ++ number_field (codes " packet ") m.offset ++ codes " "
+    ++ mark_text m ++ codes "\n"
+
+abbrev pub halt_lines : Direction → Option Mark → List ℕ
+halt_lines d None = []
+halt_lines d (Some m) = halt_line d m
+
+-- of both sides
+unfoldable pub transport_lines : (left right : Carried) → List ℕ
+transport_lines left right =
+    mark_lines side.Left left.broke ++ mark_lines side.Right right.broke ++ halt_lines side.Left left.halted
+    ++ halt_lines side.Right right.halted
+
+-- ---- connections
+
+-- both sides of one
+abbrev pub pair_lines : Pair → List ℕ
+pair_lines p = connection_lines side.Left p.left ++ connection_lines side.Right p.right
+
+-- ---- the last line
+
+abbrev pub first_verb : (is_outside : Bool) → List ℕ
+first_verb true = codes " leaves the profile"
+first_verb false = codes " broke the protocol"
+
+unfoldable pub mark_first : Direction → Mark → List ℕ
+mark_first d m = first_text d (first_verb (is_outside m.cause)) m.offset ++ mark_text m ++ codes "\n"
+
+abbrev pub last_line : Last → List ℕ
+last_line BothKept = codes "both kept the protocol\n"
+last_line (Broke d offset by) = broke_first d offset by
+last_line (Left d offset by) = left_first d offset by
+last_line (Transport d m) = mark_first d m
+last_line TooManySessions = unjudged_line TooMany
+last_line TooManyConnections = codes "not judged: there are more than 128 connections at once\n"
+
+-- ---- the report
+
+-- what was read of both sides
+unfoldable pub read_lines : (left right : Carried) → List ℕ
+read_lines left right = reading_line side.Left left.reading ++ reading_line side.Right right.reading
+
+-- what was read, and what is reported of each connection and of transport
+unfoldable pub report_front : Report → List ℕ
+report_front r = read_lines r.left r.right ++ flat_map pair_lines r.pairs ++ transport_lines r.left r.right
+
+-- and who was first
+unfoldable pub report_text : Report → List ℕ
+report_text r = report_front r ++ last_line r.last
+
+abbrev pub last_status : Last → ℕ
+last_status BothKept = 0
+last_status last = 1

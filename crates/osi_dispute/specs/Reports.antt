@@ -1,0 +1,167 @@
+-- What a report says of a byte connection, by what a capture of it comes to.
+use Rattle.std.specs.Prelude.{◌≡◌, ℕ, ◌+◌, Bool, true, false, not, ◌&&◌, is_some, List, [], ◌∷◌, length, Option, Some, None}
+use Rattle.std.specs.List.{list_all}
+use Rattle.osi_tpkt.specs.Stream.{offset_of}
+use Rattle.osi_judge.specs.declared.directions.Direction.{Direction}
+use Rattle.osi_judge.specs.declared.directions.Direction.TheVariants as side
+use Rattle.osi_judge.specs.declared.findings.Finding.{Finding}
+use Rattle.osi_judge.specs.declared.findings.Finding.TheVariants as finding
+use Rattle.osi_judge.specs.declared.rules.Break.{Break}
+use Rattle.osi_judge.specs.Captures.{other}
+use Rattle.osi_judge.specs.Judging.{Watched, Watches}
+use Rattle.osi_judge.specs.Onward.{StandsFor}
+use Rattle.osi_judge.specs.Outlines.{outlines}
+use Rattle.osi_judge.specs.Stops.{broke_session}
+use Rattle.osi_judge.specs.Tapping.{begin_of}
+use Rattle.osi_tap.specs.declared.marks.First.{First}
+use Rattle.osi_tap.specs.declared.marks.Mark.{Mark}
+use Rattle.osi_tap.specs.Connections.{Joined, Sessions, spoken, reference_of, numbered, count}
+use Rattle.osi_tap.specs.Courses.{marks_of}
+use Rattle.osi_tap.specs.Lines.{told, heard, place_in}
+use Rattle.osi_tap.specs.Streams.{reading_of}
+use Rattle.osi_tap.specs.Tapping.{State, stream_of}
+use Rattle.osi_dispute.specs.declared.reports.Pair.{Pair}
+use Rattle.osi_dispute.specs.declared.reports.Transport.{Transport as Carried}
+use Rattle.osi_dispute.specs.declared.reports.Last.{Last}
+use Rattle.osi_dispute.specs.declared.reports.Last.TheVariants.{BothKept, Broke, Left, Transport, TooManySessions, TooManyConnections}
+use Rattle.osi_dispute.specs.declared.verdicts.Told.{Told}
+use Rattle.osi_dispute.specs.declared.verdicts.Told.TheVariants as told
+use Rattle.osi_dispute.specs.declared.verdicts.Connection.{Connection}
+use Rattle.osi_dispute.specs.declared.verdicts.Connection.TheVariants.{Silent}
+use Rattle.osi_dispute.specs.Facts.{is_kept, is_left, connection_by}
+
+-- ---- one connection
+
+-- what `osi_judge` knows of the session of a side, which was told all that this side said and heard all that the other said
+pub record IsSession (d : Direction) (j : Joined) (w : Watched) : Type 0 where
+  pub begins : w.begin ≡ begin_of d
+  pub says : Watches w (told (spoken d j))
+  pub hears : w.heard ≡ outlines (heard (spoken (other d) j))
+
+-- the TSDU that has this place ended in the packet at this offset, and the session strayed by this rule
+pub record Strayed (d : Direction) (j : Joined) (w : Watched) (i offset : ℕ) (by : Break) : Type 0 where
+  pub place : place_in (spoken d j).said i ≡ Some offset
+  pub rule : by ≡ w.by
+
+-- this is told of it: how it stands that kept the protocol, or at which packet and by which rule it broke it or left the profile
+abbrev pub SaysSo : Direction → Joined → Watched → Told → Type 0
+SaysSo d j w (told.Kept tsdus stands) = (w.finding ≡ finding.Kept) × (tsdus ≡ length (told (spoken d j)))
+    × StandsFor w (told (spoken d j)) stands
+SaysSo d j w (told.Broke offset by) = (i : ℕ) × (w.finding ≡ finding.Broke i) × Strayed d j w i offset by
+SaysSo d j w (told.Left offset by) = (i : ℕ) × (w.finding ≡ finding.Left i) × Strayed d j w i offset by
+SaysSo d j w told.TooMany = w.finding ≡ finding.TooMany
+
+-- a CC opened the connection, or it was refused
+abbrev pub is_opened : Joined → Bool
+is_opened j = is_some j.class
+
+abbrev pub is_refused_in : Joined → Bool
+is_refused_in j = j.closed && not (is_opened j)
+
+-- nothing is told of a side if the other side left the profile, and this side did not
+abbrev pub is_dropped : (own other : Finding) → Bool
+is_dropped own other = is_left other && not (is_left own)
+
+-- this is told of the connection of a side
+pub record Tells (d : Direction) (j : Joined) (own other : Watched) (c : Connection) : Type 0 where
+  pub session : Told
+  pub says : SaysSo d j own session
+  pub is : c ≡ connection_by (is_dropped own.finding other.finding) (reference_of d j) (broke_session own.finding) (is_refused_in j)
+      (not (is_opened j)) session
+
+-- this is reported of a connection: of both sides, and whether both kept the protocol
+pub record IsPair (j : Joined) (p : Pair) : Type 0 where
+  pub left : Watched
+  pub right : Watched
+  pub of_left : IsSession side.Left j left
+  pub of_right : IsSession side.Right j right
+  pub tells_left : Tells side.Left j left right p.left
+  pub tells_right : Tells side.Right j right left p.right
+  pub keeps : p.keeps ≡ (is_kept left.finding && is_kept right.finding)
+
+-- ---- all connections
+
+-- of a number that no connection has
+abbrev pub no_pair : Pair
+no_pair = record { left = Silent; right = Silent; keeps = true }
+
+abbrev pub IsPairOf : Option Joined → Pair → Type 0
+IsPairOf None p = p ≡ no_pair
+IsPairOf (Some j) p = IsPair j p
+
+-- of the connections from this number on
+abbrev pub ArePairs : Sessions → (number : ℕ) → List Pair → Type 0
+ArePairs s number [] = Unit {0}
+ArePairs s number (p ∷ ps) = IsPairOf (numbered number s) p × ArePairs s (number + 1) ps
+
+-- of all, in the order of their CRs
+pub record ArePairsOf (s : Sessions) (ps : List Pair) : Type 0 where
+  pub count : length ps ≡ offset_of (count s)
+  pub each : ArePairs s 0 ps
+
+abbrev pub all_keep : List Pair → Bool
+all_keep ps = list_all (λ (p : Pair). p.keeps) ps
+
+-- ---- transport
+
+-- what is reported of the transport of a side: what was read, its first break, and where nothing more of it is judged
+abbrev pub carried : Direction → State → Carried
+carried d s = record { reading = reading_of (stream_of d s); broke = (marks_of d s.course).broke; halted = (marks_of d s.course).halted }
+
+-- ---- the last line
+
+-- the transport of a side broke no rule, and all of it was judged
+abbrev pub is_clear : Carried → Bool
+is_clear t = not (is_some t.broke) && not (is_some t.halted)
+
+-- the last line if nobody broke the protocol
+abbrev pub kept_last : (is_clear all_keep : Bool) → Last
+kept_last clear false = TooManySessions
+kept_last true true = BothKept
+kept_last false true = TooManyConnections
+
+-- a session of this side strayed so
+pub record IsStrayOf (s : State) (d : Direction) (t : Told) : Type 0 where
+  pub number : ℕ
+  pub connection : Joined
+  pub session : Watched
+  pub numbered_so : numbered number s.course.sessions ≡ Some connection
+  pub is_session : IsSession d connection session
+  pub says : SaysSo d connection session t
+
+-- the transport of this side broke a rule there, and no transport broke one before
+pub record IsMarkOf (s : State) (d : Direction) (m : Mark) : Type 0 where
+  pub broke : (marks_of d s.course).broke ≡ Some m
+  pub by : First
+  pub first : s.course.first ≡ Some by
+  pub whose : by.direction ≡ d
+
+-- nobody broke the protocol, and all was judged
+pub record AllKept (s : State) (ps : List Pair) : Type 0 where
+  pub sessions : all_keep ps ≡ true
+  pub left : is_clear (carried side.Left s) ≡ true
+  pub right : is_clear (carried side.Right s) ≡ true
+
+-- What the last line says is so. Which session strayed first is no part of it.
+abbrev pub IsLast : State → List Pair → Last → Type 0
+IsLast s ps BothKept = AllKept s ps
+IsLast s ps (Broke d offset by) = IsStrayOf s d (told.Broke offset by)
+IsLast s ps (Left d offset by) = IsStrayOf s d (told.Left offset by)
+IsLast s ps (Transport d m) = IsMarkOf s d m
+IsLast s ps TooManySessions = all_keep ps ≡ false
+IsLast s ps TooManyConnections = (all_keep ps ≡ true) × ((is_clear (carried side.Left s) && is_clear (carried side.Right s)) ≡ false)
+
+-- ---- the report
+
+-- what is reported: of the transport of both sides, of each connection, and who was first
+pub record Report : Type 0 where
+  pub left : Carried
+  pub right : Carried
+  pub pairs : List Pair
+  pub last : Last
+
+pub record IsReport (s : State) (r : Report) : Type 0 where
+  pub left : r.left ≡ carried side.Left s
+  pub right : r.right ≡ carried side.Right s
+  pub pairs : ArePairsOf s.course.sessions r.pairs
+  pub last : IsLast s r.pairs r.last

@@ -1,0 +1,227 @@
+//! Writes a report as text: the lines of each connection, those of transport, and the last line, which says who was first.
+
+ghost use Rattle.std.specs.Prelude.{◌≡◌, ◌++◌, ◌<◌, ◌&&◌, IfOk, OnOk};
+ghost use Rattle.osi_tap.specs.Connections.{count, numbered};
+ghost use Rattle.osi_tap.specs.Standing.{HoldsState, IsSettled};
+ghost use Rattle.osi_tap.specs.Tapping.{State};
+ghost use Rattle.osi_tpkt.specs.Stream.{offset_of};
+ghost use Rattle.osi_dispute.specs.Adding.{AddsPair, AddsPairs, AddsReport};
+ghost use Rattle.osi_dispute.specs.ReportTexts.{mark_text, is_outside, mark_verb, mark_line, mark_lines, halt_line, halt_lines};
+ghost use Rattle.osi_dispute.specs.ReportTexts.{first_verb, mark_first, last_line, pair_lines, transport_lines, read_lines, last_status};
+
+use crate::causes;
+use crate::lines::{push_reading, push_side};
+use crate::reports::{Last, Pair, Transport, last_of, pair_at, transport_of};
+use crate::texts::{push_broke_first, push_connection, push_first, push_left_first, push_unjudged};
+use crate::verdicts::Unjudged;
+use osi_judge::Direction;
+use osi_listing::{push_number_field, push_words};
+use osi_tap::{Cause, Mark, Tap};
+use std::alloc::AllocError;
+
+/// Adds what a mark is at, and what was found there.
+#[tactic(auto, unfolding(crate::specs::ReportTexts::mark_text))]
+fn push_mark_text(text: &mut Vec<u8>, mark: &Mark) -> Result<(), AllocError>
+    ensures { OnOk result (text.new.items ≡ text.old.items ++ mark_text mark.now) }
+{
+    push_words(text, causes::marked_at(mark))?;
+    push_words(text, " ")?;
+    push_words(text, causes::cause(mark.cause))
+}
+
+/// Whether the side left the profile there.
+fn is_outside(cause: Cause) -> bool
+    ensures { result ≡ is_outside cause }
+{
+    matches!(cause, Cause::Outside)
+}
+
+fn mark_verb(cause: Cause) -> &'static str
+    ensures { result.now ≡ mark_verb (is_outside cause) }
+{
+    if is_outside(cause) {
+        " leaves packet "
+    } else {
+        " broke packet "
+    }
+}
+
+/// Adds the line of the transport of a side that broke a rule, or left the profile.
+#[tactic(auto, unfolding(crate::specs::ReportTexts::mark_line))]
+fn push_mark(text: &mut Vec<u8>, direction: Direction, mark: &Mark) -> Result<(), AllocError>
+    ensures { OnOk result (text.new.items ≡ text.old.items ++ mark_line direction mark.now) }
+{
+    push_side(text, direction)?;
+    push_number_field(text, mark_verb(mark.cause), mark.offset)?;
+    push_words(text, " ")?;
+    push_mark_text(text, mark)?;
+    push_words(text, "\n")
+}
+
+fn push_marks(
+    text: &mut Vec<u8>,
+    direction: Direction,
+    broke: Option<Mark>,
+) -> Result<(), AllocError>
+    ensures { OnOk result (text.new.items ≡ text.old.items ++ mark_lines direction broke) }
+{
+    match broke {
+        None => Ok(()),
+        Some(mark) => push_mark(text, direction, &mark),
+    }
+}
+
+/// Adds the line of a side of which nothing more is judged.
+#[tactic(auto, unfolding(crate::specs::ReportTexts::halt_line))]
+fn push_halt(text: &mut Vec<u8>, direction: Direction, mark: &Mark) -> Result<(), AllocError>
+    ensures { OnOk result (text.new.items ≡ text.old.items ++ halt_line direction mark.now) }
+{
+    push_side(text, direction)?;
+    push_words(text, " not judged after ")?;
+    push_side(text, mark.direction)?;
+    push_number_field(text, " packet ", mark.offset)?;
+    push_words(text, " ")?;
+    push_mark_text(text, mark)?;
+    push_words(text, "\n")
+}
+
+fn push_halts(
+    text: &mut Vec<u8>,
+    direction: Direction,
+    halted: Option<Mark>,
+) -> Result<(), AllocError>
+    ensures { OnOk result (text.new.items ≡ text.old.items ++ halt_lines direction halted) }
+{
+    match halted {
+        None => Ok(()),
+        Some(mark) => push_halt(text, direction, &mark),
+    }
+}
+
+/// Adds the lines of both sides of a connection.
+fn push_pair(text: &mut Vec<u8>, pair: &Pair) -> Result<(), AllocError>
+    ensures { OnOk result (text.new.items ≡ text.old.items ++ pair_lines pair.now) }
+{
+    push_connection(text, Direction::Left, &pair.left)?;
+    push_connection(text, Direction::Right, &pair.right)
+}
+
+fn both(one: bool, other: bool) -> bool
+    ensures { result ≡ (one && other) }
+{
+    one && other
+}
+
+/// Adds the lines of the connection with this number. Returns whether the sessions of both sides kept the protocol.
+fn push_pair_at(text: &mut Vec<u8>, tap: &Tap, number: usize) -> Result<bool, AllocError>
+    ensures { IfOk result (λ keeps. (s : State) → HoldsState tap.now s → IsSettled tap.now
+        → AddsPair (numbered number s.course.sessions) text.old.items text.new.items keeps) }
+{
+    let Ok(pair) = pair_at(tap, number) else {
+        return Err(AllocError);
+    };
+    push_pair(text, &pair)?;
+    Ok(pair.keeps)
+}
+
+/// Adds the lines of all connections. Returns whether the sessions of all kept the protocol.
+fn push_pairs(text: &mut Vec<u8>, tap: &Tap) -> Result<bool, AllocError>
+    ensures { IfOk result (λ keeps. (s : State) → HoldsState tap.now s → IsSettled tap.now
+        → AddsPairs s.course.sessions (offset_of (count s.course.sessions)) text.old.items text.new.items keeps) }
+{
+    let count = tap.count();
+    let mut keeps = true;
+    let mut number = 0;
+    'connections: while number < count {
+        let one_keeps = push_pair_at(text, tap, number)?;
+        keeps = both(keeps, one_keeps);
+        number += 1;
+    }
+    Ok(keeps)
+}
+
+/// Adds the lines of the transport of both sides.
+#[tactic(auto, unfolding(crate::specs::ReportTexts::transport_lines))]
+fn push_transport(text: &mut Vec<u8>, left: &Transport, right: &Transport) -> Result<(), AllocError>
+    ensures { OnOk result (text.new.items ≡ text.old.items ++ transport_lines left.now right.now) }
+{
+    push_marks(text, Direction::Left, left.broke)?;
+    push_marks(text, Direction::Right, right.broke)?;
+    push_halts(text, Direction::Left, left.halted)?;
+    push_halts(text, Direction::Right, right.halted)
+}
+
+/// What a side did first in its transport.
+fn first_verb(cause: Cause) -> &'static str
+    ensures { result.now ≡ first_verb (is_outside cause) }
+{
+    if is_outside(cause) {
+        " leaves the profile"
+    } else {
+        " broke the protocol"
+    }
+}
+
+#[tactic(auto, unfolding(crate::specs::ReportTexts::mark_first))]
+fn push_mark_first(text: &mut Vec<u8>, direction: Direction, mark: &Mark) -> Result<(), AllocError>
+    ensures { OnOk result (text.new.items ≡ text.old.items ++ mark_first direction mark.now) }
+{
+    push_first(text, direction, first_verb(mark.cause), mark.offset)?;
+    push_mark_text(text, mark)?;
+    push_words(text, "\n")
+}
+
+/// Adds the last line.
+fn push_last(text: &mut Vec<u8>, last: &Last) -> Result<(), AllocError>
+    ensures { OnOk result (text.new.items ≡ text.old.items ++ last_line last.now) }
+{
+    match *last {
+        Last::BothKept => push_words(text, "both kept the protocol\n"),
+        Last::Broke(direction, offset, by) => push_broke_first(text, direction, offset, &by),
+        Last::Left(direction, offset, by) => push_left_first(text, direction, offset, &by),
+        Last::Transport(direction, mark) => push_mark_first(text, direction, &mark),
+        Last::TooManySessions => push_unjudged(text, Unjudged::TooMany),
+        Last::TooManyConnections => push_words(
+            text,
+            "not judged: there are more than 128 connections at once\n",
+        ),
+    }
+}
+
+/// Adds what was read of both sides.
+#[tactic(auto, unfolding(crate::specs::ReportTexts::read_lines))]
+fn push_read(text: &mut Vec<u8>, left: &Transport, right: &Transport) -> Result<(), AllocError>
+    ensures { OnOk result (text.new.items ≡ text.old.items ++ read_lines left.now right.now) }
+{
+    push_reading(text, Direction::Left, &left.reading)?;
+    push_reading(text, Direction::Right, &right.reading)
+}
+
+/// Adds the text of a report on everything that a tap was fed, once it is settled: what was read of each side, what is
+/// reported of each connection, what was broken below the sessions, and who was first. Returns 0 if both sides kept the
+/// protocol on all connections, and 1 in any other case. `Err` means that memory ran out.
+pub fn push_report(text: &mut Vec<u8>, tap: &Tap) -> Result<u8, AllocError>
+    ensures told { IfOk result (λ status. (s : State) → HoldsState tap.now s → IsSettled tap.now
+        → AddsReport s text.old.items text.new.items status) }
+    ensures small { IfOk result (λ status. status < 2) }
+{
+    let left = transport_of(tap, Direction::Left);
+    let right = transport_of(tap, Direction::Right);
+    push_read(text, &left, &right)?;
+    let keeps = push_pairs(text, tap)?;
+    push_transport(text, &left, &right)?;
+    let last = last_of(tap, &left, &right, keeps);
+    push_last(text, &last)?;
+    Ok(last_status(&last))
+}
+
+/// 0 if both sides kept the protocol on all connections, and 1 in any other case.
+fn last_status(last: &Last) -> u8
+    ensures value { result ≡ last_status last.now }
+    ensures small { result < 2 }
+{
+    match *last {
+        Last::BothKept => 0,
+        _ => 1,
+    }
+}

@@ -1,0 +1,305 @@
+//! Asks a tap what it found of all connections on a byte connection, and puts it together as a report.
+
+ghost use Rattle.std.specs.Prelude.{◌≡◌, ◌&&◌, ℕ, List, Some, IfOk, IfSome};
+ghost use Rattle.osi_judge.specs.Captures.{other};
+ghost use Rattle.osi_judge.specs.Stops.{broke_session};
+ghost use Rattle.osi_tap.specs.Connections.{Joined, numbered};
+ghost use Rattle.osi_tap.specs.Holding.{line_in, HoldsJoined, IsHeard, IsFirst};
+ghost use Rattle.osi_tap.specs.Standing.{HoldsState, IsSettled};
+ghost use Rattle.osi_tap.specs.Tapping.{State};
+ghost use Rattle.osi_tap.specs.declared.marks.First.{First as Breach};
+ghost use Rattle.osi_dispute.specs.declared.reports.Pair.{Pair as Couple};
+ghost use Rattle.osi_dispute.specs.Facts.{is_kept, is_left, connection_with};
+ghost use Rattle.osi_dispute.specs.Reports.{SaysSo, is_opened, is_refused_in, is_dropped, Tells, IsPair, IsPairOf};
+ghost use Rattle.osi_dispute.specs.Reports.{all_keep as all_keep_of, carried, is_clear, kept_last, IsLast};
+
+use crate::verdicts::{Connection, Told};
+use osi_judge::{Break, Direction, Finding, Reading};
+use osi_tap::{Connection as Joint, First, Layer, Mark, Tap};
+use std::alloc::AllocError;
+
+/// What is reported of one connection.
+#[derive(Clone, Copy)]
+pub struct Pair {
+    /// Of the calling side.
+    pub left: Connection,
+    /// Of the called side.
+    pub right: Connection,
+    /// The sessions of both sides kept the protocol.
+    pub keeps: bool,
+}
+
+/// What is reported of the transport of a side.
+#[derive(Clone, Copy)]
+pub struct Transport {
+    /// What was read.
+    pub reading: Reading,
+    /// Where it first broke a rule, or left the profile.
+    pub broke: Option<Mark>,
+    /// The packet, of either side, after which nothing more of it is judged.
+    pub halted: Option<Mark>,
+}
+
+/// Who broke the protocol first.
+#[derive(Clone, Copy)]
+pub enum Last {
+    /// Neither side did, on any connection.
+    BothKept,
+    /// The session of this side broke the protocol with the packet at this offset.
+    Broke(Direction, u64, Break),
+    /// The session of this side left the profile with the packet at this offset.
+    Left(Direction, u64, Break),
+    /// The transport of this side broke a rule, or left the profile.
+    Transport(Direction, Mark),
+    /// It is not known: too many sessions explain a side.
+    TooManySessions,
+    /// It is not known: there are more connections than are looked at together.
+    TooManyConnections,
+}
+
+/// What is told of the session of a side.
+fn told_in(joint: &Joint, direction: Direction) -> Result<Told, AllocError>
+    ensures { IfOk result (λ t. (j : Joined) → HoldsJoined joint.now j → IsHeard joint.now
+        → SaysSo direction j (line_in direction joint.now).side t) }
+{
+    let side = joint.side(direction);
+    match joint.finding(direction) {
+        Finding::Kept => Ok(Told::Kept(side.told(), side.stands()?)),
+        Finding::Broke(_) => Ok(Told::Broke(joint.offset(direction), side.by())),
+        Finding::Left(_) => Ok(Told::Left(joint.offset(direction), side.by())),
+        Finding::TooMany => Ok(Told::TooMany),
+    }
+}
+
+fn is_kept(finding: Finding) -> bool
+    ensures { result ≡ is_kept finding }
+{
+    matches!(finding, Finding::Kept)
+}
+
+fn is_left(finding: Finding) -> bool
+    ensures { result ≡ is_left finding }
+{
+    matches!(finding, Finding::Left(_))
+}
+
+fn is_blamed(finding: Finding) -> bool
+    ensures { result ≡ broke_session finding }
+{
+    matches!(finding, Finding::Broke(_) | Finding::Left(_))
+}
+
+/// Whether a side is not told of: the other side left the profile, and this side did not.
+fn is_dropped(own: Finding, other: Finding) -> bool
+    ensures { result ≡ is_dropped own other }
+{
+    is_left(other) && !is_left(own)
+}
+
+/// Whether a CC opened the connection.
+fn is_opened(joint: &Joint) -> bool
+    ensures { (j : Joined) → HoldsJoined joint.now j → result ≡ is_opened j }
+{
+    joint.class().is_some()
+}
+
+/// Whether the connection was refused.
+fn is_refused(joint: &Joint) -> bool
+    ensures { (j : Joined) → HoldsJoined joint.now j → result ≡ is_refused_in j }
+{
+    if !joint.is_closed() {
+        return false;
+    }
+    !is_opened(joint)
+}
+
+/// What is told of the connection of a side, which gave it this reference.
+fn connection_with(
+    reference: u16,
+    blamed: bool,
+    refused: bool,
+    unanswered: bool,
+    told: Told,
+) -> Connection
+    ensures { result ≡ connection_with reference blamed refused unanswered told }
+{
+    if blamed {
+        return Connection::Session(reference, told);
+    }
+    if refused {
+        return Connection::Refused(reference);
+    }
+    if unanswered {
+        return Connection::Unanswered(reference);
+    }
+    Connection::Session(reference, told)
+}
+
+/// What is told of the connection of a side.
+fn connection_in(joint: &Joint, direction: Direction) -> Result<Connection, AllocError>
+    ensures { IfOk result (λ c. (j : Joined) → HoldsJoined joint.now j → IsHeard joint.now
+        → Tells direction j (line_in direction joint.now).side (line_in (other direction) joint.now).side c) }
+{
+    let told = told_in(joint, direction)?;
+    let own = joint.finding(direction);
+    if is_dropped(own, joint.finding(direction.other())) {
+        return Ok(Connection::Silent);
+    }
+    match joint.reference(direction) {
+        None => Ok(Connection::Silent),
+        Some(reference) => Ok(connection_with(
+            reference,
+            is_blamed(own),
+            is_refused(joint),
+            !is_opened(joint),
+            told,
+        )),
+    }
+}
+
+/// Whether the sessions of both sides kept the protocol.
+fn both_keep(joint: &Joint) -> bool
+    ensures { result ≡ (is_kept (line_in Direction.Left joint.now).side.finding
+        && is_kept (line_in Direction.Right joint.now).side.finding) }
+{
+    if !is_kept(joint.finding(Direction::Left)) {
+        return false;
+    }
+    is_kept(joint.finding(Direction::Right))
+}
+
+/// What is reported of a connection.
+fn pair_of(joint: &Joint) -> Result<Pair, AllocError>
+    ensures { IfOk result (λ p. (j : Joined) → HoldsJoined joint.now j → IsHeard joint.now → IsPair j p) }
+{
+    let left = connection_in(joint, Direction::Left)?;
+    let right = connection_in(joint, Direction::Right)?;
+    Ok(Pair {
+        left,
+        right,
+        keeps: both_keep(joint),
+    })
+}
+
+/// What is reported of the connection with this number.
+pub(crate) fn pair_at(tap: &Tap, number: usize) -> Result<Pair, AllocError>
+    ensures { IfOk result (λ p. (s : State) → HoldsState tap.now s → IsSettled tap.now
+        → IsPairOf (numbered number s.course.sessions) p) }
+{
+    match tap.connection(number) {
+        Some(joint) => pair_of(joint),
+        None => Ok(Pair {
+            left: Connection::Silent,
+            right: Connection::Silent,
+            keeps: true,
+        }),
+    }
+}
+
+/// What is reported of the transport of a side.
+pub(crate) fn transport_of(tap: &Tap, direction: Direction) -> Transport
+    ensures { (s : State) → HoldsState tap.now s → IsSettled tap.now → result ≡ carried direction s }
+{
+    Transport {
+        reading: tap.reading(direction),
+        broke: tap.broke(direction),
+        halted: tap.halted(direction),
+    }
+}
+
+/// Whether the transport of a side broke no rule, and all of it was judged.
+fn is_clear(transport: &Transport) -> bool
+    ensures { result ≡ is_clear transport.now }
+{
+    transport.broke.is_none() && transport.halted.is_none()
+}
+
+/// The outcome if nobody broke the protocol, by what was not judged.
+fn kept_last(left: &Transport, right: &Transport, all_keep: bool) -> Last
+    ensures { result ≡ kept_last (is_clear left.now && is_clear right.now) all_keep }
+{
+    if !all_keep {
+        return Last::TooManySessions;
+    }
+    if is_clear(left) && is_clear(right) {
+        return Last::BothKept;
+    }
+    Last::TooManyConnections
+}
+
+/// The break of the session of a side on a connection.
+fn stray_of(joint: &Joint, direction: Direction) -> Option<Last>
+    ensures { IfSome result (λ last. (s : State) (ps : List Couple) (number : ℕ) (j : Joined) → numbered number s.course.sessions ≡ Some j
+        → HoldsJoined joint.now j → IsHeard joint.now → IsLast s ps last) }
+{
+    let side = joint.side(direction);
+    match joint.finding(direction) {
+        Finding::Broke(_) => Some(Last::Broke(direction, joint.offset(direction), side.by())),
+        Finding::Left(_) => Some(Last::Left(direction, joint.offset(direction), side.by())),
+        Finding::Kept => None,
+        Finding::TooMany => None,
+    }
+}
+
+/// The break of the session of a side on the connection with this number.
+fn session_last(tap: &Tap, direction: Direction, number: usize) -> Option<Last>
+    ensures { IfSome result (λ last. (s : State) (ps : List Couple) → HoldsState tap.now s → IsSettled tap.now → IsLast s ps last) }
+{
+    match tap.connection(number) {
+        None => None,
+        Some(joint) => stray_of(joint, direction),
+    }
+}
+
+/// The same, if it is known which connection that is.
+fn session_first(tap: &Tap, direction: Direction, connection: Option<usize>) -> Option<Last>
+    ensures { IfSome result (λ last. (s : State) (ps : List Couple) → HoldsState tap.now s → IsSettled tap.now → IsLast s ps last) }
+{
+    match connection {
+        None => None,
+        Some(number) => session_last(tap, direction, number),
+    }
+}
+
+/// The first break of the transport of a side.
+fn transport_last(tap: &Tap, direction: Direction) -> Option<Last>
+    ensures { IfSome result (λ last. (s : State) (ps : List Couple) (by : Breach) → HoldsState tap.now s → IsSettled tap.now
+        → s.course.first ≡ Some by → by.direction ≡ direction → IsLast s ps last) }
+{
+    match tap.broke(direction) {
+        None => None,
+        Some(mark) => Some(Last::Transport(direction, mark)),
+    }
+}
+
+/// The break that passed first.
+fn first_last(tap: &Tap, first: First) -> Option<Last>
+    ensures { IfSome result (λ last. (s : State) (ps : List Couple) → HoldsState tap.now s → IsSettled tap.now
+        → IsFirst (Some first) s.course.first → IsLast s ps last) }
+{
+    match first.layer {
+        Layer::Session => session_first(tap, first.direction, first.connection),
+        Layer::Transport => transport_last(tap, first.direction),
+    }
+}
+
+/// The break that passed first, if there is one.
+fn told_first(tap: &Tap) -> Option<Last>
+    ensures { IfSome result (λ last. (s : State) (ps : List Couple) → HoldsState tap.now s → IsSettled tap.now → IsLast s ps last) }
+{
+    match tap.first() {
+        None => None,
+        Some(first) => first_last(tap, first),
+    }
+}
+
+/// Who broke the protocol first.
+pub(crate) fn last_of(tap: &Tap, left: &Transport, right: &Transport, all_keep: bool) -> Last
+    ensures { (s : State) (ps : List Couple) → HoldsState tap.now s → IsSettled tap.now → left.now ≡ carried Direction.Left s
+        → right.now ≡ carried Direction.Right s → all_keep ≡ all_keep_of ps → IsLast s ps result }
+{
+    match told_first(tap) {
+        None => kept_last(left, right, all_keep),
+        Some(last) => last,
+    }
+}
