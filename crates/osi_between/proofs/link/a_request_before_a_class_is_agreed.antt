@@ -155,6 +155,8 @@ opens_zero caller called n c a =
 -- ---- a refusal
 
 pub record ComeToNone (a2 a0 b2 b0 : Bool) (reason : ℕ) : Type 0 where
+  pub no_two : (a2 && b2) ≡ false
+  pub no_zero : ((a0 || not a2) && b0) ≡ false
   pub is : reason ≡ (if a2 then 130 else 0)
 
 none_by : (a2 a0 b2 b0 : Bool) (reason : ℕ) →
