@@ -176,17 +176,6 @@ still_wait us later before taken old a b h v w =
       λ k. elim k [ inl m ↦ inl m | inr m ↦ inr (elim m [ inl x ↦ inl (f.1 x) | inr x ↦ inr (l.1 x) ]) ],
     )
 
-    one : (SomeExplains us old later ⊎ Explains us later taken a.first) → Known us later taken old (Some a)
-    one (inl m) = inl m
-    one (inr m) = inr (inl m)
-
-    two : (SomeExplains us mid later ⊎ Explains us later taken a.last) → Known us later taken old (Some a)
-    two (inl m) = one (f.1 m)
-    two (inr m) = inr (inr m)
-
-    back : SomeExplains us new later → Known us later taken old (Some a)
-    back m = two (g.1 m)
-
 -- ---- a TSDU that the session takes on its way
 
 no_answer : (reply : Meaning) (w : Word) → IsRestart w → answers_word reply w ≡ true → ⊥
