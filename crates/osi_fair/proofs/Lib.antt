@@ -28,3 +28,11 @@ pub mod references_of_requests_rise
 pub mod a_new_reference_is_not_in_use
 pub mod one_request_waits
 pub mod a_refused_request_waits_no_more
+pub mod what_a_carrier_puts
+pub mod while_no_class_is_selected
+pub mod what_lasts_at_the_tap
+pub mod which_requests_are_put
+pub mod a_request_of_a_whole_end_is_new
+pub mod how_a_calling_end_asks
+pub mod how_requests_go_on
+pub mod no_request_is_blamed

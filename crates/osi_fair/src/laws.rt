@@ -7,8 +7,8 @@ ghost use Rattle.osi_carrier.specs.Negotiation.{acceptance, agreed_size, opened_
 ghost use Rattle.osi_carrier.specs.Orderly.{IsOrderly};
 ghost use Rattle.osi_carrier.specs.React.{react};
 ghost use Rattle.osi_carrier.specs.Rows.{value_at};
-ghost use Rattle.osi_carrier.specs.Runs.{Act as Done};
-ghost use Rattle.osi_carrier.specs.State.{State, closing, linked};
+ghost use Rattle.osi_carrier.specs.Runs.{Act as Done, UserCall, user_does};
+ghost use Rattle.osi_carrier.specs.State.{State, closing, linked, packets};
 ghost use Rattle.osi_class.specs.Limits.{longest_tsdu};
 ghost use Rattle.osi_class.specs.Link.{Standing};
 ghost use Rattle.osi_class.specs.Negotiation.{accept, selected_by};
@@ -30,6 +30,8 @@ ghost use Rattle.osi_rules.specs.declared.halves.Half.{Half};
 ghost use Rattle.osi_fair.specs.Later.{IsLater, knows};
 ghost use Rattle.osi_fair.specs.Lines.{Act, Acts, ActsAlong, IsFair, IsOpened, IsRight, Line, PassesNone, after_finding, answering_line, finding_of};
 ghost use Rattle.osi_fair.specs.Lines.{opened_half, opened_line, passes_own};
+ghost use Rattle.osi_fair.specs.Putting.{put_by, put_for};
+ghost use Rattle.osi_fair.specs.Wholes.{Event, HappenAlong, Whole, begin};
 
 /// What was right stays right if more of the other side had passed: before the packet of the unit began (`known`), or since
 /// then (`passed`).
@@ -218,4 +220,22 @@ pub fn what_belongs_to_no_open_connection()
     ensures closes { (d : Direction) (s : Traffic) (n source reason : ℕ) (user : List ℕ) → is_stopped d s.course ≡ false →
         class_for d s.course ≡ Some Two →
         ((takes d (disconnect n source reason user) s).state.course.strays ≡ true) ⊎ JustCloses d s n source }
+{}
+
+/// The units that a carrier puts (`specs/Putting`) are what it writes, each in a packet of its own: as it takes a unit (`arrives`),
+/// and as its user makes a call (`calls`).
+pub fn what_a_carrier_puts()
+    ensures arrives { (unit : Value) (s : State) → (react unit s).outgoing ≡ s.outgoing ++ packets (put_for unit s) }
+    ensures calls { (call : UserCall) (s : State) → (user_does call s).outgoing ≡ s.outgoing ++ packets (put_by call s) }
+{}
+
+/// No CR of a calling end is blamed. Take any run of a whole end from its beginning (`specs/Wholes`): any calls of its user,
+/// whatever units the other side sends, any want of memory, and a tap anywhere between the two ends. Then each of its CRs is
+/// right as it passes, or there are more connections than the rules look at, as long as this side is judged.
+pub fn no_request_is_blamed()
+    ensures { (local : Local) (events : List Event) (w : Whole) (c : Connect) (rest : List Value) →
+        HappenAlong Direction.Left (begin true local) events w → w.begun ≡ true → w.put ≡ request c ∷ rest →
+        is_stopped Direction.Left w.tap.course ≡ false →
+        ((takes Direction.Left (request c) w.tap).told.finding ≡ Finding.Kept)
+        ⊎ ((takes Direction.Left (request c) w.tap).told.finding ≡ Finding.TooMany) }
 {}
