@@ -36,3 +36,7 @@ pub mod a_request_of_a_whole_end_is_new
 pub mod how_a_calling_end_asks
 pub mod how_requests_go_on
 pub mod no_request_is_blamed
+pub mod what_stays_of_each_connection
+pub mod what_the_other_side_closes
+pub mod what_a_calling_end_still_has
+pub mod a_dr_for_what_is_gone

@@ -29,31 +29,68 @@ use Rattle.osi_fair.proofs.a_reference_names_one_connection.{applied_found}
 pub record Lasts (a b : Course) : Type 0 where
   pub firm : b.loose ≡ false → a.loose ≡ false
   pub left : b.left_stopped ≡ false → a.left_stopped ≡ false
+  pub right : b.right_stopped ≡ false → a.right_stopped ≡ false
+  pub strays : b.strays ≡ false → a.strays ≡ false
   pub two : a.class ≡ Some Two → b.class ≡ Some Two
   pub seen : a.class ≡ Some Two → a.class_seen ≡ Some Two → b.class_seen ≡ Some Two
 
 lasts_same : (c : Course) → Lasts c c
-lasts_same c = record { firm = λ h. h; left = λ h. h; two = λ h. h; seen = λ h k. k }
+lasts_same c = record { firm = λ h. h; left = λ h. h; right = λ h. h; strays = λ h. h; two = λ h. h; seen = λ h k. k }
 
 lasts_then : (a b c : Course) → Lasts a b → Lasts b c → Lasts a c
 lasts_then a b c x y = record {
   firm = λ h. x.firm (y.firm h);
   left = λ h. x.left (y.left h);
+  right = λ h. x.right (y.right h);
+  strays = λ h. x.strays (y.strays h);
   two = λ h. y.two (x.two h);
   seen = λ h k. y.seen (x.two h) (x.seen h k);
 }
 
 lasts_reached : (d : Direction) (r : Reach) (c : Course) → Lasts c (reached d r c)
 lasts_reached d reach.Nothing c = lasts_same c
-lasts_reached d reach.Connection c = record { firm = λ h. absurd (cc h); left = λ h. h; two = λ h. h; seen = λ h k. k }
-lasts_reached Left reach.Side c = record { firm = λ h. h; left = λ h. absurd (cc h); two = λ h. h; seen = λ h k. k }
-lasts_reached Right reach.Side c = record { firm = λ h. h; left = λ h. h; two = λ h. h; seen = λ h k. k }
-lasts_reached d reach.Everything c = record { firm = λ h. h; left = λ h. absurd (cc h); two = λ h. h; seen = λ h k. k }
+lasts_reached d reach.Connection c = record {
+  firm = λ h. absurd (cc h);
+  left = λ h. h;
+  right = λ h. h;
+  strays = λ h. h;
+  two = λ h. h;
+  seen = λ h k. k;
+}
+lasts_reached Left reach.Side c = record {
+  firm = λ h. h;
+  left = λ h. absurd (cc h);
+  right = λ h. h;
+  strays = λ h. h;
+  two = λ h. h;
+  seen = λ h k. k;
+}
+lasts_reached Right reach.Side c = record {
+  firm = λ h. h;
+  left = λ h. h;
+  right = λ h. absurd (cc h);
+  strays = λ h. h;
+  two = λ h. h;
+  seen = λ h k. k;
+}
+lasts_reached d reach.Everything c = record {
+  firm = λ h. h;
+  left = λ h. absurd (cc h);
+  right = λ h. absurd (cc h);
+  strays = λ h. h;
+  two = λ h. h;
+  seen = λ h k. k;
+}
+
+or_left : (a b : Bool) → (a || b) ≡ false → a ≡ false
+or_left true b h = cc
+or_left false b h = refl
 
 lasts_none : (v : Value) (c : Course) → Lasts c (course_after_none v c)
 lasts_none (request c) o = lasts_same o
 lasts_none (confirm destination c) o = lasts_same o
-lasts_none (disconnect destination source reason user) o = record { firm = λ h. h; left = λ h. h; two = λ h. h; seen = λ h k. k }
+lasts_none (disconnect destination source reason user) o =
+    record { firm = λ h. h; left = λ h. h; right = λ h. h; strays = λ h. absurd (cc h); two = λ h. h; seen = λ h k. k }
 lasts_none (disconnected destination source) o = lasts_same o
 lasts_none (data0 end user) o = lasts_same o
 lasts_none (data2 destination number end user) o = lasts_same o
@@ -93,6 +130,8 @@ lasts_confirmed Left s c destination x true h = absurd (cc (applied_found c.is_j
 lasts_confirmed Right s c destination x true h = record {
   firm = λ k. k;
   left = λ k. k;
+  right = λ k. k;
+  strays = λ k. k;
   two = λ k. ap (λ (class : Class). Some class) (selects_two s.course c (uses_source Right s.connections (confirm destination x))
       destination x k (applied_found c.is_judged (found Right s.course (uses_source Right s.connections (confirm destination x)) c
       (confirm destination x)) h));
@@ -105,7 +144,7 @@ lasts_after d s c (request x) = lasts_same s.course
 lasts_after d s c (confirm destination x) =
     lasts_confirmed d s c destination x (is_applied (found_on d s c (confirm destination x))) refl
 lasts_after d s c (disconnect destination source reason user) =
-    record { firm = λ h. h; left = λ h. h; two = λ h. h; seen = λ h k. k }
+    record { firm = λ h. h; left = λ h. h; right = λ h. h; strays = λ h. or_left s.course.strays _ h; two = λ h. h; seen = λ h k. k }
 lasts_after d s c (disconnected destination source) = lasts_same s.course
 lasts_after d s c (data0 end user) = lasts_same s.course
 lasts_after d s c (data2 destination number end user) = lasts_same s.course
@@ -166,7 +205,7 @@ if_judged true d v s r = to_none d NotJudged s
 if_judged false d v s r = by_route d v s r
 
 begun : (d : Direction) (c : Course) → Lasts c (course_begins d c)
-begun Left c = record { firm = λ h. h; left = λ h. h; two = λ h. h; seen = λ h k. h }
+begun Left c = record { firm = λ h. h; left = λ h. h; right = λ h. h; strays = λ h. h; two = λ h. h; seen = λ h k. h }
 begun Right c = lasts_same c
 
 pub lasts_passing : (p : Passing) (s : State) → Lasts s.course (passes p s).course

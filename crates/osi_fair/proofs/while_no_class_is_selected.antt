@@ -142,7 +142,7 @@ done_not_named : (c : Connection) (n : ℕ) → IsDone c → is_named Right n c 
 done_not_named c n h k = not_named (is_over Right c) (not (is_silent c.seen_by_right.phase) && (c.seen_by_right.reference == n))
     (over_done c h) k
 
-named_where : (cs : List Connection) (n q : ℕ) → position (is_named Right n) cs ≡ Some q →
+pub named_where : (cs : List Connection) (n q : ℕ) → position (is_named Right n) cs ≡ Some q →
     (e : Connection) × (slice_get cs q ≡ Some e) × (is_named Right n e ≡ true)
 named_where [] n q h = absurd (cc)
 named_where (c ∷ cs) n q h =

@@ -239,3 +239,15 @@ pub fn no_request_is_blamed()
         ((takes Direction.Left (request c) w.tap).told.finding ≡ Finding.Kept)
         ⊎ ((takes Direction.Left (request c) w.tap).told.finding ≡ Finding.TooMany) }
 {}
+
+/// A DR that a calling end takes for a reference which is gone closed nothing at the tap. Take any run of a whole end that offers
+/// class 2 alone. If the next unit that it takes is a DR for a reference which is not live there, a DR that closed nothing has passed,
+/// as long as both sides are judged and no connection has lost its judgement. So the DC with which it answers is not blamed:
+/// [`what_belongs_to_no_open_connection`], clauses `dc` and `lasts`.
+pub fn a_dr_for_what_is_gone_closed_nothing()
+    ensures { (local : Local) (events : List Event) (w : Whole) (n source reason : ℕ) (user : List ℕ) (more : List Value) →
+        local.class0 ≡ false → local.class2 ≡ true → HappenAlong Direction.Left (begin true local) events w →
+        w.coming ≡ disconnect n source reason user ∷ more → w.end.ended ≡ None → value_at n w.end.live ≡ None →
+        is_stopped Direction.Left w.tap.course ≡ false → is_stopped Direction.Right w.tap.course ≡ false →
+        w.tap.course.loose ≡ false → w.tap.course.strays ≡ true }
+{}
