@@ -30,7 +30,7 @@ ghost use Rattle.osi_rules.specs.declared.halves.Half.{Half};
 ghost use Rattle.osi_fair.specs.Later.{IsLater, knows};
 ghost use Rattle.osi_fair.specs.Lines.{Act, Acts, ActsAlong, IsFair, IsOpened, IsRight, Line, PassesNone, after_finding, answering_line, finding_of};
 ghost use Rattle.osi_fair.specs.Lines.{opened_half, opened_line, passes_own};
-ghost use Rattle.osi_fair.specs.Putting.{put_by, put_for};
+ghost use Rattle.osi_fair.specs.Putting.{put_by, put_closing, put_for, put_sent, put_together};
 ghost use Rattle.osi_fair.specs.Wholes.{Event, HappenAlong, Whole, begin};
 
 /// What was right stays right if more of the other side had passed: before the packet of the unit began (`known`), or since
@@ -104,17 +104,19 @@ pub fn what_is_put_before_the_cc_passes()
 /// `a_unit_changes_one_connection` of `osi_carrier`. So [`an_open_end_is_fair`] speaks of every connection of a carrier.
 pub fn a_carrier_follows_its_lines()
     ensures open { (unit : Value) (s : State) (r peer : ℕ) (link : Standing) → IsOrderly s → s.class ≡ Some Two → s.ended ≡ None →
-        value_at r s.live ≡ Some (linked peer link) → destination_of unit ≡ Some r → Follows r peer (unit ∷ []) s (react unit s) }
+        value_at r s.live ≡ Some (linked peer link) → destination_of unit ≡ Some r →
+        Follows r peer (unit ∷ []) (put_for unit s) s (react unit s) }
     ensures closing { (unit : Value) (s : State) (r peer : ℕ) → IsOrderly s → s.class ≡ Some Two → s.ended ≡ None →
-        value_at r s.live ≡ Some (closing peer) → destination_of unit ≡ Some r → Follows r peer (unit ∷ []) s (react unit s) }
+        value_at r s.live ≡ Some (closing peer) → destination_of unit ≡ Some r →
+        Follows r peer (unit ∷ []) (put_for unit s) s (react unit s) }
     ensures sent { (r peer : ℕ) (tsdu : List ℕ) (s : State) (link : Standing) → open_link r s ≡ Some (peer, link) →
-        length tsdu ≤ longest_tsdu → Follows r peer [] s (sent r tsdu s) }
+        length tsdu ≤ longest_tsdu → Follows r peer [] (put_sent tsdu (open_link r s)) s (sent r tsdu s) }
     ensures together { (r peer : ℕ) (tsdus : List (List ℕ)) (s : State) (link : Standing) → open_link r s ≡ Some (peer, link) →
-        AllByRecursion (λ tsdu. length tsdu ≤ longest_tsdu) tsdus → Follows r peer [] s (sent_all r tsdus s) }
+        AllByRecursion (λ tsdu. length tsdu ≤ longest_tsdu) tsdus → Follows r peer [] (put_together r tsdus s) s (sent_all r tsdus s) }
     ensures closed { (r peer reason : ℕ) (s : State) (link : Standing) → open_link r s ≡ Some (peer, link) → s.class ≡ Some Two →
-        Follows r peer [] s (closed_with r reason s) }
-    ensures joined { (r peer : ℕ) (a b : List Value) (old mid new : State) → Follows r peer a old mid → Follows r peer b mid new →
-        Follows r peer (a ++ b) old new }
+        Follows r peer [] (put_closing r reason (open_link r s) s.class) s (closed_with r reason s) }
+    ensures joined { (r peer : ℕ) (a b us vs : List Value) (old mid new : State) → Follows r peer a us old mid →
+        Follows r peer b vs mid new → Follows r peer (a ++ b) (us ++ vs) old new }
 {}
 
 /// The rules of transport find of each unit in class 2 that names a connection what the line of this connection says (`found`),
