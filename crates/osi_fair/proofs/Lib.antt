@@ -40,3 +40,13 @@ pub mod what_stays_of_each_connection
 pub mod what_the_other_side_closes
 pub mod what_a_calling_end_still_has
 pub mod a_dr_for_what_is_gone
+pub mod which_units_are_for_a_connection
+pub mod each_connection_has_its_line
+pub mod a_unit_of_a_whole_end_passes
+pub mod left_selects_no_class
+pub mod a_unit_of_the_other_side_passes
+pub mod what_a_whole_end_takes
+pub mod a_whole_end_takes_a_unit
+pub mod a_whole_end_makes_a_call
+pub mod a_plain_calling_end_is_fair
+pub mod what_becomes_of_a_connection

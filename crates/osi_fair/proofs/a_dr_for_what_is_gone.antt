@@ -50,7 +50,7 @@ abbrev AreKnown : ℕ → List Value → Type 0
 AreKnown n units = AllByRecursion (λ (v : Value). (m : ℕ) → closed_by v ≡ Some m → m ≤ n) units
 
 -- a DR is for a connection of which this holds, and no unit before it closes that
-abbrev Firsts : (ℕ → Type 0) → List Value → Type 0
+abbrev pub Firsts : (ℕ → Type 0) → List Value → Type 0
 Firsts L [] = Unit {0}
 Firsts L (v ∷ vs) = (IsDr v → (n : ℕ) → closed_by v ≡ Some n → L n) × Firsts (λ m. L m × (closed_by v ≡ Some m → ⊥)) vs
 
@@ -109,11 +109,11 @@ all_join L (x ∷ xs) ys (one, more) b = (one, all_join L xs ys more b)
 abbrev Held : State → List Value → ℕ → Type 0
 Held end coming m = IsLive end m × NoneFor m coming
 
-record Lively (w : Whole) : Type 0 where
-  tap : HoldsOfEach (IsLively (Held w.end w.coming)) w.tap.connections
-  requests : AllSo (Held w.end w.coming) (asked_among w.put)
-  firsts : Firsts (IsLive w.end) w.coming
-  known : AreKnown w.end.given w.coming
+pub record Lively (w : Whole) : Type 0 where
+  pub tap : HoldsOfEach (IsLively (Held w.end w.coming)) w.tap.connections
+  pub requests : AllSo (Held w.end w.coming) (asked_among w.put)
+  pub firsts : Firsts (IsLive w.end) w.coming
+  pub known : AreKnown w.end.given w.coming
 
 lively_more : (L K : ℕ → Type 0) (cs : List Connection) → ((m : ℕ) → L m → K m) → HoldsOfEach (IsLively L) cs → HoldsOfEach (IsLively K) cs
 lively_more L K cs h a i c at there = h c.left.reference (a i c at there)
@@ -125,7 +125,7 @@ none_of None e = refl
 none_of (Some x) e = absurd (cc e)
 
 -- the end had not ended before
-lasted : (unit : Value) (s : State) (b : Bool) → is_some s.ended ≡ b → (react unit s).ended ≡ None → s.ended ≡ None
+pub lasted : (unit : Value) (s : State) (b : Bool) → is_some s.ended ≡ b → (react unit s).ended ≡ None → s.ended ≡ None
 lasted unit s false e h = none_of s.ended e
 lasted unit s true e h = ap (λ (t : State). t.ended) (sym (over_takes unit s e).0) ∙ h
 
@@ -305,11 +305,11 @@ came w v n l (closes_one q e p c at is dr tap) =
 
 -- ---- all that holds
 
-record Holds (w : Whole) : Type 0 where
-  newer : Newer w
-  offers : OffersTwo w.end
-  sane : IsSane w.tap
-  lively : IsPlain w.tap.course → w.end.ended ≡ None → Lively w
+pub record Holds (w : Whole) : Type 0 where
+  pub newer : Newer w
+  pub offers : OffersTwo w.end
+  pub sane : IsSane w.tap
+  pub lively : IsPlain w.tap.course → w.end.ended ≡ None → Lively w
 
 begun_started : (d : Direction) (c : Connection) → IsStarted c → IsStarted (begins d c)
 begun_started Left c h = h
@@ -365,10 +365,10 @@ sane_rubbish s h = record {
 was_plain : (a b : Course) → Lasts a b → IsPlain b → IsPlain a
 was_plain a b l p = record { firm = l.firm p.firm; left = l.left p.left; right = l.right p.right; strays = l.strays p.strays }
 
-before_passing : (p : Passing) (s : Traffic) → IsPlain (passes p s).course → IsPlain s.course
+pub before_passing : (p : Passing) (s : Traffic) → IsPlain (passes p s).course → IsPlain s.course
 before_passing p s h = was_plain s.course (passes p s).course (lasts_passing p s) h
 
-not_over : (call : UserCall) (s : State) → OffersTwo s → (user_does call s).ended ≡ None → s.ended ≡ None
+pub not_over : (call : UserCall) (s : State) → OffersTwo s → (user_does call s).ended ≡ None → s.ended ≡ None
 not_over (connects calling called) s o h = h
 not_over (sends r tsdu) s o h = sym (sent_lasts r tsdu (open_link r s) s) ∙ h
 not_over (sends_all r tsdus) s o h = sym (all_last r tsdus s) ∙ h
@@ -402,7 +402,7 @@ holds_calling w call h n =
 started_asked : (v : Value) (x : Connect) → v ≡ request x → IsStarted (asked_by x)
 started_asked v x e = refl
 
-next_holds : (event : Event) (w new : Whole) → Happens Left event w new → Holds w → Holds new
+pub next_holds : (event : Event) (w new : Whole) → Happens Left event w new → Holds w → Holds new
 next_holds arrives w new (unit, coming, is) h =
     subst Holds (sym is) (holds_taking w unit new.coming coming h
     (still_newer arrives w (after_arriving w unit new.coming) (unit, coming, refl) h.newer))
@@ -457,7 +457,7 @@ all_hold : (events : List Event) (w new : Whole) → HappenAlong Left w events n
 all_hold [] w new e h = subst Holds (sym e) h
 all_hold (event ∷ events) w new (mid, first, more) h = all_hold events mid new more (next_holds event w mid first h)
 
-first_holds : (local : Local) → local.class0 ≡ false → local.class2 ≡ true → Holds (begin true local)
+pub first_holds : (local : Local) → local.class0 ≡ false → local.class2 ≡ true → Holds (begin true local)
 first_holds local zero two = record {
   newer = record { last = 0; below = λ i c at. no_item i c at; rise = tt; up = tt; given = omega arith };
   offers = record { caller = refl; zero = zero; two = two; class = inl refl };

@@ -60,7 +60,7 @@ lasts_of true o x e = cc
 lasts_of false o x e = refl
 
 -- the connection is still open, with this link
-still_open : (r peer : ℕ) (tsdu : List ℕ) (s : State) (link : Standing) → open_link r s ≡ Some (peer, link) →
+pub still_open : (r peer : ℕ) (tsdu : List ℕ) (s : State) (link : Standing) → open_link r s ≡ Some (peer, link) →
     open_link r (sent r tsdu s) ≡ Some (peer, pumped (with_tsdu link tsdu))
 still_open r peer tsdu s link e =
     let after = pumped (with_tsdu link tsdu) in

@@ -44,12 +44,12 @@ one r = (r, asked) ∷ []
 -- ---- a unit, while no class is selected
 
 module _ (rows : Rows Connection) (unit : Value) (s : State) (is : IsCalling rows s) where
-  react_is : react unit s ≡ before_class true unit s
+  pub react_is : react unit s ≡ before_class true unit s
   unfolding react
   react_is = ap (λ (o : Option EndReason). react_by (is_some o) unit s) is.lasts ∙ ap (λ (k : Option Class). in_class k unit s) is.class
       ∙ ap (λ (b : Bool). before_class b unit s) is.caller
 
-  put_is : put_for unit s ≡ put_before true unit s
+  pub put_is : put_for unit s ≡ put_before true unit s
   put_is = ap (λ (o : Option EndReason). if is_some o then [] else put_in s.class unit s) is.lasts
       ∙ ap (λ (k : Option Class). put_in k unit s) is.class ∙ ap (λ (b : Bool). put_before b unit s) is.caller
 

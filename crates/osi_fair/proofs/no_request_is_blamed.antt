@@ -35,11 +35,11 @@ went_on passes_rubbish w new is h = (lasts_passing (rubbish Right) w.tap).left (
 
 -- ---- a run
 
-record Holds (w : Whole) : Type 0 where
-  newer : Newer w
-  stage : GoesOn w.tap → Stage w
+pub record Holds (w : Whole) : Type 0 where
+  pub newer : Newer w
+  pub stage : GoesOn w.tap → Stage w
 
-holds_next : (event : Event) (w new : Whole) → Happens Left event w new → Holds w → Holds new
+pub holds_next : (event : Event) (w new : Whole) → Happens Left event w new → Holds w → Holds new
 holds_next event w new h a = record {
   newer = still_newer event w new h a.newer;
   stage = λ goes. still_staged event w new h goes a.newer (a.stage (went_on event w new h goes));
@@ -49,7 +49,7 @@ holds_all : (events : List Event) (w new : Whole) → HappenAlong Left w events 
 holds_all [] w new e a = subst Holds (sym e) a
 holds_all (event ∷ events) w new (mid, first, more) a = holds_all events mid new more (holds_next event w mid first a)
 
-holds_first : (local : Local) → Holds (begin true local)
+pub holds_first : (local : Local) → Holds (begin true local)
 holds_first local = record {
   newer = record { last = 0; below = λ i c at. no_item i c at; rise = tt; up = tt; given = omega arith };
   stage = λ goes.
@@ -58,7 +58,7 @@ holds_first local = record {
 
 -- ---- the CR that is passing
 
-abbrev IsRightCr : Connect → Traffic → Type 0
+abbrev pub IsRightCr : Connect → Traffic → Type 0
 IsRightCr x s = Passed (takes Left (request x) s).told.finding
 
 some_cr : {A : Type 0} (w : Whole) (x : Connect) (rest : List Value) → w.put ≡ request x ∷ rest → w.put ≡ [] → A
@@ -75,7 +75,7 @@ while_calm x w cs strays rest e newer tap all =
     subst (λ (t : Traffic). IsRightCr x t) (sym tap)
     (subst (λ (f : Finding). Passed f) (sym (asked_finding tests x (calm_tap cs strays))) (calm_passes x cs strays all unused))
 
-is_right : (x : Connect) (rest : List Value) (w : Whole) → w.put ≡ request x ∷ rest → w.begun ≡ true → GoesOn w.tap → Newer w → Stage w →
+pub is_right : (x : Connect) (rest : List Value) (w : Whole) → w.put ≡ request x ∷ rest → w.begun ≡ true → GoesOn w.tap → Newer w → Stage w →
     IsRightCr x w.tap
 is_right x rest w e begun goes newer (rests none r) = no_cr x rest w.put e none
 is_right x rest w e begun goes newer (quiet is none not_begun cs strays tap done dcs) = some_cr w x rest e none

@@ -85,9 +85,11 @@ has_last n x ((q, y) ∷ rows) = last_by (q == n) y (value_at n (rows ++ (n, x) 
 
 pub record After (unit : Value) (s t : State) : Type 0 where
   pub offers : OffersTwo t
+  pub local : t.local ≡ s.local
+  pub class : s.class ≡ Some Two → t.class ≡ Some Two
   pub live : t.ended ≡ None → (m : ℕ) → IsLive s m → (closed_by unit ≡ Some m → ⊥) → IsLive t m
 
-stays : (s t : State) → OffersTwo s → t.is_caller ≡ s.is_caller → t.local ≡ s.local → t.class ≡ s.class → OffersTwo t
+pub stays : (s t : State) → OffersTwo s → t.is_caller ≡ s.is_caller → t.local ≡ s.local → t.class ≡ s.class → OffersTwo t
 stays s t o a b c = record {
   caller = a ∙ o.caller;
   zero = ap (λ (l : Local). l.class0) b ∙ o.zero;
@@ -99,10 +101,12 @@ after_same : (unit : Value) (s t : State) → OffersTwo s → t.is_caller ≡ s.
     t.live ≡ s.live → After unit s t
 after_same unit s t o a b c e = record {
   offers = stays s t o a b c;
+  local = b;
+  class = λ h. c ∙ h;
   live = λ lasts m h other. ap (λ (rows : Rows Connection). is_some (value_at m rows)) e ∙ h;
 }
 
-over_not : {A : Type 0} (o : Option EndReason) → is_some o ≡ true → o ≡ None → A
+pub over_not : {A : Type 0} (o : Option EndReason) → is_some o ≡ true → o ≡ None → A
 over_not None h e = absurd (cc h)
 over_not (Some x) h e = absurd (cc e)
 
@@ -110,12 +114,17 @@ after_end : (unit : Value) (s t : State) → OffersTwo s → t.is_caller ≡ s.i
     is_some t.ended ≡ true → After unit s t
 after_end unit s t o a b c over = record {
   offers = stays s t o a b c;
+  local = b;
+  class = λ h. c ∙ h;
   live = λ lasts. over_not t.ended over lasts;
 }
 
-after_put : (unit : Value) (s t : State) (r : ℕ) (c : Connection) → OffersTwo t → t.live ≡ put r c s.live → After unit s t
-after_put unit s t r c o e = record {
+after_put : (unit : Value) (s t : State) (r : ℕ) (c : Connection) → OffersTwo t → t.local ≡ s.local →
+    (s.class ≡ Some Two → t.class ≡ Some Two) → t.live ≡ put r c s.live → After unit s t
+after_put unit s t r c o b k e = record {
   offers = o;
+  local = b;
+  class = k;
   live = λ lasts m h other. ap (λ (rows : Rows Connection). is_some (value_at m rows)) e ∙ has_put m r c s.live h;
 }
 
@@ -123,6 +132,8 @@ after_drop : (unit : Value) (s t : State) (r : ℕ) → OffersTwo s → t.is_cal
     closed_by unit ≡ Some r → t.live ≡ without r s.live → After unit s t
 after_drop unit s t r o a b c closed e = record {
   offers = stays s t o a b c;
+  local = b;
+  class = λ h. c ∙ h;
   live = λ lasts m h other. ap (λ (rows : Rows Connection). is_some (value_at m rows)) e
       ∙ has_without m r s.live (λ same. other (closed ∙ ap (λ (n : ℕ). Some n) (sym same))) h;
 }
@@ -142,18 +153,18 @@ opens_by : (r : ℕ) (x : Connect) (a b z : Bool) (s : State) → OffersTwo s �
 opens_by r x true b z s o e =
     after_put (confirm r x) s (opens r x (Some Two) s) r
     (linked x.source (opened_link Two (agreed_size x.parameters.size s.local) s.local x.credit))
-    (record { caller = o.caller; zero = o.zero; two = o.two; class = inr refl }) refl
+    (record { caller = o.caller; zero = o.zero; two = o.two; class = inr refl }) refl (λ h. refl) refl
 opens_by r x false b z s o e =
     subst (λ (c : Bool). After (confirm r x) s (opens r x (if c then Some Zero else None) s)) (sym e)
     (after_end (confirm r x) s (opens r x None s) o refl refl refl refl)
 
-never_zero : (b c : Bool) (k : Bool) → b ≡ false → c ≡ true → (k && (b || not c)) ≡ false
+pub never_zero : (b c : Bool) (k : Bool) → b ≡ false → c ≡ true → (k && (b || not c)) ≡ false
 never_zero false true true h e = refl
 never_zero false true false h e = refl
 never_zero true c k h e = cc
 never_zero b false k h e = cc
 
-and_none : (a b : Bool) → b ≡ false → (a && b) ≡ false
+pub and_none : (a b : Bool) → b ≡ false → (a && b) ≡ false
 and_none true b h = h
 and_none false b h = refl
 
@@ -166,7 +177,7 @@ opens_after r x s o =
 -- a CC closes nothing, whatever it names
 widen : (r n : ℕ) (x : Connect) (s : State) → After (confirm r x) s (opens r x (confirmed x s.local s.class) s) →
     After (confirm n x) s (opens r x (confirmed x s.local s.class) s)
-widen r n x s a = record { offers = a.offers; live = a.live }
+widen r n x s a = record { offers = a.offers; local = a.local; class = a.class; live = a.live }
 
 asked_after : (r : ℕ) (unit : Value) (s : State) → OffersTwo s → ((n : ℕ) → closed_by unit ≡ Some n → n ≡ r) →
     After unit s (to_asked r unit s)
@@ -188,13 +199,14 @@ breaks_by : (unit : Value) (r peer : ℕ) (fault : LinkFault) (k : Option Class)
 breaks_by unit r peer fault None s o e = after_end unit s (breaks_in r peer fault None s) o refl refl refl refl
 breaks_by unit r peer fault (Some Two) s o e =
     after_put unit s (breaks_in r peer fault (Some Two) s) r (closing peer) (stays s (breaks_in r peer fault (Some Two) s) o refl refl refl) refl
+    (λ h. h) refl
 breaks_by unit r peer fault (Some Zero) s o e = after_end unit s (breaks_in r peer fault (Some Zero) s) o refl refl refl refl
 
 taking_after : (unit : Value) (r peer : ℕ) (result : Result Standing LinkFault) (s : State) → OffersTwo s →
     After unit s (taking r peer result s)
 taking_after unit r peer (Ok link) s o =
     after_put unit s (taking r peer (Ok link) s) r (linked peer (pumped (handed_out link))) (stays s (taking r peer (Ok link) s) o refl refl refl)
-    refl
+    refl (λ h. h) refl
 taking_after unit r peer (Err fault) s o = breaks_by unit r peer fault s.class s o o.class
 
 leaves_by : (unit : Value) (r peer reason : ℕ) (k : Option Class) (s : State) → OffersTwo s → closed_by unit ≡ Some r →
@@ -291,25 +303,27 @@ unit_after unit s o = by_end (is_some s.ended) unit s o
 
 pub record AfterCall (s t : State) : Type 0 where
   pub offers : OffersTwo t
+  pub local : t.local ≡ s.local
   pub live : t.ended ≡ None → (m : ℕ) → IsLive s m → IsLive t m
 
 call_same : (s : State) → OffersTwo s → AfterCall s s
-call_same s o = record { offers = o; live = λ lasts m h. h }
+call_same s o = record { offers = o; local = refl; live = λ lasts m h. h }
 
-call_put : (s t : State) (r : ℕ) (c : Connection) → OffersTwo t → t.live ≡ put r c s.live → AfterCall s t
-call_put s t r c o e = record {
+call_put : (s t : State) (r : ℕ) (c : Connection) → OffersTwo t → t.local ≡ s.local → t.live ≡ put r c s.live → AfterCall s t
+call_put s t r c o b e = record {
   offers = o;
+  local = b;
   live = λ lasts m h. ap (λ (rows : Rows Connection). is_some (value_at m rows)) e ∙ has_put m r c s.live h;
 }
 
-call_end : (s t : State) → OffersTwo t → is_some t.ended ≡ true → AfterCall s t
-call_end s t o over = record { offers = o; live = λ lasts. over_not t.ended over lasts }
+call_end : (s t : State) → OffersTwo t → t.local ≡ s.local → is_some t.ended ≡ true → AfterCall s t
+call_end s t o b over = record { offers = o; local = b; live = λ lasts. over_not t.ended over lasts }
 
 sent_after : (r : ℕ) (tsdu : List ℕ) (o : Option (ℕ × Standing)) (s : State) → OffersTwo s → AfterCall s (sent_on r tsdu o s)
 sent_after r tsdu None s o = call_same s o
 sent_after r tsdu (Some (peer, link)) s o =
     let t = sent_on r tsdu (Some (peer, link)) s in
-    call_put s t r (linked peer (pumped (with_tsdu link tsdu))) (stays s t o refl refl refl) refl
+    call_put s t r (linked peer (pumped (with_tsdu link tsdu))) (stays s t o refl refl refl) refl refl
 
 pub sent_lasts : (r : ℕ) (tsdu : List ℕ) (o : Option (ℕ × Standing)) (s : State) → (sent_on r tsdu o s).ended ≡ s.ended
 sent_lasts r tsdu None s = refl
@@ -326,16 +340,17 @@ all_after r (tsdu ∷ tsdus) s o =
     let b = all_after r tsdus (sent r tsdu s) a.offers in
     record {
       offers = b.offers;
+      local = b.local ∙ a.local;
       live = λ lasts m h. b.live lasts m (a.live (sym (all_last r tsdus (sent r tsdu s)) ∙ lasts) m h);
     }
 
 closes_by : (r peer reason : ℕ) (k : Option Class) (s : State) → OffersTwo s → AfterCall s (closes_in r peer reason k s)
 closes_by r peer reason None s o =
-    let t = closes_in r peer reason None s in call_put s t r (closing peer) (stays s t o refl refl refl) refl
+    let t = closes_in r peer reason None s in call_put s t r (closing peer) (stays s t o refl refl refl) refl refl
 closes_by r peer reason (Some Zero) s o =
-    let t = closes_in r peer reason (Some Zero) s in call_end s t (stays s t o refl refl refl) refl
+    let t = closes_in r peer reason (Some Zero) s in call_end s t (stays s t o refl refl refl) refl refl
 closes_by r peer reason (Some Two) s o =
-    let t = closes_in r peer reason (Some Two) s in call_put s t r (closing peer) (stays s t o refl refl refl) refl
+    let t = closes_in r peer reason (Some Two) s in call_put s t r (closing peer) (stays s t o refl refl refl) refl refl
 
 closed_after : (r reason : ℕ) (o : Option (ℕ × Standing)) (s : State) → OffersTwo s → AfterCall s (closed_on r reason o s)
 closed_after r reason None s o = call_same s o
@@ -343,12 +358,12 @@ closed_after r reason (Some (peer, link)) s o = closes_by r peer reason s.class 
 
 ended_after : (over : Bool) (reason : EndReason) (s : State) → OffersTwo s → AfterCall s (if over then s else ends reason s)
 ended_after true reason s o = call_same s o
-ended_after false reason s o = call_end s (ends reason s) (stays s (ends reason s) o refl refl refl) refl
+ended_after false reason s o = call_end s (ends reason s) (stays s (ends reason s) o refl refl refl) refl refl
 
 pub call_after : (call : UserCall) (s : State) → OffersTwo s → AfterCall s (user_does call s)
 call_after (connects calling called) s o =
     let t = user_does (connects calling called) s in
-    record { offers = stays s t o refl refl refl; live = λ lasts m h. has_push m (s.given + 1) asked s.live h }
+    record { offers = stays s t o refl refl refl; local = refl; live = λ lasts m h. has_push m (s.given + 1) asked s.live h }
 call_after (sends r tsdu) s o = sent_after r tsdu (open_link r s) s o
 call_after (sends_all r tsdus) s o = all_after r tsdus s o
 call_after (closes r reason) s o = closed_after r reason (open_link r s) s o

@@ -75,7 +75,7 @@ right_sized (error destination cause) c = refl
 left_own : (v : Value) (r : Reach) (c : Connection) → (connection_after Left v true r c).left ≡ half_after v c.left
 left_own v r c = left_judged r (sent_on Left v c) ∙ left_sized v (sends Left (half_after v c.left) c)
 
-right_then : (v : Value) (applied : Bool) (r : Reach) (c : Connection) → (connection_after Left v applied r c).right ≡ c.right
+pub right_then : (v : Value) (applied : Bool) (r : Reach) (c : Connection) → (connection_after Left v applied r c).right ≡ c.right
 right_then v true r c = right_judged r (sent_on Left v c) ∙ right_sized v (sends Left (half_after v c.left) c)
 right_then v false r c = right_judged r c
 
@@ -182,7 +182,7 @@ pub record Stays (c e : Connection) : Type 0 where
   pub reference : e.left.reference ≡ c.left.reference
   pub started : IsStarted c → IsStarted e
 
-own_stays : (applied : Bool) (s : State) (v : Value) (r : Reach) (c : Connection) → is_applied (found_on Left s c v) ≡ applied →
+pub own_stays : (applied : Bool) (s : State) (v : Value) (r : Reach) (c : Connection) → is_applied (found_on Left s c v) ≡ applied →
     Stays c (connection_after Left v applied r c)
 own_stays true s v r c h = record {
   reference = ap (λ (x : Half). x.reference) (left_own v r c) ∙ half_reference s v c h;

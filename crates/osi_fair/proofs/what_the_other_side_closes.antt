@@ -86,7 +86,7 @@ by_reach (Some Zero) b c h = differ true refl h.right
 by_reach (Some Two) true c h = differ true refl h.firm
 by_reach (Some Two) false c h = differ true refl h.left
 
-bad : (k : Option Class) (r : Rule) (c : Course) → passes_over r ≡ false → IsPlain (reached Right (reach_of k (Broke r)) c) → ⊥
+pub bad : (k : Option Class) (r : Rule) (c : Course) → passes_over r ≡ false → IsPlain (reached Right (reach_of k (Broke r)) c) → ⊥
 bad k r c e h =
     by_reach k (is_of_connection r) c
     (subst (λ (b : Bool). IsPlain (reached Right (reach_past b (reach_by k (is_of_connection r))) c)) e h)
@@ -102,7 +102,7 @@ none_rule (data2 destination number end user) = (rule.UnknownReference, refl, re
 none_rule (acknowledge credit destination number) = (rule.UnknownReference, refl, refl)
 none_rule (error destination cause) = (rule.UnknownReference, refl, refl)
 
-none_bad : (v : Value) (s : State) → s.course.loose ≡ false → s.course.strays ≡ false →
+pub none_bad : (v : Value) (s : State) → s.course.loose ≡ false → s.course.strays ≡ false →
     IsPlain (unnamed_told Right v s).state.course → ⊥
 none_bad v s firm plain h =
     let (r, is, over) = none_rule v in
@@ -111,7 +111,7 @@ none_bad v s firm plain h =
     ∙ ap (λ (b : Bool). unnamed_by b v) plain ∙ is in
     bad (class_for Right c) r c over (subst (λ (f : Finding). IsPlain (reached Right (reach_of (class_for Right c) f) c)) so h)
 
-reached_plain : (r : Reach) (c : Course) → (reached Right r c).strays ≡ false → c.strays ≡ false
+pub reached_plain : (r : Reach) (c : Course) → (reached Right r c).strays ≡ false → c.strays ≡ false
 reached_plain reach.Nothing c h = h
 reached_plain reach.Connection c h = h
 reached_plain reach.Side c h = h
@@ -119,7 +119,7 @@ reached_plain reach.Everything c h = h
 
 -- ---- a unit for a connection
 
-judged_same : (j : Bool) (f : Finding) → j ≡ true → (if j then f else NotJudged) ≡ f
+pub judged_same : (j : Bool) (f : Finding) → j ≡ true → (if j then f else NotJudged) ≡ f
 judged_same true f h = refl
 judged_same false f h = cc
 
@@ -380,7 +380,7 @@ pub record IsSane (s : State) : Type 0 where
 named_so : (a b c : Bool) → (not a && (not b && c)) ≡ true → (a ≡ false) × (b ≡ false) × (c ≡ true)
 named_so a b c h = three a b c h
 
-is_name : (c : Connection) (n : ℕ) → Sound c → is_named Right n c ≡ true → c.left.reference ≡ n
+pub is_name : (c : Connection) (n : ℕ) → Sound c → is_named Right n c ≡ true → c.left.reference ≡ n
 is_name c n sound h =
     let (a, b, e) = named_so (is_over Right c) (is_silent c.seen_by_right.phase) (c.seen_by_right.reference == n) h in
     sym (sound.right_knows.reference b) ∙ eqb-true c.seen_by_right.reference n e
