@@ -1,8 +1,7 @@
 -- A DR that a whole calling end takes for a reference that is gone closed nothing at the tap, whatever happens.
 -- For the law of that name.
-use Rattle.std.proofs.Common.{◌≡◌, ◌∙◌, ℕ, ◌+◌, suc, ◌<◌, ◌≤◌, Bool, true, false, List, [], ◌∷◌, ◌++◌, map, refl, sym, ap, subst, arith}
-use Rattle.std.proofs.Common.{Option, Some, None, inl, inr, ◌⊎◌, is_some, if◌then◌else◌}
-use Rattle.std.specs.Prelude.{◌&&◌, ◌||◌, slice_get}
+use Rattle.std.proofs.Common.{◌≡◌, ◌∙◌, ℕ, ◌+◌, ◌<◌, ◌≤◌, Bool, true, false, List, [], ◌∷◌, ◌++◌, map, refl, sym, ap, subst, arith}
+use Rattle.std.proofs.Common.{Option, Some, None, inl, is_some}
 use Rattle.std.specs.List.{AllByRecursion}
 use Rattle.std.proofs.lemmas.List.{append-nil}
 use Rattle.std.proofs.lemmas.Grind.{flat_map-append}
@@ -23,7 +22,7 @@ use Rattle.osi_rules.specs.Traffic.{State as Traffic, asked_by, is_stopped, pack
 use Rattle.osi_fair.specs.Asking.{asked_in, asks_with}
 use Rattle.osi_fair.specs.Naming.{Passing, packet, passes, rubbish, unit as passing}
 use Rattle.osi_fair.specs.Putting.{put_by, put_for}
-use Rattle.osi_fair.specs.Wholes.{Event, HappenAlong, Happens, MayCall, Whole, arrives, begin, begins_other, begins_own, calls, passes_other}
+use Rattle.osi_fair.specs.Wholes.{Event, HappenAlong, Happens, Whole, arrives, begin, begins_other, begins_own, calls, passes_other}
 use Rattle.osi_fair.specs.Wholes.{passes_own, passes_rubbish}
 use Rattle.osi_fair.proofs.a_reference_names_one_connection.{fresh_apart, no_item, passes_apart}
 use Rattle.osi_fair.proofs.a_request_of_a_whole_end_is_new.{Newer, still_newer, unit_gives}
@@ -34,7 +33,7 @@ use Rattle.osi_fair.proofs.what_a_calling_end_still_has.{IsLive, OffersTwo, all_
 use Rattle.osi_fair.proofs.what_a_calling_end_still_has.{unit_after}
 use Rattle.osi_fair.proofs.what_holds_of_one_item.{HoldsOfEach, after_map, each_map}
 use Rattle.osi_fair.proofs.what_lasts_at_the_tap.{Lasts, lasts_passing}
-use Rattle.osi_fair.proofs.what_stays_of_each_connection.{AreDistinct, IfAsked, IsAbove, IsLively, IsStarted, is_there, left_passes}
+use Rattle.osi_fair.proofs.what_stays_of_each_connection.{AreDistinct, IfAsked, IsLively, IsStarted, left_passes}
 use Rattle.osi_fair.proofs.what_stays_of_each_connection.{lively_stays, right_passes, started_stays}
 use Rattle.osi_fair.proofs.what_the_other_side_closes.{Came, IsDr, IsPlain, IsSane, Less, closed_by, closes as closes_one, stays, what_came}
 use Rattle.osi_fair.proofs.which_requests_are_put.{asked_among, call_asks, unit_asks}

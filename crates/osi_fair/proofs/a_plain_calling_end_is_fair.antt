@@ -1,6 +1,6 @@
 -- A whole calling end of class 2 is fair as long as the tap is plain: by induction over what happens.
 -- For the law of that name.
-use Rattle.std.proofs.Common.{◌≡◌, ◌≢◌, ◌∙◌, ℕ, Bool, true, false, List, [], ◌∷◌, ◌++◌, refl, sym, ap, subst}
+use Rattle.std.proofs.Common.{◌≡◌, ◌∙◌, ℕ, Bool, true, false, List, [], ◌∷◌, ◌++◌, refl, sym, ap, subst}
 use Rattle.std.proofs.Common.{Option, Some, None, inl, inr, ◌⊎◌, is_some}
 use Rattle.std.specs.List.{AllByRecursion}
 use Rattle.osi_tpdu.specs.Value.{Value, Connect, HasFieldsInRange, request, destination_of}
@@ -17,7 +17,7 @@ use Rattle.osi_rules.specs.declared.courses.Course.{Course}
 use Rattle.osi_rules.specs.declared.directions.Direction.TheVariants.{Left, Right}
 use Rattle.osi_rules.specs.declared.findings.Finding.TheVariants.{Kept, TooMany}
 use Rattle.osi_rules.specs.Reaches.{reach_by}
-use Rattle.osi_rules.specs.Traffic.{is_stopped, packet_begins, reached, refused, takes}
+use Rattle.osi_rules.specs.Traffic.{is_stopped, packet_begins, reached, takes}
 use Rattle.osi_fair.specs.Naming.{packet, passes, rubbish, unit as passing}
 use Rattle.osi_fair.specs.Putting.{put_by, put_for}
 use Rattle.osi_fair.specs.Wholes.{Event, HappenAlong, Happens, MayCall, Whole, arrives, begin, begins_other, begins_own, calls, passes_other}
@@ -29,7 +29,7 @@ use Rattle.osi_fair.proofs.a_unit_of_the_other_side_passes.{other_passes}
 use Rattle.osi_fair.proofs.a_whole_end_makes_a_call.{end_calls}
 use Rattle.osi_fair.proofs.a_whole_end_takes_a_unit.{end_takes}
 use Rattle.osi_fair.proofs.each_connection_has_its_line.{Followed, IsOwned, asking, of, other_begins, own_begins}
-use Rattle.osi_fair.proofs.how_a_calling_end_asks.{InZero, Rests, over, zero}
+use Rattle.osi_fair.proofs.how_a_calling_end_asks.{Rests, over, zero}
 use Rattle.osi_fair.proofs.how_requests_go_on.{Stage, answered, asks, known, quiet, refused as is_refused_there, rests, waits}
 use Rattle.osi_fair.proofs.no_request_is_blamed.{Holds as Staged, holds_first, holds_next, is_right}
 use Rattle.osi_fair.proofs.what_a_calling_end_still_has.{IsLive, OffersTwo, call_after, over_not, unit_after}

@@ -1,22 +1,21 @@
 -- The CRs that a whole calling end has put and that have not passed have references above those of all that have passed.
 -- For the law on requests.
-use Rattle.std.proofs.Common.{◌≡◌, ◌∙◌, ℕ, ◌+◌, suc, ◌<◌, ◌≤◌, Bool, true, false, List, [], ◌∷◌, ◌++◌, refl, sym, ap, subst, arith}
-use Rattle.std.proofs.Common.{Option, Some, None, if◌then◌else◌, is_some}
-use Rattle.std.specs.List.{AllByRecursion, flat_map, list_any}
+use Rattle.std.proofs.Common.{◌≡◌, ◌∙◌, ℕ, ◌+◌, suc, ◌≤◌, false, List, [], ◌∷◌, ◌++◌, refl, sym, ap, subst, arith}
+use Rattle.std.proofs.Common.{is_some}
+use Rattle.std.specs.List.{AllByRecursion, list_any}
 use Rattle.std.proofs.lemmas.List.{append-nil}
 use Rattle.std.proofs.lemmas.Grind.{flat_map-append}
 use Rattle.osi_tpdu.specs.Value.{Value, Connect, request, confirm, disconnect, disconnected, data0, data2, acknowledge, error}
 use Rattle.osi_carrier.specs.Calls.{open_link}
 use Rattle.osi_carrier.specs.Orderly.{connection_of}
 use Rattle.osi_carrier.specs.React.{react}
-use Rattle.osi_carrier.specs.Rising.{RiseBy}
 use Rattle.osi_carrier.specs.Runs.{UserCall, breaks, closes, connects, sends, sends_all, user_does}
 use Rattle.osi_carrier.specs.State.{State}
 use Rattle.osi_carrier.proofs.effects.a_unit_touches_one_connection.{effect}
 use Rattle.osi_rules.specs.declared.directions.Direction.TheVariants.{Left, Right}
 use Rattle.osi_rules.specs.Sides.{uses}
 use Rattle.osi_rules.specs.Traffic.{State as Traffic, is_not_judged}
-use Rattle.osi_fair.specs.Asking.{asked_in, asks_with}
+use Rattle.osi_fair.specs.Asking.{asked_in}
 use Rattle.osi_fair.specs.Naming.{packet, passes, rubbish, unit as passing}
 use Rattle.osi_fair.specs.Putting.{put_by, put_for}
 use Rattle.osi_fair.specs.Wholes.{Event, Happens, Whole, arrives, begins_other, begins_own, calls, passes_other, passes_own, passes_rubbish}

@@ -1,6 +1,6 @@
 -- A unit of a whole calling end passes: a CR, whose connection waits then, or a unit of an open connection, which is right.
 -- For the law on a whole end.
-use Rattle.std.proofs.Common.{◌≡◌, ◌≢◌, ◌∙◌, ℕ, zero, suc, Bool, true, false, List, [], ◌∷◌, ◌++◌, set, length, refl, sym, ap, subst}
+use Rattle.std.proofs.Common.{◌≡◌, ◌∙◌, ℕ, zero, suc, Bool, true, false, List, [], ◌∷◌, ◌++◌, set, refl, sym, ap, subst}
 use Rattle.std.proofs.Common.{Option, Some, None, inl, inr, ◌⊎◌, if◌then◌else◌}
 use Rattle.std.specs.Prelude.{◌&&◌, ◌||◌, ◌==◌, not, position, slice_get}
 use Rattle.std.specs.List.{AllByRecursion, position_or_len}
@@ -13,7 +13,6 @@ use Rattle.osi_class.specs.declared.terms.Local.{Local}
 use Rattle.osi_carrier.specs.Rows.{value_at}
 use Rattle.osi_carrier.specs.State.{State, Connection as Live, asked, closing, linked}
 use Rattle.osi_rules.specs.declared.connections.Connection.{Connection}
-use Rattle.osi_rules.specs.declared.directions.Direction.{Direction}
 use Rattle.osi_rules.specs.declared.directions.Direction.TheVariants.{Left, Right}
 use Rattle.osi_rules.specs.declared.findings.Finding.{Finding}
 use Rattle.osi_rules.specs.declared.findings.Finding.TheVariants.{Broke, Kept, NotJudged, Outside, TooMany}
@@ -26,10 +25,9 @@ use Rattle.osi_rules.specs.Sides.{is_closed, is_closing, is_free, is_named, is_o
 use Rattle.osi_rules.specs.Traffic.{Outcome, State as Traffic, asked_by, asks_by, class_for, is_stopped, none_told, placed, request_tests}
 use Rattle.osi_rules.specs.Traffic.{found, route, route_in, routed, takes, uses_source}
 use Rattle.osi_fair.specs.Following.{IsAtPlace}
-use Rattle.osi_fair.specs.Lines.{Act, ActsAlong, IsRight, IsRightNow, Line, after_finding, finding_of, passes_own}
-use Rattle.osi_fair.specs.Naming.{HoldsOfOne, unit as passing}
+use Rattle.osi_fair.specs.Lines.{IsRight, IsRightNow, Line, after_finding, finding_of, passes_own}
+use Rattle.osi_fair.specs.Naming.{unit as passing}
 use Rattle.osi_fair.specs.Wholes.{Whole}
-use Rattle.osi_fair.proofs.a_reference_names_one_connection.{not_first}
 use Rattle.osi_fair.proofs.a_right_unit_is_not_blamed.{first_there, is_first, named_of}
 use Rattle.osi_fair.proofs.a_unit_is_an_act_of_its_line.{after_is, found_is}
 use Rattle.osi_fair.proofs.an_end_closes_last.{waits_open}
@@ -37,15 +35,15 @@ use Rattle.osi_fair.proofs.an_open_end_is_fair.{open_is_fair}
 use Rattle.osi_fair.proofs.each_connection_has_its_line.{Followed, Following, IsAnswer, IsAsking, IsOwned, Row, Tracked, Tracks, Waiting}
 use Rattle.osi_fair.proofs.each_connection_has_its_line.{all_so, asking, asks, closes, is_tracked, is_waiting, of, talks, tracks_hold}
 use Rattle.osi_fair.proofs.each_connection_has_its_line.{tracks_on}
-use Rattle.osi_fair.proofs.what_holds_of_a_line.{Holds, PutsAt, Tally}
-use Rattle.osi_fair.proofs.what_holds_of_one_item.{HoldsOfEach, after_add, after_set, first_true}
-use Rattle.osi_fair.proofs.what_keeps_names_apart.{AreApart, Sound}
+use Rattle.osi_fair.proofs.what_holds_of_a_line.{PutsAt, Tally}
+use Rattle.osi_fair.proofs.what_holds_of_one_item.{after_add, after_set, first_true}
+use Rattle.osi_fair.proofs.what_keeps_names_apart.{Sound}
 use Rattle.osi_fair.proofs.what_lasts_at_the_tap.{lasts_passing}
 use Rattle.osi_fair.proofs.left_selects_no_class.{left_class}
 use Rattle.osi_fair.proofs.what_stays_of_each_connection.{own_stays, right_then}
-use Rattle.osi_fair.proofs.what_the_other_side_closes.{IsPlain, IsSane}
+use Rattle.osi_fair.proofs.what_the_other_side_closes.{IsSane}
 use Rattle.osi_fair.proofs.which_units_are_for_a_connection.{first_kept, first_left, heads, named_not, named_so, names, none_named, those}
-use Rattle.osi_fair.proofs.while_no_class_is_selected.{added_there, after_change, set_there}
+use Rattle.osi_fair.proofs.while_no_class_is_selected.{after_change, set_there}
 
 -- ---- where an item is
 

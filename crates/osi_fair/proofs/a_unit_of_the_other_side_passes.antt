@@ -1,12 +1,11 @@
 -- A unit of the other side passes at the tap of a whole calling end: what it does to the line of its connection, and to no other.
 -- For the law on a whole end.
-use Rattle.std.proofs.Common.{◌≡◌, ◌≢◌, ◌∙◌, ℕ, suc, ◌<◌, ◌≤◌, Bool, true, false, List, [], ◌∷◌, ◌++◌, set, refl, sym, ap, subst, arith}
-use Rattle.std.proofs.Common.{Option, Some, None, drop, length, inl, inr, ◌⊎◌, if◌then◌else◌, is_none}
-use Rattle.std.specs.Prelude.{◌%◌, ◌&&◌, ◌||◌, ◌==◌, not, position, slice_get, nat_le}
+use Rattle.std.proofs.Common.{◌≡◌, ◌≢◌, ◌∙◌, ℕ, ◌<◌, Bool, true, false, List, [], ◌∷◌, ◌++◌, set, refl, sym, ap, subst, arith}
+use Rattle.std.proofs.Common.{Option, Some, None, inl, inr, ◌⊎◌, if◌then◌else◌}
+use Rattle.std.specs.Prelude.{◌&&◌, ◌||◌, ◌==◌, not, slice_get}
 use Rattle.std.specs.List.{AllByRecursion, list_any}
-use Rattle.std.proofs.lemmas.Bool.{eq-eqb, eqb-true}
+use Rattle.std.proofs.lemmas.Bool.{eqb-true}
 use Rattle.std.proofs.lemmas.List.{append-nil}
-use Rattle.osi_tpdu.specs.Limits.{window_units}
 use Rattle.osi_tpdu.specs.Value.{Value, Connect, HasFieldsInRange, request, confirm, disconnect, disconnected, data0, data2, acknowledge, error}
 use Rattle.osi_tpdu.specs.Value.{destination_of}
 use Rattle.osi_class.specs.declared.terms.Class.{Class}
@@ -14,46 +13,42 @@ use Rattle.osi_class.specs.declared.terms.Class.TheVariants.{Two, Zero}
 use Rattle.osi_class.specs.declared.terms.Local.{Local}
 use Rattle.osi_carrier.specs.Negotiation.{agreed_size, opened_link}
 use Rattle.osi_carrier.specs.Rows.{value_at}
-use Rattle.osi_carrier.specs.State.{State, asked, closing, linked}
+use Rattle.osi_carrier.specs.State.{State, asked}
 use Rattle.osi_rules.specs.declared.connections.Connection.{Connection}
 use Rattle.osi_rules.specs.declared.courses.Course.{Course}
-use Rattle.osi_rules.specs.declared.directions.Direction.{Direction}
-use Rattle.osi_rules.specs.declared.directions.Direction.TheVariants.{Left, Right}
+use Rattle.osi_rules.specs.declared.directions.Direction.TheVariants.{Right}
 use Rattle.osi_rules.specs.declared.findings.Finding.{Finding}
-use Rattle.osi_rules.specs.declared.findings.Finding.TheVariants.{Broke, Kept, NotJudged, Outside, TooMany}
+use Rattle.osi_rules.specs.declared.findings.Finding.TheVariants.{Broke, Kept}
 use Rattle.osi_rules.specs.declared.findings.Reach.{Reach}
 use Rattle.osi_rules.specs.declared.findings.Reach.TheVariants as reach
-use Rattle.osi_rules.specs.declared.findings.Rule.{Rule}
 use Rattle.osi_rules.specs.declared.findings.Rule.TheVariants as rule
 use Rattle.osi_rules.specs.declared.halves.Half.{Half}
 use Rattle.osi_rules.specs.declared.halves.Phase.{Phase}
 use Rattle.osi_rules.specs.declared.halves.Phase.TheVariants.{Silent, Open, Refused, Closing, Closed}
-use Rattle.osi_rules.specs.Reaches.{is_applied, passes_over, reach_of}
-use Rattle.osi_rules.specs.Rows.{Test, first_failed, acknowledge_tests, code_named, confirm_tests, data2_tests, is_due, is_inside}
-use Rattle.osi_rules.specs.Rows.{is_offered, selects_expedited}
-use Rattle.osi_rules.specs.Sides.{is_closed, is_closing, is_named, is_open, is_over, is_over_by, is_refused, is_silent, uses}
-use Rattle.osi_rules.specs.Traffic.{Outcome, State as Traffic, at_found, at_place, class_for, class_of, closing_phase, connection_after}
-use Rattle.osi_rules.specs.Traffic.{course_after, found, found_on, half_after, is_stray, none_told, one_told, reached, route, route_in, routed}
+use Rattle.osi_rules.specs.Reaches.{is_applied, reach_of}
+use Rattle.osi_rules.specs.Sides.{is_closed, is_closing, is_open, is_over, is_over_by, is_refused, is_silent, uses}
+use Rattle.osi_rules.specs.Traffic.{Outcome, class_for, class_of, closing_phase, connection_after}
+use Rattle.osi_rules.specs.Traffic.{course_after, found_on, half_after, reached}
 use Rattle.osi_rules.specs.Traffic.{sent_on, takes, uses_source}
-use Rattle.osi_fair.specs.Lines.{Act, ActsAlong, Line, after_finding, finding_of, opened_line, passes_other}
+use Rattle.osi_fair.specs.Lines.{Line, after_finding, finding_of, opened_line, passes_other}
 use Rattle.osi_fair.specs.Naming.{unit as passing}
 use Rattle.osi_fair.specs.Wholes.{Whole}
 use Rattle.osi_fair.proofs.a_request_of_a_whole_end_is_new.{Newer}
-use Rattle.osi_fair.proofs.a_unit_of_a_whole_end_passes.{and_first, and_second, both, differ, item_is, left_open, none_begun, open_not, right_there}
+use Rattle.osi_fair.proofs.a_unit_of_a_whole_end_passes.{and_first, and_second, both, differ, item_is, left_open, none_begun, right_there}
 use Rattle.osi_fair.proofs.a_unit_of_a_whole_end_passes.{all_two, set_other, there_not_silent, unlike, uses_tracked}
-use Rattle.osi_fair.proofs.each_connection_has_its_line.{Followed, Following, IsAnswer, IsAsking, IsNoCc, IsOwned, Row, Tracked, Tracks}
+use Rattle.osi_fair.proofs.each_connection_has_its_line.{Followed, Following, IsAnswer, IsAsking, IsNoCc, IsOwned, Row, Tracked}
 use Rattle.osi_fair.proofs.each_connection_has_its_line.{AreGiven, Waiting, all_so, asking, asks, closes, is_tracked, is_waiting, of, talks, tracks_on}
 use Rattle.osi_fair.proofs.how_a_connection_opens.{calling_opens}
 use Rattle.osi_fair.proofs.references_of_requests_rise.{Rise, rise_from}
-use Rattle.osi_fair.proofs.what_holds_of_one_item.{HoldsOfEach, none_true}
+use Rattle.osi_fair.proofs.what_holds_of_one_item.{none_true}
 use Rattle.osi_fair.proofs.what_keeps_names_apart.{Sound}
 use Rattle.osi_fair.proofs.what_lasts_at_the_tap.{lasts_passing}
 use Rattle.osi_fair.proofs.what_stays_of_each_connection.{left_then, right_judged, right_own}
-use Rattle.osi_fair.proofs.what_the_other_side_closes.{IsPlain, IsSane, bad, is_name, judged_same, none_bad, reached_plain}
+use Rattle.osi_fair.proofs.what_the_other_side_closes.{IsPlain, IsSane, is_name}
 use Rattle.osi_fair.proofs.which_requests_are_put.{asked_among}
-use Rattle.osi_fair.proofs.which_units_are_for_a_connection.{heads, heads_nothing, named_not, named_so, names, one_more, those, those_join}
+use Rattle.osi_fair.proofs.which_units_are_for_a_connection.{heads_nothing, named_not, named_so, names, one_more, those, those_join}
 use Rattle.osi_fair.proofs.which_units_are_for_a_connection.{first_left, those_nothing}
-use Rattle.osi_fair.proofs.while_no_class_is_selected.{after_change, named_where, set_there}
+use Rattle.osi_fair.proofs.while_no_class_is_selected.{after_change, set_there}
 use Rattle.osi_fair.proofs.what_becomes_of_a_connection.{Answered, Told, answered, cc_waits, open_stays, opens, refused}
 
 -- ---- what has come for a connection, with one unit more

@@ -1,25 +1,25 @@
 -- The user of a whole calling end makes a call: what it does to an open connection is acts of its line, and a CR waits to pass.
 -- For the law on a whole end.
-use Rattle.std.proofs.Common.{◌≡◌, ◌≢◌, ◌∙◌, ℕ, ◌+◌, suc, ◌<◌, ◌≤◌, Bool, true, false, List, [], ◌∷◌, ◌++◌, length, refl, sym, ap, subst}
-use Rattle.std.proofs.Common.{Option, Some, None, inl, inr, ◌⊎◌, arith, is_none, is_some, if◌then◌else◌}
+use Rattle.std.proofs.Common.{◌≡◌, ◌∙◌, ℕ, ◌+◌, ◌≤◌, Bool, true, false, List, [], ◌∷◌, ◌++◌, length, refl, sym, ap, subst}
+use Rattle.std.proofs.Common.{Option, Some, None, inl, inr, arith, is_none, is_some, if◌then◌else◌}
 use Rattle.std.specs.Prelude.{◌&&◌, ◌||◌, ◌==◌, not, slice_get}
 use Rattle.std.specs.List.{AllByRecursion}
 use Rattle.std.proofs.lemmas.Bool.{eqb-true}
 use Rattle.std.proofs.lemmas.List.{append-nil}
 use Rattle.osi_tpdu.specs.Limits.{window_units}
-use Rattle.osi_tpdu.specs.Value.{Value, Connect, confirm, request, destination_of}
+use Rattle.osi_tpdu.specs.Value.{Value, Connect, request, destination_of}
 use Rattle.osi_class.specs.Limits.{longest_tsdu}
 use Rattle.osi_class.specs.Link.{Standing, with_tsdu}
 use Rattle.osi_class.specs.declared.terms.Class.{Class}
-use Rattle.osi_class.specs.declared.terms.Class.TheVariants.{Two, Zero}
+use Rattle.osi_class.specs.declared.terms.Class.TheVariants.{Two}
 use Rattle.osi_class.specs.declared.terms.Local.{Local}
-use Rattle.osi_carrier.specs.Calls.{asks as asks_for, closed_on, closed_with, closes as closes_in, ended_by, link_of, may_connect, open_link}
+use Rattle.osi_carrier.specs.Calls.{asks as asks_for, closed_on, closed_with, closes as closes_in, ended_by, link_of, open_link}
 use Rattle.osi_carrier.specs.Calls.{sent, sent_all, sent_on}
 use Rattle.osi_carrier.specs.Negotiation.{alternatives, proposal, proposal_by, proposes_two, proposes_zero}
 use Rattle.osi_class.specs.Negotiation.{lists}
 use Rattle.osi_carrier.specs.Orderly.{IsOrderly}
 use Rattle.osi_carrier.specs.Pump.{pumped}
-use Rattle.osi_carrier.specs.Rows.{Rows, put, value_at}
+use Rattle.osi_carrier.specs.Rows.{value_at}
 use Rattle.osi_carrier.specs.Runs.{UserCall, breaks, closes as closes_call, connects, sends, sends_all, user_does}
 use Rattle.osi_carrier.specs.State.{State, Connection as Live, asked, closing, linked, ends as ends_as}
 use Rattle.osi_carrier.specs.declared.ends.EndReason.{EndReason}
@@ -27,10 +27,9 @@ use Rattle.osi_carrier.proofs.references.rows_after_a_change.{push_other, put_ot
 use Rattle.osi_carrier.proofs.references.what_a_change_leaves_there.{beyond, push_here, put_here}
 use Rattle.osi_rules.specs.declared.connections.Connection.{Connection}
 use Rattle.osi_rules.specs.declared.directions.Direction.TheVariants.{Left}
-use Rattle.osi_rules.specs.declared.halves.Half.{Half}
 use Rattle.osi_rules.specs.Traffic.{asked_by}
 use Rattle.osi_fair.specs.Following.{Follows, link_now}
-use Rattle.osi_fair.specs.Lines.{ActsAlong, Line, opened_half}
+use Rattle.osi_fair.specs.Lines.{Line, opened_half}
 use Rattle.osi_fair.specs.Putting.{put_by, put_closing, put_sent, put_together}
 use Rattle.osi_fair.specs.Wholes.{MayCall, Whole}
 use Rattle.osi_fair.proofs.a_carrier_follows_lines.{follows_closed, follows_sent}
@@ -38,12 +37,12 @@ use Rattle.osi_fair.proofs.a_request_of_a_whole_end_is_new.{Newer}
 use Rattle.osi_fair.proofs.a_unit_of_a_whole_end_passes.{item_is, one_peer, unlike}
 use Rattle.osi_fair.proofs.a_whole_end_takes_a_unit.{Linked, ends, still}
 use Rattle.osi_fair.proofs.calls_of_a_line_join.{follows_together, still_open}
-use Rattle.osi_fair.proofs.each_connection_has_its_line.{AreGiven, Followed, Following, IsAnswer, IsAsking, IsOwned, Row, Tracked, Tracks}
-use Rattle.osi_fair.proofs.each_connection_has_its_line.{Waiting, all_so, asking, asks, closes, is_tracked, talks, tracks_hold, tracks_on}
+use Rattle.osi_fair.proofs.each_connection_has_its_line.{AreGiven, Followed, Following, IsAnswer, IsAsking, IsOwned, Row, Tracked}
+use Rattle.osi_fair.proofs.each_connection_has_its_line.{all_so, asking, asks, closes, is_tracked, talks, tracks_hold, tracks_on}
 use Rattle.osi_fair.proofs.how_a_connection_opens.{asked_so}
 use Rattle.osi_fair.proofs.references_of_requests_rise.{all_gives, closed_gives, sent_gives}
-use Rattle.osi_fair.proofs.what_a_calling_end_still_has.{OffersTwo, over_not}
-use Rattle.osi_fair.proofs.what_a_whole_end_takes.{Owner, Puts, all_join, heads_more, some_more, units_ask, units_owned}
+use Rattle.osi_fair.proofs.what_a_calling_end_still_has.{OffersTwo}
+use Rattle.osi_fair.proofs.what_a_whole_end_takes.{Owner, all_join, heads_more, some_more, units_ask, units_owned}
 use Rattle.osi_fair.proofs.what_the_other_side_closes.{IsSane}
 use Rattle.osi_fair.proofs.which_units_are_for_a_connection.{AllNamed, last_named, line_named, names, names_in, named_not, those, those_all}
 use Rattle.osi_fair.proofs.which_units_are_for_a_connection.{those_join, those_none, those_nothing}

@@ -1,8 +1,8 @@
 -- A whole calling end takes a unit: what it was for its connection is an act of the line, and the other lines stay.
 -- For the law on a whole end.
-use Rattle.std.proofs.Common.{◌≡◌, ◌≢◌, ◌∙◌, ℕ, ◌+◌, Bool, true, false, List, [], ◌∷◌, ◌++◌, refl, sym, ap, subst}
+use Rattle.std.proofs.Common.{◌≡◌, ◌∙◌, ℕ, Bool, true, false, List, [], ◌∷◌, ◌++◌, refl, sym, ap, subst}
 use Rattle.std.proofs.Common.{Option, Some, None, Result, Ok, Err, inl, inr, ◌⊎◌, is_none, is_some, if◌then◌else◌}
-use Rattle.std.specs.Prelude.{◌&&◌, ◌||◌, ◌==◌, not, slice_get}
+use Rattle.std.specs.Prelude.{◌&&◌, ◌==◌, not, slice_get}
 use Rattle.std.specs.List.{AllByRecursion}
 use Rattle.std.proofs.lemmas.List.{append-nil}
 use Rattle.osi_tpdu.specs.Value.{Value, Connect, request, confirm, disconnect, disconnected, data0, data2, acknowledge, error, destination_of}
@@ -11,31 +11,31 @@ use Rattle.osi_class.specs.declared.faults.LinkFault.{LinkFault}
 use Rattle.osi_class.specs.declared.terms.Class.{Class}
 use Rattle.osi_class.specs.declared.terms.Class.TheVariants.{Two, Zero}
 use Rattle.osi_class.specs.declared.terms.Local.{Local}
-use Rattle.osi_carrier.specs.Negotiation.{agreed_size, confirmed, opened_link, proposes_two, proposes_zero, selects_expedited}
-use Rattle.osi_carrier.specs.Orderly.{IsOrderly, RiseFrom, connection_by, connection_of, or_next}
+use Rattle.osi_carrier.specs.Negotiation.{agreed_size, opened_link, proposes_two, proposes_zero, selects_expedited}
+use Rattle.osi_carrier.specs.Orderly.{IsOrderly, RiseFrom, connection_by, or_next}
 use Rattle.osi_carrier.specs.Pump.{pumped}
 use Rattle.osi_carrier.specs.React.{before_class, breaks as breaks_in, handed_out, in_class, in_two, leaves, opens, react_by, taking, to_asked}
 use Rattle.osi_carrier.specs.React.{to_closing, to_connection, to_linked, to_unknown}
 unfoldable use Rattle.osi_carrier.specs.React.{react}
-use Rattle.osi_carrier.specs.Rows.{Rows, put, value_at, without}
+use Rattle.osi_carrier.specs.Rows.{value_at}
 use Rattle.osi_carrier.specs.State.{State, Connection as Live, asked, closing, linked}
 use Rattle.osi_carrier.specs.declared.ends.EndReason.{EndReason}
 use Rattle.osi_carrier.proofs.effects.a_unit_touches_one_connection.{changes_one}
 use Rattle.osi_carrier.proofs.references.what_a_change_leaves_there.{put_here, without_here}
 use Rattle.osi_rules.specs.declared.connections.Connection.{Connection}
 use Rattle.osi_rules.specs.declared.directions.Direction.TheVariants.{Left}
-use Rattle.osi_fair.specs.Following.{Follows, link_now}
-use Rattle.osi_fair.specs.Lines.{Act, ActsAlong, Line, ignores}
-use Rattle.osi_fair.specs.Putting.{put_at, put_before, put_for, put_in, put_in_two, put_to}
+use Rattle.osi_fair.specs.Following.{link_now}
+use Rattle.osi_fair.specs.Lines.{Line, ignores}
+use Rattle.osi_fair.specs.Putting.{put_at, put_for, put_in, put_in_two}
 use Rattle.osi_fair.specs.Wholes.{Whole}
 use Rattle.osi_fair.proofs.a_carrier_follows_lines.{follows_open}
 use Rattle.osi_fair.proofs.a_request_of_a_whole_end_is_new.{unit_gives}
 use Rattle.osi_fair.proofs.a_unit_of_a_whole_end_passes.{differ}
-use Rattle.osi_fair.proofs.each_connection_has_its_line.{Followed, Following, IsAnswer, IsNoCc, Row, Tracked, Tracks, asks, closes, is_tracked}
+use Rattle.osi_fair.proofs.each_connection_has_its_line.{Followed, Following, IsAnswer, IsNoCc, Row, Tracked, asks, closes, is_tracked}
 use Rattle.osi_fair.proofs.each_connection_has_its_line.{talks, tracks_hold, tracks_on}
 use Rattle.osi_fair.proofs.how_a_calling_end_asks.{IsCalling, put_is as put_calling, react_is as react_calling}
 use Rattle.osi_fair.proofs.what_a_calling_end_still_has.{IsLive, OffersTwo, and_none, never_zero, over_not, unit_after}
-use Rattle.osi_fair.proofs.what_a_whole_end_takes.{Owner, Puts, heads_more, rest_is, taken_so}
+use Rattle.osi_fair.proofs.what_a_whole_end_takes.{Puts, heads_more, rest_is, taken_so}
 use Rattle.osi_fair.proofs.what_the_other_side_closes.{IsDr, IsSane, closed_by}
 use Rattle.osi_fair.proofs.which_units_are_for_a_connection.{AllNamed, first_kept, last_named, line_named, named_so, those, those_all, those_join}
 

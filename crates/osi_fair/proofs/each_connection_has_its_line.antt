@@ -15,13 +15,11 @@ use Rattle.osi_carrier.specs.Negotiation.{agreed_size, opened_link}
 use Rattle.osi_carrier.specs.Rows.{value_at}
 use Rattle.osi_carrier.specs.State.{State, Connection as Live, asked, closing, linked}
 use Rattle.osi_rules.specs.declared.connections.Connection.{Connection}
-use Rattle.osi_rules.specs.declared.courses.Course.{Course}
 use Rattle.osi_rules.specs.declared.directions.Direction.{Direction}
 use Rattle.osi_rules.specs.declared.directions.Direction.TheVariants.{Left, Right}
 use Rattle.osi_rules.specs.declared.halves.Half.{Half}
 use Rattle.osi_rules.specs.Sides.{begins, is_closing, is_open, is_silent}
 use Rattle.osi_rules.specs.Traffic.{State as Traffic, asked_by, packet_begins, silent_half}
-use Rattle.osi_fair.specs.Following.{link_now}
 use Rattle.osi_fair.specs.Lines.{Act, ActsAlong, IsOpened, Line, begins_elsewhere, begins_other, begins_own, opened_half}
 use Rattle.osi_fair.specs.Wholes.{Whole}
 use Rattle.osi_fair.proofs.an_end_closes_last.{left_holds}

@@ -1,15 +1,15 @@
 -- What a calling end does while no class is selected, and in class 0: it asks for one connection, and for no other.
 -- For the law on requests.
-use Rattle.std.proofs.Common.{◌≡◌, ◌∙◌, ℕ, ◌+◌, Bool, true, false, List, [], ◌∷◌, ◌++◌, length, refl, sym, ap, subst}
-use Rattle.std.proofs.Common.{Option, Some, None, Result, Ok, Err, if◌then◌else◌, is_some, is_none, inl, inr, ◌⊎◌, nat_lt}
-use Rattle.std.specs.Prelude.{◌&&◌, ◌||◌, ◌==◌, not}
+use Rattle.std.proofs.Common.{◌≡◌, ◌∙◌, ℕ, ◌+◌, Bool, true, false, List, [], ◌∷◌, ◌++◌, refl, sym, ap, subst}
+use Rattle.std.proofs.Common.{Option, Some, None, Result, Ok, Err, if◌then◌else◌, is_some, inl, inr, ◌⊎◌}
+use Rattle.std.specs.Prelude.{◌&&◌, ◌==◌, not}
 use Rattle.std.proofs.lemmas.Bool.{eq-eqb}
 use Rattle.osi_tpdu.specs.Value.{Value, Connect, request, confirm, disconnect, disconnected, data0, data2, acknowledge, error}
 use Rattle.osi_class.specs.Link.{Standing, taken, with_tsdu}
 use Rattle.osi_class.specs.declared.faults.LinkFault.{LinkFault}
 use Rattle.osi_class.specs.declared.terms.Class.{Class}
 use Rattle.osi_class.specs.declared.terms.Class.TheVariants.{Two, Zero}
-use Rattle.osi_carrier.specs.Calls.{class_error, closed_on, closed_with, closes as closes_in, ended_by, link_of, may_connect, open_link}
+use Rattle.osi_carrier.specs.Calls.{class_error, closed_on, closes as closes_in, link_of, may_connect, open_link}
 use Rattle.osi_carrier.specs.Calls.{or_else, room_error, sent, sent_all, sent_on}
 use Rattle.osi_carrier.specs.Negotiation.{agreed_size, confirmed, opened_link, proposal, proposal_by, proposes_two, proposes_zero}
 use Rattle.osi_carrier.specs.Negotiation.{selects_expedited}
@@ -19,12 +19,12 @@ use Rattle.osi_carrier.specs.React.{to_linked, to_only}
 unfoldable use Rattle.osi_carrier.specs.React.{react}
 use Rattle.osi_carrier.specs.Rows.{Rows, put, value_at, without}
 use Rattle.osi_carrier.specs.Runs.{UserCall, breaks, closes, connects, sends, sends_all, user as by_user, user_does}
-use Rattle.osi_carrier.specs.State.{Connection, State, asked, closing, ends, linked}
+use Rattle.osi_carrier.specs.State.{Connection, State, asked, ends, linked}
 use Rattle.osi_carrier.specs.declared.ends.EndReason.{EndReason}
 use Rattle.osi_carrier.specs.declared.faults.OpenError.{OpenError}
 use Rattle.osi_carrier.specs.declared.faults.OpenError.TheVariants.{Ended, Negotiating, NotCaller, OneConnection}
 use Rattle.osi_fair.specs.Asking.{asks_with}
-use Rattle.osi_fair.specs.Putting.{put_at, put_before, put_by, put_closing, put_for, put_in, put_sent, put_to, put_together, put_unknown}
+use Rattle.osi_fair.specs.Putting.{put_at, put_before, put_by, put_closing, put_for, put_in, put_sent, put_together}
 use Rattle.osi_fair.specs.Wholes.{MayCall}
 use Rattle.osi_fair.proofs.while_no_class_is_selected.{IsDc, IsRefusal}
 

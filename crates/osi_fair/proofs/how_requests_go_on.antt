@@ -1,12 +1,11 @@
 -- The stages of a whole calling end, of its requests: none, one that waits to pass, one that waits for its answer, and class 2.
 -- For the law on requests.
 use Rattle.std.proofs.Common.{◌≡◌, ◌≢◌, ◌∙◌, ℕ, Bool, true, false, List, [], ◌∷◌, ◌++◌, map, refl, sym, ap, subst, append_assoc}
-use Rattle.std.proofs.Common.{Option, Some, None, inl, inr, ◌⊎◌, is_some, if◌then◌else◌}
-use Rattle.std.specs.Prelude.{◌||◌, ◌==◌, not}
+use Rattle.std.proofs.Common.{Some, inl, inr, ◌⊎◌, is_some, if◌then◌else◌}
+use Rattle.std.specs.Prelude.{◌==◌, not}
 use Rattle.std.specs.List.{AllByRecursion, list_all, list_any}
 use Rattle.std.proofs.lemmas.Grind.{flat_map-append}
 use Rattle.osi_tpdu.specs.Value.{Value, Connect, request, confirm}
-use Rattle.osi_class.specs.declared.terms.Class.{Class}
 use Rattle.osi_class.specs.declared.terms.Class.TheVariants.{Two, Zero}
 use Rattle.osi_carrier.specs.React.{react}
 use Rattle.osi_carrier.specs.Rows.{Rows}
@@ -14,12 +13,11 @@ use Rattle.osi_carrier.specs.Runs.{UserCall, user as by_user, user_does}
 use Rattle.osi_carrier.specs.State.{State, Connection as Live}
 use Rattle.osi_rules.specs.declared.connections.Connection.{Connection}
 use Rattle.osi_rules.specs.declared.directions.Direction.TheVariants.{Left, Right}
-use Rattle.osi_rules.specs.declared.findings.Finding.{Finding}
-use Rattle.osi_rules.specs.declared.findings.Finding.TheVariants.{Broke, Kept, NotJudged, TooMany}
+use Rattle.osi_rules.specs.declared.findings.Finding.TheVariants.{Broke, NotJudged, TooMany}
 use Rattle.osi_rules.specs.declared.findings.Rule.TheVariants as rule
 use Rattle.osi_rules.specs.Rows.{first_failed}
 use Rattle.osi_rules.specs.Sides.{begins, is_over, uses}
-use Rattle.osi_rules.specs.Traffic.{State as Traffic, asks_by, class_of, has_place, is_not_judged, packet_begins, refused as not_read, request_tests}
+use Rattle.osi_rules.specs.Traffic.{State as Traffic, class_of, has_place, is_not_judged, packet_begins, refused as not_read, request_tests}
 use Rattle.osi_rules.specs.Traffic.{takes}
 use Rattle.osi_fair.specs.Asking.{asked_in, asks_with}
 use Rattle.osi_fair.specs.Naming.{packet, rubbish, unit as passing}
@@ -29,11 +27,11 @@ use Rattle.osi_fair.specs.Wholes.{passes_rubbish}
 use Rattle.osi_fair.proofs.a_new_reference_is_not_in_use.{Passed}
 use Rattle.osi_fair.proofs.a_refused_request_waits_no_more.{all_from}
 use Rattle.osi_fair.proofs.a_request_of_a_whole_end_is_new.{IsUnused, Newer, next_unused}
-use Rattle.osi_fair.proofs.how_a_calling_end_asks.{AfterCc, Calls, Idle, IsCalling, IsOver, Puts, Rests, asks_one, broke, confirm_takes}
+use Rattle.osi_fair.proofs.how_a_calling_end_asks.{AfterCc, Calls, Idle, IsCalling, IsOver, Rests, asks_one, broke, confirm_takes}
 use Rattle.osi_fair.proofs.how_a_calling_end_asks.{dc_ends, idles, none_calls, one, one_calls, over, over_calls, over_takes}
 use Rattle.osi_fair.proofs.how_a_calling_end_asks.{refusal_takes, rests_calls, rests_takes, same}
 use Rattle.osi_fair.proofs.what_holds_of_one_item.{HoldsOfEach}
-use Rattle.osi_fair.proofs.what_lasts_at_the_tap.{Lasts, lasts_passing}
+use Rattle.osi_fair.proofs.what_lasts_at_the_tap.{lasts_passing}
 use Rattle.osi_fair.proofs.which_requests_are_put.{asked_among, call_asks, unit_asks}
 use Rattle.osi_fair.proofs.while_no_class_is_selected.{AllOver, Answer, Asked, GoesOn, IsDc, IsDone, IsRefusal, Waits, asks_passed, calm_tap}
 use Rattle.osi_fair.proofs.while_no_class_is_selected.{confirms, done_begins, done_takes, over_begins, over_still, refuses, says_nothing}

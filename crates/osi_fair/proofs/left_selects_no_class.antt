@@ -1,6 +1,6 @@
 -- The class that right's CC selects stays as units of left pass.
 -- For the law on a whole end.
-use Rattle.std.proofs.Common.{◌≡◌, ◌∙◌, ℕ, Bool, true, false, List, refl, Option, Some, None, if◌then◌else◌}
+use Rattle.std.proofs.Common.{◌≡◌, ◌∙◌, ℕ, Bool, true, false, refl, Option, Some, None, if◌then◌else◌}
 use Rattle.std.specs.Prelude.{position, slice_get}
 use Rattle.osi_tpdu.specs.Value.{Value, Connect, request, confirm, disconnect, disconnected, data0, data2, acknowledge, error}
 use Rattle.osi_rules.specs.declared.connections.Connection.{Connection}

@@ -1,7 +1,7 @@
 -- No CR of a whole calling end is blamed, whatever happens.
 -- For the law of that name.
-use Rattle.std.proofs.Common.{◌≡◌, ◌∙◌, ℕ, Bool, true, false, List, [], ◌∷◌, refl, sym, ap, subst, arith}
-use Rattle.std.proofs.Common.{Option, Some, None, inl, inr, ◌⊎◌}
+use Rattle.std.proofs.Common.{◌≡◌, ◌∙◌, Bool, true, false, List, [], ◌∷◌, refl, sym, ap, subst, arith}
+use Rattle.std.proofs.Common.{◌⊎◌}
 use Rattle.osi_tpdu.specs.Value.{Value, Connect, request}
 use Rattle.osi_class.specs.declared.terms.Local.{Local}
 use Rattle.osi_rules.specs.declared.connections.Connection.{Connection}
@@ -9,14 +9,13 @@ use Rattle.osi_rules.specs.declared.directions.Direction.TheVariants.{Left, Righ
 use Rattle.osi_rules.specs.declared.findings.Finding.{Finding}
 use Rattle.osi_rules.specs.declared.findings.Finding.TheVariants.{Kept, TooMany}
 use Rattle.osi_rules.specs.Rows.{first_failed}
-use Rattle.osi_rules.specs.Traffic.{State as Traffic, fresh, is_stopped, request_tests, takes}
+use Rattle.osi_rules.specs.Traffic.{State as Traffic, is_stopped, request_tests, takes}
 use Rattle.osi_fair.specs.Naming.{packet, rubbish, unit as passing}
 use Rattle.osi_fair.specs.Wholes.{Event, HappenAlong, Happens, Whole, arrives, begin, begins_other, begins_own, calls, passes_other, passes_own}
 use Rattle.osi_fair.specs.Wholes.{passes_rubbish}
 use Rattle.osi_fair.proofs.a_new_reference_is_not_in_use.{Passed, asked_finding, asked_is, tests_pass}
 use Rattle.osi_fair.proofs.a_reference_names_one_connection.{no_item}
 use Rattle.osi_fair.proofs.a_request_of_a_whole_end_is_new.{IsUnused, Newer, next_unused, still_newer}
-use Rattle.osi_fair.proofs.how_a_calling_end_asks.{Rests}
 use Rattle.osi_fair.proofs.how_requests_go_on.{Stage, answered, asks, calm_passes, known, quiet, refused, rests, still_staged, waits}
 use Rattle.osi_fair.proofs.what_lasts_at_the_tap.{lasts_passing}
 use Rattle.osi_fair.proofs.which_requests_are_put.{asked_among}

@@ -10,11 +10,11 @@ use Rattle.osi_class.specs.declared.faults.LinkFault.{LinkFault}
 use Rattle.osi_class.specs.declared.terms.Class.{Class}
 use Rattle.osi_class.specs.declared.terms.Class.TheVariants.{Two, Zero}
 use Rattle.osi_class.specs.declared.terms.Local.{Local}
-use Rattle.osi_carrier.specs.Calls.{closed_on, closed_with, closes as closes_in, ended_by, open_link, sent, sent_all, sent_on}
+use Rattle.osi_carrier.specs.Calls.{closed_on, closes as closes_in, open_link, sent, sent_all, sent_on}
 use Rattle.osi_carrier.specs.Negotiation.{agreed_size, confirmed, opened_link, proposes_two, proposes_zero, selects_expedited}
 use Rattle.osi_carrier.specs.Pump.{pumped}
 use Rattle.osi_carrier.specs.React.{before_class, breaks as breaks_in, handed_out, in_class, in_two, leaves, opens, react_by, taking, to_asked}
-use Rattle.osi_carrier.specs.React.{to_closing, to_connection, to_linked, to_reference, to_unknown}
+use Rattle.osi_carrier.specs.React.{to_closing, to_connection, to_linked, to_unknown}
 unfoldable use Rattle.osi_carrier.specs.React.{react}
 use Rattle.osi_carrier.specs.Rows.{Rows, put, value_at, without}
 use Rattle.osi_carrier.specs.Runs.{UserCall, breaks, closes, connects, sends, sends_all, user_does}

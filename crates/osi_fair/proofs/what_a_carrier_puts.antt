@@ -1,6 +1,6 @@
 -- What a carrier writes as it takes a unit, and as its user makes a call, is the packets of the units that it puts.
 -- For the law of that name.
-use Rattle.std.proofs.Common.{◌≡◌, ◌∙◌, ℕ, ◌+◌, Bool, true, false, List, [], ◌∷◌, ◌++◌, drop, take, map, refl, sym, ap}
+use Rattle.std.proofs.Common.{◌≡◌, ◌∙◌, ℕ, Bool, true, false, List, [], ◌∷◌, ◌++◌, refl, sym, ap}
 use Rattle.std.proofs.Common.{Option, Some, None, Result, Ok, Err, append_assoc, if◌then◌else◌, is_some}
 use Rattle.std.proofs.lemmas.List.{append-nil}
 use Rattle.std.proofs.lemmas.Grind.{flat_map-append}
@@ -12,7 +12,7 @@ use Rattle.osi_class.specs.Negotiation.{Selection, accept, refuse, selected_by}
 use Rattle.osi_class.specs.declared.faults.LinkFault.{LinkFault}
 use Rattle.osi_class.specs.declared.terms.Class.{Class}
 use Rattle.osi_class.specs.declared.terms.Class.TheVariants.{Two, Zero}
-use Rattle.osi_carrier.specs.Calls.{closed_on, closed_with, closes as closes_in, ended_by, open_link, sent, sent_all, sent_on}
+use Rattle.osi_carrier.specs.Calls.{closed_on, closes as closes_in, open_link, sent, sent_all, sent_on}
 use Rattle.osi_carrier.specs.Negotiation.{confirmed}
 use Rattle.osi_carrier.specs.React.{answers, answers_request, before_class, breaks as breaks_in, denies, has_peer, in_class, in_two, in_zero}
 use Rattle.osi_carrier.specs.React.{is_full, leaves, opens, react_by, taking, to_asked, to_closing, to_connection, to_linked, to_only}

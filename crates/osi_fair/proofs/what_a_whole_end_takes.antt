@@ -1,25 +1,23 @@
 -- What the line of each connection of a whole calling end is after the end has taken a unit that names a connection.
 -- For the law on a whole end.
 use Rattle.std.proofs.Common.{◌≡◌, ◌≢◌, ◌∙◌, ◌≤◌, ℕ, Bool, true, false, List, [], ◌∷◌, ◌++◌, refl, sym, ap, subst, arith}
-use Rattle.std.proofs.Common.{Option, Some, None, inl, inr, ◌⊎◌}
-use Rattle.std.specs.Prelude.{◌&&◌, ◌||◌, ◌==◌, slice_get}
+use Rattle.std.proofs.Common.{Some, inl, inr, ◌⊎◌}
+use Rattle.std.specs.Prelude.{◌&&◌, ◌==◌, slice_get}
 use Rattle.std.specs.List.{AllByRecursion}
 use Rattle.std.proofs.lemmas.Bool.{eqb-true}
 use Rattle.std.proofs.lemmas.List.{append-nil}
 use Rattle.osi_tpdu.specs.Value.{Value, Connect, confirm, request, destination_of}
 use Rattle.osi_class.specs.Link.{Standing}
-use Rattle.osi_class.specs.declared.terms.Class.{Class}
 use Rattle.osi_class.specs.declared.terms.Class.TheVariants.{Two}
 use Rattle.osi_class.specs.declared.terms.Local.{Local}
 use Rattle.osi_carrier.specs.Rows.{value_at}
-use Rattle.osi_carrier.specs.State.{State, Connection as Live, asked, closing, linked}
+use Rattle.osi_carrier.specs.State.{State, asked, linked}
 use Rattle.osi_rules.specs.declared.connections.Connection.{Connection}
-use Rattle.osi_rules.specs.declared.halves.Half.{Half}
 use Rattle.osi_fair.specs.Lines.{Line}
 use Rattle.osi_fair.specs.Wholes.{Whole}
 use Rattle.osi_fair.proofs.a_unit_of_a_whole_end_passes.{all_two, differ, item_is, one_peer, unlike}
 use Rattle.osi_fair.proofs.each_connection_has_its_line.{AreGiven, Followed, Following, IsAnswer, IsAsking, IsNoCc, IsOwned, Row, Tracked}
-use Rattle.osi_fair.proofs.each_connection_has_its_line.{Waiting, all_so, asks, closes, is_tracked, is_waiting, of, talks}
+use Rattle.osi_fair.proofs.each_connection_has_its_line.{Waiting, all_so, asks, closes, is_tracked, of, talks}
 use Rattle.osi_fair.proofs.what_the_other_side_closes.{IsSane}
 use Rattle.osi_fair.proofs.which_units_are_for_a_connection.{AllNamed, first_kept, first_left, heads, keep, named_not, named_so, names, those}
 use Rattle.osi_fair.proofs.which_units_are_for_a_connection.{those_join, those_none}

@@ -1,6 +1,6 @@
 -- What is known at the tap stays known as more passes: that class 2 holds; and what is judged was judged before.
 -- For the law on requests.
-use Rattle.std.proofs.Common.{◌≡◌, ◌∙◌, ℕ, Bool, true, false, List, [], ◌∷◌, refl, sym, ap, subst, Option, Some, None, is_none}
+use Rattle.std.proofs.Common.{◌≡◌, ℕ, Bool, true, false, [], ◌∷◌, refl, ap, subst, Option, Some, None}
 use Rattle.std.proofs.Common.{if◌then◌else◌}
 use Rattle.std.specs.Prelude.{◌%◌, ◌&&◌, ◌||◌, ◌==◌, not, position, slice_get, nat_le}
 use Rattle.osi_tpdu.specs.Value.{Value, Connect, request, confirm, disconnect, disconnected, data0, data2, acknowledge, error}
@@ -18,10 +18,10 @@ use Rattle.osi_rules.specs.declared.findings.Rule.TheVariants as rule
 use Rattle.osi_rules.specs.declared.routes.Route.{Route}
 use Rattle.osi_rules.specs.declared.routes.Route.TheVariants.{Asks, Named, Only, Unnamed}
 use Rattle.osi_rules.specs.Reaches.{is_applied, reach_of}
-use Rattle.osi_rules.specs.Rows.{first_failed, code_named, confirm_tests, is_inside, is_offered, selects_expedited}
+use Rattle.osi_rules.specs.Rows.{first_failed, code_named, confirm_tests, selects_expedited}
 use Rattle.osi_rules.specs.Sides.{is_live, is_named, is_silent}
 use Rattle.osi_rules.specs.Traffic.{Outcome, State, asks_by, asks_of, at_found, at_place, class_for, class_of, course_after}
-use Rattle.osi_rules.specs.Traffic.{course_after_none, course_begins, found, found_on, is_stopped, none_told, one_told, reached, refused_reach}
+use Rattle.osi_rules.specs.Traffic.{course_after_none, course_begins, found, found_on, is_stopped, none_told, reached, refused_reach}
 use Rattle.osi_rules.specs.Traffic.{request_tests, route, routed, unnamed, unnamed_told, uses_source}
 use Rattle.osi_fair.specs.Naming.{Passing, packet, passes, rubbish, unit}
 use Rattle.osi_fair.proofs.a_reference_names_one_connection.{applied_found}

@@ -1,6 +1,6 @@
 -- What the other side closes at the tap of a calling end: if a DR closed something, the end had the connection open there.
 -- For the law on DRs.
-use Rattle.std.proofs.Common.{◌≡◌, ◌∙◌, ℕ, ◌<◌, Bool, true, false, List, [], ◌∷◌, ◌++◌, map, set, length, refl, sym, ap, subst, arith}
+use Rattle.std.proofs.Common.{◌≡◌, ◌∙◌, ℕ, Bool, true, false, List, [], ◌∷◌, set, refl, sym, ap, subst}
 use Rattle.std.proofs.Common.{Option, Some, None, drop, inl, inr, ◌⊎◌, if◌then◌else◌}
 use Rattle.std.specs.Prelude.{◌&&◌, ◌||◌, ◌==◌, not, position, slice_get}
 use Rattle.std.proofs.lemmas.Bool.{eqb-true}
@@ -9,10 +9,9 @@ use Rattle.osi_class.specs.declared.terms.Class.{Class}
 use Rattle.osi_class.specs.declared.terms.Class.TheVariants.{Two, Zero}
 use Rattle.osi_rules.specs.declared.connections.Connection.{Connection}
 use Rattle.osi_rules.specs.declared.courses.Course.{Course}
-use Rattle.osi_rules.specs.declared.directions.Direction.{Direction}
-use Rattle.osi_rules.specs.declared.directions.Direction.TheVariants.{Left, Right}
+use Rattle.osi_rules.specs.declared.directions.Direction.TheVariants.{Right}
 use Rattle.osi_rules.specs.declared.findings.Finding.{Finding}
-use Rattle.osi_rules.specs.declared.findings.Finding.TheVariants.{Broke, Kept, NotJudged, Outside, TooMany}
+use Rattle.osi_rules.specs.declared.findings.Finding.TheVariants.{Broke, NotJudged}
 use Rattle.osi_rules.specs.declared.findings.Reach.{Reach}
 use Rattle.osi_rules.specs.declared.findings.Reach.TheVariants as reach
 use Rattle.osi_rules.specs.declared.findings.Rule.{Rule}
@@ -20,19 +19,15 @@ use Rattle.osi_rules.specs.declared.findings.Rule.TheVariants as rule
 use Rattle.osi_rules.specs.declared.halves.Half.{Half}
 use Rattle.osi_rules.specs.declared.halves.Phase.{Phase}
 use Rattle.osi_rules.specs.declared.halves.Phase.TheVariants.{Silent, Open, Refused, Closing, Closed}
-use Rattle.osi_rules.specs.declared.routes.Route.{Route}
-use Rattle.osi_rules.specs.declared.routes.Route.TheVariants.{Asks, Named, Only, Unnamed}
 use Rattle.osi_rules.specs.Reaches.{is_applied, is_of_connection, passes_over, reach_by, reach_of, reach_past}
 use Rattle.osi_rules.specs.Rows.{Test, first_failed, confirm_tests, is_due}
-use Rattle.osi_rules.specs.Sides.{begins, is_closed, is_closing, is_free, is_live, is_named, is_open, is_over, is_refused, is_silent, own, sends}
-use Rattle.osi_rules.specs.Traffic.{Outcome, State, asked_by, asks_by, asks_kept, asks_of, at_found, at_place, class_for, closing_phase}
-use Rattle.osi_rules.specs.Traffic.{connection_after, course_after, course_after_none, found, found_on, half_after, is_stopped, is_stray}
-use Rattle.osi_rules.specs.Traffic.{judged_on, none_told, one_told, reached, request_tests, route, route_in, routed, sent_on, sized, takes}
+use Rattle.osi_rules.specs.Sides.{is_closed, is_closing, is_live, is_named, is_open, is_over, is_refused, is_silent}
+use Rattle.osi_rules.specs.Traffic.{Outcome, State, at_found, at_place, class_for, closing_phase}
+use Rattle.osi_rules.specs.Traffic.{connection_after, course_after, course_after_none, found, found_on, half_after, is_stray}
+use Rattle.osi_rules.specs.Traffic.{none_told, one_told, reached, route, route_in, routed, takes}
 use Rattle.osi_rules.specs.Traffic.{unnamed, unnamed_by, unnamed_told, uses_source}
-use Rattle.osi_fair.proofs.a_reference_names_one_connection.{applied_found, not_first}
 use Rattle.osi_fair.proofs.all_are_judged_unless_one_broke.{AreJudged}
-use Rattle.osi_fair.proofs.what_belongs_to_no_open_connection.{reached_strays}
-use Rattle.osi_fair.proofs.what_holds_of_one_item.{HoldsOfEach, after_add, after_map, after_set, each_add, each_map, each_set, first_true}
+use Rattle.osi_fair.proofs.what_holds_of_one_item.{HoldsOfEach, each_set}
 use Rattle.osi_fair.proofs.what_keeps_names_apart.{AreApart, Sound}
 use Rattle.osi_fair.proofs.when_a_connection_has_a_name.{three}
 use Rattle.osi_fair.proofs.while_no_class_is_selected.{after_change, named_where}
