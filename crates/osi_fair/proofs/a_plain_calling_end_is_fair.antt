@@ -3,7 +3,7 @@
 use Rattle.std.proofs.Common.{◌≡◌, ◌∙◌, ℕ, Bool, true, false, List, [], ◌∷◌, ◌++◌, refl, sym, ap, subst}
 use Rattle.std.proofs.Common.{Option, Some, None, inl, inr, ◌⊎◌, is_some}
 use Rattle.std.specs.List.{AllByRecursion}
-use Rattle.osi_tpdu.specs.Value.{Value, Connect, HasFieldsInRange, request, destination_of}
+use Rattle.osi_tpdu.specs.Value.{Value, HasFieldsInRange}
 use Rattle.osi_class.specs.declared.terms.Class.{Class}
 use Rattle.osi_class.specs.declared.terms.Class.TheVariants.{Two, Zero}
 use Rattle.osi_class.specs.declared.terms.Local.{Local}
@@ -22,49 +22,20 @@ use Rattle.osi_fair.specs.Naming.{packet, passes, rubbish, unit as passing}
 use Rattle.osi_fair.specs.Putting.{put_by, put_for}
 use Rattle.osi_fair.specs.Wholes.{Event, HappenAlong, Happens, MayCall, Whole, arrives, begin, begins_other, begins_own, calls, passes_other}
 use Rattle.osi_fair.specs.Wholes.{passes_own, passes_rubbish}
-use Rattle.osi_fair.proofs.a_dr_for_what_is_gone.{Firsts, Holds as Kept_so, before_passing, first_holds, lasted, next_holds, not_over}
+use Rattle.osi_fair.proofs.a_dr_for_what_is_gone.{Firsts, Holds as Kept_so, before_passing, first_holds, lasted, next_holds}
 use Rattle.osi_fair.proofs.a_reference_names_one_connection.{no_item}
 use Rattle.osi_fair.proofs.a_unit_of_a_whole_end_passes.{own_kept, own_passes, request_passes}
 use Rattle.osi_fair.proofs.a_unit_of_the_other_side_passes.{other_passes}
-use Rattle.osi_fair.proofs.a_whole_end_makes_a_call.{end_calls}
-use Rattle.osi_fair.proofs.a_whole_end_takes_a_unit.{end_takes}
+use Rattle.osi_fair.proofs.a_whole_end_ends.{whole_calls, whole_takes}
 use Rattle.osi_fair.proofs.each_connection_has_its_line.{Followed, IsOwned, asking, of, other_begins, own_begins}
-use Rattle.osi_fair.proofs.how_a_calling_end_asks.{Rests, over, zero}
-use Rattle.osi_fair.proofs.how_requests_go_on.{Stage, answered, asks, known, quiet, refused as is_refused_there, rests, waits}
 use Rattle.osi_fair.proofs.no_request_is_blamed.{Holds as Staged, holds_first, holds_next, is_right}
-use Rattle.osi_fair.proofs.what_a_calling_end_still_has.{IsLive, OffersTwo, call_after, over_not, unit_after}
+use Rattle.osi_fair.proofs.what_a_calling_end_still_has.{IsLive, call_after, unit_after}
 use Rattle.osi_fair.proofs.what_becomes_of_a_connection.{comes_for}
 use Rattle.osi_fair.proofs.what_the_other_side_closes.{IsDr, IsPlain, closed_by}
+use Rattle.osi_fair.proofs.which_units_are_for_a_connection.{heads, named_so}
 
 differ : {A : Type 0} (b : Bool) → b ≡ true → b ≡ false → A
 differ b h k = absurd (cc)
-
--- ---- the class is known as a unit of a connection passes
-
-not_zero : {A : Type 0} (k : Option Class) → (k ≡ None) ⊎ (k ≡ Some Two) → k ≡ Some Zero → A
-not_zero k (inl e) h = absurd (cc (sym e ∙ h))
-not_zero k (inr e) h = absurd (cc (sym e ∙ h))
-
-none_rests : {A : Type 0} (s : State) → s.ended ≡ None → OffersTwo s → Rests s → A
-none_rests s lasts o (over h) = over_not s.ended h lasts
-none_rests s lasts o (zero z) = not_zero s.class o.class z.class
-
-some_unit : {A : Type 0} (w : Whole) (v : Value) (rest : List Value) → w.put ≡ v ∷ rest → w.put ≡ [] → A
-some_unit w v rest e none = absurd (cc (sym e ∙ none))
-
-no_request : {A : Type 0} (v : Value) (n : ℕ) (x : Connect) (xs ys : List Value) → destination_of v ≡ Some n → v ∷ xs ≡ request x ∷ ys → A
-no_request v n x xs ys d e = let same : v ≡ request x = cc in absurd (cc (sym (ap destination_of same) ∙ d))
-
-seen_two : (w : Whole) (v : Value) (rest : List Value) (n : ℕ) → w.put ≡ v ∷ rest → destination_of v ≡ Some n → w.begun ≡ true →
-    w.end.ended ≡ None → OffersTwo w.end → Stage w → w.tap.course.class_seen ≡ Some Two
-seen_two w v rest n e d begun lasts o (rests none r) = none_rests w.end lasts o r
-seen_two w v rest n e d begun lasts o (quiet is none not_begun cs strays tap done dcs) = some_unit w v rest e none
-seen_two w v rest n e d begun lasts o (asks x put is cs strays tap done dcs all) = no_request v n x rest [] d (sym e ∙ put)
-seen_two w v rest n e d begun lasts o (waits r is none not_begun cs strays tap p waiting dcs) = some_unit w v rest e none
-seen_two w v rest n e d begun lasts o (is_refused_there r is none not_begun cs strays tap done dcs u more coming are refusal too) =
-    some_unit w v rest e none
-seen_two w v rest n e d begun lasts o (answered r is none not_begun dcs m x more coming are two) = some_unit w v rest e none
-seen_two w v rest n e d begun lasts o (known two seen) = seen begun
 
 -- ---- all that holds
 
@@ -73,7 +44,7 @@ record Joined (local : Local) (w : Whole) : Type 0 where
   kept : Kept_so w
   orderly : IsOrderly w.end
   local_is : w.end.local ≡ local
-  followed : IsPlain w.tap.course → w.end.ended ≡ None → Followed local w
+  followed : IsPlain w.tap.course → Followed local w
 
 orderly_calls : (call : UserCall) (s : State) → MayCall call s → IsOrderly s → IsOrderly (user_does call s)
 orderly_calls (connects calling called) s may h = orderly_asks calling called s may h
@@ -87,52 +58,53 @@ head_live : (w : Whole) (u : Value) (later : List Value) → w.coming ≡ u ∷ 
 head_live w u later e firsts = (subst (Firsts (IsLive w.end)) e firsts).0
 
 module _ (local : Local) (w : Whole) (j : Joined local w) where
-  taking : (u : Value) (later : List Value) → w.coming ≡ u ∷ later → IsPlain w.tap.course → (react u w.end).ended ≡ None →
+  taking : (u : Value) (later : List Value) → w.coming ≡ u ∷ later → IsPlain w.tap.course →
       Followed local (record w { end = react u w.end; put = w.put ++ put_for u w.end; coming = later })
-  taking u later e plain lasts =
-      let was = lasted u w.end (is_some w.end.ended) refl lasts in
-      let l = j.kept.lively plain was in
-      end_takes local w (j.followed plain was) j.kept.sane plain.firm j.kept.offers j.orderly j.local_is was u later e lasts
-      (head_live w u later e l.firsts)
+  taking u later e plain =
+      whole_takes local w (j.followed plain) j.kept.sane plain.firm j.kept.offers j.orderly j.local_is u later e
+      (lasted u w.end (is_some w.end.ended) refl) (λ was. head_live w u later e (j.kept.lively plain was).firsts)
 
-  calling : (call : UserCall) → MayCall call w.end → IsPlain w.tap.course → (user_does call w.end).ended ≡ None →
+  calling : (call : UserCall) → MayCall call w.end → IsPlain w.tap.course →
       Followed local (record w { end = user_does call w.end; put = w.put ++ put_by call w.end })
-  calling call may plain lasts =
-      let was = not_over call w.end j.kept.offers lasts in
-      end_calls local w (j.followed plain was) j.kept.sane plain.firm j.staged.newer j.kept.offers j.orderly j.local_is was call may lasts
+  calling call may plain =
+      whole_calls local w (j.followed plain) j.kept.sane plain.firm j.kept.offers j.orderly j.local_is call may j.staged.newer
 
   own_by : (v : Value) (rest : List Value) → w.put ≡ v ∷ rest → w.begun ≡ true → (after : Kept_so (record w {
     put = rest;
     begun = false;
     tap = (takes Left v w.tap).state;
-  })) → IsPlain (takes Left v w.tap).state.course → IsPlain w.tap.course → w.end.ended ≡ None →
+  })) → IsPlain (takes Left v w.tap).state.course → IsPlain w.tap.course →
       (f : Followed local w) → IsOwned w.tap.connections v →
       Followed local (record w { put = rest; begun = false; tap = (takes Left v w.tap).state })
-  own_by v rest e begun after plain_after plain lasts f (asking x is) =
+  own_by v rest e begun after plain_after plain f (asking x is) =
       subst (λ (u : Value). Followed local (record w { put = rest; begun = false; tap = (takes Left u w.tap).state })) (sym is)
       (request_passes local w f j.kept.sane plain.firm x rest (e ∙ ap (λ (u : Value). u ∷ rest) is))
-  own_by v rest e begun after plain_after plain lasts f (of n p c dest at tracked is) =
+  own_by v rest e begun after plain_after plain f (of n p c dest at tracked is) =
       own_passes local w f j.kept.sane plain.firm v rest n p c e begun plain.left
-      (seen_two w v rest n e dest begun lasts j.kept.offers (j.staged.stage plain.left)) dest at tracked is after.sane plain_after.firm
+      (f.seen n begun (ap (λ (l : List Value). heads n l) e ∙ named_so n v dest)) dest at tracked is after.sane plain_after.firm
 
-  other_by : (v : Value) → HasFieldsInRange v → IsPlain (takes Right v w.tap).state.course → w.end.ended ≡ None →
+  other_by : (v : Value) → HasFieldsInRange v → IsPlain (takes Right v w.tap).state.course →
       Followed local (record w { tap = (takes Right v w.tap).state; coming = w.coming ++ v ∷ [] })
-  other_by v ranges plain_after lasts =
+  other_by v ranges plain_after =
       let plain = before_passing (passing Right v) w.tap plain_after in
-      let f = j.followed plain lasts in
+      let f = j.followed plain in
       other_passes local w f j.kept.sane plain.firm plain.strays j.staged.newer v ranges
       (comes_for w.tap plain.firm plain.strays v plain.left plain.right f.zero plain_after) plain_after
+
+  not_zero : {A : Type 0} (k : Option Class) → (k ≡ None) ⊎ (k ≡ Some Two) → k ≡ Some Zero → A
+  not_zero k (inl e) h = absurd (cc (sym e ∙ h))
+  not_zero k (inr e) h = absurd (cc (sym e ∙ h))
 
   rubbish_not : (k : Option Class) → (k ≡ None) ⊎ (k ≡ Some Two) → (c : Course) → IsPlain (reached Right (reach_by k false) c) → ⊥
   rubbish_not None e c h = differ true refl h.left
   rubbish_not (Some Two) e c h = differ true refl h.left
   rubbish_not (Some Zero) e c h = not_zero (Some Zero) e refl
 
-  rubbish_by : IsPlain (passes (rubbish Right) w.tap).course → w.end.ended ≡ None →
+  rubbish_by : IsPlain (passes (rubbish Right) w.tap).course →
       Followed local (record w { tap = passes (rubbish Right) w.tap })
-  rubbish_by plain_after lasts =
+  rubbish_by plain_after =
       let plain = before_passing (rubbish Right) w.tap plain_after in
-      absurd (rubbish_not w.tap.course.class (j.followed plain lasts).zero w.tap.course plain_after)
+      absurd (rubbish_not w.tap.course.class (j.followed plain).zero w.tap.course plain_after)
 
 next_joined : (local : Local) (event : Event) (w new : Whole) → Happens Left event w new → Joined local w → Joined local new
 next_joined local arrives w new (u, coming, is) j =
@@ -142,7 +114,7 @@ next_joined local arrives w new (u, coming, is) j =
       kept = next_holds arrives w after (u, coming, refl) j.kept;
       orderly = orderly_unit u w.end j.orderly;
       local_is = (unit_after u w.end j.kept.offers).local ∙ j.local_is;
-      followed = λ plain lasts. taking local w j u new.coming coming plain lasts;
+      followed = λ plain. taking local w j u new.coming coming plain;
     })
 next_joined local (calls call) w new (may, is) j =
     let after = record w { end = user_does call w.end; put = w.put ++ put_by call w.end } in
@@ -151,7 +123,7 @@ next_joined local (calls call) w new (may, is) j =
       kept = next_holds (calls call) w after (may, refl) j.kept;
       orderly = orderly_calls call w.end may j.orderly;
       local_is = (call_after call w.end j.kept.offers).local ∙ j.local_is;
-      followed = λ plain lasts. calling local w j call may plain lasts;
+      followed = λ plain. calling local w j call may plain;
     })
 next_joined local begins_own w new (some, not_begun, is) j =
     let after = record w { begun = true; tap = packet_begins Left w.tap } in
@@ -160,7 +132,7 @@ next_joined local begins_own w new (some, not_begun, is) j =
       kept = next_holds begins_own w after (some, not_begun, refl) j.kept;
       orderly = j.orderly;
       local_is = j.local_is;
-      followed = λ plain lasts. own_begins local w not_begun some (j.followed (before_passing (packet Left) w.tap plain) lasts);
+      followed = λ plain. own_begins local w not_begun some (j.followed (before_passing (packet Left) w.tap plain));
     })
 next_joined local passes_own w new (v, put, begun, is) j =
     let after = record w { put = new.put; begun = false; tap = (takes Left v w.tap).state } in
@@ -170,10 +142,10 @@ next_joined local passes_own w new (v, put, begun, is) j =
       kept = kept;
       orderly = j.orderly;
       local_is = j.local_is;
-      followed = λ plain_after lasts.
+      followed = λ plain_after.
           let plain = before_passing (passing Left v) w.tap plain_after in
-          let f = j.followed plain lasts in
-          own_by local w j v new.put put begun kept plain_after plain lasts f
+          let f = j.followed plain in
+          own_by local w j v new.put put begun kept plain_after plain f
           (subst (AllByRecursion (λ (u : Value). IsOwned w.tap.connections u)) put f.owned).0;
     })
 next_joined local begins_other w new is j =
@@ -183,7 +155,7 @@ next_joined local begins_other w new is j =
       kept = next_holds begins_other w after refl j.kept;
       orderly = j.orderly;
       local_is = j.local_is;
-      followed = λ plain lasts. other_begins local w (j.followed (before_passing (packet Right) w.tap plain) lasts);
+      followed = λ plain. other_begins local w (j.followed (before_passing (packet Right) w.tap plain));
     })
 next_joined local (passes_other v) w new (ranges, is) j =
     let after = record w { tap = (takes Right v w.tap).state; coming = w.coming ++ v ∷ [] } in
@@ -192,7 +164,7 @@ next_joined local (passes_other v) w new (ranges, is) j =
       kept = next_holds (passes_other v) w after (ranges, refl) j.kept;
       orderly = j.orderly;
       local_is = j.local_is;
-      followed = λ plain lasts. other_by local w j v ranges plain lasts;
+      followed = λ plain. other_by local w j v ranges plain;
     })
 next_joined local passes_rubbish w new is j =
     let after = record w { tap = passes (rubbish Right) w.tap } in
@@ -201,7 +173,7 @@ next_joined local passes_rubbish w new is j =
       kept = next_holds passes_rubbish w after refl j.kept;
       orderly = j.orderly;
       local_is = j.local_is;
-      followed = λ plain lasts. rubbish_by local w j plain lasts;
+      followed = λ plain. rubbish_by local w j plain;
     })
 
 all_joined : (local : Local) (events : List Event) (w new : Whole) → HappenAlong Left w events new → Joined local w → Joined local new
@@ -215,11 +187,11 @@ first_joined local no_zero two = record {
   kept = first_holds local no_zero two;
   orderly = orderly_fresh true local;
   local_is = refl;
-  followed = λ plain lasts. record {
+  followed = λ plain. record {
     lines = λ i c at. no_item i c at;
     waiting = λ i c at. no_item i c at;
     owned = tt;
-    linked = λ r peer link e. absurd (cc e);
+    linked = λ lasts r peer link e. absurd (cc e);
     answers = tt;
     requests = tt;
     two = λ r t.
@@ -228,6 +200,7 @@ first_joined local no_zero two = record {
     zero = inl refl;
     some = λ h. absurd (cc h);
     few = tt;
+    seen = λ n h. absurd (cc h);
   };
 }
 
@@ -237,20 +210,21 @@ abbrev IsFine : Whole → Value → Type 0
 IsFine w v = ((takes Left v w.tap).told.finding ≡ Kept) ⊎ ((takes Left v w.tap).told.finding ≡ TooMany)
 
 fine_by : (local : Local) (w : Whole) (v : Value) (rest : List Value) → Joined local w → w.put ≡ v ∷ rest → w.begun ≡ true →
-    IsPlain w.tap.course → w.end.ended ≡ None → IsOwned w.tap.connections v → IsFine w v
-fine_by local w v rest j e begun plain lasts (asking x is) =
+    IsPlain w.tap.course → IsOwned w.tap.connections v → IsFine w v
+fine_by local w v rest j e begun plain (asking x is) =
     subst (λ (u : Value). IsFine w u) (sym is)
     (is_right x rest w (e ∙ ap (λ (u : Value). u ∷ rest) is) begun plain.left j.staged.newer (j.staged.stage plain.left))
-fine_by local w v rest j e begun plain lasts (of n p c dest at tracked is) =
-    inl (own_kept local w (j.followed plain lasts) j.kept.sane plain.firm v rest n p c e begun plain.left
-    (seen_two w v rest n e dest begun lasts j.kept.offers (j.staged.stage plain.left)) dest at tracked is)
+fine_by local w v rest j e begun plain (of n p c dest at tracked is) =
+    let f = j.followed plain in
+    inl (own_kept local w f j.kept.sane plain.firm v rest n p c e begun plain.left
+    (f.seen n begun (ap (λ (l : List Value). heads n l) e ∙ named_so n v dest)) dest at tracked is)
 
 pub plain_fair : (local : Local) (events : List Event) (w : Whole) (v : Value) (rest : List Value) → local.class0 ≡ false →
-    local.class2 ≡ true → HappenAlong Left (begin true local) events w → w.begun ≡ true → w.put ≡ v ∷ rest → w.end.ended ≡ None →
+    local.class2 ≡ true → HappenAlong Left (begin true local) events w → w.begun ≡ true → w.put ≡ v ∷ rest →
     is_stopped Left w.tap.course ≡ false → is_stopped Right w.tap.course ≡ false → w.tap.course.loose ≡ false →
     w.tap.course.strays ≡ false → ((takes Left v w.tap).told.finding ≡ Kept) ⊎ ((takes Left v w.tap).told.finding ≡ TooMany)
-plain_fair local events w v rest no_zero two along begun e lasts left right firm strays =
+plain_fair local events w v rest no_zero two along begun e left right firm strays =
     let j = all_joined local events (begin true local) w along (first_joined local no_zero two) in
     let plain : IsPlain w.tap.course = record { firm = firm; left = left; right = right; strays = strays } in
-    fine_by local w v rest j e begun plain lasts
-    (subst (AllByRecursion (λ (u : Value). IsOwned w.tap.connections u)) e (j.followed plain lasts).owned).0
+    fine_by local w v rest j e begun plain
+    (subst (AllByRecursion (λ (u : Value). IsOwned w.tap.connections u)) e (j.followed plain).owned).0

@@ -1,7 +1,7 @@
 -- A unit of a whole calling end passes: a CR, whose connection waits then, or a unit of an open connection, which is right.
 -- For the law on a whole end.
 use Rattle.std.proofs.Common.{◌≡◌, ◌∙◌, ℕ, zero, suc, Bool, true, false, List, [], ◌∷◌, ◌++◌, set, refl, sym, ap, subst}
-use Rattle.std.proofs.Common.{Option, Some, None, inl, inr, ◌⊎◌, if◌then◌else◌}
+use Rattle.std.proofs.Common.{Option, Some, None, inl, inr, ◌⊎◌, if◌then◌else◌, is_some}
 use Rattle.std.specs.Prelude.{◌&&◌, ◌||◌, ◌==◌, not, position, slice_get}
 use Rattle.std.specs.List.{AllByRecursion, position_or_len}
 use Rattle.std.proofs.lemmas.Bool.{eq-eqb, eqb-true}
@@ -33,7 +33,7 @@ use Rattle.osi_fair.proofs.a_unit_is_an_act_of_its_line.{after_is, found_is}
 use Rattle.osi_fair.proofs.an_end_closes_last.{waits_open}
 use Rattle.osi_fair.proofs.an_open_end_is_fair.{open_is_fair}
 use Rattle.osi_fair.proofs.each_connection_has_its_line.{Followed, Following, IsAnswer, IsAsking, IsOwned, Row, Tracked, Tracks, Waiting}
-use Rattle.osi_fair.proofs.each_connection_has_its_line.{all_so, asking, asks, closes, is_tracked, is_waiting, of, talks, tracks_hold}
+use Rattle.osi_fair.proofs.each_connection_has_its_line.{all_so, asking, asks, closes, is_tracked, is_waiting, of, over, talks, tracks_hold}
 use Rattle.osi_fair.proofs.each_connection_has_its_line.{tracks_on}
 use Rattle.osi_fair.proofs.what_holds_of_a_line.{PutsAt, Tally}
 use Rattle.osi_fair.proofs.what_holds_of_one_item.{after_add, after_set, first_true}
@@ -116,10 +116,10 @@ open_over Closing k h e = cc
 open_over Closed k h e = cc
 
 tracked_over : (c : Connection) → Sound c → is_tracked c ≡ true → is_over Left c ≡ true → ⊥
-tracked_over c s h over =
+tracked_over c s h gone =
     there_not_refused c.right.phase (right_there c h)
     (s.left_knows.refused (open_over c.left.phase c.seen_by_left.phase (left_open c h) (and_second c.is_judged
-    (is_over_by c.left c.seen_by_left) over)))
+    (is_over_by c.left c.seen_by_left) gone)))
 
 -- over for right only if left is known to have refused or closed it
 there_over : (p k : Phase) → (is_open p || is_closing p) ≡ true →
@@ -165,9 +165,9 @@ three_so false false false h k m = cc
 pub uses_tracked : (c : Connection) (n : ℕ) → Sound c → is_tracked c ≡ true → c.right.reference ≡ n → uses Right n c ≡ true
 uses_tracked c n s h e =
     three_so (is_over Right c) (is_silent c.right.phase) (c.right.reference == n)
-    (not_over_by (is_over Right c) (Unit {0}) (λ over. open_not c.left.phase c.seen_by_right.phase (left_open c h) s.right_knows.refused
+    (not_over_by (is_over Right c) (Unit {0}) (λ gone. open_not c.left.phase c.seen_by_right.phase (left_open c h) s.right_knows.refused
     s.right_knows.closing s.right_knows.closed (there_over c.right.phase c.seen_by_right.phase (right_there c h)
-    (and_second c.is_judged (is_over_by c.right c.seen_by_right) over))))
+    (and_second c.is_judged (is_over_by c.right c.seen_by_right) gone))))
     (there_not_silent c.right.phase (right_there c h)) (eq-eqb c.right.reference n e)
 
 pub one_peer : (s : Traffic) → IsSane s → s.course.loose ≡ false → (p q : ℕ) (c e : Connection) → slice_get s.connections p ≡ Some c →
@@ -238,6 +238,7 @@ row_same local end coming r peer line after link same (asks there x source first
     asks there x source (first ∙ ap (λ (l : List Value). confirm r x ∷ l) (sym same)) (link ∙ is)
 row_same local end coming r peer line after link same (talks l there is all) = talks l there (link ∙ is) (all ∙ sym same)
 row_same local end coming r peer line after link same (closes o there q e is all) = closes o there q e (link ∙ is) (all ∙ sym same)
+row_same local end coming r peer line after link same (over h) = over h
 
 -- of a link that is there, the end has not closed the connection
 put_open : (peer limit : ℕ) (x : Tally) (mine theirs : Half) (put : List Value) (link : Option Standing) (l : Standing) →
@@ -342,9 +343,9 @@ module _ (local : Local) (w : Whole) (f : Followed local w) (sane : IsSane w.tap
         waiting = λ i c at waits. request_waits x c i (first x refl) (request_item x i c does at) waits;
         owned = all_so (λ v. IsOwned cs v) (λ v. IsOwned (takes Left (request x) w.tap).state.connections v) rest
             (λ v. owned_still x v) owned;
-        linked = λ r peer link h. let (t, two) = f.linked r peer link h in (tracked_still x r t, two);
+        linked = λ lasts r peer link h. let (t, two) = f.linked lasts r peer link h in (tracked_still x r t, two);
         answers = all_so (λ v. IsAnswer cs w.end v) (λ v. IsAnswer (takes Left (request x) w.tap).state.connections w.end v) w.coming
-            (λ v h n y k. let (t, row) = h n y k in (tracked_still x n t, row)) f.answers;
+            (λ v h n y k lasts. let (t, row) = h n y k lasts in (tracked_still x n t, row)) f.answers;
         requests = requests;
         two = λ r t.
             let (p, c, at, tracked, is) = t in
@@ -354,6 +355,7 @@ module _ (local : Local) (w : Whole) (f : Followed local w) (sane : IsSane w.tap
         zero = subst (λ (k : Option Class). (k ≡ None) ⊎ (k ≡ Some Two)) (sym (left_class (request x) w.tap)) f.zero;
         some = λ h. absurd (cc h);
         few = f.few;
+        seen = λ n h. absurd (cc h);
       }
 
   -- ---- a unit of an open connection passes
@@ -466,13 +468,14 @@ module _ (local : Local) (w : Whole) (f : Followed local w) (sane : IsSane w.tap
           tracked_if (ap (λ (x : Connection). is_open x.left.phase) (sym tap_after)
           ∙ put_open g.peer held.limit held.tally line_after.tap.left line_after.tap.right line_after.put line_after.link link held.puts h)
 
-      row_open : (o : Option Live) → value_at g.r w.end.live ≡ o → is_held o ≡ true → Row local w.end w.coming g.r g.peer g.line →
+      row_open : w.end.ended ≡ None → (o : Option Live) → value_at g.r w.end.live ≡ o → is_held o ≡ true → Row local w.end w.coming g.r g.peer g.line →
           is_tracked next ≡ true
-      row_open o e held (asks there x source first is) = linked_open _ is
-      row_open o e held (talks link there is all) = linked_open link is
-      row_open o e held (closes k there q (inl is) none all) =
+      row_open lasts o e held (asks there x source first is) = linked_open _ is
+      row_open lasts o e held (talks link there is all) = linked_open link is
+      row_open lasts o e held (over h) = differ (is_some w.end.ended) h (ap is_some lasts)
+      row_open lasts o e held (closes k there q (inl is) none all) =
           differ (is_held o) held (ap is_held (sym e ∙ there ∙ is))
-      row_open o e held (closes k there q (inr is) none all) =
+      row_open lasts o e held (closes k there q (inr is) none all) =
           differ (is_held o) held (ap is_held (sym e ∙ there ∙ is))
 
       -- the end puts nothing after it has closed the connection
@@ -599,9 +602,9 @@ module _ (local : Local) (w : Whole) (f : Followed local w) (sane : IsSane w.tap
           all_two (λ v. IsOwned cs v) (λ v. names g.peer v ≡ false) (λ v. IsOwned (takes Left u w.tap).state.connections v) rest
           (λ v o none. owned_next v (λ k. none) o) a (none_named g.peer rest (none_left h))
 
-      held_at : (r : ℕ) (o : Option Live) → value_at r w.end.live ≡ o → is_held o ≡ true → c.left.reference ≡ r → is_tracked next ≡ true
-      held_at r o there held is =
-          row_open o (ap (λ (j : ℕ). value_at j w.end.live) (sym g.left ∙ is) ∙ there) held g.row
+      held_at : w.end.ended ≡ None → (r : ℕ) (o : Option Live) → value_at r w.end.live ≡ o → is_held o ≡ true → c.left.reference ≡ r → is_tracked next ≡ true
+      held_at lasts r o there held is =
+          row_open lasts o (ap (λ (j : ℕ). value_at j w.end.live) (sym g.left ∙ is) ∙ there) held g.row
 
       pub own_passes : Followed local after
       own_passes =
@@ -612,11 +615,12 @@ module _ (local : Local) (w : Whole) (f : Followed local w) (sane : IsSane w.tap
             lines = λ i x there is_there. line_at i x is_there (item i x there);
             waiting = λ i x there waits. waits_at i x waits (item i x there);
             owned = owned_rest (is_tracked next) refl owned;
-            linked = λ r peer link h.
-                let (t, two) = f.linked r peer link h in
-                (tracked_next r t (λ is. held_at r (Some (linked peer link)) h refl is), two);
+            linked = λ lasts r peer link h.
+                let (t, two) = f.linked lasts r peer link h in
+                (tracked_next r t (λ is. held_at lasts r (Some (linked peer link)) h refl is), two);
             answers = all_so (λ v. IsAnswer cs w.end v) (λ v. IsAnswer (takes Left u w.tap).state.connections w.end v) w.coming
-                (λ v h m y k. let (t, row) = h m y k in (tracked_next m t (λ is. held_at m (Some asked) row refl is), row)) f.answers;
+                (λ v h m y k lasts. let (t, row) = h m y k lasts in (tracked_next m t (λ is. held_at lasts m (Some asked) row refl is), row))
+                f.answers;
             requests = requests;
             two = λ r t.
                 let (i, x, there, is_there, is) = t in
@@ -625,4 +629,5 @@ module _ (local : Local) (w : Whole) (f : Followed local w) (sane : IsSane w.tap
             zero = subst (λ (k : Option Class). (k ≡ None) ⊎ (k ≡ Some Two)) (sym (left_class u w.tap)) f.zero;
             some = λ h. absurd (cc h);
             few = f.few;
+            seen = λ n h. absurd (cc h);
           }

@@ -1,7 +1,7 @@
 -- A unit of the other side passes at the tap of a whole calling end: what it does to the line of its connection, and to no other.
 -- For the law on a whole end.
 use Rattle.std.proofs.Common.{◌≡◌, ◌≢◌, ◌∙◌, ℕ, ◌<◌, Bool, true, false, List, [], ◌∷◌, ◌++◌, set, refl, sym, ap, subst, arith}
-use Rattle.std.proofs.Common.{Option, Some, None, inl, inr, ◌⊎◌, if◌then◌else◌}
+use Rattle.std.proofs.Common.{Option, Some, None, inl, inr, ◌⊎◌, if◌then◌else◌, is_some}
 use Rattle.std.specs.Prelude.{◌&&◌, ◌||◌, ◌==◌, not, slice_get}
 use Rattle.std.specs.List.{AllByRecursion, list_any}
 use Rattle.std.proofs.lemmas.Bool.{eqb-true}
@@ -37,7 +37,8 @@ use Rattle.osi_fair.proofs.a_request_of_a_whole_end_is_new.{Newer}
 use Rattle.osi_fair.proofs.a_unit_of_a_whole_end_passes.{and_first, and_second, both, differ, item_is, left_open, none_begun, right_there}
 use Rattle.osi_fair.proofs.a_unit_of_a_whole_end_passes.{all_two, set_other, there_not_silent, unlike, uses_tracked}
 use Rattle.osi_fair.proofs.each_connection_has_its_line.{Followed, Following, IsAnswer, IsAsking, IsNoCc, IsOwned, Row, Tracked}
-use Rattle.osi_fair.proofs.each_connection_has_its_line.{AreGiven, Waiting, all_so, asking, asks, closes, is_tracked, is_waiting, of, talks, tracks_on}
+use Rattle.osi_fair.proofs.each_connection_has_its_line.{AreGiven, Waiting, all_so, asking, asks, closes, head_two, is_tracked, is_waiting, no_end, of, over}
+use Rattle.osi_fair.proofs.each_connection_has_its_line.{talks, tracks_on}
 use Rattle.osi_fair.proofs.how_a_connection_opens.{calling_opens}
 use Rattle.osi_fair.proofs.references_of_requests_rise.{Rise, rise_from}
 use Rattle.osi_fair.proofs.what_holds_of_one_item.{none_true}
@@ -62,6 +63,7 @@ row_other : (local : Local) (end : State) (coming : List Value) (r peer : ℕ) (
 row_other local end coming r peer line v e (asks there x source first is) = asks there x source (more_other r coming v e ∙ first) is
 row_other local end coming r peer line v e (talks link there is all) = talks link there is (more_other r coming v e ∙ all)
 row_other local end coming r peer line v e (closes o there q k is all) = closes o there q k is (more_other r coming v e ∙ all)
+row_other local end coming r peer line v e (over h) = over h
 
 row_add : (local : Local) (end : State) (coming : List Value) (r peer : ℕ) (line after : Line) (v : Value) → names r v ≡ true →
     after.link ≡ line.link → after.coming ≡ line.coming ++ v ∷ [] → Row local end coming r peer line →
@@ -73,6 +75,13 @@ row_add local end coming r peer line after v e link same (talks l there is all) 
     talks l there (link ∙ is) (one_more r coming v e ∙ ap (λ (l : List Value). l ++ v ∷ []) all ∙ sym same)
 row_add local end coming r peer line after v e link same (closes o there q k is all) =
     closes o there q k (link ∙ is) (one_more r coming v e ∙ ap (λ (l : List Value). l ++ v ∷ []) all ∙ sym same)
+row_add local end coming r peer line after v e link same (over h) = over h
+
+-- as long as the end has not ended
+row_or : (local : Local) (end : State) (coming : List Value) (r peer : ℕ) (line : Line) (b : Bool) → is_some end.ended ≡ b →
+    (end.ended ≡ None → Row local end coming r peer line) → Row local end coming r peer line
+row_or local end coming r peer line true e k = over e
+row_or local end coming r peer line false e k = k (no_end end.ended e)
 
 following_other : (local : Local) (put : List Value) (b : Bool) (end : State) (coming : List Value) (x : Connection) (v : Value) →
     (k : Following local put b end coming x) → names k.r v ≡ false → Following local put b end (coming ++ v ∷ []) x
@@ -159,7 +168,7 @@ closed_over Open = refl
 closed_over Closing = refl
 closed_over Closed = refl
 
-not_both : (over rest : Bool) → over ≡ true → (not over && rest) ≡ true → ⊥
+not_both : (past rest : Bool) → past ≡ true → (not past && rest) ≡ true → ⊥
 not_both true rest h k = cc
 not_both false rest h k = cc
 
@@ -251,7 +260,7 @@ module _ (local : Local) (w : Whole) (f : Followed local w) (sane : IsSane w.tap
   nxt_at = ap (λ (l : List Connection). slice_get l t.q) conns ∙ set_there cs t.q nxt c t.at
 
   not_over : is_over Right c ≡ true → ⊥
-  not_over over = not_both (is_over Right c) (not (is_silent c.seen_by_right.phase) && (c.seen_by_right.reference == t.n)) over t.named
+  not_over gone_so = not_both (is_over Right c) (not (is_silent c.seen_by_right.phase) && (c.seen_by_right.reference == t.n)) gone_so t.named
 
   over_so : is_over_by c.right c.seen_by_right ≡ true → ⊥
   over_so h = not_over (both c.is_judged (is_over_by c.right c.seen_by_right) judged_c h)
@@ -283,7 +292,7 @@ module _ (local : Local) (w : Whole) (f : Followed local w) (sane : IsSane w.tap
     goes_on : is_tracked c ≡ true → is_tracked nxt ≡ true → nxt.right.reference ≡ c.right.reference →
         ((m : ℕ) (x : Connect) → v ≡ confirm m x → ⊥) → Following local w.put w.begun w.end more nxt → Next
     opened : is_tracked c ≡ false → is_tracked nxt ≡ true → Following local w.put w.begun w.end more nxt →
-        value_at t.n w.end.live ≡ Some asked → course_so.class ≡ Some Two → Next
+        (w.end.ended ≡ None → value_at t.n w.end.live ≡ Some asked) → course_so.class ≡ Some Two → Next
     gone : is_tracked c ≡ false → is_tracked nxt ≡ false → is_silent nxt.right.phase ≡ false →
         ((m : ℕ) (x : Connect) → v ≡ confirm m x → ⊥) → Next
 
@@ -391,10 +400,10 @@ module _ (local : Local) (w : Whole) (f : Followed local w) (sane : IsSane w.tap
         tap = sym is;
         put_is = sym none_put;
         begun_is = sym (ap (λ (b : Bool). w.begun && b) none_head ∙ none_begun w.begun);
-        row = asks k.row x refl (one_more k.r w.coming v named_r ∙ ap (λ (l : List Value). l ++ v ∷ []) k.none
-            ∙ ap (λ (u : Value). u ∷ []) (e ∙ ap (λ (i : ℕ). confirm i x) (same_name m x e ∙ sym r_is))) refl;
+        row = row_or local w.end more k.r x.source line (is_some w.end.ended) refl (λ lasts. asks (k.row lasts) x refl (one_more k.r w.coming v named_r ∙ ap (λ (l : List Value). l ++ v ∷ []) k.none
+            ∙ ap (λ (u : Value). u ∷ []) (e ∙ ap (λ (i : ℕ). confirm i x) (same_name m x e ∙ sym r_is))) refl);
         calm = tt;
-      }) (ap (λ (i : ℕ). value_at i w.end.live) (sym r_is) ∙ k.row)
+      }) (λ lasts. ap (λ (i : ℕ). value_at i w.end.live) (sym r_is) ∙ k.row lasts)
       (reached_same far (course_after Right c v (is_applied found_so) w.tap.course)
       ∙ ap (λ (u : Value). (course_after Right c u (is_applied found_so) w.tap.course).class) e
       ∙ ap (λ (b : Bool). (course_after Right c (confirm m x) b w.tap.course).class) applied
@@ -512,12 +521,12 @@ module _ (local : Local) (w : Whole) (f : Followed local w) (sane : IsSane w.tap
   owned_to u (of m i x dest there tracked is) = owned_one u m i x dest there tracked is (i == t.q) refl
 
   answers_to : Next → IsAnswer (takes Right v w.tap).state.connections w.end v
-  answers_to (goes_on a b right none line) m x e = absurd (none m x e)
-  answers_to (gone a b silent none) m x e = absurd (none m x e)
-  answers_to (opened a b line row class) m x e =
+  answers_to (goes_on a b right none line) m x e lasts = absurd (none m x e)
+  answers_to (gone a b silent none) m x e lasts = absurd (none m x e)
+  answers_to (opened a b line row class) m x e lasts =
       let same = same_name m x e in (
         (t.q, nxt, nxt_at, b, nxt_reference ∙ name_is ∙ sym same),
-        ap (λ (i : ℕ). value_at i w.end.live) same ∙ row,
+        ap (λ (i : ℕ). value_at i w.end.live) same ∙ row lasts,
       )
 
   class_from : (r i : ℕ) (x : Connection) → is_tracked x ≡ true → x.left.reference ≡ r → Next → Item i x →
@@ -568,10 +577,10 @@ module _ (local : Local) (w : Whole) (f : Followed local w) (sane : IsSane w.tap
     lines = λ i x there tracked. line_at i x tracked next_so (item i x there);
     waiting = λ i x there waiting. waits_at i x waiting (item i x there);
     owned = all_so (λ u. IsOwned cs u) (λ u. IsOwned (takes Right v w.tap).state.connections u) w.put owned_to f.owned;
-    linked = λ r peer link h. let (k, two) = f.linked r peer link h in (tracked_to r k, two);
+    linked = λ lasts r peer link h. let (k, two) = f.linked lasts r peer link h in (tracked_to r k, two);
     answers = all_add (λ u. IsAnswer (takes Right v w.tap).state.connections w.end u) w.coming v
         (all_so (λ u. IsAnswer cs w.end u) (λ u. IsAnswer (takes Right v w.tap).state.connections w.end u) w.coming
-        (λ u h m x e. let (k, row) = h m x e in (tracked_to m k, row)) f.answers) (answers_to next_so);
+        (λ u h m x e lasts. let (k, row) = h m x e lasts in (tracked_to m k, row)) f.answers) (answers_to next_so);
     requests = all_two (λ u. (x : Connect) → u ≡ request x → IsAsking local w.end w.coming x)
         (λ u. (x : Connect) → u ≡ request x → newer.last < x.source) (λ u. (x : Connect) → u ≡ request x → IsAsking local w.end more x) w.put
         new_request f.requests (rise_all newer.last w.put newer.rise);
@@ -581,4 +590,5 @@ module _ (local : Local) (w : Whole) (f : Followed local w) (sane : IsSane w.tap
     zero = zero_after next_so;
     some = f.some;
     few = all_add (AreGiven w.end.given) w.coming v f.few given_so;
+    seen = λ n b h. (lasts_passing (passing Right v) w.tap).seen (head_two local w f n h) (f.seen n b h);
   }

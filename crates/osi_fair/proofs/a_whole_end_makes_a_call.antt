@@ -34,17 +34,18 @@ use Rattle.osi_fair.specs.Putting.{put_by, put_closing, put_sent, put_together}
 use Rattle.osi_fair.specs.Wholes.{MayCall, Whole}
 use Rattle.osi_fair.proofs.a_carrier_follows_lines.{follows_closed, follows_sent}
 use Rattle.osi_fair.proofs.a_request_of_a_whole_end_is_new.{Newer}
-use Rattle.osi_fair.proofs.a_unit_of_a_whole_end_passes.{item_is, one_peer, unlike}
+use Rattle.osi_fair.proofs.a_unit_of_a_whole_end_passes.{differ, item_is, one_peer, unlike}
 use Rattle.osi_fair.proofs.a_whole_end_takes_a_unit.{Linked, ends, still}
 use Rattle.osi_fair.proofs.calls_of_a_line_join.{follows_together, still_open}
 use Rattle.osi_fair.proofs.each_connection_has_its_line.{AreGiven, Followed, Following, IsAnswer, IsAsking, IsOwned, Row, Tracked}
-use Rattle.osi_fair.proofs.each_connection_has_its_line.{all_so, asking, asks, closes, is_tracked, talks, tracks_hold, tracks_on}
+use Rattle.osi_fair.proofs.each_connection_has_its_line.{all_so, asking, asks, closes, over, is_tracked, talks, tracks_hold, tracks_on}
 use Rattle.osi_fair.proofs.how_a_connection_opens.{asked_so}
 use Rattle.osi_fair.proofs.references_of_requests_rise.{all_gives, closed_gives, sent_gives}
 use Rattle.osi_fair.proofs.what_a_calling_end_still_has.{OffersTwo}
-use Rattle.osi_fair.proofs.what_a_whole_end_takes.{Owner, all_join, heads_more, some_more, units_ask, units_owned}
+use Rattle.osi_fair.proofs.what_a_whole_end_takes.{Owner, all_join, heads_more, heads_was, some_more, units_ask, units_owned}
 use Rattle.osi_fair.proofs.what_the_other_side_closes.{IsSane}
-use Rattle.osi_fair.proofs.which_units_are_for_a_connection.{AllNamed, last_named, line_named, names, names_in, named_not, those, those_all}
+use Rattle.osi_fair.proofs.which_units_are_for_a_connection.{AllNamed, heads, last_named, line_named, names, names_in, named_not, those}
+use Rattle.osi_fair.proofs.which_units_are_for_a_connection.{those_all}
 use Rattle.osi_fair.proofs.which_units_are_for_a_connection.{those_join, those_none, those_nothing}
 
 -- ---- a call on an open connection
@@ -52,7 +53,7 @@ use Rattle.osi_fair.proofs.which_units_are_for_a_connection.{those_join, those_n
 module _ (local : Local) (w : Whole) (f : Followed local w) (sane : IsSane w.tap) (firm : w.tap.course.loose ≡ false) (t : State)
     (units : List Value) (n peer : ℕ) (link : Standing) (here : value_at n w.end.live ≡ Some (linked peer link))
     (rows : (m : ℕ) → (m ≡ n → ⊥) → value_at m t.live ≡ value_at m w.end.live) (class : t.class ≡ w.end.class)
-    (given : t.given ≡ w.end.given) (after_row : Linked n peer t)
+    (given : t.given ≡ w.end.given) (was : w.end.ended ≡ None) (after_row : Linked n peer t)
     (follows : (r q : ℕ) (l : Standing) → r ≡ n → value_at r w.end.live ≡ Some (linked q l) → Follows r q [] units w.end t) where
   abbrev cs : List Connection
   cs = w.tap.connections
@@ -112,6 +113,7 @@ module _ (local : Local) (w : Whole) (f : Followed local w) (sane : IsSane w.tap
 
   grown_by : (p : ℕ) (c : Connection) → slice_get cs p ≡ Some c → (g : Following local w.put w.begun w.end w.coming c) → g.r ≡ n →
       Row local w.end w.coming g.r g.peer g.line → Grown c
+  grown_by p c at g same (over h) = differ (is_some w.end.ended) h (ap is_some was)
   grown_by p c at g same (talks l r is come_all) = grows p c at g same l r is come_all
   grown_by p c at g same (asks r x source first is) =
       absurd (cc (sym here ∙ ap (λ (i : ℕ). value_at i w.end.live) (sym same) ∙ r))
@@ -122,7 +124,7 @@ module _ (local : Local) (w : Whole) (f : Followed local w) (sane : IsSane w.tap
 
   owner : Owner cs n units
   owner =
-      let ((p, c, at, tracked, left), two) = f.linked n peer link here in
+      let ((p, c, at, tracked, left), two) = f.linked was n peer link here in
       let g = f.lines p c at tracked in
       record { p = p; c = c; at = at; tracked = tracked; left = left; named = (grown_by p c at g (sym g.left ∙ left) g.row).named }
 
@@ -140,6 +142,7 @@ module _ (local : Local) (w : Whole) (f : Followed local w) (sane : IsSane w.tap
 
   row_other : (r q : ℕ) (line : Line) → (r ≡ n → ⊥) → Row local w.end w.coming r q line → Row local t w.coming r q line
   row_other r q line other (asks there x source first is) = asks (rows r other ∙ there) x source first is
+  row_other r q line other (over h) = differ (is_some w.end.ended) h (ap is_some was)
   row_other r q line other (talks l there is come_all) = talks l (rows r other ∙ there) is come_all
   row_other r q line other (closes o there i h is come_all) = closes o (rows r other ∙ there) i h is come_all
 
@@ -168,9 +171,9 @@ module _ (local : Local) (w : Whole) (f : Followed local w) (sane : IsSane w.tap
   linked_by : (m q : ℕ) (l : Standing) (b : Bool) → (m == n) ≡ b → value_at m t.live ≡ Some (linked q l) →
       Tracked cs m × (t.class ≡ Some Two)
   linked_by m q l true e h =
-      let (k, two) = f.linked n peer link here in (subst (Tracked cs) (sym (eqb-true m n e)) k, class ∙ two)
+      let (k, two) = f.linked was n peer link here in (subst (Tracked cs) (sym (eqb-true m n e)) k, class ∙ two)
   linked_by m q l false e h =
-      let (k, two) = f.linked m q l (sym (rows m (unlike m n e)) ∙ h) in (k, class ∙ two)
+      let (k, two) = f.linked was m q l (sym (rows m (unlike m n e)) ∙ h) in (k, class ∙ two)
 
   called_so : Followed local after
   called_so = record {
@@ -185,22 +188,24 @@ module _ (local : Local) (w : Whole) (f : Followed local w) (sane : IsSane w.tap
           seen = k.seen;
           class0 = k.class0;
           none = k.none;
-          row = asked_still k.r k.row;
+          row = λ lasts. asked_still k.r (k.row was);
         };
     owned = all_join (λ v. IsOwned cs v) w.put units f.owned (units_owned cs n units (inr owner));
-    linked = λ m q l h. linked_by m q l (m == n) refl h;
+    linked = λ lasts m q l h. linked_by m q l (m == n) refl h;
     answers = all_so (λ v. IsAnswer cs w.end v) (λ v. IsAnswer cs t v) w.coming
-        (λ v h m x e. let (k, row) = h m x e in (k, asked_still m row)) f.answers;
+        (λ v h m x e lasts. let (k, row) = h m x e was in (k, asked_still m row)) f.answers;
     requests = all_join (λ v. (x : Connect) → v ≡ request x → IsAsking local t w.coming x) w.put units
         (all_so (λ v. (x : Connect) → v ≡ request x → IsAsking local w.end w.coming x) (λ v. (x : Connect) → v ≡ request x →
         IsAsking local t w.coming x) w.put
-        (λ v h x e. let k = h x e in record { left = k.left; class0 = k.class0; none = k.none; row = asked_still x.source k.row }) f.requests)
+        (λ v h x e. let k = h x e in record { left = k.left; class0 = k.class0; none = k.none; row = λ lasts. asked_still x.source (k.row was) })
+        f.requests)
         (units_ask cs n units (λ x. IsAsking local t w.coming x) (inr owner));
     two = f.two;
     silent = f.silent;
     zero = f.zero;
     some = λ h. some_more w.put units (f.some h);
     few = subst (λ (i : ℕ). AllByRecursion (AreGiven i) w.coming) (sym given) f.few;
+    seen = λ m b h. f.seen m b (heads_was w.begun (heads m w.put) (heads m (w.put ++ units)) b (heads_more w.begun m w.put units f.some) h);
   }
 
 -- ---- a call for a connection
@@ -226,7 +231,7 @@ same_request : (x y : Connect) → request x ≡ request y → y ≡ x
 same_request x y e = cc
 
 module _ (local : Local) (w : Whole) (f : Followed local w) (sane : IsSane w.tap) (newer : Newer w) (offers : OffersTwo w.end)
-    (orderly : IsOrderly w.end) (local_is : w.end.local ≡ local) (calling called : Option (List ℕ)) where
+    (orderly : IsOrderly w.end) (local_is : w.end.local ≡ local) (was : w.end.ended ≡ None) (calling called : Option (List ℕ)) where
   abbrev s : State
   s = w.end
 
@@ -262,6 +267,7 @@ module _ (local : Local) (w : Whole) (f : Followed local w) (sane : IsSane w.tap
 
   row_c : (m q : ℕ) (line : Line) → (m ≡ r → ⊥) → Row local s w.coming m q line → Row local t w.coming m q line
   row_c m q line other (asks there y source first is) = asks (rows_c m other ∙ there) y source first is
+  row_c m q line other (over h) = differ (is_some s.ended) h (ap is_some was)
   row_c m q line other (talks l there is come_all) = talks l (rows_c m other ∙ there) is come_all
   row_c m q line other (closes o there i h is come_all) = closes o (rows_c m other ∙ there) i h is come_all
 
@@ -298,7 +304,7 @@ module _ (local : Local) (w : Whole) (f : Followed local w) (sane : IsSane w.tap
   linked_c : (m q : ℕ) (l : Standing) (b : Bool) → (m == r) ≡ b → value_at m t.live ≡ Some (linked q l) →
       Tracked w.tap.connections m × (s.class ≡ Some Two)
   linked_c m q l true e h = absurd (cc (sym here_c ∙ ap (λ (i : ℕ). value_at i t.live) (sym (eqb-true m r e)) ∙ h))
-  linked_c m q l false e h = f.linked m q l (sym (rows_c m (unlike m r e)) ∙ h)
+  linked_c m q l false e h = f.linked was m q l (sym (rows_c m (unlike m r e)) ∙ h)
 
   new_asking : (y : Connect) → request x ≡ request y → IsAsking local t w.coming y
   new_asking y e =
@@ -312,7 +318,7 @@ module _ (local : Local) (w : Whole) (f : Followed local w) (sane : IsSane w.tap
         left = first;
         class0 = offers_none (proposes_two s.local) s.local s.class calling called r two zero;
         none = ap (λ (i : ℕ). those i w.coming) source_is ∙ none_come;
-        row = ap (λ (i : ℕ). value_at i t.live) source_is ∙ here_c;
+        row = λ lasts. ap (λ (i : ℕ). value_at i t.live) source_is ∙ here_c;
       })
 
   pub connects_so : Followed local after_connects
@@ -320,21 +326,24 @@ module _ (local : Local) (w : Whole) (f : Followed local w) (sane : IsSane w.tap
     lines = λ i c at tracked. line_c i c at (f.lines i c at tracked);
     waiting = λ i c at waits.
         let k = f.waiting i c at waits in
-        record { r = k.r; left = k.left; right = k.right; seen = k.seen; class0 = k.class0; none = k.none; row = asked_c k.r k.row };
+        record { r = k.r; left = k.left; right = k.right; seen = k.seen; class0 = k.class0; none = k.none; row = λ lasts. asked_c k.r (k.row was) };
     owned = all_join (λ v. IsOwned w.tap.connections v) w.put (request x ∷ []) f.owned (asking x refl, tt);
-    linked = λ m q l h. linked_c m q l (m == r) refl h;
+    linked = λ lasts m q l h. linked_c m q l (m == r) refl h;
     answers = all_so (λ v. IsAnswer w.tap.connections s v) (λ v. IsAnswer w.tap.connections t v) w.coming
-        (λ v h m y e. let (k, row) = h m y e in (k, asked_c m row)) f.answers;
+        (λ v h m y e lasts. let (k, row) = h m y e was in (k, asked_c m row)) f.answers;
     requests = all_join (λ v. (y : Connect) → v ≡ request y → IsAsking local t w.coming y) w.put (request x ∷ [])
         (all_so (λ v. (y : Connect) → v ≡ request y → IsAsking local s w.coming y) (λ v. (y : Connect) → v ≡ request y →
         IsAsking local t w.coming y) w.put
-        (λ v h y e. let k = h y e in record { left = k.left; class0 = k.class0; none = k.none; row = asked_c y.source k.row }) f.requests)
+        (λ v h y e. let k = h y e in record { left = k.left; class0 = k.class0; none = k.none; row = λ lasts. asked_c y.source (k.row was) })
+        f.requests)
         (new_asking, tt);
     two = f.two;
     silent = f.silent;
     zero = f.zero;
     some = λ h. some_more w.put (request x ∷ []) (f.some h);
     few = all_so (AreGiven s.given) (AreGiven t.given) w.coming (λ v h m e. let up = h m e in omega arith) f.few;
+    seen = λ m b h. f.seen m b (heads_was w.begun (heads m w.put) (heads m (w.put ++ request x ∷ [])) b
+        (heads_more w.begun m w.put (request x ∷ []) f.some) h);
   }
 
 -- ---- any call
@@ -343,7 +352,7 @@ abbrev after_calling : Whole → UserCall → Whole
 after_calling w call = record w { end = user_does call w.end; put = w.put ++ put_by call w.end }
 
 -- it has no effect
-nothing_so : (local : Local) (w : Whole) (t : State) (units : List Value) → t ≡ w.end → units ≡ [] → Followed local w →
+pub nothing_so : (local : Local) (w : Whole) (t : State) (units : List Value) → t ≡ w.end → units ≡ [] → Followed local w →
     Followed local (record w { end = t; put = w.put ++ units })
 nothing_so local w t units same none f =
     subst (λ (l : List Value). Followed local (record w { end = t; put = l }))
@@ -421,7 +430,7 @@ module _ (local : Local) (w : Whole) (f : Followed local w) (sane : IsSane w.tap
       let after = still_open r peer tsdu w.end link e in
       called_so local w f sane firm (sent r tsdu w.end) (put_sent tsdu (open_link r w.end)) r peer link here
       (λ m other. rows_sent m r tsdu (open_link r w.end) w.end other) (class_sent r tsdu (open_link r w.end) w.end)
-      (sent_gives r tsdu (open_link r w.end) w.end)
+      (sent_gives r tsdu (open_link r w.end) w.end) was
       (still (pumped (with_tsdu link tsdu)) (linked_of (is_some (sent r tsdu w.end).ended) (value_at r (sent r tsdu w.end).live) peer
       (pumped (with_tsdu link tsdu)) after))
       (λ i q l same row. subst (λ (j : ℕ). Follows i q [] (put_sent tsdu (open_link j w.end)) w.end (sent j tsdu w.end)) same
@@ -436,7 +445,7 @@ module _ (local : Local) (w : Whole) (f : Followed local w) (sane : IsSane w.tap
       let here = linked_of (is_some w.end.ended) (value_at r w.end.live) peer link e in
       let (l, after) = all_open r peer tsdus w.end link e in
       called_so local w f sane firm (sent_all r tsdus w.end) (put_together r tsdus w.end) r peer link here
-      (λ m other. rows_all m r tsdus w.end other) (class_all r tsdus w.end) (all_gives r tsdus w.end)
+      (λ m other. rows_all m r tsdus w.end other) (class_all r tsdus w.end) (all_gives r tsdus w.end) was
       (still l (linked_of (is_some (sent_all r tsdus w.end).ended) (value_at r (sent_all r tsdus w.end).live) peer l after))
       (λ i q l same row. subst (λ (j : ℕ). Follows i q [] (put_together j tsdus w.end) w.end (sent_all j tsdus w.end)) same
       (follows_together i q tsdus w.end l (open_of i q l w.end was row) short))
@@ -453,11 +462,11 @@ module _ (local : Local) (w : Whole) (f : Followed local w) (sane : IsSane w.tap
       (ap (λ (o : Option (ℕ × Standing)). put_closing r reason o w.end.class) e) f
   closes_by r reason (Some (peer, link)) e =
       let here = linked_of (is_some w.end.ended) (value_at r w.end.live) peer link e in
-      let two = (f.linked r peer link here).1 in
+      let two = (f.linked was r peer link here).1 in
       let is = closed_two r reason peer link e two in
       called_so local w f sane firm (closed_with r reason w.end) (put_closing r reason (open_link r w.end) w.end.class) r peer link here
       (λ m other. ap (λ (t : State). value_at m t.live) is ∙ put_other m r (closing peer) w.end.live other)
-      (ap (λ (t : State). t.class) is) (closed_gives r reason (open_link r w.end) w.end)
+      (ap (λ (t : State). t.class) is) (closed_gives r reason (open_link r w.end) w.end) was
       (ends (Some (closing peer)) (ap (λ (t : State). value_at r t.live) is ∙ put_here r (closing peer) (linked peer link) w.end.live here)
       peer (inl refl))
       (λ i q l same row. subst (λ (j : ℕ). Follows i q [] (put_closing j reason (open_link j w.end) w.end.class) w.end
@@ -465,7 +474,7 @@ module _ (local : Local) (w : Whole) (f : Followed local w) (sane : IsSane w.tap
       (follows_closed i q reason w.end l (open_of i q l w.end was row) two))
 
   pub end_calls : (call : UserCall) → MayCall call w.end → (user_does call w.end).ended ≡ None → Followed local (after_calling w call)
-  end_calls (connects calling called) may lasts = connects_so local w f sane newer offers orderly local_is calling called
+  end_calls (connects calling called) may lasts = connects_so local w f sane newer offers orderly local_is was calling called
   end_calls (sends r tsdu) may lasts = sends_by r tsdu (open_link r w.end) refl may
   end_calls (sends_all r tsdus) may lasts = together_by r tsdus (open_link r w.end) refl may
   end_calls (closes_call r reason) may lasts = closes_by r reason (open_link r w.end) refl

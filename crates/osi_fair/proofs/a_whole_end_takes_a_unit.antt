@@ -32,7 +32,7 @@ use Rattle.osi_fair.proofs.a_carrier_follows_lines.{follows_open}
 use Rattle.osi_fair.proofs.a_request_of_a_whole_end_is_new.{unit_gives}
 use Rattle.osi_fair.proofs.a_unit_of_a_whole_end_passes.{differ}
 use Rattle.osi_fair.proofs.each_connection_has_its_line.{Followed, Following, IsAnswer, IsNoCc, Row, Tracked, asks, closes, is_tracked}
-use Rattle.osi_fair.proofs.each_connection_has_its_line.{talks, tracks_hold, tracks_on}
+use Rattle.osi_fair.proofs.each_connection_has_its_line.{over, talks, tracks_hold, tracks_on}
 use Rattle.osi_fair.proofs.how_a_calling_end_asks.{IsCalling, put_is as put_calling, react_is as react_calling}
 use Rattle.osi_fair.proofs.what_a_calling_end_still_has.{IsLive, OffersTwo, and_none, never_zero, over_not, unit_after}
 use Rattle.osi_fair.proofs.what_a_whole_end_takes.{Puts, heads_more, rest_is, taken_so}
@@ -48,17 +48,17 @@ record Named (u : Value) (s : State) : Type 0 where
   is : react u s ≡ to_connection n (value_at n s.live) u s
   puts : put_for u s ≡ put_at n (value_at n s.live) u s.class
 
-two_reacts : (u : Value) (s : State) → OffersTwo s → s.ended ≡ None → s.class ≡ Some Two → react u s ≡ in_two true u s
+pub two_reacts : (u : Value) (s : State) → OffersTwo s → s.ended ≡ None → s.class ≡ Some Two → react u s ≡ in_two true u s
 unfolding react
 two_reacts u s o lasts two = ap (λ (e : Option EndReason). react_by (is_some e) u s) lasts ∙ ap (λ (k : Option Class). in_class k u s) two
     ∙ ap (λ (b : Bool). in_two b u s) o.caller
 
-two_puts : (u : Value) (s : State) → OffersTwo s → s.ended ≡ None → s.class ≡ Some Two → put_for u s ≡ put_in_two true u s
+pub two_puts : (u : Value) (s : State) → OffersTwo s → s.ended ≡ None → s.class ≡ Some Two → put_for u s ≡ put_in_two true u s
 two_puts u s o lasts two = ap (λ (e : Option EndReason). if is_some e then [] else put_in s.class u s) lasts
     ∙ ap (λ (k : Option Class). put_in k u s) two ∙ ap (λ (b : Bool). put_in_two b u s) o.caller
 
 ended_so : {A : Type 0} (u : Value) (s t : State) → react u s ≡ t → is_some t.ended ≡ true → (react u s).ended ≡ None → A
-ended_so u s t e over lasts = over_not (react u s).ended (ap (λ (x : State). is_some x.ended) e ∙ over) lasts
+ended_so u s t e gone lasts = over_not (react u s).ended (ap (λ (x : State). is_some x.ended) e ∙ gone) lasts
 
 named_before : (u : Value) (s : State) → IsCalling s.live s → (react u s).ended ≡ None → Named u s
 named_before (request x) s is lasts = ended_so (request x) s (before_class true (request x) s) (react_calling s.live (request x) s is) refl lasts
@@ -287,7 +287,7 @@ module _ (local : Local) (w : Whole) (f : Followed local w) (sane : IsSane w.tap
 
   all : Mine → MineLinked → Puts cs n units → Followed local after
   all mine linked_mine owner =
-      taken_so local w f sane firm t units u later n come k.dest rows class_so (unit_gives u s) mine linked_mine owner
+      taken_so local w f sane firm t units u later n come k.dest rows class_so (unit_gives u s) was mine linked_mine owner
 
   later_is : (r : ℕ) → r ≡ n → those r later ≡ those n later
   later_is r same = ap (λ (i : ℕ). those i later) same
@@ -325,6 +325,7 @@ module _ (local : Local) (w : Whole) (f : Followed local w) (sane : IsSane w.tap
       not_open old p asked a (sym here ∙ ap (λ (i : ℕ). value_at i s.live) (sym same) ∙ r) refl
   closed_row none old new here p a there q b c g same (talks link r is come_all) =
       not_open old p (linked g.peer link) a (sym here ∙ ap (λ (i : ℕ). value_at i s.live) (sym same) ∙ r) refl
+  closed_row none old new here p a there q b c g same (over h) = differ (is_some s.ended) h (ap is_some was)
   closed_row none old new here p a there q b c g same (closes o r i h gone come_all) =
       ignored none old new there q b c g same gone come_all
 
@@ -359,6 +360,7 @@ module _ (local : Local) (w : Whole) (f : Followed local w) (sane : IsSane w.tap
       value_at n t.live ≡ Some (linked x.source (opened_link Two (agreed_size x.parameters.size s.local) s.local x.credit)) →
       (c : Connection) (g : Following local w.put w.begun s w.coming c) → g.r ≡ n → Row local s w.coming g.r g.peer g.line →
       Following local (w.put ++ units) w.begun t later c
+  opened_row none x e here there c g same (over h) = differ (is_some s.ended) h (ap is_some was)
   opened_row none x e here there c g same (talks link r is come_all) =
       absurd (cc (sym here ∙ ap (λ (i : ℕ). value_at i s.live) (sym same) ∙ r))
   opened_row none x e here there c g same (closes o r i (inl h) gone come_all) =
@@ -393,6 +395,7 @@ module _ (local : Local) (w : Whole) (f : Followed local w) (sane : IsSane w.tap
   -- what comes first for a connection that is asked for is its CC
   other_row : {A : Type 0} → ((x : Connect) → u ≡ confirm n x → ⊥) → value_at n s.live ≡ Some asked → (r peer : ℕ) (line : Line) → r ≡ n →
       Row local s w.coming r peer line → A
+  other_row none here r peer line same (over h) = differ (is_some s.ended) h (ap is_some was)
   other_row none here r peer line same (talks link a is come_all) =
       absurd (cc (sym here ∙ ap (λ (i : ℕ). value_at i s.live) (sym same) ∙ a))
   other_row none here r peer line same (closes o a i (inl h) gone come_all) =
@@ -404,7 +407,7 @@ module _ (local : Local) (w : Whole) (f : Followed local w) (sane : IsSane w.tap
       ∙ ap (λ (i : ℕ). confirm i y) same))
 
   head_answer : (x : Connect) → u ≡ confirm n x → Tracked cs n
-  head_answer x e = ((subst (AllByRecursion (λ (v : Value). IsAnswer cs s v)) come f.answers).0 n x e).0
+  head_answer x e = ((subst (AllByRecursion (λ (v : Value). IsAnswer cs s v)) come f.answers).0 n x e was).0
 
   not_linked : {A : Type 0} (o : Option Live) (peer : ℕ) (link : Standing) → (o ≡ None) ⊎ (o ≡ Some asked) → o ≡ Some (linked peer link) → A
   not_linked o peer link (inl e) h = absurd (cc (sym e ∙ h))
@@ -477,6 +480,7 @@ module _ (local : Local) (w : Whole) (f : Followed local w) (sane : IsSane w.tap
 
   grown_by : (peer : ℕ) (link : Standing) → value_at n s.live ≡ Some (linked peer link) → s.class ≡ Some Two → (p : ℕ) (c : Connection) →
       slice_get cs p ≡ Some c → (g : Following local w.put w.begun s w.coming c) → g.r ≡ n → Row local s w.coming g.r g.peer g.line → Grown c
+  grown_by peer link here two p c at g same (over h) = differ (is_some s.ended) h (ap is_some was)
   grown_by peer link here two p c at g same (talks l r is come_all) = grows peer link here two p c at g same l r is come_all
   grown_by peer link here two p c at g same (asks r x source first is) =
       absurd (cc (sym here ∙ ap (λ (i : ℕ). value_at i s.live) (sym same) ∙ r))
@@ -487,7 +491,7 @@ module _ (local : Local) (w : Whole) (f : Followed local w) (sane : IsSane w.tap
 
   at_linked : (peer : ℕ) (link : Standing) → value_at n s.live ≡ Some (linked peer link) → Followed local after
   at_linked peer link here =
-      let ((p, c, at, tracked, left), two) = f.linked n peer link here in
+      let ((p, c, at, tracked, left), two) = f.linked was n peer link here in
       let g = f.lines p c at tracked in
       let mine = grown_by peer link here two p c at g (sym g.left ∙ left) g.row in
       all (λ i x there is_there h same. (grown_by peer link here two i x there h same h.row).grown)

@@ -1,7 +1,7 @@
 -- Each connection of a calling end that is open at the tap has its line: what that says, and that it stays so as packets begin.
 -- For the law on a whole end.
 use Rattle.std.proofs.Common.{◌≡◌, ◌≢◌, ◌∙◌, ◌≤◌, ℕ, Bool, true, false, List, [], ◌∷◌, ◌++◌, map, refl, sym, ap, subst}
-use Rattle.std.proofs.Common.{Option, Some, None, ◌⊎◌}
+use Rattle.std.proofs.Common.{Option, Some, None, ◌⊎◌, is_some}
 use Rattle.std.specs.Prelude.{◌&&◌, ◌||◌, option_map, slice_get}
 use Rattle.std.specs.List.{AllByRecursion}
 use Rattle.std.proofs.lemmas.Option.{slice_get-map}
@@ -14,6 +14,7 @@ use Rattle.osi_class.specs.declared.terms.Local.{Local}
 use Rattle.osi_carrier.specs.Negotiation.{agreed_size, opened_link}
 use Rattle.osi_carrier.specs.Rows.{value_at}
 use Rattle.osi_carrier.specs.State.{State, Connection as Live, asked, closing, linked}
+use Rattle.osi_carrier.specs.declared.ends.EndReason.{EndReason}
 use Rattle.osi_rules.specs.declared.connections.Connection.{Connection}
 use Rattle.osi_rules.specs.declared.directions.Direction.{Direction}
 use Rattle.osi_rules.specs.declared.directions.Direction.TheVariants.{Left, Right}
@@ -26,7 +27,7 @@ use Rattle.osi_fair.proofs.an_end_closes_last.{left_holds}
 use Rattle.osi_fair.proofs.what_holds_of_a_line.{Holds}
 use Rattle.osi_fair.proofs.what_holds_of_one_item.{HoldsOfEach, after_map}
 use Rattle.osi_fair.proofs.what_is_put_before_the_cc_passes.{acts_join}
-use Rattle.osi_fair.proofs.which_units_are_for_a_connection.{heads, some_there, those}
+use Rattle.osi_fair.proofs.which_units_are_for_a_connection.{heads, names, some_there, those}
 
 -- ---- a line since its connection was opened
 
@@ -71,6 +72,8 @@ pub data Row (local : Local) (end : State) (coming : List Value) (r peer : ℕ) 
   -- it has closed it
   closes : (o : Option Live) → value_at r end.live ≡ o → (q : ℕ) → (o ≡ Some (closing q)) ⊎ (o ≡ None) → line.link ≡ None →
       those r coming ≡ line.coming → Row local end coming r peer line
+  -- it has ended
+  over : is_some end.ended ≡ true → Row local end coming r peer line
 
 -- no CC
 abbrev pub IsNoCc : Value → Type 0
@@ -98,14 +101,14 @@ pub record Waiting (local : Local) (end : State) (coming : List Value) (c : Conn
   pub seen : c.seen_by_right.next ≡ 0
   pub class0 : c.offer.class0 ≡ false
   pub none : those r coming ≡ []
-  pub row : value_at r end.live ≡ Some asked
+  pub row : end.ended ≡ None → value_at r end.live ≡ Some asked
 
 -- a CR that is to pass
 pub record IsAsking (local : Local) (end : State) (coming : List Value) (x : Connect) : Type 0 where
   pub left : (asked_by x).left ≡ opened_half x.source (window_units local.window)
   pub class0 : (asked_by x).offer.class0 ≡ false
   pub none : those x.source coming ≡ []
-  pub row : value_at x.source end.live ≡ Some asked
+  pub row : end.ended ≡ None → value_at x.source end.live ≡ Some asked
 
 -- a unit that is to pass is a CR, or is of an open connection
 pub data IsOwned (cs : List Connection) (v : Value) : Type 0 where
@@ -115,7 +118,7 @@ pub data IsOwned (cs : List Connection) (v : Value) : Type 0 where
 
 -- a CC that has come is for an open connection whose CR the end has put
 abbrev pub IsAnswer : List Connection → State → Value → Type 0
-IsAnswer cs end v = (n : ℕ) (x : Connect) → v ≡ confirm n x → Tracked cs n × (value_at n end.live ≡ Some asked)
+IsAnswer cs end v = (n : ℕ) (x : Connect) → v ≡ confirm n x → end.ended ≡ None → Tracked cs n × (value_at n end.live ≡ Some asked)
 
 abbrev pub AreGiven : ℕ → Value → Type 0
 AreGiven n v = (m : ℕ) → destination_of v ≡ Some m → m ≤ n
@@ -124,7 +127,7 @@ pub record Followed (local : Local) (w : Whole) : Type 0 where
   pub lines : HoldsOfEach (λ (c : Connection). is_tracked c ≡ true → Following local w.put w.begun w.end w.coming c) w.tap.connections
   pub waiting : HoldsOfEach (λ (c : Connection). is_waiting c ≡ true → Waiting local w.end w.coming c) w.tap.connections
   pub owned : AllByRecursion (λ (v : Value). IsOwned w.tap.connections v) w.put
-  pub linked : (r peer : ℕ) (link : Standing) → value_at r w.end.live ≡ Some (linked peer link) →
+  pub linked : w.end.ended ≡ None → (r peer : ℕ) (link : Standing) → value_at r w.end.live ≡ Some (linked peer link) →
       Tracked w.tap.connections r × (w.end.class ≡ Some Two)
   pub answers : AllByRecursion (λ (v : Value). IsAnswer w.tap.connections w.end v) w.coming
   pub requests : AllByRecursion (λ (v : Value). (x : Connect) → v ≡ request x → IsAsking local w.end w.coming x) w.put
@@ -135,14 +138,21 @@ pub record Followed (local : Local) (w : Whole) : Type 0 where
   pub some : w.begun ≡ true → w.put ≢ []
   -- what has come is for references that were given
   pub few : AllByRecursion (AreGiven w.end.given) w.coming
+  -- left knows the class as a unit of a connection passes
+  pub seen : (n : ℕ) → w.begun ≡ true → heads n w.put ≡ true → w.tap.course.class_seen ≡ Some Two
 
 -- ---- a packet begins
+
+pub no_end : (o : Option EndReason) → is_some o ≡ false → o ≡ None
+no_end None e = refl
+no_end (Some x) e = absurd (cc e)
 
 begun_row : (local : Local) (end : State) (coming : List Value) (r peer : ℕ) (line : Line) (b : Bool) (c : Connection) →
     Row local end coming r peer line → Row local end coming r peer (record line { begun = b; tap = c })
 begun_row local end coming r peer line b c (asks there x source first link) = asks there x source first link
 begun_row local end coming r peer line b c (talks link there is same) = talks link there is same
 begun_row local end coming r peer line b c (closes o there q e is same) = closes o there q e is same
+begun_row local end coming r peer line b c (over h) = over h
 
 left_begins : (local : Local) (put : List Value) (end : State) (coming : List Value) (c : Connection) (b : Bool) →
     (f : Following local put false end coming c) → heads f.peer put ≡ b →
@@ -267,10 +277,11 @@ course_class : (d : Direction) (s : Traffic) → (packet_begins d s).course.clas
 course_class Left s = refl
 course_class Right s = refl
 
-pub followed_begins : (local : Local) (d : Direction) (w : Whole) (b : Bool) → (b ≡ true → w.put ≢ []) → Followed local w →
+pub followed_begins : (local : Local) (d : Direction) (w : Whole) (b : Bool) → (b ≡ true → w.put ≢ []) →
+    ((n : ℕ) → b ≡ true → heads n w.put ≡ true → (packet_begins d w.tap).course.class_seen ≡ Some Two) → Followed local w →
     ((c : Connection) → Following local w.put w.begun w.end w.coming c → Following local w.put b w.end w.coming (begins d c)) →
     Followed local (record w { begun = b; tap = packet_begins d w.tap })
-followed_begins local d w b some f k = record {
+followed_begins local d w b some seen f k = record {
   lines = λ i c at tracked.
       let (x, was, is) = after_map (begins d) w.tap.connections i c at in
       subst (λ (e : Connection). Following local w.put b w.end w.coming e) (sym is)
@@ -281,9 +292,9 @@ followed_begins local d w b some f k = record {
       (waits_begun local d w.end w.coming x (f.waiting i x was (sym (waiting_begins d x) ∙ ap is_waiting (sym is) ∙ waits)));
   owned = all_so (λ v. IsOwned w.tap.connections v) (λ v. IsOwned (map (begins d) w.tap.connections) v) w.put
       (λ v. owned_at d w.tap.connections v) f.owned;
-  linked = λ r peer link e. let (t, two) = f.linked r peer link e in (tracked_at d w.tap.connections r t, two);
+  linked = λ lasts r peer link e. let (t, two) = f.linked lasts r peer link e in (tracked_at d w.tap.connections r t, two);
   answers = all_so (λ v. IsAnswer w.tap.connections w.end v) (λ v. IsAnswer (map (begins d) w.tap.connections) w.end v) w.coming
-      (λ v h n x e. let (t, row) = h n x e in (tracked_at d w.tap.connections n t, row)) f.answers;
+      (λ v h n x e lasts. let (t, row) = h n x e lasts in (tracked_at d w.tap.connections n t, row)) f.answers;
   requests = f.requests;
   two = λ r t. course_class d w.tap ∙ f.two r (tracked_was d w.tap.connections r t);
   silent = λ i c at none.
@@ -294,14 +305,29 @@ followed_begins local d w b some f k = record {
   zero = subst (λ (k : Option Class). (k ≡ None) ⊎ (k ≡ Some Two)) (sym (course_class d w.tap)) f.zero;
   some = some;
   few = f.few;
+  seen = seen;
 }
+
+head_owned : (local : Local) (w : Whole) → Followed local w → (n : ℕ) (v : Value) → names n v ≡ true → IsOwned w.tap.connections v →
+    w.tap.course.class ≡ Some Two
+head_owned local w f n v h (asking x e) = absurd (cc (sym (ap (λ (u : Value). names n u) e) ∙ h))
+head_owned local w f n v h (of m p c dest at tracked is) = f.two c.left.reference (p, c, at, tracked, refl)
+
+head_by : (local : Local) (w : Whole) → Followed local w → (n : ℕ) (put : List Value) → heads n put ≡ true →
+    AllByRecursion (λ (v : Value). IsOwned w.tap.connections v) put → w.tap.course.class ≡ Some Two
+head_by local w f n [] h a = absurd (cc h)
+head_by local w f n (v ∷ vs) h (one, more) = head_owned local w f n v h one
+
+-- the first unit is of an open connection, so class 2 is selected
+pub head_two : (local : Local) (w : Whole) → Followed local w → (n : ℕ) → heads n w.put ≡ true → w.tap.course.class ≡ Some Two
+head_two local w f n h = head_by local w f n w.put h f.owned
 
 pub own_begins : (local : Local) (w : Whole) → w.begun ≡ false → w.put ≢ [] → Followed local w →
     Followed local (record w { begun = true; tap = packet_begins Left w.tap })
 own_begins local w e some f =
-    followed_begins local Left w true (λ h. some) f (λ c g.
+    followed_begins local Left w true (λ h. some) (λ n b h. head_two local w f n h) f (λ c g.
     let h = subst (λ (b : Bool). Following local w.put b w.end w.coming c) e g in
     left_begins local w.put w.end w.coming c (heads h.peer w.put) h refl)
 
 pub other_begins : (local : Local) (w : Whole) → Followed local w → Followed local (record w { tap = packet_begins Right w.tap })
-other_begins local w f = followed_begins local Right w w.begun f.some f (λ c g. right_begins local w.put w.begun w.end w.coming c g)
+other_begins local w f = followed_begins local Right w w.begun f.some f.seen f (λ c g. right_begins local w.put w.begun w.end w.coming c g)

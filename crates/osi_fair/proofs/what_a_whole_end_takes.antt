@@ -1,7 +1,7 @@
 -- What the line of each connection of a whole calling end is after the end has taken a unit that names a connection.
 -- For the law on a whole end.
 use Rattle.std.proofs.Common.{◌≡◌, ◌≢◌, ◌∙◌, ◌≤◌, ℕ, Bool, true, false, List, [], ◌∷◌, ◌++◌, refl, sym, ap, subst, arith}
-use Rattle.std.proofs.Common.{Some, inl, inr, ◌⊎◌}
+use Rattle.std.proofs.Common.{Some, None, inl, inr, ◌⊎◌, is_some}
 use Rattle.std.specs.Prelude.{◌&&◌, ◌==◌, slice_get}
 use Rattle.std.specs.List.{AllByRecursion}
 use Rattle.std.proofs.lemmas.Bool.{eqb-true}
@@ -17,7 +17,7 @@ use Rattle.osi_fair.specs.Lines.{Line}
 use Rattle.osi_fair.specs.Wholes.{Whole}
 use Rattle.osi_fair.proofs.a_unit_of_a_whole_end_passes.{all_two, differ, item_is, one_peer, unlike}
 use Rattle.osi_fair.proofs.each_connection_has_its_line.{AreGiven, Followed, Following, IsAnswer, IsAsking, IsNoCc, IsOwned, Row, Tracked}
-use Rattle.osi_fair.proofs.each_connection_has_its_line.{Waiting, all_so, asks, closes, is_tracked, of, talks}
+use Rattle.osi_fair.proofs.each_connection_has_its_line.{Waiting, all_so, asks, closes, over, is_tracked, of, talks}
 use Rattle.osi_fair.proofs.what_the_other_side_closes.{IsSane}
 use Rattle.osi_fair.proofs.which_units_are_for_a_connection.{AllNamed, first_kept, first_left, heads, keep, named_not, named_so, names, those}
 use Rattle.osi_fair.proofs.which_units_are_for_a_connection.{those_join, those_none}
@@ -54,6 +54,10 @@ no_list v vs e = cc
 pub some_more : (put more : List Value) → put ≢ [] → put ++ more ≢ []
 some_more [] more h = absurd (h refl)
 some_more (v ∷ vs) more h = no_list v (vs ++ more)
+
+pub heads_was : (b x y : Bool) → b ≡ true → (b && x) ≡ (b && y) → y ≡ true → x ≡ true
+heads_was true x y h e k = e ∙ k
+heads_was false x y h e k = cc
 
 -- ---- whose units they are
 
@@ -96,7 +100,7 @@ rest_is u v xs ys e = cc
 module _ (local : Local) (w : Whole) (f : Followed local w) (sane : IsSane w.tap) (firm : w.tap.course.loose ≡ false) (t : State)
     (units : List Value) (u : Value) (later : List Value) (n : ℕ) (come : w.coming ≡ u ∷ later) (dest : destination_of u ≡ Some n)
     (rows : (m : ℕ) → (m ≡ n → ⊥) → value_at m t.live ≡ value_at m w.end.live) (class : w.end.class ≡ Some Two → t.class ≡ Some Two)
-    (given : w.end.given ≤ t.given)
+    (given : w.end.given ≤ t.given) (was : w.end.ended ≡ None)
     (mine : (p : ℕ) (c : Connection) → slice_get w.tap.connections p ≡ Some c → is_tracked c ≡ true →
     (g : Following local w.put w.begun w.end w.coming c) → g.r ≡ n → Following local (w.put ++ units) w.begun t later c)
     (mine_linked : (peer : ℕ) (link : Standing) → value_at n t.live ≡ Some (linked peer link) →
@@ -118,6 +122,7 @@ module _ (local : Local) (w : Whole) (f : Followed local w) (sane : IsSane w.tap
   row_later : (r peer : ℕ) (line : Line) → (r ≡ n → ⊥) → Row local w.end w.coming r peer line → Row local t later r peer line
   row_later r peer line other (asks there x source first is) = asks (rows r other ∙ there) x source (sym (later_other r other) ∙ first) is
   row_later r peer line other (talks link there is all) = talks link (rows r other ∙ there) is (sym (later_other r other) ∙ all)
+  row_later r peer line other (over h) = differ (is_some w.end.ended) h (ap is_some was)
   row_later r peer line other (closes o there q k is all) = closes o (rows r other ∙ there) q k is (sym (later_other r other) ∙ all)
 
   same_left : (p : ℕ) (c : Connection) → slice_get cs p ≡ Some c → (o : Owner cs n units) → p ≡ o.p → c.left.reference ≡ n
@@ -170,13 +175,13 @@ module _ (local : Local) (w : Whole) (f : Followed local w) (sane : IsSane w.tap
         seen = k.seen;
         class0 = k.class0;
         none = sym (later_other k.r other) ∙ k.none;
-        row = rows k.r other ∙ k.row;
+        row = λ lasts. rows k.r other ∙ k.row was;
       }
 
   asking_new : (x : Connect) → IsAsking local w.end w.coming x → IsAsking local t later x
   asking_new x k =
       let other = not_none x.source k.none in
-      record { left = k.left; class0 = k.class0; none = sym (later_other x.source other) ∙ k.none; row = rows x.source other ∙ k.row }
+      record { left = k.left; class0 = k.class0; none = sym (later_other x.source other) ∙ k.none; row = λ lasts. rows x.source other ∙ k.row was }
 
   linked_by : (m peer : ℕ) (link : Standing) (b : Bool) → (m == n) ≡ b → value_at m t.live ≡ Some (linked peer link) →
       Tracked cs m × (t.class ≡ Some Two)
@@ -185,7 +190,7 @@ module _ (local : Local) (w : Whole) (f : Followed local w) (sane : IsSane w.tap
       let (k, two) = mine_linked peer link (ap (λ (i : ℕ). value_at i t.live) (sym same) ∙ h) in
       (subst (Tracked cs) (sym same) k, two)
   linked_by m peer link false e h =
-      let (k, two) = f.linked m peer link (sym (rows m (unlike m n e)) ∙ h) in (k, class two)
+      let (k, two) = f.linked was m peer link (sym (rows m (unlike m n e)) ∙ h) in (k, class two)
 
   -- after the CC of a connection no other has come
   calm_row : (r peer : ℕ) (line : Line) → r ≡ n → value_at n w.end.live ≡ Some asked → AllByRecursion IsNoCc line.coming →
@@ -193,6 +198,7 @@ module _ (local : Local) (w : Whole) (f : Followed local w) (sane : IsSane w.tap
   calm_row r peer line same there calm (asks k x source first is) =
       let e = sym first_n ∙ ap (λ (i : ℕ). those i w.coming) (sym same) ∙ first in
       subst (AllByRecursion IsNoCc) (sym (rest_is u (confirm r x) (those n later) line.coming e)) calm
+  calm_row r peer line same there calm (over h) = differ (is_some w.end.ended) h (ap is_some was)
   calm_row r peer line same there calm (talks link k is all) =
       absurd (cc (sym there ∙ ap (λ (i : ℕ). value_at i w.end.live) (sym same) ∙ k))
   calm_row r peer line same there calm (closes o k q (inl h) is all) =
@@ -224,10 +230,10 @@ module _ (local : Local) (w : Whole) (f : Followed local w) (sane : IsSane w.tap
         let g = f.lines i c at tracked in line_by i c at tracked g (g.r == n) refl;
     waiting = λ i c at waiting. waits_new c (f.waiting i c at waiting);
     owned = all_join (λ v. IsOwned cs v) w.put units f.owned (units_owned cs n units owner);
-    linked = λ m peer link h. linked_by m peer link (m == n) refl h;
+    linked = λ lasts m peer link h. linked_by m peer link (m == n) refl h;
     answers = all_two (λ v. IsAnswer cs w.end v)
         (λ v. Tracked cs n × (value_at n w.end.live ≡ Some asked) → names n v ≡ true → IsNoCc v) (λ v. IsAnswer cs t v) later
-        (λ v h k m x e. answer_by v m x e (h m x e) k (m == n) refl) tail_answers
+        (λ v h k m x e lasts. answer_by v m x e (h m x e was) k (m == n) refl) tail_answers
         (all_under (Tracked cs n × (value_at n w.end.live ≡ Some asked)) (λ v. names n v ≡ true → IsNoCc v) later calm_later);
     requests = all_join (λ v. (x : Connect) → v ≡ request x → IsAsking local t later x) w.put units
         (all_so (λ v. (x : Connect) → v ≡ request x → IsAsking local w.end w.coming x) (λ v. (x : Connect) → v ≡ request x →
@@ -239,4 +245,5 @@ module _ (local : Local) (w : Whole) (f : Followed local w) (sane : IsSane w.tap
     some = λ h. some_more w.put units (f.some h);
     few = all_so (AreGiven w.end.given) (AreGiven t.given) later (λ v h m e. let x = h m e in omega arith)
         (subst (AllByRecursion (AreGiven w.end.given)) come f.few).1;
+    seen = λ m b h. f.seen m b (heads_was w.begun (heads m w.put) (heads m (w.put ++ units)) b (heads_more w.begun m w.put units f.some) h);
   }

@@ -215,8 +215,8 @@ module _ (s : Traffic) (c : Connection) (judged : c.is_judged ≡ true) (sound :
   next_left v = left_then v (is_applied (finding v)) (how_far v) c
 
   broke : {A : Type 0} (v : Value) (r : Rule) → finding v ≡ Broke r → passes_over r ≡ false → IsPlain (course v) → A
-  broke v r e over h =
-      absurd (bad (class_for Right s.course) r (course_after Right c v (is_applied (finding v)) s.course) over
+  broke v r e fine_so h =
+      absurd (bad (class_for Right s.course) r (course_after Right c v (is_applied (finding v)) s.course) fine_so
       (subst (λ (f : Finding). IsPlain (reached Right (reach_of (class_for Right s.course) f)
       (course_after Right c v (is_applied (finding v)) s.course))) e h))
 

@@ -257,12 +257,12 @@ pub fn a_dr_for_what_is_gone_closed_nothing()
 /// A whole calling end is fair, until a DR passes that closes nothing. Take any run of an end that offers class 2 alone: any calls of
 /// its user, whatever units the other side sends, however many connections, and a tap anywhere between the two ends. Then each
 /// unit of the end that passes is right, or it is a CR and there are more connections than the rules look at. This holds as
-/// long as the end has not ended, both sides are judged, no connection has lost its judgement because the other side broke a
-/// rule, and each DR that has passed closed an open connection which the other side had not closed.
+/// long as both sides are judged, no connection has lost its judgement because the other side broke a rule, and each DR that
+/// has passed closed an open connection which the side to which it goes had not closed.
 pub fn a_calling_end_is_fair()
     ensures { (local : Local) (events : List Event) (w : Whole) (unit : Value) (rest : List Value) →
         local.class0 ≡ false → local.class2 ≡ true → HappenAlong Direction.Left (begin true local) events w → w.begun ≡ true →
-        w.put ≡ unit ∷ rest → w.end.ended ≡ None → is_stopped Direction.Left w.tap.course ≡ false →
+        w.put ≡ unit ∷ rest → is_stopped Direction.Left w.tap.course ≡ false →
         is_stopped Direction.Right w.tap.course ≡ false → w.tap.course.loose ≡ false → w.tap.course.strays ≡ false →
         ((takes Direction.Left unit w.tap).told.finding ≡ Finding.Kept)
         ⊎ ((takes Direction.Left unit w.tap).told.finding ≡ Finding.TooMany) }

@@ -38,14 +38,13 @@
 //!   to it. The units that it puts (`specs/Putting`) are what it writes: [`laws::what_a_carrier_puts`]. In any run of a calling end
 //!   no CR is blamed, as long as it is judged: [`laws::no_request_is_blamed`]. If it offers class 2 alone, a DR that it takes for a
 //!   reference which is gone closed nothing at the tap, so the DC with which it answers is not blamed:
-//!   [`laws::a_dr_for_what_is_gone_closed_nothing`]. And each unit that passes is right, of whatever connection, until the end has
-//!   ended or a DR has passed that closes nothing: [`laws::a_calling_end_is_fair`]. There each connection of the carrier that is
+//!   [`laws::a_dr_for_what_is_gone_closed_nothing`]. And each unit of it that passes is right, of whatever connection, until the
+//!   other side breaks a rule or a DR passes that closes nothing: [`laws::a_calling_end_is_fair`]. There each connection that is
 //!   open at the tap has its line, and each line its place.
 //!
 //! What is not here: the last two of these laws for a called end, and for an end that offers class 0 too; the last one after a DR
-//! that closes nothing (it refuses a CR, crosses a DR, or has the wrong references), and for what passes after the end has ended;
-//! and the way from units to packets and octets. So the theorem on a whole end of class 2, as `osi_honest` has it for class 0,
-//! doesn't follow yet.
+//! that closes nothing (it refuses a CR, crosses a DR, or has the wrong references); and the way from units to packets and
+//! octets. So the theorem on a whole end of class 2, as `osi_honest` has it for class 0, doesn't follow yet.
 //!
 //! It doesn't hold either with the rules as they are. They take a DC as the answer to a DR on the connection that its DST-REF names,
 //! and don't look at its SRC-REF. An end answers a DR for a reference that is gone by a DC whose DST-REF is the SRC-REF of that DR. If
