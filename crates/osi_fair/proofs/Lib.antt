@@ -51,3 +51,4 @@ pub mod a_whole_end_makes_a_call
 pub mod a_plain_calling_end_is_fair
 pub mod what_becomes_of_a_connection
 pub mod a_whole_end_ends
+pub mod a_packet_is_events

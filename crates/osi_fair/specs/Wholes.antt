@@ -8,7 +8,7 @@ use Rattle.osi_class.specs.declared.terms.Local.{Local}
 use Rattle.osi_carrier.specs.Calls.{fresh_state, may_connect}
 use Rattle.osi_carrier.specs.React.{react}
 use Rattle.osi_carrier.specs.Runs.{UserCall, breaks, closes, connects, sends, sends_all, user_does}
-use Rattle.osi_carrier.specs.State.{State}
+use Rattle.osi_carrier.specs.State.{State, packets}
 use Rattle.osi_rules.specs.declared.directions.Direction.{Direction}
 use Rattle.osi_rules.specs.Sides.{other}
 use Rattle.osi_rules.specs.Traffic.{State as Traffic, fresh, packet_begins, refused, takes}
@@ -68,3 +68,11 @@ HappenAlong d old (event ∷ events) new = (mid : Whole) × Happens d event old 
 -- nothing has happened yet
 abbrev pub begin : (is_caller : Bool) → Local → Whole
 begin is_caller local = record { end = fresh_state is_caller local; put = []; begun = false; tap = fresh; coming = [] }
+
+-- The end alone comes to this state: by these events it has put these units, and written them.
+pub record Becomes (d : Direction) (old : Whole) (new : State) : Type 0 where
+  pub events : List Event
+  pub put : List Value
+  pub coming : List Value
+  pub along : HappenAlong d old events (record old { end = new; put = old.put ++ put; coming = coming })
+  pub outgoing : new.outgoing ≡ old.end.outgoing ++ packets put

@@ -1,10 +1,11 @@
 //! Laws of the rules of transport and of the ends that keep them. Each function does nothing: its clauses are the laws.
 
-ghost use Rattle.std.specs.Prelude.{◌≡◌, ◌≢◌, ◌≤◌, ◌⊎◌, ◌||◌, ℕ, Bool, true, false, List, [], ◌∷◌, ◌++◌, Option, Some, None, length, option_map, position, slice_get, slice_set};
+ghost use Rattle.std.specs.Prelude.{◌≡◌, ◌≢◌, ◌≤◌, ◌⊎◌, ◌||◌, ℕ, Bool, true, false, List, [], ◌∷◌, ◌++◌, Option, Some, None, Ok, Err, length, option_map, position, slice_get, slice_set};
 ghost use Rattle.std.specs.List.{AllByRecursion, list_all, list_any};
 ghost use Rattle.osi_carrier.specs.Calls.{closed_with, fresh_state, open_link, sent, sent_all};
 ghost use Rattle.osi_carrier.specs.Negotiation.{acceptance, agreed_size, opened_link, proposal};
 ghost use Rattle.osi_carrier.specs.Orderly.{IsOrderly};
+ghost use Rattle.osi_carrier.specs.Packets.{Acts as Takes};
 ghost use Rattle.osi_carrier.specs.React.{react};
 ghost use Rattle.osi_carrier.specs.Rows.{value_at};
 ghost use Rattle.osi_carrier.specs.Runs.{Act as Done, UserCall, user_does};
@@ -19,6 +20,8 @@ ghost use Rattle.osi_fair.specs.Asking.{all_asked, all_written};
 ghost use Rattle.osi_fair.specs.Naming.{HoldsOfOne, Passing, all_passed, passes};
 ghost use Rattle.osi_fair.specs.Following.{Follows, IsAtPlace, JustCloses};
 ghost use Rattle.osi_tpdu.specs.Limits.{window_units};
+ghost use Rattle.osi_tpdu.specs.Packet.{units_of};
+ghost use Rattle.osi_tpdu.specs.declared.faults.TpduFault.{TpduFault};
 ghost use Rattle.osi_tpdu.specs.Value.{Connect, IsConnect, Value, confirm, destination_of, disconnect, disconnected, request};
 ghost use Rattle.osi_rules.specs.Sides.{begins, is_live, is_named, is_open, is_over, is_refused, is_silent, other, own, theirs, seen, sends, uses};
 ghost use Rattle.osi_rules.specs.Traffic.{State as Traffic, asked_by, class_for, found, fresh, is_not_judged, is_stopped, offer_of, packet_begins, sent_on, silent_half, takes, uses_source};
@@ -31,7 +34,7 @@ ghost use Rattle.osi_fair.specs.Later.{IsLater, knows};
 ghost use Rattle.osi_fair.specs.Lines.{Act, Acts, ActsAlong, IsFair, IsOpened, IsRight, Line, PassesNone, after_finding, answering_line, finding_of};
 ghost use Rattle.osi_fair.specs.Lines.{opened_half, opened_line, passes_own};
 ghost use Rattle.osi_fair.specs.Putting.{put_by, put_closing, put_for, put_sent, put_together};
-ghost use Rattle.osi_fair.specs.Wholes.{Event, HappenAlong, Whole, begin};
+ghost use Rattle.osi_fair.specs.Wholes.{Becomes, Event, HappenAlong, MayCall, Whole, begin};
 
 /// What was right stays right if more of the other side had passed: before the packet of the unit began (`known`), or since
 /// then (`passed`).
@@ -266,4 +269,15 @@ pub fn a_calling_end_is_fair()
         is_stopped Direction.Right w.tap.course ≡ false → w.tap.course.loose ≡ false → w.tap.course.strays ≡ false →
         ((takes Direction.Left unit w.tap).told.finding ≡ Finding.Kept)
         ⊎ ((takes Direction.Left unit w.tap).told.finding ≡ Finding.TooMany) }
+{}
+
+/// What a carrier does with a packet, with or without enough memory, is events of its whole end: the units of the packet arrive
+/// (`packet`), or it can't be read, and the carrier ends (`fault`); and so is a call of its user (`call`). What these events
+/// put is what the carrier writes. So the laws on whole ends speak of every run of a carrier.
+pub fn a_packet_is_events()
+    ensures packet { (d : Direction) (octets : List ℕ) (units later : List Value) (w : Whole) (new : State) → Takes w.end octets new →
+        units_of octets ≡ Ok units → w.coming ≡ units ++ later → Becomes d w new }
+    ensures fault { (d : Direction) (octets : List ℕ) (fault : TpduFault) (w : Whole) (new : State) → Takes w.end octets new →
+        units_of octets ≡ Err fault → w.end.ended ≡ None → Becomes d w new }
+    ensures call { (d : Direction) (call : UserCall) (w : Whole) → MayCall call w.end → Becomes d w (user_does call w.end) }
 {}

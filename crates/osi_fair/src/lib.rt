@@ -40,10 +40,11 @@
 //!   reference which is gone closed nothing at the tap, so the DC with which it answers is not blamed:
 //!   [`laws::a_dr_for_what_is_gone_closed_nothing`]. And each unit of it that passes is right, of whatever connection, until the
 //!   other side breaks a rule or a DR passes that closes nothing: [`laws::a_calling_end_is_fair`]. There each connection that is
-//!   open at the tap has its line, and each line its place.
+//!   open at the tap has its line, and each line its place. What a carrier does with a packet, with or without enough memory,
+//!   and what its user does, is such events: [`laws::a_packet_is_events`].
 //!
 //! What is not here: the last two of these laws for a called end, and for an end that offers class 0 too; the last one after a DR
-//! that closes nothing (it refuses a CR, crosses a DR, or has the wrong references); and the way from units to packets and
+//! that closes nothing (it refuses a CR, crosses a DR, or has the wrong references); and the way from packets to pieces of
 //! octets. So the theorem on a whole end of class 2, as `osi_honest` has it for class 0, doesn't follow yet.
 //!
 //! It doesn't hold either with the rules as they are. They take a DC as the answer to a DR on the connection that its DST-REF names,
