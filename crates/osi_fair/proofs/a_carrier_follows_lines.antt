@@ -25,6 +25,8 @@ use Rattle.osi_carrier.specs.State.{Connection, State, asked, closing, linked, p
 use Rattle.osi_carrier.proofs.references.what_a_change_leaves_there.{put_here, without_here}
 use Rattle.osi_rules.specs.declared.directions.Direction.{Direction}
 use Rattle.osi_fair.specs.Following.{Follows, link_now}
+use Rattle.osi_fair.specs.Putting.{put_at, put_closed, put_closing, put_for, put_in, put_in_two, put_leaving, put_linked, put_sent}
+use Rattle.osi_fair.specs.Putting.{put_taking, put_to}
 use Rattle.osi_fair.specs.Lines.{Act, ActsAlong, HandsInShort, Line, answers, closes, ignores, moves, units_put, units_taken}
 
 -- ---- calls of a link
@@ -112,10 +114,9 @@ module _ (r peer : ℕ) (s new : State) (link mid : Standing) (front : List Move
       (moves_along d r peer (calls_after front mid) link (pumped mid) along short line later is come)
 
   follows_pump : value_at r s.live ≡ Some (linked peer link) → value_at r new.live ≡ Some (linked peer (pumped mid)) →
-      new.outgoing ≡ s.outgoing ++ packets (written_by peer mid) → Follows r peer units s new
+      new.outgoing ≡ s.outgoing ++ packets (written_by peer mid) → Follows r peer units (written_by peer mid) s new
   follows_pump here there outgoing = record {
     acts = AreMoves (calls_after front mid);
-    units = written_by peer mid;
     outgoing = outgoing;
     along = λ d line later is coming.
         subst (λ (o : Option Standing). ActsAlong d r peer line (AreMoves (calls_after front mid))
@@ -138,11 +139,11 @@ open_is false (Some (linked q other)) peer link e =
 open_is false (Some (closing q)) peer link e = cc
 
 pub follows_sent : (r peer : ℕ) (tsdu : List ℕ) (s : State) (link : Standing) → open_link r s ≡ Some (peer, link) →
-    length tsdu ≤ longest_tsdu → Follows r peer [] s (sent r tsdu s)
+    length tsdu ≤ longest_tsdu → Follows r peer [] (put_sent tsdu (open_link r s)) s (sent r tsdu s)
 follows_sent r peer tsdu s link e short =
     let here = open_is (is_some s.ended) (value_at r s.live) peer link e in
     let after = pumped (with_tsdu link tsdu) in
-    subst (λ (t : State). Follows r peer [] s t) (sym (ap (λ (o : Option (ℕ × Standing)). sent_on r tsdu o s) e))
+    subst (λ (o : Option (ℕ × Standing)). Follows r peer [] (put_sent tsdu o) s (sent_on r tsdu o s)) (sym e)
     (follows_pump r peer s (sent_on r tsdu (Some (peer, link)) s) link (with_tsdu link tsdu) (hand_in tsdu ∷ []) []
     (record { along = (with_tsdu link tsdu, refl, refl); short = (short, tt); puts = λ p. refl; takes = refl }) here
     (put_here r (linked peer after) (linked peer link) s.live here) refl)
@@ -151,10 +152,9 @@ follows_sent r peer tsdu s link e short =
 
 closes_follows : (r peer reason : ℕ) (units : List Value) (s new : State) (link : Standing) → value_at r s.live ≡ Some (linked peer link) →
     link_now (value_at r new.live) ≡ None → new.outgoing ≡ s.outgoing ++ packets (disconnect peer r reason [] ∷ []) →
-    Follows r peer units s new
+    Follows r peer units (disconnect peer r reason [] ∷ []) s new
 closes_follows r peer reason units s new link here there outgoing = record {
   acts = closes reason units ∷ [];
-  units = disconnect peer r reason [] ∷ [];
   outgoing = outgoing;
   along = λ d line later is coming. (
     record line {
@@ -173,14 +173,13 @@ closes_follows r peer reason units s new link here there outgoing = record {
 }
 
 pub follows_closed : (r peer reason : ℕ) (s : State) (link : Standing) → open_link r s ≡ Some (peer, link) → s.class ≡ Some Two →
-    Follows r peer [] s (closed_with r reason s)
+    Follows r peer [] (put_closing r reason (open_link r s) s.class) s (closed_with r reason s)
 follows_closed r peer reason s link e two =
     let here = open_is (is_some s.ended) (value_at r s.live) peer link e in
     let there = put_here r (closing peer) (linked peer link) s.live here in
-    let after : closed_with r reason s ≡ closes_in r peer reason (Some Two) s =
-    ap (λ (o : Option (ℕ × Standing)). closed_on r reason o s) e ∙ ap (λ (c : Option Class). closes_in r peer reason c s) two in
-    subst (λ (t : State). Follows r peer [] s t) (sym after)
-    (closes_follows r peer reason [] s (closes_in r peer reason (Some Two) s) link here (ap link_now there) refl)
+    subst (λ (o : Option (ℕ × Standing)). Follows r peer [] (put_closing r reason o s.class) s (closed_on r reason o s)) (sym e)
+    (subst (λ (c : Option Class). Follows r peer [] (put_closed r reason peer c) s (closes_in r peer reason c s)) (sym two)
+    (closes_follows r peer reason [] s (closes_in r peer reason (Some Two) s) link here (ap link_now there) refl))
 
 -- ---- a unit
 
@@ -210,7 +209,7 @@ hands_front old link unit (tsdu ∷ tsdus) e h =
 
 module _ (r peer : ℕ) (s : State) (link : Standing) (here : value_at r s.live ≡ Some (linked peer link)) (two : s.class ≡ Some Two) where
   follows_taking : (unit : Value) (result : Result Standing LinkFault) → taken link unit ≡ result →
-      Follows r peer (unit ∷ []) s (taking r peer result s)
+      Follows r peer (unit ∷ []) (put_taking r peer result s.class) s (taking r peer result s)
   follows_taking unit (Ok after) e =
       follows_pump r peer s (taking r peer (Ok after) s) link (handed_out after) (take_in unit
       ∷ hands_of after.ends.joining.whole) (unit ∷ [])
@@ -218,18 +217,17 @@ module _ (r peer : ℕ) (s : State) (link : Standing) (here : value_at r s.live 
       (put_here r (linked peer (pumped (handed_out after))) (linked peer link) s.live here) refl
   follows_taking unit (Err fault) e =
       let there = put_here r (closing peer) (linked peer link) s.live here in
-      subst (λ (t : State). Follows r peer (unit ∷ []) s t) (sym (ap (λ (c : Option Class). breaks r peer fault c s) two))
+      subst (λ (c : Option Class). Follows r peer (unit ∷ []) (put_taking r peer (Err fault) c) s (breaks r peer fault c s)) (sym two)
       (closes_follows r peer 133 (unit ∷ []) s (breaks r peer fault (Some Two) s) link here (ap link_now there) refl)
 
   follows_disconnect : (destination source reason : ℕ) (user : List ℕ) → RiseFrom 0 s.live →
-      Follows r peer (disconnect destination source reason user ∷ []) s (leaves r peer reason s.class s)
+      Follows r peer (disconnect destination source reason user ∷ []) (put_leaving r peer s.class) s (leaves r peer reason s.class s)
   follows_disconnect destination source reason user rise =
       let gone : value_at r (leaves r peer reason (Some Two) s).live ≡ None = without_here r s.live rise in
-      subst (λ (t : State). Follows r peer (disconnect destination source reason user ∷ []) s t)
-      (sym (ap (λ (c : Option Class). leaves r peer reason c s) two))
+      subst (λ (c : Option Class). Follows r peer (disconnect destination source reason user ∷ []) (put_leaving r peer c) s
+      (leaves r peer reason c s)) (sym two)
       (record {
         acts = answers (disconnect destination source reason user) ∷ [];
-        units = disconnected peer r ∷ [];
         outgoing = refl;
         along = λ d line later is coming. (
           record line {
@@ -253,7 +251,7 @@ module _ (r peer : ℕ) (s : State) (link : Standing) (here : value_at r s.live 
         );
       })
 
-  follows_linked : (unit : Value) → RiseFrom 0 s.live → Follows r peer (unit ∷ []) s (to_linked r peer link unit s)
+  follows_linked : (unit : Value) → RiseFrom 0 s.live → Follows r peer (unit ∷ []) (put_linked r peer link unit s.class) s (to_linked r peer link unit s)
   follows_linked (disconnect destination source reason user) rise = follows_disconnect destination source reason user rise
   follows_linked (request c) rise = follows_taking (request c) (taken link (request c)) refl
   follows_linked (confirm destination c) rise = follows_taking (confirm destination c) (taken link (confirm destination c)) refl
@@ -270,10 +268,9 @@ module _ (r peer : ℕ) (s : State) (link : Standing) (here : value_at r s.live 
 
 ignores_follows : (r peer : ℕ) (unit : Value) (s new : State) → link_now (value_at r s.live) ≡ None →
     link_now (value_at r new.live) ≡ None →
-    new.outgoing ≡ s.outgoing → Follows r peer (unit ∷ []) s new
+    new.outgoing ≡ s.outgoing → Follows r peer (unit ∷ []) [] s new
 ignores_follows r peer unit s new before after outgoing = record {
   acts = ignores (unit ∷ []) ∷ [];
-  units = [];
   outgoing = outgoing ∙ sym (append-nil s.outgoing);
   along = λ d line later is coming. (
     record line { link = link_now (value_at r new.live); put = line.put ++ []; coming = later },
@@ -288,7 +285,7 @@ ignores_follows r peer unit s new before after outgoing = record {
 }
 
 follows_closing : (r peer : ℕ) (unit : Value) (s : State) → value_at r s.live ≡ Some (closing peer) → RiseFrom 0 s.live →
-    Follows r peer (unit ∷ []) s (to_closing r unit s)
+    Follows r peer (unit ∷ []) [] s (to_closing r unit s)
 follows_closing r peer (disconnected destination source) s here rise =
     ignores_follows r peer (disconnected destination source) s (to_closing r (disconnected destination source) s) (ap link_now here)
     (ap link_now (without_here r s.live rise)) refl
@@ -330,21 +327,52 @@ two_is false (data2 destination number end user) s r e = to_same destination r (
 two_is false (acknowledge credit destination number) s r e = to_same destination r (acknowledge credit destination number) s e
 two_is false (error destination cause) s r e = to_same destination r (error destination cause) s e
 
-react_is : (unit : Value) (s : State) (r : ℕ) → s.class ≡ Some Two → s.ended ≡ None → destination_of unit ≡ Some r →
+pub react_is : (unit : Value) (s : State) (r : ℕ) → s.class ≡ Some Two → s.ended ≡ None → destination_of unit ≡ Some r →
     react unit s ≡ to_reference r unit s
 unfolding react
 react_is unit s r two lasts e =
     let on : is_some s.ended ≡ false = ap is_some lasts in
     ap (λ (b : Bool). react_by b unit s) on ∙ ap (λ (c : Option Class). in_class c unit s) two ∙ two_is s.is_caller unit s r e
 
+put_two_is : (is_caller : Bool) (unit : Value) (s : State) (r : ℕ) → destination_of unit ≡ Some r →
+    put_in_two is_caller unit s ≡ put_to (Some r) unit s
+put_two_is true (request c) s r e = ap (λ (o : Option ℕ). put_to o (request c) s) e
+put_two_is true (confirm destination c) s r e = ap (λ (o : Option ℕ). put_to o (confirm destination c) s) e
+put_two_is true (disconnect destination source reason user) s r e = ap (λ (o : Option ℕ). put_to o (disconnect destination source reason user) s) e
+put_two_is true (disconnected destination source) s r e = ap (λ (o : Option ℕ). put_to o (disconnected destination source) s) e
+put_two_is true (data0 end user) s r e = ap (λ (o : Option ℕ). put_to o (data0 end user) s) e
+put_two_is true (data2 destination number end user) s r e = ap (λ (o : Option ℕ). put_to o (data2 destination number end user) s) e
+put_two_is true (acknowledge credit destination number) s r e = ap (λ (o : Option ℕ). put_to o (acknowledge credit destination number) s) e
+put_two_is true (error destination cause) s r e = ap (λ (o : Option ℕ). put_to o (error destination cause) s) e
+put_two_is false (request c) s r e = cc
+put_two_is false (confirm destination c) s r e = ap (λ (o : Option ℕ). put_to o (confirm destination c) s) e
+put_two_is false (disconnect destination source reason user) s r e = ap (λ (o : Option ℕ). put_to o (disconnect destination source reason user) s) e
+put_two_is false (disconnected destination source) s r e = ap (λ (o : Option ℕ). put_to o (disconnected destination source) s) e
+put_two_is false (data0 end user) s r e = ap (λ (o : Option ℕ). put_to o (data0 end user) s) e
+put_two_is false (data2 destination number end user) s r e = ap (λ (o : Option ℕ). put_to o (data2 destination number end user) s) e
+put_two_is false (acknowledge credit destination number) s r e = ap (λ (o : Option ℕ). put_to o (acknowledge credit destination number) s) e
+put_two_is false (error destination cause) s r e = ap (λ (o : Option ℕ). put_to o (error destination cause) s) e
+
+pub put_is : (unit : Value) (s : State) (r : ℕ) → s.class ≡ Some Two → s.ended ≡ None → destination_of unit ≡ Some r →
+    put_for unit s ≡ put_at r (value_at r s.live) unit s.class
+put_is unit s r two lasts e =
+    let on : is_some s.ended ≡ false = ap is_some lasts in
+    ap (λ (b : Bool). if b then [] else put_in s.class unit s) on ∙ ap (λ (c : Option Class). put_in c unit s) two
+    ∙ put_two_is s.is_caller unit s r e
+
 pub follows_open : (unit : Value) (s : State) (r peer : ℕ) (link : Standing) → RiseFrom 0 s.live → s.class ≡ Some Two → s.ended ≡ None →
-    value_at r s.live ≡ Some (linked peer link) → destination_of unit ≡ Some r → Follows r peer (unit ∷ []) s (react unit s)
+    value_at r s.live ≡ Some (linked peer link) → destination_of unit ≡ Some r → Follows r peer (unit ∷ []) (put_for unit s) s (react unit s)
 follows_open unit s r peer link rise two lasts here e =
     let after = react_is unit s r two lasts e ∙ ap (λ (o : Option Connection). to_connection r o unit s) here in
-    subst (λ (t : State). Follows r peer (unit ∷ []) s t) (sym after) (follows_linked r peer s link here two unit rise)
+    let puts = put_is unit s r two lasts e ∙ ap (λ (o : Option Connection). put_at r o unit s.class) here in
+    subst (λ (units : List Value). Follows r peer (unit ∷ []) units s (react unit s)) (sym puts)
+    (subst (λ (t : State). Follows r peer (unit ∷ []) (put_linked r peer link unit s.class) s t) (sym after)
+    (follows_linked r peer s link here two unit rise))
 
 pub follows_closed_one : (unit : Value) (s : State) (r peer : ℕ) → RiseFrom 0 s.live → s.class ≡ Some Two → s.ended ≡ None →
-    value_at r s.live ≡ Some (closing peer) → destination_of unit ≡ Some r → Follows r peer (unit ∷ []) s (react unit s)
+    value_at r s.live ≡ Some (closing peer) → destination_of unit ≡ Some r → Follows r peer (unit ∷ []) (put_for unit s) s (react unit s)
 follows_closed_one unit s r peer rise two lasts here e =
     let after = react_is unit s r two lasts e ∙ ap (λ (o : Option Connection). to_connection r o unit s) here in
-    subst (λ (t : State). Follows r peer (unit ∷ []) s t) (sym after) (follows_closing r peer unit s here rise)
+    let puts = put_is unit s r two lasts e ∙ ap (λ (o : Option Connection). put_at r o unit s.class) here in
+    subst (λ (units : List Value). Follows r peer (unit ∷ []) units s (react unit s)) (sym puts)
+    (subst (λ (t : State). Follows r peer (unit ∷ []) [] s t) (sym after) (follows_closing r peer unit s here rise))

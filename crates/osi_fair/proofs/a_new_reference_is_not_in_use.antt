@@ -88,13 +88,13 @@ begins_same Right c = refl
 -- ---- all are below
 
 module _ (m : ℕ) where
-  abbrev IsBelow : Connection → Type 0
+  abbrev pub IsBelow : Connection → Type 0
   IsBelow c = c.left.reference < m
 
-  abbrev AreBelow : State → Type 0
+  abbrev pub AreBelow : State → Type 0
   AreBelow s = HoldsOfEach IsBelow s.connections
 
-  abbrev FewAsked : List ℕ → Type 0
+  abbrev pub FewAsked : List ℕ → Type 0
   FewAsked rs = AllByRecursion (λ (r : ℕ). r < m) rs
 
   below_same : (c e : Connection) → e.left.reference ≡ c.left.reference → IsBelow c → IsBelow e
@@ -167,7 +167,7 @@ module _ (m : ℕ) where
   if_judged true d s o a b = a
   if_judged false d s o a b = b
 
-  still_below : (passing : Passing) (s : State) → FewAsked (asked_as passing) → AreBelow s → AreBelow (passes passing s)
+  pub still_below : (passing : Passing) (s : State) → FewAsked (asked_as passing) → AreBelow s → AreBelow (passes passing s)
   still_below (packet d) s h a = each_map IsBelow (begins d) s.connections a (λ c b. below_same c (begins d c) (begins_same d c) b)
   still_below (unit Left v) s h a =
       let r = route Left s.course v in
@@ -212,11 +212,11 @@ module _ (m : ℕ) where
   none_so f [] h = refl
   none_so f (c ∷ cs) h = none_any (f c) (list_any f cs) (h zero c refl) (none_so f cs (λ i e at. h (suc i) e at))
 
-  unused : (s : State) → AreBelow s → list_any (uses Left m) s.connections ≡ false
+  pub unused : (s : State) → AreBelow s → list_any (uses Left m) s.connections ≡ false
   unused s a = none_so (uses Left m) s.connections (λ i c at. neither (not (is_over Left c)) (not (is_silent c.left.phase))
       (c.left.reference == m) (other_number c.left.reference (c.left.reference == m) refl (a i c at)))
 
-  all_unlike : (s : State) → AreBelow s → list_any (is_not_judged m) s.connections ≡ false
+  pub all_unlike : (s : State) → AreBelow s → list_any (is_not_judged m) s.connections ≡ false
   all_unlike s a = none_so (is_not_judged m) s.connections (λ i c at. not_second (not c.is_judged) (c.left.reference == m)
       (other_number c.left.reference (c.left.reference == m) refl (a i c at)))
 
@@ -239,7 +239,7 @@ two_left true true h = inl refl
 two_left true false h = inr refl
 two_left false place h = cc
 
-abbrev Passed : Finding → Type 0
+abbrev pub Passed : Finding → Type 0
 Passed f = (f ≡ Kept) ⊎ (f ≡ TooMany)
 
 -- the tests of a CR, by what is known of its reference
@@ -247,7 +247,7 @@ abbrev tested : State → Bool → Bool → Finding
 tested s unlike used = first_failed ((is_some s.course.class_seen || list_all (is_over Left) s.connections, Broke rule.Negotiating)
     ∷ (not unlike, NotJudged) ∷ (not used, Broke rule.ReferenceInUse) ∷ (has_place s.connections, TooMany) ∷ [])
 
-tests_pass : (s : State) (x : Connect) → s.course.class_seen ≡ Some Two → list_any (uses Left x.source) s.connections ≡ false →
+pub tests_pass : (s : State) (x : Connect) → s.course.class_seen ≡ Some Two → list_any (uses Left x.source) s.connections ≡ false →
     list_any (is_not_judged x.source) s.connections ≡ false → Passed (first_failed (request_tests s x))
 tests_pass s x two unused judged =
     let so : first_failed (request_tests s x) ≡ tested s false false =
@@ -257,14 +257,14 @@ tests_pass s x two unused judged =
     subst (λ (f : Finding). Passed f) (sym so)
     (two_left (is_some s.course.class_seen || list_all (is_over Left) s.connections) (has_place s.connections) known)
 
-asked_finding : (f : Finding) (x : Connect) (s : State) → (asks_by Left f x s).told.finding ≡ f
+pub asked_finding : (f : Finding) (x : Connect) (s : State) → (asks_by Left f x s).told.finding ≡ f
 asked_finding Kept x s = refl
 asked_finding (Broke rule) x s = refl
 asked_finding Outside x s = refl
 asked_finding TooMany x s = refl
 asked_finding NotJudged x s = refl
 
-asked_is : (x : Connect) (s : State) → is_stopped Left s.course ≡ false → s.course.class_seen ≡ Some Two →
+pub asked_is : (x : Connect) (s : State) → is_stopped Left s.course ≡ false → s.course.class_seen ≡ Some Two →
     (takes Left (request x) s).told.finding ≡ first_failed (request_tests s x)
 asked_is x s judged two =
     let v = request x in

@@ -17,7 +17,7 @@ both : (a b : Bool) → a ≡ true → b ≡ true → (a && b) ≡ true
 both true b h k = k
 both false b h k = cc
 
-all_from : (f : Connection → Bool) (cs : List Connection) → HoldsOfEach (λ (c : Connection). f c ≡ true) cs → list_all f cs ≡ true
+pub all_from : (f : Connection → Bool) (cs : List Connection) → HoldsOfEach (λ (c : Connection). f c ≡ true) cs → list_all f cs ≡ true
 all_from f [] h = refl
 all_from f (c ∷ cs) h = both (f c) (list_all f cs) (h zero c refl) (all_from f cs (λ i e at. h (suc i) e at))
 
@@ -29,7 +29,7 @@ or_known true b c h = refl
 or_known false true c h = refl
 or_known false false c h = cc
 
-refused_over : (c : Connection) → c.is_judged ≡ true → is_refused c.right.phase ≡ true → is_over Left (begins Left c) ≡ true
+pub refused_over : (c : Connection) → c.is_judged ≡ true → is_refused c.right.phase ≡ true → is_over Left (begins Left c) ≡ true
 refused_over c j h = both c.is_judged (is_over_by c.left c.right) j (or_known (is_refused c.left.phase) (is_refused c.right.phase)
     (is_closed c.left.phase || (is_closing c.left.phase && (is_closing c.right.phase || is_closed c.right.phase))) h)
 

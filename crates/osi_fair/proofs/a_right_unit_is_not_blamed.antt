@@ -85,7 +85,7 @@ module _ (d : Direction) (v : Value) (s : State) (n p : ℕ) (c : Connection) (a
       let place : IsAtPlace d s n q e = record { judged = judged; class = class; first = first; is = there } in
       subst (λ (f : Finding). IsNotBlamed f) (sym (found_is d v s n q e place named)) (by_judged q e e.is_judged refl there so)
 
-named_of : (o : Option ℕ) (n : ℕ) (d : Direction) (c : Connection) → o ≡ Some n → IfSome o (λ m. is_named d m c ≡ true) →
+pub named_of : (o : Option ℕ) (n : ℕ) (d : Direction) (c : Connection) → o ≡ Some n → IfSome o (λ m. is_named d m c ≡ true) →
     is_named d n c ≡ true
 named_of None n d c e h = cc
 named_of (Some m) n d c e h = let same : m ≡ n = cc in subst (λ (x : ℕ). is_named d x c ≡ true) same h

@@ -32,7 +32,7 @@ use Rattle.osi_fair.proofs.a_right_unit_is_not_blamed.{first_there, is_first}
 abbrev pub IsJudged : Connection → Type 0
 IsJudged c = c.is_judged ≡ true
 
-abbrev AreJudged : State → Type 0
+abbrev pub AreJudged : State → Type 0
 AreJudged s = s.course.loose ≡ false → HoldsOfEach IsJudged s.connections
 
 -- it was so before that
@@ -166,7 +166,7 @@ if_judged : (stopped : Bool) (d : Direction) (v : Value) (s : State) (r : Route)
 if_judged true d v s r a = to_none d NotJudged s a
 if_judged false d v s r a = by_route d v s r a
 
-still_judged : (passing : Passing) (s : State) → AreJudged s → AreJudged (passes passing s)
+pub still_judged : (passing : Passing) (s : State) → AreJudged s → AreJudged (passes passing s)
 still_judged (packet d) s a h = each_map IsJudged (begins d) s.connections (a (sym (begun_firm d s.course) ∙ h))
     (λ c j. begins_judged d c ∙ j)
 still_judged (unit d v) s a h = if_judged (is_stopped d s.course) d v s (route d s.course v) a h

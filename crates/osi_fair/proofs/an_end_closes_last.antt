@@ -24,7 +24,7 @@ open_at peer limit x mine theirs put (Some link) (puts, so) some = so
 holds_open : (peer : ℕ) (line : Line) → Holds peer line → line.put ≢ [] → is_open line.tap.left.phase ≡ true
 holds_open peer line h some = open_at peer h.limit h.tally line.tap.left line.tap.right line.put line.link h.puts some
 
-left_holds : (r peer : ℕ) (begin line : Line) (acts : List Act) → IsOpened Left r peer begin → ActsAlong Left r peer begin acts line →
+pub left_holds : (r peer : ℕ) (begin line : Line) (acts : List Act) → IsOpened Left r peer begin → ActsAlong Left r peer begin acts line →
     line.tap.is_judged ≡ true → Holds peer line
 left_holds r peer begin line acts o along judged = all_keep r peer acts begin line along (λ _. opened_holds r peer begin o) judged
 

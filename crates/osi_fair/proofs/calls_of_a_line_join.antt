@@ -17,6 +17,7 @@ use Rattle.osi_carrier.specs.State.{Connection, State, linked, packets}
 use Rattle.osi_carrier.proofs.references.what_a_change_leaves_there.{put_here}
 use Rattle.osi_fair.specs.Following.{Follows, link_now}
 use Rattle.osi_fair.specs.Lines.{ActsAlong, Line}
+use Rattle.osi_fair.specs.Putting.{put_sent, put_together}
 use Rattle.osi_fair.proofs.a_carrier_follows_lines.{follows_sent, open_is}
 use Rattle.osi_fair.proofs.what_is_put_before_the_cc_passes.{acts_join}
 
@@ -25,10 +26,9 @@ use Rattle.osi_fair.proofs.what_is_put_before_the_cc_passes.{acts_join}
 abbrev line_with : Line → Option Standing → List Value → List Value → Line
 line_with line link put coming = record line { link = link; put = put; coming = coming }
 
-pub follows_none : (r peer : ℕ) (s : State) → Follows r peer [] s s
+pub follows_none : (r peer : ℕ) (s : State) → Follows r peer [] [] s s
 follows_none r peer s = record {
   acts = [];
-  units = [];
   outgoing = sym (append-nil s.outgoing);
   along = λ d line later is coming.
       ap (λ (o : Option Standing). line_with line o (line.put ++ []) later) (sym is)
@@ -36,21 +36,20 @@ follows_none r peer s = record {
       ∙ ap (λ (l : List Value). line_with line line.link line.put l) (sym coming);
 }
 
-pub follows_then : (r peer : ℕ) (a b : List Value) (old mid new : State) → Follows r peer a old mid → Follows r peer b mid new →
-    Follows r peer (a ++ b) old new
-follows_then r peer a b old mid new f g = record {
+pub follows_then : (r peer : ℕ) (a b us vs : List Value) (old mid new : State) → Follows r peer a us old mid →
+    Follows r peer b vs mid new → Follows r peer (a ++ b) (us ++ vs) old new
+follows_then r peer a b us vs old mid new f g = record {
   acts = f.acts ++ g.acts;
-  units = f.units ++ g.units;
-  outgoing = g.outgoing ∙ ap (λ (l : List ℕ). l ++ packets g.units) f.outgoing
-      ∙ append_assoc old.outgoing (packets f.units) (packets g.units)
-      ∙ ap (λ (l : List ℕ). old.outgoing ++ l) (sym (flat_map-append (λ (unit : Value). packet_of (written unit)) f.units g.units));
+  outgoing = g.outgoing ∙ ap (λ (l : List ℕ). l ++ packets vs) f.outgoing
+      ∙ append_assoc old.outgoing (packets us) (packets vs)
+      ∙ ap (λ (l : List ℕ). old.outgoing ++ l) (sym (flat_map-append (λ (unit : Value). packet_of (written unit)) us vs));
   along = λ d line later is coming.
-      let next : Line = line_with line (link_now (value_at r mid.live)) (line.put ++ f.units) (b ++ later) in
+      let next : Line = line_with line (link_now (value_at r mid.live)) (line.put ++ us) (b ++ later) in
       let first = f.along d line (b ++ later) is (coming ∙ append_assoc a b later) in
-      let last : Line = line_with next (link_now (value_at r new.live)) (next.put ++ g.units) later in
+      let last : Line = line_with next (link_now (value_at r new.live)) (next.put ++ vs) later in
       let second = g.along d next later refl refl in
       subst (λ (l : List Value). ActsAlong d r peer line (f.acts ++ g.acts) (line_with line (link_now (value_at r new.live)) l later))
-      (append_assoc line.put f.units g.units)
+      (append_assoc line.put us vs)
       (acts_join d r peer f.acts g.acts line next last first second);
 }
 
@@ -61,7 +60,7 @@ lasts_of true o x e = cc
 lasts_of false o x e = refl
 
 -- the connection is still open, with this link
-still_open : (r peer : ℕ) (tsdu : List ℕ) (s : State) (link : Standing) → open_link r s ≡ Some (peer, link) →
+pub still_open : (r peer : ℕ) (tsdu : List ℕ) (s : State) (link : Standing) → open_link r s ≡ Some (peer, link) →
     open_link r (sent r tsdu s) ≡ Some (peer, pumped (with_tsdu link tsdu))
 still_open r peer tsdu s link e =
     let after = pumped (with_tsdu link tsdu) in
@@ -73,8 +72,8 @@ still_open r peer tsdu s link e =
     ∙ ap (λ (o : Option Connection). link_of o) (put_here r (linked peer after) (linked peer link) s.live here)
 
 pub follows_together : (r peer : ℕ) (tsdus : List (List ℕ)) (s : State) (link : Standing) → open_link r s ≡ Some (peer, link) →
-    AllByRecursion (λ (tsdu : List ℕ). length tsdu ≤ longest_tsdu) tsdus → Follows r peer [] s (sent_all r tsdus s)
+    AllByRecursion (λ (tsdu : List ℕ). length tsdu ≤ longest_tsdu) tsdus → Follows r peer [] (put_together r tsdus s) s (sent_all r tsdus s)
 follows_together r peer [] s link e short = follows_none r peer s
 follows_together r peer (tsdu ∷ tsdus) s link e (one, more) =
-    follows_then r peer [] [] s (sent r tsdu s) (sent_all r tsdus (sent r tsdu s)) (follows_sent r peer tsdu s link e one)
+    follows_then r peer [] [] (put_sent tsdu (open_link r s)) (put_together r tsdus (sent r tsdu s)) s (sent r tsdu s) (sent_all r tsdus (sent r tsdu s)) (follows_sent r peer tsdu s link e one)
     (follows_together r peer tsdus (sent r tsdu s) (pumped (with_tsdu link tsdu)) (still_open r peer tsdu s link e) more)

@@ -24,7 +24,7 @@ use Rattle.osi_fair.specs.Asking.{all_written, asks_with}
 
 -- ---- how many references were given
 
-rises_by : (r : ℕ) (old new : State) → How r old new → old.given ≤ new.given
+pub rises_by : (r : ℕ) (old new : State) → How r old new → old.given ≤ new.given
 rises_by r old new h = grind arith
 
 units_rise : (units : List Value) (s : State) → s.given ≤ (reacts units s).given
@@ -42,11 +42,11 @@ packet_rises : (unit : List ℕ) (s : State) → s.given ≤ (after_packet s uni
 unfolding after_packet
 packet_rises unit s = packet_by (units_of unit) s
 
-sent_gives : (r : ℕ) (tsdu : List ℕ) (o : Option (ℕ × Standing)) (s : State) → (sent_on r tsdu o s).given ≡ s.given
+pub sent_gives : (r : ℕ) (tsdu : List ℕ) (o : Option (ℕ × Standing)) (s : State) → (sent_on r tsdu o s).given ≡ s.given
 sent_gives r tsdu None s = refl
 sent_gives r tsdu (Some (peer, link)) s = refl
 
-all_gives : (r : ℕ) (tsdus : List (List ℕ)) (s : State) → (sent_all r tsdus s).given ≡ s.given
+pub all_gives : (r : ℕ) (tsdus : List (List ℕ)) (s : State) → (sent_all r tsdus s).given ≡ s.given
 all_gives r [] s = refl
 all_gives r (tsdu ∷ tsdus) s = all_gives r tsdus (sent r tsdu s) ∙ sent_gives r tsdu (open_link r s) s
 
@@ -55,23 +55,23 @@ class_gives r peer reason None s = refl
 class_gives r peer reason (Some Zero) s = refl
 class_gives r peer reason (Some Two) s = refl
 
-closed_gives : (r reason : ℕ) (o : Option (ℕ × Standing)) (s : State) → (closed_on r reason o s).given ≡ s.given
+pub closed_gives : (r reason : ℕ) (o : Option (ℕ × Standing)) (s : State) → (closed_on r reason o s).given ≡ s.given
 closed_gives r reason None s = refl
 closed_gives r reason (Some (peer, link)) s = class_gives r peer reason s.class s
 
-ended_gives : (over : Bool) (reason : EndReason) (s : State) → (if over then s else ends reason s).given ≡ s.given
+pub ended_gives : (over : Bool) (reason : EndReason) (s : State) → (if over then s else ends reason s).given ≡ s.given
 ended_gives true reason s = refl
 ended_gives false reason s = refl
 
-not_less : (m n : ℕ) → n ≡ m → m ≤ n
+pub not_less : (m n : ℕ) → n ≡ m → m ≤ n
 not_less m n e = omega arith
 
 -- ---- the references rise
 
-abbrev Rise : ℕ → List ℕ → Type 0
+abbrev pub Rise : ℕ → List ℕ → Type 0
 Rise n rs = RiseBy (λ (r : ℕ). r) n rs
 
-rise_from : (m n : ℕ) (rs : List ℕ) → m ≤ n → Rise n rs → Rise m rs
+pub rise_from : (m n : ℕ) (rs : List ℕ) → m ≤ n → Rise n rs → Rise m rs
 rise_from m n [] h k = tt
 rise_from m n (r ∷ rs) h (above, more) = (omega arith, more)
 

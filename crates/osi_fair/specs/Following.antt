@@ -19,10 +19,9 @@ link_now (Some (linked peer link)) = Some link
 link_now (Some (closing peer)) = None
 
 -- Acts of the line of this connection make of the old link the new one. They take these units, if they are the next to come,
--- and put what the carrier writes.
-pub record Follows (r peer : ℕ) (taken : List Value) (old new : State) : Type 0 where
+-- and put those, which the carrier writes.
+pub record Follows (r peer : ℕ) (taken units : List Value) (old new : State) : Type 0 where
   pub acts : List Act
-  pub units : List Value
   pub outgoing : new.outgoing ≡ old.outgoing ++ packets units
   pub along : (d : Direction) (line : Line) (later : List Value) → line.link ≡ link_now (value_at r old.live) →
       line.coming ≡ taken ++ later →

@@ -3,3 +3,5 @@ pub mod Lines
 pub mod Following
 pub mod Naming
 pub mod Asking
+pub mod Putting
+pub mod Wholes

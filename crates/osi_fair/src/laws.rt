@@ -1,14 +1,15 @@
 //! Laws of the rules of transport and of the ends that keep them. Each function does nothing: its clauses are the laws.
 
-ghost use Rattle.std.specs.Prelude.{◌≡◌, ◌≢◌, ◌≤◌, ◌⊎◌, ◌||◌, ℕ, Bool, true, false, List, [], ◌∷◌, ◌++◌, Option, Some, None, length, option_map, position, slice_get, slice_set};
+ghost use Rattle.std.specs.Prelude.{◌≡◌, ◌≢◌, ◌≤◌, ◌⊎◌, ◌||◌, ℕ, Bool, true, false, List, [], ◌∷◌, ◌++◌, Option, Some, None, Ok, Err, length, option_map, position, slice_get, slice_set};
 ghost use Rattle.std.specs.List.{AllByRecursion, list_all, list_any};
 ghost use Rattle.osi_carrier.specs.Calls.{closed_with, fresh_state, open_link, sent, sent_all};
 ghost use Rattle.osi_carrier.specs.Negotiation.{acceptance, agreed_size, opened_link, proposal};
 ghost use Rattle.osi_carrier.specs.Orderly.{IsOrderly};
+ghost use Rattle.osi_carrier.specs.Packets.{Acts as Takes};
 ghost use Rattle.osi_carrier.specs.React.{react};
 ghost use Rattle.osi_carrier.specs.Rows.{value_at};
-ghost use Rattle.osi_carrier.specs.Runs.{Act as Done};
-ghost use Rattle.osi_carrier.specs.State.{State, closing, linked};
+ghost use Rattle.osi_carrier.specs.Runs.{Act as Done, UserCall, user_does};
+ghost use Rattle.osi_carrier.specs.State.{State, closing, linked, packets};
 ghost use Rattle.osi_class.specs.Limits.{longest_tsdu};
 ghost use Rattle.osi_class.specs.Link.{Standing};
 ghost use Rattle.osi_class.specs.Negotiation.{accept, selected_by};
@@ -19,6 +20,8 @@ ghost use Rattle.osi_fair.specs.Asking.{all_asked, all_written};
 ghost use Rattle.osi_fair.specs.Naming.{HoldsOfOne, Passing, all_passed, passes};
 ghost use Rattle.osi_fair.specs.Following.{Follows, IsAtPlace, JustCloses};
 ghost use Rattle.osi_tpdu.specs.Limits.{window_units};
+ghost use Rattle.osi_tpdu.specs.Packet.{units_of};
+ghost use Rattle.osi_tpdu.specs.declared.faults.TpduFault.{TpduFault};
 ghost use Rattle.osi_tpdu.specs.Value.{Connect, IsConnect, Value, confirm, destination_of, disconnect, disconnected, request};
 ghost use Rattle.osi_rules.specs.Sides.{begins, is_live, is_named, is_open, is_over, is_refused, is_silent, other, own, theirs, seen, sends, uses};
 ghost use Rattle.osi_rules.specs.Traffic.{State as Traffic, asked_by, class_for, found, fresh, is_not_judged, is_stopped, offer_of, packet_begins, sent_on, silent_half, takes, uses_source};
@@ -30,6 +33,8 @@ ghost use Rattle.osi_rules.specs.declared.halves.Half.{Half};
 ghost use Rattle.osi_fair.specs.Later.{IsLater, knows};
 ghost use Rattle.osi_fair.specs.Lines.{Act, Acts, ActsAlong, IsFair, IsOpened, IsRight, Line, PassesNone, after_finding, answering_line, finding_of};
 ghost use Rattle.osi_fair.specs.Lines.{opened_half, opened_line, passes_own};
+ghost use Rattle.osi_fair.specs.Putting.{put_by, put_closing, put_for, put_sent, put_together};
+ghost use Rattle.osi_fair.specs.Wholes.{Becomes, Event, HappenAlong, MayCall, Whole, begin};
 
 /// What was right stays right if more of the other side had passed: before the packet of the unit began (`known`), or since
 /// then (`passed`).
@@ -102,17 +107,19 @@ pub fn what_is_put_before_the_cc_passes()
 /// `a_unit_changes_one_connection` of `osi_carrier`. So [`an_open_end_is_fair`] speaks of every connection of a carrier.
 pub fn a_carrier_follows_its_lines()
     ensures open { (unit : Value) (s : State) (r peer : ℕ) (link : Standing) → IsOrderly s → s.class ≡ Some Two → s.ended ≡ None →
-        value_at r s.live ≡ Some (linked peer link) → destination_of unit ≡ Some r → Follows r peer (unit ∷ []) s (react unit s) }
+        value_at r s.live ≡ Some (linked peer link) → destination_of unit ≡ Some r →
+        Follows r peer (unit ∷ []) (put_for unit s) s (react unit s) }
     ensures closing { (unit : Value) (s : State) (r peer : ℕ) → IsOrderly s → s.class ≡ Some Two → s.ended ≡ None →
-        value_at r s.live ≡ Some (closing peer) → destination_of unit ≡ Some r → Follows r peer (unit ∷ []) s (react unit s) }
+        value_at r s.live ≡ Some (closing peer) → destination_of unit ≡ Some r →
+        Follows r peer (unit ∷ []) (put_for unit s) s (react unit s) }
     ensures sent { (r peer : ℕ) (tsdu : List ℕ) (s : State) (link : Standing) → open_link r s ≡ Some (peer, link) →
-        length tsdu ≤ longest_tsdu → Follows r peer [] s (sent r tsdu s) }
+        length tsdu ≤ longest_tsdu → Follows r peer [] (put_sent tsdu (open_link r s)) s (sent r tsdu s) }
     ensures together { (r peer : ℕ) (tsdus : List (List ℕ)) (s : State) (link : Standing) → open_link r s ≡ Some (peer, link) →
-        AllByRecursion (λ tsdu. length tsdu ≤ longest_tsdu) tsdus → Follows r peer [] s (sent_all r tsdus s) }
+        AllByRecursion (λ tsdu. length tsdu ≤ longest_tsdu) tsdus → Follows r peer [] (put_together r tsdus s) s (sent_all r tsdus s) }
     ensures closed { (r peer reason : ℕ) (s : State) (link : Standing) → open_link r s ≡ Some (peer, link) → s.class ≡ Some Two →
-        Follows r peer [] s (closed_with r reason s) }
-    ensures joined { (r peer : ℕ) (a b : List Value) (old mid new : State) → Follows r peer a old mid → Follows r peer b mid new →
-        Follows r peer (a ++ b) old new }
+        Follows r peer [] (put_closing r reason (open_link r s) s.class) s (closed_with r reason s) }
+    ensures joined { (r peer : ℕ) (a b us vs : List Value) (old mid new : State) → Follows r peer a us old mid →
+        Follows r peer b vs mid new → Follows r peer (a ++ b) (us ++ vs) old new }
 {}
 
 /// The rules of transport find of each unit in class 2 that names a connection what the line of this connection says (`found`),
@@ -218,4 +225,59 @@ pub fn what_belongs_to_no_open_connection()
     ensures closes { (d : Direction) (s : Traffic) (n source reason : ℕ) (user : List ℕ) → is_stopped d s.course ≡ false →
         class_for d s.course ≡ Some Two →
         ((takes d (disconnect n source reason user) s).state.course.strays ≡ true) ⊎ JustCloses d s n source }
+{}
+
+/// The units that a carrier puts (`specs/Putting`) are what it writes, each in a packet of its own: as it takes a unit (`arrives`),
+/// and as its user makes a call (`calls`).
+pub fn what_a_carrier_puts()
+    ensures arrives { (unit : Value) (s : State) → (react unit s).outgoing ≡ s.outgoing ++ packets (put_for unit s) }
+    ensures calls { (call : UserCall) (s : State) → (user_does call s).outgoing ≡ s.outgoing ++ packets (put_by call s) }
+{}
+
+/// No CR of a calling end is blamed. Take any run of a whole end from its beginning (`specs/Wholes`): any calls of its user,
+/// whatever units the other side sends, any want of memory, and a tap anywhere between the two ends. Then each of its CRs is
+/// right as it passes, or there are more connections than the rules look at, as long as this side is judged.
+pub fn no_request_is_blamed()
+    ensures { (local : Local) (events : List Event) (w : Whole) (c : Connect) (rest : List Value) →
+        HappenAlong Direction.Left (begin true local) events w → w.begun ≡ true → w.put ≡ request c ∷ rest →
+        is_stopped Direction.Left w.tap.course ≡ false →
+        ((takes Direction.Left (request c) w.tap).told.finding ≡ Finding.Kept)
+        ⊎ ((takes Direction.Left (request c) w.tap).told.finding ≡ Finding.TooMany) }
+{}
+
+/// A DR that a calling end takes for a reference which is gone closed nothing at the tap. Take any run of a whole end that offers
+/// class 2 alone. If the next unit that it takes is a DR for a reference which is not live there, a DR that closed nothing has passed,
+/// as long as both sides are judged and no connection has lost its judgement. So the DC with which it answers is not blamed:
+/// [`what_belongs_to_no_open_connection`], clauses `dc` and `lasts`.
+pub fn a_dr_for_what_is_gone_closed_nothing()
+    ensures { (local : Local) (events : List Event) (w : Whole) (n source reason : ℕ) (user : List ℕ) (more : List Value) →
+        local.class0 ≡ false → local.class2 ≡ true → HappenAlong Direction.Left (begin true local) events w →
+        w.coming ≡ disconnect n source reason user ∷ more → w.end.ended ≡ None → value_at n w.end.live ≡ None →
+        is_stopped Direction.Left w.tap.course ≡ false → is_stopped Direction.Right w.tap.course ≡ false →
+        w.tap.course.loose ≡ false → w.tap.course.strays ≡ true }
+{}
+
+/// A whole calling end is fair, until a DR passes that closes nothing. Take any run of an end that offers class 2 alone: any calls of
+/// its user, whatever units the other side sends, however many connections, and a tap anywhere between the two ends. Then each
+/// unit of the end that passes is right, or it is a CR and there are more connections than the rules look at. This holds as
+/// long as both sides are judged, no connection has lost its judgement because the other side broke a rule, and each DR that
+/// has passed closed an open connection which the side to which it goes had not closed.
+pub fn a_calling_end_is_fair()
+    ensures { (local : Local) (events : List Event) (w : Whole) (unit : Value) (rest : List Value) →
+        local.class0 ≡ false → local.class2 ≡ true → HappenAlong Direction.Left (begin true local) events w → w.begun ≡ true →
+        w.put ≡ unit ∷ rest → is_stopped Direction.Left w.tap.course ≡ false →
+        is_stopped Direction.Right w.tap.course ≡ false → w.tap.course.loose ≡ false → w.tap.course.strays ≡ false →
+        ((takes Direction.Left unit w.tap).told.finding ≡ Finding.Kept)
+        ⊎ ((takes Direction.Left unit w.tap).told.finding ≡ Finding.TooMany) }
+{}
+
+/// What a carrier does with a packet, with or without enough memory, is events of its whole end: the units of the packet arrive
+/// (`packet`), or it can't be read, and the carrier ends (`fault`); and so is a call of its user (`call`). What these events
+/// put is what the carrier writes. So the laws on whole ends speak of every run of a carrier.
+pub fn a_packet_is_events()
+    ensures packet { (d : Direction) (octets : List ℕ) (units later : List Value) (w : Whole) (new : State) → Takes w.end octets new →
+        units_of octets ≡ Ok units → w.coming ≡ units ++ later → Becomes d w new }
+    ensures fault { (d : Direction) (octets : List ℕ) (fault : TpduFault) (w : Whole) (new : State) → Takes w.end octets new →
+        units_of octets ≡ Err fault → w.end.ended ≡ None → Becomes d w new }
+    ensures call { (d : Direction) (call : UserCall) (w : Whole) → MayCall call w.end → Becomes d w (user_does call w.end) }
 {}

@@ -1,0 +1,494 @@
+-- A DR that a whole calling end takes for a reference that is gone closed nothing at the tap, whatever happens.
+-- For the law of that name.
+use Rattle.std.proofs.Common.{◌≡◌, ◌∙◌, ℕ, ◌+◌, ◌<◌, ◌≤◌, Bool, true, false, List, [], ◌∷◌, ◌++◌, map, refl, sym, ap, subst, arith}
+use Rattle.std.proofs.Common.{Option, Some, None, inl, is_some}
+use Rattle.std.specs.List.{AllByRecursion}
+use Rattle.std.proofs.lemmas.List.{append-nil}
+use Rattle.std.proofs.lemmas.Grind.{flat_map-append}
+use Rattle.osi_tpdu.specs.Value.{Value, Connect, request, confirm, disconnect, disconnected, data0, data2, acknowledge, error}
+use Rattle.osi_class.specs.declared.terms.Local.{Local}
+use Rattle.osi_carrier.specs.Calls.{open_link}
+use Rattle.osi_carrier.specs.React.{react}
+use Rattle.osi_carrier.specs.Rows.{value_at}
+use Rattle.osi_carrier.specs.Runs.{UserCall, breaks, closes, connects, sends, sends_all, user as by_user, user_does}
+use Rattle.osi_carrier.specs.State.{State, Connection as Live}
+use Rattle.osi_carrier.specs.declared.ends.EndReason.{EndReason}
+use Rattle.osi_rules.specs.declared.connections.Connection.{Connection}
+use Rattle.osi_rules.specs.declared.courses.Course.{Course}
+use Rattle.osi_rules.specs.declared.directions.Direction.{Direction}
+use Rattle.osi_rules.specs.declared.directions.Direction.TheVariants.{Left, Right}
+use Rattle.osi_rules.specs.Sides.{begins}
+use Rattle.osi_rules.specs.Traffic.{State as Traffic, asked_by, is_stopped, packet_begins, takes}
+use Rattle.osi_fair.specs.Asking.{asked_in, asks_with}
+use Rattle.osi_fair.specs.Naming.{Passing, packet, passes, rubbish, unit as passing}
+use Rattle.osi_fair.specs.Putting.{put_by, put_for}
+use Rattle.osi_fair.specs.Wholes.{Event, HappenAlong, Happens, Whole, arrives, begin, begins_other, begins_own, calls, passes_other}
+use Rattle.osi_fair.specs.Wholes.{passes_own, passes_rubbish}
+use Rattle.osi_fair.proofs.a_reference_names_one_connection.{fresh_apart, no_item, passes_apart}
+use Rattle.osi_fair.proofs.a_request_of_a_whole_end_is_new.{Newer, still_newer, unit_gives}
+use Rattle.osi_fair.proofs.all_are_judged_unless_one_broke.{still_judged}
+use Rattle.osi_fair.proofs.how_a_calling_end_asks.{over_takes}
+use Rattle.osi_fair.proofs.references_of_requests_rise.{Rise, all_gives, closed_gives, ended_gives, not_less, sent_gives}
+use Rattle.osi_fair.proofs.what_a_calling_end_still_has.{IsLive, OffersTwo, all_last, call_after, closed_lasts, ended_lasts, new_live, sent_lasts}
+use Rattle.osi_fair.proofs.what_a_calling_end_still_has.{unit_after}
+use Rattle.osi_fair.proofs.what_holds_of_one_item.{HoldsOfEach, after_map, each_map}
+use Rattle.osi_fair.proofs.what_lasts_at_the_tap.{Lasts, lasts_passing}
+use Rattle.osi_fair.proofs.what_stays_of_each_connection.{AreDistinct, IfAsked, IsLively, IsStarted, left_passes}
+use Rattle.osi_fair.proofs.what_stays_of_each_connection.{lively_stays, right_passes, started_stays}
+use Rattle.osi_fair.proofs.what_the_other_side_closes.{Came, IsDr, IsPlain, IsSane, Less, closed_by, closes as closes_one, stays, what_came}
+use Rattle.osi_fair.proofs.which_requests_are_put.{asked_among, call_asks, unit_asks}
+
+-- ---- what has come
+
+-- none of these units closes this connection
+abbrev NoneFor : ℕ → List Value → Type 0
+NoneFor m units = AllByRecursion (λ (v : Value). closed_by v ≡ Some m → ⊥) units
+
+-- what they close was given
+abbrev AreKnown : ℕ → List Value → Type 0
+AreKnown n units = AllByRecursion (λ (v : Value). (m : ℕ) → closed_by v ≡ Some m → m ≤ n) units
+
+-- a DR is for a connection of which this holds, and no unit before it closes that
+abbrev pub Firsts : (ℕ → Type 0) → List Value → Type 0
+Firsts L [] = Unit {0}
+Firsts L (v ∷ vs) = (IsDr v → (n : ℕ) → closed_by v ≡ Some n → L n) × Firsts (λ m. L m × (closed_by v ≡ Some m → ⊥)) vs
+
+firsts_more : (L K : ℕ → Type 0) (vs : List Value) → ((m : ℕ) → L m → K m) → Firsts L vs → Firsts K vs
+firsts_more L K [] h f = tt
+firsts_more L K (v ∷ vs) h (first, more) = (
+  λ dr n e. h n (first dr n e),
+  firsts_more (λ m. L m × (closed_by v ≡ Some m → ⊥)) (λ m. K m × (closed_by v ≡ Some m → ⊥)) vs (λ m k. (h m k.0, k.1)) more,
+)
+
+firsts_add : (L : ℕ → Type 0) (vs : List Value) (v : Value) → Firsts L vs →
+    (IsDr v → (n : ℕ) → closed_by v ≡ Some n → L n × NoneFor n vs) → Firsts L (vs ++ v ∷ [])
+firsts_add L [] v f h = (λ dr n e. (h dr n e).0, tt)
+firsts_add L (u ∷ vs) v (first, more) h = (
+  first,
+  firsts_add (λ m. L m × (closed_by u ≡ Some m → ⊥)) vs v more (λ dr n e. (
+    (
+      (h dr n e).0,
+      (h dr n e).1.0,
+    ),
+    (h dr n e).1.1,
+  )),
+)
+
+none_add : (m : ℕ) (vs : List Value) (v : Value) → NoneFor m vs → (closed_by v ≡ Some m → ⊥) → NoneFor m (vs ++ v ∷ [])
+none_add m [] v h k = (k, tt)
+none_add m (u ∷ vs) v (one, more) k = (one, none_add m vs v more k)
+
+known_add : (n : ℕ) (vs : List Value) (v : Value) → AreKnown n vs → ((m : ℕ) → closed_by v ≡ Some m → m ≤ n) → AreKnown n (vs ++ v ∷ [])
+known_add n [] v h k = (k, tt)
+known_add n (u ∷ vs) v (one, more) k = (one, known_add n vs v more k)
+
+known_more : (n k : ℕ) (vs : List Value) → n ≤ k → AreKnown n vs → AreKnown k vs
+known_more n k [] h a = tt
+known_more n k (v ∷ vs) h (one, more) = (λ m e. let x = one m e in omega arith, known_more n k vs h more)
+
+-- a new reference is of none of them
+none_new : (n k : ℕ) (vs : List Value) → n < k → AreKnown n vs → NoneFor k vs
+none_new n k [] h a = tt
+none_new n k (v ∷ vs) h (one, more) = (λ e. let x = one k e in absurd (omega arith), none_new n k vs h more)
+
+-- ---- what holds
+
+abbrev AllSo : (ℕ → Type 0) → List ℕ → Type 0
+AllSo L rs = AllByRecursion L rs
+
+all_more : (L K : ℕ → Type 0) (rs : List ℕ) → ((m : ℕ) → L m → K m) → AllSo L rs → AllSo K rs
+all_more L K [] h a = tt
+all_more L K (r ∷ rs) h (one, more) = (h r one, all_more L K rs h more)
+
+all_join : (L : ℕ → Type 0) (xs ys : List ℕ) → AllSo L xs → AllSo L ys → AllSo L (xs ++ ys)
+all_join L [] ys a b = b
+all_join L (x ∷ xs) ys (one, more) b = (one, all_join L xs ys more b)
+
+-- the end has this connection, and nothing has come that closes it
+abbrev Held : State → List Value → ℕ → Type 0
+Held end coming m = IsLive end m × NoneFor m coming
+
+pub record Lively (w : Whole) : Type 0 where
+  pub tap : HoldsOfEach (IsLively (Held w.end w.coming)) w.tap.connections
+  pub requests : AllSo (Held w.end w.coming) (asked_among w.put)
+  pub firsts : Firsts (IsLive w.end) w.coming
+  pub known : AreKnown w.end.given w.coming
+
+lively_more : (L K : ℕ → Type 0) (cs : List Connection) → ((m : ℕ) → L m → K m) → HoldsOfEach (IsLively L) cs → HoldsOfEach (IsLively K) cs
+lively_more L K cs h a i c at there = h c.left.reference (a i c at there)
+
+-- ---- the end takes a unit, and its user makes a call
+
+none_of : (o : Option EndReason) → is_some o ≡ false → o ≡ None
+none_of None e = refl
+none_of (Some x) e = absurd (cc e)
+
+-- the end had not ended before
+pub lasted : (unit : Value) (s : State) (b : Bool) → is_some s.ended ≡ b → (react unit s).ended ≡ None → s.ended ≡ None
+lasted unit s false e h = none_of s.ended e
+lasted unit s true e h = ap (λ (t : State). t.ended) (sym (over_takes unit s e).0) ∙ h
+
+no_more : (put more : List Value) → asked_among more ≡ [] → asked_among put ≡ asked_among (put ++ more)
+no_more put more none =
+    sym (append-nil (asked_among put)) ∙ ap (λ (l : List ℕ). asked_among put ++ l) (sym none) ∙ sym (flat_map-append asked_in put more)
+
+taking : (w : Whole) (unit : Value) (later : List Value) → w.coming ≡ unit ∷ later → OffersTwo w.end → (react unit w.end).ended ≡ None →
+    Lively w → Lively (record w { end = react unit w.end; put = w.put ++ put_for unit w.end; coming = later })
+taking w unit later e o lasts l =
+    let t = react unit w.end in
+    let a = unit_after unit w.end o in
+    let keeps : (m : ℕ) → Held w.end w.coming m → Held t later m = λ m h.
+    (let (one, more) = subst (NoneFor m) e h.1 in (a.live lasts m h.0 one, more)) in
+    let (first, firsts) = subst (Firsts (IsLive w.end)) e l.firsts in
+    let (known_one, known) = subst (AreKnown w.end.given) e l.known in
+    record {
+      tap = lively_more (Held w.end w.coming) (Held t later) w.tap.connections keeps l.tap;
+      requests = subst (AllSo (Held t later)) (no_more w.put (put_for unit w.end) (unit_asks unit w.end))
+          (all_more (Held w.end w.coming) (Held t later) (asked_among w.put) keeps l.requests);
+      firsts = firsts_more (λ m. IsLive w.end m × (closed_by unit ≡ Some m → ⊥)) (IsLive t) later (λ m h. a.live lasts m h.0 h.1) firsts;
+      known = known_more w.end.given t.given later (unit_gives unit w.end) known;
+    }
+
+abbrev after_calling : Whole → UserCall → Whole
+after_calling w call = record w { end = user_does call w.end; put = w.put ++ put_by call w.end }
+
+-- a call that puts no CR
+no_request : (w : Whole) (call : UserCall) → asks_with (by_user call) w.end ≡ [] → w.end.given ≤ (user_does call w.end).given →
+    ((m : ℕ) → IsLive w.end m → IsLive (user_does call w.end) m) → Lively w → Lively (after_calling w call)
+no_request w call none given live l =
+    let t = user_does call w.end in
+    let keeps : (m : ℕ) → Held w.end w.coming m → Held t w.coming m = λ m h. (live m h.0, h.1) in
+    record {
+      tap = lively_more (Held w.end w.coming) (Held t w.coming) w.tap.connections keeps l.tap;
+      requests = subst (AllSo (Held t w.coming)) (no_more w.put (put_by call w.end) (call_asks call w.end ∙ none))
+          (all_more (Held w.end w.coming) (Held t w.coming) (asked_among w.put) keeps l.requests);
+      firsts = firsts_more (IsLive w.end) (IsLive t) w.coming live l.firsts;
+      known = known_more w.end.given t.given w.coming given l.known;
+    }
+
+asking : (w : Whole) (calling called : Option (List ℕ)) → ((m : ℕ) → IsLive w.end m → IsLive (user_does (connects calling called) w.end) m) →
+    Lively w → Lively (after_calling w (connects calling called))
+asking w calling called live l =
+    let call = connects calling called in
+    let t = user_does call w.end in
+    let keeps : (m : ℕ) → Held w.end w.coming m → Held t w.coming m = λ m h. (live m h.0, h.1) in
+    let new : Held t w.coming (w.end.given + 1) =
+    (new_live calling called w.end, none_new w.end.given (w.end.given + 1) w.coming (omega arith) l.known) in
+    let same : asked_among w.put ++ (w.end.given + 1) ∷ [] ≡ asked_among (w.put ++ put_by call w.end) =
+    ap (λ (rs : List ℕ). asked_among w.put ++ rs) (sym (call_asks call w.end)) ∙ sym (flat_map-append asked_in w.put (put_by call w.end)) in
+    record {
+      tap = lively_more (Held w.end w.coming) (Held t w.coming) w.tap.connections keeps l.tap;
+      requests = subst (AllSo (Held t w.coming)) same (all_join (Held t w.coming) (asked_among w.put) ((w.end.given + 1) ∷ [])
+          (all_more (Held w.end w.coming) (Held t w.coming) (asked_among w.put) keeps l.requests) (new, tt));
+      firsts = firsts_more (IsLive w.end) (IsLive t) w.coming live l.firsts;
+      known = known_more w.end.given t.given w.coming (omega arith) l.known;
+    }
+
+calling_by : (call : UserCall) (w : Whole) → ((m : ℕ) → IsLive w.end m → IsLive (user_does call w.end) m) → Lively w →
+    Lively (after_calling w call)
+calling_by (connects calling called) w live l = asking w calling called live l
+calling_by (sends r tsdu) w live l =
+    no_request w (sends r tsdu) refl
+    (not_less w.end.given (user_does (sends r tsdu) w.end).given (sent_gives r tsdu (open_link r w.end) w.end)) live l
+calling_by (sends_all r tsdus) w live l =
+    no_request w (sends_all r tsdus) refl
+    (not_less w.end.given (user_does (sends_all r tsdus) w.end).given (all_gives r tsdus w.end)) live l
+calling_by (closes r reason) w live l =
+    no_request w (closes r reason) refl
+    (not_less w.end.given (user_does (closes r reason) w.end).given (closed_gives r reason (open_link r w.end) w.end)) live l
+calling_by (breaks reason) w live l =
+    no_request w (breaks reason) refl
+    (not_less w.end.given (user_does (breaks reason) w.end).given (ended_gives (is_some w.end.ended) reason w.end)) live l
+
+-- ---- a packet begins
+
+begun_lively : (L : ℕ → Type 0) (d : Direction) (c : Connection) → IsLively L c → IsLively L (begins d c)
+begun_lively L Left c h = h
+begun_lively L Right c h = h
+
+beginning : (d : Direction) (w : Whole) (b : Bool) → Lively w → Lively (record w { begun = b; tap = packet_begins d w.tap })
+beginning d w b l = record {
+  tap = each_map (IsLively (Held w.end w.coming)) (begins d) w.tap.connections l.tap
+      (λ c h. begun_lively (Held w.end w.coming) d c h);
+  requests = l.requests;
+  firsts = l.firsts;
+  known = l.known;
+}
+
+-- ---- a unit of the end passes
+
+-- the CR that passes has a reference above those at the tap
+above : (w : Whole) (v : Value) (put : List Value) → w.put ≡ v ∷ put → Newer w → (P : Connection → Type 0) →
+    ((x : Connect) → v ≡ request x → P (asked_by x)) → IfAsked P w.tap.connections v
+above w (request x) put e n P new =
+    let (up, rise) = subst (λ (l : List Value). Rise n.last (asked_among l)) e n.rise in
+    (new x refl, λ i c at. let b = n.below i c at in omega arith)
+above w (confirm destination x) put e n P new = tt
+above w (disconnect destination source reason user) put e n P new = tt
+above w (disconnected destination source) put e n P new = tt
+above w (data0 end user) put e n P new = tt
+above w (data2 destination number end user) put e n P new = tt
+above w (acknowledge credit destination number) put e n P new = tt
+above w (error destination cause) put e n P new = tt
+
+tail_so : (L : ℕ → Type 0) (v : Value) (put : List Value) → AllSo L (asked_among (v ∷ put)) → AllSo L (asked_among put)
+tail_so L (request x) put h = h.1
+tail_so L (confirm destination x) put h = h
+tail_so L (disconnect destination source reason user) put h = h
+tail_so L (disconnected destination source) put h = h
+tail_so L (data0 end user) put h = h
+tail_so L (data2 destination number end user) put h = h
+tail_so L (acknowledge credit destination number) put h = h
+tail_so L (error destination cause) put h = h
+
+head_so : (L : ℕ → Type 0) (v : Value) (put : List Value) (x : Connect) → v ≡ request x → AllSo L (asked_among (v ∷ put)) → L x.source
+head_so L v put x e h = (subst (λ (u : Value). AllSo L (asked_among (u ∷ put))) e h).0
+
+own : (w : Whole) (v : Value) (put : List Value) → w.put ≡ v ∷ put → Newer w → AreDistinct w.tap.connections → Lively w →
+    Lively (record w { put = put; begun = false; tap = (takes Left v w.tap).state })
+own w v put e n distinct l =
+    let L = Held w.end w.coming in
+    let requests = subst (λ (u : List Value). AllSo L (asked_among u)) e l.requests in
+    record {
+      tap = (left_passes (IsLively L) v w.tap (lively_stays L v w.tap)
+          (above w v put e n (IsLively L) (λ x is there. head_so L v put x is requests)) l.tap distinct).0;
+      requests = tail_so L v put requests;
+      firsts = l.firsts;
+      known = l.known;
+    }
+
+-- ---- a unit of the other side passes
+
+none_number : {A : Type 0} (o : Option ℕ) (n : ℕ) → o ≡ None → o ≡ Some n → A
+none_number o n e h = absurd (cc (sym e ∙ h))
+
+same_number : (o : Option ℕ) (n m : ℕ) → o ≡ Some n → o ≡ Some m → m ≡ n
+same_number o n m e h = let both : Some m ≡ Some n = sym h ∙ e in cc
+
+all_less : (L : ℕ → Type 0) (n last : ℕ) (rs : List ℕ) → n ≤ last → Rise last rs → AllSo L rs → AllSo (Less L n) rs
+all_less L n last [] h r a = tt
+all_less L n last (x ∷ rs) h (up, rise) (one, more) =
+    ((one, λ e. absurd (omega arith)), all_less L n x rs (omega arith) rise more)
+
+abbrev after_other : Whole → Value → Whole
+after_other w v = record w { tap = (takes Right v w.tap).state; coming = w.coming ++ v ∷ [] }
+
+came : (w : Whole) (v : Value) → Newer w → Lively w → Came (Held w.end w.coming) v w.tap (takes Right v w.tap).state →
+    Lively (after_other w v)
+came w v n l (stays e tap) =
+    let L = Held w.end w.coming in
+    let K = Held w.end (w.coming ++ v ∷ []) in
+    let keeps : (m : ℕ) → L m → K m = λ m h. (h.0, none_add m w.coming v h.1 (λ k. none_number (closed_by v) m e k)) in
+    record {
+      tap = lively_more L K (takes Right v w.tap).state.connections keeps tap;
+      requests = all_more L K (asked_among w.put) keeps l.requests;
+      firsts = firsts_add (IsLive w.end) w.coming v l.firsts (λ dr m k. none_number (closed_by v) m e k);
+      known = known_add w.end.given w.coming v l.known (λ m k. none_number (closed_by v) m e k);
+    }
+came w v n l (closes_one q e p c at is dr tap) =
+    let L = Held w.end w.coming in
+    let K = Held w.end (w.coming ++ v ∷ []) in
+    let below = n.below p c at in
+    let last = n.given in
+    let up : q ≤ n.last = omega arith in
+    let keeps : (m : ℕ) → Less L q m → K m = λ m h.
+    (h.0.0, none_add m w.coming v h.0.1 (λ k. h.1 (same_number (closed_by v) q m e k))) in
+    record {
+      tap = lively_more (Less L q) K (takes Right v w.tap).state.connections keeps tap;
+      requests = all_more (Less L q) K (asked_among w.put) keeps (all_less L q n.last (asked_among w.put) up n.rise l.requests);
+      firsts = firsts_add (IsLive w.end) w.coming v l.firsts
+          (λ is_dr m k. subst (λ (i : ℕ). IsLive w.end i × NoneFor i w.coming) (sym (same_number (closed_by v) q m e k)) (dr is_dr));
+      known = known_add w.end.given w.coming v l.known
+          (λ m k. let same = same_number (closed_by v) q m e k in omega arith);
+    }
+
+-- ---- all that holds
+
+pub record Holds (w : Whole) : Type 0 where
+  pub newer : Newer w
+  pub offers : OffersTwo w.end
+  pub sane : IsSane w.tap
+  pub lively : IsPlain w.tap.course → w.end.ended ≡ None → Lively w
+
+begun_started : (d : Direction) (c : Connection) → IsStarted c → IsStarted (begins d c)
+begun_started Left c h = h
+begun_started Right c h = h
+
+begins_reference : (d : Direction) (c : Connection) → (begins d c).left.reference ≡ c.left.reference
+begins_reference Left c = refl
+begins_reference Right c = refl
+
+distinct_begins : (d : Direction) (cs : List Connection) → AreDistinct cs → AreDistinct (map (begins d) cs)
+distinct_begins d cs a i j c e at there same =
+    let (x, was, is) = after_map (begins d) cs i c at in
+    let (y, before, so) = after_map (begins d) cs j e there in
+    a i j x y was before (sym (begins_reference d x) ∙ ap (λ (z : Connection). z.left.reference) (sym is) ∙ same
+    ∙ ap (λ (z : Connection). z.left.reference) so ∙ begins_reference d y)
+
+sane_begins : (d : Direction) (s : Traffic) → IsSane s → IsSane (packet_begins d s)
+sane_begins d s h = record {
+  apart = passes_apart (packet d) s h.apart;
+  judged = still_judged (packet d) s h.judged;
+  started = each_map IsStarted (begins d) s.connections h.started (λ c k. begun_started d c k);
+  distinct = distinct_begins d s.connections h.distinct;
+}
+
+sane_right : (v : Value) (s : Traffic) → IsSane s → IsSane (takes Right v s).state
+sane_right v s h =
+    let (started, distinct) = right_passes IsStarted v s (started_stays Right v s) h.started h.distinct in
+    record {
+      apart = passes_apart (passing Right v) s h.apart;
+      judged = still_judged (passing Right v) s h.judged;
+      started = started;
+      distinct = distinct;
+    }
+
+sane_left : (v : Value) (s : Traffic) → IfAsked IsStarted s.connections v → IsSane s → IsSane (takes Left v s).state
+sane_left v s new h =
+    let (started, distinct) = left_passes IsStarted v s (started_stays Left v s) new h.started h.distinct in
+    record {
+      apart = passes_apart (passing Left v) s h.apart;
+      judged = still_judged (passing Left v) s h.judged;
+      started = started;
+      distinct = distinct;
+    }
+
+sane_rubbish : (s : Traffic) → IsSane s → IsSane (passes (rubbish Right) s)
+sane_rubbish s h = record {
+  apart = passes_apart (rubbish Right) s h.apart;
+  judged = still_judged (rubbish Right) s h.judged;
+  started = h.started;
+  distinct = h.distinct;
+}
+
+was_plain : (a b : Course) → Lasts a b → IsPlain b → IsPlain a
+was_plain a b l p = record { firm = l.firm p.firm; left = l.left p.left; right = l.right p.right; strays = l.strays p.strays }
+
+pub before_passing : (p : Passing) (s : Traffic) → IsPlain (passes p s).course → IsPlain s.course
+before_passing p s h = was_plain s.course (passes p s).course (lasts_passing p s) h
+
+pub not_over : (call : UserCall) (s : State) → OffersTwo s → (user_does call s).ended ≡ None → s.ended ≡ None
+not_over (connects calling called) s o h = h
+not_over (sends r tsdu) s o h = sym (sent_lasts r tsdu (open_link r s) s) ∙ h
+not_over (sends_all r tsdus) s o h = sym (all_last r tsdus s) ∙ h
+not_over (closes r reason) s o h = closed_lasts r reason (open_link r s) s h
+not_over (breaks reason) s o h = ended_lasts (is_some s.ended) reason s h
+
+abbrev after_arriving : Whole → Value → List Value → Whole
+after_arriving w unit later = record w { end = react unit w.end; put = w.put ++ put_for unit w.end; coming = later }
+
+holds_taking : (w : Whole) (unit : Value) (later : List Value) → w.coming ≡ unit ∷ later → Holds w →
+    Newer (record w { end = react unit w.end; put = w.put ++ put_for unit w.end; coming = later }) →
+    Holds (record w { end = react unit w.end; put = w.put ++ put_for unit w.end; coming = later })
+holds_taking w unit later e h n = record {
+  newer = n;
+  offers = (unit_after unit w.end h.offers).offers;
+  sane = h.sane;
+  lively = λ plain lasts.
+      taking w unit later e h.offers lasts (h.lively plain (lasted unit w.end (is_some w.end.ended) refl lasts));
+}
+
+holds_calling : (w : Whole) (call : UserCall) → Holds w → Newer (after_calling w call) → Holds (after_calling w call)
+holds_calling w call h n =
+    let a = call_after call w.end h.offers in
+    record {
+      newer = n;
+      offers = a.offers;
+      sane = h.sane;
+      lively = λ plain lasts. calling_by call w (a.live lasts) (h.lively plain (not_over call w.end h.offers lasts));
+    }
+
+started_asked : (v : Value) (x : Connect) → v ≡ request x → IsStarted (asked_by x)
+started_asked v x e = refl
+
+pub next_holds : (event : Event) (w new : Whole) → Happens Left event w new → Holds w → Holds new
+next_holds arrives w new (unit, coming, is) h =
+    subst Holds (sym is) (holds_taking w unit new.coming coming h
+    (still_newer arrives w (after_arriving w unit new.coming) (unit, coming, refl) h.newer))
+next_holds (calls call) w new (may, is) h =
+    subst Holds (sym is) (holds_calling w call h (still_newer (calls call) w (after_calling w call) (may, refl) h.newer))
+next_holds begins_own w new (some, not_begun, is) h =
+    let after = record w { begun = true; tap = packet_begins Left w.tap } in
+    subst Holds (sym is) (record {
+      newer = still_newer begins_own w after (some, not_begun, refl) h.newer;
+      offers = h.offers;
+      sane = sane_begins Left w.tap h.sane;
+      lively = λ plain lasts. beginning Left w true (h.lively (before_passing (packet Left) w.tap plain) lasts);
+    })
+next_holds passes_own w new (v, put, begun, is) h =
+    let after = record w { put = new.put; begun = false; tap = (takes Left v w.tap).state } in
+    subst Holds (sym is) (record {
+      newer = still_newer passes_own w after (v, put, begun, refl) h.newer;
+      offers = h.offers;
+      sane = sane_left v w.tap (above w v new.put put h.newer IsStarted (started_asked v)) h.sane;
+      lively = λ plain lasts. own w v new.put put h.newer h.sane.distinct (h.lively (before_passing (passing Left v) w.tap plain) lasts);
+    })
+next_holds begins_other w new is h =
+    let after = record w { tap = packet_begins Right w.tap } in
+    subst Holds (sym is) (record {
+      newer = still_newer begins_other w after refl h.newer;
+      offers = h.offers;
+      sane = sane_begins Right w.tap h.sane;
+      lively = λ plain lasts. beginning Right w w.begun (h.lively (before_passing (packet Right) w.tap plain) lasts);
+    })
+next_holds (passes_other v) w new (ranges, is) h =
+    subst Holds (sym is) (record {
+      newer = still_newer (passes_other v) w (after_other w v) (ranges, refl) h.newer;
+      offers = h.offers;
+      sane = sane_right v w.tap h.sane;
+      lively = λ plain lasts.
+          let before = before_passing (passing Right v) w.tap plain in
+          let l = h.lively before lasts in
+          came w v h.newer l (what_came (Held w.end w.coming) w.tap h.sane l.tap before.firm before.strays before.left v before.right plain);
+    })
+next_holds passes_rubbish w new is h =
+    let after = record w { tap = passes (rubbish Right) w.tap } in
+    subst Holds (sym is) (record {
+      newer = still_newer passes_rubbish w after refl h.newer;
+      offers = h.offers;
+      sane = sane_rubbish w.tap h.sane;
+      lively = λ plain lasts.
+          let l = h.lively (before_passing (rubbish Right) w.tap plain) lasts in
+          record { tap = l.tap; requests = l.requests; firsts = l.firsts; known = l.known };
+    })
+
+all_hold : (events : List Event) (w new : Whole) → HappenAlong Left w events new → Holds w → Holds new
+all_hold [] w new e h = subst Holds (sym e) h
+all_hold (event ∷ events) w new (mid, first, more) h = all_hold events mid new more (next_holds event w mid first h)
+
+pub first_holds : (local : Local) → local.class0 ≡ false → local.class2 ≡ true → Holds (begin true local)
+first_holds local zero two = record {
+  newer = record { last = 0; below = λ i c at. no_item i c at; rise = tt; up = tt; given = omega arith };
+  offers = record { caller = refl; zero = zero; two = two; class = inl refl };
+  sane = record {
+    apart = fresh_apart;
+    judged = λ firm i c at. no_item i c at;
+    started = λ i c at. no_item i c at;
+    distinct = λ i j c e at there same. no_item i c at;
+  };
+  lively = λ plain lasts. record { tap = λ i c at. no_item i c at; requests = tt; firsts = tt; known = tt };
+}
+
+-- ---- the DR
+
+gone_not : {A : Type 0} (o : Option Live) → is_some o ≡ true → o ≡ None → A
+gone_not None h e = absurd (cc h)
+gone_not (Some x) h e = absurd (cc e)
+
+strays_by : (b : Bool) (w : Whole) (n source reason : ℕ) (user : List ℕ) (more : List Value) → w.tap.course.strays ≡ b → Holds w →
+    w.coming ≡ disconnect n source reason user ∷ more → w.end.ended ≡ None → value_at n w.end.live ≡ None →
+    w.tap.course.left_stopped ≡ false → w.tap.course.right_stopped ≡ false → w.tap.course.loose ≡ false → b ≡ true
+strays_by true w n source reason user more e h coming lasts gone left right firm = refl
+strays_by false w n source reason user more e h coming lasts gone left right firm =
+    let l = h.lively (record { firm = firm; left = left; right = right; strays = e }) lasts in
+    let (first, others) = subst (Firsts (IsLive w.end)) coming l.firsts in
+    gone_not (value_at n w.end.live) (first tt n refl) gone
+
+pub gone_strays : (local : Local) (events : List Event) (w : Whole) (n source reason : ℕ) (user : List ℕ) (more : List Value) →
+    local.class0 ≡ false → local.class2 ≡ true → HappenAlong Left (begin true local) events w →
+    w.coming ≡ disconnect n source reason user ∷ more → w.end.ended ≡ None → value_at n w.end.live ≡ None →
+    is_stopped Left w.tap.course ≡ false → is_stopped Right w.tap.course ≡ false → w.tap.course.loose ≡ false →
+    w.tap.course.strays ≡ true
+gone_strays local events w n source reason user more zero two along coming lasts gone left right firm =
+    strays_by w.tap.course.strays w n source reason user more refl
+    (all_hold events (begin true local) w along (first_holds local zero two)) coming lasts gone left right firm

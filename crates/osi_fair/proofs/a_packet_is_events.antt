@@ -1,0 +1,125 @@
+-- What a carrier does with a packet, with or without enough memory, and what its user does, is events of its whole end.
+-- For the law of that name.
+use Rattle.std.proofs.Common.{◌≡◌, ◌∙◌, ℕ, List, [], ◌∷◌, ◌++◌, refl, sym, ap, subst, append_assoc}
+use Rattle.std.proofs.Common.{Option, None, Result, Ok, Err, inl, inr, ◌⊎◌, is_some, if◌then◌else◌}
+use Rattle.std.proofs.lemmas.List.{append-nil}
+use Rattle.std.proofs.lemmas.Grind.{flat_map-append}
+use Rattle.osi_tpkt.specs.Packet.{packet_of}
+use Rattle.osi_tpdu.specs.Packet.{units_of}
+use Rattle.osi_tpdu.specs.Value.{Value}
+use Rattle.osi_tpdu.specs.Writing.{written}
+use Rattle.osi_tpdu.specs.declared.faults.TpduFault.{TpduFault}
+use Rattle.osi_carrier.specs.Calls.{ended_by}
+use Rattle.osi_carrier.specs.Packets.{Acts, ActsBy, RunsOut}
+use Rattle.osi_carrier.specs.React.{react, reacts}
+use Rattle.osi_carrier.specs.Runs.{UserCall, breaks, user_does}
+use Rattle.osi_carrier.specs.State.{State, ends, fails, packets}
+use Rattle.osi_carrier.specs.declared.ends.CarrierFault.TheVariants.{Tpdu}
+use Rattle.osi_carrier.specs.declared.ends.EndReason.{EndReason}
+use Rattle.osi_carrier.specs.declared.ends.EndReason.TheVariants.{Fault, NoMemory}
+use Rattle.osi_rules.specs.declared.directions.Direction.{Direction}
+use Rattle.osi_fair.specs.Putting.{put_by, put_for}
+use Rattle.osi_fair.specs.Wholes.{Becomes, Event, HappenAlong, MayCall, Whole, arrives, calls}
+use Rattle.osi_fair.proofs.what_a_carrier_puts.{call_writes, unit_writes}
+
+packets_join : (xs ys : List Value) → packets (xs ++ ys) ≡ packets xs ++ packets ys
+packets_join xs ys = flat_map-append (λ (unit : Value). packet_of (written unit)) xs ys
+
+module _ (d : Direction) where
+  -- ---- what happens twice, one after the other
+
+  happen_join : (xs ys : List Event) (a b c : Whole) → HappenAlong d a xs b → HappenAlong d b ys c → HappenAlong d a (xs ++ ys) c
+  happen_join [] ys a b c e h = subst (λ (w : Whole). HappenAlong d w ys c) e h
+  happen_join (x ∷ xs) ys a b c (mid, first, more) h = (mid, first, happen_join xs ys mid b c more h)
+
+  becomes_then : (w : Whole) (mid new : State) (a : Becomes d w mid) →
+      Becomes d (record w { end = mid; put = w.put ++ a.put; coming = a.coming }) new → Becomes d w new
+  becomes_then w mid new a b = record {
+    events = a.events ++ b.events;
+    put = a.put ++ b.put;
+    coming = b.coming;
+    along = subst (λ (l : List Value). HappenAlong d w (a.events ++ b.events) (record w { end = new; put = l; coming = b.coming }))
+        (append_assoc w.put a.put b.put)
+        (happen_join a.events b.events w (record w { end = mid; put = w.put ++ a.put; coming = a.coming })
+        (record w { end = new; put = (w.put ++ a.put) ++ b.put; coming = b.coming }) a.along b.along);
+    outgoing = b.outgoing ∙ ap (λ (l : List ℕ). l ++ packets b.put) a.outgoing
+        ∙ append_assoc w.end.outgoing (packets a.put) (packets b.put)
+        ∙ ap (λ (l : List ℕ). w.end.outgoing ++ l) (sym (packets_join a.put b.put));
+  }
+
+  becomes_same : (w : Whole) → Becomes d w w.end
+  becomes_same w = record {
+    events = [];
+    put = [];
+    coming = w.coming;
+    along = ap (λ (l : List Value). record w { put = l }) (append-nil w.put);
+    outgoing = sym (append-nil w.end.outgoing);
+  }
+
+  -- ---- units, and a call
+
+  one_unit : (u : Value) (later : List Value) (w : Whole) → w.coming ≡ u ∷ later →
+      (b : Becomes d w (react u w.end)) × (b.coming ≡ later)
+  one_unit u later w e = (
+    record {
+      events = arrives ∷ [];
+      put = put_for u w.end;
+      coming = later;
+      along = (record w { end = react u w.end; put = w.put ++ put_for u w.end; coming = later }, (u, e, refl), refl);
+      outgoing = unit_writes u w.end;
+    },
+    refl,
+  )
+
+  all_units : (units later : List Value) (w : Whole) → w.coming ≡ units ++ later →
+      (b : Becomes d w (reacts units w.end)) × (b.coming ≡ later)
+  unfolding becomes_same becomes_then
+  all_units [] later w e = (becomes_same w, e)
+  all_units (u ∷ units) later w e =
+      let (first, come) = one_unit u (units ++ later) w e in
+      let next : Whole = record w { end = react u w.end; put = w.put ++ first.put; coming = first.coming } in
+      let (others, rest) = all_units units later next come in
+      (becomes_then w (react u w.end) (reacts (u ∷ units) w.end) first others, rest)
+
+  pub becomes_by_call : (call : UserCall) (w : Whole) → MayCall call w.end → Becomes d w (user_does call w.end)
+  becomes_by_call call w may = record {
+    events = calls call ∷ [];
+    put = put_by call w.end;
+    coming = w.coming;
+    along = (record w { end = user_does call w.end; put = w.put ++ put_by call w.end }, (may, refl), refl);
+    outgoing = call_writes call w.end;
+  }
+
+  -- the carrier ends
+  ended_so : (reason : EndReason) (s : State) → s.ended ≡ None → ended_by reason s ≡ ends reason s
+  ended_so reason s lasts = ap (λ (o : Option EndReason). if is_some o then s else ends reason s) lasts
+
+  becomes_over : (reason : EndReason) (w : Whole) → w.end.ended ≡ None → Becomes d w (ends reason w.end)
+  becomes_over reason w lasts =
+      subst (λ (s : State). Becomes d w s) (ended_so reason w.end lasts) (becomes_by_call (breaks reason) w tt)
+
+  -- ---- a packet
+
+  runs_out : (units later : List Value) (w : Whole) (new : State) → w.coming ≡ units ++ later → RunsOut w.end units new → Becomes d w new
+  runs_out units later w new e r =
+      let (first, rest) = all_units r.done ((r.next ∷ r.more) ++ later) w
+      (e ∙ ap (λ (l : List Value). l ++ later) r.all ∙ append_assoc r.done (r.next ∷ r.more) later) in
+      let mid : Whole = record w { end = reacts r.done w.end; put = w.put ++ first.put; coming = first.coming } in
+      subst (λ (s : State). Becomes d w s) (sym r.ended)
+      (becomes_then w (reacts r.done w.end) (ends NoMemory (reacts r.done w.end)) first (becomes_over NoMemory mid r.lasts))
+
+  by_memory : (units later : List Value) (w : Whole) (new : State) → w.coming ≡ units ++ later →
+      (new ≡ reacts units w.end) ⊎ RunsOut w.end units new → Becomes d w new
+  by_memory units later w new e (inl is) = subst (λ (s : State). Becomes d w s) (sym is) (all_units units later w e).0
+  by_memory units later w new e (inr r) = runs_out units later w new e r
+
+  pub becomes_by_packet : (octets : List ℕ) (units later : List Value) (w : Whole) (new : State) → Acts w.end octets new →
+      units_of octets ≡ Ok units → w.coming ≡ units ++ later → Becomes d w new
+  becomes_by_packet octets units later w new h read e =
+      by_memory units later w new e (subst (λ (r : Result (List Value) TpduFault). ActsBy r w.end new) read h)
+
+  pub becomes_by_fault : (octets : List ℕ) (fault : TpduFault) (w : Whole) (new : State) → Acts w.end octets new →
+      units_of octets ≡ Err fault → w.end.ended ≡ None → Becomes d w new
+  becomes_by_fault octets fault w new h read lasts =
+      let is : new ≡ fails (Tpdu fault) w.end = subst (λ (r : Result (List Value) TpduFault). ActsBy r w.end new) read h in
+      subst (λ (s : State). Becomes d w s) (sym is) (becomes_over (Fault (Tpdu fault)) w lasts)

@@ -1,0 +1,633 @@
+-- A unit of a whole calling end passes: a CR, whose connection waits then, or a unit of an open connection, which is right.
+-- For the law on a whole end.
+use Rattle.std.proofs.Common.{◌≡◌, ◌∙◌, ℕ, zero, suc, Bool, true, false, List, [], ◌∷◌, ◌++◌, set, refl, sym, ap, subst}
+use Rattle.std.proofs.Common.{Option, Some, None, inl, inr, ◌⊎◌, if◌then◌else◌, is_some}
+use Rattle.std.specs.Prelude.{◌&&◌, ◌||◌, ◌==◌, not, position, slice_get}
+use Rattle.std.specs.List.{AllByRecursion, position_or_len}
+use Rattle.std.proofs.lemmas.Bool.{eq-eqb, eqb-true}
+use Rattle.osi_tpdu.specs.Value.{Value, Connect, confirm, request, destination_of}
+use Rattle.osi_class.specs.Link.{Standing}
+use Rattle.osi_class.specs.declared.terms.Class.{Class}
+use Rattle.osi_class.specs.declared.terms.Class.TheVariants.{Two, Zero}
+use Rattle.osi_class.specs.declared.terms.Local.{Local}
+use Rattle.osi_carrier.specs.Rows.{value_at}
+use Rattle.osi_carrier.specs.State.{State, Connection as Live, asked, closing, linked}
+use Rattle.osi_rules.specs.declared.connections.Connection.{Connection}
+use Rattle.osi_rules.specs.declared.directions.Direction.TheVariants.{Left, Right}
+use Rattle.osi_rules.specs.declared.findings.Finding.{Finding}
+use Rattle.osi_rules.specs.declared.findings.Finding.TheVariants.{Broke, Kept, NotJudged, Outside, TooMany}
+use Rattle.osi_rules.specs.declared.halves.Half.{Half}
+use Rattle.osi_rules.specs.declared.halves.Phase.{Phase}
+use Rattle.osi_rules.specs.declared.halves.Phase.TheVariants.{Silent, Open, Refused, Closing, Closed}
+use Rattle.osi_rules.specs.Reaches.{is_applied, reach_of}
+use Rattle.osi_rules.specs.Rows.{first_failed}
+use Rattle.osi_rules.specs.Sides.{is_closed, is_closing, is_free, is_named, is_open, is_over, is_over_by, is_refused, is_silent, uses}
+use Rattle.osi_rules.specs.Traffic.{Outcome, State as Traffic, asked_by, asks_by, class_for, is_stopped, none_told, placed, request_tests}
+use Rattle.osi_rules.specs.Traffic.{found, route, route_in, routed, takes, uses_source}
+use Rattle.osi_fair.specs.Following.{IsAtPlace}
+use Rattle.osi_fair.specs.Lines.{IsRight, IsRightNow, Line, after_finding, finding_of, passes_own}
+use Rattle.osi_fair.specs.Naming.{unit as passing}
+use Rattle.osi_fair.specs.Wholes.{Whole}
+use Rattle.osi_fair.proofs.a_right_unit_is_not_blamed.{first_there, is_first, named_of}
+use Rattle.osi_fair.proofs.a_unit_is_an_act_of_its_line.{after_is, found_is}
+use Rattle.osi_fair.proofs.an_end_closes_last.{waits_open}
+use Rattle.osi_fair.proofs.an_open_end_is_fair.{open_is_fair}
+use Rattle.osi_fair.proofs.each_connection_has_its_line.{Followed, Following, IsAnswer, IsAsking, IsOwned, Row, Tracked, Tracks, Waiting}
+use Rattle.osi_fair.proofs.each_connection_has_its_line.{all_so, asking, asks, closes, is_tracked, is_waiting, of, over, talks, tracks_hold}
+use Rattle.osi_fair.proofs.each_connection_has_its_line.{tracks_on}
+use Rattle.osi_fair.proofs.what_holds_of_a_line.{PutsAt, Tally}
+use Rattle.osi_fair.proofs.what_holds_of_one_item.{after_add, after_set, first_true}
+use Rattle.osi_fair.proofs.what_keeps_names_apart.{Sound}
+use Rattle.osi_fair.proofs.what_lasts_at_the_tap.{lasts_passing}
+use Rattle.osi_fair.proofs.left_selects_no_class.{left_class}
+use Rattle.osi_fair.proofs.what_stays_of_each_connection.{own_stays, right_then}
+use Rattle.osi_fair.proofs.what_the_other_side_closes.{IsSane}
+use Rattle.osi_fair.proofs.which_units_are_for_a_connection.{first_kept, first_left, heads, named_not, named_so, names, none_named, those}
+use Rattle.osi_fair.proofs.while_no_class_is_selected.{after_change, set_there}
+
+-- ---- where an item is
+
+pub set_other : {X : Type 0} (xs : List X) (p i : ℕ) (x y : X) → (i ≡ p → ⊥) → slice_get xs i ≡ Some y → slice_get (set xs p x) i ≡ Some y
+set_other [] p i x y other h = absurd (cc)
+set_other (z ∷ xs) zero zero x y other h = absurd (other refl)
+set_other (z ∷ xs) zero (suc i) x y other h = h
+set_other (z ∷ xs) (suc p) zero x y other h = h
+set_other (z ∷ xs) (suc p) (suc i) x y other h = set_other xs p i x y (λ e. other (ap suc e)) h
+
+pub added_still : {X : Type 0} (xs : List X) (i : ℕ) (x y : X) → slice_get xs i ≡ Some y → slice_get (xs ++ x ∷ []) i ≡ Some y
+added_still [] i x y h = absurd (cc)
+added_still (z ∷ xs) zero x y h = h
+added_still (z ∷ xs) (suc i) x y h = added_still xs i x y h
+
+pub item_is : {X : Type 0} (x y : X) → Some x ≡ Some y → y ≡ x
+item_is x y e = cc
+
+pub differ : {A : Type 0} (b : Bool) → b ≡ true → b ≡ false → A
+differ b h k = absurd (cc)
+
+pub unlike : (q p : ℕ) → (q == p) ≡ false → q ≡ p → ⊥
+unlike q p h e = differ (q == p) (ap (λ (x : ℕ). x == p) e ∙ eq-eqb p p refl) h
+
+-- ---- a connection that is open
+
+pub and_first : (a b : Bool) → (a && b) ≡ true → a ≡ true
+and_first true b h = refl
+and_first false b h = cc
+
+pub and_second : (a b : Bool) → (a && b) ≡ true → b ≡ true
+and_second true b h = h
+and_second false b h = cc
+
+pub both : (a b : Bool) → a ≡ true → b ≡ true → (a && b) ≡ true
+both true b h k = k
+both false b h k = cc
+
+pub left_open : (c : Connection) → is_tracked c ≡ true → is_open c.left.phase ≡ true
+left_open c h = and_first (is_open c.left.phase) (is_open c.right.phase || is_closing c.right.phase) h
+
+pub right_there : (c : Connection) → is_tracked c ≡ true → (is_open c.right.phase || is_closing c.right.phase) ≡ true
+right_there c h = and_second (is_open c.left.phase) (is_open c.right.phase || is_closing c.right.phase) h
+
+pub there_not_silent : (p : Phase) → (is_open p || is_closing p) ≡ true → is_silent p ≡ false
+there_not_silent Open h = refl
+there_not_silent Closing h = refl
+there_not_silent Silent h = cc
+there_not_silent Refused h = cc
+there_not_silent Closed h = cc
+
+there_not_refused : (p : Phase) → (is_open p || is_closing p) ≡ true → is_refused p ≡ true → ⊥
+there_not_refused Open h k = cc
+there_not_refused Closing h k = cc
+there_not_refused Silent h k = cc
+there_not_refused Refused h k = cc
+there_not_refused Closed h k = cc
+
+-- over for left only if right is known to have refused it
+open_over : (p k : Phase) → is_open p ≡ true →
+    (is_refused p || (is_refused k || (is_closed p || (is_closing p && (is_closing k || is_closed k))))) ≡ true → is_refused k ≡ true
+open_over Open Refused h e = refl
+open_over Open Silent h e = cc
+open_over Open Open h e = cc
+open_over Open Closing h e = cc
+open_over Open Closed h e = cc
+open_over Silent k h e = cc
+open_over Refused k h e = cc
+open_over Closing k h e = cc
+open_over Closed k h e = cc
+
+tracked_over : (c : Connection) → Sound c → is_tracked c ≡ true → is_over Left c ≡ true → ⊥
+tracked_over c s h gone =
+    there_not_refused c.right.phase (right_there c h)
+    (s.left_knows.refused (open_over c.left.phase c.seen_by_left.phase (left_open c h) (and_second c.is_judged
+    (is_over_by c.left c.seen_by_left) gone)))
+
+-- over for right only if left is known to have refused or closed it
+there_over : (p k : Phase) → (is_open p || is_closing p) ≡ true →
+    (is_refused p || (is_refused k || (is_closed p || (is_closing p && (is_closing k || is_closed k))))) ≡ true →
+    (is_refused k || (is_closing k || is_closed k)) ≡ true
+there_over Open Refused h e = refl
+there_over Open Closing h e = refl
+there_over Open Closed h e = refl
+there_over Open Silent h e = cc
+there_over Open Open h e = cc
+there_over Closing Refused h e = refl
+there_over Closing Closing h e = refl
+there_over Closing Closed h e = refl
+there_over Closing Silent h e = cc
+there_over Closing Open h e = cc
+there_over Silent k h e = cc
+there_over Refused k h e = cc
+there_over Closed k h e = cc
+
+pub open_not : (p k : Phase) → is_open p ≡ true → (is_refused k ≡ true → is_refused p ≡ true) → (is_closing k ≡ true → is_closing p ≡ true) →
+    (is_closed k ≡ true → is_closed p ≡ true) → (is_refused k || (is_closing k || is_closed k)) ≡ true → ⊥
+open_not Open Refused h a b c e = cc (a refl)
+open_not Open Closing h a b c e = cc (b refl)
+open_not Open Closed h a b c e = cc (c refl)
+open_not Open Silent h a b c e = cc
+open_not Open Open h a b c e = cc
+open_not Silent k h a b c e = cc
+open_not Refused k h a b c e = cc
+open_not Closing k h a b c e = cc
+open_not Closed k h a b c e = cc
+
+not_over_by : (b : Bool) (A : Type 0) → (b ≡ true → ⊥) → b ≡ false
+not_over_by true A h = absurd (h refl)
+not_over_by false A h = refl
+
+three_so : (a b c : Bool) → a ≡ false → b ≡ false → c ≡ true → (not a && (not b && c)) ≡ true
+three_so false false true h k m = refl
+three_so true b c h k m = cc
+three_so false true c h k m = cc
+three_so false false false h k m = cc
+
+-- right uses its reference
+pub uses_tracked : (c : Connection) (n : ℕ) → Sound c → is_tracked c ≡ true → c.right.reference ≡ n → uses Right n c ≡ true
+uses_tracked c n s h e =
+    three_so (is_over Right c) (is_silent c.right.phase) (c.right.reference == n)
+    (not_over_by (is_over Right c) (Unit {0}) (λ gone. open_not c.left.phase c.seen_by_right.phase (left_open c h) s.right_knows.refused
+    s.right_knows.closing s.right_knows.closed (there_over c.right.phase c.seen_by_right.phase (right_there c h)
+    (and_second c.is_judged (is_over_by c.right c.seen_by_right) gone))))
+    (there_not_silent c.right.phase (right_there c h)) (eq-eqb c.right.reference n e)
+
+pub one_peer : (s : Traffic) → IsSane s → s.course.loose ≡ false → (p q : ℕ) (c e : Connection) → slice_get s.connections p ≡ Some c →
+    slice_get s.connections q ≡ Some e → is_tracked c ≡ true → is_tracked e ≡ true → c.right.reference ≡ e.right.reference → p ≡ q
+one_peer s sane firm p q c e at there a b same =
+    let j = sane.judged firm p c at in
+    let k = sane.judged firm q e there in
+    sane.apart.used_right e.right.reference p q c e at there j k
+    (uses_tracked c e.right.reference (sane.apart.sound p c at j) a same)
+    (uses_tracked e e.right.reference (sane.apart.sound q e there k) b refl)
+
+-- ---- a CR
+
+abbrev Request : Connect → List Connection → Outcome → Type 0
+Request x cs o = (o.state.connections ≡ cs) ⊎ (o.state.connections ≡ placed (asked_by x) cs (position is_free cs))
+
+asks_does : (x : Connect) (s : Traffic) (f : Finding) → Request x s.connections (asks_by Left f x s)
+asks_does x s Kept = inr refl
+asks_does x s (Broke rule) = inl refl
+asks_does x s Outside = inl refl
+asks_does x s TooMany = inl refl
+asks_does x s NotJudged = inl refl
+
+route_does : (x : Connect) (s : Traffic) (k : Option Class) (b : Bool) →
+    Request x s.connections (routed Left (request x) s (route_in k Left b (request x)))
+route_does x s None b = asks_does x s (first_failed (request_tests s x))
+route_does x s (Some Zero) b = inl refl
+route_does x s (Some Two) b = asks_does x s (first_failed (request_tests s x))
+
+stop_does : (x : Connect) (s : Traffic) (b : Bool) (o : Outcome) → Request x s.connections o →
+    Request x s.connections (if b then none_told Left NotJudged s else o)
+stop_does x s true o h = inl refl
+stop_does x s false o h = h
+
+request_does : (x : Connect) (s : Traffic) → Request x s.connections (takes Left (request x) s)
+request_does x s =
+    stop_does x s (is_stopped Left s.course) (routed Left (request x) s (route Left s.course (request x)))
+    (route_does x s (class_for Left s.course) (is_stopped Right s.course))
+
+was_or_new : {A B C : Type 0} → (A × B) ⊎ C → B ⊎ C
+was_or_new (inl (a, b)) = inl b
+was_or_new (inr c) = inr c
+
+item_of : (new : Connection) (cs : List Connection) (o : Option ℕ) (i : ℕ) (e : Connection) → slice_get (placed new cs o) i ≡ Some e →
+    (e ≡ new) ⊎ (slice_get cs i ≡ Some e)
+item_of new cs None i e h = was_or_new (after_add cs i new e h)
+item_of new cs (Some q) i e h = was_or_new (after_set cs q i new e h)
+
+and_free : (a b : Bool) → (a && b) ≡ true → a ≡ true
+and_free true b h = refl
+and_free false b h = cc
+
+stays_placed : (new : Connection) (cs : List Connection) (o : Option ℕ) → position is_free cs ≡ o → (i : ℕ) (e : Connection) →
+    slice_get cs i ≡ Some e → (is_free e ≡ true → ⊥) → slice_get (placed new cs o) i ≡ Some e
+stays_placed new cs None h i e at busy = added_still cs i new e at
+stays_placed new cs (Some q) h i e at busy =
+    set_other cs q i new e (λ same. busy (first_true is_free cs q e h (ap (λ (n : ℕ). slice_get cs n) (sym same) ∙ at))) at
+
+pub none_begun : (b : Bool) → (b && false) ≡ false
+none_begun true = refl
+none_begun false = refl
+
+-- ---- the same line with other units
+
+pub row_same : (local : Local) (end : State) (coming : List Value) (r peer : ℕ) (line after : Line) → after.link ≡ line.link →
+    after.coming ≡ line.coming → Row local end coming r peer line → Row local end coming r peer after
+row_same local end coming r peer line after link same (asks there x source first is) =
+    asks there x source (first ∙ ap (λ (l : List Value). confirm r x ∷ l) (sym same)) (link ∙ is)
+row_same local end coming r peer line after link same (talks l there is all) = talks l there (link ∙ is) (all ∙ sym same)
+row_same local end coming r peer line after link same (closes o there q e is all) = closes o there q e (link ∙ is) (all ∙ sym same)
+row_same local end coming r peer line after link same (over h) = over h
+
+-- of a link that is there, the end has not closed the connection
+put_open : (peer limit : ℕ) (x : Tally) (mine theirs : Half) (put : List Value) (link : Option Standing) (l : Standing) →
+    PutsAt peer limit x mine theirs put link → link ≡ Some l → is_open mine.phase ≡ true
+put_open peer limit x mine theirs put None l h e = absurd (cc e)
+put_open peer limit x mine theirs put (Some link) l (puts, is) e = is
+
+-- the end has asked for it, or has it open
+abbrev is_held : Option Live → Bool
+is_held None = false
+is_held (Some asked) = true
+is_held (Some (linked peer link)) = true
+is_held (Some (closing peer)) = false
+
+no_list : (v : Value) (vs : List Value) → v ∷ vs ≡ [] → ⊥
+no_list v vs e = cc
+
+pub all_two : (P Q R : Value → Type 0) (vs : List Value) → ((v : Value) → P v → Q v → R v) → AllByRecursion P vs → AllByRecursion Q vs →
+    AllByRecursion R vs
+all_two P Q R [] h a b = tt
+all_two P Q R (v ∷ vs) h (one, more) (first, others) = (h v one first, all_two P Q R vs h more others)
+
+module _ (local : Local) (w : Whole) (f : Followed local w) (sane : IsSane w.tap) (firm : w.tap.course.loose ≡ false) where
+  abbrev cs : List Connection
+  cs = w.tap.connections
+
+  -- ---- a CR passes
+
+  abbrev after_request : Connect → List Value → Whole
+  after_request x rest = record w { put = rest; begun = false; tap = (takes Left (request x) w.tap).state }
+
+  request_item : (x : Connect) (i : ℕ) (e : Connection) → Request x cs (takes Left (request x) w.tap) →
+      slice_get (takes Left (request x) w.tap).state.connections i ≡ Some e → (e ≡ asked_by x) ⊎ (slice_get cs i ≡ Some e)
+  request_item x i e (inl is) at = inr (ap (λ (l : List Connection). slice_get l i) (sym is) ∙ at)
+  request_item x i e (inr is) at =
+      item_of (asked_by x) cs (position is_free cs) i e (ap (λ (l : List Connection). slice_get l i) (sym is) ∙ at)
+
+  request_stays : (x : Connect) (i : ℕ) (e : Connection) → Request x cs (takes Left (request x) w.tap) → slice_get cs i ≡ Some e →
+      is_tracked e ≡ true → slice_get (takes Left (request x) w.tap).state.connections i ≡ Some e
+  request_stays x i e (inl is) at tracked = ap (λ (l : List Connection). slice_get l i) is ∙ at
+  request_stays x i e (inr is) at tracked =
+      ap (λ (l : List Connection). slice_get l i) is
+      ∙ stays_placed (asked_by x) cs (position is_free cs) refl i e at
+      (λ free. tracked_over e (sane.apart.sound i e at (sane.judged firm i e at)) tracked
+      (and_free (is_over Left e) (is_over Right e) free))
+
+  tracked_still : (x : Connect) (r : ℕ) → Tracked cs r → Tracked (takes Left (request x) w.tap).state.connections r
+  tracked_still x r (p, c, at, tracked, is) = (p, c, request_stays x p c (request_does x w.tap) at tracked, tracked, is)
+
+  tracked_by : (x : Connect) (p : ℕ) (c : Connection) → is_tracked c ≡ true → (c ≡ asked_by x) ⊎ (slice_get cs p ≡ Some c) →
+      slice_get cs p ≡ Some c
+  tracked_by x p c tracked (inl is) = absurd (cc (sym (ap is_tracked is) ∙ tracked))
+  tracked_by x p c tracked (inr at) = at
+
+  owned_still : (x : Connect) (v : Value) → IsOwned cs v → IsOwned (takes Left (request x) w.tap).state.connections v
+  owned_still x v (asking y e) = asking y e
+  owned_still x v (of n p c e at tracked is) = of n p c e (request_stays x p c (request_does x w.tap) at tracked) tracked is
+
+  request_line : (x : Connect) (rest : List Value) (c : Connection) → w.put ≡ request x ∷ rest →
+      Following local w.put w.begun w.end w.coming c → Following local rest false w.end w.coming c
+  request_line x rest c e g = record {
+    r = g.r;
+    peer = g.peer;
+    line = g.line;
+    left = g.left;
+    right = g.right;
+    tracks = g.tracks;
+    tap = g.tap;
+    put_is = g.put_is ∙ ap (λ (l : List Value). those g.peer l) e;
+    begun_is = g.begun_is ∙ ap (λ (l : List Value). w.begun && heads g.peer l) e ∙ none_begun w.begun;
+    row = g.row;
+    calm = g.calm;
+  }
+
+  request_waits : (x : Connect) (c : Connection) (p : ℕ) → IsAsking local w.end w.coming x →
+      (c ≡ asked_by x) ⊎ (slice_get cs p ≡ Some c) → is_waiting c ≡ true → Waiting local w.end w.coming c
+  request_waits x c p a (inl is) waits = subst (λ (e : Connection). Waiting local w.end w.coming e) (sym is) (record {
+    r = x.source;
+    left = a.left;
+    right = refl;
+    seen = refl;
+    class0 = a.class0;
+    none = a.none;
+    row = a.row;
+  })
+  request_waits x c p a (inr at) waits = f.waiting p c at waits
+
+  request_silent : (x : Connect) (i : ℕ) (c : Connection) → is_silent c.right.phase ≡ true → (c ≡ asked_by x) ⊎ (slice_get cs i ≡ Some c) →
+      is_open c.left.phase ≡ true
+  request_silent x i c none (inl is) = ap (λ (e : Connection). is_open e.left.phase) is
+  request_silent x i c none (inr at) = f.silent i c at none
+
+  pub request_passes : (x : Connect) (rest : List Value) → w.put ≡ request x ∷ rest → Followed local (after_request x rest)
+  request_passes x rest e =
+      let (first, requests) = subst (AllByRecursion (λ (v : Value). (y : Connect) → v ≡ request y → IsAsking local w.end w.coming y)) e
+      f.requests in
+      let (head, owned) = subst (AllByRecursion (λ (v : Value). IsOwned cs v)) e f.owned in
+      let does = request_does x w.tap in
+      record {
+        lines = λ i c at tracked.
+            request_line x rest c e (f.lines i c (tracked_by x i c tracked (request_item x i c does at)) tracked);
+        waiting = λ i c at waits. request_waits x c i (first x refl) (request_item x i c does at) waits;
+        owned = all_so (λ v. IsOwned cs v) (λ v. IsOwned (takes Left (request x) w.tap).state.connections v) rest
+            (λ v. owned_still x v) owned;
+        linked = λ lasts r peer link h. let (t, two) = f.linked lasts r peer link h in (tracked_still x r t, two);
+        answers = all_so (λ v. IsAnswer cs w.end v) (λ v. IsAnswer (takes Left (request x) w.tap).state.connections w.end v) w.coming
+            (λ v h n y k lasts. let (t, row) = h n y k lasts in (tracked_still x n t, row)) f.answers;
+        requests = requests;
+        two = λ r t.
+            let (p, c, at, tracked, is) = t in
+            (lasts_passing (passing Left (request x)) w.tap).two
+            (f.two r (p, c, tracked_by x p c tracked (request_item x p c does at), tracked, is));
+        silent = λ i c at none. request_silent x i c none (request_item x i c does at);
+        zero = subst (λ (k : Option Class). (k ≡ None) ⊎ (k ≡ Some Two)) (sym (left_class (request x) w.tap)) f.zero;
+        some = λ h. absurd (cc h);
+        few = f.few;
+        seen = λ n h. absurd (cc h);
+      }
+
+  -- ---- a unit of an open connection passes
+
+  name_first : (n p : ℕ) (c : Connection) → slice_get cs p ≡ Some c → is_named Left n c ≡ true → position (is_named Left n) cs ≡ Some p
+  name_first n p c at named =
+      let q = position_or_len (is_named Left n) cs in
+      let first = is_first (is_named Left n) cs p c at named in
+      let (e, there) = first_there (is_named Left n) cs p q c first in
+      let so = first_true (is_named Left n) cs q e first there in
+      let same : p ≡ q = sane.apart.named_left n p q c e at there (sane.judged firm p c at) (sane.judged firm q e there) named so in
+      first ∙ ap (λ (i : ℕ). Some i) (sym same)
+
+  judged_so : (j : Bool) (g : Finding) → j ≡ true → g ≡ Kept → (if j then g else NotJudged) ≡ Kept
+  judged_so true g h e = e
+  judged_so false g h e = cc
+
+  module _ (u : Value) (rest : List Value) (n p : ℕ) (c : Connection) (e : w.put ≡ u ∷ rest) (begun : w.begun ≡ true)
+      (left : w.tap.course.left_stopped ≡ false) (seen : w.tap.course.class_seen ≡ Some Two) (named : destination_of u ≡ Some n)
+      (at : slice_get cs p ≡ Some c) (tracked : is_tracked c ≡ true) (reference : c.right.reference ≡ n) where
+    abbrev g : Following local w.put w.begun w.end w.coming c
+    g = f.lines p c at tracked
+
+    peer_is : n ≡ g.peer
+    peer_is = sym reference ∙ g.right
+
+    named_by : names g.peer u ≡ true
+    named_by = named_so g.peer u (named ∙ ap (λ (i : ℕ). Some i) peer_is)
+
+    first_put : g.line.put ≡ u ∷ those g.peer rest
+    first_put = g.put_is ∙ ap (λ (l : List Value). those g.peer l) e ∙ first_kept g.peer u rest named_by
+
+    line_begun : g.line.begun ≡ true
+    line_begun = g.begun_is ∙ ap (λ (l : List Value). w.begun && heads g.peer l) e ∙ both w.begun (names g.peer u) begun named_by
+
+    judged : c.is_judged ≡ true
+    judged = sane.judged firm p c at
+
+    right : IsRight Left c u
+    right =
+        let fair = open_is_fair Left g.r g.peer g.tracks.first g.line g.tracks.acts g.tracks.opened g.tracks.along line_begun
+        (ap (λ (x : Connection). x.is_judged) g.tap ∙ judged) in
+        let now : IsRight Left g.line.tap u = subst (IsRightNow Left g.line.tap) first_put fair in
+        subst (λ (x : Connection). IsRight Left x u) g.tap now
+
+    place : IsAtPlace Left w.tap n p c
+    place = record {
+      judged = left;
+      class = seen;
+      first = name_first n p c at (named_of (destination_of u) n Left c named right.named);
+      is = at;
+    }
+
+    abbrev in_use : Bool
+    in_use = uses_source Left cs u
+
+    abbrev finding : Connection → Finding
+    finding x = finding_of Left w.tap.course in_use x u
+
+    kept : finding c ≡ Kept
+    kept = judged_so c.is_judged (found Left w.tap.course in_use c u) judged (right.kept w.tap.course in_use)
+
+    pub own_kept : (takes Left u w.tap).told.finding ≡ Kept
+    own_kept = found_is Left u w.tap n p c place named ∙ kept
+
+    abbrev next : Connection
+    next = after_finding Left (finding c) u c
+
+    abbrev after : Whole
+    after = record w { put = rest; begun = false; tap = (takes Left u w.tap).state }
+
+    next_all : (takes Left u w.tap).state.connections ≡ set cs p next
+    next_all = after_is Left u w.tap n p c place named
+
+    module _ (sane_after : IsSane after.tap) (firm_after : after.tap.course.loose ≡ false) where
+      abbrev line_after : Line
+      line_after = record g.line {
+        put = those g.peer rest;
+        begun = false;
+        tap = after_finding Left (finding g.line.tap) u g.line.tap;
+      }
+
+      tracks_after : Tracks g.r g.peer line_after
+      tracks_after = tracks_on g.r g.peer g.line line_after (passes_own w.tap.course in_use ∷ []) g.tracks
+          (line_after, (u, first_put, line_begun, refl), refl)
+
+      tap_after : line_after.tap ≡ next
+      tap_after = ap (λ (x : Connection). after_finding Left (finding x) u x) g.tap
+
+      next_at : slice_get (takes Left u w.tap).state.connections p ≡ Some next
+      next_at = ap (λ (l : List Connection). slice_get l p) next_all ∙ set_there cs p next c at
+
+      line_judged : line_after.tap.is_judged ≡ true
+      line_judged = ap (λ (x : Connection). x.is_judged) tap_after ∙ sane_after.judged firm_after p next next_at
+
+      next_left : next.left.reference ≡ c.left.reference
+      next_left = (own_stays (is_applied (finding c)) w.tap u (reach_of (Some Two) (finding c)) c refl).reference
+
+      next_right : next.right ≡ c.right
+      next_right = right_then u (is_applied (finding c)) (reach_of (Some Two) (finding c)) c
+
+      tracked_if : is_open next.left.phase ≡ true → is_tracked next ≡ true
+      tracked_if h = both (is_open next.left.phase) (is_open next.right.phase || is_closing next.right.phase) h
+          (ap (λ (x : Half). is_open x.phase || is_closing x.phase) next_right ∙ right_there c tracked)
+
+      -- as long as the end has its link, it has not closed the connection
+      linked_open : (link : Standing) → g.line.link ≡ Some link → is_tracked next ≡ true
+      linked_open link h =
+          let held = tracks_hold g.r g.peer line_after tracks_after line_judged in
+          tracked_if (ap (λ (x : Connection). is_open x.left.phase) (sym tap_after)
+          ∙ put_open g.peer held.limit held.tally line_after.tap.left line_after.tap.right line_after.put line_after.link link held.puts h)
+
+      row_open : w.end.ended ≡ None → (o : Option Live) → value_at g.r w.end.live ≡ o → is_held o ≡ true → Row local w.end w.coming g.r g.peer g.line →
+          is_tracked next ≡ true
+      row_open lasts o e held (asks there x source first is) = linked_open _ is
+      row_open lasts o e held (talks link there is all) = linked_open link is
+      row_open lasts o e held (over h) = differ (is_some w.end.ended) h (ap is_some lasts)
+      row_open lasts o e held (closes k there q (inl is) none all) =
+          differ (is_held o) held (ap is_held (sym e ∙ there ∙ is))
+      row_open lasts o e held (closes k there q (inr is) none all) =
+          differ (is_held o) held (ap is_held (sym e ∙ there ∙ is))
+
+      -- the end puts nothing after it has closed the connection
+      none_by : (l : List Value) → those g.peer rest ≡ l → is_tracked next ≡ false → l ≡ []
+      none_by [] e h = refl
+      none_by (v ∷ vs) e h = differ (is_tracked next) (tracked_if (ap (λ (x : Connection). is_open x.left.phase) (sym tap_after)
+          ∙ waits_open Left g.r g.peer tracks_after.first line_after tracks_after.acts tracks_after.opened tracks_after.along line_judged
+          (λ none. no_list v vs (sym e ∙ none)))) h
+
+      none_left : is_tracked next ≡ false → those g.peer rest ≡ []
+      none_left h = none_by (those g.peer rest) refl h
+
+      item : (i : ℕ) (x : Connection) → slice_get (takes Left u w.tap).state.connections i ≡ Some x →
+          ((i ≡ p) × (x ≡ next)) ⊎ ((i ≡ p → ⊥) × (slice_get cs i ≡ Some x))
+      item i x h = after_change cs p i next x (ap (λ (l : List Connection). slice_get l i) (sym next_all) ∙ h)
+
+      other_at : (i : ℕ) (x : Connection) → (i ≡ p → ⊥) → slice_get cs i ≡ Some x →
+          slice_get (takes Left u w.tap).state.connections i ≡ Some x
+      other_at i x other h = ap (λ (l : List Connection). slice_get l i) next_all ∙ set_other cs p i next x other h
+
+      same_one : (i : ℕ) (x : Connection) → i ≡ p → slice_get cs i ≡ Some x → x ≡ c
+      same_one i x same h = item_is c x (sym at ∙ ap (λ (j : ℕ). slice_get cs j) (sym same) ∙ h)
+
+      -- ---- lines
+
+      line_next : Following local rest false w.end w.coming next
+      line_next = record {
+        r = g.r;
+        peer = g.peer;
+        line = line_after;
+        left = next_left ∙ g.left;
+        right = ap (λ (x : Half). x.reference) next_right ∙ g.right;
+        tracks = tracks_after;
+        tap = tap_after;
+        put_is = refl;
+        begun_is = refl;
+        row = row_same local w.end w.coming g.r g.peer g.line line_after refl refl g.row;
+        calm = g.calm;
+      }
+
+      line_other : (i : ℕ) (x : Connection) → (i ≡ p → ⊥) → slice_get cs i ≡ Some x → is_tracked x ≡ true →
+          Following local rest false w.end w.coming x
+      line_other i x other there is_there =
+          let k = f.lines i x there is_there in
+          let not_named : names k.peer u ≡ false = named_not n k.peer u (λ same. other (one_peer w.tap sane firm i p x c there at is_there
+          tracked (k.right ∙ sym same ∙ sym reference))) named in
+          record {
+            r = k.r;
+            peer = k.peer;
+            line = k.line;
+            left = k.left;
+            right = k.right;
+            tracks = k.tracks;
+            tap = k.tap;
+            put_is = k.put_is ∙ ap (λ (l : List Value). those k.peer l) e ∙ first_left k.peer u rest not_named;
+            begun_is = k.begun_is ∙ ap (λ (l : List Value). w.begun && heads k.peer l) e ∙ ap (λ (b : Bool). w.begun && b) not_named
+                ∙ none_begun w.begun;
+            row = k.row;
+            calm = k.calm;
+          }
+
+      line_at : (i : ℕ) (x : Connection) → is_tracked x ≡ true →
+          ((i ≡ p) × (x ≡ next)) ⊎ ((i ≡ p → ⊥) × (slice_get cs i ≡ Some x)) → Following local rest false w.end w.coming x
+      line_at i x is_there (inl (same, is)) = subst (λ (y : Connection). Following local rest false w.end w.coming y) (sym is) line_next
+      line_at i x is_there (inr (other, there)) = line_other i x other there is_there
+
+      waits_at : (i : ℕ) (x : Connection) → is_waiting x ≡ true →
+          ((i ≡ p) × (x ≡ next)) ⊎ ((i ≡ p → ⊥) × (slice_get cs i ≡ Some x)) → Waiting local w.end w.coming x
+      waits_at i x waits (inl (same, is)) =
+          differ (is_silent c.right.phase) (ap (λ (h : Half). is_silent h.phase) (sym (ap (λ (y : Connection). y.right) is ∙ next_right))
+          ∙ and_second (is_open x.left.phase) (is_silent x.right.phase) waits) (there_not_silent c.right.phase (right_there c tracked))
+      waits_at i x waits (inr (other, there)) = f.waiting i x there waits
+
+      silent_at : (i : ℕ) (x : Connection) → is_silent x.right.phase ≡ true →
+          ((i ≡ p) × (x ≡ next)) ⊎ ((i ≡ p → ⊥) × (slice_get cs i ≡ Some x)) → is_open x.left.phase ≡ true
+      silent_at i x none (inl (same, is)) =
+          differ (is_silent c.right.phase) (ap (λ (h : Half). is_silent h.phase) (sym (ap (λ (y : Connection). y.right) is ∙ next_right))
+          ∙ none) (there_not_silent c.right.phase (right_there c tracked))
+      silent_at i x none (inr (other, there)) = f.silent i x there none
+
+      -- ---- the place of each connection
+
+      tracked_one : (r i : ℕ) (x : Connection) → slice_get cs i ≡ Some x → is_tracked x ≡ true → x.left.reference ≡ r →
+          (c.left.reference ≡ r → is_tracked next ≡ true) → (b : Bool) → (i == p) ≡ b → Tracked (takes Left u w.tap).state.connections r
+      tracked_one r i x there is_there is k true h =
+          let so = ap (λ (y : Connection). y.left.reference) (sym (same_one i x (eqb-true i p h) there)) ∙ is in
+          (p, next, next_at, k so, next_left ∙ so)
+      tracked_one r i x there is_there is k false h = (i, x, other_at i x (unlike i p h) there, is_there, is)
+
+      tracked_next : (r : ℕ) → Tracked cs r → (c.left.reference ≡ r → is_tracked next ≡ true) →
+          Tracked (takes Left u w.tap).state.connections r
+      tracked_next r (i, x, there, is_there, is) k = tracked_one r i x there is_there is k (i == p) refl
+
+      tracked_was : (r i : ℕ) (x : Connection) → is_tracked x ≡ true → x.left.reference ≡ r →
+          ((i ≡ p) × (x ≡ next)) ⊎ ((i ≡ p → ⊥) × (slice_get cs i ≡ Some x)) → Tracked cs r
+      tracked_was r i x is_there is (inl (same, so)) =
+          (p, c, at, tracked, sym next_left ∙ ap (λ (y : Connection). y.left.reference) (sym so) ∙ is)
+      tracked_was r i x is_there is (inr (other, there)) = (i, x, there, is_there, is)
+
+      owned_one : (v : Value) (m i : ℕ) (x : Connection) → destination_of v ≡ Some m → slice_get cs i ≡ Some x → is_tracked x ≡ true →
+          x.right.reference ≡ m → (is_tracked next ≡ false → names g.peer v ≡ false) → (b d : Bool) → (i == p) ≡ b → is_tracked next ≡ d →
+          IsOwned (takes Left u w.tap).state.connections v
+      owned_one v m i x there_named there is_there is k true true h d =
+          of m p next there_named next_at d (ap (λ (y : Half). y.reference) next_right
+          ∙ ap (λ (y : Connection). y.right.reference) (sym (same_one i x (eqb-true i p h) there)) ∙ is)
+      owned_one v m i x there_named there is_there is k true false h d =
+          let so = ap (λ (y : Connection). y.right.reference) (sym (same_one i x (eqb-true i p h) there)) ∙ is in
+          differ (names g.peer v) (named_so g.peer v (there_named ∙ ap (λ (j : ℕ). Some j) (sym so ∙ g.right))) (k d)
+      owned_one v m i x there_named there is_there is k false d h e =
+          of m i x there_named (other_at i x (unlike i p h) there) is_there is
+
+      owned_next : (v : Value) → (is_tracked next ≡ false → names g.peer v ≡ false) → IsOwned cs v →
+          IsOwned (takes Left u w.tap).state.connections v
+      owned_next v k (asking x e) = asking x e
+      owned_next v k (of m i x there_named there is_there is) =
+          owned_one v m i x there_named there is_there is k (i == p) (is_tracked next) refl refl
+
+      owned_rest : (b : Bool) → is_tracked next ≡ b → AllByRecursion (λ (v : Value). IsOwned cs v) rest →
+          AllByRecursion (λ (v : Value). IsOwned (takes Left u w.tap).state.connections v) rest
+      owned_rest true h a =
+          all_so (λ v. IsOwned cs v) (λ v. IsOwned (takes Left u w.tap).state.connections v) rest
+          (λ v o. owned_next v (λ k. differ (is_tracked next) h k) o) a
+      owned_rest false h a =
+          all_two (λ v. IsOwned cs v) (λ v. names g.peer v ≡ false) (λ v. IsOwned (takes Left u w.tap).state.connections v) rest
+          (λ v o none. owned_next v (λ k. none) o) a (none_named g.peer rest (none_left h))
+
+      held_at : w.end.ended ≡ None → (r : ℕ) (o : Option Live) → value_at r w.end.live ≡ o → is_held o ≡ true → c.left.reference ≡ r → is_tracked next ≡ true
+      held_at lasts r o there held is =
+          row_open lasts o (ap (λ (j : ℕ). value_at j w.end.live) (sym g.left ∙ is) ∙ there) held g.row
+
+      pub own_passes : Followed local after
+      own_passes =
+          let (head, requests) = subst (AllByRecursion (λ (v : Value). (y : Connect) → v ≡ request y → IsAsking local w.end w.coming y)) e
+          f.requests in
+          let (one, owned) = subst (AllByRecursion (λ (v : Value). IsOwned cs v)) e f.owned in
+          record {
+            lines = λ i x there is_there. line_at i x is_there (item i x there);
+            waiting = λ i x there waits. waits_at i x waits (item i x there);
+            owned = owned_rest (is_tracked next) refl owned;
+            linked = λ lasts r peer link h.
+                let (t, two) = f.linked lasts r peer link h in
+                (tracked_next r t (λ is. held_at lasts r (Some (linked peer link)) h refl is), two);
+            answers = all_so (λ v. IsAnswer cs w.end v) (λ v. IsAnswer (takes Left u w.tap).state.connections w.end v) w.coming
+                (λ v h m y k lasts. let (t, row) = h m y k lasts in (tracked_next m t (λ is. held_at lasts m (Some asked) row refl is), row))
+                f.answers;
+            requests = requests;
+            two = λ r t.
+                let (i, x, there, is_there, is) = t in
+                (lasts_passing (passing Left u) w.tap).two (f.two r (tracked_was r i x is_there is (item i x there)));
+            silent = λ i x there none. silent_at i x none (item i x there);
+            zero = subst (λ (k : Option Class). (k ≡ None) ⊎ (k ≡ Some Two)) (sym (left_class u w.tap)) f.zero;
+            some = λ h. absurd (cc h);
+            few = f.few;
+            seen = λ n h. absurd (cc h);
+          }

@@ -1,0 +1,594 @@
+-- A unit of the other side passes at the tap of a whole calling end: what it does to the line of its connection, and to no other.
+-- For the law on a whole end.
+use Rattle.std.proofs.Common.{◌≡◌, ◌≢◌, ◌∙◌, ℕ, ◌<◌, Bool, true, false, List, [], ◌∷◌, ◌++◌, set, refl, sym, ap, subst, arith}
+use Rattle.std.proofs.Common.{Option, Some, None, inl, inr, ◌⊎◌, if◌then◌else◌, is_some}
+use Rattle.std.specs.Prelude.{◌&&◌, ◌||◌, ◌==◌, not, slice_get}
+use Rattle.std.specs.List.{AllByRecursion, list_any}
+use Rattle.std.proofs.lemmas.Bool.{eqb-true}
+use Rattle.std.proofs.lemmas.List.{append-nil}
+use Rattle.osi_tpdu.specs.Value.{Value, Connect, HasFieldsInRange, request, confirm, disconnect, disconnected, data0, data2, acknowledge, error}
+use Rattle.osi_tpdu.specs.Value.{destination_of}
+use Rattle.osi_class.specs.declared.terms.Class.{Class}
+use Rattle.osi_class.specs.declared.terms.Class.TheVariants.{Two, Zero}
+use Rattle.osi_class.specs.declared.terms.Local.{Local}
+use Rattle.osi_carrier.specs.Negotiation.{agreed_size, opened_link}
+use Rattle.osi_carrier.specs.Rows.{value_at}
+use Rattle.osi_carrier.specs.State.{State, asked}
+use Rattle.osi_rules.specs.declared.connections.Connection.{Connection}
+use Rattle.osi_rules.specs.declared.courses.Course.{Course}
+use Rattle.osi_rules.specs.declared.directions.Direction.TheVariants.{Right}
+use Rattle.osi_rules.specs.declared.findings.Finding.{Finding}
+use Rattle.osi_rules.specs.declared.findings.Finding.TheVariants.{Broke, Kept}
+use Rattle.osi_rules.specs.declared.findings.Reach.{Reach}
+use Rattle.osi_rules.specs.declared.findings.Reach.TheVariants as reach
+use Rattle.osi_rules.specs.declared.findings.Rule.TheVariants as rule
+use Rattle.osi_rules.specs.declared.halves.Half.{Half}
+use Rattle.osi_rules.specs.declared.halves.Phase.{Phase}
+use Rattle.osi_rules.specs.declared.halves.Phase.TheVariants.{Silent, Open, Refused, Closing, Closed}
+use Rattle.osi_rules.specs.Reaches.{is_applied, reach_of}
+use Rattle.osi_rules.specs.Sides.{is_closed, is_closing, is_open, is_over, is_over_by, is_refused, is_silent, uses}
+use Rattle.osi_rules.specs.Traffic.{Outcome, class_for, class_of, closing_phase, connection_after}
+use Rattle.osi_rules.specs.Traffic.{course_after, found_on, half_after, reached}
+use Rattle.osi_rules.specs.Traffic.{sent_on, takes, uses_source}
+use Rattle.osi_fair.specs.Lines.{Line, after_finding, finding_of, opened_line, passes_other}
+use Rattle.osi_fair.specs.Naming.{unit as passing}
+use Rattle.osi_fair.specs.Wholes.{Whole}
+use Rattle.osi_fair.proofs.a_request_of_a_whole_end_is_new.{Newer}
+use Rattle.osi_fair.proofs.a_unit_of_a_whole_end_passes.{and_first, and_second, both, differ, item_is, left_open, none_begun, right_there}
+use Rattle.osi_fair.proofs.a_unit_of_a_whole_end_passes.{all_two, set_other, there_not_silent, unlike, uses_tracked}
+use Rattle.osi_fair.proofs.each_connection_has_its_line.{Followed, Following, IsAnswer, IsAsking, IsNoCc, IsOwned, Row, Tracked}
+use Rattle.osi_fair.proofs.each_connection_has_its_line.{AreGiven, Waiting, all_so, asking, asks, closes, head_two, is_tracked, is_waiting, no_end, of, over}
+use Rattle.osi_fair.proofs.each_connection_has_its_line.{talks, tracks_on}
+use Rattle.osi_fair.proofs.how_a_connection_opens.{calling_opens}
+use Rattle.osi_fair.proofs.references_of_requests_rise.{Rise, rise_from}
+use Rattle.osi_fair.proofs.what_holds_of_one_item.{none_true}
+use Rattle.osi_fair.proofs.what_keeps_names_apart.{Sound}
+use Rattle.osi_fair.proofs.what_lasts_at_the_tap.{lasts_passing}
+use Rattle.osi_fair.proofs.what_stays_of_each_connection.{left_then, right_judged, right_own}
+use Rattle.osi_fair.proofs.what_the_other_side_closes.{IsPlain, IsSane, is_name}
+use Rattle.osi_fair.proofs.which_requests_are_put.{asked_among}
+use Rattle.osi_fair.proofs.which_units_are_for_a_connection.{heads_nothing, named_not, named_so, names, one_more, those, those_join}
+use Rattle.osi_fair.proofs.which_units_are_for_a_connection.{first_left, those_nothing}
+use Rattle.osi_fair.proofs.while_no_class_is_selected.{after_change, set_there}
+use Rattle.osi_fair.proofs.what_becomes_of_a_connection.{Answered, Told, answered, cc_waits, open_stays, opens, refused}
+
+-- ---- what has come for a connection, with one unit more
+
+more_other : (r : ℕ) (coming : List Value) (v : Value) → names r v ≡ false → those r (coming ++ v ∷ []) ≡ those r coming
+more_other r coming v e = those_join r coming (v ∷ []) ∙ ap (λ (l : List Value). those r coming ++ l) (first_left r v [] e)
+    ∙ append-nil (those r coming)
+
+row_other : (local : Local) (end : State) (coming : List Value) (r peer : ℕ) (line : Line) (v : Value) → names r v ≡ false →
+    Row local end coming r peer line → Row local end (coming ++ v ∷ []) r peer line
+row_other local end coming r peer line v e (asks there x source first is) = asks there x source (more_other r coming v e ∙ first) is
+row_other local end coming r peer line v e (talks link there is all) = talks link there is (more_other r coming v e ∙ all)
+row_other local end coming r peer line v e (closes o there q k is all) = closes o there q k is (more_other r coming v e ∙ all)
+row_other local end coming r peer line v e (over h) = over h
+
+row_add : (local : Local) (end : State) (coming : List Value) (r peer : ℕ) (line after : Line) (v : Value) → names r v ≡ true →
+    after.link ≡ line.link → after.coming ≡ line.coming ++ v ∷ [] → Row local end coming r peer line →
+    Row local end (coming ++ v ∷ []) r peer after
+row_add local end coming r peer line after v e link same (asks there x source first is) =
+    asks there x source (one_more r coming v e ∙ ap (λ (l : List Value). l ++ v ∷ []) first ∙ ap (λ (l : List Value). confirm r x ∷ l) (sym same))
+    (link ∙ is)
+row_add local end coming r peer line after v e link same (talks l there is all) =
+    talks l there (link ∙ is) (one_more r coming v e ∙ ap (λ (l : List Value). l ++ v ∷ []) all ∙ sym same)
+row_add local end coming r peer line after v e link same (closes o there q k is all) =
+    closes o there q k (link ∙ is) (one_more r coming v e ∙ ap (λ (l : List Value). l ++ v ∷ []) all ∙ sym same)
+row_add local end coming r peer line after v e link same (over h) = over h
+
+-- as long as the end has not ended
+row_or : (local : Local) (end : State) (coming : List Value) (r peer : ℕ) (line : Line) (b : Bool) → is_some end.ended ≡ b →
+    (end.ended ≡ None → Row local end coming r peer line) → Row local end coming r peer line
+row_or local end coming r peer line true e k = over e
+row_or local end coming r peer line false e k = k (no_end end.ended e)
+
+following_other : (local : Local) (put : List Value) (b : Bool) (end : State) (coming : List Value) (x : Connection) (v : Value) →
+    (k : Following local put b end coming x) → names k.r v ≡ false → Following local put b end (coming ++ v ∷ []) x
+following_other local put b end coming x v k e = record {
+  r = k.r;
+  peer = k.peer;
+  line = k.line;
+  left = k.left;
+  right = k.right;
+  tracks = k.tracks;
+  tap = k.tap;
+  put_is = k.put_is;
+  begun_is = k.begun_is;
+  row = row_other local end coming k.r k.peer k.line v e k.row;
+  calm = k.calm;
+}
+
+waiting_other : (local : Local) (end : State) (coming : List Value) (x : Connection) (v : Value) → (k : Waiting local end coming x) →
+    names k.r v ≡ false → Waiting local end (coming ++ v ∷ []) x
+waiting_other local end coming x v k e = record {
+  r = k.r;
+  left = k.left;
+  right = k.right;
+  seen = k.seen;
+  class0 = k.class0;
+  none = more_other k.r coming v e ∙ k.none;
+  row = k.row;
+}
+
+all_add : (P : Value → Type 0) (vs : List Value) (v : Value) → AllByRecursion P vs → P v → AllByRecursion P (vs ++ v ∷ [])
+all_add P [] v a p = (p, tt)
+all_add P (u ∷ vs) v (one, more) p = (one, all_add P vs v more p)
+
+-- ---- the CRs that are to pass
+
+same_request : (x y : Connect) → request x ≡ request y → x ≡ y
+same_request x y e = cc
+
+rise_parts : (n : ℕ) (v : Value) (vs : List Value) → Rise n (asked_among (v ∷ vs)) →
+    ((x : Connect) → v ≡ request x → n < x.source) × Rise n (asked_among vs)
+rise_parts n (request x) vs (above, rise) =
+    (λ y e. subst (λ (c : Connect). n < c.source) (same_request x y e) above, rise_from n x.source (asked_among vs) (omega arith) rise)
+rise_parts n (confirm destination x) vs rise = (λ y e. absurd (cc e), rise)
+rise_parts n (disconnect destination source reason user) vs rise = (λ y e. absurd (cc e), rise)
+rise_parts n (disconnected destination source) vs rise = (λ y e. absurd (cc e), rise)
+rise_parts n (data0 end user) vs rise = (λ y e. absurd (cc e), rise)
+rise_parts n (data2 destination number end user) vs rise = (λ y e. absurd (cc e), rise)
+rise_parts n (acknowledge credit destination number) vs rise = (λ y e. absurd (cc e), rise)
+rise_parts n (error destination cause) vs rise = (λ y e. absurd (cc e), rise)
+
+rise_all : (n : ℕ) (vs : List Value) → Rise n (asked_among vs) → AllByRecursion (λ (v : Value). (x : Connect) → v ≡ request x → n < x.source) vs
+rise_all n [] h = tt
+rise_all n (v ∷ vs) h = let (one, more) = rise_parts n v vs h in (one, rise_all n vs more)
+
+-- ---- phases
+
+refused_parts : (p : Phase) → is_refused p ≡ true → ((is_open p || is_closing p) ≡ false) × (is_silent p ≡ false)
+refused_parts Refused h = (refl, refl)
+refused_parts Silent h = cc
+refused_parts Open h = cc
+refused_parts Closing h = cc
+refused_parts Closed h = cc
+
+and_not : (a b : Bool) → b ≡ false → (a && b) ≡ false
+and_not true b h = h
+and_not false b h = refl
+
+and_first_not : (a b : Bool) → a ≡ false → (a && b) ≡ false
+and_first_not true b h = cc
+and_first_not false b h = refl
+
+refused_over : (k : Phase) (p : Phase) → is_refused p ≡ true →
+    (is_refused p || (is_refused k || (is_closed p || (is_closing p && (is_closing k || is_closed k))))) ≡ true
+refused_over k Refused h = refl
+refused_over k Silent h = cc
+refused_over k Open h = cc
+refused_over k Closing h = cc
+refused_over k Closed h = cc
+
+closed_over : (k : Phase) → (is_refused k || (true || (false && (is_closing k || is_closed k)))) ≡ true
+closed_over Refused = refl
+closed_over Silent = refl
+closed_over Open = refl
+closed_over Closing = refl
+closed_over Closed = refl
+
+not_both : (past rest : Bool) → past ≡ true → (not past && rest) ≡ true → ⊥
+not_both true rest h k = cc
+not_both false rest h k = cc
+
+closing_not_silent : (was : Bool) (half : Half) → is_silent (closing_phase was half).phase ≡ false
+closing_not_silent true half = refl
+closing_not_silent false half = refl
+
+half_not_silent : (v : Value) (half : Half) → is_silent half.phase ≡ false → is_silent (half_after v half).phase ≡ false
+half_not_silent (request x) half h = h
+half_not_silent (confirm destination x) half h = refl
+half_not_silent (disconnect destination source reason user) half h = closing_not_silent (is_silent half.phase) half
+half_not_silent (disconnected destination source) half h = refl
+half_not_silent (data0 end user) half h = h
+half_not_silent (data2 destination number end user) half h = h
+half_not_silent (acknowledge credit destination number) half h = h
+half_not_silent (error destination cause) half h = refl
+
+course_same : (c : Connection) (v : Value) (b : Bool) (course : Course) → ((m : ℕ) (x : Connect) → v ≡ confirm m x → ⊥) →
+    (course_after Right c v b course).class ≡ course.class
+course_same c (request x) b course h = refl
+course_same c (confirm destination x) b course h = absurd (h destination x refl)
+course_same c (disconnect destination source reason user) b course h = refl
+course_same c (disconnected destination source) b course h = refl
+course_same c (data0 end user) b course h = refl
+course_same c (data2 destination number end user) b course h = refl
+course_same c (acknowledge credit destination number) b course h = refl
+course_same c (error destination cause) b course h = refl
+
+reached_same : (r : Reach) (course : Course) → (reached Right r course).class ≡ course.class
+reached_same reach.Nothing c = refl
+reached_same reach.Connection c = refl
+reached_same reach.Side c = refl
+reached_same reach.Everything c = refl
+
+data Kind (c : Connection) : Type 0 where
+  stands : is_tracked c ≡ true → Kind c
+  waits_yet : is_waiting c ≡ true → is_silent c.right.phase ≡ true → is_tracked c ≡ false → Kind c
+  is_past : is_open c.left.phase ≡ false → is_silent c.right.phase ≡ false → Kind c
+
+module _ (local : Local) (w : Whole) (f : Followed local w) (sane : IsSane w.tap) (firm : w.tap.course.loose ≡ false)
+    (plain : w.tap.course.strays ≡ false) (newer : Newer w) (v : Value) (ranges : HasFieldsInRange v)
+    (t : Told v w.tap (takes Right v w.tap)) (plain_after : IsPlain (takes Right v w.tap).state.course) where
+  abbrev cs : List Connection
+  cs = w.tap.connections
+
+  abbrev c : Connection
+  c = t.c
+
+  abbrev more : List Value
+  more = w.coming ++ v ∷ []
+
+  abbrev after : Whole
+  after = record w { tap = (takes Right v w.tap).state; coming = more }
+
+  judged_c : c.is_judged ≡ true
+  judged_c = sane.judged firm t.q c t.at
+
+  sound_c : Sound c
+  sound_c = sane.apart.sound t.q c t.at judged_c
+
+  abbrev found_so : Finding
+  found_so = found_on Right w.tap c v
+
+  abbrev far : Reach
+  far = reach_of (class_for Right w.tap.course) found_so
+
+  abbrev nxt : Connection
+  nxt = connection_after Right v (is_applied found_so) far c
+
+  abbrev course_so : Course
+  course_so = reached Right far (course_after Right c v (is_applied found_so) w.tap.course)
+
+  conns : (takes Right v w.tap).state.connections ≡ set cs t.q nxt
+  conns = ap (λ (o : Outcome). o.state.connections) t.is
+
+  course_is : (takes Right v w.tap).state.course ≡ course_so
+  course_is = ap (λ (o : Outcome). o.state.course) t.is
+
+  plain_so : IsPlain course_so
+  plain_so = subst IsPlain course_is plain_after
+
+  name_is : c.left.reference ≡ t.n
+  name_is = is_name c t.n sound_c t.named
+
+  nxt_left : nxt.left ≡ c.left
+  nxt_left = left_then v (is_applied found_so) far c
+
+  nxt_at : slice_get (takes Right v w.tap).state.connections t.q ≡ Some nxt
+  nxt_at = ap (λ (l : List Connection). slice_get l t.q) conns ∙ set_there cs t.q nxt c t.at
+
+  not_over : is_over Right c ≡ true → ⊥
+  not_over gone_so = not_both (is_over Right c) (not (is_silent c.seen_by_right.phase) && (c.seen_by_right.reference == t.n)) gone_so t.named
+
+  over_so : is_over_by c.right c.seen_by_right ≡ true → ⊥
+  over_so h = not_over (both c.is_judged (is_over_by c.right c.seen_by_right) judged_c h)
+
+  by_phase : (p : Phase) → c.right.phase ≡ p → is_open c.left.phase ≡ true → Kind c
+  by_phase Open e h = stands (both (is_open c.left.phase) (is_open c.right.phase || is_closing c.right.phase) h
+      (ap (λ (p : Phase). is_open p || is_closing p) e))
+  by_phase Closing e h = stands (both (is_open c.left.phase) (is_open c.right.phase || is_closing c.right.phase) h
+      (ap (λ (p : Phase). is_open p || is_closing p) e))
+  by_phase Silent e h = waits_yet (both (is_open c.left.phase) (is_silent c.right.phase) h (ap is_silent e)) (ap is_silent e)
+      (and_not (is_open c.left.phase) (is_open c.right.phase || is_closing c.right.phase) (ap (λ (p : Phase). is_open p || is_closing p) e))
+  by_phase Refused e h = absurd (over_so (refused_over c.seen_by_right.phase c.right.phase (ap is_refused e)))
+  by_phase Closed e h =
+      absurd (over_so (ap (λ (p : Phase). is_refused p || (is_refused c.seen_by_right.phase || (is_closed p
+      || (is_closing p && (is_closing c.seen_by_right.phase || is_closed c.seen_by_right.phase))))) e
+      ∙ closed_over c.seen_by_right.phase))
+
+  past_silent : (b : Bool) → is_silent c.right.phase ≡ b → is_open c.left.phase ≡ false → b ≡ false
+  past_silent true e h = differ (is_open c.left.phase) (f.silent t.q c t.at e) h
+  past_silent false e h = refl
+
+  kind_by : (b : Bool) → is_open c.left.phase ≡ b → Kind c
+  kind_by true e = by_phase c.right.phase refl e
+  kind_by false e = is_past e (past_silent (is_silent c.right.phase) refl e)
+
+  -- ---- the connection after it
+
+  data Next : Type 0 where
+    goes_on : is_tracked c ≡ true → is_tracked nxt ≡ true → nxt.right.reference ≡ c.right.reference →
+        ((m : ℕ) (x : Connect) → v ≡ confirm m x → ⊥) → Following local w.put w.begun w.end more nxt → Next
+    opened : is_tracked c ≡ false → is_tracked nxt ≡ true → Following local w.put w.begun w.end more nxt →
+        (w.end.ended ≡ None → value_at t.n w.end.live ≡ Some asked) → course_so.class ≡ Some Two → Next
+    gone : is_tracked c ≡ false → is_tracked nxt ≡ false → is_silent nxt.right.phase ≡ false →
+        ((m : ℕ) (x : Connect) → v ≡ confirm m x → ⊥) → Next
+
+  no_cc : is_silent c.right.phase ≡ false → (m : ℕ) (x : Connect) → v ≡ confirm m x → ⊥
+  no_cc h m x e =
+      cc_waits w.tap c judged_c sound_c plain m x h
+      (subst (λ (u : Value). IsPlain (reached Right (reach_of (class_for Right w.tap.course) (found_on Right w.tap c u))
+      (course_after Right c u (is_applied (found_on Right w.tap c u)) w.tap.course))) e plain_so)
+
+  line_on : (tracked : is_tracked c ≡ true) → nxt.right.reference ≡ c.right.reference → IsNoCc v →
+      Following local w.put w.begun w.end more nxt
+  line_on tracked right none =
+      let g = f.lines t.q c t.at tracked in
+      let in_use = uses_source Right cs v in
+      let class = f.two c.left.reference (t.q, c, t.at, tracked, refl) in
+      let r_is : t.n ≡ g.r = sym name_is ∙ g.left in
+      let dest : destination_of v ≡ Some g.r = t.dest ∙ ap (λ (i : ℕ). Some i) r_is in
+      let line : Line = record g.line {
+        tap = after_finding Right (finding_of Right w.tap.course in_use g.line.tap v) v g.line.tap;
+        coming = g.line.coming ++ v ∷ [];
+      } in
+      let tap : line.tap ≡ nxt =
+      ap (λ (x : Connection). after_finding Right (finding_of Right w.tap.course in_use x v) v x) g.tap
+      ∙ ap (λ (k : Option Class). connection_after Right v (is_applied found_so) (reach_of k found_so) c) (sym class) in
+      let some : reach_of (Some Two) (finding_of Right w.tap.course in_use g.line.tap v) ≢ reach.Everything = λ e.
+      differ course_so.left_stopped (ap (λ (r : Reach). (reached Right r (course_after Right c v (is_applied found_so)
+      w.tap.course)).left_stopped) (ap (λ (k : Option Class). reach_of k found_so) class
+      ∙ ap (λ (x : Connection). reach_of (Some Two) (finding_of Right w.tap.course in_use x v)) (sym g.tap) ∙ e)) plain_so.left in
+      record {
+        r = g.r;
+        peer = g.peer;
+        line = line;
+        left = ap (λ (x : Half). x.reference) nxt_left ∙ g.left;
+        right = right ∙ g.right;
+        tracks = tracks_on g.r g.peer g.line line (passes_other w.tap.course in_use v ∷ []) g.tracks (line, (ranges, dest, some, refl), refl);
+        tap = tap;
+        put_is = g.put_is;
+        begun_is = g.begun_is;
+        row = row_add local w.end w.coming g.r g.peer g.line line v (named_so g.r v dest) refl refl g.row;
+        calm = all_add IsNoCc g.line.coming v g.calm none;
+      }
+
+  goes_so : is_tracked c ≡ true → Next
+  goes_so tracked =
+      let (there, right) = open_stays w.tap c judged_c sound_c plain v t.n t.dest tracked plain_so in
+      let still = both (is_open nxt.left.phase) (is_open nxt.right.phase || is_closing nxt.right.phase)
+      (ap (λ (h : Half). is_open h.phase) nxt_left ∙ left_open c tracked) there in
+      let none = no_cc (there_not_silent c.right.phase (right_there c tracked)) in
+      goes_on tracked still right none (line_on tracked right none)
+
+  -- right uses the reference of the CC for no other connection, so nothing that is to pass names it
+  unnamed_by : (x : Connect) (u : Value) (m : ℕ) (b : Bool) → (m == x.source) ≡ b → list_any (λ (e : Connection). uses Right x.source e) cs ≡ false →
+      destination_of u ≡ Some m → (i : ℕ) (e : Connection) → slice_get cs i ≡ Some e → is_tracked e ≡ true → e.right.reference ≡ m →
+      names x.source u ≡ false
+  unnamed_by x u m true same unused dest i e there tracked is =
+      let j = sane.judged firm i e there in
+      differ (uses Right x.source e) (uses_tracked e x.source (sane.apart.sound i e there j) tracked (is ∙ eqb-true m x.source same))
+      (none_true (λ (y : Connection). uses Right x.source y) cs i e unused there)
+  unnamed_by x u m false same unused dest i e there tracked is = named_not m x.source u (unlike m x.source same) dest
+
+  unnamed_put : (x : Connect) → list_any (λ (e : Connection). uses Right x.source e) cs ≡ false → (u : Value) → IsOwned cs u →
+      names x.source u ≡ false
+  unnamed_put x unused u (asking y e) = ap (λ (a : Value). names x.source a) e
+  unnamed_put x unused u (of m i e dest there tracked is) = unnamed_by x u m (m == x.source) refl unused dest i e there tracked is
+
+  class_opened : (x : Connect) → (x.class == 2) ≡ true → class_of x ≡ Two
+  class_opened x h = ap (λ (b : Bool). if b then Two else Zero) h
+
+  fine_reach : (k : Option Class) (g : Finding) → (g ≡ Kept) ⊎ (g ≡ Broke rule.LargerSize) →
+      (is_applied g ≡ true) × (reach_of k g ≡ reach.Nothing)
+  fine_reach k g (inl e) = (ap is_applied e, ap (λ (a : Finding). reach_of k a) e)
+  fine_reach k g (inr e) = (ap is_applied e, ap (λ (a : Finding). reach_of k a) e)
+
+  same_name : (m : ℕ) (x : Connect) → v ≡ confirm m x → m ≡ t.n
+  same_name m x e = let both_named : Some m ≡ Some t.n = sym (ap destination_of e) ∙ t.dest in cc
+
+  opens_so : (m : ℕ) (x : Connect) → v ≡ confirm m x → (found_so ≡ Kept) ⊎ (found_so ≡ Broke rule.LargerSize) → (x.class == 2) ≡ true →
+      uses_source Right cs v ≡ false → is_waiting c ≡ true → is_tracked c ≡ false → Waiting local w.end w.coming c → Next
+  opens_so m x e right_so two unused waiting not_tracked k =
+      let (applied, nothing) = fine_reach (class_for Right w.tap.course) found_so right_so in
+      let none_use : list_any (λ (y : Connection). uses Right x.source y) cs ≡ false = sym (ap (λ (u : Value). uses_source Right cs u) e) ∙ unused in
+      let r_is : k.r ≡ t.n = sym (ap (λ (h : Half). h.reference) k.left) ∙ name_is in
+      let named_r = named_so k.r v (t.dest ∙ ap (λ (i : ℕ). Some i) (sym r_is)) in
+      let none_put = those_nothing x.source w.put (all_so (λ u. IsOwned cs u) (λ u. names x.source u ≡ false) w.put
+      (unnamed_put x none_use) f.owned) in
+      let none_head = heads_nothing x.source w.put (all_so (λ u. IsOwned cs u) (λ u. names x.source u ≡ false) w.put
+      (unnamed_put x none_use) f.owned) in
+      let opened_as : Connection = sent_on Right (confirm k.r x) c in
+      let is : nxt ≡ opened_as =
+      ap (λ (b : Bool). connection_after Right v b far c) applied ∙ ap (λ (r : Reach). connection_after Right v true r c) nothing
+      ∙ ap (λ (u : Value). sent_on Right u c) e in
+      let line : Line = opened_line (opened_link Two (agreed_size x.parameters.size local) local x.credit) opened_as in
+      let range = subst HasFieldsInRange e ranges in
+      let tracked : is_tracked nxt ≡ true =
+      both (is_open nxt.left.phase) (is_open nxt.right.phase || is_closing nxt.right.phase)
+      (ap (λ (h : Half). is_open h.phase) nxt_left ∙ and_first (is_open c.left.phase) (is_silent c.right.phase) waiting)
+      (ap (λ (y : Connection). is_open y.right.phase || is_closing y.right.phase) is) in
+      opened not_tracked tracked (record {
+        r = k.r;
+        peer = x.source;
+        line = line;
+        left = ap (λ (h : Half). h.reference) nxt_left ∙ ap (λ (h : Half). h.reference) k.left;
+        right = ap (λ (y : Connection). y.right.reference) is;
+        tracks = record { first = line; acts = []; opened = calling_opens local x k.r c range.1 k.left k.right k.seen; along = refl };
+        tap = sym is;
+        put_is = sym none_put;
+        begun_is = sym (ap (λ (b : Bool). w.begun && b) none_head ∙ none_begun w.begun);
+        row = row_or local w.end more k.r x.source line (is_some w.end.ended) refl (λ lasts. asks (k.row lasts) x refl (one_more k.r w.coming v named_r ∙ ap (λ (l : List Value). l ++ v ∷ []) k.none
+            ∙ ap (λ (u : Value). u ∷ []) (e ∙ ap (λ (i : ℕ). confirm i x) (same_name m x e ∙ sym r_is))) refl);
+        calm = tt;
+      }) (λ lasts. ap (λ (i : ℕ). value_at i w.end.live) (sym r_is) ∙ k.row lasts)
+      (reached_same far (course_after Right c v (is_applied found_so) w.tap.course)
+      ∙ ap (λ (u : Value). (course_after Right c u (is_applied found_so) w.tap.course).class) e
+      ∙ ap (λ (b : Bool). (course_after Right c (confirm m x) b w.tap.course).class) applied
+      ∙ ap (λ (a : Class). Some a) (class_opened x two))
+
+  refused_so : is_refused nxt.right.phase ≡ true → is_tracked c ≡ false → ((m : ℕ) (x : Connect) → v ≡ confirm m x → ⊥) → Next
+  refused_so h not_tracked none =
+      let (a, b) = refused_parts nxt.right.phase h in
+      gone not_tracked (and_not (is_open nxt.left.phase) (is_open nxt.right.phase || is_closing nxt.right.phase) a) b none
+
+  by_answer : is_waiting c ≡ true → is_tracked c ≡ false → Answered w.tap c judged_c sound_c plain v → Next
+  by_answer waiting not_tracked (opens m x e right_so two unused) =
+      opens_so m x e right_so two unused waiting not_tracked (f.waiting t.q c t.at waiting)
+  by_answer waiting not_tracked (refused h none) = refused_so h not_tracked none
+
+  right_after : (b : Bool) → is_applied found_so ≡ b → nxt.right ≡ (if b then half_after v c.right else c.right)
+  right_after true e = ap (λ (b : Bool). (connection_after Right v b far c).right) e ∙ right_own v far c
+  right_after false e = ap (λ (b : Bool). (connection_after Right v b far c).right) e ∙ right_judged far c
+
+  still_not_silent : (b : Bool) → is_applied found_so ≡ b → is_silent c.right.phase ≡ false → is_silent nxt.right.phase ≡ false
+  still_not_silent true e h = ap (λ (x : Half). is_silent x.phase) (right_after true e) ∙ half_not_silent v c.right h
+  still_not_silent false e h = ap (λ (x : Half). is_silent x.phase) (right_after false e) ∙ h
+
+  by_kind : Kind c → Next
+  by_kind (stands tracked) = goes_so tracked
+  by_kind (waits_yet waiting silent not_tracked) =
+      by_answer waiting not_tracked (answered w.tap c judged_c sound_c plain v t.n t.dest silent
+      (f.waiting t.q c t.at waiting).class0 plain_so)
+  by_kind (is_past not_open not_silent_c) =
+      gone (and_first_not (is_open c.left.phase) (is_open c.right.phase || is_closing c.right.phase) not_open)
+      (and_first_not (is_open nxt.left.phase) (is_open nxt.right.phase || is_closing nxt.right.phase)
+      (ap (λ (h : Half). is_open h.phase) nxt_left ∙ not_open))
+      (still_not_silent (is_applied found_so) refl not_silent_c) (no_cc not_silent_c)
+
+  next_so : Next
+  next_so = by_kind (kind_by (is_open c.left.phase) refl)
+
+  -- ---- all connections after it
+
+  abbrev Item : ℕ → Connection → Type 0
+  Item i x = ((i ≡ t.q) × (x ≡ nxt)) ⊎ ((i ≡ t.q → ⊥) × (slice_get cs i ≡ Some x))
+
+  item : (i : ℕ) (x : Connection) → slice_get (takes Right v w.tap).state.connections i ≡ Some x → Item i x
+  item i x h = after_change cs t.q i nxt x (ap (λ (l : List Connection). slice_get l i) (sym conns) ∙ h)
+
+  other_at : (i : ℕ) (x : Connection) → (i ≡ t.q → ⊥) → slice_get cs i ≡ Some x →
+      slice_get (takes Right v w.tap).state.connections i ≡ Some x
+  other_at i x other h = ap (λ (l : List Connection). slice_get l i) conns ∙ set_other cs t.q i nxt x other h
+
+  same_one : (i : ℕ) (x : Connection) → i ≡ t.q → slice_get cs i ≡ Some x → x ≡ c
+  same_one i x same h = item_is c x (sym t.at ∙ ap (λ (j : ℕ). slice_get cs j) (sym same) ∙ h)
+
+  unlike_r : (i : ℕ) (x : Connection) (r : ℕ) → (i ≡ t.q → ⊥) → slice_get cs i ≡ Some x → x.left.reference ≡ r → names r v ≡ false
+  unlike_r i x r other there is =
+      named_not t.n r v (λ same. other (sane.distinct i t.q x c there t.at (is ∙ sym same ∙ sym name_is))) t.dest
+
+  line_at : (i : ℕ) (x : Connection) → is_tracked x ≡ true → Next → Item i x → Following local w.put w.begun w.end more x
+  line_at i x tracked k (inr (other, there)) =
+      let g = f.lines i x there tracked in
+      following_other local w.put w.begun w.end w.coming x v g (unlike_r i x g.r other there g.left)
+  line_at i x tracked (goes_on a b right none line) (inl (same, is)) =
+      subst (λ (y : Connection). Following local w.put w.begun w.end more y) (sym is) line
+  line_at i x tracked (opened a b line row class) (inl (same, is)) =
+      subst (λ (y : Connection). Following local w.put w.begun w.end more y) (sym is) line
+  line_at i x tracked (gone a b silent none) (inl (same, is)) = differ (is_tracked nxt) (ap is_tracked (sym is) ∙ tracked) b
+
+  nxt_silent : Next → is_silent nxt.right.phase ≡ false
+  nxt_silent (goes_on a b right none line) = there_not_silent nxt.right.phase (right_there nxt b)
+  nxt_silent (opened a b line row class) = there_not_silent nxt.right.phase (right_there nxt b)
+  nxt_silent (gone a b silent none) = silent
+
+  waits_at : (i : ℕ) (x : Connection) → is_waiting x ≡ true → Item i x → Waiting local w.end more x
+  waits_at i x waiting (inl (same, is)) =
+      differ (is_silent nxt.right.phase) (ap (λ (y : Connection). is_silent y.right.phase) (sym is)
+      ∙ and_second (is_open x.left.phase) (is_silent x.right.phase) waiting) (nxt_silent next_so)
+  waits_at i x waiting (inr (other, there)) =
+      let k = f.waiting i x there waiting in
+      waiting_other local w.end w.coming x v k (unlike_r i x k.r other there (ap (λ (h : Half). h.reference) k.left))
+
+  silent_at : (i : ℕ) (x : Connection) → is_silent x.right.phase ≡ true → Item i x → is_open x.left.phase ≡ true
+  silent_at i x silent (inl (same, is)) =
+      differ (is_silent nxt.right.phase) (ap (λ (y : Connection). is_silent y.right.phase) (sym is) ∙ silent) (nxt_silent next_so)
+  silent_at i x silent (inr (other, there)) = f.silent i x there silent
+
+  -- of a connection that was open
+  was_open : (A : Type 0) → is_tracked c ≡ true → (is_tracked nxt ≡ true → nxt.right.reference ≡ c.right.reference → A) → Next → A
+  was_open A tracked k (goes_on a b right none line) = k b right
+  was_open A tracked k (opened a b line row class) = differ (is_tracked c) tracked a
+  was_open A tracked k (gone a b silent none) = differ (is_tracked c) tracked a
+
+  nxt_reference : nxt.left.reference ≡ c.left.reference
+  nxt_reference = ap (λ (h : Half). h.reference) nxt_left
+
+  tracked_one : (r i : ℕ) (x : Connection) → slice_get cs i ≡ Some x → is_tracked x ≡ true → x.left.reference ≡ r → (b : Bool) →
+      (i == t.q) ≡ b → Tracked (takes Right v w.tap).state.connections r
+  tracked_one r i x there tracked is false h = (i, x, other_at i x (unlike i t.q h) there, tracked, is)
+  tracked_one r i x there tracked is true h =
+      let so = same_one i x (eqb-true i t.q h) there in
+      was_open (Tracked (takes Right v w.tap).state.connections r) (ap is_tracked (sym so) ∙ tracked)
+      (λ still right. (t.q, nxt, nxt_at, still, nxt_reference ∙ ap (λ (y : Connection). y.left.reference) (sym so) ∙ is)) next_so
+
+  tracked_to : (r : ℕ) → Tracked cs r → Tracked (takes Right v w.tap).state.connections r
+  tracked_to r (i, x, there, tracked, is) = tracked_one r i x there tracked is (i == t.q) refl
+
+  owned_one : (u : Value) (m i : ℕ) (x : Connection) → destination_of u ≡ Some m → slice_get cs i ≡ Some x → is_tracked x ≡ true →
+      x.right.reference ≡ m → (b : Bool) → (i == t.q) ≡ b → IsOwned (takes Right v w.tap).state.connections u
+  owned_one u m i x dest there tracked is false h = of m i x dest (other_at i x (unlike i t.q h) there) tracked is
+  owned_one u m i x dest there tracked is true h =
+      let so = same_one i x (eqb-true i t.q h) there in
+      was_open (IsOwned (takes Right v w.tap).state.connections u) (ap is_tracked (sym so) ∙ tracked)
+      (λ still right. of m t.q nxt dest nxt_at still (right ∙ ap (λ (y : Connection). y.right.reference) (sym so) ∙ is)) next_so
+
+  owned_to : (u : Value) → IsOwned cs u → IsOwned (takes Right v w.tap).state.connections u
+  owned_to u (asking x e) = asking x e
+  owned_to u (of m i x dest there tracked is) = owned_one u m i x dest there tracked is (i == t.q) refl
+
+  answers_to : Next → IsAnswer (takes Right v w.tap).state.connections w.end v
+  answers_to (goes_on a b right none line) m x e lasts = absurd (none m x e)
+  answers_to (gone a b silent none) m x e lasts = absurd (none m x e)
+  answers_to (opened a b line row class) m x e lasts =
+      let same = same_name m x e in (
+        (t.q, nxt, nxt_at, b, nxt_reference ∙ name_is ∙ sym same),
+        ap (λ (i : ℕ). value_at i w.end.live) same ∙ row lasts,
+      )
+
+  class_from : (r i : ℕ) (x : Connection) → is_tracked x ≡ true → x.left.reference ≡ r → Next → Item i x →
+      (takes Right v w.tap).state.course.class ≡ Some Two
+  class_from r i x tracked is k (inr (other, there)) =
+      (lasts_passing (passing Right v) w.tap).two (f.two r (i, x, there, tracked, is))
+  class_from r i x tracked is (goes_on a b right none line) (inl (same, so)) =
+      (lasts_passing (passing Right v) w.tap).two (f.two c.left.reference (t.q, c, t.at, a, refl))
+  class_from r i x tracked is (opened a b line row class) (inl (same, so)) = ap (λ (k : Course). k.class) course_is ∙ class
+  class_from r i x tracked is (gone a b silent none) (inl (same, so)) = differ (is_tracked nxt) (ap is_tracked (sym so) ∙ tracked) b
+
+  same_class : ((m : ℕ) (x : Connect) → v ≡ confirm m x → ⊥) → (takes Right v w.tap).state.course.class ≡ w.tap.course.class
+  same_class none =
+      ap (λ (k : Course). k.class) course_is ∙ reached_same far (course_after Right c v (is_applied found_so) w.tap.course)
+      ∙ course_same c v (is_applied found_so) w.tap.course none
+
+  zero_after : Next → ((takes Right v w.tap).state.course.class ≡ None) ⊎ ((takes Right v w.tap).state.course.class ≡ Some Two)
+  zero_after (goes_on a b right none line) =
+      subst (λ (k : Option Class). (k ≡ None) ⊎ (k ≡ Some Two)) (sym (same_class none)) f.zero
+  zero_after (gone a b silent none) = subst (λ (k : Option Class). (k ≡ None) ⊎ (k ≡ Some Two)) (sym (same_class none)) f.zero
+  zero_after (opened a b line row class) = inr (ap (λ (k : Course). k.class) course_is ∙ class)
+
+  new_request : (u : Value) → ((x : Connect) → u ≡ request x → IsAsking local w.end w.coming x) →
+      ((x : Connect) → u ≡ request x → newer.last < x.source) → (x : Connect) → u ≡ request x → IsAsking local w.end more x
+  new_request u h k x e =
+      let a = h x e in
+      let below = newer.below t.q c t.at in
+      let up = k x e in
+      let is = name_is in
+      record {
+        left = a.left;
+        class0 = a.class0;
+        none = more_other x.source w.coming v (named_not t.n x.source v (λ same. absurd (omega arith)) t.dest) ∙ a.none;
+        row = a.row;
+      }
+
+  given_so : AreGiven w.end.given v
+  given_so m e =
+      let below = newer.below t.q c t.at in
+      let last = newer.given in
+      let is = name_is in
+      let both_named : Some m ≡ Some t.n = sym e ∙ t.dest in
+      let same : m ≡ t.n = cc in
+      omega arith
+
+  pub other_passes : Followed local after
+  other_passes = record {
+    lines = λ i x there tracked. line_at i x tracked next_so (item i x there);
+    waiting = λ i x there waiting. waits_at i x waiting (item i x there);
+    owned = all_so (λ u. IsOwned cs u) (λ u. IsOwned (takes Right v w.tap).state.connections u) w.put owned_to f.owned;
+    linked = λ lasts r peer link h. let (k, two) = f.linked lasts r peer link h in (tracked_to r k, two);
+    answers = all_add (λ u. IsAnswer (takes Right v w.tap).state.connections w.end u) w.coming v
+        (all_so (λ u. IsAnswer cs w.end u) (λ u. IsAnswer (takes Right v w.tap).state.connections w.end u) w.coming
+        (λ u h m x e lasts. let (k, row) = h m x e lasts in (tracked_to m k, row)) f.answers) (answers_to next_so);
+    requests = all_two (λ u. (x : Connect) → u ≡ request x → IsAsking local w.end w.coming x)
+        (λ u. (x : Connect) → u ≡ request x → newer.last < x.source) (λ u. (x : Connect) → u ≡ request x → IsAsking local w.end more x) w.put
+        new_request f.requests (rise_all newer.last w.put newer.rise);
+    two = λ r k.
+        let (i, x, there, tracked, is) = k in class_from r i x tracked is next_so (item i x there);
+    silent = λ i x there silent. silent_at i x silent (item i x there);
+    zero = zero_after next_so;
+    some = f.some;
+    few = all_add (AreGiven w.end.given) w.coming v f.few given_so;
+    seen = λ n b h. (lasts_passing (passing Right v) w.tap).seen (head_two local w f n h) (f.seen n b h);
+  }

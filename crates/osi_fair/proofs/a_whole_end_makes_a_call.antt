@@ -1,0 +1,481 @@
+-- The user of a whole calling end makes a call: what it does to an open connection is acts of its line, and a CR waits to pass.
+-- For the law on a whole end.
+use Rattle.std.proofs.Common.{◌≡◌, ◌∙◌, ℕ, ◌+◌, ◌≤◌, Bool, true, false, List, [], ◌∷◌, ◌++◌, length, refl, sym, ap, subst}
+use Rattle.std.proofs.Common.{Option, Some, None, inl, inr, arith, is_none, is_some, if◌then◌else◌}
+use Rattle.std.specs.Prelude.{◌&&◌, ◌||◌, ◌==◌, not, slice_get}
+use Rattle.std.specs.List.{AllByRecursion}
+use Rattle.std.proofs.lemmas.Bool.{eqb-true}
+use Rattle.std.proofs.lemmas.List.{append-nil}
+use Rattle.osi_tpdu.specs.Limits.{window_units}
+use Rattle.osi_tpdu.specs.Value.{Value, Connect, request, destination_of}
+use Rattle.osi_class.specs.Limits.{longest_tsdu}
+use Rattle.osi_class.specs.Link.{Standing, with_tsdu}
+use Rattle.osi_class.specs.declared.terms.Class.{Class}
+use Rattle.osi_class.specs.declared.terms.Class.TheVariants.{Two}
+use Rattle.osi_class.specs.declared.terms.Local.{Local}
+use Rattle.osi_carrier.specs.Calls.{asks as asks_for, closed_on, closed_with, closes as closes_in, ended_by, link_of, open_link}
+use Rattle.osi_carrier.specs.Calls.{sent, sent_all, sent_on}
+use Rattle.osi_carrier.specs.Negotiation.{alternatives, proposal, proposal_by, proposes_two, proposes_zero}
+use Rattle.osi_class.specs.Negotiation.{lists}
+use Rattle.osi_carrier.specs.Orderly.{IsOrderly}
+use Rattle.osi_carrier.specs.Pump.{pumped}
+use Rattle.osi_carrier.specs.Rows.{value_at}
+use Rattle.osi_carrier.specs.Runs.{UserCall, breaks, closes as closes_call, connects, sends, sends_all, user_does}
+use Rattle.osi_carrier.specs.State.{State, Connection as Live, asked, closing, linked, ends as ends_as}
+use Rattle.osi_carrier.specs.declared.ends.EndReason.{EndReason}
+use Rattle.osi_carrier.proofs.references.rows_after_a_change.{push_other, put_other}
+use Rattle.osi_carrier.proofs.references.what_a_change_leaves_there.{beyond, push_here, put_here}
+use Rattle.osi_rules.specs.declared.connections.Connection.{Connection}
+use Rattle.osi_rules.specs.declared.directions.Direction.TheVariants.{Left}
+use Rattle.osi_rules.specs.Traffic.{asked_by}
+use Rattle.osi_fair.specs.Following.{Follows, link_now}
+use Rattle.osi_fair.specs.Lines.{Line, opened_half}
+use Rattle.osi_fair.specs.Putting.{put_by, put_closing, put_sent, put_together}
+use Rattle.osi_fair.specs.Wholes.{MayCall, Whole}
+use Rattle.osi_fair.proofs.a_carrier_follows_lines.{follows_closed, follows_sent}
+use Rattle.osi_fair.proofs.a_request_of_a_whole_end_is_new.{Newer}
+use Rattle.osi_fair.proofs.a_unit_of_a_whole_end_passes.{differ, item_is, one_peer, unlike}
+use Rattle.osi_fair.proofs.a_whole_end_takes_a_unit.{Linked, ends, still}
+use Rattle.osi_fair.proofs.calls_of_a_line_join.{follows_together, still_open}
+use Rattle.osi_fair.proofs.each_connection_has_its_line.{AreGiven, Followed, Following, IsAnswer, IsAsking, IsOwned, Row, Tracked}
+use Rattle.osi_fair.proofs.each_connection_has_its_line.{all_so, asking, asks, closes, over, is_tracked, talks, tracks_hold, tracks_on}
+use Rattle.osi_fair.proofs.how_a_connection_opens.{asked_so}
+use Rattle.osi_fair.proofs.references_of_requests_rise.{all_gives, closed_gives, sent_gives}
+use Rattle.osi_fair.proofs.what_a_calling_end_still_has.{OffersTwo}
+use Rattle.osi_fair.proofs.what_a_whole_end_takes.{Owner, all_join, heads_more, heads_was, some_more, units_ask, units_owned}
+use Rattle.osi_fair.proofs.what_the_other_side_closes.{IsSane}
+use Rattle.osi_fair.proofs.which_units_are_for_a_connection.{AllNamed, heads, last_named, line_named, names, names_in, named_not, those}
+use Rattle.osi_fair.proofs.which_units_are_for_a_connection.{those_all}
+use Rattle.osi_fair.proofs.which_units_are_for_a_connection.{those_join, those_none, those_nothing}
+
+-- ---- a call on an open connection
+
+module _ (local : Local) (w : Whole) (f : Followed local w) (sane : IsSane w.tap) (firm : w.tap.course.loose ≡ false) (t : State)
+    (units : List Value) (n peer : ℕ) (link : Standing) (here : value_at n w.end.live ≡ Some (linked peer link))
+    (rows : (m : ℕ) → (m ≡ n → ⊥) → value_at m t.live ≡ value_at m w.end.live) (class : t.class ≡ w.end.class)
+    (given : t.given ≡ w.end.given) (was : w.end.ended ≡ None) (after_row : Linked n peer t)
+    (follows : (r q : ℕ) (l : Standing) → r ≡ n → value_at r w.end.live ≡ Some (linked q l) → Follows r q [] units w.end t) where
+  abbrev cs : List Connection
+  cs = w.tap.connections
+
+  abbrev after : Whole
+  after = record w { end = t; put = w.put ++ units }
+
+  not_asked : (m : ℕ) → value_at m w.end.live ≡ Some asked → m ≡ n → ⊥
+  not_asked m row same = cc (sym here ∙ ap (λ (i : ℕ). value_at i w.end.live) (sym same) ∙ row)
+
+  asked_still : (m : ℕ) → value_at m w.end.live ≡ Some asked → value_at m t.live ≡ Some asked
+  asked_still m row = rows m (not_asked m row) ∙ row
+
+  new_row : (r q : ℕ) (line : Line) → r ≡ n → q ≡ peer → line.link ≡ link_now (value_at r t.live) → those r w.coming ≡ line.coming →
+      Linked n peer t → Row local t w.coming r q line
+  new_row r q line same same_peer is coming (still l there) =
+      let row = ap (λ (i : ℕ). value_at i t.live) same ∙ there ∙ ap (λ (i : ℕ). Some (linked i l)) (sym same_peer) in
+      talks l row (is ∙ ap link_now row) coming
+  new_row r q line same same_peer is coming (ends o there i (inl h)) =
+      let row = ap (λ (j : ℕ). value_at j t.live) same ∙ there in closes o row i (inl h) (is ∙ ap link_now (row ∙ h)) coming
+  new_row r q line same same_peer is coming (ends o there i (inr h)) =
+      let row = ap (λ (j : ℕ). value_at j t.live) same ∙ there in closes o row i (inr h) (is ∙ ap link_now (row ∙ h)) coming
+
+  record Grown (c : Connection) : Type 0 where
+    grown : Following local (w.put ++ units) w.begun t w.coming c
+    named : AllNamed c.right.reference units
+
+  same_linked : (q r : ℕ) (l k : Standing) → Some (linked q l) ≡ Some (linked r k) → q ≡ r
+  same_linked q r l k e = cc
+
+  grows : (p : ℕ) (c : Connection) → slice_get cs p ≡ Some c → (g : Following local w.put w.begun w.end w.coming c) → g.r ≡ n →
+      (l : Standing) → value_at g.r w.end.live ≡ Some (linked g.peer l) → g.line.link ≡ Some l → those g.r w.coming ≡ g.line.coming → Grown c
+  grows p c at g same l r is come_all =
+      let acts = follows g.r g.peer l same r in
+      let same_peer = same_linked g.peer peer l link (sym r ∙ ap (λ (i : ℕ). value_at i w.end.live) same ∙ here) in
+      let line : Line = record g.line { link = link_now (value_at g.r t.live); put = g.line.put ++ units } in
+      let tracks = tracks_on g.r g.peer g.line line acts.acts g.tracks (acts.along Left g.line g.line.coming (is ∙ sym (ap link_now r)) refl) in
+      let judged = ap (λ (x : Connection). x.is_judged) g.tap ∙ sane.judged firm p c at in
+      let named = last_named g.peer g.line.put units (line_named g.peer line (tracks_hold g.r g.peer line tracks judged)) in
+      record {
+        grown = record {
+          r = g.r;
+          peer = g.peer;
+          line = line;
+          left = g.left;
+          right = g.right;
+          tracks = tracks;
+          tap = g.tap;
+          put_is = ap (λ (v : List Value). v ++ units) g.put_is
+              ∙ sym (those_join g.peer w.put units ∙ ap (λ (v : List Value). those g.peer w.put ++ v) (those_all g.peer units named));
+          begun_is = g.begun_is ∙ heads_more w.begun g.peer w.put units f.some;
+          row = new_row g.r g.peer line same same_peer refl come_all after_row;
+          calm = g.calm;
+        };
+        named = subst (λ (i : ℕ). AllNamed i units) (sym g.right) named;
+      }
+
+  grown_by : (p : ℕ) (c : Connection) → slice_get cs p ≡ Some c → (g : Following local w.put w.begun w.end w.coming c) → g.r ≡ n →
+      Row local w.end w.coming g.r g.peer g.line → Grown c
+  grown_by p c at g same (over h) = differ (is_some w.end.ended) h (ap is_some was)
+  grown_by p c at g same (talks l r is come_all) = grows p c at g same l r is come_all
+  grown_by p c at g same (asks r x source first is) =
+      absurd (cc (sym here ∙ ap (λ (i : ℕ). value_at i w.end.live) (sym same) ∙ r))
+  grown_by p c at g same (closes o r i (inl h) gone come_all) =
+      absurd (cc (sym here ∙ ap (λ (i : ℕ). value_at i w.end.live) (sym same) ∙ r ∙ h))
+  grown_by p c at g same (closes o r i (inr h) gone come_all) =
+      absurd (cc (sym here ∙ ap (λ (i : ℕ). value_at i w.end.live) (sym same) ∙ r ∙ h))
+
+  owner : Owner cs n units
+  owner =
+      let ((p, c, at, tracked, left), two) = f.linked was n peer link here in
+      let g = f.lines p c at tracked in
+      record { p = p; c = c; at = at; tracked = tracked; left = left; named = (grown_by p c at g (sym g.left ∙ left) g.row).named }
+
+  same_left : (p : ℕ) (c : Connection) → slice_get cs p ≡ Some c → (o : Owner cs n units) → p ≡ o.p → c.left.reference ≡ n
+  same_left p c at o same =
+      let is : c ≡ o.c = item_is o.c c (sym o.at ∙ ap (λ (i : ℕ). slice_get cs i) (sym same) ∙ at) in
+      ap (λ (x : Connection). x.left.reference) is ∙ o.left
+
+  put_other_peer : (p : ℕ) (c : Connection) → slice_get cs p ≡ Some c → is_tracked c ≡ true → (q : ℕ) → c.right.reference ≡ q →
+      (c.left.reference ≡ n → ⊥) → (o : Owner cs n units) → those q (w.put ++ units) ≡ those q w.put
+  put_other_peer p c at tracked q right other o =
+      those_join q w.put units ∙ ap (λ (l : List Value). those q w.put ++ l) (those_none o.c.right.reference q units
+      (λ same. other (same_left p c at o (one_peer w.tap sane firm p o.p c o.c at o.at tracked o.tracked (right ∙ sym same)))) o.named)
+      ∙ append-nil (those q w.put)
+
+  row_other : (r q : ℕ) (line : Line) → (r ≡ n → ⊥) → Row local w.end w.coming r q line → Row local t w.coming r q line
+  row_other r q line other (asks there x source first is) = asks (rows r other ∙ there) x source first is
+  row_other r q line other (over h) = differ (is_some w.end.ended) h (ap is_some was)
+  row_other r q line other (talks l there is come_all) = talks l (rows r other ∙ there) is come_all
+  row_other r q line other (closes o there i h is come_all) = closes o (rows r other ∙ there) i h is come_all
+
+  line_other : (p : ℕ) (c : Connection) → slice_get cs p ≡ Some c → is_tracked c ≡ true →
+      (g : Following local w.put w.begun w.end w.coming c) → (g.r ≡ n → ⊥) → Following local (w.put ++ units) w.begun t w.coming c
+  line_other p c at tracked g other = record {
+    r = g.r;
+    peer = g.peer;
+    line = g.line;
+    left = g.left;
+    right = g.right;
+    tracks = g.tracks;
+    tap = g.tap;
+    put_is = g.put_is ∙ sym (put_other_peer p c at tracked g.peer g.right (λ e. other (sym g.left ∙ e)) owner);
+    begun_is = g.begun_is ∙ heads_more w.begun g.peer w.put units f.some;
+    row = row_other g.r g.peer g.line other g.row;
+    calm = g.calm;
+  }
+
+  line_by : (p : ℕ) (c : Connection) → slice_get cs p ≡ Some c → is_tracked c ≡ true →
+      (g : Following local w.put w.begun w.end w.coming c) → (b : Bool) → (g.r == n) ≡ b →
+      Following local (w.put ++ units) w.begun t w.coming c
+  line_by p c at tracked g true e = (grown_by p c at g (eqb-true g.r n e) g.row).grown
+  line_by p c at tracked g false e = line_other p c at tracked g (unlike g.r n e)
+
+  linked_by : (m q : ℕ) (l : Standing) (b : Bool) → (m == n) ≡ b → value_at m t.live ≡ Some (linked q l) →
+      Tracked cs m × (t.class ≡ Some Two)
+  linked_by m q l true e h =
+      let (k, two) = f.linked was n peer link here in (subst (Tracked cs) (sym (eqb-true m n e)) k, class ∙ two)
+  linked_by m q l false e h =
+      let (k, two) = f.linked was m q l (sym (rows m (unlike m n e)) ∙ h) in (k, class ∙ two)
+
+  called_so : Followed local after
+  called_so = record {
+    lines = λ i c at tracked.
+        let g = f.lines i c at tracked in line_by i c at tracked g (g.r == n) refl;
+    waiting = λ i c at waits.
+        let k = f.waiting i c at waits in
+        record {
+          r = k.r;
+          left = k.left;
+          right = k.right;
+          seen = k.seen;
+          class0 = k.class0;
+          none = k.none;
+          row = λ lasts. asked_still k.r (k.row was);
+        };
+    owned = all_join (λ v. IsOwned cs v) w.put units f.owned (units_owned cs n units (inr owner));
+    linked = λ lasts m q l h. linked_by m q l (m == n) refl h;
+    answers = all_so (λ v. IsAnswer cs w.end v) (λ v. IsAnswer cs t v) w.coming
+        (λ v h m x e lasts. let (k, row) = h m x e was in (k, asked_still m row)) f.answers;
+    requests = all_join (λ v. (x : Connect) → v ≡ request x → IsAsking local t w.coming x) w.put units
+        (all_so (λ v. (x : Connect) → v ≡ request x → IsAsking local w.end w.coming x) (λ v. (x : Connect) → v ≡ request x →
+        IsAsking local t w.coming x) w.put
+        (λ v h x e. let k = h x e in record { left = k.left; class0 = k.class0; none = k.none; row = λ lasts. asked_still x.source (k.row was) })
+        f.requests)
+        (units_ask cs n units (λ x. IsAsking local t w.coming x) (inr owner));
+    two = f.two;
+    silent = f.silent;
+    zero = f.zero;
+    some = λ h. some_more w.put units (f.some h);
+    few = subst (λ (i : ℕ). AllByRecursion (AreGiven i) w.coming) (sym given) f.few;
+    seen = λ m b h. f.seen m b (heads_was w.begun (heads m w.put) (heads m (w.put ++ units)) b (heads_more w.begun m w.put units f.some) h);
+  }
+
+-- ---- a call for a connection
+
+offers_none : (b : Bool) (local : Local) (held : Option Class) (calling called : Option (List ℕ)) (r : ℕ) → b ≡ true →
+    proposes_zero local held ≡ false → (asked_by (proposal_by b local held calling called r)).offer.class0 ≡ false
+offers_none true local held calling called r h e =
+    ap (λ (z : Bool). (lists (alternatives z) 0 || lists (alternatives z) 1)) e
+offers_none false local held calling called r h e = cc
+
+zero_none : (a b c : Bool) → b ≡ false → c ≡ true → (a && (b || not c)) ≡ false
+zero_none true false true h k = refl
+zero_none false false true h k = refl
+zero_none a true c h k = cc
+zero_none a false false h k = cc
+
+source_so : (b : Bool) (local : Local) (held : Option Class) (calling called : Option (List ℕ)) (r : ℕ) →
+    (proposal_by b local held calling called r).source ≡ r
+source_so true local held calling called r = refl
+source_so false local held calling called r = refl
+
+same_request : (x y : Connect) → request x ≡ request y → y ≡ x
+same_request x y e = cc
+
+module _ (local : Local) (w : Whole) (f : Followed local w) (sane : IsSane w.tap) (newer : Newer w) (offers : OffersTwo w.end)
+    (orderly : IsOrderly w.end) (local_is : w.end.local ≡ local) (was : w.end.ended ≡ None) (calling called : Option (List ℕ)) where
+  abbrev s : State
+  s = w.end
+
+  abbrev r : ℕ
+  r = w.end.given + 1
+
+  abbrev x : Connect
+  x = proposal s.local s.class calling called r
+
+  abbrev t : State
+  t = asks_for calling called s
+
+  abbrev after_connects : Whole
+  after_connects = record w { end = t; put = w.put ++ request x ∷ [] }
+
+  source_is : x.source ≡ r
+  source_is = source_so (proposes_two s.local) s.local s.class calling called r
+
+  none_there : value_at r s.live ≡ None
+  none_there = beyond r s.given s.live orderly.up_to (omega arith)
+
+  rows_c : (m : ℕ) → (m ≡ r → ⊥) → value_at m t.live ≡ value_at m s.live
+  rows_c m other = push_other m r asked s.live other
+
+  here_c : value_at r t.live ≡ Some asked
+  here_c = push_here r asked s.live none_there
+
+  live_c : (m : ℕ) (o : Live) → value_at m s.live ≡ Some o → m ≡ r → ⊥
+  live_c m o h same = cc (sym none_there ∙ ap (λ (i : ℕ). value_at i s.live) (sym same) ∙ h)
+
+  asked_c : (m : ℕ) → value_at m s.live ≡ Some asked → value_at m t.live ≡ Some asked
+  asked_c m h = rows_c m (live_c m asked h) ∙ h
+
+  row_c : (m q : ℕ) (line : Line) → (m ≡ r → ⊥) → Row local s w.coming m q line → Row local t w.coming m q line
+  row_c m q line other (asks there y source first is) = asks (rows_c m other ∙ there) y source first is
+  row_c m q line other (over h) = differ (is_some s.ended) h (ap is_some was)
+  row_c m q line other (talks l there is come_all) = talks l (rows_c m other ∙ there) is come_all
+  row_c m q line other (closes o there i h is come_all) = closes o (rows_c m other ∙ there) i h is come_all
+
+  not_new : (p : ℕ) (c : Connection) → slice_get w.tap.connections p ≡ Some c → (m : ℕ) → c.left.reference ≡ m → m ≡ r → ⊥
+  not_new p c at m is same =
+      let below = newer.below p c at in
+      let last = newer.given in
+      omega arith
+
+  line_c : (p : ℕ) (c : Connection) → slice_get w.tap.connections p ≡ Some c → Following local w.put w.begun s w.coming c →
+      Following local (w.put ++ request x ∷ []) w.begun t w.coming c
+  line_c p c at g = record {
+    r = g.r;
+    peer = g.peer;
+    line = g.line;
+    left = g.left;
+    right = g.right;
+    tracks = g.tracks;
+    tap = g.tap;
+    put_is = g.put_is ∙ sym (those_join g.peer w.put (request x ∷ []) ∙ append-nil (those g.peer w.put));
+    begun_is = g.begun_is ∙ heads_more w.begun g.peer w.put (request x ∷ []) f.some;
+    row = row_c g.r g.peer g.line (not_new p c at g.r g.left) g.row;
+    calm = g.calm;
+  }
+
+  not_named : (v : Value) (o : Option ℕ) → destination_of v ≡ o → AreGiven s.given v → names r v ≡ false
+  not_named v None e h = ap (λ (a : Option ℕ). names_in r a) e
+  not_named v (Some m) e h = named_not m r v (λ same. let up = h m e in absurd (omega arith)) e
+
+  none_come : those r w.coming ≡ []
+  none_come = those_nothing r w.coming (all_so (AreGiven s.given) (λ v. names r v ≡ false) w.coming
+      (λ v h. not_named v (destination_of v) refl h) f.few)
+
+  linked_c : (m q : ℕ) (l : Standing) (b : Bool) → (m == r) ≡ b → value_at m t.live ≡ Some (linked q l) →
+      Tracked w.tap.connections m × (s.class ≡ Some Two)
+  linked_c m q l true e h = absurd (cc (sym here_c ∙ ap (λ (i : ℕ). value_at i t.live) (sym (eqb-true m r e)) ∙ h))
+  linked_c m q l false e h = f.linked was m q l (sym (rows_c m (unlike m r e)) ∙ h)
+
+  new_asking : (y : Connect) → request x ≡ request y → IsAsking local t w.coming y
+  new_asking y e =
+      let two : proposes_two s.local ≡ true = offers.two in
+      let zero : proposes_zero s.local s.class ≡ false = zero_none (is_none s.class) s.local.class0 s.local.class2 offers.zero offers.two in
+      let first : (asked_by x).left ≡ opened_half x.source (window_units local.window) =
+      asked_so s.local s.class calling called r offers.two
+      ∙ ap (λ (i : ℕ). opened_half i (window_units s.local.window)) (sym source_is)
+      ∙ ap (λ (l : Local). opened_half x.source (window_units l.window)) local_is in
+      subst (λ (z : Connect). IsAsking local t w.coming z) (sym (same_request x y e)) (record {
+        left = first;
+        class0 = offers_none (proposes_two s.local) s.local s.class calling called r two zero;
+        none = ap (λ (i : ℕ). those i w.coming) source_is ∙ none_come;
+        row = λ lasts. ap (λ (i : ℕ). value_at i t.live) source_is ∙ here_c;
+      })
+
+  pub connects_so : Followed local after_connects
+  connects_so = record {
+    lines = λ i c at tracked. line_c i c at (f.lines i c at tracked);
+    waiting = λ i c at waits.
+        let k = f.waiting i c at waits in
+        record { r = k.r; left = k.left; right = k.right; seen = k.seen; class0 = k.class0; none = k.none; row = λ lasts. asked_c k.r (k.row was) };
+    owned = all_join (λ v. IsOwned w.tap.connections v) w.put (request x ∷ []) f.owned (asking x refl, tt);
+    linked = λ lasts m q l h. linked_c m q l (m == r) refl h;
+    answers = all_so (λ v. IsAnswer w.tap.connections s v) (λ v. IsAnswer w.tap.connections t v) w.coming
+        (λ v h m y e lasts. let (k, row) = h m y e was in (k, asked_c m row)) f.answers;
+    requests = all_join (λ v. (y : Connect) → v ≡ request y → IsAsking local t w.coming y) w.put (request x ∷ [])
+        (all_so (λ v. (y : Connect) → v ≡ request y → IsAsking local s w.coming y) (λ v. (y : Connect) → v ≡ request y →
+        IsAsking local t w.coming y) w.put
+        (λ v h y e. let k = h y e in record { left = k.left; class0 = k.class0; none = k.none; row = λ lasts. asked_c y.source (k.row was) })
+        f.requests)
+        (new_asking, tt);
+    two = f.two;
+    silent = f.silent;
+    zero = f.zero;
+    some = λ h. some_more w.put (request x ∷ []) (f.some h);
+    few = all_so (AreGiven s.given) (AreGiven t.given) w.coming (λ v h m e. let up = h m e in omega arith) f.few;
+    seen = λ m b h. f.seen m b (heads_was w.begun (heads m w.put) (heads m (w.put ++ request x ∷ [])) b
+        (heads_more w.begun m w.put (request x ∷ []) f.some) h);
+  }
+
+-- ---- any call
+
+abbrev after_calling : Whole → UserCall → Whole
+after_calling w call = record w { end = user_does call w.end; put = w.put ++ put_by call w.end }
+
+-- it has no effect
+pub nothing_so : (local : Local) (w : Whole) (t : State) (units : List Value) → t ≡ w.end → units ≡ [] → Followed local w →
+    Followed local (record w { end = t; put = w.put ++ units })
+nothing_so local w t units same none f =
+    subst (λ (l : List Value). Followed local (record w { end = t; put = l }))
+    (sym (ap (λ (l : List Value). w.put ++ l) none ∙ append-nil w.put))
+    (subst (λ (e : State). Followed local (record w { end = e })) (sym same) f)
+
+open_of : (r peer : ℕ) (link : Standing) (s : State) → s.ended ≡ None → value_at r s.live ≡ Some (linked peer link) →
+    open_link r s ≡ Some (peer, link)
+open_of r peer link s lasts h =
+    ap (λ (o : Option EndReason). if◌then◌else◌ {A = Option (ℕ × Standing)} (is_some o) None (link_of (value_at r s.live))) lasts
+    ∙ ap link_of h
+
+same_pair : (a b : ℕ × Standing) → Some a ≡ Some b → a ≡ b
+same_pair a b e = cc
+
+row_of : (o : Option Live) (peer : ℕ) (link : Standing) → link_of o ≡ Some (peer, link) → o ≡ Some (linked peer link)
+row_of None peer link e = cc
+row_of (Some asked) peer link e = cc
+row_of (Some (linked q l)) peer link e = ap (λ (p : ℕ × Standing). Some (linked p.0 p.1)) (same_pair (q, l) (peer, link) e)
+row_of (Some (closing q)) peer link e = cc
+
+linked_of : (b : Bool) (o : Option Live) (peer : ℕ) (link : Standing) → (if b then None else link_of o) ≡ Some (peer, link) →
+    o ≡ Some (linked peer link)
+linked_of true o peer link e = cc
+linked_of false o peer link e = row_of o peer link e
+
+rows_sent : (m r : ℕ) (tsdu : List ℕ) (o : Option (ℕ × Standing)) (s : State) → (m ≡ r → ⊥) →
+    value_at m (sent_on r tsdu o s).live ≡ value_at m s.live
+rows_sent m r tsdu None s other = refl
+rows_sent m r tsdu (Some (peer, link)) s other = put_other m r (linked peer (pumped (with_tsdu link tsdu))) s.live other
+
+rows_all : (m r : ℕ) (tsdus : List (List ℕ)) (s : State) → (m ≡ r → ⊥) → value_at m (sent_all r tsdus s).live ≡ value_at m s.live
+rows_all m r [] s other = refl
+rows_all m r (tsdu ∷ tsdus) s other = rows_all m r tsdus (sent r tsdu s) other ∙ rows_sent m r tsdu (open_link r s) s other
+
+class_sent : (r : ℕ) (tsdu : List ℕ) (o : Option (ℕ × Standing)) (s : State) → (sent_on r tsdu o s).class ≡ s.class
+class_sent r tsdu None s = refl
+class_sent r tsdu (Some (peer, link)) s = refl
+
+class_all : (r : ℕ) (tsdus : List (List ℕ)) (s : State) → (sent_all r tsdus s).class ≡ s.class
+class_all r [] s = refl
+class_all r (tsdu ∷ tsdus) s = class_all r tsdus (sent r tsdu s) ∙ class_sent r tsdu (open_link r s) s
+
+-- the link after TSDUs that were sent together
+all_open : (r peer : ℕ) (tsdus : List (List ℕ)) (s : State) (link : Standing) → open_link r s ≡ Some (peer, link) →
+    (l : Standing) × (open_link r (sent_all r tsdus s) ≡ Some (peer, l))
+all_open r peer [] s link e = (link, e)
+all_open r peer (tsdu ∷ tsdus) s link e =
+    all_open r peer tsdus (sent r tsdu s) (pumped (with_tsdu link tsdu)) (still_open r peer tsdu s link e)
+
+all_none : (r : ℕ) (tsdus : List (List ℕ)) (s : State) → open_link r s ≡ None →
+    (sent_all r tsdus s ≡ s) × (put_together r tsdus s ≡ [])
+all_none r [] s h = (refl, refl)
+all_none r (tsdu ∷ tsdus) s h =
+    let same : sent r tsdu s ≡ s = ap (λ (o : Option (ℕ × Standing)). sent_on r tsdu o s) h in
+    let (a, b) = all_none r tsdus s h in (
+      ap (λ (t : State). sent_all r tsdus t) same ∙ a,
+      ap (λ (o : Option (ℕ × Standing)). put_sent tsdu o ++ put_together r tsdus (sent r tsdu s)) h
+          ∙ ap (λ (t : State). put_together r tsdus t) same ∙ b,
+    )
+
+broken : {A : Type 0} (reason : EndReason) (s : State) → s.ended ≡ None → (ended_by reason s).ended ≡ None → A
+broken reason s was h =
+    absurd (cc (sym (ap (λ (b : Bool). (if b then s else ends_as reason s).ended) (ap is_some was)) ∙ h))
+
+module _ (local : Local) (w : Whole) (f : Followed local w) (sane : IsSane w.tap) (firm : w.tap.course.loose ≡ false) (newer : Newer w)
+    (offers : OffersTwo w.end) (orderly : IsOrderly w.end) (local_is : w.end.local ≡ local) (was : w.end.ended ≡ None) where
+  sends_by : (r : ℕ) (tsdu : List ℕ) (o : Option (ℕ × Standing)) → open_link r w.end ≡ o → length tsdu ≤ longest_tsdu →
+      Followed local (after_calling w (sends r tsdu))
+  sends_by r tsdu None e short =
+      nothing_so local w (sent r tsdu w.end) (put_sent tsdu (open_link r w.end))
+      (ap (λ (o : Option (ℕ × Standing)). sent_on r tsdu o w.end) e) (ap (λ (o : Option (ℕ × Standing)). put_sent tsdu o) e) f
+  sends_by r tsdu (Some (peer, link)) e short =
+      let here = linked_of (is_some w.end.ended) (value_at r w.end.live) peer link e in
+      let after = still_open r peer tsdu w.end link e in
+      called_so local w f sane firm (sent r tsdu w.end) (put_sent tsdu (open_link r w.end)) r peer link here
+      (λ m other. rows_sent m r tsdu (open_link r w.end) w.end other) (class_sent r tsdu (open_link r w.end) w.end)
+      (sent_gives r tsdu (open_link r w.end) w.end) was
+      (still (pumped (with_tsdu link tsdu)) (linked_of (is_some (sent r tsdu w.end).ended) (value_at r (sent r tsdu w.end).live) peer
+      (pumped (with_tsdu link tsdu)) after))
+      (λ i q l same row. subst (λ (j : ℕ). Follows i q [] (put_sent tsdu (open_link j w.end)) w.end (sent j tsdu w.end)) same
+      (follows_sent i q tsdu w.end l (open_of i q l w.end was row) short))
+
+  together_by : (r : ℕ) (tsdus : List (List ℕ)) (o : Option (ℕ × Standing)) → open_link r w.end ≡ o →
+      AllByRecursion (λ (tsdu : List ℕ). length tsdu ≤ longest_tsdu) tsdus → Followed local (after_calling w (sends_all r tsdus))
+  together_by r tsdus None e short =
+      let (a, b) = all_none r tsdus w.end e in
+      nothing_so local w (sent_all r tsdus w.end) (put_together r tsdus w.end) a b f
+  together_by r tsdus (Some (peer, link)) e short =
+      let here = linked_of (is_some w.end.ended) (value_at r w.end.live) peer link e in
+      let (l, after) = all_open r peer tsdus w.end link e in
+      called_so local w f sane firm (sent_all r tsdus w.end) (put_together r tsdus w.end) r peer link here
+      (λ m other. rows_all m r tsdus w.end other) (class_all r tsdus w.end) (all_gives r tsdus w.end) was
+      (still l (linked_of (is_some (sent_all r tsdus w.end).ended) (value_at r (sent_all r tsdus w.end).live) peer l after))
+      (λ i q l same row. subst (λ (j : ℕ). Follows i q [] (put_together j tsdus w.end) w.end (sent_all j tsdus w.end)) same
+      (follows_together i q tsdus w.end l (open_of i q l w.end was row) short))
+
+  closed_two : (r reason peer : ℕ) (link : Standing) → open_link r w.end ≡ Some (peer, link) → w.end.class ≡ Some Two →
+      closed_with r reason w.end ≡ closes_in r peer reason (Some Two) w.end
+  closed_two r reason peer link e two =
+      ap (λ (o : Option (ℕ × Standing)). closed_on r reason o w.end) e ∙ ap (λ (k : Option Class). closes_in r peer reason k w.end) two
+
+  closes_by : (r reason : ℕ) (o : Option (ℕ × Standing)) → open_link r w.end ≡ o → Followed local (after_calling w (closes_call r reason))
+  closes_by r reason None e =
+      nothing_so local w (closed_with r reason w.end) (put_closing r reason (open_link r w.end) w.end.class)
+      (ap (λ (o : Option (ℕ × Standing)). closed_on r reason o w.end) e)
+      (ap (λ (o : Option (ℕ × Standing)). put_closing r reason o w.end.class) e) f
+  closes_by r reason (Some (peer, link)) e =
+      let here = linked_of (is_some w.end.ended) (value_at r w.end.live) peer link e in
+      let two = (f.linked was r peer link here).1 in
+      let is = closed_two r reason peer link e two in
+      called_so local w f sane firm (closed_with r reason w.end) (put_closing r reason (open_link r w.end) w.end.class) r peer link here
+      (λ m other. ap (λ (t : State). value_at m t.live) is ∙ put_other m r (closing peer) w.end.live other)
+      (ap (λ (t : State). t.class) is) (closed_gives r reason (open_link r w.end) w.end) was
+      (ends (Some (closing peer)) (ap (λ (t : State). value_at r t.live) is ∙ put_here r (closing peer) (linked peer link) w.end.live here)
+      peer (inl refl))
+      (λ i q l same row. subst (λ (j : ℕ). Follows i q [] (put_closing j reason (open_link j w.end) w.end.class) w.end
+      (closed_with j reason w.end)) same
+      (follows_closed i q reason w.end l (open_of i q l w.end was row) two))
+
+  pub end_calls : (call : UserCall) → MayCall call w.end → (user_does call w.end).ended ≡ None → Followed local (after_calling w call)
+  end_calls (connects calling called) may lasts = connects_so local w f sane newer offers orderly local_is was calling called
+  end_calls (sends r tsdu) may lasts = sends_by r tsdu (open_link r w.end) refl may
+  end_calls (sends_all r tsdus) may lasts = together_by r tsdus (open_link r w.end) refl may
+  end_calls (closes_call r reason) may lasts = closes_by r reason (open_link r w.end) refl
+  end_calls (breaks reason) may lasts = broken reason w.end was lasts

@@ -1,0 +1,333 @@
+-- Each connection of a calling end that is open at the tap has its line: what that says, and that it stays so as packets begin.
+-- For the law on a whole end.
+use Rattle.std.proofs.Common.{◌≡◌, ◌≢◌, ◌∙◌, ◌≤◌, ℕ, Bool, true, false, List, [], ◌∷◌, ◌++◌, map, refl, sym, ap, subst}
+use Rattle.std.proofs.Common.{Option, Some, None, ◌⊎◌, is_some}
+use Rattle.std.specs.Prelude.{◌&&◌, ◌||◌, option_map, slice_get}
+use Rattle.std.specs.List.{AllByRecursion}
+use Rattle.std.proofs.lemmas.Option.{slice_get-map}
+use Rattle.osi_tpdu.specs.Limits.{window_units}
+use Rattle.osi_tpdu.specs.Value.{Value, Connect, request, confirm, destination_of}
+use Rattle.osi_class.specs.Link.{Standing}
+use Rattle.osi_class.specs.declared.terms.Class.{Class}
+use Rattle.osi_class.specs.declared.terms.Class.TheVariants.{Two}
+use Rattle.osi_class.specs.declared.terms.Local.{Local}
+use Rattle.osi_carrier.specs.Negotiation.{agreed_size, opened_link}
+use Rattle.osi_carrier.specs.Rows.{value_at}
+use Rattle.osi_carrier.specs.State.{State, Connection as Live, asked, closing, linked}
+use Rattle.osi_carrier.specs.declared.ends.EndReason.{EndReason}
+use Rattle.osi_rules.specs.declared.connections.Connection.{Connection}
+use Rattle.osi_rules.specs.declared.directions.Direction.{Direction}
+use Rattle.osi_rules.specs.declared.directions.Direction.TheVariants.{Left, Right}
+use Rattle.osi_rules.specs.declared.halves.Half.{Half}
+use Rattle.osi_rules.specs.Sides.{begins, is_closing, is_open, is_silent}
+use Rattle.osi_rules.specs.Traffic.{State as Traffic, asked_by, packet_begins, silent_half}
+use Rattle.osi_fair.specs.Lines.{Act, ActsAlong, IsOpened, Line, begins_elsewhere, begins_other, begins_own, opened_half}
+use Rattle.osi_fair.specs.Wholes.{Whole}
+use Rattle.osi_fair.proofs.an_end_closes_last.{left_holds}
+use Rattle.osi_fair.proofs.what_holds_of_a_line.{Holds}
+use Rattle.osi_fair.proofs.what_holds_of_one_item.{HoldsOfEach, after_map}
+use Rattle.osi_fair.proofs.what_is_put_before_the_cc_passes.{acts_join}
+use Rattle.osi_fair.proofs.which_units_are_for_a_connection.{heads, names, some_there, those}
+
+-- ---- a line since its connection was opened
+
+pub record Tracks (r peer : ℕ) (line : Line) : Type 0 where
+  pub first : Line
+  pub acts : List Act
+  pub opened : IsOpened Left r peer first
+  pub along : ActsAlong Left r peer first acts line
+
+pub tracks_on : (r peer : ℕ) (line after : Line) (more : List Act) → Tracks r peer line → ActsAlong Left r peer line more after →
+    Tracks r peer after
+tracks_on r peer line after more t h = record {
+  first = t.first;
+  acts = t.acts ++ more;
+  opened = t.opened;
+  along = acts_join Left r peer t.acts more t.first line after t.along h;
+}
+
+pub tracks_hold : (r peer : ℕ) (line : Line) → Tracks r peer line → line.tap.is_judged ≡ true → Holds peer line
+tracks_hold r peer line t judged = left_holds r peer t.first line t.acts t.opened t.along judged
+
+-- ---- the connections at the tap
+
+-- left has not closed it, and right has answered the CR by a CC
+abbrev pub is_tracked : Connection → Bool
+is_tracked c = is_open c.left.phase && (is_open c.right.phase || is_closing c.right.phase)
+
+-- left has sent its CR, and right has not answered it
+abbrev pub is_waiting : Connection → Bool
+is_waiting c = is_open c.left.phase && is_silent c.right.phase
+
+abbrev pub Tracked : List Connection → ℕ → Type 0
+Tracked cs r = (p : ℕ) × (c : Connection) × (slice_get cs p ≡ Some c) × (is_tracked c ≡ true) × (c.left.reference ≡ r)
+
+-- what the end has of the connection, and what has come for it
+pub data Row (local : Local) (end : State) (coming : List Value) (r peer : ℕ) (line : Line) : Type 0 where
+  -- it has not taken the CC
+  asks : value_at r end.live ≡ Some asked → (x : Connect) → x.source ≡ peer → those r coming ≡ confirm r x ∷ line.coming →
+      line.link ≡ Some (opened_link Two (agreed_size x.parameters.size local) local x.credit) → Row local end coming r peer line
+  talks : (link : Standing) → value_at r end.live ≡ Some (linked peer link) → line.link ≡ Some link → those r coming ≡ line.coming →
+      Row local end coming r peer line
+  -- it has closed it
+  closes : (o : Option Live) → value_at r end.live ≡ o → (q : ℕ) → (o ≡ Some (closing q)) ⊎ (o ≡ None) → line.link ≡ None →
+      those r coming ≡ line.coming → Row local end coming r peer line
+  -- it has ended
+  over : is_some end.ended ≡ true → Row local end coming r peer line
+
+-- no CC
+abbrev pub IsNoCc : Value → Type 0
+IsNoCc v = (m : ℕ) (x : Connect) → v ≡ confirm m x → ⊥
+
+-- the line of a connection that is open
+pub record Following (local : Local) (put : List Value) (begun : Bool) (end : State) (coming : List Value) (c : Connection) : Type 0 where
+  pub r : ℕ
+  pub peer : ℕ
+  pub line : Line
+  pub left : c.left.reference ≡ r
+  pub right : c.right.reference ≡ peer
+  pub tracks : Tracks r peer line
+  pub tap : line.tap ≡ c
+  pub put_is : line.put ≡ those peer put
+  pub begun_is : line.begun ≡ (begun && heads peer put)
+  pub row : Row local end coming r peer line
+  pub calm : AllByRecursion IsNoCc line.coming
+
+-- a connection whose CR waits for its answer
+pub record Waiting (local : Local) (end : State) (coming : List Value) (c : Connection) : Type 0 where
+  pub r : ℕ
+  pub left : c.left ≡ opened_half r (window_units local.window)
+  pub right : c.right ≡ silent_half
+  pub seen : c.seen_by_right.next ≡ 0
+  pub class0 : c.offer.class0 ≡ false
+  pub none : those r coming ≡ []
+  pub row : end.ended ≡ None → value_at r end.live ≡ Some asked
+
+-- a CR that is to pass
+pub record IsAsking (local : Local) (end : State) (coming : List Value) (x : Connect) : Type 0 where
+  pub left : (asked_by x).left ≡ opened_half x.source (window_units local.window)
+  pub class0 : (asked_by x).offer.class0 ≡ false
+  pub none : those x.source coming ≡ []
+  pub row : end.ended ≡ None → value_at x.source end.live ≡ Some asked
+
+-- a unit that is to pass is a CR, or is of an open connection
+pub data IsOwned (cs : List Connection) (v : Value) : Type 0 where
+  asking : (x : Connect) → v ≡ request x → IsOwned cs v
+  of : (n p : ℕ) (c : Connection) → destination_of v ≡ Some n → slice_get cs p ≡ Some c → is_tracked c ≡ true →
+      c.right.reference ≡ n → IsOwned cs v
+
+-- a CC that has come is for an open connection whose CR the end has put
+abbrev pub IsAnswer : List Connection → State → Value → Type 0
+IsAnswer cs end v = (n : ℕ) (x : Connect) → v ≡ confirm n x → end.ended ≡ None → Tracked cs n × (value_at n end.live ≡ Some asked)
+
+abbrev pub AreGiven : ℕ → Value → Type 0
+AreGiven n v = (m : ℕ) → destination_of v ≡ Some m → m ≤ n
+
+pub record Followed (local : Local) (w : Whole) : Type 0 where
+  pub lines : HoldsOfEach (λ (c : Connection). is_tracked c ≡ true → Following local w.put w.begun w.end w.coming c) w.tap.connections
+  pub waiting : HoldsOfEach (λ (c : Connection). is_waiting c ≡ true → Waiting local w.end w.coming c) w.tap.connections
+  pub owned : AllByRecursion (λ (v : Value). IsOwned w.tap.connections v) w.put
+  pub linked : w.end.ended ≡ None → (r peer : ℕ) (link : Standing) → value_at r w.end.live ≡ Some (linked peer link) →
+      Tracked w.tap.connections r × (w.end.class ≡ Some Two)
+  pub answers : AllByRecursion (λ (v : Value). IsAnswer w.tap.connections w.end v) w.coming
+  pub requests : AllByRecursion (λ (v : Value). (x : Connect) → v ≡ request x → IsAsking local w.end w.coming x) w.put
+  pub two : (r : ℕ) → Tracked w.tap.connections r → w.tap.course.class ≡ Some Two
+  -- left closes nothing before right has answered; class 0 is not selected
+  pub silent : HoldsOfEach (λ (c : Connection). is_silent c.right.phase ≡ true → is_open c.left.phase ≡ true) w.tap.connections
+  pub zero : (w.tap.course.class ≡ None) ⊎ (w.tap.course.class ≡ Some Two)
+  pub some : w.begun ≡ true → w.put ≢ []
+  -- what has come is for references that were given
+  pub few : AllByRecursion (AreGiven w.end.given) w.coming
+  -- left knows the class as a unit of a connection passes
+  pub seen : (n : ℕ) → w.begun ≡ true → heads n w.put ≡ true → w.tap.course.class_seen ≡ Some Two
+
+-- ---- a packet begins
+
+pub no_end : (o : Option EndReason) → is_some o ≡ false → o ≡ None
+no_end None e = refl
+no_end (Some x) e = absurd (cc e)
+
+begun_row : (local : Local) (end : State) (coming : List Value) (r peer : ℕ) (line : Line) (b : Bool) (c : Connection) →
+    Row local end coming r peer line → Row local end coming r peer (record line { begun = b; tap = c })
+begun_row local end coming r peer line b c (asks there x source first link) = asks there x source first link
+begun_row local end coming r peer line b c (talks link there is same) = talks link there is same
+begun_row local end coming r peer line b c (closes o there q e is same) = closes o there q e is same
+begun_row local end coming r peer line b c (over h) = over h
+
+left_begins : (local : Local) (put : List Value) (end : State) (coming : List Value) (c : Connection) (b : Bool) →
+    (f : Following local put false end coming c) → heads f.peer put ≡ b →
+    Following local put true end coming (begins Left c)
+left_begins local put end coming c true f e =
+    let after = record f.line { begun = true; tap = begins Left f.line.tap } in
+    record {
+      r = f.r;
+      peer = f.peer;
+      line = after;
+      left = f.left;
+      right = f.right;
+      tracks = tracks_on f.r f.peer f.line after (begins_own ∷ []) f.tracks
+          (after, (λ h. some_there f.peer put e (sym f.put_is ∙ h), f.begun_is, refl), refl);
+      tap = ap (begins Left) f.tap;
+      put_is = f.put_is;
+      begun_is = sym e;
+      row = begun_row local end coming f.r f.peer f.line true (begins Left f.line.tap) f.row;
+      calm = f.calm;
+    }
+left_begins local put end coming c false f e =
+    let after = record f.line { tap = begins Left f.line.tap } in
+    record {
+      r = f.r;
+      peer = f.peer;
+      line = after;
+      left = f.left;
+      right = f.right;
+      tracks = tracks_on f.r f.peer f.line after (begins_elsewhere ∷ []) f.tracks (after, (f.begun_is, refl), refl);
+      tap = ap (begins Left) f.tap;
+      put_is = f.put_is;
+      begun_is = f.begun_is ∙ sym e;
+      row = begun_row local end coming f.r f.peer f.line f.line.begun (begins Left f.line.tap) f.row;
+      calm = f.calm;
+    }
+
+right_begins : (local : Local) (put : List Value) (b : Bool) (end : State) (coming : List Value) (c : Connection) →
+    Following local put b end coming c → Following local put b end coming (begins Right c)
+right_begins local put b end coming c f =
+    let after = record f.line { tap = begins Right f.line.tap } in
+    record {
+      r = f.r;
+      peer = f.peer;
+      line = after;
+      left = f.left;
+      right = f.right;
+      tracks = tracks_on f.r f.peer f.line after (begins_other ∷ []) f.tracks (after, refl, refl);
+      tap = ap (begins Right) f.tap;
+      put_is = f.put_is;
+      begun_is = f.begun_is;
+      row = begun_row local end coming f.r f.peer f.line f.line.begun (begins Right f.line.tap) f.row;
+      calm = f.calm;
+    }
+
+tracked_begins : (d : Direction) (c : Connection) → is_tracked (begins d c) ≡ is_tracked c
+tracked_begins Left c = refl
+tracked_begins Right c = refl
+
+waiting_begins : (d : Direction) (c : Connection) → is_waiting (begins d c) ≡ is_waiting c
+waiting_begins Left c = refl
+waiting_begins Right c = refl
+
+begun_left : (d : Direction) (c : Connection) → (begins d c).left ≡ c.left
+begun_left Left c = refl
+begun_left Right c = refl
+
+begun_right : (d : Direction) (c : Connection) → (begins d c).right ≡ c.right
+begun_right Left c = refl
+begun_right Right c = refl
+
+begun_offer : (d : Direction) (c : Connection) → (begins d c).offer.class0 ≡ c.offer.class0
+begun_offer Left c = refl
+begun_offer Right c = refl
+
+begun_seen : (d : Direction) (c : Connection) (r window : ℕ) → c.left ≡ opened_half r window → c.seen_by_right.next ≡ 0 →
+    (begins d c).seen_by_right.next ≡ 0
+begun_seen Left c r window e h = h
+begun_seen Right c r window e h = ap (λ (x : Half). x.next) e
+
+waits_begun : (local : Local) (d : Direction) (end : State) (coming : List Value) (c : Connection) → Waiting local end coming c →
+    Waiting local end coming (begins d c)
+waits_begun local d end coming c w = record {
+  r = w.r;
+  left = begun_left d c ∙ w.left;
+  right = begun_right d c ∙ w.right;
+  seen = begun_seen d c w.r (window_units local.window) w.left w.seen;
+  class0 = begun_offer d c ∙ w.class0;
+  none = w.none;
+  row = w.row;
+}
+
+tracked_at : (d : Direction) (cs : List Connection) (r : ℕ) → Tracked cs r → Tracked (map (begins d) cs) r
+tracked_at d cs r (p, c, at, tracked, is) = (
+  p,
+  begins d c,
+  slice_get-map (begins d) cs p ∙ ap (λ (o : Option Connection). option_map (begins d) o) at,
+  tracked_begins d c ∙ tracked,
+  ap (λ (x : Half). x.reference) (begun_left d c) ∙ is,
+)
+
+tracked_was : (d : Direction) (cs : List Connection) (r : ℕ) → Tracked (map (begins d) cs) r → Tracked cs r
+tracked_was d cs r (p, c, at, tracked, is) =
+    let (x, was, so) = after_map (begins d) cs p c at in (
+      p,
+      x,
+      was,
+      sym (tracked_begins d x) ∙ ap is_tracked (sym so) ∙ tracked,
+      sym (ap (λ (h : Half). h.reference) (begun_left d x)) ∙ ap (λ (e : Connection). e.left.reference) (sym so) ∙ is,
+    )
+
+owned_at : (d : Direction) (cs : List Connection) (v : Value) → IsOwned cs v → IsOwned (map (begins d) cs) v
+owned_at d cs v (asking x e) = asking x e
+owned_at d cs v (of n p c e at tracked is) = of n p (begins d c) e
+    (slice_get-map (begins d) cs p ∙ ap (λ (o : Option Connection). option_map (begins d) o) at) (tracked_begins d c ∙ tracked)
+    (ap (λ (x : Half). x.reference) (begun_right d c) ∙ is)
+
+pub all_so : (P Q : Value → Type 0) (vs : List Value) → ((v : Value) → P v → Q v) → AllByRecursion P vs → AllByRecursion Q vs
+all_so P Q [] h a = tt
+all_so P Q (v ∷ vs) h (one, more) = (h v one, all_so P Q vs h more)
+
+course_class : (d : Direction) (s : Traffic) → (packet_begins d s).course.class ≡ s.course.class
+course_class Left s = refl
+course_class Right s = refl
+
+pub followed_begins : (local : Local) (d : Direction) (w : Whole) (b : Bool) → (b ≡ true → w.put ≢ []) →
+    ((n : ℕ) → b ≡ true → heads n w.put ≡ true → (packet_begins d w.tap).course.class_seen ≡ Some Two) → Followed local w →
+    ((c : Connection) → Following local w.put w.begun w.end w.coming c → Following local w.put b w.end w.coming (begins d c)) →
+    Followed local (record w { begun = b; tap = packet_begins d w.tap })
+followed_begins local d w b some seen f k = record {
+  lines = λ i c at tracked.
+      let (x, was, is) = after_map (begins d) w.tap.connections i c at in
+      subst (λ (e : Connection). Following local w.put b w.end w.coming e) (sym is)
+      (k x (f.lines i x was (sym (tracked_begins d x) ∙ ap is_tracked (sym is) ∙ tracked)));
+  waiting = λ i c at waits.
+      let (x, was, is) = after_map (begins d) w.tap.connections i c at in
+      subst (λ (e : Connection). Waiting local w.end w.coming e) (sym is)
+      (waits_begun local d w.end w.coming x (f.waiting i x was (sym (waiting_begins d x) ∙ ap is_waiting (sym is) ∙ waits)));
+  owned = all_so (λ v. IsOwned w.tap.connections v) (λ v. IsOwned (map (begins d) w.tap.connections) v) w.put
+      (λ v. owned_at d w.tap.connections v) f.owned;
+  linked = λ lasts r peer link e. let (t, two) = f.linked lasts r peer link e in (tracked_at d w.tap.connections r t, two);
+  answers = all_so (λ v. IsAnswer w.tap.connections w.end v) (λ v. IsAnswer (map (begins d) w.tap.connections) w.end v) w.coming
+      (λ v h n x e lasts. let (t, row) = h n x e lasts in (tracked_at d w.tap.connections n t, row)) f.answers;
+  requests = f.requests;
+  two = λ r t. course_class d w.tap ∙ f.two r (tracked_was d w.tap.connections r t);
+  silent = λ i c at none.
+      let (x, was, is) = after_map (begins d) w.tap.connections i c at in
+      let before = ap (λ (h : Half). is_silent h.phase) (sym (begun_right d x)) ∙ ap (λ (e : Connection). is_silent e.right.phase) (sym is)
+      ∙ none in
+      ap (λ (e : Connection). is_open e.left.phase) is ∙ ap (λ (h : Half). is_open h.phase) (begun_left d x) ∙ f.silent i x was before;
+  zero = subst (λ (k : Option Class). (k ≡ None) ⊎ (k ≡ Some Two)) (sym (course_class d w.tap)) f.zero;
+  some = some;
+  few = f.few;
+  seen = seen;
+}
+
+head_owned : (local : Local) (w : Whole) → Followed local w → (n : ℕ) (v : Value) → names n v ≡ true → IsOwned w.tap.connections v →
+    w.tap.course.class ≡ Some Two
+head_owned local w f n v h (asking x e) = absurd (cc (sym (ap (λ (u : Value). names n u) e) ∙ h))
+head_owned local w f n v h (of m p c dest at tracked is) = f.two c.left.reference (p, c, at, tracked, refl)
+
+head_by : (local : Local) (w : Whole) → Followed local w → (n : ℕ) (put : List Value) → heads n put ≡ true →
+    AllByRecursion (λ (v : Value). IsOwned w.tap.connections v) put → w.tap.course.class ≡ Some Two
+head_by local w f n [] h a = absurd (cc h)
+head_by local w f n (v ∷ vs) h (one, more) = head_owned local w f n v h one
+
+-- the first unit is of an open connection, so class 2 is selected
+pub head_two : (local : Local) (w : Whole) → Followed local w → (n : ℕ) → heads n w.put ≡ true → w.tap.course.class ≡ Some Two
+head_two local w f n h = head_by local w f n w.put h f.owned
+
+pub own_begins : (local : Local) (w : Whole) → w.begun ≡ false → w.put ≢ [] → Followed local w →
+    Followed local (record w { begun = true; tap = packet_begins Left w.tap })
+own_begins local w e some f =
+    followed_begins local Left w true (λ h. some) (λ n b h. head_two local w f n h) f (λ c g.
+    let h = subst (λ (b : Bool). Following local w.put b w.end w.coming c) e g in
+    left_begins local w.put w.end w.coming c (heads h.peer w.put) h refl)
+
+pub other_begins : (local : Local) (w : Whole) → Followed local w → Followed local (record w { tap = packet_begins Right w.tap })
+other_begins local w f = followed_begins local Right w w.begun f.some f.seen f (λ c g. right_begins local w.put w.begun w.end w.coming c g)

@@ -1,0 +1,397 @@
+-- What a calling end does while no class is selected, and in class 0: it asks for one connection, and for no other.
+-- For the law on requests.
+use Rattle.std.proofs.Common.{◌≡◌, ◌∙◌, ℕ, ◌+◌, Bool, true, false, List, [], ◌∷◌, ◌++◌, refl, sym, ap, subst}
+use Rattle.std.proofs.Common.{Option, Some, None, Result, Ok, Err, if◌then◌else◌, is_some, inl, inr, ◌⊎◌}
+use Rattle.std.specs.Prelude.{◌&&◌, ◌==◌, not}
+use Rattle.std.proofs.lemmas.Bool.{eq-eqb}
+use Rattle.osi_tpdu.specs.Value.{Value, Connect, request, confirm, disconnect, disconnected, data0, data2, acknowledge, error}
+use Rattle.osi_class.specs.Link.{Standing, taken, with_tsdu}
+use Rattle.osi_class.specs.declared.faults.LinkFault.{LinkFault}
+use Rattle.osi_class.specs.declared.terms.Class.{Class}
+use Rattle.osi_class.specs.declared.terms.Class.TheVariants.{Two, Zero}
+use Rattle.osi_carrier.specs.Calls.{class_error, closed_on, closes as closes_in, link_of, may_connect, open_link}
+use Rattle.osi_carrier.specs.Calls.{or_else, room_error, sent, sent_all, sent_on}
+use Rattle.osi_carrier.specs.Negotiation.{agreed_size, confirmed, opened_link, proposal, proposal_by, proposes_two, proposes_zero}
+use Rattle.osi_carrier.specs.Negotiation.{selects_expedited}
+use Rattle.osi_carrier.specs.Pump.{pumped}
+use Rattle.osi_carrier.specs.React.{before_class, breaks as breaks_in, handed_out, in_class, in_zero, leaves, opens, react_by, taking, to_connection}
+use Rattle.osi_carrier.specs.React.{to_linked, to_only}
+unfoldable use Rattle.osi_carrier.specs.React.{react}
+use Rattle.osi_carrier.specs.Rows.{Rows, put, value_at, without}
+use Rattle.osi_carrier.specs.Runs.{UserCall, breaks, closes, connects, sends, sends_all, user as by_user, user_does}
+use Rattle.osi_carrier.specs.State.{Connection, State, asked, ends, linked}
+use Rattle.osi_carrier.specs.declared.ends.EndReason.{EndReason}
+use Rattle.osi_carrier.specs.declared.faults.OpenError.{OpenError}
+use Rattle.osi_carrier.specs.declared.faults.OpenError.TheVariants.{Ended, Negotiating, NotCaller, OneConnection}
+use Rattle.osi_fair.specs.Asking.{asks_with}
+use Rattle.osi_fair.specs.Putting.{put_at, put_before, put_by, put_closing, put_for, put_in, put_sent, put_together}
+use Rattle.osi_fair.specs.Wholes.{MayCall}
+use Rattle.osi_fair.proofs.while_no_class_is_selected.{IsDc, IsRefusal}
+
+abbrev pub IsOver : State → Type 0
+IsOver s = is_some s.ended ≡ true
+
+-- no class is selected, and these connections are live
+pub record IsCalling (rows : Rows Connection) (s : State) : Type 0 where
+  pub lasts : s.ended ≡ None
+  pub caller : s.is_caller ≡ true
+  pub class : s.class ≡ None
+  pub live : s.live ≡ rows
+
+abbrev pub one : ℕ → Rows Connection
+one r = (r, asked) ∷ []
+
+-- ---- a unit, while no class is selected
+
+module _ (rows : Rows Connection) (unit : Value) (s : State) (is : IsCalling rows s) where
+  pub react_is : react unit s ≡ before_class true unit s
+  unfolding react
+  react_is = ap (λ (o : Option EndReason). react_by (is_some o) unit s) is.lasts ∙ ap (λ (k : Option Class). in_class k unit s) is.class
+      ∙ ap (λ (b : Bool). before_class b unit s) is.caller
+
+  pub put_is : put_for unit s ≡ put_before true unit s
+  put_is = ap (λ (o : Option EndReason). if is_some o then [] else put_in s.class unit s) is.lasts
+      ∙ ap (λ (k : Option Class). put_in k unit s) is.class ∙ ap (λ (b : Bool). put_before b unit s) is.caller
+
+-- the end has put nothing, and is so after the unit
+pub record Puts (P : State → Type 0) (unit : Value) (s : State) : Type 0 where
+  pub put : put_for unit s ≡ []
+  pub after : P (react unit s)
+
+puts : (P : State → Type 0) (rows : Rows Connection) (unit : Value) (s : State) → IsCalling rows s → put_before true unit s ≡ [] →
+    P (before_class true unit s) → Puts P unit s
+puts P rows unit s is none h = record { put = put_is rows unit s is ∙ none; after = subst P (sym (react_is rows unit s is)) h }
+
+pub dc_ends : (rows : Rows Connection) (unit : Value) (s : State) → IsDc unit → IsCalling rows s → Puts IsOver unit s
+dc_ends rows (request c) s h is = absurd h
+dc_ends rows (confirm destination c) s h is = absurd h
+dc_ends rows (disconnect destination source reason user) s h is = absurd h
+dc_ends rows (disconnected destination source) s h is = puts IsOver rows (disconnected destination source) s is refl refl
+dc_ends rows (data0 end user) s h is = absurd h
+dc_ends rows (data2 destination number end user) s h is = absurd h
+dc_ends rows (acknowledge credit destination number) s h is = absurd h
+dc_ends rows (error destination cause) s h is = absurd h
+
+-- after the end a unit changes nothing
+pub over_takes : (unit : Value) (s : State) → IsOver s → (react unit s ≡ s) × (put_for unit s ≡ [])
+unfolding react
+over_takes unit s h = (
+  ap (λ (b : Bool). react_by b unit s) h,
+  ap (λ (b : Bool). if b then [] else put_in s.class unit s) h,
+)
+
+-- ---- class 0
+
+-- its one connection is open
+pub record InZero (s : State) : Type 0 where
+  pub caller : s.is_caller ≡ true
+  pub class : s.class ≡ Some Zero
+  pub r : ℕ
+  pub peer : ℕ
+  pub link : Standing
+  pub live : s.live ≡ (r, linked peer link) ∷ []
+
+-- the end is over, or class 0 holds: it asks for nothing more
+pub data Rests (s : State) : Type 0 where
+  over : IsOver s → Rests s
+  zero : InZero s → Rests s
+
+-- ---- the answer to its CR
+
+put_one : (n r : ℕ) (old new : Connection) (b : Bool) → (r == n) ≡ b → b ≡ true → put n new ((r, old) ∷ []) ≡ (r, new) ∷ []
+put_one n r old new true e h = ap (λ (b : Bool). if b then (r, new) ∷ [] else (r, old) ∷ put n new []) e
+put_one n r old new false e h = cc
+
+opens_zero : (n r : ℕ) (x : Connect) (s : State) → (r == n) ≡ true → IsCalling (one r) s → InZero (opens n x (Some Zero) s)
+opens_zero n r x s e is =
+    let link = opened_link Zero (agreed_size x.parameters.size s.local) s.local x.credit in
+    record {
+      caller = is.caller;
+      class = refl;
+      r = r;
+      peer = x.source;
+      link = link;
+      live = ap (λ (rows : Rows Connection). put n (linked x.source link) rows) is.live
+          ∙ put_one n r asked (linked x.source link) true e refl;
+    }
+
+-- it opens the connection in class 2, or asks for nothing more
+opens_by : (a b z : Bool) (n r : ℕ) (x : Connect) (s : State) → (r == n) ≡ true → IsCalling (one r) s →
+    Rests (opens n x (if a && b then Some Two else (if z then Some Zero else None)) s) ⊎ (a ≡ true)
+opens_by true b z n r x s e is = inr refl
+opens_by false b true n r x s e is = inl (zero (opens_zero n r x s e is))
+opens_by false b false n r x s e is = inl (over refl)
+
+opens_so : (n r : ℕ) (x : Connect) (s : State) → (r == n) ≡ true → IsCalling (one r) s →
+    Rests (opens n x (confirmed x s.local s.class) s) ⊎ ((x.class == 2) ≡ true)
+opens_so n r x s e is =
+    opens_by (x.class == 2) (proposes_two s.local && not (selects_expedited x.parameters.additional))
+    ((x.class == 0) && proposes_zero s.local s.class) n r x s e is
+
+abbrev pub AfterCc : Connect → State → Type 0
+AfterCc x s = Rests s ⊎ ((x.class == 2) ≡ true)
+
+to_one : (n r : ℕ) (x : Connect) (s : State) (b : Bool) → (r == n) ≡ b → IsCalling (one r) s →
+    AfterCc x (to_connection n (if b then Some asked else None) (confirm n x) s)
+to_one n r x s true e is = opens_so n r x s e is
+to_one n r x s false e is = inl (over refl)
+
+puts_none : (n : ℕ) (x : Connect) (held : Option Class) (b : Bool) → put_at n (if b then Some asked else None) (confirm n x) held ≡ []
+puts_none n x held true = refl
+puts_none n x held false = refl
+
+pub confirm_takes : (n r : ℕ) (x : Connect) (s : State) → IsCalling (one r) s → Puts (AfterCc x) (confirm n x) s
+confirm_takes n r x s is =
+    puts (AfterCc x) (one r) (confirm n x) s is
+    (ap (λ (rows : Rows Connection). put_at n (value_at n rows) (confirm n x) s.class) is.live ∙ puts_none n x s.class (r == n))
+    (subst (λ (rows : Rows Connection). AfterCc x (to_connection n (value_at n rows) (confirm n x) s)) (sym is.live)
+    (to_one n r x s (r == n) refl is))
+
+-- a refusal
+value_one : (r : ℕ) (s : State) → IsCalling (one r) s → value_at r s.live ≡ Some asked
+value_one r s is = ap (λ (rows : Rows Connection). value_at r rows) is.live
+    ∙ ap (λ (b : Bool). if◌then◌else◌ {A = Option Connection} b (Some asked) None) (eq-eqb r r refl)
+
+gone_one : (r : ℕ) (s : State) → IsCalling (one r) s → without r s.live ≡ []
+gone_one r s is = ap (λ (rows : Rows Connection). without r rows) is.live
+    ∙ ap (λ (b : Bool). if◌then◌else◌ {A = Rows Connection} b [] ((r, asked) ∷ [])) (eq-eqb r r refl)
+
+refused_takes : (r : ℕ) (unit : Value) (s : State) → IsCalling (one r) s → put_before true unit s ≡ put_at r (value_at r s.live) unit s.class →
+    put_at r (Some asked) unit s.class ≡ [] → before_class true unit s ≡ to_connection r (value_at r s.live) unit s →
+    IsCalling [] (to_connection r (Some asked) unit s) → Puts (IsCalling []) unit s
+refused_takes r unit s is a none b h =
+    puts (IsCalling []) (one r) unit s is
+    (a ∙ ap (λ (o : Option Connection). put_at r o unit s.class) (value_one r s is) ∙ none)
+    (subst (IsCalling []) (sym (b ∙ ap (λ (o : Option Connection). to_connection r o unit s) (value_one r s is))) h)
+
+pub refusal_takes : (r : ℕ) (unit : Value) (s : State) → IsRefusal r unit → IsCalling (one r) s → Puts (IsCalling []) unit s
+refusal_takes r (request c) s h is = absurd h
+refusal_takes r (confirm destination c) s h is = absurd h
+refusal_takes r (disconnect destination source reason user) s e is =
+    refused_takes r (disconnect destination source reason user) s is
+    (ap (λ (n : ℕ). put_at n (value_at n s.live) (disconnect destination source reason user) s.class) e) refl
+    (ap (λ (n : ℕ). to_connection n (value_at n s.live) (disconnect destination source reason user) s) e)
+    (record { lasts = is.lasts; caller = is.caller; class = is.class; live = gone_one r s is })
+refusal_takes r (disconnected destination source) s h is = absurd h
+refusal_takes r (data0 end user) s h is = absurd h
+refusal_takes r (data2 destination number end user) s h is = absurd h
+refusal_takes r (acknowledge credit destination number) s h is = absurd h
+refusal_takes r (error destination cause) s e is =
+    refused_takes r (error destination cause) s is
+    (ap (λ (n : ℕ). put_at n (value_at n s.live) (error destination cause) s.class) e) refl
+    (ap (λ (n : ℕ). to_connection n (value_at n s.live) (error destination cause) s) e)
+    (record { lasts = is.lasts; caller = is.caller; class = is.class; live = gone_one r s is })
+
+-- ---- a unit in class 0
+
+put_linked_one : (n r peer : ℕ) (link : Standing) (q : ℕ) (new : Standing) (b : Bool) → (r == n) ≡ b →
+    (p : ℕ) × (l : Standing) × (put n (linked q new) ((r, linked peer link) ∷ []) ≡ (r, linked p l) ∷ [])
+put_linked_one n r peer link q new true e =
+    (q, new, ap (λ (b : Bool). if b then (r, linked q new) ∷ [] else (r, linked peer link) ∷ put n (linked q new) []) e)
+put_linked_one n r peer link q new false e =
+    (peer, link, ap (λ (b : Bool). if b then (r, linked q new) ∷ [] else (r, linked peer link) ∷ put n (linked q new) []) e)
+
+-- the link has moved on
+moved_zero : (n q : ℕ) (new : Standing) (s t : State) → InZero s → t.is_caller ≡ s.is_caller → t.class ≡ s.class →
+    t.live ≡ put n (linked q new) s.live → InZero t
+moved_zero n q new s t z caller class live =
+    let (p, l, e) = put_linked_one n z.r z.peer z.link q new (z.r == n) refl in
+    record {
+      caller = caller ∙ z.caller;
+      class = class ∙ z.class;
+      r = z.r;
+      peer = p;
+      link = l;
+      live = live ∙ ap (λ (rows : Rows Connection). put n (linked q new) rows) z.live ∙ e;
+    }
+
+zero_taking : (n q : ℕ) (result : Result Standing LinkFault) (s : State) → InZero s → Rests (taking n q result s)
+zero_taking n q (Ok link) s z = zero (moved_zero n q (pumped (handed_out link)) s (taking n q (Ok link) s) z refl refl refl)
+zero_taking n q (Err fault) s z =
+    over (ap (λ (k : Option Class). is_some (breaks_in n q fault k s).ended) z.class)
+
+zero_linked : (n q : ℕ) (link : Standing) (unit : Value) (s : State) → InZero s → Rests (to_linked n q link unit s)
+zero_linked n q link (request c) s z = zero_taking n q (taken link (request c)) s z
+zero_linked n q link (confirm destination c) s z = zero_taking n q (taken link (confirm destination c)) s z
+zero_linked n q link (disconnect destination source reason user) s z =
+    over (ap (λ (k : Option Class). is_some (leaves n q reason k s).ended) z.class)
+zero_linked n q link (disconnected destination source) s z = zero_taking n q (taken link (disconnected destination source)) s z
+zero_linked n q link (data0 end user) s z = zero_taking n q (taken link (data0 end user)) s z
+zero_linked n q link (data2 destination number end user) s z = zero_taking n q (taken link (data2 destination number end user)) s z
+zero_linked n q link (acknowledge credit destination number) s z = zero_taking n q (taken link (acknowledge credit destination number)) s z
+zero_linked n q link (error destination cause) s z = zero_taking n q (taken link (error destination cause)) s z
+
+zero_unit : (unit : Value) (s : State) → InZero s → Rests (in_zero true unit s)
+zero_unit (request c) s z = over refl
+zero_unit (confirm destination c) s z =
+    subst (λ (rows : Rows Connection). Rests (to_only rows (confirm destination c) s)) (sym z.live) (zero_linked z.r z.peer z.link (confirm destination c) s z)
+zero_unit (disconnect destination source reason user) s z =
+    subst (λ (rows : Rows Connection). Rests (to_only rows (disconnect destination source reason user) s)) (sym z.live) (zero_linked z.r z.peer z.link (disconnect destination source reason user) s z)
+zero_unit (disconnected destination source) s z =
+    subst (λ (rows : Rows Connection). Rests (to_only rows (disconnected destination source) s)) (sym z.live) (zero_linked z.r z.peer z.link (disconnected destination source) s z)
+zero_unit (data0 end user) s z =
+    subst (λ (rows : Rows Connection). Rests (to_only rows (data0 end user) s)) (sym z.live) (zero_linked z.r z.peer z.link (data0 end user) s z)
+zero_unit (data2 destination number end user) s z =
+    subst (λ (rows : Rows Connection). Rests (to_only rows (data2 destination number end user) s)) (sym z.live) (zero_linked z.r z.peer z.link (data2 destination number end user) s z)
+zero_unit (acknowledge credit destination number) s z =
+    subst (λ (rows : Rows Connection). Rests (to_only rows (acknowledge credit destination number) s)) (sym z.live) (zero_linked z.r z.peer z.link (acknowledge credit destination number) s z)
+zero_unit (error destination cause) s z =
+    subst (λ (rows : Rows Connection). Rests (to_only rows (error destination cause) s)) (sym z.live) (zero_linked z.r z.peer z.link (error destination cause) s z)
+
+zero_by : (b : Bool) (unit : Value) (s : State) → InZero s → is_some s.ended ≡ b → Rests (react_by b unit s)
+zero_by true unit s z e = over e
+zero_by false unit s z e =
+    subst (λ (k : Option Class). Rests (in_class k unit s)) (sym z.class)
+    (subst (λ (b : Bool). Rests (in_zero b unit s)) (sym z.caller) (zero_unit unit s z))
+
+pub rests_takes : (unit : Value) (s : State) → Rests s → Rests (react unit s)
+unfolding react
+rests_takes unit s (over h) = subst Rests (sym (over_takes unit s h).0) (over h)
+rests_takes unit s (zero z) = zero_by (is_some s.ended) unit s z refl
+
+-- ---- a call
+
+-- the error of a request
+error_of : (caller gone : Bool) (e room : Option OpenError) →
+    (if not caller then Some NotCaller else (if gone then Some Ended else or_else e room)) ≡ None → (gone ≡ false) × (e ≡ None)
+error_of false gone e room h = cc
+error_of true true e room h = cc
+error_of true false None room h = (refl, refl)
+error_of true false (Some e) room h = cc
+
+may_so : (s : State) → may_connect s ≡ None → (is_some s.ended ≡ false) × (class_error s.class s.live ≡ None)
+may_so s h = error_of s.is_caller (is_some s.ended) (class_error s.class s.live) (room_error s) h
+
+never : {A : Type 0} (e : OpenError) (o : Option OpenError) → o ≡ Some e → o ≡ None → A
+never e o h k = absurd (cc)
+
+both_ways : {A : Type 0} (b : Bool) → b ≡ true → b ≡ false → A
+both_ways b h k = absurd (cc)
+
+abbrev NoneOpen : State → Type 0
+NoneOpen s = (q : ℕ) → open_link q s ≡ None
+
+all_none : (r : ℕ) (tsdus : List (List ℕ)) (s : State) → NoneOpen s → (sent_all r tsdus s ≡ s) × (put_together r tsdus s ≡ [])
+all_none r [] s h = (refl, refl)
+all_none r (tsdu ∷ tsdus) s h =
+    let same : sent r tsdu s ≡ s = ap (λ (o : Option (ℕ × Standing)). sent_on r tsdu o s) (h r) in
+    let (a, b) = all_none r tsdus s h in (
+      ap (λ (t : State). sent_all r tsdus t) same ∙ a,
+      ap (λ (o : Option (ℕ × Standing)). put_sent tsdu o ++ put_together r tsdus (sent r tsdu s)) (h r)
+          ∙ ap (λ (t : State). put_together r tsdus t) same ∙ b,
+    )
+
+-- a call of which nothing comes, and one that ends the carrier
+pub data Idle (call : UserCall) (s : State) : Type 0 where
+  same : user_does call s ≡ s → put_by call s ≡ [] → asks_with (by_user call) s ≡ [] → Idle call s
+  broke : IsOver (user_does call s) → put_by call s ≡ [] → asks_with (by_user call) s ≡ [] → Idle call s
+
+ended_over : (b : Bool) (reason : EndReason) (s : State) → is_some s.ended ≡ b → IsOver (if b then s else ends reason s)
+ended_over true reason s h = h
+ended_over false reason s h = refl
+
+sends_none : (r : ℕ) (tsdu : List ℕ) (s : State) → NoneOpen s → Idle (sends r tsdu) s
+sends_none r tsdu s none =
+    same (ap (λ (o : Option (ℕ × Standing)). sent_on r tsdu o s) (none r)) (ap (λ (o : Option (ℕ × Standing)). put_sent tsdu o) (none r)) refl
+
+all_sends_none : (r : ℕ) (tsdus : List (List ℕ)) (s : State) → NoneOpen s → Idle (sends_all r tsdus) s
+all_sends_none r tsdus s none = let (a, b) = all_none r tsdus s none in same a b refl
+
+closes_none : (r reason : ℕ) (s : State) → NoneOpen s → Idle (closes r reason) s
+closes_none r reason s none =
+    same (ap (λ (o : Option (ℕ × Standing)). closed_on r reason o s) (none r))
+    (ap (λ (o : Option (ℕ × Standing)). put_closing r reason o s.class) (none r)) refl
+
+breaks_none : (reason : EndReason) (s : State) → Idle (breaks reason) s
+breaks_none reason s = broke (ended_over (is_some s.ended) reason s refl) refl refl
+
+-- a call for a connection is not accepted
+idle_call : (call : UserCall) (s : State) → NoneOpen s → (may_connect s ≡ None → ⊥) → MayCall call s → Idle call s
+idle_call (connects calling called) s none never may = absurd (never may)
+idle_call (sends r tsdu) s none never may = sends_none r tsdu s none
+idle_call (sends_all r tsdus) s none never may = all_sends_none r tsdus s none
+idle_call (closes r reason) s none never may = closes_none r reason s none
+idle_call (breaks reason) s none never may = breaks_none reason s
+
+none_over : (s : State) → IsOver s → NoneOpen s
+none_over s h q = ap (λ (b : Bool). if◌then◌else◌ {A = Option (ℕ × Standing)} b None (link_of (value_at q s.live))) h
+
+pub over_calls : (call : UserCall) (s : State) → IsOver s → MayCall call s → Idle call s
+over_calls call s h may = idle_call call s (none_over s h) (λ k. both_ways (is_some s.ended) h (may_so s k).0) may
+
+link_asked : (b : Bool) → link_of (if b then Some asked else None) ≡ None
+link_asked true = refl
+link_asked false = refl
+
+none_by : (rows : Rows Connection) (s : State) → IsCalling rows s → ((q : ℕ) → link_of (value_at q rows) ≡ None) → NoneOpen s
+none_by rows s is h q =
+    ap (λ (o : Option EndReason). if◌then◌else◌ {A = Option (ℕ × Standing)} (is_some o) None (link_of (value_at q s.live))) is.lasts
+    ∙ ap (λ (rows : Rows Connection). link_of (value_at q rows)) is.live ∙ h q
+
+-- an end whose CR is not answered asks for no other connection
+pub one_calls : (r : ℕ) (call : UserCall) (s : State) → IsCalling (one r) s → MayCall call s → Idle call s
+one_calls r call s is may =
+    idle_call call s (none_by (one r) s is (λ q. link_asked (r == q)))
+    (λ k. never Negotiating (class_error s.class s.live)
+    (ap (λ (c : Option Class). class_error c s.live) is.class ∙ ap (λ (rows : Rows Connection). class_error None rows) is.live)
+    (may_so s k).1) may
+
+-- an end without a connection may ask for one
+pub data Calls (call : UserCall) (s : State) : Type 0 where
+  idles : Idle call s → Calls call s
+  asks_one : (x : Connect) → put_by call s ≡ request x ∷ [] → IsCalling (one x.source) (user_does call s) → Calls call s
+
+proposed : (two : Bool) (s : State) (calling called : Option (List ℕ)) →
+    (proposal_by two s.local s.class calling called (s.given + 1)).source ≡ s.given + 1
+proposed true s calling called = refl
+proposed false s calling called = refl
+
+none_calls_by : (call : UserCall) (s : State) → IsCalling [] s → NoneOpen s → MayCall call s → Calls call s
+none_calls_by (connects calling called) s is none may =
+    let x = proposal s.local s.class calling called (s.given + 1) in
+    asks_one x refl (record {
+      lasts = is.lasts;
+      caller = is.caller;
+      class = is.class;
+      live = ap (λ (rows : Rows Connection). rows ++ (s.given + 1, asked) ∷ []) is.live
+          ∙ ap (λ (r : ℕ). one r) (sym (proposed (proposes_two s.local) s calling called));
+    })
+none_calls_by (sends r tsdu) s is none may = idles (sends_none r tsdu s none)
+none_calls_by (sends_all r tsdus) s is none may = idles (all_sends_none r tsdus s none)
+none_calls_by (closes r reason) s is none may = idles (closes_none r reason s none)
+none_calls_by (breaks reason) s is none may = idles (breaks_none reason s)
+
+pub none_calls : (call : UserCall) (s : State) → IsCalling [] s → MayCall call s → Calls call s
+none_calls call s is may = none_calls_by call s is (none_by [] s is (λ q. refl)) may
+
+-- ---- a call in class 0
+
+zero_sent : (r : ℕ) (tsdu : List ℕ) (o : Option (ℕ × Standing)) (s : State) → InZero s → InZero (sent_on r tsdu o s)
+zero_sent r tsdu None s z = z
+zero_sent r tsdu (Some (peer, link)) s z =
+    moved_zero r peer (pumped (with_tsdu link tsdu)) s (sent_on r tsdu (Some (peer, link)) s) z refl refl refl
+
+zero_all : (r : ℕ) (tsdus : List (List ℕ)) (s : State) → InZero s → InZero (sent_all r tsdus s)
+zero_all r [] s z = z
+zero_all r (tsdu ∷ tsdus) s z = zero_all r tsdus (sent r tsdu s) (zero_sent r tsdu (open_link r s) s z)
+
+zero_closed : (r reason : ℕ) (o : Option (ℕ × Standing)) (s : State) → InZero s → Rests (closed_on r reason o s)
+zero_closed r reason None s z = zero z
+zero_closed r reason (Some (peer, link)) s z =
+    over (ap (λ (k : Option Class). is_some (closes_in r peer reason k s).ended) z.class)
+
+zero_calls : (call : UserCall) (s : State) → InZero s → MayCall call s → Rests (user_does call s) × (asks_with (by_user call) s ≡ [])
+zero_calls (connects calling called) s z may =
+    never OneConnection (class_error s.class s.live) (ap (λ (k : Option Class). class_error k s.live) z.class) (may_so s may).1
+zero_calls (sends r tsdu) s z may = (zero (zero_sent r tsdu (open_link r s) s z), refl)
+zero_calls (sends_all r tsdus) s z may = (zero (zero_all r tsdus s z), refl)
+zero_calls (closes r reason) s z may = (zero_closed r reason (open_link r s) s z, refl)
+zero_calls (breaks reason) s z may = (over (ended_over (is_some s.ended) reason s refl), refl)
+
+idle_rests : (call : UserCall) (s : State) → IsOver s → Idle call s → Rests (user_does call s) × (asks_with (by_user call) s ≡ [])
+idle_rests call s h (same e put none) = (over (ap (λ (t : State). is_some t.ended) e ∙ h), none)
+idle_rests call s h (broke over_now put none) = (over over_now, none)
+
+pub rests_calls : (call : UserCall) (s : State) → Rests s → MayCall call s → Rests (user_does call s) × (asks_with (by_user call) s ≡ [])
+rests_calls call s (over h) may = idle_rests call s h (over_calls call s h may)
+rests_calls call s (zero z) may = zero_calls call s z may

@@ -1,0 +1,11 @@
+use Rattle.osi_fair.proofs.a_packet_is_events.{becomes_by_call, becomes_by_fault, becomes_by_packet}
+use Rattle.osi_fair.proofs.laws.a_packet_is_events.Goals as goal
+
+pub returns-clause-packet : goal.returns-clause-packet
+returns-clause-packet c = becomes_by_packet
+
+pub returns-clause-fault : goal.returns-clause-fault
+returns-clause-fault c = becomes_by_fault
+
+pub returns-clause-call : goal.returns-clause-call
+returns-clause-call c = becomes_by_call

@@ -1,0 +1,511 @@
+-- What the other side may send a calling end while no class is selected: it answers the CR that waits, and a DC changes nothing.
+-- For the law on requests.
+use Rattle.std.proofs.Common.{◌≡◌, ◌∙◌, ℕ, zero, suc, Bool, true, false, List, [], ◌∷◌, ◌++◌, map, set, length, refl, sym, ap, subst}
+use Rattle.std.proofs.Common.{Option, Some, None, inl, inr, ◌⊎◌, if◌then◌else◌}
+use Rattle.std.specs.Prelude.{◌&&◌, ◌||◌, ◌==◌, not, option_map, position, slice_get, nat_le}
+use Rattle.std.proofs.lemmas.Bool.{eqb-true, eq-eqb}
+use Rattle.std.proofs.lemmas.Option.{slice_get-map}
+use Rattle.osi_tpdu.specs.Value.{Value, Connect, request, confirm, disconnect, disconnected, data0, data2, acknowledge, error}
+use Rattle.osi_rules.specs.declared.connections.Connection.{Connection}
+use Rattle.osi_rules.specs.declared.courses.Course.{Course}
+use Rattle.osi_rules.specs.declared.directions.Direction.{Direction}
+use Rattle.osi_rules.specs.declared.directions.Direction.TheVariants.{Left, Right}
+use Rattle.osi_rules.specs.declared.findings.Finding.{Finding}
+use Rattle.osi_rules.specs.declared.findings.Finding.TheVariants.{Broke, Kept, NotJudged, Outside, TooMany}
+use Rattle.osi_rules.specs.declared.findings.Reach.{Reach}
+use Rattle.osi_rules.specs.declared.findings.Reach.TheVariants as reach
+use Rattle.osi_rules.specs.declared.findings.Rule.TheVariants as rule
+use Rattle.osi_rules.specs.declared.halves.Half.{Half}
+use Rattle.osi_rules.specs.declared.halves.Phase.{Phase}
+use Rattle.osi_rules.specs.declared.halves.Phase.TheVariants.{Silent}
+use Rattle.osi_rules.specs.Reaches.{is_applied, reach_of}
+use Rattle.osi_rules.specs.Rows.{first_failed, code_named, is_due, is_inside, is_offered}
+use Rattle.osi_rules.specs.Sides.{begins, is_closed, is_closing, is_free, is_named, is_open, is_over, is_over_by, is_refused, is_silent}
+use Rattle.osi_rules.specs.Traffic.{Outcome, State, asked_by, asks_by, at_found, at_place, class_of, closing_phase, connection_after}
+use Rattle.osi_rules.specs.Traffic.{course_after, found, found_on, placed, reached, takes, unnamed_told, uses_source}
+use Rattle.osi_fair.proofs.what_holds_of_one_item.{HoldsOfEach, after_add, after_map, after_set, first_true}
+use Rattle.osi_fair.proofs.when_a_connection_has_a_name.{three}
+use Rattle.osi_fair.proofs.a_right_unit_is_not_blamed.{first_there}
+use Rattle.osi_fair.proofs.a_refused_request_waits_no_more.{refused_over}
+
+-- ---- where an item is
+
+fewer : (i p : ℕ) → suc i ≡ suc p → i ≡ p
+fewer i p e = cc
+
+shifted : {A B : Type 0} (i p : ℕ) → ((i ≡ p) × A) ⊎ ((i ≡ p → ⊥) × B) → ((suc i ≡ suc p) × A) ⊎ ((suc i ≡ suc p → ⊥) × B)
+shifted i p (inl (e, a)) = inl (ap suc e, a)
+shifted i p (inr (n, b)) = inr (λ e. n (fewer i p e), b)
+
+item_is : {X : Type 0} (x y : X) → Some x ≡ Some y → y ≡ x
+item_is x y e = cc
+
+not_zero : (i : ℕ) → suc i ≡ zero → ⊥
+not_zero i e = cc
+
+zero_not : (i : ℕ) → zero ≡ suc i → ⊥
+zero_not i e = cc
+
+-- the item that was changed, or another one
+pub after_change : {X : Type 0} (xs : List X) (p i : ℕ) (x y : X) → slice_get (set xs p x) i ≡ Some y →
+    ((i ≡ p) × (y ≡ x)) ⊎ ((i ≡ p → ⊥) × (slice_get xs i ≡ Some y))
+after_change [] p i x y h = absurd (cc)
+after_change (z ∷ xs) zero zero x y h = inl (refl, item_is x y h)
+after_change (z ∷ xs) zero (suc i) x y h = inr (not_zero i, h)
+after_change (z ∷ xs) (suc p) zero x y h = inr (zero_not p, h)
+after_change (z ∷ xs) (suc p) (suc i) x y h = shifted i p (after_change xs p i x y h)
+
+pub set_there : {X : Type 0} (xs : List X) (p : ℕ) (x y : X) → slice_get xs p ≡ Some y → slice_get (set xs p x) p ≡ Some x
+set_there [] p x y h = absurd (cc)
+set_there (z ∷ xs) zero x y h = refl
+set_there (z ∷ xs) (suc p) x y h = set_there xs p x y h
+
+pub set_same : {X : Type 0} (xs : List X) (p : ℕ) (x : X) → slice_get xs p ≡ Some x → set xs p x ≡ xs
+set_same [] p x h = absurd (cc)
+set_same (z ∷ xs) zero x h = ap (λ y. y ∷ xs) (item_is z x h)
+set_same (z ∷ xs) (suc p) x h = ap (λ l. z ∷ l) (set_same xs p x h)
+
+pub added_there : {X : Type 0} (xs : List X) (x : X) → slice_get (xs ++ x ∷ []) (length xs) ≡ Some x
+added_there [] x = refl
+added_there (z ∷ xs) x = added_there xs x
+
+-- ---- no class is selected, and both sides are judged
+
+abbrev pub calm : Bool → Course
+calm strays = record { class = None; class_seen = None; strays = strays; loose = false; left_stopped = false; right_stopped = false }
+
+abbrev pub calm_tap : List Connection → Bool → State
+calm_tap cs strays = record { connections = cs; course = calm strays }
+
+-- left is still judged
+abbrev pub GoesOn : State → Type 0
+GoesOn s = s.course.left_stopped ≡ false
+
+-- refused
+abbrev pub IsDone : Connection → Type 0
+IsDone c = (c.is_judged ≡ true) × (is_refused c.right.phase ≡ true)
+
+abbrev pub IsDc : Value → Type 0
+IsDc (request c) = ⊥
+IsDc (confirm destination c) = ⊥
+IsDc (disconnect destination source reason user) = ⊥
+IsDc (disconnected destination source) = Unit {0}
+IsDc (data0 end user) = ⊥
+IsDc (data2 destination number end user) = ⊥
+IsDc (acknowledge credit destination number) = ⊥
+IsDc (error destination cause) = ⊥
+
+-- a unit for no connection is a DC, and changes nothing
+abbrev pub OnlyDc : Value → List Connection → Bool → State → Type 0
+OnlyDc v cs strays s = IsDc v × (s ≡ calm_tap cs strays)
+
+for_none : (cs : List Connection) (strays : Bool) (v : Value) → GoesOn (unnamed_told Right v (calm_tap cs strays)).state →
+    OnlyDc v cs strays (unnamed_told Right v (calm_tap cs strays)).state
+for_none cs true (request c) h = absurd (cc)
+for_none cs true (confirm destination c) h = absurd (cc)
+for_none cs true (disconnect destination source reason user) h = absurd (cc)
+for_none cs true (disconnected destination source) h = (tt, refl)
+for_none cs true (data0 end user) h = absurd (cc)
+for_none cs true (data2 destination number end user) h = absurd (cc)
+for_none cs true (acknowledge credit destination number) h = absurd (cc)
+for_none cs true (error destination cause) h = absurd (cc)
+for_none cs false (request c) h = absurd (cc)
+for_none cs false (confirm destination c) h = absurd (cc)
+for_none cs false (disconnect destination source reason user) h = absurd (cc)
+for_none cs false (disconnected destination source) h = absurd (cc)
+for_none cs false (data0 end user) h = absurd (cc)
+for_none cs false (data2 destination number end user) h = absurd (cc)
+for_none cs false (acknowledge credit destination number) h = absurd (cc)
+for_none cs false (error destination cause) h = absurd (cc)
+
+-- ---- none waits for an answer
+
+both : (a b : Bool) → a ≡ true → b ≡ true → (a && b) ≡ true
+both true b h k = k
+both false b h k = cc
+
+or_first : (a b : Bool) → a ≡ true → (a || b) ≡ true
+or_first true b h = refl
+or_first false b h = cc
+
+not_named : (over rest : Bool) → over ≡ true → (not over && rest) ≡ true → ⊥
+not_named true rest h k = cc
+not_named false rest h k = cc
+
+over_done : (c : Connection) → IsDone c → is_over Right c ≡ true
+over_done c (j, h) = both c.is_judged (is_over_by c.right c.seen_by_right) j (or_first (is_refused c.right.phase)
+    (is_refused c.seen_by_right.phase || (is_closed c.right.phase
+    || (is_closing c.right.phase && (is_closing c.seen_by_right.phase || is_closed c.seen_by_right.phase)))) h)
+
+done_not_named : (c : Connection) (n : ℕ) → IsDone c → is_named Right n c ≡ true → ⊥
+done_not_named c n h k = not_named (is_over Right c) (not (is_silent c.seen_by_right.phase) && (c.seen_by_right.reference == n))
+    (over_done c h) k
+
+pub named_where : (cs : List Connection) (n q : ℕ) → position (is_named Right n) cs ≡ Some q →
+    (e : Connection) × (slice_get cs q ≡ Some e) × (is_named Right n e ≡ true)
+named_where [] n q h = absurd (cc)
+named_where (c ∷ cs) n q h =
+    let (e, at) = first_there (is_named Right n) (c ∷ cs) q q c h in
+    (e, at, first_true (is_named Right n) (c ∷ cs) q e h at)
+
+none_by : (cs : List Connection) (n : ℕ) (o : Option ℕ) → position (is_named Right n) cs ≡ o → HoldsOfEach IsDone cs → o ≡ None
+none_by cs n None e h = refl
+none_by cs n (Some q) e h =
+    let (c, at, named) = named_where cs n q e in absurd (done_not_named c n (h q c at) named)
+
+module _ (cs : List Connection) (strays : Bool) where
+  abbrev s : State
+  s = calm_tap cs strays
+
+  at_none : (v : Value) (o : Option ℕ) → o ≡ None → GoesOn (at_place Right v s o).state →
+      OnlyDc v cs strays (at_place Right v s o).state
+  at_none v o e h =
+      subst (λ (p : Option ℕ). OnlyDc v cs strays (at_place Right v s p).state) (sym e)
+      (for_none cs strays v (subst (λ (p : Option ℕ). GoesOn (at_place Right v s p).state) e h))
+
+  -- if none waits, only a DC may come
+  pub done_takes : (v : Value) → HoldsOfEach IsDone cs → GoesOn (takes Right v s).state → OnlyDc v cs strays (takes Right v s).state
+  done_takes (request c) done h = absurd (cc)
+  done_takes (confirm destination c) done h =
+      at_none (confirm destination c) (position (is_named Right destination) cs) (none_by cs destination (position (is_named Right destination) cs) refl done) h
+  done_takes (disconnect destination source reason user) done h =
+      at_none (disconnect destination source reason user) (position (is_named Right destination) cs) (none_by cs destination (position (is_named Right destination) cs) refl done) h
+  done_takes (disconnected destination source) done h =
+      at_none (disconnected destination source) (position (is_named Right destination) cs) (none_by cs destination (position (is_named Right destination) cs) refl done) h
+  done_takes (data0 end user) done h = absurd (cc)
+  done_takes (data2 destination number end user) done h = absurd (cc)
+  done_takes (acknowledge credit destination number) done h = absurd (cc)
+  done_takes (error destination cause) done h =
+      at_none (error destination cause) (position (is_named Right destination) cs) (none_by cs destination (position (is_named Right destination) cs) refl done) h
+
+-- ---- one waits for an answer
+
+-- the connection at this place, whose CR has this reference, waits, and all others are refused
+pub record Waits (r p : ℕ) (cs : List Connection) : Type 0 where
+  pub c : Connection
+  pub at : slice_get cs p ≡ Some c
+  pub judged : c.is_judged ≡ true
+  pub silent : c.right.phase ≡ Silent
+  pub reference : c.left.reference ≡ r
+  pub known : is_silent c.seen_by_right.phase ≡ false → c.seen_by_right.reference ≡ r
+  pub others : (i : ℕ) (e : Connection) → slice_get cs i ≡ Some e → (i ≡ p → ⊥) → IsDone e
+
+differ : (b : Bool) → b ≡ true → b ≡ false → ⊥
+differ b h k = cc
+
+unlike : (q p : ℕ) → (q == p) ≡ false → q ≡ p → ⊥
+unlike q p h e = differ (q == p) (ap (λ (x : ℕ). x == p) e ∙ eq-eqb p p refl) h
+
+known_named : (over : Bool) (known : Half) (n r : ℕ) → (is_silent known.phase ≡ false → known.reference ≡ r) →
+    (not over && (not (is_silent known.phase) && (known.reference == n))) ≡ true → n ≡ r
+known_named over known n r k h =
+    let (a, b, e) = three over (is_silent known.phase) (known.reference == n) h in
+    sym (eqb-true known.reference n e) ∙ k b
+
+-- what a unit names is the one that waits
+waits_by : (r p : ℕ) (cs : List Connection) (w : Waits r p cs) (n q : ℕ) (e : Connection) (b : Bool) → (q == p) ≡ b →
+    slice_get cs q ≡ Some e → is_named Right n e ≡ true → (q ≡ p) × (n ≡ r) × (e ≡ w.c)
+waits_by r p cs w n q e false b at named = absurd (done_not_named e n (w.others q e at (unlike q p b)) named)
+waits_by r p cs w n q e true b at named =
+    let same = eqb-true q p b in
+    let is : e ≡ w.c = item_is w.c e (sym w.at ∙ ap (λ (i : ℕ). slice_get cs i) (sym same) ∙ at) in (
+      same,
+      known_named (is_over Right e) e.seen_by_right n r (subst (λ (x : Connection). is_silent x.seen_by_right.phase ≡ false →
+          x.seen_by_right.reference ≡ r) (sym is) w.known) named,
+      is,
+    )
+
+begins_left : (d : Direction) (c : Connection) → (begins d c).left ≡ c.left
+begins_left Left c = refl
+begins_left Right c = refl
+
+begins_right : (d : Direction) (c : Connection) → (begins d c).right ≡ c.right
+begins_right Left c = refl
+begins_right Right c = refl
+
+begins_judged : (d : Direction) (c : Connection) → (begins d c).is_judged ≡ c.is_judged
+begins_judged Left c = refl
+begins_judged Right c = refl
+
+begun_done : (d : Direction) (c : Connection) → IsDone c → IsDone (begins d c)
+begun_done Left c h = h
+begun_done Right c h = h
+
+begins_known : (d : Direction) (r : ℕ) (c : Connection) → c.left.reference ≡ r →
+    (is_silent c.seen_by_right.phase ≡ false → c.seen_by_right.reference ≡ r) →
+    is_silent (begins d c).seen_by_right.phase ≡ false → (begins d c).seen_by_right.reference ≡ r
+begins_known Left r c e k h = k h
+begins_known Right r c e k h = e
+
+waits_named : (r p : ℕ) (cs : List Connection) (w : Waits r p cs) (n q : ℕ) → position (is_named Right n) cs ≡ Some q →
+    (q ≡ p) × (n ≡ r)
+waits_named r p cs w n q h =
+    let (e, at, named) = named_where cs n q h in
+    let (same, is, so) = waits_by r p cs w n q e (q == p) refl at named in (same, is)
+
+-- a DR or an ER that refuses the connection with this reference
+abbrev pub IsRefusal : ℕ → Value → Type 0
+IsRefusal r (request c) = ⊥
+IsRefusal r (confirm destination c) = ⊥
+IsRefusal r (disconnect destination source reason user) = destination ≡ r
+IsRefusal r (disconnected destination source) = ⊥
+IsRefusal r (data0 end user) = ⊥
+IsRefusal r (data2 destination number end user) = ⊥
+IsRefusal r (acknowledge credit destination number) = ⊥
+IsRefusal r (error destination cause) = destination ≡ r
+
+-- a CC selects a class, a refusal leaves none that waits, and a DC changes nothing
+pub data Answer (r p : ℕ) (cs : List Connection) (strays : Bool) (v : Value) (s : State) : Type 0 where
+  confirms : (destination : ℕ) (x : Connect) → v ≡ confirm destination x → s.course.class ≡ Some (class_of x) → Answer r p cs strays v s
+  refuses : IsRefusal r v → (after : List Connection) (more : Bool) → s ≡ calm_tap after more → HoldsOfEach IsDone after →
+      Answer r p cs strays v s
+  says_nothing : OnlyDc v cs strays s → Answer r p cs strays v s
+
+-- the state after a unit for the connection at this place, by what is found of it
+abbrev by_finding : (p : ℕ) → Connection → List Connection → Bool → Value → Finding → State
+by_finding p c cs strays v f = record {
+  connections = set cs p (connection_after Right v (is_applied f) (reach_of None f) c);
+  course = reached Right (reach_of None f) (course_after Right c v (is_applied f) (calm strays));
+}
+
+confirm_or : (a b i u l : Bool) →
+    (is_applied (first_failed ((a, Broke rule.WrongForm) ∷ (b, Broke rule.BadAnswer) ∷ (i, Outside) ∷ (u, Broke rule.ReferenceInUse)
+    ∷ (l, Broke rule.LargerSize) ∷ [])) ≡ true)
+    ⊎ (reach_of None (first_failed ((a, Broke rule.WrongForm) ∷ (b, Broke rule.BadAnswer) ∷ (i, Outside)
+    ∷ (u, Broke rule.ReferenceInUse) ∷ (l, Broke rule.LargerSize) ∷ [])) ≡ reach.Everything)
+confirm_or false b i u l = inr refl
+confirm_or true false i u l = inr refl
+confirm_or true true false u l = inr refl
+confirm_or true true true false l = inr refl
+confirm_or true true true true false = inl refl
+confirm_or true true true true true = inl refl
+
+reached_class : (how_far : Reach) (course : Course) → (reached Right how_far course).class ≡ course.class
+reached_class reach.Nothing c = refl
+reached_class reach.Connection c = refl
+reached_class reach.Side c = refl
+reached_class reach.Everything c = refl
+
+confirmed_by : (p destination : ℕ) (x : Connect) (c : Connection) (cs : List Connection) (strays : Bool) (f : Finding) →
+    (is_applied f ≡ true) ⊎ (reach_of None f ≡ reach.Everything) → GoesOn (by_finding p c cs strays (confirm destination x) f) →
+    (by_finding p c cs strays (confirm destination x) f).course.class ≡ Some (class_of x)
+confirmed_by p destination x c cs strays f (inl e) h =
+    reached_class (reach_of None f) (course_after Right c (confirm destination x) (is_applied f) (calm strays))
+    ∙ ap (λ (b : Bool). (course_after Right c (confirm destination x) b (calm strays)).class) e
+confirmed_by p destination x c cs strays f (inr e) h =
+    let stopped = ap (λ (r : Reach). (reached Right r (course_after Right c (confirm destination x) (is_applied f)
+    (calm strays))).left_stopped) e in
+    absurd (differ (by_finding p c cs strays (confirm destination x) f).course.left_stopped stopped h)
+
+if_judged : (j : Bool) (f g : Finding) → j ≡ true → f ≡ g → (if j then f else NotJudged) ≡ g
+if_judged true f g h e = e
+if_judged false f g h e = cc
+
+judged_same : (j : Bool) (f : Finding) → j ≡ true → (if j then f else NotJudged) ≡ f
+judged_same true f h = refl
+judged_same false f h = cc
+
+module _ (r p : ℕ) (cs : List Connection) (strays : Bool) (w : Waits r p cs) where
+  abbrev t : State
+  t = calm_tap cs strays
+
+  abbrev c : Connection
+  c = w.c
+
+  abbrev finding : Value → Finding
+  finding v = found_on Right t c v
+
+  silent_so : is_silent c.right.phase ≡ true
+  silent_so = ap is_silent w.silent
+
+  to_confirm : (destination : ℕ) (x : Connect) → GoesOn (by_finding p c cs strays (confirm destination x) (finding (confirm destination x))) →
+      Answer r p cs strays (confirm destination x) (by_finding p c cs strays (confirm destination x) (finding (confirm destination x)))
+  to_confirm destination x h =
+      let tests = confirm_or (is_silent c.right.phase) (is_offered c.offer None x) (is_inside x) (not (uses_source Right cs
+      (confirm destination x))) (nat_le (code_named x.parameters.size) c.offer.size_code) in
+      let is = judged_same c.is_judged (found Right (calm strays) (uses_source Right cs (confirm destination x)) c (confirm destination x))
+      w.judged in
+      let so = subst (λ (f : Finding). (is_applied f ≡ true) ⊎ (reach_of None f ≡ reach.Everything)) (sym is) tests in
+      confirms destination x refl (confirmed_by p destination x c cs strays (finding (confirm destination x)) so h)
+
+  refused_one : (new e : Connection) (i : ℕ) → IsDone new →
+      ((i ≡ p) × (e ≡ new)) ⊎ ((i ≡ p → ⊥) × (slice_get cs i ≡ Some e)) → IsDone e
+  refused_one new e i h (inl (same, is)) = subst IsDone (sym is) h
+  refused_one new e i h (inr (other, at)) = w.others i e at other
+
+  refused_all : (new : Connection) → IsDone new → HoldsOfEach IsDone (set cs p new)
+  refused_all new h i e at = refused_one new e i h (after_change cs p i new e at)
+
+  kept_so : (a : Bool) (f : Finding) → a ≡ true → first_failed ((a, f) ∷ []) ≡ Kept
+  kept_so true f h = refl
+  kept_so false f h = cc
+
+  refusing : (v : Value) → IsRefusal r v → (f : Finding) → f ≡ Kept → (more : Bool) →
+      by_finding p c cs strays v Kept ≡ calm_tap (set cs p (connection_after Right v true reach.Nothing c)) more →
+      IsDone (connection_after Right v true reach.Nothing c) → Answer r p cs strays v (by_finding p c cs strays v f)
+  refusing v is f kept more so done =
+      refuses is (set cs p (connection_after Right v true reach.Nothing c)) more
+      (ap (λ (g : Finding). by_finding p c cs strays v g) kept ∙ so)
+      (refused_all (connection_after Right v true reach.Nothing c) done)
+
+  to_disconnect : (destination source reason : ℕ) (user : List ℕ) → destination ≡ r →
+      Answer r p cs strays (disconnect destination source reason user)
+      (by_finding p c cs strays (disconnect destination source reason user) (finding (disconnect destination source reason user)))
+  to_disconnect destination source reason user e =
+      let v = disconnect destination source reason user in
+      refusing v e (finding v)
+      (if_judged c.is_judged (found Right (calm strays) false c v) Kept w.judged
+      (kept_so (is_silent c.right.phase || is_open c.right.phase) (Broke rule.Closed)
+      (or_first (is_silent c.right.phase) (is_open c.right.phase) silent_so)))
+      (course_after Right c v true (calm strays)).strays refl
+      (w.judged, ap (λ (b : Bool). is_refused (closing_phase b c.right).phase) silent_so)
+
+  to_error : (destination cause : ℕ) → destination ≡ r →
+      Answer r p cs strays (error destination cause) (by_finding p c cs strays (error destination cause) (finding (error destination cause)))
+  to_error destination cause e =
+      let v = error destination cause in
+      refusing v e (finding v)
+      (if_judged c.is_judged (found Right (calm strays) false c v) Kept w.judged
+      (kept_so (is_silent c.right.phase) (Broke rule.WrongForm) silent_so))
+      strays refl (w.judged, refl)
+
+  not_due : is_due Right c ≡ false
+  not_due = ap (λ (h : Phase). is_open h && is_closing c.seen_by_right.phase) w.silent
+
+  dc_found : (due st : Bool) → due ≡ false →
+      first_failed ((due || not st, NotJudged) ∷ (due, Broke rule.NothingToAnswer) ∷ [])
+      ≡ (if st then NotJudged else Broke rule.NothingToAnswer)
+  dc_found false true h = refl
+  dc_found false false h = refl
+  dc_found true st h = cc
+
+  dc_after : (destination source : ℕ) (st : Bool) (f : Finding) → f ≡ (if st then NotJudged else Broke rule.NothingToAnswer) →
+      GoesOn (by_finding p c cs st (disconnected destination source) f) →
+      by_finding p c cs st (disconnected destination source) f ≡ calm_tap cs st
+  dc_after destination source true f e h =
+      ap (λ (g : Finding). by_finding p c cs true (disconnected destination source) g) e
+      ∙ ap (λ (l : List Connection). calm_tap l true) (set_same cs p c w.at)
+  dc_after destination source false f e h =
+      absurd (differ (by_finding p c cs false (disconnected destination source) f).course.left_stopped
+      (ap (λ (g : Finding). (by_finding p c cs false (disconnected destination source) g).course.left_stopped) e) h)
+
+  to_dc : (destination source : ℕ) →
+      GoesOn (by_finding p c cs strays (disconnected destination source) (finding (disconnected destination source))) →
+      Answer r p cs strays (disconnected destination source)
+      (by_finding p c cs strays (disconnected destination source) (finding (disconnected destination source)))
+  to_dc destination source h =
+      let v = disconnected destination source in
+      let is = judged_same c.is_judged (found Right (calm strays) false c v) w.judged in
+      says_nothing (tt, dc_after destination source strays (finding v) (is ∙ dc_found (is_due Right c) strays not_due) h)
+
+  abbrev Answers : Value → State → Type 0
+  Answers v after = GoesOn after → Answer r p cs strays v after
+
+  at_named : (v : Value) (n : ℕ) (o : Option ℕ) → position (is_named Right n) cs ≡ o →
+      (n ≡ r → Answers v (by_finding p c cs strays v (finding v))) → Answers v (at_place Right v t o).state
+  at_named v n None e k h = says_nothing (for_none cs strays v h)
+  at_named v n (Some q) e k h =
+      let (same, is) = waits_named r p cs w n q e in
+      let there : at_place Right v t (Some q) ≡ at_found Right v t p (Some c) =
+      ap (λ (i : ℕ). at_found Right v t i (slice_get cs i)) same ∙ ap (λ (e : Option Connection). at_found Right v t p e) w.at in
+      subst (λ (o : Outcome). Answers v o.state) (sym there) (k is) h
+
+  pub waits_takes : (v : Value) → Answers v (takes Right v t).state
+  waits_takes (request c) h = absurd (cc)
+  waits_takes (confirm destination x) h =
+      at_named (confirm destination x) destination (position (is_named Right destination) cs) refl (λ e. to_confirm destination x) h
+  waits_takes (disconnect destination source reason user) h =
+      at_named (disconnect destination source reason user) destination (position (is_named Right destination) cs) refl (λ e h. to_disconnect destination source reason user e) h
+  waits_takes (disconnected destination source) h =
+      at_named (disconnected destination source) destination (position (is_named Right destination) cs) refl (λ e. to_dc destination source) h
+  waits_takes (data0 end user) h = absurd (cc)
+  waits_takes (data2 destination number end user) h = absurd (cc)
+  waits_takes (acknowledge credit destination number) h = absurd (cc)
+  waits_takes (error destination cause) h =
+      at_named (error destination cause) destination (position (is_named Right destination) cs) refl (λ e h. to_error destination cause e) h
+
+-- ---- a packet begins
+
+pub done_begins : (d : Direction) (cs : List Connection) → HoldsOfEach IsDone cs → HoldsOfEach IsDone (map (begins d) cs)
+done_begins d cs h i e at = let (x, was, is) = after_map (begins d) cs i e at in subst IsDone (sym is) (begun_done d x (h i x was))
+
+pub waits_begins : (d : Direction) (r p : ℕ) (cs : List Connection) → Waits r p cs → Waits r p (map (begins d) cs)
+waits_begins d r p cs w = record {
+  c = begins d w.c;
+  at = slice_get-map (begins d) cs p ∙ ap (λ (o : Option Connection). option_map (begins d) o) w.at;
+  judged = begins_judged d w.c ∙ w.judged;
+  silent = ap (λ (h : Half). h.phase) (begins_right d w.c) ∙ w.silent;
+  reference = ap (λ (h : Half). h.reference) (begins_left d w.c) ∙ w.reference;
+  known = begins_known d r w.c w.reference w.known;
+  others = λ i e at other.
+      let (x, was, is) = after_map (begins d) cs i e at in subst IsDone (sym is) (begun_done d x (w.others i x was other));
+}
+
+-- ---- a CR passes
+
+-- each is over for left
+abbrev pub AllOver : List Connection → Type 0
+AllOver cs = HoldsOfEach (λ (c : Connection). is_over Left c ≡ true) cs
+
+pub over_begins : (cs : List Connection) → HoldsOfEach IsDone cs → AllOver (map (begins Left) cs)
+over_begins cs h i e at =
+    let (x, was, is) = after_map (begins Left) cs i e at in
+    let (j, refused) = h i x was in
+    subst (λ (c : Connection). is_over Left c ≡ true) (sym is) (refused_over x j refused)
+
+pub over_still : (cs : List Connection) → AllOver cs → AllOver (map (begins Right) cs)
+over_still cs h i e at =
+    let (x, was, is) = after_map (begins Right) cs i e at in
+    subst (λ (c : Connection). is_over Left c ≡ true) (sym is) (h i x was)
+
+free_where : (cs : List Connection) (q : ℕ) → position is_free cs ≡ Some q → (e : Connection) × (slice_get cs q ≡ Some e)
+free_where [] q h = absurd (cc)
+free_where (c ∷ cs) q h = first_there is_free (c ∷ cs) q q c h
+
+asked_waits : (x : Connect) (cs : List Connection) (p : ℕ) → slice_get cs p ≡ Some (asked_by x) →
+    ((i : ℕ) (e : Connection) → slice_get cs i ≡ Some e → (i ≡ p → ⊥) → IsDone e) → Waits x.source p cs
+asked_waits x cs p at others = record {
+  c = asked_by x;
+  at = at;
+  judged = refl;
+  silent = refl;
+  reference = refl;
+  known = λ h. absurd (cc h);
+  others = others;
+}
+
+another : (cs : List Connection) (q i : ℕ) (new e : Connection) → HoldsOfEach IsDone cs → (i ≡ q → ⊥) →
+    ((i ≡ q) × (e ≡ new)) ⊎ (slice_get cs i ≡ Some e) → IsDone e
+another cs q i new e done other (inl (same, is)) = absurd (other same)
+another cs q i new e done other (inr at) = done i e at
+
+placed_waits : (x : Connect) (cs : List Connection) (o : Option ℕ) → position is_free cs ≡ o → HoldsOfEach IsDone cs →
+    (p : ℕ) × Waits x.source p (placed (asked_by x) cs o)
+placed_waits x cs None e done = (
+  length cs,
+  asked_waits x (cs ++ asked_by x ∷ []) (length cs) (added_there cs (asked_by x))
+      (λ i c at other. another cs (length cs) i (asked_by x) c done other (after_add cs i (asked_by x) c at)),
+)
+placed_waits x cs (Some q) e done =
+    let (old, was) = free_where cs q e in (
+      q,
+      asked_waits x (set cs q (asked_by x)) q (set_there cs q (asked_by x) old was)
+          (λ i c at other. another cs q i (asked_by x) c done other (after_set cs q i (asked_by x) c at)),
+    )
+
+-- a CR has passed, and waits for its answer
+pub record Asked (r : ℕ) (strays : Bool) (s : State) : Type 0 where
+  pub after : List Connection
+  pub is : s ≡ calm_tap after strays
+  pub place : ℕ
+  pub waits : Waits r place after
+
+pub asks_passed : (x : Connect) (cs : List Connection) (strays : Bool) (f : Finding) → (f ≡ Kept) ⊎ (f ≡ TooMany) → HoldsOfEach IsDone cs →
+    GoesOn (asks_by Left f x (calm_tap cs strays)).state → Asked x.source strays (asks_by Left f x (calm_tap cs strays)).state
+asks_passed x cs strays f (inl e) done h =
+    let (p, waits) = placed_waits x cs (position is_free cs) refl done in
+    subst (λ (g : Finding). Asked x.source strays (asks_by Left g x (calm_tap cs strays)).state) (sym e)
+    (record { after = placed (asked_by x) cs (position is_free cs); is = refl; place = p; waits = waits })
+asks_passed x cs strays f (inr e) done h =
+    absurd (differ (asks_by Left f x (calm_tap cs strays)).state.course.left_stopped
+    (ap (λ (g : Finding). (asks_by Left g x (calm_tap cs strays)).state.course.left_stopped) e) h)
