@@ -199,9 +199,10 @@ fn push_read(text: &mut Vec<u8>, left: &Transport, right: &Transport) -> Result<
     push_reading(text, Direction::Right, &right.reading)
 }
 
-/// Whether each connection has a number of its own. Memory holds no more than that.
+/// Whether there are so few connections that each has a number of its own: fewer than 2^64 - 1. Memory never holds more.
 fn is_numbered(tap: &Tap) -> bool
-    ensures { (capture : Capture) → HoldsState tap.now (comes_to capture) → IsSettled tap.now → result ≡ true → HoldsCapture tap.now capture }
+    ensures { (capture : Capture) → HoldsState tap.now (comes_to capture) → IsSettled tap.now → result ≡ true
+        → HoldsCapture tap.now capture }
 {
     tap.count() < usize::MAX
 }
