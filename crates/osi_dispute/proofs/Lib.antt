@@ -11,5 +11,6 @@ pub mod a_last_line_is_never_empty
 pub mod a_report_says_what_a_tap_holds
 pub mod a_capture_is_judged_in_one_of_two_ways
 pub mod a_session_is_told_in_one_way
+pub mod each_connection_has_a_number_of_its_own
 pub mod reports_are_alike
 pub mod a_report_is_added_part_by_part

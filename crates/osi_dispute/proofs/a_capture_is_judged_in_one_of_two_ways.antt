@@ -4,7 +4,7 @@ use Rattle.osi_judge.specs.declared.judge.Judge.{Judge}
 use Rattle.osi_judge.specs.Captures.{Capture}
 use Rattle.osi_tap.specs.declared.tap.Tap.{Tap}
 use Rattle.osi_tap.specs.Standing.{HoldsState}
-use Rattle.osi_tap.specs.Tapping.{State, comes_to}
+use Rattle.osi_tap.specs.Tapping.{comes_to}
 use Rattle.osi_dispute.specs.declared.texts.Judgement.{Judgement}
 use Rattle.osi_dispute.specs.declared.verdicts.Verdict.{Verdict}
 use Rattle.osi_dispute.specs.Disputes.{IsNarrow, IsWide, Reported, is_wide}
@@ -40,7 +40,7 @@ as_wide (Err e) c v some rows h w e2 f r = r
 -- a tap was fed these rows
 pub tapped_rows : {E : Type 0} (r : Result Judgement E) (t : Tap) (left : Bool) (rows : List Row) → left ≡ left_is_tabbed rows
     → HoldsState t (comes_to ([] ++ passed_by left rows))
-    → IfOk r (λ j. (s : State) → HoldsState t s → Reported s j.lines.items j.status)
+    → IfOk r (λ j. (c : Capture) → HoldsState t (comes_to c) → Reported (comes_to c) j.lines.items j.status)
     → IfOk r (λ j. Reported (comes_to (capture_of rows)) j.lines.items j.status)
-tapped_rows (Ok j) t left rows e h f = f (comes_to (capture_of rows)) (subst (λ (b : Bool). HoldsState t (comes_to (passed_by b rows))) e h)
+tapped_rows (Ok j) t left rows e h f = f (capture_of rows) (subst (λ (b : Bool). HoldsState t (comes_to (passed_by b rows))) e h)
 tapped_rows (Err x) t left rows e h f = f

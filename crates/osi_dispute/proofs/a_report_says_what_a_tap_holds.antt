@@ -1,6 +1,6 @@
 -- What is reported of connections is what a tap holds of them: for the functions of `reports`.
-use Rattle.std.proofs.Common.{◌≡◌, ◌∙◌, refl, sym, ap, subst, ℕ, ◌+◌, Bool, true, false, not, ◌&&◌, List, [], ◌∷◌, ◌++◌}
-use Rattle.std.proofs.Common.{length, Option, Some, None, IfSome, inl, inr, arith}
+use Rattle.std.proofs.Common.{◌≡◌, ◌∙◌, refl, sym, ap, subst, ℕ, ◌+◌, Bool, false, not, ◌&&◌, List, [], ◌∷◌, ◌++◌}
+use Rattle.std.proofs.Common.{length, Option, Some, None, IfSome, arith}
 use Rattle.osi_judge.specs.declared.directions.Direction.{Direction}
 use Rattle.osi_judge.specs.declared.directions.Direction.TheVariants.{Left, Right}
 use Rattle.osi_judge.specs.declared.findings.Finding.{Finding}
@@ -15,20 +15,24 @@ use Rattle.osi_judge.specs.Stops.{broke_session}
 use Rattle.osi_judge.specs.Tapping.{begin_of}
 use Rattle.osi_tap.specs.declared.connections.Connection.{Connection as Joint}
 use Rattle.osi_tap.specs.Connections.{Joined, Sessions, spoken, reference_of, numbered}
-use Rattle.osi_tap.specs.Holding.{line_in, HoldsJoined, HoldsFound, IsHeard, IsFirst, IsPlace}
+use Rattle.osi_tap.specs.Blaming.{IsMarkOf, IsToBlame}
+use Rattle.osi_tap.specs.Courses.{marks_of, first_of}
+use Rattle.osi_tap.specs.Holding.{line_in, HoldsJoined, HoldsFound, IsHeard, IsPlace}
 use Rattle.osi_tap.specs.declared.marks.First.{First}
-use Rattle.osi_tap.specs.declared.marks.Layer.TheVariants.{Session, Transport}
+use Rattle.osi_tap.specs.declared.marks.Mark.{Mark}
 use Rattle.osi_tap.specs.Lines.{told}
 use Rattle.osi_tap.specs.Tapping.{State}
 use Rattle.osi_tap.proofs.what_is_kept_of_a_side_is_what_passed.{heard_at}
+use Rattle.osi_tap.proofs.who_is_to_blame.{broken}
 use Rattle.osi_dispute.specs.declared.reports.Last.{Last}
+use Rattle.osi_dispute.specs.declared.reports.Last.TheVariants as ending
 use Rattle.osi_dispute.specs.declared.reports.Pair.{Pair}
 use Rattle.osi_dispute.specs.declared.reports.Transport.{Transport as Carried}
 use Rattle.osi_dispute.specs.declared.verdicts.Told.{Told}
 use Rattle.osi_dispute.specs.declared.verdicts.Told.TheVariants as what
 use Rattle.osi_dispute.specs.Facts.{connection_by}
 use Rattle.osi_dispute.specs.Reports.{IsSession, SaysSo, is_opened, is_refused_in, is_dropped, Tells, IsPair, IsPairOf, ArePairs}
-use Rattle.osi_dispute.specs.Reports.{no_pair, all_keep, carried, is_clear, kept_last, IsStrayOf, IsLast}
+use Rattle.osi_dispute.specs.Reports.{no_pair, all_keep, carried, is_clear, kept_last, stray_last, IsStrayLast, IsMarkLast}
 
 -- ---- the session of a side
 
@@ -111,44 +115,60 @@ pair_missing (Some j) p h k = absurd h
 
 -- ---- the last line
 
--- the break that is told as the first is of transport, and no transport broke a rule before
-pub transport_first : (told : First) (o : Option First) → told.layer ≡ Transport → IsFirst (Some told) o
-    → (f : First) × (o ≡ Some f) × (f.direction ≡ told.direction)
-transport_first told None e h = absurd (layers (sym e ∙ h))
-  where
-    layers : Transport ≡ Session → ⊥
-    layers e = cc
-transport_first told (Some f) e (inl h) = (f, refl, ap (λ (x : First). x.direction) (sym h))
-transport_first told (Some f) e (inr h) = absurd (layers (sym e ∙ h))
-  where
-    layers : Transport ≡ Session → ⊥
-    layers e = cc
+same_mark : (m k : Mark) → Some m ≡ Some k → m ≡ k
+same_mark m k e = cc
 
-kept_by : (s : State) (ps : List Pair) (l r all : Bool) → is_clear (carried Left s) ≡ l → is_clear (carried Right s) ≡ r → all_keep ps ≡ all
-    → IsLast s ps (kept_last (l && r) all)
-kept_by s ps true true true l r a = record { sessions = a; left = l; right = r }
-kept_by s ps true false true l r a = (a, λ i. l i && r i)
-kept_by s ps false r true l e a = (a, λ i. l i && e i)
-kept_by s ps l r false e f a = a
+-- the break that is told as the first is of transport
+pub mark_told : (s : State) (d : Direction) (f : First) (m : Mark) → Some m ≡ (marks_of d s.course).broke → f.direction ≡ d
+    → IsMarkOf d f s.course → IsMarkLast s f (ending.Transport d m)
+mark_told s d f m e w (k, b, is) = record {
+  mark = m;
+  broke = ap (λ (x : Direction). (marks_of x s.course).broke) w ∙ sym e;
+  first = is ∙ ap first_of (sym (same_mark m k (e ∙ b)));
+  is = ap (λ (x : Direction). ending.Transport x m) (sym w);
+}
+
+pub no_mark : (o : Option Mark) (k : Mark) → None ≡ o → o ≡ Some k → ⊥
+no_mark o k e f = let n : None ≡ Some k = e ∙ f in cc
 
 pub kept_is : (s : State) (ps : List Pair) (left right : Carried) (all : Bool) (last : Last) → left ≡ carried Left s
     → right ≡ carried Right s
-    → all ≡ all_keep ps → last ≡ kept_last (is_clear left && is_clear right) all → IsLast s ps last
-kept_is s ps left right all last l r a e =
-    subst (λ (x : Last). IsLast s ps x) (sym e)
-    (kept_by s ps (is_clear left) (is_clear right) all (ap is_clear (sym l)) (ap is_clear (sym r)) (sym a))
+    → all ≡ all_keep ps → last ≡ kept_last (is_clear left && is_clear right) all
+    → last ≡ kept_last (is_clear (carried Left s) && is_clear (carried Right s)) (all_keep ps)
+kept_is s ps left right all last l r a e = e ∙ (λ i. kept_last (is_clear (l i) && is_clear (r i)) (a i))
 
--- a session that strayed
-pub stray_held : (s : State) (d : Direction) (c : Joint) (t : Told) (number : ℕ) (j : Joined) → numbered number s.course.sessions ≡ Some j
-    → HoldsJoined c j → IsHeard c → SaysSo d j (line_in d c).side t → IsStrayOf s d t
-stray_held s d c t number j n h k says = record {
+-- it is of a session, which strayed
+pub stray_held : (s : State) (d : Direction) (c : Joint) (t : Told) (last : Last) (f : First) (number : ℕ) (j : Joined)
+    → numbered number s.course.sessions ≡ Some j → f.direction ≡ d → f.connection ≡ Some number → HoldsJoined c j → IsHeard c
+    → SaysSo d j (line_in d c).side t → stray_last d t ≡ Some last → IsStrayLast s f last
+stray_held s d c t last f number j e w n h k says is = record {
   number = number;
   connection = j;
   session = (line_in d c).side;
-  numbered_so = n;
-  is_session = session_at d c j h k;
-  says = says;
+  told = t;
+  of_number = n;
+  numbered_so = e;
+  is_session = subst (λ (x : Direction). IsSession x j (line_in d c).side) (sym w) (session_at d c j h k);
+  says = subst (λ (x : Direction). SaysSo x j (line_in d c).side t) (sym w) says;
+  is = ap (λ (x : Direction). stray_last x t) w ∙ is;
 }
+
+-- a session is to blame, and is found
+pub kept_or_blamed : (d : Direction) (c : Joint) (j : Joined) (f : Finding) → f ≡ (line_in d c).side.finding → broke_session f ≡ false
+    → HoldsJoined c j → IsToBlame d j → ⊥
+kept_or_blamed d c j f e kept h b =
+    let blamed = ap broke_session e ∙ broken d c j h b in
+    absurd (cc)
+
+same_found : (o : Option Joined) (i j : Joined) → o ≡ Some i → o ≡ Some j → i ≡ j
+same_found o i j e f = let both : Some i ≡ Some j = sym e ∙ f in cc
+
+pub blamed_at : (d : Direction) (o : Option Joined) (j : Joined) → o ≡ Some j → (i : Joined) × (o ≡ Some i) × IsToBlame d i
+    → IsToBlame d j
+blamed_at d o j e (i, f, b) = subst (IsToBlame d) (same_found o i j f e) b
+
+pub blamed_nowhere : (d : Direction) (o : Option Joined) → HoldsFound None o → (i : Joined) × (o ≡ Some i) × IsToBlame d i → ⊥
+blamed_nowhere d o h (i, f, b) = absurd (subst (HoldsFound None) f h)
 
 -- whether nothing is told of a side
 pub dropped_as : (own beside f g : Finding) (r x : Bool) → own ≡ f → beside ≡ g → r ≡ is_dropped own beside → r ≡ x → is_dropped f g ≡ x

@@ -28,8 +28,7 @@ use Rattle.osi_judge.proofs.told.a_session_stands_in_one_way.{one_stands}
 use Rattle.osi_dispute.specs.declared.verdicts.Connection.TheVariants.{Session}
 use Rattle.osi_tap.specs.Tapping.{comes_to}
 use Rattle.osi_dispute.specs.Disputes.{is_wide, IsJudgement, IsNarrow, IsWide}
-use Rattle.osi_dispute.specs.Laws.{DifferInLast, IsNarrowJudgement, IsWideJudgement}
-use Rattle.osi_dispute.proofs.reports_are_alike.{one_report}
+use Rattle.osi_dispute.proofs.reports_are_alike.{one_reported}
 use Rattle.osi_dispute.specs.Texts.{verdict_text, verdict_status}
 use Rattle.osi_dispute.proofs.a_capture_has_one_finding.{HasOneList}
 use Rattle.osi_dispute.proofs.a_rule_tells_a_break_from_leaving.{HasOnePlace, one_rule, same_found}
@@ -246,24 +245,23 @@ one_narrow has place only c lines others status other one (inr two) =
     let e = one_verdict has place only c one.judged.verdict two.verdict one.judged.judged.determined two.judged.determined in
     absurd (narrow_or_wide two.verdict (subst (λ (x : Verdict). is_wide x ≡ false) e one.narrow) two.wide)
 
-pub one_judgement : HasOneList → HasOnePlace → HasOneFirst → (text lines others : List ℕ) (status other : ℕ)
-    → IsNarrowJudgement text lines status → IsJudgement text others other → (lines ≡ others) × (status ≡ other)
-one_judgement has place only text lines others status other one two =
-    let capture = one_text text one.capture two.capture one.reads two.reads in
-    one_narrow has place only two.capture lines others status other
-    (subst (λ (x : Capture). IsNarrow x lines status) capture one.judged) two.judged
-
 one_wide : HasOneList → HasOnePlace → HasOneFirst → (c : Capture) (lines others : List ℕ) (status other : ℕ)
-    → IsWide c lines status → IsNarrow c others other ⊎ IsWide c others other → DifferInLast lines others
+    → IsWide c lines status → IsNarrow c others other ⊎ IsWide c others other → (lines ≡ others) × (status ≡ other)
 one_wide has place only c lines others status other one (inl two) =
     let e = one_verdict has place only c one.verdict two.judged.verdict one.judged.determined two.judged.judged.determined in
     absurd (narrow_or_wide two.judged.verdict two.narrow (subst (λ (x : Verdict). is_wide x ≡ true) e one.wide))
 one_wide has place only c lines others status other one (inr two) =
-    one_report (comes_to c) lines others status other one.reported two.reported
+    one_reported (comes_to c) lines others status other one.reported two.reported
 
-pub one_report_of : HasOneList → HasOnePlace → HasOneFirst → (text lines others : List ℕ) (status other : ℕ)
-    → IsWideJudgement text lines status → IsJudgement text others other → DifferInLast lines others
-one_report_of has place only text lines others status other one two =
+one_of_both : HasOneList → HasOnePlace → HasOneFirst → (c : Capture) (lines others : List ℕ) (status other : ℕ)
+    → IsNarrow c lines status ⊎ IsWide c lines status → IsNarrow c others other ⊎ IsWide c others other
+    → (lines ≡ others) × (status ≡ other)
+one_of_both has place only c lines others status other (inl one) two = one_narrow has place only c lines others status other one two
+one_of_both has place only c lines others status other (inr one) two = one_wide has place only c lines others status other one two
+
+pub one_judgement : HasOneList → HasOnePlace → HasOneFirst → (text lines others : List ℕ) (status other : ℕ)
+    → IsJudgement text lines status → IsJudgement text others other → (lines ≡ others) × (status ≡ other)
+one_judgement has place only text lines others status other one two =
     let capture = one_text text one.capture two.capture one.reads two.reads in
-    one_wide has place only two.capture lines others status other
-    (subst (λ (x : Capture). IsWide x lines status) capture one.judged) two.judged
+    one_of_both has place only two.capture lines others status other
+    (subst (λ (x : Capture). IsNarrow x lines status ⊎ IsWide x lines status) capture one.judged) two.judged

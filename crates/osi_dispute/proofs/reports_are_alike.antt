@@ -1,7 +1,6 @@
--- Two reports of what a capture comes to say the same of each connection and of transport: for the law that a text has one judgement.
-use Rattle.std.proofs.Common.{◌≡◌, ◌∙◌, refl, sym, ap, subst, ℕ, ◌+◌, not, ◌&&◌, List, [], ◌∷◌, ◌++◌, length}
+-- What a capture comes to has one report: for the law that a text has one judgement.
+use Rattle.std.proofs.Common.{◌≡◌, ◌∙◌, refl, sym, ap, subst, ℕ, ◌+◌, not, ◌&&◌, List, [], ◌∷◌, length}
 use Rattle.std.proofs.Common.{Option, Some, None}
-use Rattle.std.specs.List.{flat_map}
 use Rattle.osi_judge.specs.declared.directions.Direction.{Direction}
 use Rattle.osi_judge.specs.declared.directions.Direction.TheVariants as side
 use Rattle.osi_judge.specs.declared.findings.Finding.TheVariants as finding
@@ -13,19 +12,26 @@ use Rattle.osi_judge.specs.Judging.{Watched}
 use Rattle.osi_judge.specs.Onward.{StandsBehind}
 use Rattle.osi_judge.specs.Stops.{broke_session}
 use Rattle.osi_judge.proofs.told.a_session_stands_in_one_way.{one_stands}
+use Rattle.osi_tap.specs.declared.marks.First.{First}
+use Rattle.osi_tap.specs.declared.marks.Layer.{Layer}
+use Rattle.osi_tap.specs.declared.marks.Layer.TheVariants as layer
+use Rattle.osi_tap.specs.declared.marks.Mark.{Mark}
 use Rattle.osi_tap.specs.Connections.{Joined, Sessions, spoken, reference_of, numbered}
+use Rattle.osi_tap.specs.Courses.{marks_of}
 use Rattle.osi_tap.specs.Lines.{told, place_in}
 use Rattle.osi_tap.specs.Tapping.{State}
+use Rattle.osi_tap.proofs.a_capture_has_one_first_break.{one_first}
+use Rattle.osi_dispute.specs.declared.reports.Last.{Last}
+use Rattle.osi_dispute.specs.declared.reports.Last.TheVariants as ending
 use Rattle.osi_dispute.specs.declared.reports.Pair.{Pair}
 use Rattle.osi_dispute.specs.declared.verdicts.Told.{Told}
 use Rattle.osi_dispute.specs.declared.verdicts.Told.TheVariants as what
 use Rattle.osi_dispute.specs.declared.verdicts.Connection.{Connection}
 use Rattle.osi_dispute.specs.Disputes.{Reported}
 use Rattle.osi_dispute.specs.Facts.{is_kept, connection_by}
-use Rattle.osi_dispute.specs.Laws.{DifferInLast}
 use Rattle.osi_dispute.specs.Reports.{IsSession, Strayed, SaysSo, is_opened, is_refused_in, is_dropped, Tells, IsPair, IsPairOf, ArePairs}
-use Rattle.osi_dispute.specs.Reports.{Report, IsReport}
-use Rattle.osi_dispute.specs.ReportTexts.{pair_lines, read_lines, transport_lines, report_front, report_text, last_line}
+use Rattle.osi_dispute.specs.Reports.{stray_last, IsStrayLast, IsMarkLast, IsFirstLast, IsLastBy, IsLast, Report, IsReport}
+use Rattle.osi_dispute.specs.ReportTexts.{report_text, last_status}
 use Rattle.osi_dispute.proofs.a_session_is_told_in_one_way.{IsOne, one_session}
 
 -- ---- of the session of a side
@@ -134,34 +140,59 @@ all_pairs ss n (p ∷ ps) (q ∷ qs) e h k =
 all_pairs ss n [] (q ∷ qs) e h k = absurd (cc)
 all_pairs ss n (p ∷ ps) [] e h k = absurd (cc)
 
+-- ---- of the last line
+
+same_last : (a b : Last) → Some a ≡ Some b → a ≡ b
+same_last a b e = cc
+
+same_joined : (o : Option Joined) (i j : Joined) → o ≡ Some i → o ≡ Some j → i ≡ j
+same_joined o i j e f = let both : Some i ≡ Some j = sym e ∙ f in cc
+
+same_mark : (o : Option Mark) (m k : Mark) → o ≡ Some m → o ≡ Some k → m ≡ k
+same_mark o m k e f = let both : Some m ≡ Some k = sym e ∙ f in cc
+
+one_stray : (s : State) (f : First) (a b : Last) → IsStrayLast s f a → IsStrayLast s f b → a ≡ b
+one_stray s f a b h k =
+    let number = some_same h.number k.number (sym h.of_number ∙ k.of_number) in
+    let joined = same_joined (numbered k.number s.course.sessions) h.connection k.connection
+    (ap (λ (n : ℕ). numbered n s.course.sessions) (sym number) ∙ h.numbered_so) k.numbered_so in
+    let told = one_told f.direction k.connection h.session k.session h.told k.told
+    (subst (λ (j : Joined). IsSession f.direction j h.session) joined h.is_session) k.is_session
+    (subst (λ (j : Joined). SaysSo f.direction j h.session h.told) joined h.says) k.says in
+    same_last a b (sym h.is ∙ ap (stray_last f.direction) told ∙ k.is)
+
+one_mark : (s : State) (f : First) (a b : Last) → IsMarkLast s f a → IsMarkLast s f b → a ≡ b
+one_mark s f a b h k =
+    h.is ∙ ap (λ (m : Mark). ending.Transport f.direction m) (same_mark (marks_of f.direction s.course).broke h.mark k.mark h.broke k.broke)
+    ∙ sym k.is
+
+one_of_first : (l : Layer) (s : State) (f : First) (a b : Last) → IsFirstLast l s f a → IsFirstLast l s f b → a ≡ b
+one_of_first layer.Session s f a b h k = one_stray s f a b h k
+one_of_first layer.Transport s f a b h k = one_mark s f a b h k
+
+one_by : (o : Option First) (s : State) (ps : List Pair) (a b : Last) → IsLastBy o s ps a → IsLastBy o s ps b → a ≡ b
+one_by None s ps a b h k = h.is ∙ sym k.is
+one_by (Some f) s ps a b h k = one_of_first f.layer s f a b h k
+
+one_last : (s : State) (ps : List Pair) (a b : Last) → IsLast s ps a → IsLast s ps b → a ≡ b
+one_last s ps a b h k =
+    let first = one_first s.course.past h.first k.first h.is_first k.is_first in
+    one_by k.first s ps a b (subst (λ (o : Option First). IsLastBy o s ps a) first h.says) k.says
+
 -- ---- of a report
 
-pub one_found : (s : State) (r q : Report) → IsReport s r → IsReport s q
-    → (r.left ≡ q.left) × (r.right ≡ q.right) × (r.pairs ≡ q.pairs)
-one_found s r q h k = (
-  h.left ∙ sym k.left,
-  h.right ∙ sym k.right,
-  all_pairs s.course.sessions 0 r.pairs q.pairs (h.pairs.count ∙ sym k.pairs.count) h.pairs.each k.pairs.each,
-)
+pub one_report : (s : State) (r q : Report) → IsReport s r → IsReport s q → r ≡ q
+one_report s r q h k =
+    let left = h.left ∙ sym k.left in
+    let right = h.right ∙ sym k.right in
+    let pairs = all_pairs s.course.sessions 0 r.pairs q.pairs (h.pairs.count ∙ sym k.pairs.count) h.pairs.each k.pairs.each in
+    let last = one_last s q.pairs r.last q.last (subst (λ (ps : List Pair). IsLast s ps r.last) pairs h.last) k.last in
+    λ i. record { left = left i; right = right i; pairs = pairs i; last = last i }
 
-front_alike : (r q : Report) → r.left ≡ q.left → r.right ≡ q.right → r.pairs ≡ q.pairs → report_front r ≡ report_front q
-unfolding report_front
-front_alike r q a b c = λ i.
-    read_lines (a i) (b i) ++ flat_map pair_lines (c i) ++ transport_lines (a i) (b i)
-
-split_text : (r : Report) → report_text r ≡ report_front r ++ last_line r.last
-unfolding report_text
-split_text r = refl
-
-pub one_report : (s : State) (lines others : List ℕ) (status other : ℕ) → Reported s lines status → Reported s others other
-    → DifferInLast lines others
-one_report s lines others status other h k =
-    let same = one_found s h.report k.report h.reported k.reported in
-    record {
-      front = report_front h.report;
-      one = h.report.last;
-      two = k.report.last;
-      first = h.told ∙ split_text h.report;
-      second = k.told ∙ split_text k.report
-          ∙ ap (λ (z : List ℕ). z ++ last_line k.report.last) (sym (front_alike h.report k.report same.0 same.1 same.2));
-    }
+pub one_reported : (s : State) (lines others : List ℕ) (status other : ℕ) → Reported s lines status → Reported s others other
+    → (lines ≡ others) × (status ≡ other)
+one_reported s lines others status other h k =
+    let same = one_report s h.report k.report h.reported k.reported in (
+      h.told ∙ ap report_text same ∙ sym k.told,
+      h.answered ∙ ap (λ (r : Report). last_status r.last) same ∙ sym k.answered,
+    )

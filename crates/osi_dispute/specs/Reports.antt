@@ -1,5 +1,5 @@
 -- What a report says of a byte connection, by what a capture of it comes to.
-use Rattle.std.specs.Prelude.{◌≡◌, ℕ, ◌+◌, Bool, true, false, not, ◌&&◌, is_some, List, [], ◌∷◌, length, Option, Some, None}
+use Rattle.std.specs.Prelude.{◌≡◌, ℕ, ◌+◌, ◌-◌, ◌^◌, ◌<◌, Bool, true, false, not, ◌&&◌, is_some, List, [], ◌∷◌, length, Option, Some, None}
 use Rattle.std.specs.List.{list_all}
 use Rattle.osi_tpkt.specs.Stream.{offset_of}
 use Rattle.osi_judge.specs.declared.directions.Direction.{Direction}
@@ -7,19 +7,24 @@ use Rattle.osi_judge.specs.declared.directions.Direction.TheVariants as side
 use Rattle.osi_judge.specs.declared.findings.Finding.{Finding}
 use Rattle.osi_judge.specs.declared.findings.Finding.TheVariants as finding
 use Rattle.osi_judge.specs.declared.rules.Break.{Break}
-use Rattle.osi_judge.specs.Captures.{other}
+use Rattle.osi_judge.specs.Captures.{Capture, other}
 use Rattle.osi_judge.specs.Judging.{Watched, Watches}
 use Rattle.osi_judge.specs.Onward.{StandsFor}
 use Rattle.osi_judge.specs.Outlines.{outlines}
 use Rattle.osi_judge.specs.Stops.{broke_session}
 use Rattle.osi_judge.specs.Tapping.{begin_of}
 use Rattle.osi_tap.specs.declared.marks.First.{First}
+use Rattle.osi_tap.specs.declared.marks.Layer.{Layer}
+use Rattle.osi_tap.specs.declared.marks.Layer.TheVariants as layer
 use Rattle.osi_tap.specs.declared.marks.Mark.{Mark}
+use Rattle.osi_tap.specs.declared.tap.Tap.{Tap}
+use Rattle.osi_tap.specs.Blaming.{IsFirstOf, NobodyIs}
 use Rattle.osi_tap.specs.Connections.{Joined, Sessions, spoken, reference_of, numbered, count}
-use Rattle.osi_tap.specs.Courses.{marks_of}
+use Rattle.osi_tap.specs.Courses.{marks_of, first_of}
 use Rattle.osi_tap.specs.Lines.{told, heard, place_in}
 use Rattle.osi_tap.specs.Streams.{reading_of}
-use Rattle.osi_tap.specs.Tapping.{State, stream_of}
+use Rattle.osi_tap.specs.Standing.{HoldsState, IsSettled}
+use Rattle.osi_tap.specs.Tapping.{State, stream_of, comes_to}
 use Rattle.osi_dispute.specs.declared.reports.Pair.{Pair}
 use Rattle.osi_dispute.specs.declared.reports.Transport.{Transport as Carried}
 use Rattle.osi_dispute.specs.declared.reports.Last.{Last}
@@ -120,36 +125,57 @@ kept_last clear false = TooManySessions
 kept_last true true = BothKept
 kept_last false true = TooManyConnections
 
--- a session of this side strayed so
-pub record IsStrayOf (s : State) (d : Direction) (t : Told) : Type 0 where
+-- the last line if a session of this side was the first, of which this is told
+abbrev pub stray_last : Direction → Told → Option Last
+stray_last d (told.Broke offset by) = Some (Broke d offset by)
+stray_last d (told.Left offset by) = Some (Left d offset by)
+stray_last d told = None
+
+-- The first break is of a session, that of its side on the connection with its number, and the last line is what is told of it.
+pub record IsStrayLast (s : State) (f : First) (last : Last) : Type 0 where
   pub number : ℕ
   pub connection : Joined
   pub session : Watched
+  pub told : Told
+  pub of_number : f.connection ≡ Some number
   pub numbered_so : numbered number s.course.sessions ≡ Some connection
-  pub is_session : IsSession d connection session
-  pub says : SaysSo d connection session t
+  pub is_session : IsSession f.direction connection session
+  pub says : SaysSo f.direction connection session told
+  pub is : stray_last f.direction told ≡ Some last
 
--- the transport of this side broke a rule there, and no transport broke one before
-pub record IsMarkOf (s : State) (d : Direction) (m : Mark) : Type 0 where
-  pub broke : (marks_of d s.course).broke ≡ Some m
-  pub by : First
-  pub first : s.course.first ≡ Some by
-  pub whose : by.direction ≡ d
+-- It is of transport, and the last line is its mark, where the transport of its side first broke a rule.
+pub record IsMarkLast (s : State) (f : First) (last : Last) : Type 0 where
+  pub mark : Mark
+  pub broke : (marks_of f.direction s.course).broke ≡ Some mark
+  pub first : f ≡ first_of mark
+  pub is : last ≡ Transport f.direction mark
 
--- nobody broke the protocol, and all was judged
-pub record AllKept (s : State) (ps : List Pair) : Type 0 where
-  pub sessions : all_keep ps ≡ true
-  pub left : is_clear (carried side.Left s) ≡ true
-  pub right : is_clear (carried side.Right s) ≡ true
+abbrev pub IsFirstLast : Layer → State → First → Last → Type 0
+IsFirstLast layer.Session s f last = IsStrayLast s f last
+IsFirstLast layer.Transport s f last = IsMarkLast s f last
 
--- What the last line says is so. Which session strayed first is no part of it.
-abbrev pub IsLast : State → List Pair → Last → Type 0
-IsLast s ps BothKept = AllKept s ps
-IsLast s ps (Broke d offset by) = IsStrayOf s d (told.Broke offset by)
-IsLast s ps (Left d offset by) = IsStrayOf s d (told.Left offset by)
-IsLast s ps (Transport d m) = IsMarkOf s d m
-IsLast s ps TooManySessions = all_keep ps ≡ false
-IsLast s ps TooManyConnections = (all_keep ps ≡ true) × ((is_clear (carried side.Left s) && is_clear (carried side.Right s)) ≡ false)
+-- nobody broke the protocol, and the last line says whether all was judged
+pub record IsKeptLast (s : State) (ps : List Pair) (last : Last) : Type 0 where
+  pub nobody : NobodyIs s.course.sessions
+  pub is : last ≡ kept_last (is_clear (carried side.Left s) && is_clear (carried side.Right s)) (all_keep ps)
+
+abbrev pub IsLastBy : Option First → State → List Pair → Last → Type 0
+IsLastBy None s ps last = IsKeptLast s ps last
+IsLastBy (Some f) s ps last = IsFirstLast f.layer s f last
+
+-- the last line names the first break of all, of transport and of sessions; or there is none, and nobody broke the protocol
+pub record IsLast (s : State) (ps : List Pair) (last : Last) : Type 0 where
+  pub first : Option First
+  pub is_first : IsFirstOf first s.course.past
+  pub says : IsLastBy first s ps last
+
+-- ---- a tap that is asked
+
+-- A tap that is settled holds what this capture comes to, which requests so few connections that each has a number of its own.
+pub record HoldsCapture (t : Tap) (capture : Capture) : Type 0 where
+  pub holds : HoldsState t (comes_to capture)
+  pub settled : IsSettled t
+  pub few : count (comes_to capture).course.sessions < 2 ^ 64 - 1
 
 -- ---- the report
 

@@ -4,7 +4,7 @@ ghost use Rattle.std.specs.Prelude.{◌≡◌, ◌++◌, ◌⊎◌, ◌<◌, Err
 ghost use Rattle.osi_judge.specs.Captures.{Capture, piece};
 ghost use Rattle.osi_listing.specs.Capture.{IsNoCapture};
 ghost use Rattle.osi_tap.specs.Standing.{HoldsState};
-ghost use Rattle.osi_tap.specs.Tapping.{State, comes_to};
+ghost use Rattle.osi_tap.specs.Tapping.{comes_to};
 ghost use Rattle.osi_dispute.specs.Disputes.{stops_at_other, is_wide, IsJudgement, IsNarrow, IsWide, Reported};
 ghost use Rattle.osi_dispute.specs.Rows.{side_of, passed_by, capture_of, rows_of};
 ghost use Rattle.osi_dispute.specs.Reading.{rows_left};
@@ -89,7 +89,8 @@ fn tap_pieces(tap: &mut Tap, pieces: Pieces<'_>, left_is_tabbed: bool) -> Result
 
 /// The report of everything that a tap was fed.
 fn judgement_by_tap(alloc: Global, tap: &mut Tap) -> Result<Judgement, AllocError>
-    ensures reported { IfOk result (λ j. (s : State) → HoldsState tap.old s → Reported s j.lines.items j.status) }
+    ensures reported { IfOk result (λ j. (capture : Capture) → HoldsState tap.old (comes_to capture)
+        → Reported (comes_to capture) j.lines.items j.status) }
     ensures small { IfOk result (λ j. j.status < 2) }
 {
     tap.settle()?;

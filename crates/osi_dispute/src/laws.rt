@@ -8,7 +8,7 @@ ghost use Rattle.osi_judge.specs.Tapping.{IsFoundIn};
 ghost use Rattle.osi_dispute.specs.declared.verdicts.Verdict.{Verdict};
 ghost use Rattle.osi_dispute.specs.Disputes.{IsJudgement};
 ghost use Rattle.osi_dispute.specs.Facts.{IsDetermined};
-ghost use Rattle.osi_dispute.specs.Laws.{DifferInLast, IsDecided, IsNarrowJudgement, IsWideJudgement};
+ghost use Rattle.osi_dispute.specs.Laws.{IsDecided};
 ghost use Rattle.osi_dispute.specs.Reports.{Report, IsReport};
 ghost use Rattle.osi_tap.specs.Tapping.{State};
 ghost use Rattle.osi_dispute.specs.Rows.{IsCaptureOf};
@@ -28,17 +28,13 @@ pub fn a_text_has_one_finding()
     a_capture_has_one_reading();
 }
 
-/// A capture has one verdict. A text that captures one connection of class 0 has one judgement: the lines and the status are
-/// a function of the text. If there are more connections, or one of another class, a text has one report but for its last
-/// line: what it says of each connection, and of transport, is a function of the text.
+/// A capture has one verdict, what a capture comes to has one report, and a text has one judgement: the lines and the status
+/// are a function of the text, whether it captures one connection of class 0 or others.
 pub fn a_text_has_one_judgement()
     ensures verdict { (capture : Capture) (v w : Verdict) → IsDetermined capture v → IsDetermined capture w → v ≡ w }
-    ensures text { (text lines others : List ℕ) (status other : ℕ) → IsNarrowJudgement text lines status
+    ensures report { (s : State) (r q : Report) → IsReport s r → IsReport s q → r ≡ q }
+    ensures text { (text lines others : List ℕ) (status other : ℕ) → IsJudgement text lines status
         → IsJudgement text others other → (lines ≡ others) × (status ≡ other) }
-    ensures reports { (text lines others : List ℕ) (status other : ℕ) → IsWideJudgement text lines status
-        → IsJudgement text others other → DifferInLast lines others }
-    ensures found { (s : State) (r q : Report) → IsReport s r → IsReport s q
-        → (r.left ≡ q.left) × (r.right ≡ q.right) × (r.pairs ≡ q.pairs) }
 {
     a_capture_has_one_reading();
     a_side_is_found_in_one_way();

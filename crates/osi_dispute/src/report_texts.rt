@@ -1,11 +1,13 @@
 //! Writes a report as text: the lines of each connection, those of transport, and the last line, which says who was first.
 
-ghost use Rattle.std.specs.Prelude.{◌≡◌, ◌++◌, ◌<◌, ◌&&◌, IfOk, OnOk};
+ghost use Rattle.std.specs.Prelude.{◌≡◌, ◌++◌, ◌<◌, ◌&&◌, true, IfOk, OnOk};
+ghost use Rattle.osi_judge.specs.Captures.{Capture};
 ghost use Rattle.osi_tap.specs.Connections.{count, numbered};
 ghost use Rattle.osi_tap.specs.Standing.{HoldsState, IsSettled};
-ghost use Rattle.osi_tap.specs.Tapping.{State};
+ghost use Rattle.osi_tap.specs.Tapping.{State, comes_to};
 ghost use Rattle.osi_tpkt.specs.Stream.{offset_of};
 ghost use Rattle.osi_dispute.specs.Adding.{AddsPair, AddsPairs, AddsReport};
+ghost use Rattle.osi_dispute.specs.Reports.{HoldsCapture};
 ghost use Rattle.osi_dispute.specs.ReportTexts.{mark_text, is_outside, mark_verb, mark_line, mark_lines, halt_line, halt_lines};
 ghost use Rattle.osi_dispute.specs.ReportTexts.{first_verb, mark_first, last_line, pair_lines, transport_lines, read_lines, last_status};
 
@@ -197,14 +199,25 @@ fn push_read(text: &mut Vec<u8>, left: &Transport, right: &Transport) -> Result<
     push_reading(text, Direction::Right, &right.reading)
 }
 
+/// Whether there are so few connections that each has a number of its own: fewer than 2^64 - 1. Memory never holds more.
+fn is_numbered(tap: &Tap) -> bool
+    ensures { (capture : Capture) → HoldsState tap.now (comes_to capture) → IsSettled tap.now → result ≡ true
+        → HoldsCapture tap.now capture }
+{
+    tap.count() < usize::MAX
+}
+
 /// Adds the text of a report on everything that a tap was fed, once it is settled: what was read of each side, what is
 /// reported of each connection, what was broken below the sessions, and who was first. Returns 0 if both sides kept the
 /// protocol on all connections, and 1 in any other case. `Err` means that memory ran out.
 pub fn push_report(text: &mut Vec<u8>, tap: &Tap) -> Result<u8, AllocError>
-    ensures told { IfOk result (λ status. (s : State) → HoldsState tap.now s → IsSettled tap.now
-        → AddsReport s text.old.items text.new.items status) }
+    ensures told { IfOk result (λ status. (capture : Capture) → HoldsState tap.now (comes_to capture) → IsSettled tap.now
+        → AddsReport (comes_to capture) text.old.items text.new.items status) }
     ensures small { IfOk result (λ status. status < 2) }
 {
+    if !is_numbered(tap) {
+        return Err(AllocError);
+    }
     let left = transport_of(tap, Direction::Left);
     let right = transport_of(tap, Direction::Right);
     push_read(text, &left, &right)?;

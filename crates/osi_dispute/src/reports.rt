@@ -1,17 +1,19 @@
 //! Asks a tap what it found of all connections on a byte connection, and puts it together as a report.
 
-ghost use Rattle.std.specs.Prelude.{◌≡◌, ◌&&◌, ℕ, List, Some, IfOk, IfSome};
-ghost use Rattle.osi_judge.specs.Captures.{other};
+ghost use Rattle.std.specs.Prelude.{◌≡◌, ◌&&◌, ℕ, List, None, Some, IfOk, IfSome};
+ghost use Rattle.osi_judge.specs.Captures.{Capture, other};
 ghost use Rattle.osi_judge.specs.Stops.{broke_session};
 ghost use Rattle.osi_tap.specs.Connections.{Joined, numbered};
-ghost use Rattle.osi_tap.specs.Holding.{line_in, HoldsJoined, IsHeard, IsFirst};
-ghost use Rattle.osi_tap.specs.Standing.{HoldsState, IsSettled};
-ghost use Rattle.osi_tap.specs.Tapping.{State};
+ghost use Rattle.osi_tap.specs.Blaming.{IsFirstOf, IsMarkOf, IsToBlame, NobodyIs, SomeoneIs};
+ghost use Rattle.osi_tap.specs.Holding.{line_in, HoldsJoined, IsHeard};
+ghost use Rattle.osi_tap.specs.Standing.{HoldsState, IsSettled, first_in};
+ghost use Rattle.osi_tap.specs.Tapping.{State, comes_to};
 ghost use Rattle.osi_tap.specs.declared.marks.First.{First as Breach};
 ghost use Rattle.osi_dispute.specs.declared.reports.Pair.{Pair as Couple};
 ghost use Rattle.osi_dispute.specs.Facts.{is_kept, is_left, connection_with};
 ghost use Rattle.osi_dispute.specs.Reports.{SaysSo, is_opened, is_refused_in, is_dropped, Tells, IsPair, IsPairOf};
-ghost use Rattle.osi_dispute.specs.Reports.{all_keep as all_keep_of, carried, is_clear, kept_last, IsLast};
+ghost use Rattle.osi_dispute.specs.Reports.{all_keep as all_keep_of, carried, is_clear, kept_last, HoldsCapture, IsFirstLast};
+ghost use Rattle.osi_dispute.specs.Reports.{IsLast, IsMarkLast, IsStrayLast};
 
 use crate::verdicts::{Connection, Told};
 use osi_judge::{Break, Direction, Finding, Reading};
@@ -229,8 +231,9 @@ fn kept_last(left: &Transport, right: &Transport, all_keep: bool) -> Last
 
 /// The break of the session of a side on a connection.
 fn stray_of(joint: &Joint, direction: Direction) -> Option<Last>
-    ensures { IfSome result (λ last. (s : State) (ps : List Couple) (number : ℕ) (j : Joined) → numbered number s.course.sessions ≡ Some j
-        → HoldsJoined joint.now j → IsHeard joint.now → IsLast s ps last) }
+    ensures some { IfSome result (λ last. (s : State) (f : Breach) (number : ℕ) (j : Joined) → numbered number s.course.sessions ≡ Some j
+        → f.direction ≡ direction → f.connection ≡ Some number → HoldsJoined joint.now j → IsHeard joint.now → IsStrayLast s f last) }
+    ensures none { (j : Joined) → HoldsJoined joint.now j → IsToBlame direction j → result ≡ None → ⊥ }
 {
     let side = joint.side(direction);
     match joint.finding(direction) {
@@ -243,7 +246,10 @@ fn stray_of(joint: &Joint, direction: Direction) -> Option<Last>
 
 /// The break of the session of a side on the connection with this number.
 fn session_last(tap: &Tap, direction: Direction, number: usize) -> Option<Last>
-    ensures { IfSome result (λ last. (s : State) (ps : List Couple) → HoldsState tap.now s → IsSettled tap.now → IsLast s ps last) }
+    ensures some { IfSome result (λ last. (capture : Capture) (f : Breach) → HoldsCapture tap.now capture → f.direction ≡ direction
+        → f.connection ≡ Some number → IsStrayLast (comes_to capture) f last) }
+    ensures none { (capture : Capture) → HoldsCapture tap.now capture
+        → SomeoneIs direction (Some number) (comes_to capture).course.sessions → result ≡ None → ⊥ }
 {
     match tap.connection(number) {
         None => None,
@@ -253,7 +259,10 @@ fn session_last(tap: &Tap, direction: Direction, number: usize) -> Option<Last>
 
 /// The same, if it is known which connection that is.
 fn session_first(tap: &Tap, direction: Direction, connection: Option<usize>) -> Option<Last>
-    ensures { IfSome result (λ last. (s : State) (ps : List Couple) → HoldsState tap.now s → IsSettled tap.now → IsLast s ps last) }
+    ensures some { IfSome result (λ last. (capture : Capture) (f : Breach) → HoldsCapture tap.now capture → f.direction ≡ direction
+        → f.connection ≡ connection → IsStrayLast (comes_to capture) f last) }
+    ensures none { (capture : Capture) → HoldsCapture tap.now capture
+        → SomeoneIs direction connection (comes_to capture).course.sessions → result ≡ None → ⊥ }
 {
     match connection {
         None => None,
@@ -263,8 +272,10 @@ fn session_first(tap: &Tap, direction: Direction, connection: Option<usize>) -> 
 
 /// The first break of the transport of a side.
 fn transport_last(tap: &Tap, direction: Direction) -> Option<Last>
-    ensures { IfSome result (λ last. (s : State) (ps : List Couple) (by : Breach) → HoldsState tap.now s → IsSettled tap.now
-        → s.course.first ≡ Some by → by.direction ≡ direction → IsLast s ps last) }
+    ensures some { IfSome result (λ last. (capture : Capture) (f : Breach) → HoldsCapture tap.now capture → f.direction ≡ direction
+        → IsMarkOf direction f (comes_to capture).course → IsMarkLast (comes_to capture) f last) }
+    ensures none { (capture : Capture) (f : Breach) → HoldsCapture tap.now capture → IsMarkOf direction f (comes_to capture).course
+        → result ≡ None → ⊥ }
 {
     match tap.broke(direction) {
         None => None,
@@ -274,8 +285,9 @@ fn transport_last(tap: &Tap, direction: Direction) -> Option<Last>
 
 /// The break that passed first.
 fn first_last(tap: &Tap, first: First) -> Option<Last>
-    ensures { IfSome result (λ last. (s : State) (ps : List Couple) → HoldsState tap.now s → IsSettled tap.now
-        → IsFirst (Some first) s.course.first → IsLast s ps last) }
+    ensures some { IfSome result (λ last. (capture : Capture) → HoldsCapture tap.now capture → first_in tap.now ≡ Some first
+        → IsFirstLast first.layer (comes_to capture) first last) }
+    ensures none { (capture : Capture) → HoldsCapture tap.now capture → first_in tap.now ≡ Some first → result ≡ None → ⊥ }
 {
     match first.layer {
         Layer::Session => session_first(tap, first.direction, first.connection),
@@ -285,7 +297,10 @@ fn first_last(tap: &Tap, first: First) -> Option<Last>
 
 /// The break that passed first, if there is one.
 fn told_first(tap: &Tap) -> Option<Last>
-    ensures { IfSome result (λ last. (s : State) (ps : List Couple) → HoldsState tap.now s → IsSettled tap.now → IsLast s ps last) }
+    ensures some { IfSome result (λ last. (capture : Capture) (ps : List Couple) → HoldsCapture tap.now capture
+        → IsLast (comes_to capture) ps last) }
+    ensures none { (capture : Capture) → HoldsCapture tap.now capture → result ≡ None
+        → IsFirstOf None (comes_to capture).course.past × NobodyIs (comes_to capture).course.sessions }
 {
     match tap.first() {
         None => None,
@@ -295,8 +310,9 @@ fn told_first(tap: &Tap) -> Option<Last>
 
 /// Who broke the protocol first.
 pub(crate) fn last_of(tap: &Tap, left: &Transport, right: &Transport, all_keep: bool) -> Last
-    ensures { (s : State) (ps : List Couple) → HoldsState tap.now s → IsSettled tap.now → left.now ≡ carried Direction.Left s
-        → right.now ≡ carried Direction.Right s → all_keep ≡ all_keep_of ps → IsLast s ps result }
+    ensures { (capture : Capture) (ps : List Couple) → HoldsCapture tap.now capture
+        → left.now ≡ carried Direction.Left (comes_to capture) → right.now ≡ carried Direction.Right (comes_to capture)
+        → all_keep ≡ all_keep_of ps → IsLast (comes_to capture) ps result }
 {
     match told_first(tap) {
         None => kept_last(left, right, all_keep),

@@ -1,10 +1,11 @@
 use Rattle.std.proofs.Common.{◌∙◌, ap, List, ℕ, ◌++◌}
+use Rattle.osi_tap.specs.Tapping.{comes_to}
 use Rattle.osi_dispute.specs.ReportTexts.{report_text}
 use Rattle.osi_dispute.proofs.disputes.judgement_by_tap.Goals as goal
 
 pub returns-clause-reported : goal.returns-clause-reported
-returns-clause-reported c = λ s h.
-    let a = c.in_ok-status.ensures.told s (c.settle.ensures.holds s h) c.in_ok-settle.ensures.settled in
+returns-clause-reported c = λ capture h.
+    let a = c.in_ok-status.ensures.told capture (c.settle.ensures.holds (comes_to capture) h) c.in_ok-settle.ensures.settled in
     record {
       report = a.report;
       reported = a.reported;

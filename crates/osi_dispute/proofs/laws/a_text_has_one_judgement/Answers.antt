@@ -1,5 +1,5 @@
-use Rattle.osi_dispute.proofs.facts_have_one_verdict.{one_verdict, one_judgement, one_report_of}
-use Rattle.osi_dispute.proofs.reports_are_alike.{one_found}
+use Rattle.osi_dispute.proofs.facts_have_one_verdict.{one_verdict, one_judgement}
+use Rattle.osi_dispute.proofs.reports_are_alike.{one_report}
 use Rattle.osi_dispute.proofs.laws.a_text_has_one_judgement.Goals as goal
 
 pub returns-clause-verdict : goal.returns-clause-verdict
@@ -10,9 +10,5 @@ pub returns-clause-text : goal.returns-clause-text
 returns-clause-text c =
     one_judgement c.a_capture_has_one_reading.ensures.one c.a_side_is_found_in_one_way.ensures c.a_capture_has_one_first_break.ensures.first
 
-pub returns-clause-reports : goal.returns-clause-reports
-returns-clause-reports c =
-    one_report_of c.a_capture_has_one_reading.ensures.one c.a_side_is_found_in_one_way.ensures c.a_capture_has_one_first_break.ensures.first
-
-pub returns-clause-found : goal.returns-clause-found
-returns-clause-found c = one_found
+pub returns-clause-report : goal.returns-clause-report
+returns-clause-report c = one_report
