@@ -13,6 +13,9 @@ from runs import OTHER, SIDES, played, run_at_random
 UNFINISHED = re.compile(r"# (left|right) packet \d+: no call of a script sends this\n\Z")
 # The captures in which a side kept the protocol by a unit that no call of a script sends.
 BEYOND_CALLS = {"in_flight.disputes an abort of a provider without resources", "transport_of_class_0.disputes an ER in answer to a CR"}
+# Those of class 2, or of several connections: a script has one connection of class 0, and stops before anything else.
+BEYOND_CLASS_0 = {"kept_and_outside.disputes a request of class 2, which nobody answers",
+                  "transport_of_class_0.disputes data of class 2, where the CR offers class 0 too"}
 
 
 def disputes(top):
@@ -169,14 +172,15 @@ class Witnesses:
         pieces = pieces_of(text)
         # No call sends a DC, so a script stops before one that is right.
         confirms = any(has_disconnect_confirm(stream) for stream in streams(pieces).values())
-        may_stop = (confirms or name in BEYOND_CALLS) and UNFINISHED.search(script)
+        is_wide = name.startswith("class_2.disputes ") or name in BEYOND_CLASS_0
+        may_stop = (confirms or name in BEYOND_CALLS) and UNFINISHED.search(script) or is_wide
         self.check(f"{name}: both kept the protocol, and the script stops", judged != 0 or status == 0 or may_stop)
         self.check(f"{name}: the script is not played to its end", self.osi(["pair"], script)[0] == 0)
         first, stops = FIRST.search(verdict), STOPS.search(script)
         is_early = first and confirms and UNFINISHED.search(script) and first[1] == stops[1] and int(stops[2]) < int(first[2])
         self.check(f"{name}: the script stops elsewhere than the verdict says\n{verdict}by\n{script}",
                    (stops is not None) == (status == 1)
-                   and (first is None or is_early or stops and first.groups() == stops.groups()))
+                   and (first is None or is_early or is_wide or stops and first.groups() == stops.groups()))
         run = played(script)
         sent = {side: self.listed(run.sent[side]) for side in SIDES}
         had = {side: self.listed(stream) for side, stream in streams(pieces).items()}
