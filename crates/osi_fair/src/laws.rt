@@ -235,8 +235,8 @@ pub fn what_a_carrier_puts()
 {}
 
 /// No CR of a calling end is blamed. Take any run of a whole end from its beginning (`specs/Wholes`): any calls of its user,
-/// whatever units the other side sends, any want of memory, and a tap anywhere between the two ends. Then each of its CRs is
-/// right as it passes, or there are more connections than the rules look at, as long as this side is judged.
+/// whatever units the other side sends, memory that runs out at any time, and a tap anywhere between the two ends. Then each of
+/// its CRs is right as it passes, or there are more connections than the rules look at, as long as this side is judged.
 pub fn no_request_is_blamed()
     ensures { (local : Local) (events : List Event) (w : Whole) (c : Connect) (rest : List Value) →
         HappenAlong Direction.Left (begin true local) events w → w.begun ≡ true → w.put ≡ request c ∷ rest →
