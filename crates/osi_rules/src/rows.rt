@@ -225,7 +225,7 @@ impl Connection {
         own.phase.is_open() && self.seen(direction).phase.is_closing() && source == own.reference
     }
 
-    /// DC. `source`: its SRC-REF. `strays`: a DR has closed nothing.
+    /// DC. `source`: its SRC-REF. `strays`: a DR has closed nothing, which this DC may answer.
     pub(crate) fn disconnected(&self, direction: Direction, source: u16, strays: bool) -> Finding
         ensures { result ≡ first_failed (disconnected_tests direction self.now source strays) }
     {
