@@ -130,13 +130,14 @@ acknowledge_tests d c number credit = open_tests d c
 abbrev pub disconnect_tests : Direction → Connection → List Test
 disconnect_tests d c = (is_silent (own d c).phase || is_open (own d c).phase, Broke rule.Closed) ∷ []
 
--- DC: it answers a DR that closes the connection. If a DR closed nothing, a DC may answer that.
-abbrev pub is_due : Direction → Connection → Bool
-is_due d c = is_open (own d c).phase && is_closing (seen d c).phase
+-- DC: it answers a DR that closes the connection, and its SRC-REF is its sender's reference (X.224 section 6.7). A DR that
+-- closed nothing may be answered by another DC.
+abbrev pub is_due : Direction → Connection → (source : ℕ) → Bool
+is_due d c source = is_open (own d c).phase && (is_closing (seen d c).phase && (source == (own d c).reference))
 
-abbrev pub disconnected_tests : Direction → Connection → (strays : Bool) → List Test
-disconnected_tests d c strays =
-    (is_due d c || not strays, NotJudged) ∷ (is_due d c, Broke rule.NothingToAnswer) ∷ []
+abbrev pub disconnected_tests : Direction → Connection → (source : ℕ) → (strays : Bool) → List Test
+disconnected_tests d c source strays =
+    (is_due d c source || not strays, NotJudged) ∷ (is_due d c source, Broke rule.NothingToAnswer) ∷ []
 
 -- ER: it refuses the CR (X.224 section 6.22)
 abbrev pub error_tests : Direction → Connection → List Test

@@ -117,7 +117,7 @@ route d c v = route_in (class_for d c) d (is_stopped (other d) c) v
 abbrev pub found : Direction → Course → (in_use : Bool) → Connection → Value → Finding
 found Right course in_use c (confirm destination content) = first_failed (confirm_tests c course.class in_use content)
 found d course in_use c (disconnect destination source reason user) = first_failed (disconnect_tests d c)
-found d course in_use c (disconnected destination source) = first_failed (disconnected_tests d c course.strays)
+found d course in_use c (disconnected destination source) = first_failed (disconnected_tests d c source course.strays)
 found d course in_use c (data0 end user) = first_failed (data0_tests d c (length user))
 found d course in_use c (data2 destination number end user) = first_failed (data2_tests d c number (length user))
 found d course in_use c (acknowledge credit destination number) = first_failed (acknowledge_tests d c number credit)

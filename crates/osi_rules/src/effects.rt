@@ -178,7 +178,7 @@ impl Connection {
         match unit {
             Tpdu::Cc(answer) => self.find_answer(direction, course, in_use, answer),
             Tpdu::Dr(_) => self.disconnect(direction),
-            Tpdu::Dc(_) => self.disconnected(direction, course.strays),
+            Tpdu::Dc(answer) => self.disconnected(direction, answer.source, course.strays),
             Tpdu::Dt0(data) => self.data0(direction, data.user.len()),
             Tpdu::Dt2(data) => self.data2(direction, data.number, data.user.len()),
             Tpdu::Ak(ack) => self.acknowledge(direction, ack.number, ack.credit),

@@ -52,7 +52,7 @@ pub enum Rule {
     /// An AK that moves the upper edge of the window down.
     #[error("credit reduced")]
     CreditReduced,
-    /// A DC without a DR that it answers.
+    /// A DC without a DR that it answers, or one whose SRC-REF is not the reference of its sender.
     #[error("nothing to answer")]
     NothingToAnswer,
 }

@@ -217,18 +217,19 @@ impl Connection {
         Finding::Broke(Rule::Closed)
     }
 
-    /// Whether a DC of this side answers a DR that closes the connection.
-    fn is_due(&self, direction: Direction) -> bool
-        ensures { result ≡ is_due direction self.now }
+    /// Whether a DC of this side, with this SRC-REF, answers a DR that closes the connection.
+    fn is_due(&self, direction: Direction, source: u16) -> bool
+        ensures { result ≡ is_due direction self.now source }
     {
-        self.own(direction).phase.is_open() && self.seen(direction).phase.is_closing()
+        let own = self.own(direction);
+        own.phase.is_open() && self.seen(direction).phase.is_closing() && source == own.reference
     }
 
-    /// DC. `strays`: a DR has closed nothing.
-    pub(crate) fn disconnected(&self, direction: Direction, strays: bool) -> Finding
-        ensures { result ≡ first_failed (disconnected_tests direction self.now strays) }
+    /// DC. `source`: its SRC-REF. `strays`: a DR has closed nothing, which this DC may answer.
+    pub(crate) fn disconnected(&self, direction: Direction, source: u16, strays: bool) -> Finding
+        ensures { result ≡ first_failed (disconnected_tests direction self.now source strays) }
     {
-        if self.is_due(direction) {
+        if self.is_due(direction, source) {
             return Finding::Kept;
         }
         if strays {

@@ -1,14 +1,12 @@
 -- What is kept in memory of the connections that passed: for each side a session of `osi_judge` that was told and heard what
 -- passed of that side and of the other.
-use Rattle.std.specs.Prelude.{◌≡◌, ◌⊎◌, ℕ, zero, suc, Bool, true, false, List, [], ◌∷◌, ◌++◌, Option, Some, None}
+use Rattle.std.specs.Prelude.{◌≡◌, ◌⊎◌, ℕ, Bool, true, false, List, [], ◌∷◌, ◌++◌, Option, Some, None}
 use Rattle.osi_session.specs.Standing.{Seen, seen_calling, seen_called}
 use Rattle.osi_judge.specs.declared.findings.Finding.{Finding}
 use Rattle.osi_judge.specs.declared.findings.Finding.TheVariants as finding
 use Rattle.osi_judge.specs.Judging.{Watched, Watches}
 use Rattle.osi_judge.specs.Outlines.{outline, outlines}
 use Rattle.osi_judge.specs.Sides.{watched}
-use Rattle.osi_judge.specs.Captures.{other}
-use Rattle.osi_judge.specs.Stops.{broke_session}
 use Rattle.osi_tap.specs.declared.marks.First.{First}
 use Rattle.osi_tap.specs.declared.marks.Layer.TheVariants.{Session}
 use Rattle.osi_tap.specs.declared.lines.Line.{Line}
@@ -125,20 +123,6 @@ AreHeard (c ∷ cs) = IsHeard c × AreHeard cs
 abbrev pub FoundHeard : Option Connection → Type 0
 FoundHeard None = Unit {0}
 FoundHeard (Some c) = IsHeard c
-
--- the session of a side has not broken the protocol, and not left the profile
-abbrev pub IsUnbroken : Direction → Connection → Type 0
-IsUnbroken d c = broke_session (line_in d c).side.finding ≡ false
-
-abbrev pub AreUnbroken : List Connection → Type 0
-AreUnbroken [] = Unit {0}
-AreUnbroken (c ∷ cs) = (IsUnbroken Left c × IsUnbroken Right c) × AreUnbroken cs
-
--- but for this side of the connection at this place
-abbrev pub AreUnbrokenBut : Direction → (place : ℕ) → List Connection → Type 0
-AreUnbrokenBut d place [] = Unit {0}
-AreUnbrokenBut d zero (c ∷ cs) = IsUnbroken (other d) c × AreUnbroken cs
-AreUnbrokenBut d (suc place) (c ∷ cs) = (IsUnbroken Left c × IsUnbroken Right c) × AreUnbrokenBut d place cs
 
 -- of all connections
 pub record AllHeard (k : Kept) : Type 0 where
