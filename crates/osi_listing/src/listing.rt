@@ -188,9 +188,11 @@ fn list_session_units(
     ensures { OnOk result (Says text.old.items text.new.items counts.old counts.new
         (session_entries (tsdu_at tsdu.now))) }
 {
-    match read_group(tsdu) {
-        Ok(group) => list_group(text, counts, &group),
-        Err(fault) => list_fault(text, counts, fault),
+    let read = read_group(tsdu);
+    // The units are lent from where they were read: their parameters need much room, so a copy costs much.
+    match &read {
+        Ok(group) => list_group(text, counts, group),
+        Err(fault) => list_fault(text, counts, *fault),
     }
 }
 

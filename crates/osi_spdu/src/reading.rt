@@ -212,10 +212,10 @@ fn read_followed<'a>(
     ensures { Gives units_of result
         (followed_at (record { kind = kind; known = known_of params.now; information = [] }) at octets.now) }
 {
+    let mut second = Params::none();
     if octets.is_empty() {
         return Ok(Group::with(Spdu::settled(kind, *params, &[]), Behind::none()));
     }
-    let mut second = Params::none();
     let kept = kept_at(at, octets, &mut second)?;
     second.settle();
     read_others(15, kept.end, kept.others)?;
@@ -236,7 +236,8 @@ fn read_kept(octets: &[u8]) -> Result<Group<'_>, SpduFault>
     let found = found_at(true, false, 0, octets, &mut params)?;
     params.settle();
     match found.kind.category() {
-        Category::Zero => read_followed(found.kind, &params, found.end, found.rest),
+        // It is returned at once, so that the units are put where the caller wants them.
+        Category::Zero => return read_followed(found.kind, &params, found.end, found.rest),
         _ => {
             let end = found.end;
             let rest = found.rest;

@@ -2,7 +2,7 @@
 pub use Rattle.std.proofs.lemmas.Bool.{and_parts, cases_Bool, cases_eq, cases_lt, eq-eqb, eqb-false, eqb-true, false≢true, le-leb, le-ltb}
 pub use Rattle.std.proofs.lemmas.Bool.{leb-false, leb-true, lt-leb, ltb-false, ltb-true, ne_eqb, not-false, or_parts}
 pub use Rattle.std.proofs.lemmas.List.{append-nil, drop_all, drop_at, get_or-drop, get_or-take, get_or_past, length-append, length-drop}
-pub use Rattle.std.proofs.lemmas.List.{length-take, length-take-le, map-append, take-append-drop, take_all, take_at}
+pub use Rattle.std.proofs.lemmas.List.{drop-drop, drop-take, length-take, length-take-le, map-append, take-append-drop, take_all, take_at}
 pub use Rattle.std.proofs.lemmas.Result.{err_from_is_err_and}
 pub use Rattle.std.specs.Bool.{OnFalse}
 pub use Rattle.std.specs.List.{AllByRecursion, flat_map}

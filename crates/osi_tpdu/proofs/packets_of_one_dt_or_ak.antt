@@ -1,5 +1,5 @@
 -- Packets of one DT or one AK.
-use Rattle.std.proofs.Common.{◌≡◌, ℕ, ◌+◌, ◌-◌, ◌*◌, ◌/◌, ◌%◌, ◌<◌, ◌≤◌, Bool, true, eqb, leb, List, [], ◌∷◌, length, get_or, take, drop}
+use Rattle.std.proofs.Common.{◌≡◌, ℕ, ◌+◌, ◌-◌, ◌*◌, ◌/◌, ◌%◌, ◌<◌, ◌≤◌, Bool, leb, List, [], ◌∷◌, length, get_or, take, drop}
 use Rattle.std.proofs.Common.{Ok, refl, sym, ap, ◌∙◌, arith}
 use Rattle.osi_tpdu.proofs.Vocabulary.{eq-eqb, length-drop, take_all, IsOctets, units_at, units_of, header_at, unit_at, value_of}
 use Rattle.osi_tpdu.proofs.Vocabulary.{transfer_of, acknowledge_of, Spells, Value, data0, data2, acknowledge, written}

@@ -1,11 +1,11 @@
 -- The parameters of a CR or CC: reading them gives what the items mean, and what the items mean is read.
-use Rattle.std.proofs.Common.{◌≡◌, ℕ, zero, suc, ◌+◌, ◌<◌, ◌≤◌, true, false, eqb, ltb, leb, not, ◌&&◌, List, [], ◌∷◌, ◌++◌, length, get_or}
+use Rattle.std.proofs.Common.{◌≡◌, ℕ, zero, suc, ◌+◌, ◌<◌, ◌≤◌, true, false, eqb, ltb, List, [], ◌∷◌, ◌++◌, length, get_or}
 use Rattle.std.proofs.Common.{take, drop, Option, Some, None, Result, Ok, refl, sym, ap, subst, ◌∙◌, append_assoc, arith, inl, inr, ◌⊎◌}
 use Rattle.std.proofs.lemmas.List.Elements.{filter-append}
-use Rattle.osi_tpdu.proofs.Vocabulary.{map, filter, option_to_list, is_some, IfSome, flat_map, ltb-false, leb-true, le-leb, le-ltb}
+use Rattle.osi_tpdu.proofs.Vocabulary.{option_to_list, is_some, IfSome, flat_map, ltb-false, leb-true, le-leb, le-ltb}
 use Rattle.osi_tpdu.proofs.Vocabulary.{eqb-true, eq-eqb, ne_eqb, and_parts, not-false, cases_eq, append-nil, take_at, drop_at}
 use Rattle.osi_tpdu.proofs.Vocabulary.{length-append, take-append-drop, length-take, length-drop, map-append, IsOctets, octets_take}
-use Rattle.osi_tpdu.proofs.Vocabulary.{octets_drop, TpduFault, BadParameterLength, BadParameterValue, DuplicateParameter, Parameter, Size}
+use Rattle.osi_tpdu.proofs.Vocabulary.{octets_drop, TpduFault, BadParameterLength, Parameter, Size}
 use Rattle.osi_tpdu.proofs.Vocabulary.{Calling, Called, Additional, Alternative, code_of, Parameters, AreParameters, Item, item_octets}
 use Rattle.osi_tpdu.proofs.Vocabulary.{values_of, single, Means, parameter_at, no_parameters, with_size, with_calling, with_called}
 use Rattle.osi_tpdu.proofs.Vocabulary.{with_additional, with_alternative, with_parameter, parameters_at, known_at, skipped_at}

@@ -1,5 +1,5 @@
 -- The fault that the reader of a unit returns is its first one.
-use Rattle.std.proofs.Common.{◌≡◌, ℕ, ◌+◌, ◌*◌, ◌/◌, ◌%◌, ◌<◌, ◌≤◌, true, false, cond, eqb, ltb, leb, ◌||◌, List, ◌∷◌, ◌++◌, length, get_or}
+use Rattle.std.proofs.Common.{◌≡◌, ℕ, ◌+◌, ◌*◌, ◌/◌, ◌%◌, ◌<◌, ◌≤◌, true, false, cond, eqb, ltb, leb, List, ◌∷◌, ◌++◌, length, get_or}
 use Rattle.std.proofs.Common.{take, drop, Option, Some, None, Result, Ok, Err, refl, sym, ap, subst, ◌∙◌, arith, inl, inr, ◌⊎◌}
 use Rattle.osi_tpdu.proofs.Vocabulary.{IsOk, false≢true, ltb-true, ltb-false, eqb-true, eqb-false, length-take-le, drop_at}
 use Rattle.osi_tpdu.proofs.Vocabulary.{take-append-drop, IsOctets, octets_drop, octets_left, TpduFault, BadLi, UnknownCode, Parameters}

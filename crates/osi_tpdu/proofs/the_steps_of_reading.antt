@@ -1,7 +1,8 @@
 -- Steps of reading that did not fail, and lists of octets.
-use Rattle.std.proofs.Common.{◌≡◌, ℕ, zero, suc, ◌+◌, ◌<◌, Bool, true, false, cond, List, [], ◌∷◌, ◌++◌, length, get_or, take, drop, Result}
-use Rattle.std.proofs.Common.{Ok, Err, refl, arith, inl, inr, ◌⊎◌}
-use Rattle.osi_tpdu.proofs.Vocabulary.{cases_lt, get_or-drop, get_or-take, get_or_past, length-take, IsOctets, TpduFault, ◌>>=◌}
+use Rattle.std.proofs.Common.{◌≡◌, ℕ, zero, suc, ◌+◌, ◌<◌, Bool, true, false, cond, List, [], ◌∷◌, length, get_or, take, drop, Result}
+use Rattle.std.proofs.Common.{Ok, Err, refl, sym, arith, inl, inr, ◌⊎◌}
+use Rattle.osi_tpdu.proofs.Vocabulary.{IsOctets, IsOk, TpduFault, ◌>>=◌}
+use Rattle.osi_tpdu.proofs.Vocabulary.{drop-drop, drop-take, false≢true}
 
 pub bind_ok : {A B : Type 0} (r : Result A TpduFault) (f : A → Result B TpduFault) (y : B) → (r >>= f) ≡ Ok y →
     (x : A) × (r ≡ Ok x) × (f x ≡ Ok y)
@@ -29,12 +30,29 @@ done x = Ok x
 pub ok_is : {A : Type 0} (x y : A) → done x ≡ done y → x ≡ y
 ok_is x y e = cc
 
+-- the same for the readers of a unit that is known to be there: a step of reading that is known not to fail
+pub bound_known : {A B : Type 0} (r : Result A TpduFault) (f : A → Result B TpduFault) → IsOk (r >>= f) → IsOk r
+bound_known (Ok x) f known = refl
+bound_known (Err d) f known = absurd (false≢true known)
+
+-- what is read before and then left out can't change the result
+pub skipped_known : {A B : Type 0} (r : Result A TpduFault) (y : B) → IsOk (r >>= λ (x : A). done y) → (r >>= λ (x : A). done y) ≡ Ok y
+skipped_known (Ok x) y known = refl
+skipped_known (Err d) y known = absurd (false≢true known)
+
 pub IsOctets-cons : (o : ℕ) (s : List ℕ) → o < 256 → IsOctets s → IsOctets (o ∷ s)
 IsOctets-cons o s lt h zero = lt
 IsOctets-cons o s lt h (suc i) = h i
 
 pub IsOctets-rest : (o : ℕ) (s : List ℕ) → IsOctets (o ∷ s) → IsOctets s
 IsOctets-rest o s h i = h (suc i)
+
+-- a parameter is split from the octets by its whole length
+pub value_in_front : (n : ℕ) (s : List ℕ) → drop 2 (take (2 + n) s) ≡ take n (drop 2 s)
+value_in_front n s = drop-take 2 n s
+
+pub behind_front : (n : ℕ) (s : List ℕ) → drop (2 + n) s ≡ drop n (drop 2 s)
+behind_front n s = sym (drop-drop n 2 s)
 
 pub one_long : (s : List ℕ) → length s ≡ 1 → s ≡ get_or s 0 0 ∷ []
 one_long (o ∷ []) e = refl

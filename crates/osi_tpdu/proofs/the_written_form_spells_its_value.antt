@@ -4,7 +4,7 @@ use Rattle.std.proofs.Common.{None, refl, sym, ap, subst, ◌∙◌, arith, inl,
 use Rattle.std.proofs.lemmas.List.Concat.{flat_map-append}
 use Rattle.osi_tpdu.specs.declared.tsaps.Selector.{Selector}
 use Rattle.osi_tpdu.specs.declared.connect.ConnectParameters.{ConnectParameters}
-use Rattle.osi_tpdu.specs.declared.unit.Tpdu.TheVariants.{Cr, Cc, Dr, Dc, Dt0, Dt2, Ak, Er}
+use Rattle.osi_tpdu.specs.declared.unit.Tpdu.TheVariants.{Cr, Cc}
 use Rattle.osi_tpdu.specs.Limits.{selector_octets}
 use Rattle.osi_tpdu.proofs.Vocabulary.{option_map, option_to_list, IfSome, flat_map, append-nil, length-append, IsOctets, octets_nil}
 use Rattle.osi_tpdu.proofs.Vocabulary.{octets_append, Parameters, AreParameters, Connect, Value, request, confirm, disconnect, disconnected}

@@ -1,6 +1,6 @@
 -- The loops over parameters and units: what has been read and what is left give the result of reading the whole.
-use Rattle.std.proofs.Common.{◌≡◌, ℕ, zero, suc, ◌+◌, ◌<◌, ◌≤◌, List, [], ◌∷◌, length, Result, Ok, Err, sym, arith}
-use Rattle.osi_tpdu.proofs.Vocabulary.{TpduFault, Parameters, parameter_at, with_parameter, parameters_at, skipped_at}
+use Rattle.std.proofs.Common.{◌≡◌, ℕ, zero, suc, ◌+◌, ◌<◌, ◌≤◌, List, [], ◌∷◌, length, Result, Ok, Err, refl, sym, arith}
+use Rattle.osi_tpdu.proofs.Vocabulary.{IsOk, false≢true, TpduFault, Parameters, parameter_at, with_parameter, parameters_at, skipped_at}
 
 -- the parameters from here on, beside those known, are those of the whole
 pub record Reads (at : ℕ) (p : Parameters) (rest : List ℕ) (whole : Result Parameters TpduFault) : Type 0 where
@@ -63,6 +63,32 @@ Reads-all-with n at p (o ∷ rest) whole none same = absurd (omega arith)
 pub Reads-all : (at : ℕ) (p : Parameters) (rest : List ℕ) (whole : Result Parameters TpduFault) → Reads at p rest whole → length rest ≡ 0 →
     whole ≡ Ok p
 Reads-all at p rest whole r none = Reads-all-with r.fuel at p rest whole none r.same
+
+bad_unknown : (whole : Result Parameters TpduFault) (f : TpduFault) → whole ≡ Err f → IsOk whole → ⊥
+bad_unknown whole f bad known = false≢true (rw bad at known)
+
+whole_by : (at : ℕ) (p : Parameters) (rest : List ℕ) (whole : Result Parameters TpduFault) (first : Result Item TpduFault) →
+    Reads at p rest whole → 1 ≤ length rest → IsOk whole → parameter_at at rest ≡ first → IsOk (parameter_at at rest)
+whole_by at p rest whole (Ok item) r some known took = rw took refl
+whole_by at p rest whole (Err f) r some known cut = absurd (bad_unknown whole f (Reads-cut at p rest whole f r some cut) known)
+
+-- parameters that are known to be good begin with one that is whole
+pub Reads-whole : (at : ℕ) (p : Parameters) (rest : List ℕ) (whole : Result Parameters TpduFault) → Reads at p rest whole →
+    1 ≤ length rest → IsOk whole → IsOk (parameter_at at rest)
+Reads-whole at p rest whole r some known = whole_by at p rest whole (parameter_at at rest) r some known refl
+
+good_by : (at : ℕ) (p : Parameters) (rest : List ℕ) (whole : Result Parameters TpduFault) (item : Item)
+    (more : Result Parameters TpduFault) → Reads at p rest whole → 1 ≤ length rest → IsOk whole → parameter_at at rest ≡ Ok item → with_parameter at item.0 item.1 p ≡ more
+    → IsOk (with_parameter at item.0 item.1 p)
+good_by at p rest whole item (Ok more) r some known took added = rw added refl
+good_by at p rest whole item (Err f) r some known took refused =
+    absurd (bad_unknown whole f (Reads-refused at p rest whole item f r some took refused) known)
+
+-- and with one that is good
+pub Reads-good : (at : ℕ) (p : Parameters) (rest : List ℕ) (whole : Result Parameters TpduFault) (item : Item) → Reads at p rest whole →
+    1 ≤ length rest → IsOk whole → parameter_at at rest ≡ Ok item → IsOk (with_parameter at item.0 item.1 p)
+Reads-good at p rest whole item r some known took =
+    good_by at p rest whole item (with_parameter at item.0 item.1 p) r some known took refl
 
 -- the same if none is known
 pub record Skips (at : ℕ) (rest : List ℕ) (whole : Result (Unit {0}) TpduFault) : Type 0 where

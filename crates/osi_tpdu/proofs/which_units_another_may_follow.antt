@@ -1,9 +1,9 @@
 -- The code octet of a unit tells whether another unit may follow it.
-use Rattle.std.proofs.Common.{◌≡◌, ℕ, ◌+◌, ◌≤◌, ◌/◌, ◌%◌, Bool, true, false, eqb, ltb, leb, List, length, get_or, drop, Result, Ok, Err}
-use Rattle.std.proofs.Common.{refl, sym, ◌∙◌, subst, arith, inl, inr}
-use Rattle.osi_tpdu.proofs.Vocabulary.{ne_eqb, eqb-true, TpduFault, BadLi, UnknownCode, Value, request, confirm, disconnect, disconnected}
-use Rattle.osi_tpdu.proofs.Vocabulary.{IsOk, data0, data2, acknowledge, error, may_be_followed, header_at, reference_at, all_skipped_at}
-use Rattle.osi_tpdu.proofs.Vocabulary.{connect_of, request_of, confirm_of, disconnect_of, disconnected_of, transfer_of, acknowledge_of}
+use Rattle.std.proofs.Common.{◌≡◌, ℕ, ◌≤◌, ◌/◌, Bool, true, false, List, length, get_or, Result, Ok, Err}
+use Rattle.std.proofs.Common.{refl, arith}
+use Rattle.osi_tpdu.proofs.Vocabulary.{ne_eqb, eqb-true, TpduFault, Value}
+use Rattle.osi_tpdu.proofs.Vocabulary.{IsOk, may_be_followed, header_at}
+use Rattle.osi_tpdu.proofs.Vocabulary.{request_of, confirm_of, disconnect_of, disconnected_of, transfer_of, acknowledge_of}
 use Rattle.osi_tpdu.proofs.Vocabulary.{error_of, value_of, is_lead_code, used_by, unit_at, can_be_read}
 use Rattle.osi_tpdu.proofs.the_steps_of_reading.{bind_ok, unless_ok, when_ok, chosen, ok_is}
 use Rattle.osi_tpdu.proofs.the_units_of_a_packet.{none_bad}

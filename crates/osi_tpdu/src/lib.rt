@@ -32,6 +32,8 @@ mod disconnect_confirm;
 mod disconnect_request;
 mod faults;
 mod grammar;
+mod known;
+mod known_parameters;
 pub mod laws;
 mod limits;
 mod octets;

@@ -26,6 +26,16 @@ impl SizeCode {
         }
     }
 
+    /// The code, which is known to be 7 to 13.
+    #[inline(always)]
+    pub(crate) fn known(code: u8) -> Self
+        requires at_least { 7 ≤ code }
+        requires at_most { code ≤ 13 }
+        ensures { size_code result ≡ code }
+    {
+        SizeCode { code }
+    }
+
     /// The code, 7 to 13.
     pub fn code(self) -> u8
         ensures value { result ≡ size_code self }

@@ -3,7 +3,7 @@
 ghost use Rattle.std.specs.Prelude.{◌≡◌, ◌+◌, ◌<◌, ◌^◌, true, length};
 ghost use Rattle.osi_tpdu.specs.Rest.{can_be_read};
 
-use crate::reading::{known_fields, known_front};
+use crate::known::{known_fields, known_front};
 use crate::unit::Tpdu;
 use std::iter::FusedIterator;
 

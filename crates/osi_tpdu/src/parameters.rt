@@ -20,9 +20,10 @@ pub(crate) const ADDITIONAL_OPTIONS: u8 = 0xC6;
 
 pub(crate) const ALTERNATIVE_CLASSES: u8 = 0xC7;
 
-// The parameter at the front: its code, its value, and the octets after it.
+// The parameter at the front: its code, its value, and the octets after it. The octets are split once by its whole length,
+// which the test has at hand.
 #[inline(always)]
-#[tactic(auto, unfolding(crate::specs::Reading::parameter_at))]
+#[tactic(auto, using(crate::proofs::the_steps_of_reading::value_in_front, crate::proofs::the_steps_of_reading::behind_front), unfolding(crate::specs::Reading::parameter_at))]
 fn read_parameter(at: usize, octets: &[u8]) -> Result<(u8, &[u8], &[u8]), TpduFault>
     requires { 1 ≤ length octets.now }
     ensures gives { ReadsAs (λ r. (r.0, r.1.now, r.2.now)) result (parameter_at at octets.now) }
@@ -31,12 +32,12 @@ fn read_parameter(at: usize, octets: &[u8]) -> Result<(u8, &[u8], &[u8]), TpduFa
     if octets.len() < 2 {
         return Err(TpduFault::BadParameterLength(at));
     }
-    let len = octets[1] as usize;
-    if octets.len() < 2 + len {
+    let used = 2 + octets[1] as usize;
+    if octets.len() < used {
         return Err(TpduFault::BadParameterLength(at));
     }
-    let (_, behind) = octets.split_at(2);
-    let (value, rest) = behind.split_at(len);
+    let (front, rest) = octets.split_at(used);
+    let (_, value) = front.split_at(2);
     Ok((octets[0], value, rest))
 }
 

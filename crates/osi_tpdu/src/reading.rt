@@ -1,8 +1,7 @@
 //! Reading one unit (X.224 section 13).
 
-ghost use Rattle.std.specs.Prelude.{◌≡◌, ◌+◌, ◌<◌, ◌≤◌, ◌^◌, ℕ, List, length, slice_index, Ok, IfOk, IsOk};
-ghost use Rattle.osi_tpkt.specs.Octets.{IsOctets};
-ghost use Rattle.osi_tpdu.specs.Reading.{ReadsAs, header_at, connect_of, request_of, confirm_of, disconnect_of, disconnected_of, transfer_of, acknowledge_of, error_of, value_of, is_lead_code, used_by, unit_at};
+ghost use Rattle.std.specs.Prelude.{◌≡◌, ◌+◌, ◌<◌, ◌≤◌, ◌^◌, length, IfOk};
+ghost use Rattle.osi_tpdu.specs.Reading.{ReadsAs, header_at, connect_of, request_of, confirm_of, disconnect_of, disconnected_of, transfer_of, acknowledge_of, error_of, value_of, unit_at};
 ghost use Rattle.osi_tpdu.specs.View.{connect_content, value};
 ghost use Rattle.osi_tpdu.specs.Writing.{Fits};
 
@@ -40,54 +39,6 @@ fn read_header(at: usize, octets: &[u8]) -> Result<(&[u8], &[u8]), TpduFault>
     }
     let (_, counted) = octets.split_at(1);
     Ok(counted.split_at(li))
-}
-
-// Whether another unit may follow the one with this header, as after AK, DC and ER, where a unit with it is known to be
-// there: then the high half of its code tells.
-#[inline(always)]
-#[tactic(auto, unfolding(crate::specs::Reading::value_of, crate::specs::Reading::is_lead_code))]
-fn known_to_lead(_at: usize, header: &[u8], _user: &[u8]) -> bool
-    requires least { 1 ≤ length header.now }
-    requires known { IsOk (value_of _at header.now _user.now) }
-    ensures { result ≡ is_lead_code (slice_index header.now 0) }
-{
-    matches!(high_half(header[0]), 0x6 | 0x7 | 0xC)
-}
-
-// The header of the unit at the front, where one is known to be there, and the octets after it.
-#[inline(always)]
-#[tactic(auto, unfolding(crate::specs::Reading::header_at))]
-fn known_header(_at: usize, octets: &[u8]) -> (&[u8], &[u8])
-    requires { IsOk (header_at _at octets.now) }
-    ensures gives { header_at _at octets.now ≡ Ok (result.0.now, result.1.now) }
-    ensures lengths { length result.0.now + length result.1.now + 1 ≡ length octets.now }
-    ensures least { 1 ≤ length result.0.now }
-{
-    let li = octets[0] as usize;
-    let (_, counted) = octets.split_at(1);
-    counted.split_at(li)
-}
-
-/// The header of the first unit of the octets, the octets after the header, and how many octets the unit takes, where a
-/// unit is known to be there: nothing is tested again.
-#[inline(always)]
-pub(crate) fn known_front(at: usize, octets: &[u8]) -> (&[u8], &[u8], usize)
-    requires header { IsOk (header_at at octets.now) }
-    requires fields { (header user : List ℕ) → header_at at octets.now ≡ Ok (header, user) → IsOk (value_of at header user) }
-    ensures gives { header_at at octets.now ≡ Ok (result.0.now, result.1.now) }
-    ensures lengths { length result.0.now + length result.1.now + 1 ≡ length octets.now }
-    ensures least { 1 ≤ length result.0.now }
-    ensures octets { IsOctets octets.now }
-    ensures used { result.2 ≡ used_by result.0.now (length octets.now) }
-    ensures most { result.2 ≤ length octets.now }
-{
-    let (header, behind) = known_header(at, octets);
-    let used = if known_to_lead(at, header, behind) {
-        1 + header.len()
-    } else {
-        octets.len()
-    };
-    (header, behind, used)
 }
 
 // The fields that a CR and a CC share. It is inlined, as `read_fields` is.
@@ -243,52 +194,6 @@ fn read_fields<'a>(at: usize, header: &'a [u8], user: &'a [u8]) -> Result<Tpdu<'
             0x70 => read_error(at, header),
             _ => Err(TpduFault::UnknownCode(at + 1)),
         },
-    }
-}
-
-// The unit of a read that can't have failed.
-#[inline(always)]
-fn known(read: Result<Tpdu<'_>, TpduFault>) -> Tpdu<'_>
-    requires { IsOk read }
-    ensures { read.entry ≡ Ok result }
-{
-    let Ok(unit) = read else { unreachable!() };
-    unit
-}
-
-/// The same if a unit with this header is known to be there. Each kind is built on its own, without a `Result` in
-/// between, so that a caller's `match` on the unit needs no copy of it.
-#[inline(always)]
-#[tactic(auto, unfolding(crate::specs::Reading::value_of, crate::specs::Reading::transfer_of, crate::specs::Reading::acknowledge_of, crate::specs::Reading::disconnected_of))]
-pub(crate) fn known_fields<'a>(at: usize, header: &'a [u8], user: &'a [u8]) -> Tpdu<'a>
-    requires least { 1 ≤ length header.now }
-    requires room { at + length header.now + 1 < 2 ^ 64 }
-    requires known { IsOk (value_of at header.now user.now) }
-    ensures { value_of at header.now user.now ≡ Ok (value result) }
-{
-    let code = header[0];
-    match high_half(code) {
-        0xE => known(read_request(at, header, user)),
-        0xD => known(read_confirm(at, header, user)),
-        0x6 => Tpdu::Ak(DataAcknowledgement::from_header(
-            header[0], header[1], header[2], header[3],
-        )),
-        0x8 => known(read_disconnect(at, header, user)),
-        0xC => Tpdu::Dc(DisconnectConfirm {
-            destination: reference(1, header),
-            source: reference(3, header),
-        }),
-        0xF if header.len() == 2 => Tpdu::Dt0(DataClass0 {
-            end: header[1] >= 0x80,
-            user,
-        }),
-        0xF => Tpdu::Dt2(DataClass2 {
-            destination: reference(1, header),
-            number: number(header[3]),
-            end: header[3] >= 0x80,
-            user,
-        }),
-        _ => known(read_error(at, header)),
     }
 }
 

@@ -25,6 +25,15 @@ impl<'a> Selector<'a> {
         }
     }
 
+    /// The selector with these octets, which are known to be at most 32.
+    #[inline(always)]
+    pub(crate) fn known(octets: &'a [u8]) -> Self
+        requires { length octets.now ≤ 32 }
+        ensures { selector_octets result ≡ octets.now }
+    {
+        Selector { octets }
+    }
+
     /// The octets of the selector, at most 32.
     pub fn octets(self) -> &'a [u8]
         ensures value { result.now ≡ selector_octets self.entry }

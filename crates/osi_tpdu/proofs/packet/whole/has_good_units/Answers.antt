@@ -1,4 +1,4 @@
-use Rattle.std.proofs.Common.{◌≡◌, ◌≤◌, length, arith, rules}
+use Rattle.std.proofs.Common.{◌≤◌, length, arith, rules}
 use Rattle.osi_tpdu.proofs.the_units_of_a_packet.{Ends-first, Ends-more, Ends-last}
 use Rattle.osi_tpdu.proofs.packet.whole.has_good_units.Goals as goal
 
