@@ -1,12 +1,15 @@
 -- The effect of a unit on the link that takes it.
-use Rattle.std.specs.Prelude.{◌≡◌, ℕ, Bool, ◌||◌, List, [], length, nat_lt, take, Result, Ok, Err, IsOk, option_map, option_to_list}
+use Rattle.std.specs.Prelude.{◌≡◌, ℕ, Bool, true, ◌||◌, List, [], length, nat_lt, take, Some, None, Result, Ok, Err, IsOk, is_some, option_map, option_to_list}
 use Rattle.osi_tpdu.specs.Value.{Value}
 use Rattle.osi_class.specs.Link.{Standing}
 use Rattle.osi_class.specs.declared.faults.LinkFault.{LinkFault}
+use Rattle.osi_carrier.specs.Opened.{peer_in}
 use Rattle.osi_carrier.specs.Pump.{pumped, written_by}
 use Rattle.osi_carrier.specs.React.{handed_out}
+use Rattle.osi_carrier.specs.Rows.{Rows, place_of, value_at}
+use Rattle.osi_carrier.specs.State.{Connection}
 use Rattle.osi_carrier.specs.declared.links.Step.{Step}
-use Rattle.osi_carrier.specs.declared.links.Step.TheVariants.{Took, Broke}
+use Rattle.osi_carrier.specs.declared.links.Step.TheVariants.{NotOpen, Took, Broke}
 
 -- the link, unchanged if the unit was refused
 abbrev pub link_after : Standing → Result Standing LinkFault → Standing
@@ -27,7 +30,10 @@ link_grows peer old taken =
     nat_lt 0 (length (units_after peer taken))
     || (nat_lt 0 (length (whole_after taken)) || nat_lt (length old.ends.joining.begun) (length (link_after old taken).ends.joining.begun))
 
--- the result
-abbrev pub StepsTo : Step → Result Standing LinkFault → Type 0
-StepsTo (Took whole) taken = IsOk taken × (option_to_list (option_map (λ v. v.items) whole) ≡ whole_after taken)
-StepsTo (Broke fault) taken = taken ≡ Err fault
+-- the result of handing a unit to the link of the connection with this reference
+abbrev pub StepsTo : Step → ℕ → Rows Connection → Result Standing LinkFault → Type 0
+StepsTo NotOpen r live taken = peer_in (value_at r live) ≡ None
+StepsTo (Took whole) r live taken =
+    (is_some (peer_in (value_at r live)) ≡ true) × IsOk taken × (option_to_list (option_map (λ v. v.items) whole) ≡ whole_after taken)
+StepsTo (Broke place peer fault) r live taken =
+    (place_of r live ≡ Some place) × (peer_in (value_at r live) ≡ Some peer) × (taken ≡ Err fault)

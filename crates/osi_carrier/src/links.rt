@@ -28,13 +28,15 @@ const MOST_OCTETS: usize = 8189;
 /// The octets of a TSDU that each unit has room for.
 const LEAST_LIMIT: usize = 123;
 
-/// The result of handing a unit to the link of an open connection.
+/// The result of handing a unit to the link of the connection with a reference.
 #[derive(Drop)]
 pub enum Step {
+    /// No connection with this reference is open.
+    NotOpen,
     /// The link took it, and perhaps a TSDU became complete.
     Took(Option<Vec<u8>>),
-    /// The link refused it.
-    Broke(LinkFault),
+    /// The link of the connection at this place, open with this reference of the peer, refused it.
+    Broke(usize, u16, LinkFault),
 }
 
 /// Writes all units that a link gives now, to this reference of the peer. An allocation failure leaves the octets of

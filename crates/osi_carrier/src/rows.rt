@@ -1,6 +1,6 @@
 //! The live connections, in the order of their references.
 
-ghost use Rattle.std.specs.Prelude.{◌≡◌, ◌+◌, ◌*◌, ◌^◌, ◌-◌, ◌<◌, ◌≤◌, ◌∷◌, ◌++◌, ◌==◌, [], None, Some, true, length, map, min, nat_lt, is_some, IsOk, IfOk, IfErr, IfSome, OnOk, OnErr};
+ghost use Rattle.std.specs.Prelude.{◌≡◌, ℕ, ◌+◌, ◌*◌, ◌^◌, ◌-◌, ◌<◌, ◌≤◌, ◌∷◌, ◌++◌, ◌==◌, [], None, Some, Ok, true, length, map, min, nat_lt, is_some, IsOk, IfOk, IfErr, IfSome, OnOk, OnErr};
 ghost use Rattle.std.specs.Cow.{cow_slice_items, IsOwnedSlice};
 ghost use Rattle.osi_carrier.specs.Calls.{backlog_of, begun_by, call_error, kept_in, length_error, link_of, send_error, unsent_at, unsent_by, WaitsAlone, WaitTogether};
 ghost use Rattle.osi_carrier.specs.Live.{connection, IsPumped};
@@ -332,35 +332,36 @@ impl Connections {
         Ok(())
     }
 
-    /// Hands a unit to the link of the connection at this place, which is open with this reference of the peer. An
+    /// Hands a unit to the link of the open connection with this reference. If there is none, nothing has changed; an
     /// allocation failure leaves the octets of `out` as they were.
     #[inline(always)]
     pub fn step(
         &mut self,
-        place: usize,
         reference: u16,
-        peer: u16,
         unit: &Tpdu<'_>,
         out: &mut BytesMut,
     ) -> Result<Step, AllocError>
-        requires place { place_of reference self.old ≡ Some place }
-        requires open { peer_in (value_at reference self.old) ≡ Some peer }
-        ensures step { IfOk result (λ s. StepsTo s (taken (link_in (value_at reference self.old)) (value unit.now))) }
-        ensures rows { OnOk result (self.new ≡ put reference (linked peer (link_after (link_in (value_at reference self.old)) (taken (link_in (value_at reference self.old)) (value unit.now)))) self.old) }
-        ensures ok { OnOk result (out.new.items ≡ out.old.items ++ packets (units_after peer (taken (link_in (value_at reference self.old)) (value unit.now)))) }
+        ensures step { IfOk result (λ s. StepsTo s reference self.old (taken (link_in (value_at reference self.old)) (value unit.now))) }
+        ensures rows { (peer : ℕ) → peer_in (value_at reference self.old) ≡ Some peer → OnOk result (self.new ≡ put reference (linked peer (link_after (link_in (value_at reference self.old)) (taken (link_in (value_at reference self.old)) (value unit.now)))) self.old) }
+        ensures ok { (peer : ℕ) → peer_in (value_at reference self.old) ≡ Some peer → OnOk result (out.new.items ≡ out.old.items ++ packets (units_after peer (taken (link_in (value_at reference self.old)) (value unit.now)))) }
+        ensures none { result ≡ Ok Step.NotOpen → (self.new ≡ self.old) × (out.new.items ≡ out.old.items) }
         ensures err { OnErr result (out.new.items ≡ out.old.items) }
-        ensures needs { OnErr result (link_grows peer (link_in (value_at reference self.old)) (taken (link_in (value_at reference self.old)) (value unit.now)) ≡ true) }
+        ensures known { OnErr result (is_some (peer_in (value_at reference self.old)) ≡ true) }
+        ensures needs { (peer : ℕ) → peer_in (value_at reference self.old) ≡ Some peer → OnErr result (link_grows peer (link_in (value_at reference self.old)) (taken (link_in (value_at reference self.old)) (value unit.now)) ≡ true) }
     {
-        let row = &mut self.rows[place];
-        let Phase::Linked(_, link) = &mut row.phase else {
-            unreachable!()
+        let Some(place) = place_in(self.rows.as_slice(), self.rises, reference) else {
+            return Ok(Step::NotOpen);
         };
-        match link.take(unit) {
-            Ok(()) => {}
+        let row = &mut self.rows[place];
+        let Phase::Linked(peer, link) = &mut row.phase else {
+            return Ok(Step::NotOpen);
+        };
+        let peer = *peer;
+        let whole = match link.receive(unit) {
+            Ok(whole) => whole,
             Err(LinkFault::OutOfMemory) => return Err(AllocError),
-            Err(fault) => return Ok(Step::Broke(fault)),
-        }
-        let whole = link.next_tsdu();
+            Err(fault) => return Ok(Step::Broke(place, peer, fault)),
+        };
         let Ok(()) = pump(link, peer, out) else {
             give_up(&mut row.phase, peer);
             return Err(AllocError);

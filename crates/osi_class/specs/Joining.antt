@@ -1,5 +1,5 @@
 -- The receiving side: the unfinished TSDU, and the complete ones.
-use Rattle.std.specs.Prelude.{◌≡◌, ℕ, ◌+◌, Bool, true, false, List, [], ◌∷◌, ◌++◌, length, nat_lt, Result, Ok, Err, if◌then◌else◌}
+use Rattle.std.specs.Prelude.{◌≡◌, ℕ, ◌+◌, Bool, true, false, List, [], ◌∷◌, ◌++◌, length, nat_lt, Option, option_to_list, Result, Ok, Err, if◌then◌else◌}
 use Rattle.osi_class.specs.declared.faults.LinkFault.{LinkFault}
 use Rattle.osi_class.specs.declared.faults.LinkFault.TheVariants.{TsduTooLong}
 use Rattle.osi_class.specs.Limits.{longest_tsdu}
@@ -14,6 +14,10 @@ joining begun whole = record { begun = begun; whole = whole }
 abbrev pub with_part : Joining → Bool → List ℕ → Joining
 with_part j false octets = record j { begun = j.begun ++ octets }
 with_part j true octets = record { begun = []; whole = j.whole ++ (j.begun ++ octets) ∷ [] }
+
+-- before the first complete TSDU, if there is one, was handed out
+abbrev pub before_handing : Option (List ℕ) → Joining → Joining
+before_handing tsdu j = record j { whole = option_to_list tsdu ++ j.whole }
 
 -- a TSDU has at most 1,048,576 octets
 abbrev pub joined : Joining → Bool → List ℕ → Result Joining LinkFault

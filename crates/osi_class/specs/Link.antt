@@ -7,7 +7,7 @@ use Rattle.osi_class.specs.declared.units.Out.{Out}
 use Rattle.osi_class.specs.declared.units.Out.TheVariants.{Data0, Data2, Ack}
 use Rattle.osi_class.specs.Ends.{Ends, fresh_ends}
 use Rattle.osi_class.specs.Flow.{Flow, Sender, fresh_sender, fresh_receiver, after_sent, acknowledged, is_awaited, after_taken, ack_number, after_acked}
-use Rattle.osi_class.specs.Joining.{Joining, joined}
+use Rattle.osi_class.specs.Joining.{Joining, joined, before_handing}
 use Rattle.osi_class.specs.Tsdus.{give, octets_of_tsdus}
 
 -- class 0 has no flow control
@@ -151,3 +151,7 @@ abbrev pub Hands : Option (List ℕ) → Standing → Standing → Type 0
 Hands None old new = (old.ends.joining.whole ≡ []) × (new ≡ old)
 Hands (Some tsdu) old new =
     old ≡ record new { ends = record new.ends { joining = record new.ends.joining { whole = tsdu ∷ new.ends.joining.whole } } }
+
+-- the link before its first complete TSDU, if there is one, was handed out
+abbrev pub with_handed : Option (List ℕ) → Standing → Standing
+with_handed tsdu s = record s { ends = record s.ends { joining = before_handing tsdu s.ends.joining } }

@@ -122,6 +122,21 @@ impl Link for Class2 {
     }
 
     #[inline(always)]
+    #[tactic(auto, using(crate::proofs::bounds::what_a_queue_hands_out::handed, crate::proofs::bounds::what_a_queue_hands_out::none_handed))]
+    fn receive(&mut self, unit: &Tpdu<'_>) -> Result<Option<Vec<u8>>, LinkFault> {
+        let Tpdu::Dt2(data) = unit else {
+            self.take(unit)?;
+            return Ok(self.next_tsdu());
+        };
+        let Some(after) = self.receiving.after(data.number) else {
+            return Err(LinkFault::OutOfSequence);
+        };
+        let tsdu = self.begun.join_out(data.end, data.user, &mut self.whole)?;
+        self.receiving = after;
+        Ok(tsdu)
+    }
+
+    #[inline(always)]
     fn next_out(&mut self) -> Option<Out<'_>> {
         if let Some(number) = self.receiving.next_ack() {
             return Some(Out::Ack {

@@ -94,6 +94,14 @@ impl Link for Class0 {
     }
 
     #[inline(always)]
+    fn receive(&mut self, unit: &Tpdu<'_>) -> Result<Option<Vec<u8>>, LinkFault> {
+        let Tpdu::Dt0(data) = unit else {
+            return Err(LinkFault::WrongForm);
+        };
+        self.begun.join_out(data.end, data.user, &mut self.whole)
+    }
+
+    #[inline(always)]
     fn next_out(&mut self) -> Option<Out<'_>> {
         if self.outgoing.is_at_rest() {
             return None;

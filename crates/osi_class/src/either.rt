@@ -67,6 +67,14 @@ impl Link for AnyLink {
     }
 
     #[inline(always)]
+    fn receive(&mut self, unit: &Tpdu<'_>) -> Result<Option<Vec<u8>>, LinkFault> {
+        match self {
+            AnyLink::Zero(link) => link.receive(unit),
+            AnyLink::Two(link) => link.receive(unit),
+        }
+    }
+
+    #[inline(always)]
     fn next_out(&mut self) -> Option<Out<'_>> {
         match self {
             AnyLink::Zero(link) => link.next_out(),

@@ -10,6 +10,7 @@
 //! while let Some(unit) = link.next_out() { .. }  // the units that may be sent now; in class 2, Acks come first
 //! link.take(&unit)?;                             // a unit that was received; Err: the first fault, and nothing changed
 //! while let Some(tsdu) = link.next_tsdu() { .. } // the TSDUs that are complete
+//! let tsdu = link.receive(&unit)?;               // both at once: the first TSDU that is complete, if there is one
 //! ```
 //!
 //! The laws ([`mod@laws`]) say that what comes out of one link is a prefix of what went into the other, and all of it

@@ -12,13 +12,13 @@ use std::alloc::AllocError;
 /// What a link holds and what each call does is stated on its `standing`, which both classes have; the laws over lists
 /// of calls are in [`crate::laws`].
 pub trait Link {
-    ghost use Rattle.std.specs.Prelude.{ℕ, List, ◌≡◌, ◌<◌, ◌≤◌, ◌+◌, ◌*◌, ◌^◌, [], None, true, false, length, map, min, IfSome, IfNone, IsOk, IsSome, OnOk, OnErr, option_map};
+    ghost use Rattle.std.specs.Prelude.{ℕ, List, ◌≡◌, ◌<◌, ◌≤◌, ◌+◌, ◌*◌, ◌^◌, [], None, Ok, true, false, length, map, min, IfSome, IfNone, IfOk, IsOk, IsSome, OnOk, OnErr, option_map};
     ghost use Rattle.std.specs.Borrow.{sem};
     ghost use Rattle.std.specs.Io.BufRead.{Rests};
     ghost use Rattle.osi_tpdu.specs.View.{value};
     ghost use Rattle.osi_class.specs.Giving.{all_given, octets_in, most_given, AllGoAtOnce, GoesAtOnce, GivesSlot, IsNumbered};
     ghost use Rattle.osi_class.specs.Limits.{longest_tsdu};
-    ghost use Rattle.osi_class.specs.Link.{Standing, with_tsdu, with_tsdus, unsent_octets, given, taken, needs_memory, next, Gives, Hands, FitsAUnit};
+    ghost use Rattle.osi_class.specs.Link.{Standing, with_tsdu, with_tsdus, unsent_octets, given, taken, needs_memory, next, with_handed, Gives, Hands, FitsAUnit};
     ghost use Rattle.osi_class.specs.Sound.{IsSound};
     ghost use Rattle.osi_class.specs.Taking.{TakesUnit};
     ghost use Rattle.osi_class.specs.Tsdus.{octets_of_tsdus};
@@ -77,6 +77,14 @@ pub trait Link {
     /// taken and that has an octet or ends its TSDU.
     fn take(&mut self, unit: &Tpdu<'_>) -> Result<(), LinkFault>
         ensures taken { TakesUnit result (needs_memory (value unit.now)) (taken (standing self.old) (value unit.now)) (standing self.old) (standing self.new) }
+        ensures limit { (standing self.new).ends.limit ≡ (standing self.old).ends.limit };
+
+    /// Takes a unit as [`Link::take`] does, and then hands out the first complete TSDU as [`Link::next_tsdu`] does. If no
+    /// other TSDU waits, one that this unit ends is not queued. A fault is one of [`Link::take`], and changes nothing.
+    fn receive(&mut self, unit: &Tpdu<'_>) -> Result<Option<Vec<u8>>, LinkFault>
+        ensures taken { IfOk result (λ tsdu. taken (standing self.old) (value unit.now) ≡ Ok (with_handed (option_map (λ v. v.items) tsdu) (standing self.new))) }
+        ensures none { IfOk result (λ tsdu. IfNone tsdu ((standing self.new).ends.joining.whole ≡ [])) }
+        ensures refused { OnErr result (TakesUnit result (needs_memory (value unit.now)) (taken (standing self.old) (value unit.now)) (standing self.old) (standing self.new)) }
         ensures limit { (standing self.new).ends.limit ≡ (standing self.old).ends.limit };
 
     /// The next unit to be written; `None` exactly if no Ack is due and either no data is left or, in class 2, there

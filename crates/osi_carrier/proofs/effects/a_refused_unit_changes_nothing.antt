@@ -1,9 +1,9 @@
--- When a link refuses a unit, nothing has changed yet.
-use Rattle.std.proofs.Common.{◌≡◌, ℕ, List, [], ◌∷◌, ◌++◌, map, Some, Result, Ok, Err, OnOk, sym, ap, ◌∙◌}
+-- When a link refuses a unit, nothing has changed yet; when it takes one, its row, the octets to send and the events have.
+use Rattle.std.proofs.Common.{◌≡◌, ℕ, List, [], ◌∷◌, ◌++◌, length, map, take, Some, Result, Ok, Err, IsOk, refl, sym, ap, ◌∙◌}
 use Rattle.osi_carrier.specs.declared.events.Event.{Event}
 use Rattle.osi_carrier.proofs.Vocabulary.{append-nil, map-append, disconnect, Standing, LinkFault, Two, Happening, happening, faulted}
 use Rattle.osi_carrier.proofs.Vocabulary.{breaks, taking, Rows, value_at, put, peer_in, link_in, Connection, linked, closing, State}
-use Rattle.osi_carrier.proofs.Vocabulary.{packets, link_after, units_after}
+use Rattle.osi_carrier.proofs.Vocabulary.{packets, link_after, units_after, whole_after, tsdu}
 use Rattle.osi_carrier.proofs.references.what_is_open.{open_is}
 use Rattle.osi_carrier.proofs.references.the_row_at_a_place.{put_same}
 
@@ -17,12 +17,32 @@ pub broke_octets : (peer : ℕ) (before after : List ℕ) (t : Result Standing L
     after ≡ before ++ packets (units_after peer t) → after ≡ before
 broke_octets peer before after t fault e h = h ∙ ap (λ u. before ++ packets (units_after peer u)) e ∙ append-nil before
 
-pub broke_taking : {A E : Type 0} (result : Result A E) (r peer : ℕ) (s mid new : State) (t : Result Standing LinkFault)
-    (fault : LinkFault) → t ≡ Err fault → mid ≡ s →
-    OnOk result (new ≡ breaks r peer fault mid.class mid) → OnOk result (new ≡ taking r peer t s)
-broke_taking (Ok a) r peer s mid new t fault e same h = h ∙ ap (λ (x : State). breaks r peer fault x.class x) same ∙
+pub broke_taking : (r peer : ℕ) (s mid new : State) (t : Result Standing LinkFault) (fault : LinkFault) → t ≡ Err fault → mid ≡ s →
+    new ≡ breaks r peer fault mid.class mid → new ≡ taking r peer t s
+broke_taking r peer s mid new t fault e same h = h ∙ ap (λ (x : State). breaks r peer fault x.class x) same ∙
     sym (ap (λ u. taking r peer u s) e)
-broke_taking (Err f) r peer s mid new t fault e same h = tt
+
+-- ---- when it takes a unit
+
+pub took_taking : (r peer : ℕ) (s now : State) (t : Result Standing LinkFault) (whole : List (List ℕ)) → IsOk t → whole ≡ whole_after t →
+    now ≡ record s {
+      live = put r (linked peer (link_after (link_in (value_at r s.live)) t)) s.live;
+      outgoing = s.outgoing ++ packets (units_after peer t);
+      events = s.events ++ map (tsdu r) whole;
+    } →
+    now ≡ taking r peer t s
+took_taking r peer s now (Ok link) whole ok e h =
+    h ∙ ap (λ (w : List (List ℕ)). record s {
+      live = put r (linked peer (link_after (link_in (value_at r s.live)) (Ok link))) s.live;
+      outgoing = s.outgoing ++ packets (units_after peer (Ok link));
+      events = s.events ++ map (tsdu r) w;
+    }) e
+took_taking r peer s now (Err fault) whole ok e h = cc
+
+-- nothing stays of what was written behind this many octets
+pub undone : (octets more : List ℕ) → take (length octets) (octets ++ more) ≡ octets
+undone [] more = refl
+undone (x ∷ octets) more = ap (λ (l : List ℕ). x ∷ l) (undone octets more)
 
 -- ---- what is changed of a state
 

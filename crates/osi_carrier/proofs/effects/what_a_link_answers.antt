@@ -1,6 +1,6 @@
 -- What a unit does to its link, from the answers of the link: it was refused and nothing has changed, or it was taken, a
 -- complete TSDU was handed out, and what the link then gave was written. For the call that hands a unit to its link.
-use Rattle.std.proofs.Common.{◌≡◌, ℕ, Bool, List, take, Option, Some, None, Result, Ok, Err, IsOk, option_to_list}
+use Rattle.std.proofs.Common.{◌≡◌, ℕ, Bool, List, take, Option, Some, None, Result, Ok, Err, IsOk, OnErr, option_to_list}
 use Rattle.std.proofs.Common.{refl, sym, ap, subst, ◌∙◌}
 use Rattle.osi_class.specs.Taking.{TakesUnit}
 use Rattle.osi_class.specs.declared.faults.LinkFault.TheVariants.{WrongForm, OutOfSequence, CreditReduced, TsduTooLong, OutOfMemory}
@@ -16,6 +16,11 @@ refused_by (Err OutOfSequence) f needs t old new e other h = (cc, h.1)
 refused_by (Err CreditReduced) f needs t old new e other h = (cc, h.1)
 refused_by (Err TsduTooLong) f needs t old new e other h = (cc, h.1)
 refused_by (Err OutOfMemory) f needs t old new e other h = absurd (other cc)
+
+-- what is known of a refusal
+pub on_err : {A E P : Type 0} (r : Result A E) (e : E) → r ≡ Err e → OnErr r P → P
+on_err (Err f) e is h = h
+on_err (Ok a) e is h = cc
 
 -- the TSDU that was handed out
 pub took_whole : (o : Option (List ℕ)) (t u : Standing) (r : Result Standing LinkFault) → r ≡ Ok t → Hands o t u →

@@ -1,6 +1,6 @@
 -- The row of an open connection has its link, and a write to the link is a write to the row. For the calls that hand
 -- TSDUs in.
-use Rattle.std.proofs.Common.{◌≡◌, ℕ, Bool, true, false, List, length, nat_lt, get_or, Option, Some, None, Result, Ok, Err, OnOk}
+use Rattle.std.proofs.Common.{◌≡◌, ℕ, Bool, true, false, List, length, nat_lt, get_or, Option, Some, None, Result, Ok, Err, OnOk, is_some}
 use Rattle.std.proofs.Common.{refl, ap, sym, subst, arith, ◌∙◌}
 use Rattle.osi_class.specs.declared.either.AnyLink.{AnyLink}
 use Rattle.osi_carrier.specs.Calls.{length_error}
@@ -37,6 +37,21 @@ open_row r i n q rows items row p link e here same view is =
 pub not_linked : (p : Phase) → ((q : ℕ) (link : AnyLink) → p ≡ Linked q link → ⊥) → link_of (Some (connection p)) ≡ None
 not_linked (Linked q link) other = absurd (other q link refl)
 not_linked phase other = cc
+
+pub not_known : (p : Phase) → ((q : ℕ) (link : AnyLink) → p ≡ Linked q link → ⊥) → peer_in (Some (connection p)) ≡ None
+not_known (Linked q link) other = absurd (other q link refl)
+not_known phase other = cc
+
+-- an open connection has one reference of its peer
+pub same_peer : (peer : Option ℕ) (q p : ℕ) → peer ≡ Some q → peer ≡ Some p → q ≡ p
+same_peer peer q p a b = let same : Some q ≡ Some p = sym a ∙ b in cc
+
+pub with_peer : {P : Type 0} (peer : Option ℕ) → is_some peer ≡ true → ((p : ℕ) → peer ≡ Some p → P) → P
+with_peer (Some p) h f = f p refl
+with_peer None h f = cc
+
+pub none_known : {P : Type 0} (peer : Option ℕ) (p : ℕ) → peer ≡ None → peer ≡ Some p → P
+none_known peer p a b = cc
 
 -- the place that a search has found
 pub sought_place : (r : ℕ) (rises : Bool) (rows now slice : Rows Connection) (found : Option ℕ) → slice ≡ rows → rows ≡ now →

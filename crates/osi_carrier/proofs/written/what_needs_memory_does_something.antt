@@ -233,10 +233,8 @@ took_grows r peer s (Ok link) whole ok e =
     told_grows s (taking r peer (Ok link) s) (map (tsdu r) (whole_after (Ok link))) (omega arith) refl
 took_grows r peer s (Err fault) whole ok e = cc
 
-pub broke_grows : {A E : Type 0} (result : Result A E) (r peer : ℕ) (s mid : State) (t : Result Standing LinkFault) (fault : LinkFault) →
-    t ≡ Err fault → mid ≡ s →
-    OnErr result (grows mid (breaks r peer fault mid.class mid) ≡ true) → OnErr result (grows s (taking r peer t s) ≡ true)
-broke_grows (Ok a) r peer s mid t fault e same h = tt
-broke_grows (Err f) r peer s mid t fault e same h =
+pub broke_grows : (r peer : ℕ) (s mid : State) (t : Result Standing LinkFault) (fault : LinkFault) → t ≡ Err fault → mid ≡ s →
+    grows mid (breaks r peer fault mid.class mid) ≡ true → grows s (taking r peer t s) ≡ true
+broke_grows r peer s mid t fault e same h =
     subst (λ (u : Result Standing LinkFault). grows s (taking r peer u s) ≡ true) (sym e)
     (subst (λ (x : State). grows x (breaks r peer fault x.class x) ≡ true) same h)

@@ -1,6 +1,6 @@
 //! Units for open connections (X.224 sections 6.7 and 6.22).
 
-ghost use Rattle.std.specs.Prelude.{◌≡◌, Some, true, OnOk, OnErr};
+ghost use Rattle.std.specs.Prelude.{◌≡◌, ℕ, Some, Ok, true, false, is_some, IfOk, OnOk, OnErr};
 ghost use Rattle.osi_tpdu.specs.View.{value};
 ghost use Rattle.osi_class.specs.Link.{taken};
 ghost use Rattle.osi_carrier.specs.Growth.{grows};
@@ -46,39 +46,39 @@ impl Switch {
             | Tpdu::Dt0(_)
             | Tpdu::Dt2(_)
             | Tpdu::Ak(_)
-            | Tpdu::Er(_) => self.hand_to_link(place, reference, peer, unit),
+            | Tpdu::Er(_) => {
+                self.hand_to_link(reference, unit)?;
+                Ok(())
+            }
         }
     }
 
-    /// The link takes the unit or refuses it. Room for an event is made only if there is one.
+    /// The link of the open connection with this reference takes the unit or refuses it. `false` if there is no such
+    /// connection; then nothing has changed. Room for an event is made only if there is one.
     #[inline(always)]
-    pub fn hand_to_link(
-        &mut self,
-        place: usize,
-        reference: u16,
-        peer: u16,
-        unit: &Tpdu<'_>,
-    ) -> Result<(), AllocError>
-        requires place { place_of reference self.old.live ≡ Some place }
-        requires open { peer_in (value_at reference self.old.live) ≡ Some peer }
-        ensures ok { OnOk result (self.new ≡ taking reference peer (taken (link_in (value_at reference self.old.live)) (value unit.now)) self.old) }
+    pub fn hand_to_link(&mut self, reference: u16, unit: &Tpdu<'_>) -> Result<bool, AllocError>
+        ensures known { IfOk result (λ b. b ≡ is_some (peer_in (value_at reference self.old.live))) }
+        ensures ok { (peer : ℕ) → peer_in (value_at reference self.old.live) ≡ Some peer → OnOk result (self.new ≡ taking reference peer (taken (link_in (value_at reference self.old.live)) (value unit.now)) self.old) }
+        ensures none { result ≡ Ok false → self.new ≡ self.old }
         ensures err { OnErr result (ends NoMemory self.new ≡ ends NoMemory self.old) }
-        ensures needs { OnErr result (grows self.old (taking reference peer (taken (link_in (value_at reference self.old.live)) (value unit.now)) self.old) ≡ true) }
+        ensures refused { OnErr result (is_some (peer_in (value_at reference self.old.live)) ≡ true) }
+        ensures needs { (peer : ℕ) → peer_in (value_at reference self.old.live) ≡ Some peer → OnErr result (grows self.old (taking reference peer (taken (link_in (value_at reference self.old.live)) (value unit.now)) self.old) ≡ true) }
     {
         let before = self.outgoing.len();
-        match self
-            .live
-            .step(place, reference, peer, unit, &mut self.outgoing)?
-        {
-            Step::Took(None) => Ok(()),
+        match self.live.step(reference, unit, &mut self.outgoing)? {
+            Step::NotOpen => Ok(false),
+            Step::Took(None) => Ok(true),
             Step::Took(Some(whole)) => {
                 let Ok(()) = self.events.push(Event::Tsdu(Ref(reference), whole)) else {
                     self.outgoing.truncate(before);
                     return Err(AllocError);
                 };
-                Ok(())
+                Ok(true)
             }
-            Step::Broke(fault) => self.fail_link(place, reference, peer, fault),
+            Step::Broke(place, peer, fault) => {
+                self.fail_link(place, reference, peer, fault)?;
+                Ok(true)
+            }
         }
     }
 

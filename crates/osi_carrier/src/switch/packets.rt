@@ -82,14 +82,13 @@ impl Switch {
         ensures acts { result ≡ true → Act self.old (value unit.now ∷ []) self.new }
         ensures none { result ≡ false → self.new ≡ self.old }
     {
-        let Some((place, peer)) = self.live.open_at(reference) else {
-            return false;
-        };
-        let Ok(()) = self.hand_to_link(place, reference, peer, unit) else {
-            self.end(EndReason::NoMemory);
-            return true;
-        };
-        true
+        match self.hand_to_link(reference, unit) {
+            Ok(known) => known,
+            Err(_) => {
+                self.end(EndReason::NoMemory);
+                true
+            }
+        }
     }
 
     /// A packet that may hold any units.

@@ -1,18 +1,19 @@
-use Rattle.std.proofs.Common.{◌≡◌, true, ap, sym, subst, ◌∙◌}
+use Rattle.std.proofs.Common.{◌≡◌, true, sym, subst, ◌∙◌}
 use Rattle.osi_carrier.proofs.Vocabulary.{value, grows, value_at, peer_in, State}
 use Rattle.osi_carrier.proofs.effects.units_one_after_the_other.{one_starved, one_taken}
+use Rattle.osi_carrier.proofs.references.the_link_in_a_row.{with_peer}
 use Rattle.osi_carrier.proofs.switch.Switch.take_open.Goals as goal
 
-pub returns-in_default-hand_to_link-clause-acts : goal.returns-in_default-hand_to_link-clause-acts
-returns-in_default-hand_to_link-clause-acts c = λ _.
-    let opened = ap (λ (s : State). peer_in (value_at c.args.reference s.live)) (sym c.self.view_is) ∙ c.in-Some.ensures.open.1 in
-    let acts = c.requires.acts c.in-Some.peer opened in
-    one_starved c.args.self.now c.hand_to_link.new.self c.end.new.self (value c.args.unit.now) c.requires.lasts
-    c.in_default-hand_to_link.ensures.err
-    (subst (λ (t : State). grows c.args.self.now t ≡ true) (sym acts) c.in_default-hand_to_link.ensures.needs) c.end.ensures
+pub returns-in-Ok-clause-acts : goal.returns-in-Ok-clause-acts
+returns-in-Ok-clause-acts c = λ yes.
+    with_peer (peer_in (value_at c.args.reference c.args.self.now.live)) (sym c.in-Ok.ensures.known ∙ yes)
+    (λ peer is. one_taken c.args.self.now c.hand_to_link.new.self _ (value c.args.unit.now) c.requires.lasts (c.requires.acts peer is)
+    (c.in-Ok.ensures.ok peer is))
 
-pub returns-clause-acts : goal.returns-clause-acts
-returns-clause-acts c = λ _.
-    let opened = ap (λ (s : State). peer_in (value_at c.args.reference s.live)) (sym c.self.view_is) ∙ c.in-Some.ensures.open.1 in
-    one_taken c.args.self.now c.hand_to_link.new.self _ (value c.args.unit.now) c.requires.lasts (c.requires.acts c.in-Some.peer opened)
-    c.in-Ok.ensures.ok
+pub returns-in-Err-clause-acts : goal.returns-in-Err-clause-acts
+returns-in-Err-clause-acts c = λ _.
+    with_peer (peer_in (value_at c.args.reference c.args.self.now.live)) c.in-Err.ensures.refused
+    (λ peer is. one_starved c.args.self.now c.hand_to_link.new.self c.end.new.self (value c.args.unit.now) c.requires.lasts
+    c.in-Err.ensures.err
+    (subst (λ (t : State). grows c.args.self.now t ≡ true) (sym (c.requires.acts peer is)) (c.in-Err.ensures.needs peer is))
+    c.end.ensures)
