@@ -6,4 +6,7 @@ pub mod nothing_takes_no_room
 pub mod a_tsdu_part_after_part
 pub mod tsdus_that_are_sent_together
 pub mod tsdus_are_written_straight
+pub mod octets_are_cut_into_tsdus
+pub mod whether_all_tsdus_may_go_now
+pub mod pieces_are_written_straight
 pub mod what_needs_memory_does_something

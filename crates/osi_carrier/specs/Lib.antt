@@ -20,4 +20,5 @@ pub mod References
 pub mod Named
 pub mod Runs
 pub mod Told
+pub mod Pieces
 pub mod Place

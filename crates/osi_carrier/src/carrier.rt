@@ -3,6 +3,7 @@
 use crate::ends::EndReason;
 use crate::events::{Event, Ref};
 use crate::faults::{OpenError, SendError};
+use crate::pieces::Pieces;
 use crate::selectors::Tsaps;
 use crate::switch::Switch;
 use osi_class::Local;
@@ -45,6 +46,7 @@ impl Carrier {
     ghost use Rattle.osi_carrier.specs.Rows.{value_at};
     ghost use Rattle.osi_carrier.specs.Happenings.{happening};
     ghost use Rattle.osi_carrier.specs.Packets.{Feeds, waits};
+    ghost use Rattle.osi_carrier.specs.Pieces.{tsdus_in, FitTsdus};
     ghost use Rattle.osi_carrier.specs.Selectors.{tsap_ids};
     ghost use Rattle.osi_carrier.specs.declared.ends.EndReason.TheVariants.{Broken, NoMemory};
     ghost use Rattle.osi_class.specs.declared.terms.Class.TheVariants.{Zero};
@@ -167,6 +169,20 @@ impl Carrier {
         ensures kept { AllWaitOn (open_link reference.0 self.old.state) (map (λ v. v.items) tsdus.items) → result ≢ Err SendError.OutOfMemory }
     {
         self.switch.send_all(reference.0, CowSlice::Owned(tsdus))
+    }
+
+    /// Sends TSDUs together as [`Carrier::send_all`] does. They are cut from octets in pieces of one size, and each piece
+    /// goes behind its head, such as a header. If all their units may be sent now, they are written straight from the
+    /// heads and the pieces, and no memory is needed but for their room in [`Carrier::outgoing`]. Otherwise copies of the
+    /// TSDUs are kept, and what may be sent now is written from them. An error changes nothing.
+    pub fn send_all_headed(&mut self, reference: Ref, pieces: &Pieces<'_>) -> Result<(), SendError>
+        requires { FitTsdus pieces.now }
+        ensures ok { OnOk result (self.new ≡ record self.old { state = sent_all reference.0 (tsdus_in pieces.now) self.old.state }) }
+        ensures allowed { OnOk result (send_all_error (tsdus_in pieces.now) (open_link reference.0 self.old.state) ≡ None) }
+        ensures refused { IfErr result (λ e. call_error e ≡ send_all_error (tsdus_in pieces.now) (open_link reference.0 self.old.state)) }
+        ensures err { OnErr result (self.new ≡ self.old) }
+    {
+        self.switch.send_pieces(reference.0, pieces)
     }
 
     /// Closes an open connection with this reason. In class 2 a DR is written, and the connection is closing until the

@@ -1,15 +1,17 @@
 //! The links of open connections: units that are received for them, and units that they give.
 
-ghost use Rattle.std.specs.Prelude.{◌≡◌, ◌<◌, ◌≤◌, ◌+◌, ◌^◌, ◌++◌, [], None, true, false, nat_lt, length, drop, map, IfOk, IsOk, OnOk, OnErr};
+ghost use Rattle.std.specs.Prelude.{ℕ, List, ◌≡◌, ◌<◌, ◌≤◌, ◌+◌, ◌^◌, ◌++◌, [], None, true, false, nat_lt, length, drop, map, IfOk, IfSome, IsOk, OnOk, OnErr};
 ghost use Rattle.std.specs.Cow.{cow_slice_items, IsOwnedSlice};
 ghost use Rattle.osi_class.specs.AnyLink.{any_standing};
-ghost use Rattle.osi_class.specs.Giving.{all_given, most_given, octets_in, one_by_one, AllGoAtOnce};
+ghost use Rattle.osi_class.specs.Giving.{all_given, most_given, octets_in, one_by_one, units_needed, AllGoAtOnce};
 ghost use Rattle.osi_class.specs.Link.{next, with_tsdu, with_tsdus};
 ghost use Rattle.osi_class.specs.Tsdus.{octets_of_tsdus};
 ghost use Rattle.osi_carrier.specs.Calls.{WaitsAlone, WaitTogether};
+ghost use Rattle.osi_carrier.specs.Pieces.{tsdus_in, FitTsdus};
 ghost use Rattle.osi_carrier.specs.Pump.{pumped, written_by, written_for};
 ghost use Rattle.osi_carrier.specs.State.{packets};
 
+use crate::pieces::Pieces;
 use crate::writing::{put_given, put_part};
 use bytes::BytesMut;
 use osi_class::laws::{
@@ -266,6 +268,7 @@ fn write_headed(
     ensures link { any_standing link.new ≡ pumped (with_tsdu (any_standing link.old) (head.now ++ body.now)) }
     ensures written { out.new.items ≡ out.old.items ++ packets (written_by peer (with_tsdu (any_standing link.old) (head.now ++ body.now))) }
     ensures pumped { next (any_standing link.new) ≡ None }
+    ensures spare { length out.old.items + out.old.spare ≤ length out.new.items + out.new.spare }
 {
     let carried = (link.limit() - head.len()).min(body.len());
     let Some(slot) = link.give_slot() else {
@@ -303,7 +306,7 @@ fn rest_behind(
 }
 
 /// Both pieces in one buffer.
-fn joined(alloc: Global, head: &[u8], body: &[u8]) -> Result<Vec<u8>, AllocError>
+pub fn joined(alloc: Global, head: &[u8], body: &[u8]) -> Result<Vec<u8>, AllocError>
     requires { length head.now + length body.now ≤ 1048576 }
     ensures { IfOk result (λ v. v.items ≡ head.now ++ body.now) }
 {
@@ -346,4 +349,90 @@ pub fn send_headed_parts(
     }
     let tsdu = joined(alloc, head, body)?;
     send_parts(alloc, link, peer, CowSlice::Owned(tsdu), out)
+}
+
+/// Whether so many units of data may be sent now: as many octets as they carry at most would go at once.
+fn may_send(link: &AnyLink, units: usize) -> bool
+    requires quiet { next (any_standing link.now) ≡ None }
+    requires some { 0 < units }
+    ensures { result ≡ true → (tsdus : List (List ℕ)) → units ≡ units_needed (any_standing link.now).ends.limit tsdus → AllGoAtOnce (any_standing link.now) tsdus }
+{
+    let Some(octets) = units.checked_mul(link.limit()) else {
+        return false;
+    };
+    let room = link.room_for(octets);
+    room.octets == octets
+}
+
+/// The room for all units of the TSDUs that are cut, if all of them may be sent now. `None` in all other cases.
+fn room_at_once(link: &AnyLink, pieces: &Pieces<'_>) -> Option<usize>
+    requires quiet { next (any_standing link.now) ≡ None }
+    requires fit { FitTsdus pieces.now }
+    ensures go { IfSome result (λ _. AllGoAtOnce (any_standing link.now) (tsdus_in pieces.now)) }
+    ensures enough { IfSome result (λ room. (peer : ℕ) → length (packets (written_for peer (any_standing link.now) (tsdus_in pieces.now))) ≤ room) }
+{
+    let room = pieces.room(link.limit())?;
+    if !may_send(link, room.units) {
+        return None;
+    }
+    let headers = room.units.checked_mul(MOST_HEADERS)?;
+    room.octets.checked_add(headers)
+}
+
+/// Writes all units of the TSDUs that are cut, straight from their heads and pieces, one TSDU after the other. They may
+/// all go now, and there is room for them in `out`.
+fn write_pieces(
+    alloc: Global,
+    link: &mut AnyLink,
+    peer: u16,
+    pieces: &Pieces<'_>,
+    out: &mut BytesMut,
+)
+    requires go { AllGoAtOnce (any_standing link.old) (tsdus_in pieces.now) }
+    requires quiet { next (any_standing link.old) ≡ None }
+    requires limit { 0 < (any_standing link.old).ends.limit }
+    requires fit { FitTsdus pieces.now }
+    requires room { length (packets (written_for peer (any_standing link.old) (tsdus_in pieces.now))) ≤ out.old.spare }
+    ensures link { any_standing link.new ≡ one_by_one (any_standing link.old) (tsdus_in pieces.now) }
+    ensures written { out.new.items ≡ out.old.items ++ packets (written_for peer (any_standing link.old) (tsdus_in pieces.now)) }
+    ensures pumped { next (any_standing link.new) ≡ None }
+{
+    let mut head = pieces.first;
+    let mut rest = pieces.octets;
+    'pieces: while rest.len() > pieces.size {
+        let (piece, behind) = rest.split_at(pieces.size);
+        write_headed(link, peer, head, piece, Vec::new(alloc), out);
+        head = pieces.middle;
+        rest = behind;
+    }
+    write_headed(link, peer, pieces.last, rest, Vec::new(alloc), out);
+}
+
+/// Hands in the TSDUs that are cut together at a link that gives nothing now, and writes all units that it then gives.
+/// If all of them may be sent now, they are written straight from the pieces, and no memory is needed but for their
+/// room. Otherwise the link keeps copies of the TSDUs. An allocation failure changes nothing: the room for the units is
+/// reserved first.
+pub fn send_pieces_on(
+    alloc: Global,
+    link: &mut AnyLink,
+    peer: u16,
+    pieces: &Pieces<'_>,
+    out: &mut BytesMut,
+) -> Result<(), AllocError>
+    requires quiet { next (any_standing link.old) ≡ None }
+    requires fit { FitTsdus pieces.now }
+    ensures link { OnOk result (any_standing link.new ≡ one_by_one (any_standing link.old) (tsdus_in pieces.now)) }
+    ensures ok { OnOk result (out.new.items ≡ out.old.items ++ packets (written_for peer (any_standing link.old) (tsdus_in pieces.now))) }
+    ensures pumped { OnOk result (next (any_standing link.new) ≡ None) }
+    ensures err { OnErr result ((any_standing link.new ≡ any_standing link.old) × (out.new.items ≡ out.old.items)) }
+{
+    // Named for the proof: each unit has room for some octets.
+    let _limit = link.limit();
+    if let Some(room) = room_at_once(link, pieces) {
+        out.reserve(room)?;
+        write_pieces(alloc, link, peer, pieces, out);
+        return Ok(());
+    }
+    let tsdus = pieces.copies(alloc)?;
+    send_all_on(alloc, link, peer, CowSlice::Owned(tsdus), out)
 }

@@ -6,6 +6,7 @@ ghost use Rattle.osi_carrier.specs.Calls.{backlog_of, begun_by, call_error, kept
 ghost use Rattle.osi_carrier.specs.Live.{connection, IsPumped};
 ghost use Rattle.osi_carrier.specs.Opened.{link_in, peer_in};
 ghost use Rattle.osi_carrier.specs.Orderly.{RiseFrom};
+ghost use Rattle.osi_carrier.specs.Pieces.{tsdus_in, FitTsdus};
 ghost use Rattle.osi_carrier.specs.Pump.{pumped, written_by, written_for};
 ghost use Rattle.osi_carrier.specs.React.{has_peer, is_of_peer};
 ghost use Rattle.osi_carrier.specs.Rows.{value_at, first_of, place_of, put, without};
@@ -16,8 +17,11 @@ ghost use Rattle.osi_class.specs.Link.{taken, with_tsdu};
 ghost use Rattle.osi_tpdu.specs.View.{value};
 
 use crate::faults::SendError;
-use crate::links::{Step, pump, send_all_on, send_headed_parts, send_parts, send_whole};
+use crate::links::{
+    Step, pump, send_all_on, send_headed_parts, send_parts, send_pieces_on, send_whole,
+};
 use crate::lookup::{Referred, is_above, place_in};
+use crate::pieces::Pieces;
 use bytes::BytesMut;
 use osi_class::{AnyLink, LONGEST_TSDU, Link, LinkFault};
 use osi_tpdu::Tpdu;
@@ -128,6 +132,28 @@ impl Row {
         match &mut self.phase {
             Phase::Asked | Phase::Closing(_) => unreachable!(),
             Phase::Linked(_, link) => send_all_on(alloc, link, peer, tsdus, out),
+        }
+    }
+
+    /// Hands in the TSDUs that are cut together at the link of the connection, which is open with this reference of the
+    /// peer, and writes what the link then gives. An allocation failure changes nothing.
+    fn send_pieces(
+        &mut self,
+        alloc: Global,
+        peer: u16,
+        pieces: &Pieces<'_>,
+        out: &mut BytesMut,
+    ) -> Result<(), AllocError>
+        requires open { peer_in (Some self.old.1) ≡ Some peer }
+        requires fit { FitTsdus pieces.now }
+        ensures reference { self.new.0 ≡ self.old.0 }
+        ensures row { OnOk result (self.new ≡ (self.old.0, linked peer (one_by_one (link_in (Some self.old.1)) (tsdus_in pieces.now)))) }
+        ensures ok { OnOk result (out.new.items ≡ out.old.items ++ packets (written_for peer (link_in (Some self.old.1)) (tsdus_in pieces.now))) }
+        ensures err { OnErr result ((self.new ≡ self.old) × (out.new.items ≡ out.old.items)) }
+    {
+        match &mut self.phase {
+            Phase::Asked | Phase::Closing(_) => unreachable!(),
+            Phase::Linked(_, link) => send_pieces_on(alloc, link, peer, pieces, out),
         }
     }
 
@@ -453,6 +479,27 @@ impl Connections {
         ensures kept { IsOwnedSlice tsdus.entry → WaitTogether (link_in (value_at reference self.old)) (map (λ v. v.items) (cow_slice_items tsdus.entry)) → IsOk result }
     {
         self.rows[place].send_all(alloc, peer, tsdus, out)
+    }
+
+    /// Hands in the TSDUs that are cut together at the link of the connection at this place, which is open with this
+    /// reference of the peer. An allocation failure changes nothing.
+    pub fn send_pieces(
+        &mut self,
+        alloc: Global,
+        place: usize,
+        reference: u16,
+        peer: u16,
+        pieces: &Pieces<'_>,
+        out: &mut BytesMut,
+    ) -> Result<(), AllocError>
+        requires place { place_of reference self.old ≡ Some place }
+        requires open { peer_in (value_at reference self.old) ≡ Some peer }
+        requires fit { FitTsdus pieces.now }
+        ensures rows { OnOk result (self.new ≡ put reference (linked peer (one_by_one (link_in (value_at reference self.old)) (tsdus_in pieces.now))) self.old) }
+        ensures ok { OnOk result (out.new.items ≡ out.old.items ++ packets (written_for peer (link_in (value_at reference self.old)) (tsdus_in pieces.now))) }
+        ensures err { OnErr result ((self.new ≡ self.old) × (out.new.items ≡ out.old.items)) }
+    {
+        self.rows[place].send_pieces(alloc, peer, pieces, out)
     }
 
     /// Brings the connection at this place into another phase.

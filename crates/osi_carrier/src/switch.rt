@@ -11,6 +11,7 @@ use std::marker::Model;
 
 mod calls;
 mod closing;
+mod headed;
 mod linked;
 mod opening;
 mod packets;

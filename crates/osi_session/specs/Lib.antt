@@ -5,6 +5,7 @@ pub mod Closing
 pub mod Counting
 pub mod Expecting
 pub mod Joining
+pub mod Lent
 pub mod Listening
 pub mod Moves
 pub mod Numbers

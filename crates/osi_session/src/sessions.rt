@@ -17,6 +17,7 @@ use crate::grouping::{Reactions, judge_unread, take_all};
 use crate::hearing::{Heard, Joined};
 use crate::indications::Indication;
 use crate::joining::joined_octets;
+use crate::lending::{DataParts, lent_within};
 use crate::opening::Opening;
 use crate::phases::Phase;
 use crate::plans::Plan;
@@ -104,9 +105,10 @@ impl Session {
     ghost use Rattle.osi_message.specs.Reading.{said_by_units};
     ghost use Rattle.osi_message.specs.Tokens.{named, token_octet};
     ghost use Rattle.osi_session.specs.Calls.{Data, called_by};
+    ghost use Rattle.osi_session.specs.Lent.{tsdus_lent, FitTsdus};
     ghost use Rattle.osi_session.specs.Listening.{called, taken, unread, came, opened, refused, broken, in_state, moved, react};
     ghost use Rattle.osi_session.specs.Phases.{is_wait_transport};
-    ghost use Rattle.osi_session.specs.Sessions.{Refused, CanBeSent, IsPlanOf, opens, refusal_of, awaits, shown_in, takes_memory, Takes};
+    ghost use Rattle.osi_session.specs.Sessions.{Refused, CanBeSent, IsPlanOf, is_memory, opens, refusal_of, awaits, shown_in, takes_memory, Takes};
     ghost use Rattle.osi_session.specs.Shown.{shown_by};
     ghost use Rattle.osi_session.specs.Sound.{IsSound};
     ghost use Rattle.osi_session.specs.Steps.{shown_list, joined_after, hearing_of_all};
@@ -289,6 +291,25 @@ impl Session {
             return None;
         }
         Some(data_head())
+    }
+
+    /// How data is cut into parts, and the octets before each part, if a call for this data is accepted: these octets
+    /// and then the parts are all that [`Session::call_data`] returns then. Otherwise the error of the call. No memory
+    /// is needed, and no octet is copied.
+    #[tactic(auto, using(crate::proofs::tables::what_the_table_of_calls_answers::refused))]
+    pub fn data_parts(&self, user_data: &[u8]) -> Result<DataParts, CallError>
+        ensures state { OnOk result (self.now ≡ (react self.now (called (Data user_data.now))).next) }
+        ensures sent { IfOk result (λ p. tsdus_lent p user_data.now ≡ tsdus_sent (limit_of self.now.state) (react self.now (called (Data user_data.now))).reply) }
+        ensures accepted { OnOk result ((react self.now (called (Data user_data.now))).error ≡ None) }
+        ensures sendable { OnOk result (CanBeSent (react self.now (called (Data user_data.now))).reply) }
+        ensures fit { IfOk result FitTsdus }
+        ensures refused { IfErr result (λ e. Refused e (react self.now (called (Data user_data.now))).error) }
+        ensures named { IfErr result (λ e. is_memory e ≡ false) }
+    {
+        match allow_data(&self.state, user_data) {
+            Ok(()) => Ok(lent_within(size_limit(&self.state), user_data)),
+            Err(error) => Err(error),
+        }
     }
 
     /// Data that is refused, or for which a size was agreed. The function is kept out of line, because other data is

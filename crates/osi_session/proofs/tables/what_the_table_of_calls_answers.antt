@@ -50,7 +50,7 @@ sized_named : (fits : Bool) (a : Answer) (e : CallError) → (a ≡ Err e → is
 sized_named fits (Ok x) e k h = if_named fits (Ok x) error.TooLong e refl (λ l. absurd (cc)) h
 sized_named fits (Err d) e k h = k h
 
-allowed_named : (s : State) (c : Call) (e : CallError) → allowed s c ≡ Err e → is_memory e ≡ false
+pub allowed_named : (s : State) (c : Call) (e : CallError) → allowed s c ≡ Err e → is_memory e ≡ false
 unfolding allowed
 allowed_named s c e h =
     else_named (is_over s.phase) _ error.Ended e refl

@@ -1,7 +1,8 @@
 use Rattle.std.proofs.Common.{◌≡◌, ◌≤◌, ◌+◌, [], ◌∷◌, ◌++◌, length, drop, sym, ap, subst, ◌∙◌, arith}
-use Rattle.osi_carrier.proofs.Vocabulary.{eqb-true, eqb-false, any_standing, first_in, octets_of, Given, unit_of, packets, with_tsdu}
+use Rattle.osi_carrier.proofs.Vocabulary.{eqb-true, eqb-false, any_standing, first_in, number_in, octets_of, part_under, Given, unit_of}
+use Rattle.osi_carrier.proofs.Vocabulary.{packets, with_tsdu}
 use Rattle.osi_carrier.proofs.written.a_tsdu_part_after_part.{Goes, parting_first, parting_then, parting_last, parting_all, part_goes}
-use Rattle.osi_carrier.proofs.written.a_tsdu_part_after_part.{part_room, empty_list}
+use Rattle.osi_carrier.proofs.written.a_tsdu_part_after_part.{part_room, empty_list, put_length}
 use Rattle.osi_carrier.proofs.written.a_part_in_its_data_unit.{first_cut}
 use Rattle.osi_carrier.proofs.links.write_headed.Goals as goal
 
@@ -56,7 +57,16 @@ returns-then-end c =
     let all = parting_last c.args.peer first (any_standing c.args.link.now) then
     c.args.out.now.items tsdu c.args.kept.items c.args.out.now.items c.put_part.new.out.items unit c.args.out.now.spare
     start (omega arith) (c.in-Some.ensures.given tsdu) put none in
-    record { link = all.link; written = all.written; pumped = (c.in-Some.ensures.given tsdu).last }
+    let longer = put_length c.args.out.now.items c.put_part.new.out.items
+    (packets (unit_of c.args.peer
+    (part_under (number_in c.in-Some.slot) c.is_empty-end.result (c.args.head.now ++ c.split_at.result.0.now)) ∷ [])) c.in-Ok.ensures.ok in
+    let took_room = c.in-Ok.ensures.spare in
+    record {
+      link = all.link;
+      written = all.written;
+      pumped = (c.in-Some.ensures.given tsdu).last;
+      spare = omega (arith, longer, took_room);
+    }
 
 pub write_parts-requires-clause-quiet : goal.write_parts-requires-clause-quiet
 write_parts-requires-clause-quiet c =
@@ -214,4 +224,14 @@ returns c =
     let all = parting_all c.args.peer first then (any_standing c.write_parts.new.link) c.args.out.now.items c.split_at.result.1.now
     c.args.kept.items c.put_part.new.out.items c.write_parts.new.out.items c.put_part.new.out.spare
     parting c.write_parts.ensures.link c.write_parts.ensures.written in
-    record { link = all.link; written = all.written; pumped = c.write_parts.ensures.pumped }
+    let longer = put_length c.args.out.now.items c.put_part.new.out.items
+    (packets (unit_of c.args.peer
+    (part_under (number_in c.in-Some.slot) c.is_empty-end.result (c.args.head.now ++ c.split_at.result.0.now)) ∷ [])) c.in-Ok.ensures.ok in
+    let took_room = c.in-Ok.ensures.spare in
+    let more = c.write_parts.ensures.spare in
+    record {
+      link = all.link;
+      written = all.written;
+      pumped = c.write_parts.ensures.pumped;
+      spare = omega (arith, longer, took_room, more);
+    }

@@ -1,0 +1,200 @@
+-- Octets that are cut into pieces, each behind its head: the TSDUs one after the other.
+-- For `room` and `copies` of pieces, `write_pieces` of links, and `send_pieces_open` of the switch.
+use Rattle.std.proofs.Common.{◌≡◌, ◌∙◌, refl, sym, ap, subst, ℕ, zero, suc, ◌+◌, ◌<◌, ◌≤◌, Bool, true, false, nat_le, List, [], ◌∷◌, ◌++◌}
+use Rattle.std.proofs.Common.{length, take, drop, map, arith, append_assoc, length-append, length-drop, if◌then◌else◌, nat_lt, ◌||◌}
+use Rattle.std.proofs.Common.{Option, Some, None, IfSome}
+use Rattle.std.proofs.lemmas.Bool.{lt-leb, le-ltb}
+use Rattle.std.proofs.lemmas.List.{length-take}
+use Rattle.osi_class.proofs.giving.all_that_may_go_is_given.{more_units}
+use Rattle.osi_class.proofs.giving.the_units_of_one_tsdu.{parts_some}
+use Rattle.osi_class.specs.Giving.{parts_needed, units_needed}
+use Rattle.osi_class.specs.Tsdus.{octets_of_tsdus}
+use Rattle.osi_class.specs.declared.units.Room.{Room}
+use Rattle.osi_carrier.proofs.Vocabulary.{le-leb, leb-true, leb-false, length-take-le, sum_by-cons, list_any, lengths_error}
+use Rattle.osi_carrier.specs.Pieces.{headed, tsdus_from, tsdus_in, FitsTsdu, FitTsdus}
+use Rattle.osi_carrier.specs.declared.faults.SendError.{SendError}
+use Rattle.osi_carrier.specs.declared.faults.SendError.TheVariants.{TooLong}
+use Rattle.osi_carrier.specs.declared.pieces.Pieces.{Pieces}
+
+-- ---- the next TSDU
+
+same_if : (b : Bool) (alone first : List ℕ) (xs ys : List (List ℕ)) → (b ≡ false → xs ≡ ys) →
+    (if b then alone ∷ [] else first ∷ xs) ≡ (if b then alone ∷ [] else first ∷ ys)
+same_if true alone first xs ys e = refl
+same_if false alone first xs ys e = ap (λ r. first ∷ r) (e refl)
+
+-- fuel beyond the number of octets makes no difference
+same_headed : (f g : ℕ) (h m l : List ℕ) (size : ℕ) (o : List ℕ) → 0 < size → length o ≤ f → length o ≤ g →
+    headed f h m l size o ≡ headed g h m l size o
+same_headed zero zero h m l size o some a b = refl
+same_headed zero (suc g) h m l size o some a b =
+    let e : nat_le (length o) size ≡ true = le-leb (length o) size (omega arith) in rw e refl
+same_headed (suc f) zero h m l size o some a b =
+    let e : nat_le (length o) size ≡ true = le-leb (length o) size (omega arith) in rw e refl
+same_headed (suc f) (suc g) h m l size o some a b =
+    same_if (nat_le (length o) size) (l ++ o) (h ++ take size o) (headed f m m l size (drop size o)) (headed g m m l size (drop size o))
+    (λ no. let long : size < length o = leb-false (length o) size no in let d = length-drop size o in
+    same_headed f g m m l size (drop size o) some (omega arith) (omega arith))
+
+step_of : (n : ℕ) (h m l : List ℕ) (size : ℕ) (o : List ℕ) → length o ≡ n → 0 < size → size < length o →
+    headed n h m l size o ≡ (h ++ take size o) ∷ headed (length (drop size o)) m m l size (drop size o)
+step_of zero h m l size o e some long = absurd (omega arith)
+step_of (suc n) h m l size o e some long =
+    let no : nat_le (length o) size ≡ false = lt-leb (length o) size long in let d = length-drop size o in
+    rw no (ap (λ r. (h ++ take size o) ∷ r)
+    (same_headed n (length (drop size o)) m m l size (drop size o) some (omega arith) (omega arith)))
+
+-- the next of several
+pub cut_next : (p : Pieces) (head rest piece behind : List ℕ) → 0 < p.size → p.size < length rest → piece ≡ take p.size rest →
+    behind ≡ drop p.size rest → tsdus_from p head rest ≡ (head ++ piece) ∷ tsdus_from p p.middle.now behind
+cut_next p head rest piece behind some long first after =
+    step_of (length rest) head p.middle.now p.last.now p.size rest refl some long
+    ∙ ap (λ (x : List ℕ). (head ++ x) ∷ tsdus_from p p.middle.now (drop p.size rest)) (sym first)
+    ∙ ap (λ (x : List ℕ). (head ++ piece) ∷ tsdus_from p p.middle.now x) (sym after)
+
+end_of : (n : ℕ) (h m l : List ℕ) (size : ℕ) (o : List ℕ) → length o ≤ size → headed n h m l size o ≡ (l ++ o) ∷ []
+end_of zero h m l size o short = refl
+end_of (suc n) h m l size o short = let yes : nat_le (length o) size ≡ true = le-leb (length o) size short in rw yes refl
+
+-- the last
+pub cut_last : (p : Pieces) (head rest : List ℕ) → length rest ≤ p.size → tsdus_from p head rest ≡ (p.last.now ++ rest) ∷ []
+cut_last p head rest short = end_of (length rest) head p.middle.now p.last.now p.size rest short
+
+-- ---- their units and octets
+
+more_octets : (t : List ℕ) (ts : List (List ℕ)) → octets_of_tsdus (t ∷ ts) ≡ length t + octets_of_tsdus ts
+more_octets t ts = sum_by-cons length t ts
+
+-- Those before this head are counted.
+pub record IsCounted (p : Pieces) (limit units octets : ℕ) (head rest : List ℕ) : Type 0 where
+  pub fits : FitsTsdu p.size head
+  pub units_are : units + units_needed limit (tsdus_from p head rest) ≡ units_needed limit (tsdus_in p)
+  pub octets_are : octets + octets_of_tsdus (tsdus_from p head rest) ≡ octets_of_tsdus (tsdus_in p)
+
+pub counting_first : (p : Pieces) (limit : ℕ) → FitTsdus p → IsCounted p limit 0 0 p.first.now p.octets.now
+counting_first p limit fit = record { fits = fit.first; units_are = omega arith; octets_are = omega arith }
+
+pub counting_next : (p : Pieces) (limit u o v q : ℕ) (head rest behind : List ℕ) → FitTsdus p → IsCounted p limit u o head rest →
+    p.size < length rest → behind ≡ drop p.size rest → v ≡ u + parts_needed limit (length head + p.size) → q ≡ o + (length head + p.size)
+    → IsCounted p limit v q p.middle.now behind
+counting_next p limit u o v q head rest behind fit h long after units octets =
+    let piece = take p.size rest in
+    let others = tsdus_from p p.middle.now behind in
+    let cut = cut_next p head rest piece behind fit.some long refl after in
+    let size : length (head ++ piece) ≡ length head + p.size =
+    length-append head piece ∙ ap (λ (n : ℕ). length head + n) (length-take-le p.size rest (omega arith)) in
+    let first = ap (parts_needed limit) size in
+    let some = ap (units_needed limit) cut ∙ more_units limit (head ++ piece) others in
+    let many = ap octets_of_tsdus cut ∙ more_octets (head ++ piece) others in
+    let all_units = h.units_are in
+    let all_octets = h.octets_are in
+    record {
+      fits = fit.middle;
+      units_are = omega (arith, units, first, some, all_units);
+      octets_are = omega (arith, octets, size, many, all_octets);
+    }
+
+pub record AreCounted (p : Pieces) (limit units octets : ℕ) : Type 0 where
+  pub units_are : units ≡ units_needed limit (tsdus_in p)
+  pub octets_are : octets ≡ octets_of_tsdus (tsdus_in p)
+
+pub counting_last : (p : Pieces) (limit u o v q : ℕ) (head rest : List ℕ) → IsCounted p limit u o head rest → length rest ≤ p.size →
+    v ≡ u + parts_needed limit (length p.last.now + length rest) → q ≡ o + (length p.last.now + length rest) → AreCounted p limit v q
+counting_last p limit u o v q head rest h short units octets =
+    let tsdu = p.last.now ++ rest in
+    let cut = cut_last p head rest short in
+    let size = length-append p.last.now rest in
+    let last = ap (parts_needed limit) size in
+    let some = ap (units_needed limit) cut ∙ more_units limit tsdu [] in
+    let many = ap octets_of_tsdus cut ∙ more_octets tsdu [] in
+    let no_units : units_needed limit [] ≡ 0 = refl in
+    let no_octets : octets_of_tsdus [] ≡ 0 = refl in
+    let all_units = h.units_are in
+    let all_octets = h.octets_are in
+    record {
+      units_are = omega (arith, units, last, some, all_units, no_units);
+      octets_are = omega (arith, octets, size, many, all_octets, no_octets);
+    }
+
+-- what is counted, if it fits a usize
+pub counted_units : (p : Pieces) (limit u o : ℕ) (head rest : List ℕ) (r : Option Room) → IsCounted p limit u o head rest →
+    length rest ≤ p.size → IfSome r (λ x. x.units ≡ u + parts_needed limit (length p.last.now + length rest)) →
+    IfSome r (λ x. x.units ≡ units_needed limit (tsdus_in p))
+counted_units p limit u o head rest None h short units = tt
+counted_units p limit u o head rest (Some room) h short units =
+    (counting_last p limit u o room.units (o + (length p.last.now + length rest)) head rest h short units refl).units_are
+
+pub counted_octets : (p : Pieces) (limit u o : ℕ) (head rest : List ℕ) (r : Option Room) → IsCounted p limit u o head rest →
+    length rest ≤ p.size → IfSome r (λ x. x.octets ≡ o + (length p.last.now + length rest)) →
+    IfSome r (λ x. x.octets ≡ octets_of_tsdus (tsdus_in p))
+counted_octets p limit u o head rest None h short octets = tt
+counted_octets p limit u o head rest (Some room) h short octets =
+    (counting_last p limit u o (u + parts_needed limit (length p.last.now + length rest)) room.octets head rest h short refl
+    octets).octets_are
+
+pub counted_some : (limit u octets : ℕ) (r : Option Room) → IfSome r (λ x. x.units ≡ u + parts_needed limit octets) →
+    IfSome r (λ x. 0 < x.units)
+counted_some limit u octets None units = tt
+counted_some limit u octets (Some room) units = let some = parts_some limit octets in omega (arith, some, units)
+
+-- ---- their copies
+
+-- The TSDUs before this head are copied.
+pub record IsCopied (p : Pieces) (done : List (List ℕ)) (head rest : List ℕ) : Type 0 where
+  pub fits : FitsTsdu p.size head
+  pub all : done ++ tsdus_from p head rest ≡ tsdus_in p
+
+pub copying_first : (p : Pieces) → FitTsdus p → IsCopied p [] p.first.now p.octets.now
+copying_first p fit = record { fits = fit.first; all = refl }
+
+pub copying_next : (p : Pieces) (done after : List (List ℕ)) (head rest piece behind : List ℕ) → FitTsdus p → IsCopied p done head rest →
+    p.size < length rest → piece ≡ take p.size rest → behind ≡ drop p.size rest → after ≡ done ++ (head ++ piece) ∷ [] →
+    IsCopied p after p.middle.now behind
+copying_next p done after head rest piece behind fit h long first next put =
+    let others = tsdus_from p p.middle.now behind in
+    record {
+      fits = fit.middle;
+      all = ap (λ (ts : List (List ℕ)). ts ++ others) put ∙ append_assoc done ((head ++ piece) ∷ []) others
+          ∙ ap (λ (ts : List (List ℕ)). done ++ ts) (sym (cut_next p head rest piece behind fit.some long first next)) ∙ h.all;
+    }
+
+pub copying_last : (p : Pieces) (done after : List (List ℕ)) (head rest : List ℕ) → IsCopied p done head rest → length rest ≤ p.size →
+    after ≡ done ++ (p.last.now ++ rest) ∷ [] → after ≡ tsdus_in p
+copying_last p done after head rest h short put =
+    put ∙ ap (λ (ts : List (List ℕ)). done ++ ts) (sym (cut_last p head rest short)) ∙ h.all
+
+-- ---- their lengths
+
+any_if : (b : Bool) (ts : List (List ℕ)) → b ≡ false → list_any (λ (t : List ℕ). nat_lt 1048576 (length t)) ts ≡ false →
+    (b || list_any (λ (t : List ℕ). nat_lt 1048576 (length t)) ts) ≡ false
+any_if true ts e h = absurd (cc)
+any_if false ts e h = h
+
+not_long : (head piece : List ℕ) (size : ℕ) → FitsTsdu size head → length piece ≤ size → nat_lt 1048576 (length (head ++ piece)) ≡ false
+not_long head piece size fits few =
+    let all = length-append head piece in let most = fits.1 in le-ltb 1048576 (length (head ++ piece)) (omega arith)
+
+long_if : (b : Bool) (last first : List ℕ) (ts : List (List ℕ)) → (b ≡ true → nat_lt 1048576 (length last) ≡ false) →
+    (b ≡ false → nat_lt 1048576 (length first) ≡ false) → list_any (λ (t : List ℕ). nat_lt 1048576 (length t)) ts ≡ false →
+    list_any (λ (t : List ℕ). nat_lt 1048576 (length t)) (if b then last ∷ [] else first ∷ ts) ≡ false
+long_if true last first ts one other more = any_if (nat_lt 1048576 (length last)) [] (one refl) refl
+long_if false last first ts one other more = any_if (nat_lt 1048576 (length first)) ts (other refl) more
+
+none_long : (n : ℕ) (h m l : List ℕ) (size : ℕ) (o : List ℕ) → length o ≤ n → 0 < size → FitsTsdu size h → FitsTsdu size m →
+    FitsTsdu size l → list_any (λ (t : List ℕ). nat_lt 1048576 (length t)) (headed n h m l size o) ≡ false
+none_long zero h m l size o within some first middle last =
+    any_if (nat_lt 1048576 (length (l ++ o))) [] (not_long l o size last (omega arith)) refl
+none_long (suc n) h m l size o within some first middle last =
+    let d = length-drop size o in
+    let t = length-take size o in
+    long_if (nat_le (length o) size) (l ++ o) (h ++ take size o) (headed n m m l size (drop size o))
+    (λ yes. not_long l o size last (leb-true (length o) size yes))
+    (λ no. not_long h (take size o) size first (omega arith))
+    (none_long n m m l size (drop size o) (omega arith) some middle middle last)
+
+-- none of them is too long
+pub all_fit : (p : Pieces) → FitTsdus p → lengths_error (tsdus_in p) ≡ None
+all_fit p fit =
+    ap (λ (b : Bool). if◌then◌else◌ {A = Option SendError} b (Some TooLong) None)
+    (none_long (length p.octets.now) p.first.now p.middle.now p.last.now p.size p.octets.now (omega arith) fit.some fit.first fit.middle
+    fit.last)

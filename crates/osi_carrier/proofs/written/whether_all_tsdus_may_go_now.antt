@@ -1,0 +1,137 @@
+-- Whether all units of TSDUs may go now, by the units that a link gives for one TSDU that fills as many.
+-- For `may_send`, `room_at_once` and `write_pieces` of links.
+use Rattle.std.proofs.Common.{◌≡◌, ◌∙◌, refl, sym, ap, ℕ, zero, suc, ◌+◌, ◌*◌, ◌<◌, ◌≤◌, List, [], ◌∷◌, ◌++◌, length, Option, Some, None}
+use Rattle.std.proofs.Common.{arith, inl, inr, subst, map, IfSome, SomeIff}
+use Rattle.std.proofs.lemmas.Nat.{mul-le}
+use Rattle.osi_class.proofs.giving.all_that_may_go_is_given.{more_units}
+use Rattle.osi_class.proofs.giving.the_units_of_one_tsdu.{parts_some, room_of_class_0, room_of_class_2}
+use Rattle.osi_class.proofs.giving.tsdus_that_are_added_together.{many_at_once}
+use Rattle.osi_class.proofs.giving.units_have_at_most_so_many_octets.{all_take}
+use Rattle.osi_class.proofs.giving.when_nothing_is_given.{class_0, class_2}
+use Rattle.osi_class.specs.Ends.{Ends}
+use Rattle.osi_class.specs.Flow.{Flow}
+use Rattle.osi_class.specs.Giving.{MayGoAll, most_by, most_given, octets_in_parts, parts_needed, units_needed}
+use Rattle.osi_class.specs.Tsdus.{octets_of_tsdus}
+use Rattle.osi_carrier.proofs.Vocabulary.{AllGoAtOnce, Drained, all_given, octets_in, cases_lt, min, Standing, next, with_tsdu, with_tsdus}
+use Rattle.osi_carrier.proofs.Vocabulary.{sum_by-cons, unit_of, written_for, packets}
+use Rattle.osi_carrier.proofs.written.all_that_a_link_gives.{packets_most}
+
+-- ---- one TSDU that fills the units
+
+fewer : (units credit limit : ℕ) → 0 < limit → min (units * limit) (credit * limit) ≡ units * limit → units ≤ credit
+fewer units credit limit room e =
+    elim (cases_lt credit units) [
+      | inl more ↦ let one = mul-le (credit + 1) limit units limit (omega arith) (omega arith) in absurd (omega (arith, one, e))
+      | inr few ↦ omega arith
+    ]
+
+none_goes : (units credit limit : ℕ) → 0 < units → 0 < limit → credit ≡ 0 → min (units * limit) (credit * limit) ≡ units * limit → ⊥
+none_goes units credit limit some room closed e = let few = fewer units credit limit room e in omega arith
+
+filled_by : (e : Ends) (flow : Option Flow) (t : List ℕ) (units : ℕ) → 0 < e.limit → next (record { ends = e; flow = flow }) ≡ None →
+    0 < units → length t ≡ units * e.limit →
+    octets_in (all_given (with_tsdu (record { ends = e; flow = flow }) t)) ≡ units * e.limit → (e.unsent ≡ []) × MayGoAll units flow
+filled_by e None t units room quiet some size all = ((class_0 e).0 quiet, tt)
+filled_by e (Some f) t units room quiet some size all =
+    let both = (class_2 e f).0 quiet in
+    let given = (room_of_class_2 e f t room quiet).1 in
+    let is : min (units * e.limit) (f.sender.credit * e.limit) ≡ units * e.limit =
+    ap (λ (n : ℕ). min n (f.sender.credit * e.limit)) (sym size) ∙ sym given ∙ all in
+    elim both.1 as (λ _. (e.unsent ≡ []) × MayGoAll units (Some f)) [
+      | inl unsent ↦ (unsent, (both.0, fewer units f.sender.credit e.limit room is))
+      | inr closed ↦ absurd (none_goes units f.sender.credit e.limit some room closed is)
+    ]
+
+-- they may go if the link gives such a TSDU whole
+pub all_may_go : (s : Standing) (t : List ℕ) (units : ℕ) (tsdus : List (List ℕ)) → 0 < s.ends.limit → next s ≡ None → 0 < units →
+    length t ≡ units * s.ends.limit → octets_in (all_given (with_tsdu s t)) ≡ units * s.ends.limit →
+    units ≡ units_needed s.ends.limit tsdus → AllGoAtOnce s tsdus
+all_may_go s t units tsdus room quiet some size all is =
+    let h = filled_by s.ends s.flow t units room quiet some size all in
+    record { alone = h.0; may = subst (λ (n : ℕ). MayGoAll n s.flow) is h.1 }
+
+-- ---- something is given of each
+
+some_by : (e : Ends) (flow : Option Flow) (t : List ℕ) (others : List (List ℕ)) → 0 < e.limit →
+    next (record { ends = e; flow = flow }) ≡ None → MayGoAll (units_needed e.limit (t ∷ others)) flow →
+    0 < length (all_given (with_tsdu (record { ends = e; flow = flow }) t))
+some_by e None t others room quiet may =
+    let units = (room_of_class_0 e t room quiet).0 in
+    let some = parts_some e.limit (length t) in
+    omega (arith, units, some)
+some_by e (Some f) t others room quiet may =
+    let units = (room_of_class_2 e f t room quiet).0 in
+    let some = parts_some e.limit (length t) in
+    let all = more_units e.limit t others in
+    let enough = may.1 in
+    omega (arith, units, some, all, enough)
+
+pub some_is_given : (s : Standing) (t : List ℕ) (others : List (List ℕ)) → 0 < s.ends.limit → next s ≡ None → AllGoAtOnce s (t ∷ others) →
+    0 < length (all_given (with_tsdu s t))
+some_is_given s t others room quiet go = some_by s.ends s.flow t others room quiet go.may
+
+-- ---- their room
+
+in_parts : (headers limit : ℕ) (tsdus : List (List ℕ)) →
+    octets_in_parts headers limit tsdus ≡ octets_of_tsdus tsdus + units_needed limit tsdus * headers
+in_parts headers limit [] = let none : 0 ≡ 0 + 0 * headers = omega arith in none
+in_parts headers limit (t ∷ ts) =
+    let more = in_parts headers limit ts in
+    let parts = sum_by-cons (λ (t : List ℕ). length t + parts_needed limit (length t) * headers) t ts in
+    let octets = sum_by-cons length t ts in
+    let units = ap (λ (n : ℕ). n * headers) (more_units limit t ts) in
+    omega (arith, more, parts, octets, units)
+
+none_waits : (waiting headers : ℕ) → waiting ≡ 0 → waiting * headers ≡ 0
+none_waits waiting headers e = ap (λ (n : ℕ). n * headers) e ∙ (let z : 0 * headers ≡ 0 = omega arith in z)
+
+most_if : (headers : ℕ) (e : Ends) (flow : Option Flow) (tsdus : List (List ℕ)) → e.unsent ≡ [] →
+    MayGoAll (units_needed e.limit tsdus) flow →
+    most_by headers (record e { unsent = e.unsent ++ tsdus }) flow ≤ octets_of_tsdus tsdus + units_needed e.limit tsdus * headers
+most_if headers e None tsdus alone may =
+    let all = ap (λ (u : List (List ℕ)). octets_in_parts headers e.limit (u ++ tsdus)) alone in
+    let sum = in_parts headers e.limit tsdus in
+    omega (arith, all, sum)
+most_if headers e (Some f) tsdus alone may =
+    let all = ap (λ (u : List (List ℕ)). octets_in_parts headers e.limit (u ++ tsdus)) alone in
+    let sum = in_parts headers e.limit tsdus in
+    let acks = none_waits f.receiver.waiting headers may.0 in
+    omega (arith, all, sum, acks)
+
+pub most_of_all : (headers : ℕ) (s : Standing) (tsdus : List (List ℕ)) → AllGoAtOnce s tsdus →
+    most_given headers (with_tsdus s tsdus) ≤ octets_of_tsdus tsdus + units_needed s.ends.limit tsdus * headers
+most_of_all headers s tsdus go = most_if headers s.ends s.flow tsdus go.alone go.may
+
+-- so much room is enough for all of them
+pub enough_room : (peer : ℕ) (s : Standing) (tsdus : List (List ℕ)) (units octets headers room : ℕ) → 0 < s.ends.limit → next s ≡ None →
+    AllGoAtOnce s tsdus → units ≡ units_needed s.ends.limit tsdus → octets ≡ octets_of_tsdus tsdus → headers ≡ units * 9 →
+    room ≡ octets + headers → length (packets (written_for peer s tsdus)) ≤ room
+enough_room peer s tsdus units octets headers room some quiet go count size product sum =
+    let then = with_tsdus s tsdus in
+    let all = ap (λ (d : Drained). length (packets (map (unit_of peer) d.units))) (many_at_once s tsdus some quiet) in
+    let each = packets_most peer (all_given then) in
+    let most = all_take 9 then some in
+    let few = most_of_all 9 s tsdus go in
+    let same = ap (λ (n : ℕ). n * 9) count in
+    omega (arith, all, each, most, few, same, size, product, sum)
+
+if_some : {A : Type 0} (o : Option A) (P : A → Type 0) → ((a : A) → o ≡ Some a → P a) → IfSome o P
+if_some None P h = tt
+if_some (Some a) P h = h a refl
+
+sum_is : (o : Option ℕ) (P : Type 0) (v a : ℕ) → SomeIff o P v → o ≡ Some a → a ≡ v
+sum_is None P v a h e = cc
+sum_is (Some x) P v a h e = let same : x ≡ a = cc in sym same ∙ h.1
+
+-- of a sum that fits a usize
+pub room_of_all : (s : Standing) (tsdus : List (List ℕ)) (units octets headers : ℕ) (o : Option ℕ) (P : Type 0) → 0 < s.ends.limit →
+    next s ≡ None → AllGoAtOnce s tsdus → units ≡ units_needed s.ends.limit tsdus → octets ≡ octets_of_tsdus tsdus →
+    headers ≡ units * 9 → SomeIff o P (octets + headers) →
+    IfSome o (λ room. (peer : ℕ) → length (packets (written_for peer s tsdus)) ≤ room)
+room_of_all s tsdus units octets headers o P some quiet go count size product sum =
+    if_some o (λ room. (peer : ℕ) → length (packets (written_for peer s tsdus)) ≤ room)
+    (λ room e peer. enough_room peer s tsdus units octets headers room some quiet go count size product
+    (sum_is o P (octets + headers) room sum e))
+
+pub go_of_all : (s : Standing) (tsdus : List (List ℕ)) (o : Option ℕ) → AllGoAtOnce s tsdus → IfSome o (λ _. AllGoAtOnce s tsdus)
+go_of_all s tsdus o go = if_some o (λ _. AllGoAtOnce s tsdus) (λ _ _. go)

@@ -1,0 +1,28 @@
+-- Octets that are sent as TSDUs together: in pieces of one size, each behind its head.
+use Rattle.std.specs.Prelude.{ℕ, zero, suc, ◌+◌, ◌<◌, ◌≤◌, nat_le, if◌then◌else◌, List, [], ◌∷◌, ◌++◌, length, take, drop}
+use Rattle.osi_carrier.specs.declared.pieces.Pieces.{Pieces}
+
+-- TSDUs with `size` octets each, behind their heads; the last has the rest
+abbrev pub headed : (fuel : ℕ) (head middle last : List ℕ) (size : ℕ) → List ℕ → List (List ℕ)
+headed zero head middle last size octets = (last ++ octets) ∷ []
+headed (suc fuel) head middle last size octets =
+    if nat_le (length octets) size then (last ++ octets) ∷ []
+    else (head ++ take size octets) ∷ headed fuel middle middle last size (drop size octets)
+
+-- those that are still to come, from this head on
+abbrev pub tsdus_from : Pieces → (head octets : List ℕ) → List (List ℕ)
+tsdus_from p head octets = headed (length octets) head p.middle.now p.last.now p.size octets
+
+-- all of them
+abbrev pub tsdus_in : Pieces → List (List ℕ)
+tsdus_in p = tsdus_from p p.first.now p.octets.now
+
+-- a head has few octets, and with a piece no more than a TSDU may have
+abbrev pub FitsTsdu : ℕ → List ℕ → Type 0
+FitsTsdu size head = (length head ≤ 123) × (length head + size ≤ 1048576)
+
+pub record FitTsdus (p : Pieces) : Type 0 where
+  pub some : 0 < p.size
+  pub first : FitsTsdu p.size p.first.now
+  pub middle : FitsTsdu p.size p.middle.now
+  pub last : FitsTsdu p.size p.last.now

@@ -1,0 +1,104 @@
+//! Octets that are sent as TSDUs together, each piece of them behind a head.
+
+ghost use Rattle.std.specs.Prelude.{◌≡◌, ◌+◌, ◌<◌, ◌≤◌, ◌++◌, ◌∷◌, [], length, map, IfOk, IfSome, OnOk};
+ghost use Rattle.osi_class.specs.Giving.{parts_needed, units_needed};
+ghost use Rattle.osi_class.specs.Tsdus.{octets_of_tsdus};
+ghost use Rattle.osi_carrier.specs.Pieces.{tsdus_in, FitTsdus};
+
+use crate::links::joined;
+use osi_class::Room;
+use std::alloc::{AllocError, Global};
+
+/// Octets that are sent as TSDUs together. They are cut into pieces of one size, and each TSDU has the octets of its
+/// head, and then its piece.
+#[derive(Clone, Copy)]
+pub struct Pieces<'a> {
+    /// How many of the octets each TSDU but the last has, which has the rest. At least one.
+    pub size: usize,
+    /// The head of the first TSDU, if others follow it.
+    pub first: &'a [u8],
+    /// The head of each TSDU between the first and the last.
+    pub middle: &'a [u8],
+    /// The head of the last TSDU, or of the only one.
+    pub last: &'a [u8],
+    /// The octets that are cut.
+    pub octets: &'a [u8],
+}
+
+/// The number of units in which a TSDU of this many octets goes, each with at most `limit` of them.
+fn count_units(limit: usize, octets: usize) -> usize
+    requires { 123 ≤ limit }
+    ensures { result ≡ parts_needed limit octets }
+{
+    octets.saturating_sub(1) / limit + 1
+}
+
+/// The units and octets of one TSDU more. `None` only if they don't fit a `usize`.
+fn with_one(room: Room, limit: usize, octets: usize) -> Option<Room>
+    requires { 123 ≤ limit }
+    ensures units { IfSome result (λ r. r.units ≡ room.units + parts_needed limit octets) }
+    ensures octets { IfSome result (λ r. r.octets ≡ room.octets + octets) }
+{
+    let units = room.units.checked_add(count_units(limit, octets))?;
+    let octets = room.octets.checked_add(octets)?;
+    Some(Room { units, octets })
+}
+
+/// Adds a copy of a head and its piece after the others.
+fn put_copy(
+    alloc: Global,
+    head: &[u8],
+    piece: &[u8],
+    tsdus: &mut Vec<Vec<u8>>,
+) -> Result<(), AllocError>
+    requires { length head.now + length piece.now ≤ 1048576 }
+    ensures { OnOk result (map (λ v. v.items) tsdus.new.items ≡ map (λ v. v.items) tsdus.old.items ++ (head.now ++ piece.now) ∷ []) }
+{
+    let tsdu = joined(alloc, head, piece)?;
+    tsdus.push(tsdu)?;
+    Ok(())
+}
+
+impl Pieces<'_> {
+    /// In how many units all the TSDUs go, each with at most `limit` octets of a TSDU, and how many octets the TSDUs
+    /// have. `None` only if they don't fit a `usize`.
+    pub(crate) fn room(&self, limit: usize) -> Option<Room>
+        requires limit { 123 ≤ limit }
+        requires fit { FitTsdus self.now }
+        ensures units { IfSome result (λ r. r.units ≡ units_needed limit (tsdus_in self.now)) }
+        ensures octets { IfSome result (λ r. r.octets ≡ octets_of_tsdus (tsdus_in self.now)) }
+        ensures some { IfSome result (λ r. 0 < r.units) }
+    {
+        let mut room = Room {
+            units: 0,
+            octets: 0,
+        };
+        let mut head = self.first;
+        let mut rest = self.octets;
+        'pieces: while rest.len() > self.size {
+            room = with_one(room, limit, head.len() + self.size)?;
+            let (_, behind) = rest.split_at(self.size);
+            head = self.middle;
+            rest = behind;
+        }
+        with_one(room, limit, self.last.len() + rest.len())
+    }
+
+    /// Copies of the TSDUs, in order.
+    pub(crate) fn copies(&self, alloc: Global) -> Result<Vec<Vec<u8>>, AllocError>
+        requires { FitTsdus self.now }
+        ensures { IfOk result (λ tsdus. map (λ v. v.items) tsdus.items ≡ tsdus_in self.now) }
+    {
+        let mut tsdus = Vec::new(alloc);
+        let mut head = self.first;
+        let mut rest = self.octets;
+        'pieces: while rest.len() > self.size {
+            let (piece, behind) = rest.split_at(self.size);
+            put_copy(alloc, head, piece, &mut tsdus)?;
+            head = self.middle;
+            rest = behind;
+        }
+        put_copy(alloc, self.last, rest, &mut tsdus)?;
+        Ok(tsdus)
+    }
+}
