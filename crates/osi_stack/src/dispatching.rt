@@ -34,7 +34,7 @@ fn add_called_session(
     Ok(())
 }
 
-/// The session of a reference handles an event. A TSDU goes straight to [`Lines::tell`] and not through this.
+/// The session of a reference handles an event.
 fn tell_session(
     alloc: Global,
     carrier: &mut Carrier,
@@ -68,33 +68,10 @@ fn open_session(
     add_called_session(alloc, carrier, lines, reference.0)
 }
 
-/// The effect of an event. A TSDU goes straight to its session.
-#[inline(always)]
-pub fn dispatch_event(
-    alloc: Global,
-    carrier: &mut Carrier,
-    lines: &mut Lines,
-    event: Event,
-) -> Result<(), AllocError>
-    ensures ok { OnOk result ((holding carrier.new lines.new).end ≡ hears (happening event) (holding carrier.old lines.old).end) }
-    ensures held { carrier.new.held ≡ carrier.old.held }
-    ensures err { OnErr result (Interrupted (holding carrier.old lines.old).end (holding carrier.new lines.new).end) }
-    ensures needed { OnErr result (needs_memory (happening event) (holding carrier.old lines.old).end ≡ true) }
-{
-    match event {
-        Event::Tsdu(reference, tsdu) => {
-            let session_event = SessionEvent::Tsdu(tsdu);
-            lines.tell(alloc, reference.0, session_event, carrier)
-        }
-        Event::Opened(_) | Event::Refused(..) | Event::Closed(..) | Event::Faulted(..) => {
-            dispatch_any_event(alloc, carrier, lines, event)
-        }
-    }
-}
-
-/// The same for any event. The function is kept out of line, because TSDUs are more frequent.
+/// The effect of an event. The function is kept out of line: a TSDU, which is more frequent, goes straight to
+/// [`Lines::tell`].
 #[inline(never)]
-fn dispatch_any_event(
+pub fn dispatch_event(
     alloc: Global,
     carrier: &mut Carrier,
     lines: &mut Lines,

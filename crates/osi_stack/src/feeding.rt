@@ -6,8 +6,9 @@ ghost use Rattle.osi_stack.specs.Feeding.{Goes, stops};
 ghost use Rattle.osi_stack.specs.State.{IsAttended, holding};
 
 use crate::dispatching::{dispatch_event, starve};
+use crate::events::SessionEvent;
 use crate::lines::Lines;
-use osi_carrier::Carrier;
+use osi_carrier::{Carrier, Event};
 use osi_tpkt::laws::a_prefix_of_a_packet;
 use std::alloc::Global;
 
@@ -18,7 +19,13 @@ fn feed_to_event(alloc: Global, carrier: &mut Carrier, lines: &mut Lines, octets
 {
     let fed = carrier.feed(octets);
     'events: while let Some(event) = carrier.next_event() {
-        let Ok(()) = dispatch_event(alloc, carrier, lines, event) else {
+        let heard = match event {
+            Event::Tsdu(reference, tsdu) => {
+                lines.tell(alloc, reference.0, SessionEvent::Tsdu(tsdu), carrier)
+            }
+            _ => dispatch_event(alloc, carrier, lines, event),
+        };
+        let Ok(()) = heard else {
             starve(carrier, lines);
             return octets.len();
         };

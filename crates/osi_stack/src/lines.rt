@@ -288,15 +288,10 @@ impl Model for Lines {
     ghost invariant = { λ l. (l.waiting ≡ how_many_wait l.rows.items) × (l.rises ≡ true → RiseFrom 0 l.rows.items) };
 }
 
-/// The place of the first connection for which an indication is pending. `waiting` is the number of such connections,
-/// and `heard` the place of the one that handled an event last: if there is only one, it is usually that.
-fn first_place(rows: &[Line], waiting: usize, heard: usize) -> Option<usize>
-    requires { waiting ≡ how_many_wait rows.now }
+/// The place of the first connection for which an indication is pending.
+fn first_place(rows: &[Line]) -> Option<usize>
     ensures { result ≡ position (λ row. line_waits row.1) rows.now }
 {
-    if waiting == 1 && heard < rows.len() && rows[heard].waits() {
-        return Some(heard);
-    }
     rows.iter().position(|line| line.waits())
 }
 
@@ -418,9 +413,13 @@ impl Lines {
         if self.waiting == 0 {
             return None;
         }
-        let Some(place) = first_place(self.rows.as_slice(), self.waiting, self.heard) else {
-            return None;
-        };
+        let mut place = self.heard;
+        if self.waiting > 1 || place >= self.rows.len() || !self.rows[place].waits() {
+            let Some(first) = first_place(self.rows.as_slice()) else {
+                return None;
+            };
+            place = first;
+        }
         let line = &mut self.rows[place];
         let reference = line.reference();
         let Some(indication) = line.waiting.pop_front() else {

@@ -82,7 +82,8 @@ told_unbounded s (Tsdu octets) = came_unbounded s octets.items
 told_unbounded s _ = refl
 
 -- what is handed over for a session that handles an event
-pub answer_heard : (s : Listener) (told : SessionEvent) (r : ℕ) (reply : Option (List (List ℕ))) (closes : Bool) (move : Move) (c : Carrier) →
+pub answer_heard : (s : Listener) (told : SessionEvent) (r : ℕ) (reply : Option (List (List ℕ))) (closes : Bool) (move : Move)
+    (c : Carrier) →
     reply ≡ option_map in_one move.reply → closes ≡ move.closes →
     answers_by closes r (unwrap_or reply []) c ≡ answers r (limit_for s (event_input told)) move c
 answer_heard s told r reply closes move c e f = grind (arith, answers_by, unwrap_or, sent_by_itself, answers, told_unbounded)

@@ -50,7 +50,8 @@ came_data s input tsdu octets shown at is shows = record { octets = octets; is =
 
 -- ---- a line that indicates it
 
-pub shown_line : (v : ℕ × Line) (r : ℕ) (line : Line) (s : Listener) (input : Input) (shown : Shown) (waiting : List Shown) → (r, line) ≡ v →
+pub shown_line : (v : ℕ × Line) (r : ℕ) (line : Line) (s : Listener) (input : Input) (shown : Shown) (waiting : List Shown) →
+    (r, line) ≡ v →
     line.session ≡ Some s → ShowsData s input shown →
     waiting ≡ line.waiting ++ shown ∷ [] →
     ◌≡◌ {A = ℕ × Line} (r, record line { waiting = waiting }) (v.0, line_by v.1 v.1.session input)

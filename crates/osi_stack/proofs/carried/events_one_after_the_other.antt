@@ -1,9 +1,11 @@
 -- Pending events are handled one after the other.
 use Rattle.std.proofs.Common.{◌≡◌, ℕ, ◌+◌, ◌<◌, ◌==◌, zero, suc, Bool, true, false, not, List, ◌∷◌, length, None, is_some, refl, sym, ap}
-use Rattle.std.proofs.Common.{subst, ◌∙◌, inl, inr, arith, if◌then◌else◌, []}
+use Rattle.std.proofs.Common.{subst, ◌∙◌, inl, inr, arith, if◌then◌else◌, [], Result, Ok, Err}
+use Rattle.osi_carrier.specs.Happenings as events
 use Rattle.osi_carrier.specs.Packets as carriers
 use Rattle.osi_stack.proofs.Vocabulary.{eqb-true, not-false, Fed, Tells, Happening, Carrying, is_spoilt, Rows, State as Carrier}
-use Rattle.osi_stack.proofs.Vocabulary.{Interrupted, LeftOff, FeedsToEvent, hears, hears_first, hears_next, hears_times, hears_all, with_events}
+use Rattle.osi_stack.proofs.Vocabulary.{Interrupted, LeftOff, FeedsToEvent, hears, hears_first, hears_next, hears_times, hears_all}
+use Rattle.osi_stack.proofs.Vocabulary.{with_events, OnErr, OnOk, came, session_in, session_needs, to_session, value_at}
 use Rattle.osi_stack.proofs.Vocabulary.{with_carrier, all_lost, concludes, starves, RunsOut, needs_memory, Line, End, Holding, IsAttended}
 use Rattle.osi_stack.proofs.Vocabulary.{holding}
 use Rattle.osi_stack.proofs.carried.what_sessions_leave_of_the_carrier.{hears_keep}
@@ -73,6 +75,53 @@ heard_left old now event mid new so_far h needed stopped =
       subst (λ (e : End). needs_memory event e ≡ true) (sym t.rest ∙ ap (with_events mid.events) so_far.is) needed,
       subst (λ (e : End). Interrupted e new) (sym t.rest ∙ ap (with_events mid.events) so_far.is) stopped,
     )
+
+-- ---- the effect of one event, with or without enough memory
+
+pub record IsHeard {A E : Type 0} (result : Result A E) (event : Happening) (old new : Holding) : Type 0 where
+  pub ok : OnOk result (new.end ≡ hears event old.end)
+  pub held : new.held ≡ old.held
+  pub err : OnErr result (Interrupted old.end new.end)
+  pub needed : OnErr result (needs_memory event old.end ≡ true)
+
+-- what is known of a result by its kind
+pub on_ok : {A E P : Type 0} (r : Result A E) (a : A) → r ≡ Ok a → OnOk r P → P
+on_ok (Ok b) a is h = h
+on_ok (Err e) a is h = cc
+
+pub not_ok : {A E P : Type 0} (r : Result A E) → ((a : A) → r ≡ Ok a → ⊥) → OnErr r P → P
+not_ok (Ok a) never h = absurd (never a refl)
+not_ok (Err e) never h = h
+
+-- the same, if what came of it goes by other names
+pub heard_as : {A E : Type 0} (result other : Result A E) (event : Happening) (old : Holding) (carrier after : Carrying)
+    (lines left : Rows Line) → result ≡ other → carrier ≡ after → lines ≡ left → IsHeard other event old (holding after left) →
+    IsHeard result event old (holding carrier lines)
+heard_as result other event old carrier after lines left a b d h =
+    subst (λ (r : Result _ _). IsHeard r event old (holding carrier lines)) (sym a)
+    (subst (λ (x : Carrying). IsHeard other event old (holding x lines)) (sym b)
+    (subst (λ (l : Rows Line). IsHeard other event old (holding after l)) (sym d) h))
+
+-- a TSDU that a line was told
+pub heard_tsdu : {A E : Type 0} (result : Result A E) (event : Happening) (r : ℕ) (octets : List ℕ) (carrier after : Carrying)
+    (lines left : Rows Line) → event ≡ events.tsdu r octets →
+    OnOk result (record { carrier = after.state; lines = left } ≡
+    to_session r (came octets) (record { carrier = carrier.state; lines = lines })) →
+    after.held ≡ carrier.held → OnErr result (all_lost left ≡ all_lost lines) → OnErr result (after ≡ carrier) →
+    OnErr result (session_needs r (session_in (value_at r lines)) (came octets) carrier.state ≡ true) →
+    IsHeard result event (holding carrier lines) (holding after left)
+heard_tsdu (Ok a) event r octets carrier after lines left is ok held lost same needed = record {
+  ok = ok ∙ ap (λ (h : Happening). hears h (holding carrier lines).end) (sym is);
+  held = held;
+  err = tt;
+  needed = tt;
+}
+heard_tsdu (Err e) event r octets carrier after lines left is ok held lost same needed = record {
+  ok = tt;
+  held = held;
+  err = record { lines = lost; carrier = ap (λ (x : Carrying). x.state) same };
+  needed = subst (λ (h : Happening). needs_memory h (holding carrier lines).end ≡ true) (sym is) needed;
+}
 
 -- ---- an allocation failure
 

@@ -74,6 +74,11 @@ only_first rows i d one within here =
     (λ inside. here) in
     grind (arith, common_steps)
 
+pub only_heard : (waiting heard : ℕ) (rows : Rows Line) (d : ℕ × Line) → waiting ≡ how_many_wait rows → waiting ≡ 1 →
+    heard < length rows → d ≡ get_or rows heard d → line_waits d.1 ≡ true → position (λ row. line_waits row.1) rows ≡ Some heard
+only_heard waiting heard rows d counts one within here waits =
+    only_first rows heard d (sym counts ∙ one) within (ap (λ (x : ℕ × Line). line_waits x.1) (sym here) ∙ waits)
+
 -- ---- a line for which nothing is pending
 
 any_waiting : ℕ × Line

@@ -2,7 +2,8 @@
 use Rattle.std.proofs.Common.{◌≡◌, ℕ, Bool, true, get_or, set, Option, Some, None, Result, Ok, Err, OnOk, IfErr, refl, sym, ap, subst, ◌∙◌}
 pub use Rattle.osi_carrier.proofs.references.the_row_at_a_place.{nowhere}
 use Rattle.osi_stack.proofs.Vocabulary.{placed, here_is, Carrying, RiseFrom, Rows, value_at, place_of, put, State as Carrier, Call, Input}
-use Rattle.osi_stack.proofs.Vocabulary.{Listener, CallError, session_refusal, session_error, Refuses, line_by, carrier_by, by_line, to_session, Line}
+use Rattle.osi_stack.proofs.Vocabulary.{Listener, CallError, session_refusal, session_error, Refuses, line_by, carrier_by, by_line}
+use Rattle.osi_stack.proofs.Vocabulary.{to_session, Line}
 use Rattle.osi_stack.proofs.Vocabulary.{End, session_in}
 
 -- what a search in rows that rise, if they are said to, has found among the lines

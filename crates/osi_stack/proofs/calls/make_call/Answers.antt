@@ -1,5 +1,6 @@
 use Rattle.std.proofs.Common.{◌≡◌, ◌∷◌, [], ◌++◌, Option, Ok, Err, None, refl, sym, ap, subst, ◌∙◌}
-use Rattle.osi_stack.proofs.Vocabulary.{Call, CallError, Data, called_by, called, react, limit_of, move_refusal, send_refusal, Refuses, answers}
+use Rattle.osi_stack.proofs.Vocabulary.{Call, CallError, Data, called_by, called, react, limit_of, move_refusal, send_refusal, Refuses}
+use Rattle.osi_stack.proofs.Vocabulary.{answers}
 use Rattle.osi_stack.proofs.Vocabulary.{open_link, State as Carrier}
 use Rattle.osi_stack.proofs.called.tsdus_that_are_handed_together.{one_error, hands_one}
 use Rattle.osi_stack.proofs.called.what_a_call_sends.{call_handed, call_allowed, call_refused}
@@ -11,7 +12,8 @@ returns-in-Ok-clause-carrier c =
     let limit = limit_of s.state in
     let tsdu = c.in-Some.head.now ++ c.in-Data.user_data.now in
     let state = c.args.carrier.now.state in
-    subst (λ (k : Call). c.send_headed.new.self ≡ record c.args.carrier.now { state = answers c.args.reference limit (react s (called k)) state })
+    subst (λ (k : Call). c.send_headed.new.self ≡
+    record c.args.carrier.now { state = answers c.args.reference limit (react s (called k)) state })
     (sym (ap called_by c.in-Data.is))
     (call_handed {A = Unit {0}} {E = CallError} (Ok tt) s (Data c.in-Data.user_data.now) (tsdu ∷ []) (tsdu ∷ []) c.args.reference limit
     c.args.carrier.now c.send_headed.new.self c.in-Some.ensures.accepted c.in-Some.ensures.sent refl
@@ -36,7 +38,8 @@ returns-in-Err-clause-refused c =
     let tsdu = c.in-Some.head.now ++ c.in-Data.user_data.now in
     let state = c.args.carrier.now.state in
     let same = ap send_refusal (c.in-Err.ensures.refused ∙ sym (one_error tsdu (open_link c.args.reference state))) in
-    subst (λ (k : Call). Refuses c.call_error.result (react s (called k)).error (move_refusal c.args.reference limit (react s (called k)) state))
+    subst (λ (k : Call). Refuses c.call_error.result (react s (called k)).error
+    (move_refusal c.args.reference limit (react s (called k)) state))
     (sym (ap called_by c.in-Data.is))
     (call_refused {A = Unit {0}} (Err c.call_error.result) s (Data c.in-Data.user_data.now) (tsdu ∷ []) (tsdu ∷ []) c.args.reference limit
     state c.in-Some.ensures.accepted c.in-Some.ensures.sent refl

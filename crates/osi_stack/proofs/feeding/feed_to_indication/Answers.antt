@@ -26,21 +26,24 @@ returns-then-wait-clause-goes c =
     subst (λ (l : List ℕ). Goes (holding c.args.carrier.now c.args.lines.now) c.args.piece.now (length c.args.piece.now - length l)
     (holding c.feed_to_event-used.new.carrier c.feed_to_event-used.new.lines)) (sym c.split_at.ensures.back)
     (read_waits (holding c.args.carrier.now c.args.lines.now) c.args.piece.now (holding c.packets.carrier c.packets.lines)
-    c.packets.rest.now c.feed_to_event-used.result (holding c.feed_to_event-used.new.carrier c.feed_to_event-used.new.lines) c.packets.invariant
+    c.packets.rest.now c.feed_to_event-used.result (holding c.feed_to_event-used.new.carrier c.feed_to_event-used.new.lines)
+    c.packets.invariant
     c.feed_to_event-used.ensures
     (sym c.wait.ensures ∙ c.if-wait.true))
 
 pub returns-then-is_some-clause-goes : goal.returns-then-is_some-clause-goes
 returns-then-is_some-clause-goes c =
     read_ended (holding c.args.carrier.now c.args.lines.now) c.args.piece.now (holding c.packets.carrier c.packets.lines) c.packets.rest.now
-    c.feed_to_event-used.result (holding c.feed_to_event-used.new.carrier c.feed_to_event-used.new.lines) c.packets.invariant c.feed_to_event-used.ensures
+    c.feed_to_event-used.result (holding c.feed_to_event-used.new.carrier c.feed_to_event-used.new.lines) c.packets.invariant
+    c.feed_to_event-used.ensures
     (sym c.wait.ensures ∙ c.if-wait.false) (ap is_some (sym c.ended.ensures) ∙ sym c.is_some.ensures ∙ c.if-is_some.true)
 
 pub returns-then-is_empty-2-clause-goes : goal.returns-then-is_empty-2-clause-goes
 returns-then-is_empty-2-clause-goes c =
     let none = eqb-true (length c.split_at.result.1.now) 0 (sym c.is_empty-in-packets.ensures ∙ c.if-is_empty-2.true) in
     read_dry (holding c.args.carrier.now c.args.lines.now) c.args.piece.now (holding c.packets.carrier c.packets.lines) c.packets.rest.now
-    c.feed_to_event-used.result (holding c.feed_to_event-used.new.carrier c.feed_to_event-used.new.lines) c.a_prefix_of_a_packet.ensures.nothing
+    c.feed_to_event-used.result (holding c.feed_to_event-used.new.carrier c.feed_to_event-used.new.lines)
+    c.a_prefix_of_a_packet.ensures.nothing
     c.packets.invariant c.feed_to_event-used.ensures (sym c.wait.ensures ∙ c.if-wait.false)
     (ap is_some (sym c.ended.ensures) ∙ sym c.is_some.ensures ∙ c.if-is_some.false)
     (ap length (sym c.split_at.ensures.back) ∙ none)
@@ -51,6 +54,7 @@ packets-preserved c =
     subst (λ (l : List ℕ). IsRead (holding c.args.carrier.now c.args.lines.now) c.args.piece.now
     (holding c.feed_to_event-used.new.carrier c.feed_to_event-used.new.lines) l) (sym c.split_at.ensures.back)
     (read_on (holding c.args.carrier.now c.args.lines.now) c.args.piece.now (holding c.packets.carrier c.packets.lines) c.packets.rest.now
-    c.feed_to_event-used.result (holding c.feed_to_event-used.new.carrier c.feed_to_event-used.new.lines) c.packets.invariant c.feed_to_event-used.ensures
+    c.feed_to_event-used.result (holding c.feed_to_event-used.new.carrier c.feed_to_event-used.new.lines) c.packets.invariant
+    c.feed_to_event-used.ensures
     (sym c.wait.ensures ∙ c.if-wait.false) (ap is_some (sym c.ended.ensures) ∙ sym c.is_some.ensures ∙ c.if-is_some.false)
     (subst (λ (l : List ℕ). 0 < length l) c.split_at.ensures.back some))

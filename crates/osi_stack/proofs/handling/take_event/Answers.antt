@@ -20,7 +20,8 @@ returns-in-Refused c =
     takes_if _ s (refused c.in-Refused.reason) (event_input c.args.event.now) s c.refused.new.self (ap event_input c.in-Refused.is)
     (quiet_takes _ c.refused.result (react s (refused c.in-Refused.reason)) s c.refused.new.self c.quiet_effect-in-Refused.ensures.first
     c.quiet_effect-in-Refused.ensures.more
-    (c.quiet_effect-in-Refused.ensures.reply ∙ ap (option_map in_one) (sym quiet.reply)) (c.quiet_effect-in-Refused.ensures.closes ∙ sym quiet.closes)
+    (c.quiet_effect-in-Refused.ensures.reply ∙ ap (option_map in_one) (sym quiet.reply))
+    (c.quiet_effect-in-Refused.ensures.closes ∙ sym quiet.closes)
     c.refused.ensures.state c.refused.ensures.shown)
 
 pub returns-in-Lost : goal.returns-in-Lost
@@ -28,6 +29,8 @@ returns-in-Lost c =
     let s = c.args.session.now in
     let quiet = broken_is_quiet s in
     takes_if _ s broken (event_input c.args.event.now) s c.broken.new.self (ap event_input c.in-Lost.is)
-    (quiet_takes _ c.broken.result (react s broken) s c.broken.new.self c.quiet_effect-in-Lost.ensures.first c.quiet_effect-in-Lost.ensures.more
-    (c.quiet_effect-in-Lost.ensures.reply ∙ ap (option_map in_one) (sym quiet.reply)) (c.quiet_effect-in-Lost.ensures.closes ∙ sym quiet.closes)
+    (quiet_takes _ c.broken.result (react s broken) s c.broken.new.self c.quiet_effect-in-Lost.ensures.first
+    c.quiet_effect-in-Lost.ensures.more
+    (c.quiet_effect-in-Lost.ensures.reply ∙ ap (option_map in_one) (sym quiet.reply))
+    (c.quiet_effect-in-Lost.ensures.closes ∙ sym quiet.closes)
     c.broken.ensures.state c.broken.ensures.shown)

@@ -72,9 +72,11 @@ returns-clause-allowed c =
     let here = c.index_mut-line.ensures.value ∙ ap (λ (l : Rows Line). get_or l c.in-Some.place row) c.self.view_is in
     let state = c.args.carrier.now.state in
     allowed_at c.make_call.result c.args.reference c.args.self.now c.in-Some.place row (called_by c.args.request) state some here
-    (subst (λ (v : ℕ × Line). OnOk c.make_call.result (session_refusal v.0 v.1.session (called_by c.args.request) state ≡ None)) c.line.view_is
+    (subst (λ (v : ℕ × Line). OnOk c.make_call.result (session_refusal v.0 v.1.session (called_by c.args.request) state ≡ None))
+    c.line.view_is
     (subst (λ (o : Option Listener). OnOk c.make_call.result
-    (session_refusal c.line.inside.reference o (called_by c.args.request) state ≡ None)) (sym c.in-Some-session.is) c.make_call.ensures.allowed))
+    (session_refusal c.line.inside.reference o (called_by c.args.request) state ≡ None)) (sym c.in-Some-session.is)
+    c.make_call.ensures.allowed))
 
 pub returns-clause-refused : goal.returns-clause-refused
 returns-clause-refused c =

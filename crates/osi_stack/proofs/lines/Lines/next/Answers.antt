@@ -1,9 +1,10 @@
-use Rattle.std.proofs.Common.{◌-◌, ◌+◌, ℕ, [], List, true, false, map, Some, get_or, refl, sym, ap, subst, option_map, position, arith, ◌∙◌}
+use Rattle.std.proofs.Common.{◌-◌, ℕ, [], List, true, false, map, Some, get_or, refl, sym, ap, subst, option_map, position, arith, ◌∙◌}
 use Rattle.std.proofs.Common.{◌≡◌}
 use Rattle.osi_stack.proofs.Vocabulary.{shown_by, Indication, Rows, TellsOf, session_selectors, Line, line_waits, how_many_wait}
 use Rattle.osi_stack.proofs.each_line.the_first_that_indicates.{none_waits, first_is, never_popped, told_first}
-use Rattle.osi_stack.proofs.each_line.how_many_lines_wait.{none_counted, set_kept}
-use Rattle.osi_stack.proofs.lines.Lines.next.Goals.{then-not-waits, else-not-waits}
+use Rattle.osi_stack.proofs.each_line.how_many_lines_wait.{none_counted, only_heard, set_kept}
+use Rattle.osi_stack.proofs.lines.Lines.next.Goals.{then-not-waits-2, else-not-waits-2, then-self-gt1+in-Some}
+use Rattle.osi_stack.proofs.lines.Lines.next.Goals.{else-self-gt1+else-place-len+else-not-waits}
 use Rattle.osi_stack.proofs.lines.Lines.next.Goals as goal
 
 pub returns-in_default-clause-shown : goal.returns-in_default-clause-shown
@@ -20,8 +21,16 @@ returns-in_default-clause-rest c =
 
 pub returns-in_default-pop_front : goal.returns-in_default-pop_front
 returns-in_default-pop_front c =
-    let first = first_is c.self.inside.rows.items c.in-Some.place c.index_mut-line.result.now
-    (ap (position (λ (row : ℕ × Line). line_waits row.1)) (sym c.as_slice.ensures.value) ∙ sym c.first_place.ensures ∙ c.in-Some.is) in
+    let some : position (λ (row : ℕ × Line). line_waits row.1) c.self.inside.rows.items ≡ Some c.if-self-gt1.place =
+    elim c.if-self-gt1.branch [
+      | then-self-gt1+in-Some w ↦ ap (position (λ (row : ℕ × Line). line_waits row.1)) (sym w.as_slice.ensures.value) ∙
+          sym w.first_place.ensures ∙ w.in-Some.is ∙ ap Some (sym w.place-is)
+      | else-self-gt1+else-place-len+else-not-waits w ↦ only_heard c.self.inside.waiting c.self.inside.heard c.self.inside.rows.items
+          w.index.result.now c.self.invariant.0 (let some = c.if-self-eq0.false in omega (arith, w.if-self-gt1.false))
+          (omega (arith, w.if-place-len.false, w.len.ensures)) w.index.ensures (sym w.waits.ensures ∙ w.if-not-waits.false) ∙
+          ap Some (sym w.place-is)
+    ] in
+    let first = first_is c.self.inside.rows.items c.if-self-gt1.place c.index_mut-line.result.now some in
     never_popped c.line.inside.waiting.items c.line.inside.waiting.len c.line.inside.waiting.ok.0 c.in_default-pop_front.ensures.cases.0
     (ap (λ (x : ℕ × Line). line_waits x.1) (c.line.view_is ∙ c.index_mut-line.ensures.value) ∙ first.waits)
 
@@ -31,14 +40,22 @@ returns-clause-shown c =
     let line : Line =
     record { session = c.line.inside.session; waiting = []; selectors = option_map session_selectors c.line.inside.selectors } in
     let new : ℕ × Line = (c.line.inside.reference, record line { waiting = map shown_by c.pop_front.new.self.items }) in
-    let some = ap (position (λ (row : ℕ × Line). line_waits row.1)) (sym (c.as_slice.ensures.value ∙ c.self.view_is)) ∙
-    sym c.first_place.ensures ∙ c.in-Some.is in
-    let here = c.index_mut-line.ensures.value ∙ ap (λ (l : Rows Line). get_or l c.in-Some.place row) c.self.view_is in
+    let there : position (λ (row : ℕ × Line). line_waits row.1) c.self.inside.rows.items ≡ Some c.if-self-gt1.place =
+    elim c.if-self-gt1.branch [
+      | then-self-gt1+in-Some w ↦ ap (position (λ (row : ℕ × Line). line_waits row.1)) (sym w.as_slice.ensures.value) ∙
+          sym w.first_place.ensures ∙ w.in-Some.is ∙ ap Some (sym w.place-is)
+      | else-self-gt1+else-place-len+else-not-waits w ↦ only_heard c.self.inside.waiting c.self.inside.heard c.self.inside.rows.items
+          w.index.result.now c.self.invariant.0 (let some = c.if-self-eq0.false in omega (arith, w.if-self-gt1.false))
+          (omega (arith, w.if-place-len.false, w.len.ensures)) w.index.ensures (sym w.waits.ensures ∙ w.if-not-waits.false) ∙
+          ap Some (sym w.place-is)
+    ] in
+    let some = ap (position (λ (row : ℕ × Line). line_waits row.1)) (sym c.self.view_is) ∙ there in
+    let here = c.index_mut-line.ensures.value ∙ ap (λ (l : Rows Line). get_or l c.if-self-gt1.place row) c.self.view_is in
     let told = subst (λ (x : ℕ × Line). TellsOf (Some (shown_by c.in-Some-pop_front.indication)) x new) c.line.view_is
     (ap (λ (l : List Indication). (c.line.inside.reference, record line { waiting = map shown_by l })) c.in-Some-pop_front.ensures.items) in
     ap (λ n. Some (n, shown_by c.in-Some-pop_front.indication)) c.reference-reference.ensures
-    ∙ sym (told_first c.args.self.now c.self.inside.rows.items c.in-Some.place row new (shown_by c.in-Some-pop_front.indication) some here
-    c.self.view_is told).first
+    ∙ sym (told_first c.args.self.now c.self.inside.rows.items c.if-self-gt1.place row new (shown_by c.in-Some-pop_front.indication) some
+    here c.self.view_is told).first
 
 pub returns-clause-rest : goal.returns-clause-rest
 returns-clause-rest c =
@@ -46,14 +63,22 @@ returns-clause-rest c =
     let line : Line =
     record { session = c.line.inside.session; waiting = []; selectors = option_map session_selectors c.line.inside.selectors } in
     let new : ℕ × Line = (c.line.inside.reference, record line { waiting = map shown_by c.pop_front.new.self.items }) in
-    let some = ap (position (λ (row : ℕ × Line). line_waits row.1)) (sym (c.as_slice.ensures.value ∙ c.self.view_is)) ∙
-    sym c.first_place.ensures ∙ c.in-Some.is in
-    let here = c.index_mut-line.ensures.value ∙ ap (λ (l : Rows Line). get_or l c.in-Some.place row) c.self.view_is in
+    let there : position (λ (row : ℕ × Line). line_waits row.1) c.self.inside.rows.items ≡ Some c.if-self-gt1.place =
+    elim c.if-self-gt1.branch [
+      | then-self-gt1+in-Some w ↦ ap (position (λ (row : ℕ × Line). line_waits row.1)) (sym w.as_slice.ensures.value) ∙
+          sym w.first_place.ensures ∙ w.in-Some.is ∙ ap Some (sym w.place-is)
+      | else-self-gt1+else-place-len+else-not-waits w ↦ only_heard c.self.inside.waiting c.self.inside.heard c.self.inside.rows.items
+          w.index.result.now c.self.invariant.0 (let some = c.if-self-eq0.false in omega (arith, w.if-self-gt1.false))
+          (omega (arith, w.if-place-len.false, w.len.ensures)) w.index.ensures (sym w.waits.ensures ∙ w.if-not-waits.false) ∙
+          ap Some (sym w.place-is)
+    ] in
+    let some = ap (position (λ (row : ℕ × Line). line_waits row.1)) (sym c.self.view_is) ∙ there in
+    let here = c.index_mut-line.ensures.value ∙ ap (λ (l : Rows Line). get_or l c.if-self-gt1.place row) c.self.view_is in
     let told = subst (λ (x : ℕ × Line). TellsOf (Some (shown_by c.in-Some-pop_front.indication)) x new) c.line.view_is
     (ap (λ (l : List Indication). (c.line.inside.reference, record line { waiting = map shown_by l })) c.in-Some-pop_front.ensures.items) in
-    let rest = (told_first c.args.self.now c.self.inside.rows.items c.in-Some.place row new (shown_by c.in-Some-pop_front.indication) some
-    here c.self.view_is told).rest in
-    elim c.if-not-waits.branch [ then-not-waits w ↦ w.self-is ∙ rest | else-not-waits w ↦ w.self-is ∙ rest ]
+    let rest = (told_first c.args.self.now c.self.inside.rows.items c.if-self-gt1.place row new
+    (shown_by c.in-Some-pop_front.indication) some here c.self.view_is told).rest in
+    elim c.if-not-waits-2.branch [ then-not-waits-2 w ↦ w.self-is ∙ rest | else-not-waits-2 w ↦ w.self-is ∙ rest ]
 
 pub returns-then-self-eq0-clause-shown : goal.returns-then-self-eq0-clause-shown
 returns-then-self-eq0-clause-shown c =
@@ -63,23 +88,42 @@ pub returns-then-self-eq0-clause-rest : goal.returns-then-self-eq0-clause-rest
 returns-then-self-eq0-clause-rest c =
     sym (none_counted c.self.inside.waiting c.args.self.now (c.self.invariant.0 ∙ ap how_many_wait c.self.view_is) c.if-self-eq0.true).rest
 
-pub invariant_of-self-then-not-waits : goal.invariant_of-self-then-not-waits
-invariant_of-self-then-not-waits c =
+pub invariant_of-self-then-not-waits-2 : goal.invariant_of-self-then-not-waits-2
+invariant_of-self-then-not-waits-2 c =
     let row = c.index_mut-line.result.now in
-    let first = first_is c.self.inside.rows.items c.in-Some.place row
-    (ap (position (λ (row : ℕ × Line). line_waits row.1)) (sym c.as_slice.ensures.value) ∙ sym c.first_place.ensures ∙ c.in-Some.is) in
+    let there : position (λ (row : ℕ × Line). line_waits row.1) c.self.inside.rows.items ≡ Some c.if-self-gt1.place =
+    elim c.if-self-gt1.branch [
+      | then-self-gt1+in-Some w ↦ ap (position (λ (row : ℕ × Line). line_waits row.1)) (sym w.as_slice.ensures.value) ∙
+          sym w.first_place.ensures ∙ w.in-Some.is ∙ ap Some (sym w.place-is)
+      | else-self-gt1+else-place-len+else-not-waits w ↦ only_heard c.self.inside.waiting c.self.inside.heard c.self.inside.rows.items
+          w.index.result.now c.self.invariant.0 (let some = c.if-self-eq0.false in omega (arith, w.if-self-gt1.false))
+          (omega (arith, w.if-place-len.false, w.len.ensures)) w.index.ensures (sym w.waits.ensures ∙ w.if-not-waits.false) ∙
+          ap Some (sym w.place-is)
+    ] in
+    let first = first_is c.self.inside.rows.items c.if-self-gt1.place row there in
     let some = c.if-self-eq0.false in
-    set_kept c.self.inside.waiting (c.self.inside.waiting - 1) c.self.inside.rises true false c.self.inside.rows.items c.in-Some.place row _
+    set_kept c.self.inside.waiting (c.self.inside.waiting - 1) c.self.inside.rises true false c.self.inside.rows.items
+    c.if-self-gt1.place row _
     c.self.invariant c.index_mut-line.ensures.value first.within (ap (λ (x : ℕ × Line). x.0) c.line.view_is)
-    (sym (ap (λ (x : ℕ × Line). line_waits x.1) c.index_mut-line.ensures.value ∙ first.waits)) (sym c.if-not-waits.true ∙ c.waits.ensures)
+    (sym (ap (λ (x : ℕ × Line). line_waits x.1) c.index_mut-line.ensures.value ∙ first.waits))
+    (sym c.if-not-waits-2.true ∙ c.waits-2.ensures)
     (omega arith)
 
-pub invariant_of-self-else-not-waits : goal.invariant_of-self-else-not-waits
-invariant_of-self-else-not-waits c =
+pub invariant_of-self-else-not-waits-2 : goal.invariant_of-self-else-not-waits-2
+invariant_of-self-else-not-waits-2 c =
     let row = c.index_mut-line.result.now in
-    let first = first_is c.self.inside.rows.items c.in-Some.place row
-    (ap (position (λ (row : ℕ × Line). line_waits row.1)) (sym c.as_slice.ensures.value) ∙ sym c.first_place.ensures ∙ c.in-Some.is) in
-    set_kept c.self.inside.waiting c.self.inside.waiting c.self.inside.rises true true c.self.inside.rows.items c.in-Some.place row _
+    let there : position (λ (row : ℕ × Line). line_waits row.1) c.self.inside.rows.items ≡ Some c.if-self-gt1.place =
+    elim c.if-self-gt1.branch [
+      | then-self-gt1+in-Some w ↦ ap (position (λ (row : ℕ × Line). line_waits row.1)) (sym w.as_slice.ensures.value) ∙
+          sym w.first_place.ensures ∙ w.in-Some.is ∙ ap Some (sym w.place-is)
+      | else-self-gt1+else-place-len+else-not-waits w ↦ only_heard c.self.inside.waiting c.self.inside.heard c.self.inside.rows.items
+          w.index.result.now c.self.invariant.0 (let some = c.if-self-eq0.false in omega (arith, w.if-self-gt1.false))
+          (omega (arith, w.if-place-len.false, w.len.ensures)) w.index.ensures (sym w.waits.ensures ∙ w.if-not-waits.false) ∙
+          ap Some (sym w.place-is)
+    ] in
+    let first = first_is c.self.inside.rows.items c.if-self-gt1.place row there in
+    set_kept c.self.inside.waiting c.self.inside.waiting c.self.inside.rises true true c.self.inside.rows.items c.if-self-gt1.place row _
     c.self.invariant c.index_mut-line.ensures.value first.within (ap (λ (x : ℕ × Line). x.0) c.line.view_is)
-    (sym (ap (λ (x : ℕ × Line). line_waits x.1) c.index_mut-line.ensures.value ∙ first.waits)) (sym c.if-not-waits.false ∙ c.waits.ensures)
+    (sym (ap (λ (x : ℕ × Line). line_waits x.1) c.index_mut-line.ensures.value ∙ first.waits))
+    (sym c.if-not-waits-2.false ∙ c.waits-2.ensures)
     refl

@@ -35,7 +35,8 @@ returns-clause-ok c =
     (record { carrier = c.receive-result.new.carrier.state; lines = l } ≡ to_session c.args.reference (event_input c.args.event)
     (record { carrier = c.args.carrier.now.state; lines = c.args.self.now })))
     (sym eq)
-    (heard_rows c.receive-result.result c.args.reference c.args.self.now c.self.inside.rows.items c.in-Some.place row c.receive-result.new.self
+    (heard_rows c.receive-result.result c.args.reference c.args.self.now c.self.inside.rows.items c.in-Some.place row
+    c.receive-result.new.self
     c.args.carrier.now c.receive-result.new.carrier
     (event_input c.args.event) some here c.self.view_is c.receive-result.ensures.ok c.receive-result.ensures.carrier)
 
@@ -54,7 +55,8 @@ returns-clause-lost c =
           (λ (x : Inside). x.rows.items) w.self-inside-is
     ] in
     subst (λ (l : Rows Line). OnErr c.receive-result.result (all_lost l ≡ all_lost c.args.self.now)) (sym eq)
-    (stopped_rows c.receive-result.result c.args.reference c.args.self.now c.self.inside.rows.items c.in-Some.place row c.receive-result.new.self
+    (stopped_rows c.receive-result.result c.args.reference c.args.self.now c.self.inside.rows.items c.in-Some.place row
+    c.receive-result.new.self
     some here c.self.view_is c.receive-result.ensures.lost)
 
 pub returns-clause-needed : goal.returns-clause-needed
@@ -65,7 +67,8 @@ returns-clause-needed c =
     c.as_slice.ensures.value c.self.view_is c.self.invariant.1 c.place_in.ensures
     ∙ c.in-Some.is in
     let here = c.index_mut-line.ensures.value ∙ ap (λ (l : Rows Line). get_or l c.in-Some.place row) c.self.view_is in
-    needs_at c.receive-result.result c.args.reference c.args.self.now c.in-Some.place row (event_input c.args.event) c.args.carrier.now.state
+    needs_at c.receive-result.result c.args.reference c.args.self.now c.in-Some.place row (event_input c.args.event)
+    c.args.carrier.now.state
     some here c.receive-result.ensures.needed
 
 pub overflow_add-self : goal.overflow_add-self

@@ -13,6 +13,7 @@ invariant_of-self c =
     (sym c.wait-2.ensures ∙ c.if-wait.false) in
     c.an_end_is_settled_between_calls.ensures.fed old new c.args.piece.now
     (record { used = c.feed_to_indication-used.result; whole = waits new.end.lines })
-    (feeds_of old new c.args.piece.now c.feed_to_indication-used.result quiet c.feed_to_indication-used.ensures.goes c.feed_to_indication-used.ensures.used
+    (feeds_of old new c.args.piece.now c.feed_to_indication-used.result quiet c.feed_to_indication-used.ensures.goes
+    c.feed_to_indication-used.ensures.used
     c.feed_to_indication-used.ensures.progress)
     c.self.invariant
