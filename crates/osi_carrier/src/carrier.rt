@@ -174,14 +174,18 @@ impl Carrier {
     /// Sends TSDUs together as [`Carrier::send_all`] does. They are cut from octets in pieces of one size, and each piece
     /// goes behind its head, such as a header. If all their units may be sent now, they are written straight from the
     /// heads and the pieces, and no memory is needed but for their room in [`Carrier::outgoing`]. Otherwise copies of the
-    /// TSDUs are kept, and what may be sent now is written from them. An error changes nothing.
+    /// TSDUs are kept, and what may be sent now is written from them. The errors are those of [`Carrier::send_all`], and
+    /// `TooLong` also if a piece has no octet or a head more than 123. An error changes nothing.
     pub fn send_all_headed(&mut self, reference: Ref, pieces: &Pieces<'_>) -> Result<(), SendError>
-        requires { FitTsdus pieces.now }
         ensures ok { OnOk result (self.new ≡ record self.old { state = sent_all reference.0 (tsdus_in pieces.now) self.old.state }) }
         ensures allowed { OnOk result (send_all_error (tsdus_in pieces.now) (open_link reference.0 self.old.state) ≡ None) }
-        ensures refused { IfErr result (λ e. call_error e ≡ send_all_error (tsdus_in pieces.now) (open_link reference.0 self.old.state)) }
+        ensures refused { FitTsdus pieces.now → IfErr result (λ e. call_error e ≡ send_all_error (tsdus_in pieces.now) (open_link reference.0 self.old.state)) }
+        ensures unfit { (FitTsdus pieces.now → ⊥) → result ≡ Err SendError.TooLong }
         ensures err { OnErr result (self.new ≡ self.old) }
     {
+        if !pieces.fit() {
+            return Err(SendError::TooLong);
+        }
         self.switch.send_pieces(reference.0, pieces)
     }
 

@@ -1,19 +1,20 @@
 //! Octets that are sent as TSDUs together, each piece of them behind a head.
 
-ghost use Rattle.std.specs.Prelude.{◌≡◌, ◌+◌, ◌<◌, ◌≤◌, ◌++◌, ◌∷◌, [], length, map, IfOk, IfSome, OnOk};
+ghost use Rattle.std.specs.Prelude.{◌≡◌, false, true, ◌+◌, ◌<◌, ◌≤◌, ◌++◌, ◌∷◌, [], length, map, IfOk, IfSome, OnOk};
 ghost use Rattle.osi_class.specs.Giving.{parts_needed, units_needed};
 ghost use Rattle.osi_class.specs.Tsdus.{octets_of_tsdus};
-ghost use Rattle.osi_carrier.specs.Pieces.{tsdus_in, FitTsdus};
+ghost use Rattle.osi_carrier.specs.Pieces.{tsdus_in, FitsTsdu, FitTsdus};
 
 use crate::links::joined;
-use osi_class::Room;
+use osi_class::{LONGEST_TSDU, Room};
 use std::alloc::{AllocError, Global};
 
 /// Octets that are sent as TSDUs together. They are cut into pieces of one size, and each TSDU has the octets of its
-/// head, and then its piece.
+/// head, at most 123, and then its piece.
 #[derive(Clone, Copy)]
 pub struct Pieces<'a> {
-    /// How many of the octets each TSDU but the last has, which has the rest. At least one.
+    /// How many of the octets each TSDU but the last has, which has the rest. At least one; with a head at most
+    /// 1,048,576.
     pub size: usize,
     /// The head of the first TSDU, if others follow it.
     pub first: &'a [u8],
@@ -23,6 +24,20 @@ pub struct Pieces<'a> {
     pub last: &'a [u8],
     /// The octets that are cut.
     pub octets: &'a [u8],
+}
+
+/// The most octets of a head: those of a TSDU that each unit has room for.
+const LONGEST_HEAD: usize = 123;
+
+/// Whether a head is not too long, and its TSDU has room for so many octets.
+fn has_room(head: &[u8], size: usize) -> bool
+    ensures fits { result ≡ true → FitsTsdu size head.now }
+    ensures unfit { result ≡ false → FitsTsdu size head.now → ⊥ }
+{
+    if head.len() > LONGEST_HEAD {
+        return false;
+    }
+    size <= LONGEST_TSDU - head.len()
 }
 
 /// The number of units in which a TSDU of this many octets goes, each with at most `limit` of them.
@@ -60,6 +75,23 @@ fn put_copy(
 }
 
 impl Pieces<'_> {
+    /// Whether each piece has an octet, and fits a TSDU with its head of at most 123 octets.
+    pub(crate) fn fit(&self) -> bool
+        ensures fit { result ≡ true → FitTsdus self.now }
+        ensures unfit { result ≡ false → FitTsdus self.now → ⊥ }
+    {
+        if self.size == 0 {
+            return false;
+        }
+        if !has_room(self.first, self.size) {
+            return false;
+        }
+        if !has_room(self.middle, self.size) {
+            return false;
+        }
+        has_room(self.last, self.size)
+    }
+
     /// In how many units all the TSDUs go, each with at most `limit` octets of a TSDU, and how many octets the TSDUs
     /// have. `None` only if they don't fit a `usize`.
     pub(crate) fn room(&self, limit: usize) -> Option<Room>

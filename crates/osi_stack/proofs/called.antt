@@ -4,3 +4,4 @@ pub mod what_a_call_sends
 pub mod a_call_without_a_connection
 pub mod what_is_sent_is_short
 pub mod tsdus_that_are_handed_together
+pub mod parts_that_are_lent

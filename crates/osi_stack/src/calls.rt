@@ -10,8 +10,8 @@ ghost use Rattle.osi_stack.specs.Calls.{move_refusal, send_refusal, Refuses};
 ghost use Rattle.osi_stack.specs.Moving.{answers};
 ghost use Rattle.osi_stack.specs.Transport.{hands};
 
-use crate::transport::{call_error, send_call, send_owned_call};
-use osi_carrier::{Carrier, Ref};
+use crate::transport::{call_error, send_call, send_owned_call, send_pieces_call};
+use osi_carrier::{Carrier, Pieces, Ref};
 use osi_session::{CallError, PlannedPoint, Request, Session};
 
 /// Sends a point, and then the session continues after it. An error changes nothing.
@@ -105,8 +105,8 @@ fn make_planned_call(
     Ok(())
 }
 
-/// Sends data in parts, or returns why data is refused. The function is kept out of line: otherwise stack space for
-/// the parts would be reserved on the path of other data, too.
+/// Sends data in parts, straight from its octets, or returns why data is refused. The function is kept out of line:
+/// otherwise stack space for the parts would be reserved on the path of other data, too.
 #[inline(never)]
 fn make_parted_call(
     session: &Session,
@@ -120,8 +120,15 @@ fn make_parted_call(
     ensures refused { IfErr result (λ e. Refuses e (react session.now (called (Data user_data.now))).error (move_refusal reference (limit_of session.now.state) (react session.now (called (Data user_data.now))) carrier.old.state)) }
     ensures err { OnErr result (carrier.new ≡ carrier.old) }
 {
-    let sent = session.call_data(user_data)?;
-    send_owned_call(carrier, reference, sent)
+    let parts = session.data_parts(user_data)?;
+    let pieces = Pieces {
+        size: parts.size,
+        first: parts.first,
+        middle: parts.middle,
+        last: parts.last,
+        octets: user_data,
+    };
+    send_pieces_call(carrier, reference, &pieces)
 }
 
 /// Sends what a call of the user sends, and then the session carries the call out. Data leaves its state unchanged, and

@@ -3,11 +3,12 @@
 ghost use Rattle.std.specs.Prelude.{◌≡◌, [], ◌||◌, map, true, None, is_some, unwrap_or, IfErr, OnOk, OnErr};
 ghost use Rattle.osi_carrier.specs.Calls.{closed_with, sent_all, send_all_error, open_link, call_error as sending_error};
 ghost use Rattle.osi_carrier.specs.Growth.{grows};
+ghost use Rattle.osi_carrier.specs.Pieces.{tsdus_in, FitTsdus};
 ghost use Rattle.osi_message.specs.Tsdus.{octets_lent};
 ghost use Rattle.osi_stack.specs.Calls.{send_refusal, Refuses};
 ghost use Rattle.osi_stack.specs.Transport.{hands, answers_by};
 
-use osi_carrier::{Carrier, Ref, SendError};
+use osi_carrier::{Carrier, Pieces, Ref, SendError};
 use osi_message::{LentTsdus, Sent, Tsdus};
 use osi_session::CallError;
 use std::alloc::AllocError;
@@ -147,5 +148,23 @@ pub fn send_owned_call(carrier: &mut Carrier, reference: u16, sent: Sent) -> Res
             Err(error) => Err(call_error(error)),
         },
         Tsdus::Parts(tsdus) => send_parts(carrier, reference, tsdus),
+    }
+}
+
+/// Sends TSDUs that are cut from octets, all of them or none.
+pub fn send_pieces_call(
+    carrier: &mut Carrier,
+    reference: u16,
+    pieces: &Pieces<'_>,
+) -> Result<(), CallError>
+    requires { FitTsdus pieces.now }
+    ensures ok { OnOk result (carrier.new ≡ record carrier.old { state = hands reference (tsdus_in pieces.now) carrier.old.state }) }
+    ensures allowed { OnOk result (send_refusal (send_all_error (tsdus_in pieces.now) (open_link reference carrier.old.state)) ≡ None) }
+    ensures refused { IfErr result (λ e. Refuses e None (send_refusal (send_all_error (tsdus_in pieces.now) (open_link reference carrier.old.state)))) }
+    ensures err { OnErr result (carrier.new ≡ carrier.old) }
+{
+    match carrier.send_all_headed(Ref(reference), pieces) {
+        Ok(()) => Ok(()),
+        Err(error) => Err(call_error(error)),
     }
 }
