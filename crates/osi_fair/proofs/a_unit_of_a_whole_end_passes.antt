@@ -241,10 +241,10 @@ row_same local end coming r peer line after link same (closes o there q e is all
 row_same local end coming r peer line after link same (over h) = over h
 
 -- of a link that is there, the end has not closed the connection
-put_open : (peer limit : ℕ) (x : Tally) (mine theirs : Half) (put : List Value) (link : Option Standing) (l : Standing) →
-    PutsAt peer limit x mine theirs put link → link ≡ Some l → is_open mine.phase ≡ true
-put_open peer limit x mine theirs put None l h e = absurd (cc e)
-put_open peer limit x mine theirs put (Some link) l (puts, is) e = is
+put_open : (r peer limit : ℕ) (x : Tally) (mine theirs : Half) (put : List Value) (link : Option Standing) (l : Standing) →
+    PutsAt r peer limit x mine theirs put link → link ≡ Some l → is_open mine.phase ≡ true
+put_open r peer limit x mine theirs put None l h e = absurd (cc e)
+put_open r peer limit x mine theirs put (Some link) l (puts, is) e = is
 
 -- the end has asked for it, or has it open
 abbrev is_held : Option Live → Bool
@@ -466,7 +466,7 @@ module _ (local : Local) (w : Whole) (f : Followed local w) (sane : IsSane w.tap
       linked_open link h =
           let held = tracks_hold g.r g.peer line_after tracks_after line_judged in
           tracked_if (ap (λ (x : Connection). is_open x.left.phase) (sym tap_after)
-          ∙ put_open g.peer held.limit held.tally line_after.tap.left line_after.tap.right line_after.put line_after.link link held.puts h)
+          ∙ put_open g.r g.peer held.limit held.tally line_after.tap.left line_after.tap.right line_after.put line_after.link link held.puts h)
 
       row_open : w.end.ended ≡ None → (o : Option Live) → value_at g.r w.end.live ≡ o → is_held o ≡ true → Row local w.end w.coming g.r g.peer g.line →
           is_tracked next ≡ true

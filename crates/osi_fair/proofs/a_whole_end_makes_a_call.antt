@@ -92,7 +92,7 @@ module _ (local : Local) (w : Whole) (f : Followed local w) (sane : IsSane w.tap
       let line : Line = record g.line { link = link_now (value_at g.r t.live); put = g.line.put ++ units } in
       let tracks = tracks_on g.r g.peer g.line line acts.acts g.tracks (acts.along Left g.line g.line.coming (is ∙ sym (ap link_now r)) refl) in
       let judged = ap (λ (x : Connection). x.is_judged) g.tap ∙ sane.judged firm p c at in
-      let named = last_named g.peer g.line.put units (line_named g.peer line (tracks_hold g.r g.peer line tracks judged)) in
+      let named = last_named g.peer g.line.put units (line_named g.r g.peer line (tracks_hold g.r g.peer line tracks judged)) in
       record {
         grown = record {
           r = g.r;

@@ -457,7 +457,7 @@ module _ (local : Local) (w : Whole) (f : Followed local w) (sane : IsSane w.tap
       let tracks = tracks_on g.r g.peer g.line line follows.acts g.tracks
       (follows.along Left g.line (those n later) (is ∙ sym (ap link_now r)) coming) in
       let judged = ap (λ (x : Connection). x.is_judged) g.tap ∙ sane.judged firm p c at in
-      let named = last_named g.peer g.line.put units (line_named g.peer line (tracks_hold g.r g.peer line tracks judged)) in
+      let named = last_named g.peer g.line.put units (line_named g.r g.peer line (tracks_hold g.r g.peer line tracks judged)) in
       let is_linked = linked_so n g.peer l u s t (ap (λ (i : ℕ). value_at i s.live) (sym same) ∙ r) two orderly.rise
       (k.is ∙ ap (λ (o : Option Live). to_connection n o u s) (ap (λ (i : ℕ). value_at i s.live) (sym same) ∙ r)) in
       record {

@@ -46,7 +46,7 @@ tracks_on r peer line after more t h = record {
   along = acts_join Left r peer t.acts more t.first line after t.along h;
 }
 
-pub tracks_hold : (r peer : ℕ) (line : Line) → Tracks r peer line → line.tap.is_judged ≡ true → Holds peer line
+pub tracks_hold : (r peer : ℕ) (line : Line) → Tracks r peer line → line.tap.is_judged ≡ true → Holds r peer line
 tracks_hold r peer line t judged = left_holds r peer t.first line t.acts t.opened t.along judged
 
 -- ---- the connections at the tap

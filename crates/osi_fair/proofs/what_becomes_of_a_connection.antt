@@ -255,15 +255,17 @@ module _ (s : Traffic) (c : Connection) (judged : c.is_judged ≡ true) (sound :
         ap (λ (x : Half). x.reference) (right_by v true e) ∙ b,
       )
 
-  dc_case : {A : Type 0} (destination source : ℕ) → IsPlain (course (disconnected destination source)) → (is_due Right c ≡ true → ⊥) →
-      (is_due Right c ≡ true) ⊎ (first_failed ((is_due Right c || not s.course.strays, NotJudged)
-      ∷ (is_due Right c, Broke rule.NothingToAnswer) ∷ []) ≡ Broke rule.NothingToAnswer) → A
+  dc_case : {A : Type 0} (destination source : ℕ) → IsPlain (course (disconnected destination source)) →
+      (is_due Right c source ≡ true → ⊥) →
+      (is_due Right c source ≡ true) ⊎ (first_failed ((is_due Right c source || not s.course.strays, NotJudged)
+      ∷ (is_due Right c source, Broke rule.NothingToAnswer) ∷ []) ≡ Broke rule.NothingToAnswer) → A
   dc_case destination source p none (inl due) = absurd (none due)
   dc_case destination source p none (inr e) =
       broke (disconnected destination source) rule.NothingToAnswer (is_found (disconnected destination source) ∙ e) refl p
 
-  dc_so : {A : Type 0} (destination source : ℕ) → IsPlain (course (disconnected destination source)) → (is_due Right c ≡ true → ⊥) → A
-  dc_so destination source p none = dc_case destination source p none (dc_or (is_due Right c) s.course.strays plain)
+  dc_so : {A : Type 0} (destination source : ℕ) → IsPlain (course (disconnected destination source)) →
+      (is_due Right c source ≡ true → ⊥) → A
+  dc_so destination source p none = dc_case destination source p none (dc_or (is_due Right c source) s.course.strays plain)
 
   pub open_stays : (v : Value) (n : ℕ) → destination_of v ≡ Some n → is_tracked c ≡ true → IsPlain (course v) → StaysOpen v
   open_stays (request x) n e h p = absurd (cc e)
@@ -274,7 +276,8 @@ module _ (s : Traffic) (c : Connection) (judged : c.is_judged ≡ true) (sound :
       dr_by destination source reason user (is_applied (finding (disconnect destination source reason user))) refl (not_silent h) p
   open_stays (disconnected destination source) n e h p =
       dc_so destination source p (λ due. open_not_closing c.left.phase (left_open c h)
-      (sound.right_knows.closing (and_second (is_open c.right.phase) (is_closing c.seen_by_right.phase) due)))
+      (sound.right_knows.closing (and_first (is_closing c.seen_by_right.phase) (source == c.right.reference)
+      (and_second (is_open c.right.phase) (is_closing c.seen_by_right.phase && (source == c.right.reference)) due))))
   open_stays (data0 end user) n e h p = absurd (cc e)
   open_stays (data2 destination number end user) n e h p = same_by (data2 destination number end user) (is_applied (finding (data2 destination number end user))) refl refl refl h
   open_stays (acknowledge credit destination number) n e h p = same_by (acknowledge credit destination number) (is_applied (finding (acknowledge credit destination number))) refl refl refl h
@@ -340,7 +343,7 @@ module _ (s : Traffic) (c : Connection) (judged : c.is_judged ≡ true) (sound :
   answered (disconnect destination source reason user) n e h z p = absurd (dr_waits destination source reason user h p)
   answered (disconnected destination source) n e h z p =
       dc_so destination source p (λ due. differ (is_open c.right.phase)
-      (and_first (is_open c.right.phase) (is_closing c.seen_by_right.phase) due) (silent_not_open c.right.phase h))
+      (and_first (is_open c.right.phase) (is_closing c.seen_by_right.phase && (source == c.right.reference)) due) (silent_not_open c.right.phase h))
   answered (data0 end user) n e h z p = absurd (cc e)
   answered (data2 destination number end user) n e h z p =
       broke (data2 destination number end user) rule.UnknownReference (is_found (data2 destination number end user) ∙ open_broke (is_silent c.right.phase) (drop 1 (data2_tests Right c number (length user))) h) refl p

@@ -320,7 +320,7 @@ module _ (L : ℕ → Type 0) (s : State) (q : ℕ) (c : Connection) (at : slice
       ⊎ (finding (disconnected destination source) ≡ Broke rule.NothingToAnswer)
   dc_found destination source =
       subst (λ (f : Finding). (is_applied f ≡ true) ⊎ (f ≡ Broke rule.NothingToAnswer)) (sym (is_found (disconnected destination source)))
-      (dc_by (is_due Right c) s.course.strays plain)
+      (dc_by (is_due Right c source) s.course.strays plain)
 
   -- ---- an ER
 

@@ -113,20 +113,20 @@ puts_named s e passed shown begun (acknowledge credit destination number ∷ uni
     (ap (λ (n : ℕ). Some n) a, puts_named s e passed count begun units g)
 puts_named s e passed shown begun (disconnect destination source reason user ∷ units) (a, b, c) =
     (ap (λ (n : ℕ). Some n) a, subst (λ (l : List Value). AllNamed s.peer l) (sym c) tt)
-puts_named s e passed shown begun (disconnected destination source ∷ units) (a, b, c, d) =
-    (ap (λ (n : ℕ). Some n) a, subst (λ (l : List Value). AllNamed s.peer l) (sym d) tt)
+puts_named s e passed shown begun (disconnected destination source ∷ units) (a, b, c, d, f) =
+    (ap (λ (n : ℕ). Some n) a, subst (λ (l : List Value). AllNamed s.peer l) (sym f) tt)
 puts_named s e passed shown begun (request x ∷ units) h = absurd h
 puts_named s e passed shown begun (confirm destination x ∷ units) h = absurd h
 puts_named s e passed shown begun (data0 end user ∷ units) h = absurd h
 puts_named s e passed shown begun (error destination cause ∷ units) h = absurd h
 
-puts_at : (peer limit : ℕ) (x : Tally) (mine theirs : Half) (put : List Value) (link : Option Standing) →
-    PutsAt peer limit x mine theirs put link → AllNamed peer put
-puts_at peer limit x mine theirs put None (puts, so) = puts_named (bounds_of peer limit x true theirs) anyhow x.passed x.shown mine.begun put puts
-puts_at peer limit x mine theirs put (Some link) (puts, so) = puts_named (bounds_of peer limit x false theirs) (ends_so x.sent link.ends.unsent) x.passed x.shown mine.begun put puts
+puts_at : (r peer limit : ℕ) (x : Tally) (mine theirs : Half) (put : List Value) (link : Option Standing) →
+    PutsAt r peer limit x mine theirs put link → AllNamed peer put
+puts_at r peer limit x mine theirs put None (puts, so) = puts_named (bounds_of r peer limit x true theirs) anyhow x.passed x.shown mine.begun put puts
+puts_at r peer limit x mine theirs put (Some link) (puts, so) = puts_named (bounds_of r peer limit x false theirs) (ends_so x.sent link.ends.unsent) x.passed x.shown mine.begun put puts
 
-pub line_named : (peer : ℕ) (line : Line) → Holds peer line → AllNamed peer line.put
-line_named peer line h = puts_at peer h.limit h.tally line.tap.left line.tap.right line.put line.link h.puts
+pub line_named : (r peer : ℕ) (line : Line) → Holds r peer line → AllNamed peer line.put
+line_named r peer line h = puts_at r peer h.limit h.tally line.tap.left line.tap.right line.put line.link h.puts
 
 pub last_named : (n : ℕ) (xs ys : List Value) → AllNamed n (xs ++ ys) → AllNamed n ys
 last_named n [] ys h = h

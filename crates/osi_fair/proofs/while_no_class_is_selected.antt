@@ -369,8 +369,8 @@ module _ (r p : ℕ) (cs : List Connection) (strays : Bool) (w : Waits r p cs) w
       (kept_so (is_silent c.right.phase) (Broke rule.WrongForm) silent_so))
       strays refl (w.judged, refl)
 
-  not_due : is_due Right c ≡ false
-  not_due = ap (λ (h : Phase). is_open h && is_closing c.seen_by_right.phase) w.silent
+  not_due : (source : ℕ) → is_due Right c source ≡ false
+  not_due source = ap (λ (h : Phase). is_open h && (is_closing c.seen_by_right.phase && (source == c.right.reference))) w.silent
 
   dc_found : (due st : Bool) → due ≡ false →
       first_failed ((due || not st, NotJudged) ∷ (due, Broke rule.NothingToAnswer) ∷ [])
@@ -396,7 +396,7 @@ module _ (r p : ℕ) (cs : List Connection) (strays : Bool) (w : Waits r p cs) w
   to_dc destination source h =
       let v = disconnected destination source in
       let is = judged_same c.is_judged (found Right (calm strays) false c v) w.judged in
-      says_nothing (tt, dc_after destination source strays (finding v) (is ∙ dc_found (is_due Right c) strays not_due) h)
+      says_nothing (tt, dc_after destination source strays (finding v) (is ∙ dc_found (is_due Right c source) strays (not_due source)) h)
 
   abbrev Answers : Value → State → Type 0
   Answers v after = GoesOn after → Answer r p cs strays v after
