@@ -43,11 +43,14 @@ pub mod a_dr_for_what_is_gone
 pub mod which_units_are_for_a_connection
 pub mod each_connection_has_its_line
 pub mod a_unit_of_a_whole_end_passes
+pub mod a_dc_for_a_stray_dr_passes
 pub mod left_selects_no_class
 pub mod a_unit_of_the_other_side_passes
+pub mod a_stray_dc_of_the_other_side_passes
 pub mod what_a_whole_end_takes
 pub mod a_whole_end_takes_a_unit
 pub mod a_whole_end_makes_a_call
+pub mod the_end_is_judged_as_the_other_side_is
 pub mod a_plain_calling_end_is_fair
 pub mod what_becomes_of_a_connection
 pub mod a_whole_end_ends

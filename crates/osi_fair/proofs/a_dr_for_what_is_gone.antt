@@ -29,7 +29,8 @@ use Rattle.osi_fair.proofs.a_request_of_a_whole_end_is_new.{Newer, still_newer, 
 use Rattle.osi_fair.proofs.all_are_judged_unless_one_broke.{still_judged}
 use Rattle.osi_fair.proofs.how_a_calling_end_asks.{over_takes}
 use Rattle.osi_fair.proofs.references_of_requests_rise.{Rise, all_gives, closed_gives, ended_gives, not_less, sent_gives}
-use Rattle.osi_fair.proofs.what_a_calling_end_still_has.{IsLive, OffersTwo, all_last, call_after, closed_lasts, ended_lasts, new_live, sent_lasts}
+use Rattle.osi_fair.proofs.what_a_calling_end_still_has.{IsLive, OffersTwo, all_last, call_after, closed_lasts, ended_lasts, new_live}
+use Rattle.osi_fair.proofs.what_a_calling_end_still_has.{sent_lasts}
 use Rattle.osi_fair.proofs.what_a_calling_end_still_has.{unit_after}
 use Rattle.osi_fair.proofs.what_holds_of_one_item.{HoldsOfEach, after_map, each_map}
 use Rattle.osi_fair.proofs.what_lasts_at_the_tap.{Lasts, lasts_passing}
@@ -166,7 +167,8 @@ no_request w call none given live l =
       known = known_more w.end.given t.given w.coming given l.known;
     }
 
-asking : (w : Whole) (calling called : Option (List ℕ)) → ((m : ℕ) → IsLive w.end m → IsLive (user_does (connects calling called) w.end) m) →
+asking : (w : Whole) (calling called : Option (List ℕ)) →
+    ((m : ℕ) → IsLive w.end m → IsLive (user_does (connects calling called) w.end) m) →
     Lively w → Lively (after_calling w (connects calling called))
 asking w calling called live l =
     let call = connects calling called in
@@ -439,7 +441,8 @@ next_holds (passes_other v) w new (ranges, is) h =
       lively = λ plain lasts.
           let before = before_passing (passing Right v) w.tap plain in
           let l = h.lively before lasts in
-          came w v h.newer l (what_came (Held w.end w.coming) w.tap h.sane l.tap before.firm before.strays before.left v before.right plain);
+          came w v h.newer l (what_came
+              (Held w.end w.coming) w.tap h.sane l.tap before.firm before.strays before.left v before.right plain);
     })
 next_holds passes_rubbish w new is h =
     let after = record w { tap = passes (rubbish Right) w.tap } in

@@ -13,7 +13,8 @@ use Rattle.osi_class.specs.declared.terms.Local.{Local}
 use Rattle.osi_carrier.specs.Calls.{closed_on, closes as closes_in, open_link, sent, sent_all, sent_on}
 use Rattle.osi_carrier.specs.Negotiation.{agreed_size, confirmed, opened_link, proposes_two, proposes_zero, selects_expedited}
 use Rattle.osi_carrier.specs.Pump.{pumped}
-use Rattle.osi_carrier.specs.React.{before_class, breaks as breaks_in, handed_out, in_class, in_two, leaves, opens, react_by, taking, to_asked}
+use Rattle.osi_carrier.specs.React.{before_class, breaks as breaks_in, handed_out, in_class, in_two, leaves, opens, react_by, taking}
+use Rattle.osi_carrier.specs.React.{to_asked}
 use Rattle.osi_carrier.specs.React.{to_closing, to_connection, to_linked, to_unknown}
 unfoldable use Rattle.osi_carrier.specs.React.{react}
 use Rattle.osi_carrier.specs.Rows.{Rows, put, value_at, without}
@@ -141,12 +142,18 @@ after_drop unit s t r o a b c closed e = record {
 unknown_after : (unit : Value) (s : State) → OffersTwo s → After unit s (to_unknown unit s)
 unknown_after (request x) s o = after_end (request x) s (to_unknown (request x) s) o refl refl refl refl
 unknown_after (confirm destination x) s o = after_end (confirm destination x) s (to_unknown (confirm destination x) s) o refl refl refl refl
-unknown_after (disconnect destination source reason user) s o = after_same (disconnect destination source reason user) s (to_unknown (disconnect destination source reason user) s) o refl refl refl refl
-unknown_after (disconnected destination source) s o = after_same (disconnected destination source) s (to_unknown (disconnected destination source) s) o refl refl refl refl
+unknown_after (disconnect destination source reason user) s o =
+    after_same (disconnect destination source reason user) s
+    (to_unknown (disconnect destination source reason user) s) o refl refl refl refl
+unknown_after (disconnected destination source) s o =
+    after_same (disconnected destination source) s (to_unknown (disconnected destination source) s) o refl refl refl refl
 unknown_after (data0 end user) s o = after_end (data0 end user) s (to_unknown (data0 end user) s) o refl refl refl refl
-unknown_after (data2 destination number end user) s o = after_end (data2 destination number end user) s (to_unknown (data2 destination number end user) s) o refl refl refl refl
-unknown_after (acknowledge credit destination number) s o = after_end (acknowledge credit destination number) s (to_unknown (acknowledge credit destination number) s) o refl refl refl refl
-unknown_after (error destination cause) s o = after_end (error destination cause) s (to_unknown (error destination cause) s) o refl refl refl refl
+unknown_after (data2 destination number end user) s o =
+    after_end (data2 destination number end user) s (to_unknown (data2 destination number end user) s) o refl refl refl refl
+unknown_after (acknowledge credit destination number) s o =
+    after_end (acknowledge credit destination number) s (to_unknown (acknowledge credit destination number) s) o refl refl refl refl
+unknown_after (error destination cause) s o =
+    after_end (error destination cause) s (to_unknown (error destination cause) s) o refl refl refl refl
 
 opens_by : (r : ℕ) (x : Connect) (a b z : Bool) (s : State) → OffersTwo s → (b && z) ≡ false →
     After (confirm r x) s (opens r x (if a then Some Two else (if (b && z) then Some Zero else None)) s)
@@ -188,8 +195,10 @@ asked_after r (disconnect destination source reason user) s o is =
     (ap (λ (n : ℕ). Some n) (is destination refl)) refl
 asked_after r (disconnected destination source) s o is = after_same (disconnected destination source) s s o refl refl refl refl
 asked_after r (data0 end user) s o is = after_end (data0 end user) s (to_asked r (data0 end user) s) o refl refl refl refl
-asked_after r (data2 destination number end user) s o is = after_end (data2 destination number end user) s (to_asked r (data2 destination number end user) s) o refl refl refl refl
-asked_after r (acknowledge credit destination number) s o is = after_end (acknowledge credit destination number) s (to_asked r (acknowledge credit destination number) s) o refl refl refl refl
+asked_after r (data2 destination number end user) s o is =
+    after_end (data2 destination number end user) s (to_asked r (data2 destination number end user) s) o refl refl refl refl
+asked_after r (acknowledge credit destination number) s o is =
+    after_end (acknowledge credit destination number) s (to_asked r (acknowledge credit destination number) s) o refl refl refl refl
 asked_after r (error destination cause) s o is =
     after_drop (error destination cause) s (to_asked r (error destination cause) s) r o refl refl refl
     (ap (λ (n : ℕ). Some n) (is destination refl)) refl
@@ -198,14 +207,16 @@ breaks_by : (unit : Value) (r peer : ℕ) (fault : LinkFault) (k : Option Class)
     (k ≡ None) ⊎ (k ≡ Some Two) → After unit s (breaks_in r peer fault k s)
 breaks_by unit r peer fault None s o e = after_end unit s (breaks_in r peer fault None s) o refl refl refl refl
 breaks_by unit r peer fault (Some Two) s o e =
-    after_put unit s (breaks_in r peer fault (Some Two) s) r (closing peer) (stays s (breaks_in r peer fault (Some Two) s) o refl refl refl) refl
+    after_put unit s (breaks_in r peer fault (Some Two) s) r (closing peer)
+        (stays s (breaks_in r peer fault (Some Two) s) o refl refl refl) refl
     (λ h. h) refl
 breaks_by unit r peer fault (Some Zero) s o e = after_end unit s (breaks_in r peer fault (Some Zero) s) o refl refl refl refl
 
 taking_after : (unit : Value) (r peer : ℕ) (result : Result Standing LinkFault) (s : State) → OffersTwo s →
     After unit s (taking r peer result s)
 taking_after unit r peer (Ok link) s o =
-    after_put unit s (taking r peer (Ok link) s) r (linked peer (pumped (handed_out link))) (stays s (taking r peer (Ok link) s) o refl refl refl)
+    after_put unit s (taking r peer (Ok link) s) r (linked peer (pumped (handed_out link)))
+        (stays s (taking r peer (Ok link) s) o refl refl refl)
     refl (λ h. h) refl
 taking_after unit r peer (Err fault) s o = breaks_by unit r peer fault s.class s o o.class
 
@@ -218,14 +229,19 @@ leaves_by unit r peer reason (Some Two) s o e = after_drop unit s (leaves r peer
 linked_after : (r peer : ℕ) (link : Standing) (unit : Value) (s : State) → OffersTwo s → ((n : ℕ) → closed_by unit ≡ Some n → n ≡ r) →
     After unit s (to_linked r peer link unit s)
 linked_after r peer link (request x) s o is = taking_after (request x) r peer (taken link (request x)) s o
-linked_after r peer link (confirm destination x) s o is = taking_after (confirm destination x) r peer (taken link (confirm destination x)) s o
+linked_after r peer link (confirm destination x) s o is =
+    taking_after (confirm destination x) r peer (taken link (confirm destination x)) s o
 linked_after r peer link (disconnect destination source reason user) s o is =
     leaves_by (disconnect destination source reason user) r peer reason s.class s o (ap (λ (n : ℕ). Some n) (is destination refl))
-linked_after r peer link (disconnected destination source) s o is = taking_after (disconnected destination source) r peer (taken link (disconnected destination source)) s o
+linked_after r peer link (disconnected destination source) s o is =
+    taking_after (disconnected destination source) r peer (taken link (disconnected destination source)) s o
 linked_after r peer link (data0 end user) s o is = taking_after (data0 end user) r peer (taken link (data0 end user)) s o
-linked_after r peer link (data2 destination number end user) s o is = taking_after (data2 destination number end user) r peer (taken link (data2 destination number end user)) s o
-linked_after r peer link (acknowledge credit destination number) s o is = taking_after (acknowledge credit destination number) r peer (taken link (acknowledge credit destination number)) s o
-linked_after r peer link (error destination cause) s o is = taking_after (error destination cause) r peer (taken link (error destination cause)) s o
+linked_after r peer link (data2 destination number end user) s o is =
+    taking_after (data2 destination number end user) r peer (taken link (data2 destination number end user)) s o
+linked_after r peer link (acknowledge credit destination number) s o is =
+    taking_after (acknowledge credit destination number) r peer (taken link (acknowledge credit destination number)) s o
+linked_after r peer link (error destination cause) s o is =
+    taking_after (error destination cause) r peer (taken link (error destination cause)) s o
 
 closing_after : (r : ℕ) (unit : Value) (s : State) → OffersTwo s → ((n : ℕ) → closed_by unit ≡ Some n → n ≡ r) →
     After unit s (to_closing r unit s)
@@ -239,7 +255,8 @@ closing_after r (disconnected destination source) s o is =
     (ap (λ (n : ℕ). Some n) (is destination refl)) refl
 closing_after r (data0 end user) s o is = after_same (data0 end user) s s o refl refl refl refl
 closing_after r (data2 destination number end user) s o is = after_same (data2 destination number end user) s s o refl refl refl refl
-closing_after r (acknowledge credit destination number) s o is = after_same (acknowledge credit destination number) s s o refl refl refl refl
+closing_after r (acknowledge credit destination number) s o is =
+    after_same (acknowledge credit destination number) s s o refl refl refl refl
 closing_after r (error destination cause) s o is = after_same (error destination cause) s s o refl refl refl refl
 
 connection_after : (r : ℕ) (o : Option Connection) (unit : Value) (s : State) → OffersTwo s →
@@ -260,11 +277,15 @@ before_after (request x) s o = after_end (request x) s (before_class true (reque
 before_after (confirm destination x) s o =
     connection_after destination (value_at destination s.live) (confirm destination x) s o (λ n e. none_number n e)
 before_after (disconnect destination source reason user) s o =
-    connection_after destination (value_at destination s.live) (disconnect destination source reason user) s o (λ n e. same_number n destination e)
-before_after (disconnected destination source) s o = after_end (disconnected destination source) s (before_class true (disconnected destination source) s) o refl refl refl refl
+    connection_after destination (value_at destination s.live) (disconnect destination source reason user) s o
+        (λ n e. same_number n destination e)
+before_after (disconnected destination source) s o =
+    after_end (disconnected destination source) s (before_class true (disconnected destination source) s) o refl refl refl refl
 before_after (data0 end user) s o = after_end (data0 end user) s (before_class true (data0 end user) s) o refl refl refl refl
-before_after (data2 destination number end user) s o = after_end (data2 destination number end user) s (before_class true (data2 destination number end user) s) o refl refl refl refl
-before_after (acknowledge credit destination number) s o = after_end (acknowledge credit destination number) s (before_class true (acknowledge credit destination number) s) o refl refl refl refl
+before_after (data2 destination number end user) s o =
+    after_end (data2 destination number end user) s (before_class true (data2 destination number end user) s) o refl refl refl refl
+before_after (acknowledge credit destination number) s o =
+    after_end (acknowledge credit destination number) s (before_class true (acknowledge credit destination number) s) o refl refl refl refl
 before_after (error destination cause) s o =
     connection_after destination (value_at destination s.live) (error destination cause) s o (λ n e. same_number n destination e)
 
@@ -273,7 +294,8 @@ two_after (request x) s o = after_end (request x) s (in_two true (request x) s) 
 two_after (confirm destination x) s o =
     connection_after destination (value_at destination s.live) (confirm destination x) s o (λ n e. none_number n e)
 two_after (disconnect destination source reason user) s o =
-    connection_after destination (value_at destination s.live) (disconnect destination source reason user) s o (λ n e. same_number n destination e)
+    connection_after destination (value_at destination s.live) (disconnect destination source reason user) s o
+        (λ n e. same_number n destination e)
 two_after (disconnected destination source) s o =
     connection_after destination (value_at destination s.live) (disconnected destination source) s o (λ n e. same_number n destination e)
 two_after (data0 end user) s o = after_end (data0 end user) s (in_two true (data0 end user) s) o refl refl refl refl
