@@ -53,7 +53,8 @@ use Rattle.osi_fair.proofs.which_units_are_for_a_connection.{IsDc, IsOf, dc_not_
 use Rattle.osi_fair.proofs.which_units_are_for_a_connection.{names}
 use Rattle.osi_fair.proofs.which_units_are_for_a_connection.{one_more, one_other, ours_not, picked_none, those}
 use Rattle.osi_fair.proofs.while_no_class_is_selected.{after_change, set_there}
-use Rattle.osi_fair.proofs.what_becomes_of_a_connection.{Answered, IsIdle, Told, answered, cc_waits, open_stays, opens, refused, waits_on}
+use Rattle.osi_fair.proofs.what_becomes_of_a_connection.{Answered, IsIdle, Told, answered, cc_waits, not_selected, open_stays, opens}
+use Rattle.osi_fair.proofs.what_becomes_of_a_connection.{refused, waits_on}
 
 -- ---- what has come for a connection, with one unit more
 
@@ -225,7 +226,7 @@ half_not_silent (data2 destination number end user) half h = h
 half_not_silent (acknowledge credit destination number) half h = h
 half_not_silent (error destination cause) half h = refl
 
-course_same : (c : Connection) (v : Value) (b : Bool) (course : Course) → ((m : ℕ) (x : Connect) → v ≡ confirm m x → ⊥) →
+pub course_same : (c : Connection) (v : Value) (b : Bool) (course : Course) → ((m : ℕ) (x : Connect) → v ≡ confirm m x → ⊥) →
     (course_after Right c v b course).class ≡ course.class
 course_same c (request x) b course h = refl
 course_same c (confirm destination x) b course h = absurd (h destination x refl)
@@ -274,7 +275,7 @@ data Kind (c : Connection) : Type 0 where
 
 module _ (local : Local) (w : Whole) (f : Followed local w) (sane : IsSane w.tap) (firm : w.tap.course.loose ≡ false)
     (newer : Newer w) (v : Value) (ranges : HasFieldsInRange v) (t : Told v w.tap (takes Right v w.tap))
-    (firm_after : IsFirm (takes Right v w.tap).state.course) where
+    (firm_after : IsFirm (takes Right v w.tap).state.course) (none_zero : (takes Right v w.tap).state.course.class ≡ Some Zero → ⊥) where
   abbrev cs : List Connection
   cs = w.tap.connections
 
@@ -521,7 +522,7 @@ module _ (local : Local) (w : Whole) (f : Followed local w) (sane : IsSane w.tap
   by_kind (stands tracked) = goes_so tracked
   by_kind (waits_yet waiting silent not_tracked) =
       by_answer waiting not_tracked (answered w.tap c judged_c sound_c v t.n t.dest silent
-      (f.waiting t.q c t.at waiting).class0 firm_so)
+      (not_selected w.tap c judged_c sound_c v (λ h. none_zero (ap (λ (k : Course). k.class) course_is ∙ h))) firm_so)
   by_kind (is_past not_open not_silent_c) =
       gone (and_first_not (is_open c.left.phase) (is_open c.right.phase || is_closing c.right.phase) not_open)
       (and_first_not (is_open nxt.left.phase) (is_open nxt.right.phase || is_closing nxt.right.phase)

@@ -28,7 +28,7 @@ use Rattle.osi_fair.proofs.each_connection_has_its_line.{over}
 use Rattle.osi_fair.proofs.how_a_calling_end_asks.{Idle, IsCalling, broke, over_calls, over_takes, put_is as put_calling}
 use Rattle.osi_fair.proofs.how_a_calling_end_asks.{react_is as react_calling, same}
 use Rattle.osi_fair.proofs.references_of_requests_rise.{all_gives, closed_gives, ended_gives, sent_gives}
-use Rattle.osi_fair.proofs.what_a_calling_end_still_has.{IsLive, OffersTwo, all_last, over_not, sent_lasts}
+use Rattle.osi_fair.proofs.what_a_calling_end_still_has.{IsLive, OffersTwo, SelectsTwo, all_last, over_not, sent_lasts}
 use Rattle.osi_fair.proofs.what_the_other_side_closes.{IsDr, IsSane, closed_by}
 use Rattle.osi_fair.proofs.which_units_are_for_a_connection.{IsDc, keep, names, those}
 
@@ -219,21 +219,21 @@ module _ (local : Local) (w : Whole) (f : Followed local w) (sane : IsSane w.tap
 
   takes_by : (b : Bool) (u : Value) (later : List Value) → is_some (react u w.end).ended ≡ b → w.coming ≡ u ∷ later →
       ((react u w.end).ended ≡ None → w.end.ended ≡ None) →
-      (w.end.ended ≡ None → IsDr u → (m : ℕ) → closed_by u ≡ Some m → IsLive w.end m ⊎ (w.tap.course.strays ≡ true)) →
+      (w.end.ended ≡ None → IsDr u → (m : ℕ) → closed_by u ≡ Some m → IsLive w.end m ⊎ (w.tap.course.strays ≡ true)) → SelectsTwo u →
       Followed local (after u later)
-  takes_by true u later h e was live_dr =
+  takes_by true u later h e was live_dr selects =
       with_nothing local w (react u w.end) later (put_for u w.end) (ended_puts (is_some w.end.ended) u w.end refl offers h)
       (is_over local w f (react u w.end) later h
       (λ r dcs. kept_early (names r u) u (those r later) (subst (λ (l : List Value). AllByRecursion IsDc (those r l)) e dcs))
       (few_later u later e) (unit_gives u w.end))
-  takes_by false u later h e was live_dr =
+  takes_by false u later h e was live_dr selects =
       let lasts = no_end (react u w.end).ended h in
-      end_takes local w f sane firm offers orderly local_is (was lasts) u later e lasts (live_dr (was lasts))
+      end_takes local w f sane firm offers orderly local_is (was lasts) u later e lasts (live_dr (was lasts)) selects
 
   pub whole_takes : (u : Value) (later : List Value) → w.coming ≡ u ∷ later → ((react u w.end).ended ≡ None → w.end.ended ≡ None) →
-      (w.end.ended ≡ None → IsDr u → (m : ℕ) → closed_by u ≡ Some m → IsLive w.end m ⊎ (w.tap.course.strays ≡ true)) →
+      (w.end.ended ≡ None → IsDr u → (m : ℕ) → closed_by u ≡ Some m → IsLive w.end m ⊎ (w.tap.course.strays ≡ true)) → SelectsTwo u →
       Followed local (after u later)
-  whole_takes u later e was live_dr = takes_by (is_some (react u w.end).ended) u later refl e was live_dr
+  whole_takes u later e was live_dr selects = takes_by (is_some (react u w.end).ended) u later refl e was live_dr selects
 
   abbrev called : UserCall → Whole
   called call = record w { end = user_does call w.end; put = w.put ++ put_by call w.end }

@@ -380,14 +380,14 @@ module _ (local : Local) (w : Whole) (f : Followed local w) (sane : IsSane w.tap
   new_asking : (y : Connect) → request x ≡ request y → IsAsking local t w.coming y
   new_asking y e =
       let two : proposes_two s.local ≡ true = offers.two in
-      let zero : proposes_zero s.local s.class ≡ false = zero_none (is_none s.class) s.local.class0 s.local.class2 offers.zero offers.two in
       let first : (asked_by x).left ≡ opened_half x.source (window_units local.window) =
       asked_so s.local s.class calling called r offers.two
       ∙ ap (λ (i : ℕ). opened_half i (window_units s.local.window)) (sym source_is)
       ∙ ap (λ (l : Local). opened_half x.source (window_units l.window)) local_is in
       subst (λ (z : Connect). IsAsking local t w.coming z) (sym (same_request x y e)) (record {
         left = first;
-        class0 = offers_none (proposes_two s.local) s.local s.class calling called r two zero;
+        class0 = λ none. offers_none (proposes_two s.local) s.local s.class calling called r two (zero_none (is_none s.class)
+            s.local.class0 s.local.class2 (ap (λ (l : Local). l.class0) local_is ∙ none) offers.two);
         early = subst (λ (i : ℕ). AllByRecursion IsDc (those i w.coming)) (sym source_is) early_come;
         row = λ lasts. ap (λ (i : ℕ). value_at i t.live) source_is ∙ here_c;
       })

@@ -39,7 +39,7 @@ use Rattle.osi_fair.proofs.each_connection_has_its_line.{closes}
 use Rattle.osi_fair.proofs.each_connection_has_its_line.{is_tracked}
 use Rattle.osi_fair.proofs.each_connection_has_its_line.{over, talks, tracks_hold, tracks_on}
 use Rattle.osi_fair.proofs.how_a_calling_end_asks.{IsCalling, put_is as put_calling, react_is as react_calling}
-use Rattle.osi_fair.proofs.what_a_calling_end_still_has.{IsLive, OffersTwo, and_none, never_zero, over_not, unit_after}
+use Rattle.osi_fair.proofs.what_a_calling_end_still_has.{IsLive, OffersTwo, SelectsTwo, not_zero, over_not, unit_after}
 use Rattle.osi_fair.proofs.what_a_whole_end_takes.{Puts, all_join, first_is, leads_more, no_list, nothing, of_line, of_none, rest_is}
 use Rattle.osi_fair.proofs.what_a_whole_end_takes.{taken_so}
 use Rattle.osi_fair.proofs.what_the_other_side_closes.{IsDr, IsSane, closed_by}
@@ -216,24 +216,24 @@ opens_by n x true z s t here none e lasts =
 opens_by n x false false s t here none e lasts = over_not t.ended (ap (λ (y : State). is_some y.ended) e) lasts
 opens_by n x false true s t here none e lasts = cc
 
-asked_so : (n : ℕ) (u : Value) (s t : State) → OffersTwo s → RiseFrom 0 s.live → value_at n s.live ≡ Some asked →
+asked_so : (n : ℕ) (u : Value) (s t : State) → OffersTwo s → SelectsTwo u → RiseFrom 0 s.live → value_at n s.live ≡ Some asked →
     destination_of u ≡ Some n → t ≡ to_asked n u s → t.ended ≡ None → Asks n u s t
-asked_so n (request x) s t o rise here d e lasts = over_not t.ended (ap (λ (y : State). is_some y.ended) e) lasts
-asked_so n (confirm destination x) s t o rise here d e lasts =
+asked_so n (request x) s t o two rise here d e lasts = over_not t.ended (ap (λ (y : State). is_some y.ended) e) lasts
+asked_so n (confirm destination x) s t o two rise here d e lasts =
     subst (λ (m : ℕ). Asks n (confirm m x) s t) (sym (same_number destination n d))
     (opens_by n x ((x.class == 2) && (proposes_two s.local && not (selects_expedited x.parameters.additional)))
     ((x.class == 0) && proposes_zero s.local s.class) s t here
-    (and_none (x.class == 0) (proposes_zero s.local s.class) (never_zero s.local.class0 s.local.class2 (is_none s.class) o.zero o.two)) e
-        lasts)
-asked_so n (disconnect destination source reason user) s t o rise here d e lasts =
+    (not_zero x (proposes_zero s.local s.class) (two destination x refl)) e lasts)
+asked_so n (disconnect destination source reason user) s t o two rise here d e lasts =
     no_answer refl (λ x k. absurd (cc k)) (ap (λ (y : State). value_at n y.live) e ∙ without_here n s.live rise)
-asked_so n (disconnected destination source) s t o rise here d e lasts =
+asked_so n (disconnected destination source) s t o two rise here d e lasts =
     early_dc refl (ap (λ (y : State). value_at n y.live) e ∙ here)
-asked_so n (data0 end user) s t o rise here d e lasts = over_not t.ended (ap (λ (y : State). is_some y.ended) e) lasts
-asked_so n (data2 destination number end user) s t o rise here d e lasts = over_not t.ended (ap (λ (y : State). is_some y.ended) e) lasts
-asked_so n (acknowledge credit destination number) s t o rise here d e lasts =
+asked_so n (data0 end user) s t o two rise here d e lasts = over_not t.ended (ap (λ (y : State). is_some y.ended) e) lasts
+asked_so n (data2 destination number end user) s t o two rise here d e lasts =
     over_not t.ended (ap (λ (y : State). is_some y.ended) e) lasts
-asked_so n (error destination cause) s t o rise here d e lasts =
+asked_so n (acknowledge credit destination number) s t o two rise here d e lasts =
+    over_not t.ended (ap (λ (y : State). is_some y.ended) e) lasts
+asked_so n (error destination cause) s t o two rise here d e lasts =
     no_answer refl (λ x k. absurd (cc k)) (ap (λ (y : State). value_at n y.live) e ∙ without_here n s.live rise)
 
 abbrev is_open_row : Live → Bool
@@ -324,7 +324,8 @@ given_by n given live o up h = given_if n given live o up h (nat_lt given n) ref
 module _ (local : Local) (w : Whole) (f : Followed local w) (sane : IsSane w.tap) (firm : w.tap.course.loose ≡ false)
     (offers : OffersTwo w.end) (orderly : IsOrderly w.end) (local_is : w.end.local ≡ local) (was : w.end.ended ≡ None) (u : Value)
     (later : List Value) (come : w.coming ≡ u ∷ later) (lasts : (react u w.end).ended ≡ None)
-    (live_dr : IsDr u → (m : ℕ) → closed_by u ≡ Some m → IsLive w.end m ⊎ (w.tap.course.strays ≡ true)) (k : Named u w.end) where
+    (live_dr : IsDr u → (m : ℕ) → closed_by u ≡ Some m → IsLive w.end m ⊎ (w.tap.course.strays ≡ true)) (k : Named u w.end)
+    (selects : SelectsTwo u) where
   abbrev cs : List Connection
   cs = w.tap.connections
 
@@ -350,7 +351,7 @@ module _ (local : Local) (w : Whole) (f : Followed local w) (sane : IsSane w.tap
   rows m other = (changes_one u s lasts).others m (λ e. other (e ∙ by_number s.class u s n offers.class k.dest))
 
   class_so : s.class ≡ Some Two → t.class ≡ Some Two
-  class_so = (unit_after u s offers).class
+  class_so = (unit_after u s offers selects).class
 
   first_n : (r : ℕ) → r ≡ n → those r w.coming ≡ u ∷ those n later
   first_n r same =
@@ -599,7 +600,7 @@ module _ (local : Local) (w : Whole) (f : Followed local w) (sane : IsSane w.tap
   at_asked : value_at n s.live ≡ Some asked → Followed local after
   at_asked here =
       by_asked here (k.puts ∙ ap (λ (o : Option Live). put_at n o u s.class) here)
-      (asked_so n u s t offers orderly.rise here k.dest (k.is ∙ ap (λ (o : Option Live). to_connection n o u s) here) lasts)
+      (asked_so n u s t offers selects orderly.rise here k.dest (k.is ∙ ap (λ (o : Option Live). to_connection n o u s) here) lasts)
 
   -- ---- an open connection
 
@@ -691,7 +692,8 @@ module _ (local : Local) (w : Whole) (f : Followed local w) (sane : IsSane w.tap
 pub end_takes : (local : Local) (w : Whole) → Followed local w → IsSane w.tap → w.tap.course.loose ≡ false → OffersTwo w.end →
     IsOrderly w.end → w.end.local ≡ local → w.end.ended ≡ None → (u : Value) (later : List Value) → w.coming ≡ u ∷ later →
     (react u w.end).ended ≡ None → (IsDr u → (m : ℕ) → closed_by u ≡ Some m → IsLive w.end m ⊎ (w.tap.course.strays ≡ true)) →
+        SelectsTwo u →
     Followed local (record w { end = react u w.end; put = w.put ++ put_for u w.end; coming = later })
-end_takes local w f sane firm offers orderly local_is was u later come lasts live_dr =
+end_takes local w f sane firm offers orderly local_is was u later come lasts live_dr selects =
     let k = named_by u w.end offers was offers.class lasts in
-    by_row local w f sane firm offers orderly local_is was u later come lasts live_dr k (value_at k.n w.end.live) refl
+    by_row local w f sane firm offers orderly local_is was u later come lasts live_dr k selects (value_at k.n w.end.live) refl

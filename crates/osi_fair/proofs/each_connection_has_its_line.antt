@@ -110,14 +110,14 @@ pub record Waiting (local : Local) (end : State) (coming : List Value) (c : Conn
   pub left : c.left ≡ opened_half r (window_units local.window)
   pub right : c.right ≡ silent_half
   pub seen : c.seen_by_right.next ≡ 0
-  pub class0 : c.offer.class0 ≡ false
+  pub class0 : local.class0 ≡ false → c.offer.class0 ≡ false
   pub early : AllByRecursion IsDc (those r coming)
   pub row : end.ended ≡ None → value_at r end.live ≡ Some asked
 
 -- a CR that is to pass
 pub record IsAsking (local : Local) (end : State) (coming : List Value) (x : Connect) : Type 0 where
   pub left : (asked_by x).left ≡ opened_half x.source (window_units local.window)
-  pub class0 : (asked_by x).offer.class0 ≡ false
+  pub class0 : local.class0 ≡ false → (asked_by x).offer.class0 ≡ false
   pub early : AllByRecursion IsDc (those x.source coming)
   pub row : end.ended ≡ None → value_at x.source end.live ≡ Some asked
 
@@ -286,7 +286,7 @@ waits_begun local d end coming c w = record {
   left = begun_left d c ∙ w.left;
   right = begun_right d c ∙ w.right;
   seen = begun_seen d c w.r (window_units local.window) w.left w.seen;
-  class0 = begun_offer d c ∙ w.class0;
+  class0 = λ none. begun_offer d c ∙ w.class0 none;
   early = w.early;
   row = w.row;
 }

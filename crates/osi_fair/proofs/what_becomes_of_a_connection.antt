@@ -28,6 +28,7 @@ use Rattle.osi_rules.specs.Traffic.{route_in}
 use Rattle.osi_rules.specs.Traffic.{routed, takes, unnamed, unnamed_by, unnamed_told, uses_source}
 use Rattle.osi_fair.proofs.a_unit_of_a_whole_end_passes.{and_first, and_second, differ, left_open, right_there}
 use Rattle.osi_fair.proofs.a_unit_of_a_whole_end_passes.{there_not_silent}
+use Rattle.osi_fair.proofs.class_0_stays_selected.{reached_class}
 use Rattle.osi_fair.proofs.each_connection_has_its_line.{is_tracked}
 use Rattle.osi_fair.proofs.what_keeps_names_apart.{Sound}
 use Rattle.osi_fair.proofs.what_stays_of_each_connection.{left_then, right_judged, right_own}
@@ -245,6 +246,14 @@ two_unused true false true false none false other small used within e h = cc
 two_unused true false false false none others true small used within e h = cc
 two_unused true false false false none others false small used within e h = cc
 
+unused_by : (a b i used l : Bool) → is_applied (first_failed ((a, Broke rule.WrongForm) ∷ (b, Broke rule.BadAnswer) ∷ (i, Outside)
+    ∷ (not used, Broke rule.ReferenceInUse) ∷ (l, Broke rule.LargerSize) ∷ [])) ≡ true → used ≡ false
+unused_by false b i used l h = cc
+unused_by true false i used l h = cc
+unused_by true true false used l h = cc
+unused_by true true true true l h = cc
+unused_by true true true false l h = refl
+
 module _ (s : Traffic) (c : Connection) (judged : c.is_judged ≡ true) (sound : Sound c) where
   abbrev finding : Value → Finding
   finding v = found_on Right s c v
@@ -386,19 +395,47 @@ module _ (s : Traffic) (c : Connection) (judged : c.is_judged ≡ true) (sound :
       differ true refl (subst (λ (f : Finding). IsFirm (reached Right (reach_of (class_for Right s.course) f)
       (course_after Right c v (is_applied (finding v)) s.course))) e h).left
 
-  cc_by : (destination : ℕ) (x : Connect) → c.offer.class0 ≡ false → IsFirm (course (confirm destination x)) →
-      Ruled (finding (confirm destination x)) → Answered (confirm destination x)
-  cc_by destination x zero p (fine f) =
-      let v = confirm destination x in
-      let applied = ap is_applied (sym (is_found v)) ∙ fine_applied (finding v) f in
+  -- a CC that takes effect selects class 2
+  abbrev pub SelectsTwo : Value → Type 0
+  SelectsTwo v = (m : ℕ) (x : Connect) → v ≡ confirm m x → is_applied (finding v) ≡ true → (x.class == 2) ≡ true
+
+  -- if class 0 was not offered
+  pub not_offered : c.offer.class0 ≡ false → (v : Value) → SelectsTwo v
+  not_offered zero v m x e applied =
+      let u = confirm m x in
+      let so = ap is_applied (sym (is_found u)) ∙ ap (λ (y : Value). is_applied (finding y)) (sym e) ∙ applied in
       let (two, unused) = two_unused (is_silent c.right.phase) (x.class == 0) (x.class == 2) c.offer.class0 (is_none s.course.class)
       (c.offer.class2 && (c.offer.expedited || not (selects_expedited x.parameters.additional))) c.offer.others
-      (not (selects_expedited x.parameters.additional) && not (x.options % 2 == 1)) (uses_source Right s.connections v)
-      (nat_le (code_named x.parameters.size) c.offer.size_code) zero applied in
-      opens destination x refl f two unused
-  cc_by destination x zero p (wrong_answer e) = broke (confirm destination x) rule.BadAnswer e refl p
-  cc_by destination x zero p (wrong_reference e) = broke (confirm destination x) rule.ReferenceInUse e refl p
-  cc_by destination x zero p (outside e) = absurd (outside_not (confirm destination x) e p)
+      (not (selects_expedited x.parameters.additional) && not (x.options % 2 == 1)) (uses_source Right s.connections u)
+      (nat_le (code_named x.parameters.size) c.offer.size_code) zero so in
+      two
+
+  two_or_zero : (m : ℕ) (x : Connect) (b : Bool) → (x.class == 2) ≡ b → is_applied (finding (confirm m x)) ≡ true →
+      ((course (confirm m x)).class ≡ Some Zero → ⊥) → b ≡ true
+  two_or_zero m x true e applied none = refl
+  two_or_zero m x false e applied none =
+      let v = confirm m x in
+      absurd (none (reached_class Right (how_far v) (course_after Right c v (is_applied (finding v)) s.course)
+      ∙ ap (λ (a : Bool). (course_after Right c v a s.course).class) applied ∙ ap (λ (b : Bool). Some (if b then Two else Zero)) e))
+
+  -- if class 0 is not selected after it
+  pub not_selected : (v : Value) → ((course v).class ≡ Some Zero → ⊥) → SelectsTwo v
+  not_selected v none m x e applied =
+      two_or_zero m x (x.class == 2) refl (ap (λ (y : Value). is_applied (finding y)) (sym e) ∙ applied)
+      (subst (λ (y : Value). (course y).class ≡ Some Zero → ⊥) e none)
+
+  cc_by : (destination : ℕ) (x : Connect) → SelectsTwo (confirm destination x) → IsFirm (course (confirm destination x)) →
+      Ruled (finding (confirm destination x)) → Answered (confirm destination x)
+  cc_by destination x selects p (fine f) =
+      let v = confirm destination x in
+      let applied = fine_applied (finding v) f in
+      let unused = unused_by (is_silent c.right.phase) (is_offered c.offer s.course.class x) (is_inside x)
+      (uses_source Right s.connections v) (nat_le (code_named x.parameters.size) c.offer.size_code)
+      (ap is_applied (sym (is_found v)) ∙ applied) in
+      opens destination x refl f (selects destination x refl applied) unused
+  cc_by destination x selects p (wrong_answer e) = broke (confirm destination x) rule.BadAnswer e refl p
+  cc_by destination x selects p (wrong_reference e) = broke (confirm destination x) rule.ReferenceInUse e refl p
+  cc_by destination x selects p (outside e) = absurd (outside_not (confirm destination x) e p)
 
   refuses : (was : Bool) (half : Half) → was ≡ true → is_refused (closing_phase was half).phase ≡ true
   refuses true half h = refl
@@ -417,7 +454,7 @@ module _ (s : Traffic) (c : Connection) (judged : c.is_judged ≡ true) (sound :
       refused (ap (λ (x : Half). is_refused x.phase) (right_by v true applied) ∙ refuses (is_silent c.right.phase) c.right h)
       (λ m x k. absurd (cc k))
 
-  pub answered : (v : Value) (n : ℕ) → destination_of v ≡ Some n → is_silent c.right.phase ≡ true → c.offer.class0 ≡ false →
+  pub answered : (v : Value) (n : ℕ) → destination_of v ≡ Some n → is_silent c.right.phase ≡ true → SelectsTwo v →
       IsFirm (course v) → Answered v
   answered (request x) n e h z p = absurd (cc e)
   answered (confirm destination x) n e h z p = cc_by destination x z p (cc_found destination x h)

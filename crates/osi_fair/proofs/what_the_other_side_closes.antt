@@ -33,12 +33,13 @@ use Rattle.osi_fair.proofs.when_a_connection_has_a_name.{three}
 use Rattle.osi_fair.proofs.while_no_class_is_selected.{after_change, named_where}
 use Rattle.osi_fair.proofs.what_stays_of_each_connection.{AreDistinct, IsLively, IsStarted, is_there, left_then, right_judged, right_own}
 
--- both sides are judged, no connection has lost its judgement, and each DR has closed something
+-- both sides are judged, no connection has lost its judgement, class 0 is not selected, and each DR has closed something
 pub record IsPlain (c : Course) : Type 0 where
   pub firm : c.loose ≡ false
   pub left : c.left_stopped ≡ false
   pub right : c.right_stopped ≡ false
   pub strays : c.strays ≡ false
+  pub two : c.class ≡ Some Zero → ⊥
 
 -- both sides are judged, and no connection has lost its judgement
 pub record IsFirm (c : Course) : Type 0 where
@@ -48,6 +49,14 @@ pub record IsFirm (c : Course) : Type 0 where
 
 firm_of : (c : Course) → IsPlain c → IsFirm c
 firm_of c h = record { firm = h.firm; left = h.left; right = h.right }
+
+-- and class 0 is not selected
+pub record IsClear (c : Course) : Type 0 where
+  pub sure : IsFirm c
+  pub two : c.class ≡ Some Zero → ⊥
+
+pub clear_of : (c : Course) → IsPlain c → IsClear c
+clear_of c h = record { sure = firm_of c h; two = h.two }
 
 -- the reference of the connection that a unit of the other side refuses or closes
 abbrev pub closed_by : Value → Option ℕ
