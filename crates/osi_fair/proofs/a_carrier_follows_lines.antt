@@ -365,7 +365,7 @@ put_is unit s r two lasts e =
 
 pub follows_open : (unit : Value) (s : State) (r peer : ℕ) (link : Standing) → RiseFrom 0 s.live → s.class ≡ Some Two → s.ended ≡ None →
     value_at r s.live ≡ Some (linked peer link) → destination_of unit ≡ Some r →
-        Follows r peer (unit ∷ []) (put_for unit s) s (react unit s)
+    Follows r peer (unit ∷ []) (put_for unit s) s (react unit s)
 follows_open unit s r peer link rise two lasts here e =
     let after = react_is unit s r two lasts e ∙ ap (λ (o : Option Connection). to_connection r o unit s) here in
     let puts = put_is unit s r two lasts e ∙ ap (λ (o : Option Connection). put_at r o unit s.class) here in

@@ -463,7 +463,7 @@ holds_taking w unit later e h n = record {
   lively = λ plain lasts.
       taking w unit later e (h.offers (clear_of w.tap.course plain))
       (subst (AllByRecursion SelectsTwo) e (h.selects (clear_of w.tap.course plain))).0 lasts
-          (h.lively plain (lasted unit w.end (is_some w.end.ended) refl lasts));
+      (h.lively plain (lasted unit w.end (is_some w.end.ended) refl lasts));
 }
 
 holds_calling : (w : Whole) (call : UserCall) → Holds w → Newer (after_calling w call) → Holds (after_calling w call)
@@ -529,7 +529,7 @@ next_holds (passes_other v) w new (ranges, is) h =
           let before = before_passing (passing Right v) w.tap plain in
           let l = h.lively before lasts in
           came w v h.newer l (what_came
-              (Held w.end w.coming) w.tap h.sane l.tap before.firm before.strays before.left v before.right plain);
+          (Held w.end w.coming) w.tap h.sane l.tap before.firm before.strays before.left v before.right plain);
     })
 next_holds passes_rubbish w new is h =
     let after = record w { tap = passes (rubbish Right) w.tap } in

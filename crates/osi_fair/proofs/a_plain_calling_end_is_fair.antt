@@ -95,7 +95,7 @@ module _ (local : Local) (w : Whole) (j : Joined local w) where
       Followed local (record w { end = user_does call w.end; put = w.put ++ put_by call w.end })
   calling call may firm =
       whole_calls local w (j.followed firm) j.kept.sane firm.sure.firm (j.kept.offers firm) j.orderly
-          (j.local_is firm) call may j.staged.newer
+      (j.local_is firm) call may j.staged.newer
 
   all_judged : IsClear w.tap.course → HoldsOfEach (λ (c : Connection). c.is_judged ≡ true) w.tap.connections
   all_judged firm i c at = j.kept.sane.judged firm.sure.firm i c at
@@ -122,7 +122,7 @@ module _ (local : Local) (w : Whole) (j : Joined local w) where
       let loose_after = subst (λ (u : Value). (takes Left u w.tap).state.course.loose ≡ false) is firm_after.sure.firm in
       subst (λ (u : Value). Followed local (record w { put = rest; begun = false; tap = (takes Left u w.tap).state })) (sym is)
       (dc_goes local w f j.kept.sane firm.sure.firm m source rest
-          (e ∙ ap (λ (u : Value). u ∷ rest) is) begun firm.sure.left sane_after loose_after
+      (e ∙ ap (λ (u : Value). u ∷ rest) is) begun firm.sure.left sane_after loose_after
       (dc_passing m source strays firm))
 
   other_by : (v : Value) → HasFieldsInRange v → IsClear (takes Right v w.tap).state.course → (f : Followed local w) → IsClear w.tap.course →

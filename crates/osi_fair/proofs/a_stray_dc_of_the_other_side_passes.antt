@@ -78,10 +78,16 @@ module _ (local : Local) (w : Whole) (f : Followed local w) (sane : IsSane w.tap
         line = line;
         left = g.left;
         right = g.right;
-        tracks = tracks_on g.r g.peer g.line line (passes_other w.tap.course false v ∷ []) g.tracks
-            (line, (ranges, named_is (destination_of v) g.r named, not_all (finding_of Right w.tap.course false g.line.tap v) is,
-            ap (λ (x : Finding). record g.line { tap = after_finding Right x v g.line.tap; coming = g.line.coming ++ v ∷ [] }) (sym is)),
-            refl);
+        tracks = tracks_on g.r g.peer g.line line (passes_other w.tap.course false v ∷ []) g.tracks (
+          line,
+          (
+            ranges,
+            named_is (destination_of v) g.r named,
+            not_all (finding_of Right w.tap.course false g.line.tap v) is,
+            ap (λ (x : Finding). record g.line { tap = after_finding Right x v g.line.tap; coming = g.line.coming ++ v ∷ [] }) (sym is),
+          ),
+          refl,
+        );
         tap = g.tap;
         spare = g.spare;
         put_is = g.put_is;

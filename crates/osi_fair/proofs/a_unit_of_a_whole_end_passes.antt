@@ -553,7 +553,7 @@ module _ (local : Local) (w : Whole) (f : Followed local w) (sane : IsSane w.tap
           let held = tracks_hold g.r g.peer line_after tracks_after line_judged in
           tracked_if (ap (λ (x : Connection). is_open x.left.phase) (sym tap_after)
           ∙ put_open g.r g.peer held.limit held.tally line_after.tap.left line_after.tap.right line_after.put line_after.link link
-              held.puts h)
+          held.puts h)
 
       row_open : w.end.ended ≡ None → (o : Option Live) → value_at g.r w.end.live ≡ o → is_held o ≡ true →
           Row local w.end w.coming g.r g.peer g.line →
@@ -634,7 +634,7 @@ module _ (local : Local) (w : Whole) (f : Followed local w) (sane : IsSane w.tap
 
       line_at : (i : ℕ) (x : Connection) → is_tracked x ≡ true →
           ((i ≡ p) × (x ≡ next)) ⊎ ((i ≡ p → ⊥) × (slice_get cs i ≡ Some x)) →
-              Following local rest false after.tap.course.strays w.end w.coming x
+          Following local rest false after.tap.course.strays w.end w.coming x
       line_at i x is_there (inl (same, is)) =
           subst (λ (y : Connection). Following local rest false after.tap.course.strays w.end w.coming y) (sym is) line_next
       line_at i x is_there (inr (other, there)) = line_other i x other there is_there
@@ -716,7 +716,7 @@ module _ (local : Local) (w : Whole) (f : Followed local w) (sane : IsSane w.tap
           (lasts_passing (passing Left u) w.tap).seen (f.two c.left.reference (p, c, at, tracked, refl)) seen
       seen_at i x is_there known (inr (other, there)) =
           (lasts_passing (passing Left u) w.tap).seen (f.two x.left.reference (i, x, there, is_there, refl))
-              (f.seen i x there is_there known)
+          (f.seen i x there is_there known)
 
       not_waiting : (i : ℕ) (x : Connection) → is_waiting x ≡ true →
           ((i ≡ p) × (x ≡ next)) ⊎ ((i ≡ p → ⊥) × (slice_get cs i ≡ Some x)) → slice_get cs i ≡ Some x
@@ -754,7 +754,7 @@ module _ (local : Local) (w : Whole) (f : Followed local w) (sane : IsSane w.tap
                 (tracked_next r t (λ is. held_at lasts r (Some (linked peer link)) h refl is), two);
             answers = all_so (λ v. IsAnswer cs w.end v) (λ v. IsAnswer (takes Left u w.tap).state.connections w.end v) w.coming
                 (λ v h m y k lasts. let (t, row) = h m y k
-                    lasts in (tracked_next m t (λ is. held_at lasts m (Some asked) row refl is), row))
+                lasts in (tracked_next m t (λ is. held_at lasts m (Some asked) row refl is), row))
                 f.answers;
             requests = requests;
             two = λ r t.

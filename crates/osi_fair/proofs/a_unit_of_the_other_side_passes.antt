@@ -459,7 +459,7 @@ module _ (local : Local) (w : Whole) (f : Followed local w) (sane : IsSane w.tap
   opens_so m x e right_so two unused waiting not_tracked k =
       let (applied, nothing) = fine_reach (class_for Right w.tap.course) found_so right_so in
       let none_use : list_any (λ (y : Connection). uses Right x.source y) cs ≡ false =
-          sym (ap (λ (u : Value). uses_source Right cs u) e) ∙ unused in
+      sym (ap (λ (u : Value). uses_source Right cs u) e) ∙ unused in
       let r_is : k.r ≡ t.n = sym (ap (λ (h : Half). h.reference) k.left) ∙ name_is in
       let named_r = named_so k.r v (t.dest ∙ ap (λ (i : ℕ). Some i) (sym r_is)) in
       let others = all_two (λ u. IsOwned w.tap u) (λ u. AreSettled cs w.put w.end.given u) (λ u. is_ours k.r x.source u ≡ false) w.put
@@ -590,7 +590,7 @@ module _ (local : Local) (w : Whole) (f : Followed local w) (sane : IsSane w.tap
       waiting_other local w.end w.coming x v g (unlike_r i x g.r other there (ap (λ (h : Half). h.reference) g.left))
   waits_at i x waiting (quiet a still dc) (inl (same, is)) =
       waiting_dc local w.end w.coming x v dc
-          (f.waiting i x (was_waiting i x (waits_silent x waiting) (quiet a still dc) (inl (same, is))) waiting)
+      (f.waiting i x (was_waiting i x (waits_silent x waiting) (quiet a still dc) (inl (same, is))) waiting)
   waits_at i x waiting (goes_on a b right none line) (inl (same, is)) =
       not_quiet x waiting (there_not_silent nxt.right.phase (right_there nxt b)) is
   waits_at i x waiting (opened a before b line row class) (inl (same, is)) =
@@ -725,7 +725,7 @@ module _ (local : Local) (w : Whole) (f : Followed local w) (sane : IsSane w.tap
         (λ u h m x e lasts. let (k, row) = h m x e lasts in (tracked_to m k, row)) f.answers) (answers_to next_so);
     requests = all_two (λ u. (x : Connect) → u ≡ request x → IsAsking local w.end w.coming x)
         (λ u. (x : Connect) → u ≡ request x → newer.last < x.source)
-            (λ u. (x : Connect) → u ≡ request x → IsAsking local w.end more x) w.put
+        (λ u. (x : Connect) → u ≡ request x → IsAsking local w.end more x) w.put
         new_request f.requests (rise_all newer.last w.put newer.rise);
     two = λ r k.
         let (i, x, there, tracked, is) = k in class_from r i x tracked is next_so (item i x there);

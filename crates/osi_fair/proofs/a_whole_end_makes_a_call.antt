@@ -93,13 +93,13 @@ module _ (local : Local) (w : Whole) (f : Followed local w) (sane : IsSane w.tap
   grows : (p : ℕ) (c : Connection) → slice_get cs p ≡ Some c → (g : Following local w.put w.begun w.tap.course.strays w.end w.coming c) →
       g.r ≡ n →
       (l : Standing) → value_at g.r w.end.live ≡ Some (linked g.peer l) → g.line.link ≡ Some l → those g.r w.coming ≡ g.line.coming →
-          Grown c
+      Grown c
   grows p c at g same l r is come_all =
       let acts = follows g.r g.peer l same r in
       let same_peer = same_linked g.peer peer l link (sym r ∙ ap (λ (i : ℕ). value_at i w.end.live) same ∙ here) in
       let line : Line = record g.line { link = link_now (value_at g.r t.live); put = g.line.put ++ units } in
       let tracks = tracks_on g.r g.peer g.line line acts.acts g.tracks
-          (acts.along Left g.line g.line.coming (is ∙ sym (ap link_now r)) refl) in
+      (acts.along Left g.line g.line.coming (is ∙ sym (ap link_now r)) refl) in
       let judged = ap (λ (x : Connection). x.is_judged) g.tap ∙ sane.judged firm p c at in
       let own = last_ours g.r g.peer g.line.put units (line_ours g.r g.peer line (tracks_hold g.r g.peer line tracks judged)) in
       let none = spare_none g.spare g.line.link l g.gone is in
@@ -165,7 +165,7 @@ module _ (local : Local) (w : Whole) (f : Followed local w) (sane : IsSane w.tap
 
   line_other : (p : ℕ) (c : Connection) → slice_get cs p ≡ Some c → is_tracked c ≡ true →
       (g : Following local w.put w.begun w.tap.course.strays w.end w.coming c) → (g.r ≡ n → ⊥) →
-          Following local (w.put ++ units) w.begun w.tap.course.strays t w.coming c
+      Following local (w.put ++ units) w.begun w.tap.course.strays t w.coming c
   line_other p c at tracked g other = record {
     r = g.r;
     peer = g.peer;
@@ -241,7 +241,7 @@ module _ (local : Local) (w : Whole) (f : Followed local w) (sane : IsSane w.tap
         (all_so (λ v. (x : Connect) → v ≡ request x → IsAsking local w.end w.coming x) (λ v. (x : Connect) → v ≡ request x →
         IsAsking local t w.coming x) w.put
         (λ v h x e. let k = h x e in record
-            { left = k.left; class0 = k.class0; early = k.early; row = λ lasts. asked_still x.source (k.row was) })
+        { left = k.left; class0 = k.class0; early = k.early; row = λ lasts. asked_still x.source (k.row was) })
         f.requests)
         (units_ask w.tap w.end n units (λ x. IsAsking local t w.coming x) puts);
     two = f.two;
@@ -397,8 +397,16 @@ module _ (local : Local) (w : Whole) (f : Followed local w) (sane : IsSane w.tap
     lines = λ i c at tracked. line_c i c at (f.lines i c at tracked);
     waiting = λ i c at waits.
         let k = f.waiting i c at waits in
-        record { r = k.r; left = k.left; right = k.right; seen = k.seen; class0 = k.class0; early = k.early; row = λ lasts. asked_c k.r
-            (k.row was) };
+        record {
+          r = k.r;
+          left = k.left;
+          right = k.right;
+          seen = k.seen;
+          class0 = k.class0;
+          early = k.early;
+          row = λ lasts. asked_c k.r
+              (k.row was);
+        };
     owned = all_join (λ v. IsOwned w.tap v) w.put (request x ∷ []) f.owned (asking x refl, tt);
     linked = λ lasts m q l h. linked_c m q l (m == r) refl h;
     answers = all_so (λ v. IsAnswer w.tap.connections s v) (λ v. IsAnswer w.tap.connections t v) w.coming
@@ -407,7 +415,7 @@ module _ (local : Local) (w : Whole) (f : Followed local w) (sane : IsSane w.tap
         (all_so (λ v. (y : Connect) → v ≡ request y → IsAsking local s w.coming y) (λ v. (y : Connect) → v ≡ request y →
         IsAsking local t w.coming y) w.put
         (λ v h y e. let k = h y e in record
-            { left = k.left; class0 = k.class0; early = k.early; row = λ lasts. asked_c y.source (k.row was) })
+        { left = k.left; class0 = k.class0; early = k.early; row = λ lasts. asked_c y.source (k.row was) })
         f.requests)
         (new_asking, tt);
     two = f.two;
@@ -418,7 +426,7 @@ module _ (local : Local) (w : Whole) (f : Followed local w) (sane : IsSane w.tap
     seen = f.seen;
     settled = all_join (AreSettled w.tap.connections (w.put ++ request x ∷ []) t.given) w.put (request x ∷ [])
         (all_so (AreSettled w.tap.connections w.put s.given)
-            (AreSettled w.tap.connections (w.put ++ request x ∷ []) t.given) w.put settled_c
+        (AreSettled w.tap.connections (w.put ++ request x ∷ []) t.given) w.put settled_c
         f.settled)
         (λ m source e. absurd (cc e), tt);
   }

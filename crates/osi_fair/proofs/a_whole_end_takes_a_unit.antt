@@ -432,8 +432,7 @@ module _ (local : Local) (w : Whole) (f : Followed local w) (sane : IsSane w.tap
       is_ours r peer (disconnected m n) ≡ b → (more : List Value) × ((ours r peer (w.put ++ units) ≡ ours r peer w.put ++ more)
       × AllByRecursion (IsSpare strays r peer) more)
   dc_by m is stray_now r peer same true h =
-      let named = (ours_is r peer (disconnected m n) h).named in
-      (
+      let named = (ours_is r peer (disconnected m n) h).named in (
         disconnected m n ∷ [],
         (
           ap (λ (l : List Value). ours r peer (w.put ++ l)) is ∙ one_more (is_ours r peer) w.put (disconnected m n) h,
@@ -488,7 +487,7 @@ module _ (local : Local) (w : Whole) (f : Followed local w) (sane : IsSane w.tap
   by_closing q here none (stays same) =
       let there = ap (λ (x : State). value_at n x.live) same ∙ here in
       all (λ p c at tracked g is. closed_row (no_spares none) (Some (closing q)) (Some (closing q)) here q (inl refl) there q
-          (inl refl) c g is g.row)
+      (inl refl) c g is g.row)
       (λ peer link h. absurd (cc (sym there ∙ h))) (nothing none)
   by_closing q here none (drops there) =
       all (λ p c at tracked g is. closed_row (no_spares none) (Some (closing q)) None here q (inl refl) there 0 (inr refl) c g is g.row)
@@ -663,7 +662,7 @@ module _ (local : Local) (w : Whole) (f : Followed local w) (sane : IsSane w.tap
 
   grown_by : (peer : ℕ) (link : Standing) → value_at n s.live ≡ Some (linked peer link) → s.class ≡ Some Two → (p : ℕ) (c : Connection) →
       slice_get cs p ≡ Some c → (g : Following local w.put w.begun strays s w.coming c) → g.r ≡ n →
-          Row local s w.coming g.r g.peer g.line → Grown c
+      Row local s w.coming g.r g.peer g.line → Grown c
   grown_by peer link here two p c at g same (over h) = differ (is_some s.ended) h (ap is_some was)
   grown_by peer link here two p c at g same (talks l r is come_all) = grows peer link here two p c at g same l r is come_all
   grown_by peer link here two p c at g same (asks r x source early dcs first is) =
@@ -692,7 +691,7 @@ module _ (local : Local) (w : Whole) (f : Followed local w) (sane : IsSane w.tap
 pub end_takes : (local : Local) (w : Whole) → Followed local w → IsSane w.tap → w.tap.course.loose ≡ false → OffersTwo w.end →
     IsOrderly w.end → w.end.local ≡ local → w.end.ended ≡ None → (u : Value) (later : List Value) → w.coming ≡ u ∷ later →
     (react u w.end).ended ≡ None → (IsDr u → (m : ℕ) → closed_by u ≡ Some m → IsLive w.end m ⊎ (w.tap.course.strays ≡ true)) →
-        SelectsTwo u →
+    SelectsTwo u →
     Followed local (record w { end = react u w.end; put = w.put ++ put_for u w.end; coming = later })
 end_takes local w f sane firm offers orderly local_is was u later come lasts live_dr selects =
     let k = named_by u w.end offers was offers.class lasts in

@@ -81,7 +81,7 @@ module _ (local : Local) (w : Whole) (f : Followed local w) (sane : IsSane w.tap
         two_not_zero (takes Right v s).state.course.class
         (class_is ∙ ap (λ (b : Bool). (course_after Right t.c v b s.course).class) (fine_applied (found_on Right s t.c v) fine)
         ∙ ap (λ (u : Value). (course_after Right t.c u true s.course).class) is ∙ ap (λ (b : Bool). Some (if b then Two else Zero)) two)
-            zero
+        zero
     by_answer m x e (refused h no_cc) zero = no_cc m x e
     by_answer m x e (waits_on dc same) zero = cc (sym (ap is_dc e) ∙ dc)
 

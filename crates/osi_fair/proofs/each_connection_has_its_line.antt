@@ -322,7 +322,6 @@ pub all_so : (P Q : Value → Type 0) (vs : List Value) → ((v : Value) → P v
 all_so P Q [] h a = tt
 all_so P Q (v ∷ vs) h (one, more) = (h v one, all_so P Q vs h more)
 
-
 -- the reference of a DC that is to pass is settled as before
 settled_at : (d : Direction) (cs : List Connection) (all : List Value) (given : ℕ) (v : Value) → AreSettled cs all given v →
     AreSettled (map (begins d) cs) all given v

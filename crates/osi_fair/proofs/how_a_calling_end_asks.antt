@@ -227,25 +227,25 @@ zero_unit : (unit : Value) (s : State) → InZero s → Rests (in_zero true unit
 zero_unit (request c) s z = over refl
 zero_unit (confirm destination c) s z =
     subst (λ (rows : Rows Connection). Rests (to_only rows (confirm destination c) s)) (sym z.live)
-        (zero_linked z.r z.peer z.link (confirm destination c) s z)
+    (zero_linked z.r z.peer z.link (confirm destination c) s z)
 zero_unit (disconnect destination source reason user) s z =
     subst (λ (rows : Rows Connection). Rests (to_only rows (disconnect destination source reason user) s)) (sym z.live)
-        (zero_linked z.r z.peer z.link (disconnect destination source reason user) s z)
+    (zero_linked z.r z.peer z.link (disconnect destination source reason user) s z)
 zero_unit (disconnected destination source) s z =
     subst (λ (rows : Rows Connection). Rests (to_only rows (disconnected destination source) s)) (sym z.live)
-        (zero_linked z.r z.peer z.link (disconnected destination source) s z)
+    (zero_linked z.r z.peer z.link (disconnected destination source) s z)
 zero_unit (data0 end user) s z =
     subst (λ (rows : Rows Connection). Rests (to_only rows (data0 end user) s)) (sym z.live)
-        (zero_linked z.r z.peer z.link (data0 end user) s z)
+    (zero_linked z.r z.peer z.link (data0 end user) s z)
 zero_unit (data2 destination number end user) s z =
     subst (λ (rows : Rows Connection). Rests (to_only rows (data2 destination number end user) s)) (sym z.live)
-        (zero_linked z.r z.peer z.link (data2 destination number end user) s z)
+    (zero_linked z.r z.peer z.link (data2 destination number end user) s z)
 zero_unit (acknowledge credit destination number) s z =
     subst (λ (rows : Rows Connection). Rests (to_only rows (acknowledge credit destination number) s)) (sym z.live)
-        (zero_linked z.r z.peer z.link (acknowledge credit destination number) s z)
+    (zero_linked z.r z.peer z.link (acknowledge credit destination number) s z)
 zero_unit (error destination cause) s z =
     subst (λ (rows : Rows Connection). Rests (to_only rows (error destination cause) s)) (sym z.live)
-        (zero_linked z.r z.peer z.link (error destination cause) s z)
+    (zero_linked z.r z.peer z.link (error destination cause) s z)
 
 zero_by : (b : Bool) (unit : Value) (s : State) → InZero s → is_some s.ended ≡ b → Rests (react_by b unit s)
 zero_by true unit s z e = over e
@@ -302,7 +302,7 @@ ended_over false reason s h = refl
 sends_none : (r : ℕ) (tsdu : List ℕ) (s : State) → NoneOpen s → Idle (sends r tsdu) s
 sends_none r tsdu s none =
     same (ap (λ (o : Option (ℕ × Standing)). sent_on r tsdu o s) (none r))
-        (ap (λ (o : Option (ℕ × Standing)). put_sent tsdu o) (none r)) refl
+    (ap (λ (o : Option (ℕ × Standing)). put_sent tsdu o) (none r)) refl
 
 all_sends_none : (r : ℕ) (tsdus : List (List ℕ)) (s : State) → NoneOpen s → Idle (sends_all r tsdus) s
 all_sends_none r tsdus s none = let (a, b) = all_none r tsdus s none in same a b refl

@@ -211,7 +211,7 @@ breaks_by : (unit : Value) (r peer : ℕ) (fault : LinkFault) (k : Option Class)
 breaks_by unit r peer fault None s o e = after_end unit s (breaks_in r peer fault None s) o refl refl refl refl
 breaks_by unit r peer fault (Some Two) s o e =
     after_put unit s (breaks_in r peer fault (Some Two) s) r (closing peer)
-        (stays s (breaks_in r peer fault (Some Two) s) o refl refl refl) refl
+    (stays s (breaks_in r peer fault (Some Two) s) o refl refl refl) refl
     (λ h. h) refl
 breaks_by unit r peer fault (Some Zero) s o e = after_end unit s (breaks_in r peer fault (Some Zero) s) o refl refl refl refl
 
@@ -219,7 +219,7 @@ taking_after : (unit : Value) (r peer : ℕ) (result : Result Standing LinkFault
     After unit s (taking r peer result s)
 taking_after unit r peer (Ok link) s o =
     after_put unit s (taking r peer (Ok link) s) r (linked peer (pumped (handed_out link)))
-        (stays s (taking r peer (Ok link) s) o refl refl refl)
+    (stays s (taking r peer (Ok link) s) o refl refl refl)
     refl (λ h. h) refl
 taking_after unit r peer (Err fault) s o = breaks_by unit r peer fault s.class s o o.class
 
@@ -281,7 +281,7 @@ before_after (confirm destination x) s o two =
     connection_after destination (value_at destination s.live) (confirm destination x) s o two (λ n e. none_number n e)
 before_after (disconnect destination source reason user) s o two =
     connection_after destination (value_at destination s.live) (disconnect destination source reason user) s o two
-        (λ n e. same_number n destination e)
+    (λ n e. same_number n destination e)
 before_after (disconnected destination source) s o two =
     after_end (disconnected destination source) s (before_class true (disconnected destination source) s) o refl refl refl refl
 before_after (data0 end user) s o two = after_end (data0 end user) s (before_class true (data0 end user) s) o refl refl refl refl
@@ -298,10 +298,10 @@ two_after (confirm destination x) s o two =
     connection_after destination (value_at destination s.live) (confirm destination x) s o two (λ n e. none_number n e)
 two_after (disconnect destination source reason user) s o two =
     connection_after destination (value_at destination s.live) (disconnect destination source reason user) s o two
-        (λ n e. same_number n destination e)
+    (λ n e. same_number n destination e)
 two_after (disconnected destination source) s o two =
     connection_after destination (value_at destination s.live) (disconnected destination source) s o two
-        (λ n e. same_number n destination e)
+    (λ n e. same_number n destination e)
 two_after (data0 end user) s o two = after_end (data0 end user) s (in_two true (data0 end user) s) o refl refl refl refl
 two_after (data2 destination number end user) s o two =
     connection_after destination (value_at destination s.live) (data2 destination number end user) s o two (λ n e. none_number n e)

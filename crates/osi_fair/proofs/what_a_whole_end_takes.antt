@@ -354,6 +354,6 @@ module _ (local : Local) (w : Whole) (f : Followed local w) (sane : IsSane w.tap
     settled = all_join (AreSettled cs (w.put ++ units) t.given) w.put units
         (all_so (AreSettled cs w.put w.end.given) (AreSettled cs (w.put ++ units) t.given) w.put
         (settled_more cs w.put units w.end.given t.given (λ r. units_ask w.tap w.end n units (λ x. x.source ≡ r → ⊥) owner) given)
-            f.settled)
+        f.settled)
         (units_settled w.tap w.end (w.put ++ units) t.given n units owner settled_here);
   }

@@ -40,7 +40,7 @@ module _ (r peer limit : ℕ) (x : Tally) (noted : ℕ) (tap : Connection) (o : 
       (h : linked limit x tap.right coming link) → PutsAt r peer limit x tap.left tap.right put (Some link) →
       next link ≡ Some (part2 number end octets, after) →
       Puts (bounds_of r peer limit (record x { sent = x.sent + 1 }) false tap.right)
-          (ends_so (x.sent + 1) after.ends.unsent) x.passed x.shown
+      (ends_so (x.sent + 1) after.ends.unsent) x.passed x.shown
       tap.left.begun (put ++ data2 peer number end octets ∷ [])
   puts_data put coming link after number end octets h p e =
       let (some, is, flow, size, gives) = gives_so link after h.flow (part2 number end octets) h.is e in
@@ -49,7 +49,7 @@ module _ (r peer limit : ℕ) (x : Tally) (noted : ℕ) (tap : Connection) (o : 
       puts_more (bounds_of r peer limit x false tap.right) (bounds_of r peer limit (record x { sent = x.sent + 1 }) false tap.right)
       (ends_so x.sent link.ends.unsent) (ends_so (x.sent + 1) after.ends.unsent) (data2 peer number end octets ∷ [])
       (record { reference = refl; peer = refl; limit = refl; window = refl; sent = omega arith; acked = omega arith; closing = λ k. k })
-          refl
+      refl
       (λ passed shown begun within now.
       let g = gives begun now.1 in
       let short = g.short in
@@ -109,7 +109,7 @@ module _ (r peer limit : ℕ) (x : Tally) (noted : ℕ) (tap : Connection) (o : 
       puts_more (bounds_of r peer limit x false tap.right) (bounds_of r peer limit (record x { acked = x.acked + 1 }) false tap.right)
       (ends_so x.sent link.ends.unsent) (ends_so x.sent after.ends.unsent) (acknowledge credit peer number ∷ [])
       (record { reference = refl; peer = refl; limit = refl; window = refl; sent = omega arith; acked = omega arith; closing = λ k. k })
-          refl
+      refl
       (λ passed shown begun low now. (
         x.acked + 1,
         refl,
@@ -169,7 +169,7 @@ module _ (r peer limit : ℕ) (x : Tally) (noted : ℕ) (tap : Connection) (o : 
     puts_more (bounds_of r peer limit x false tap.right) (bounds_of r peer limit x false tap.right)
         (ends_so x.sent link.ends.unsent) (ends_so x.sent after.ends.unsent) []
         (record { reference = refl; peer = refl; limit = refl; window = refl; sent = omega arith; acked = omega arith; closing = λ k. k })
-            refl
+        refl
         (λ passed shown begun within now. (now.0, room begun now.1)) x.passed x.shown tap.left.begun o.shown_acked put p.0,
     p.1,
   )
@@ -325,7 +325,7 @@ module _ (r peer limit : ℕ) (x : Tally) (noted : ℕ) (tap : Connection) (o : 
     puts_more (bounds_of r peer limit x false tap.right) (bounds_of r peer limit x true tap.right)
         (ends_so x.sent link.ends.unsent) (shut tap.left.phase) (unit ∷ [])
         (record { reference = refl; peer = refl; limit = refl; window = refl; sent = omega arith; acked = omega arith; closing = λ k. k })
-            refl
+        refl
         (λ passed shown begun within now. last passed shown begun) x.passed x.shown tap.left.begun o.shown_acked put p.0,
     open_if (put ++ unit ∷ []) tap.left.phase p.1,
   )

@@ -363,7 +363,7 @@ module _ (s : Traffic) (c : Connection) (judged : c.is_judged ≡ true) (sound :
       same_by (acknowledge credit destination number) (is_applied (finding (acknowledge credit destination number))) refl refl refl h
   open_stays (error destination cause) n e h p =
       broke (error destination cause) rule.WrongForm
-          (is_found (error destination cause) ∙ form_broke (is_silent c.right.phase) [] (not_silent h)) refl p
+      (is_found (error destination cause) ∙ form_broke (is_silent c.right.phase) [] (not_silent h)) refl p
 
   -- a CC is for a connection that waits
   pub cc_waits : (destination : ℕ) (x : Connect) → is_silent c.right.phase ≡ false → IsFirm (course (confirm destination x)) → ⊥
@@ -466,14 +466,14 @@ module _ (s : Traffic) (c : Connection) (judged : c.is_judged ≡ true) (sound :
   answered (data0 end user) n e h z p = absurd (cc e)
   answered (data2 destination number end user) n e h z p =
       broke (data2 destination number end user) rule.UnknownReference
-          (is_found (data2 destination number end user)
-          ∙ open_broke (is_silent c.right.phase) (drop 1 (data2_tests Right c number (length user))) h) refl p
+      (is_found (data2 destination number end user)
+      ∙ open_broke (is_silent c.right.phase) (drop 1 (data2_tests Right c number (length user))) h) refl p
   answered (acknowledge credit destination number) n e h z p =
       broke (acknowledge credit destination number) rule.UnknownReference
-          (is_found (acknowledge credit destination number)
-          ∙ open_broke (is_silent c.right.phase) (drop 1 (acknowledge_tests Right c number credit)) h) refl p
+      (is_found (acknowledge credit destination number)
+      ∙ open_broke (is_silent c.right.phase) (drop 1 (acknowledge_tests Right c number credit)) h) refl p
   answered (error destination cause) n e h z p =
       refused (ap (λ (x : Half). is_refused x.phase)
-          (right_by (error destination cause) true
-          (ap is_applied (is_found (error destination cause) ∙ er_kept (is_silent c.right.phase) h))))
+      (right_by (error destination cause) true
+      (ap is_applied (is_found (error destination cause) ∙ er_kept (is_silent c.right.phase) h))))
       (λ m x k. absurd (cc k))

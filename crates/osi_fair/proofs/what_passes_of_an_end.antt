@@ -136,7 +136,7 @@ module _ (r peer limit : ℕ) (x : Tally) (noted : ℕ) (tap : Connection) (o : 
       PutsAt r peer limit x tap.left tap.right (data2 destination number end user ∷ units) link →
       (x.passed < x.sent) ×
       PutsAt r peer limit (record x { passed = x.passed + 1 })
-          (half_after (data2 destination number end user) tap.left) tap.right units link
+      (half_after (data2 destination number end user) tap.left) tap.right units link
   data_puts None destination number end user units ((a, b, c, d, f, g), live) = (
     c,
     (
@@ -245,7 +245,7 @@ module _ (r peer limit : ℕ) (x : Tally) (noted : ℕ) (tap : Connection) (o : 
   -- a DR or a DC is the last
   last_passes : (mine : Half) (units : List Value) → mine.next ≡ tap.left.next → mine.awaited ≡ tap.left.awaited →
       mine.credit ≡ tap.left.credit → mine.reference ≡ tap.left.reference → is_open mine.phase ≡ false → units ≡ [] →
-          Passed r peer limit x noted units None (record tap { left = mine })
+      Passed r peer limit x noted units None (record tap { left = mine })
   last_passes mine units next awaited credit reference closed none = record {
     passed = x.passed;
     shown = x.shown;

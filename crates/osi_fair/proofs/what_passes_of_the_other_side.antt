@@ -55,14 +55,14 @@ module _ (r peer limit : ℕ) (x : Tally) (noted : ℕ) (tap : Connection) (put 
   puts_later came heard edge later None closing (h, live) = (
     puts_still (bounds_of r peer limit x true tap.right) (bounds_of r peer limit x true later) (shut tap.left.phase)
         (record { reference = refl; peer = refl; limit = refl; window = refl; sent = omega arith; acked = omega arith; closing = closing })
-            refl
+        refl
         x.passed x.shown tap.left.begun put h,
     live,
   )
   puts_later came heard edge later (Some link) closing (h, live) = (
     puts_still (bounds_of r peer limit x false tap.right) (bounds_of r peer limit x false later) (ends_so x.sent link.ends.unsent)
         (record { reference = refl; peer = refl; limit = refl; window = refl; sent = omega arith; acked = omega arith; closing = closing })
-            refl
+        refl
         x.passed x.shown tap.left.begun put h,
     live,
   )

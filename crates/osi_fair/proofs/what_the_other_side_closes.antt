@@ -376,7 +376,7 @@ module _ (L : ℕ → Type 0) (s : State) (q : ℕ) (c : Connection) (at : slice
   one_came (confirm destination x) is h = stays refl (all_lively (confirm destination x) (confirms destination x))
   one_came (disconnect destination source reason user) is h =
       closes_by destination source reason user (is_applied (finding (disconnect destination source reason user))) refl
-          (is destination refl) h
+      (is destination refl) h
   one_came (disconnected destination source) is h =
       answers_by destination source (is destination refl) (dc_found destination source) h
   one_came (data0 end user) is h = stays refl (all_lively (data0 end user) (same_phase (data0 end user) refl))
@@ -449,10 +449,10 @@ module _ (L : ℕ → Type 0) (s : State) (sane : IsSane s) (lively : HoldsOfEac
       at_name (confirm destination x) destination (position (is_named Right destination) s.connections) refl (λ m e. absurd (cc e))
   by_class None (disconnect destination source reason user) =
       at_name (disconnect destination source reason user) destination (position (is_named Right destination) s.connections) refl
-          (λ m e. same_number destination m e)
+      (λ m e. same_number destination m e)
   by_class None (disconnected destination source) =
       at_name (disconnected destination source) destination (position (is_named Right destination) s.connections) refl
-          (λ m e. same_number destination m e)
+      (λ m e. same_number destination m e)
   by_class None (data0 end user) =
       wrong (data0 end user) rule.UnexpectedUnit refl
   by_class None (data2 destination number end user) =
@@ -461,7 +461,7 @@ module _ (L : ℕ → Type 0) (s : State) (sane : IsSane s) (lively : HoldsOfEac
       wrong (acknowledge credit destination number) rule.UnexpectedUnit refl
   by_class None (error destination cause) =
       at_name (error destination cause) destination (position (is_named Right destination) s.connections) refl
-          (λ m e. same_number destination m e)
+      (λ m e. same_number destination m e)
   by_class (Some Zero) (request x) =
       wrong (request x) rule.UnexpectedUnit refl
   by_class (Some Zero) (confirm destination x) =
@@ -470,7 +470,7 @@ module _ (L : ℕ → Type 0) (s : State) (sane : IsSane s) (lively : HoldsOfEac
       wrong (disconnect destination source reason user) rule.WrongForm refl
   by_class (Some Zero) (disconnected destination source) =
       at_name (disconnected destination source) destination (position (is_named Right destination) s.connections) refl
-          (λ m e. same_number destination m e)
+      (λ m e. same_number destination m e)
   by_class (Some Zero) (data0 end user) =
       at_only (data0 end user) (position (is_live Right) s.connections) refl
   by_class (Some Zero) (data2 destination number end user) =
@@ -485,21 +485,21 @@ module _ (L : ℕ → Type 0) (s : State) (sane : IsSane s) (lively : HoldsOfEac
       at_name (confirm destination x) destination (position (is_named Right destination) s.connections) refl (λ m e. absurd (cc e))
   by_class (Some Two) (disconnect destination source reason user) =
       at_name (disconnect destination source reason user) destination (position (is_named Right destination) s.connections) refl
-          (λ m e. same_number destination m e)
+      (λ m e. same_number destination m e)
   by_class (Some Two) (disconnected destination source) =
       at_name (disconnected destination source) destination (position (is_named Right destination) s.connections) refl
-          (λ m e. same_number destination m e)
+      (λ m e. same_number destination m e)
   by_class (Some Two) (data0 end user) =
       wrong (data0 end user) rule.UnexpectedUnit refl
   by_class (Some Two) (data2 destination number end user) =
       at_name (data2 destination number end user) destination (position (is_named Right destination) s.connections) refl
-          (λ m e. absurd (cc e))
+      (λ m e. absurd (cc e))
   by_class (Some Two) (acknowledge credit destination number) =
       at_name (acknowledge credit destination number) destination (position (is_named Right destination) s.connections) refl
-          (λ m e. absurd (cc e))
+      (λ m e. absurd (cc e))
   by_class (Some Two) (error destination cause) =
       at_name (error destination cause) destination (position (is_named Right destination) s.connections) refl
-          (λ m e. same_number destination m e)
+      (λ m e. same_number destination m e)
 
   pub what_came : (v : Value) → s.course.right_stopped ≡ false → IsPlain (takes Right v s).state.course → Came L v s (takes Right v s).state
   what_came v judged =

@@ -168,19 +168,19 @@ module _ (cs : List Connection) (strays : Bool) where
   done_takes (request c) done h = absurd (cc)
   done_takes (confirm destination c) done h =
       at_none (confirm destination c) (position (is_named Right destination) cs)
-          (none_by cs destination (position (is_named Right destination) cs) refl done) h
+      (none_by cs destination (position (is_named Right destination) cs) refl done) h
   done_takes (disconnect destination source reason user) done h =
       at_none (disconnect destination source reason user) (position (is_named Right destination) cs)
-          (none_by cs destination (position (is_named Right destination) cs) refl done) h
+      (none_by cs destination (position (is_named Right destination) cs) refl done) h
   done_takes (disconnected destination source) done h =
       at_none (disconnected destination source) (position (is_named Right destination) cs)
-          (none_by cs destination (position (is_named Right destination) cs) refl done) h
+      (none_by cs destination (position (is_named Right destination) cs) refl done) h
   done_takes (data0 end user) done h = absurd (cc)
   done_takes (data2 destination number end user) done h = absurd (cc)
   done_takes (acknowledge credit destination number) done h = absurd (cc)
   done_takes (error destination cause) done h =
       at_none (error destination cause) (position (is_named Right destination) cs)
-          (none_by cs destination (position (is_named Right destination) cs) refl done) h
+      (none_by cs destination (position (is_named Right destination) cs) refl done) h
 
 -- ---- one waits for an answer
 
@@ -367,7 +367,7 @@ module _ (r p : ℕ) (cs : List Connection) (strays : Bool) (w : Waits r p cs) w
 
   to_error : (destination cause : ℕ) → destination ≡ r →
       Answer r p cs strays (error destination cause)
-          (by_finding p c cs strays (error destination cause) (finding (error destination cause)))
+      (by_finding p c cs strays (error destination cause) (finding (error destination cause)))
   to_error destination cause e =
       let v = error destination cause in
       refusing v e (finding v)
@@ -422,10 +422,10 @@ module _ (r p : ℕ) (cs : List Connection) (strays : Bool) (w : Waits r p cs) w
       at_named (confirm destination x) destination (position (is_named Right destination) cs) refl (λ e. to_confirm destination x) h
   waits_takes (disconnect destination source reason user) h =
       at_named (disconnect destination source reason user) destination (position (is_named Right destination) cs) refl
-          (λ e h. to_disconnect destination source reason user e) h
+      (λ e h. to_disconnect destination source reason user e) h
   waits_takes (disconnected destination source) h =
       at_named (disconnected destination source) destination (position (is_named Right destination) cs) refl
-          (λ e. to_dc destination source) h
+      (λ e. to_dc destination source) h
   waits_takes (data0 end user) h = absurd (cc)
   waits_takes (data2 destination number end user) h = absurd (cc)
   waits_takes (acknowledge credit destination number) h = absurd (cc)
