@@ -96,15 +96,17 @@ closes_so mine seen false e h = record {
   silent = λ k. differ (is_silent mine.phase) k e;
 }
 
-answers_so : (mine seen : Half) → (is_open mine.phase && is_closing seen.phase) ≡ true → Effect mine seen (record mine { phase = Closed })
-answers_so mine seen h =
-    let live = and_first (is_open mine.phase) (is_closing seen.phase) h in
+answers_so : (mine seen : Half) (same : Bool) → (is_open mine.phase && (is_closing seen.phase && same)) ≡ true →
+    Effect mine seen (record mine { phase = Closed })
+answers_so mine seen same h =
+    let live = and_first (is_open mine.phase) (is_closing seen.phase && same) h in
+    let answers = and_second (is_open mine.phase) (is_closing seen.phase && same) h in
     record {
       moves = record {
         reference = λ k. refl;
         there = λ k. refl;
         phase = inr (or_last (is_silent mine.phase) (is_open mine.phase) live);
-        closed = λ k. inr (and_second (is_open mine.phase) (is_closing seen.phase) h);
+        closed = λ k. inr (and_first (is_closing seen.phase) same answers);
       };
       silent = λ k. not_both mine.phase k live;
     }
@@ -156,7 +158,8 @@ module _ (course : Course) (in_use : Bool) (c : Connection) where
   left_effect (confirm destination x) h = cc
   left_effect (disconnect destination source reason user) h =
       closes_so c.left c.seen_by_left (is_silent c.left.phase) refl (one_test (is_silent c.left.phase || is_open c.left.phase) h)
-  left_effect (disconnected destination source) h = answers_so c.left c.seen_by_left (due_test (is_due Left c) course.strays h)
+  left_effect (disconnected destination source) h =
+      answers_so c.left c.seen_by_left (source == c.left.reference) (due_test (is_due Left c source) course.strays h)
   left_effect (data0 end user) h = same_phase c.left c.seen_by_left (half_after (data0 end user) c.left) refl refl
   left_effect (data2 destination number end user) h =
       same_phase c.left c.seen_by_left (half_after (data2 destination number end user) c.left) refl refl
@@ -241,7 +244,7 @@ right_sent (disconnect destination source reason user) s c p a at j sound live r
     (closes_so c.right c.seen_by_right (is_silent c.right.phase) refl (one_test (is_silent c.right.phase || is_open c.right.phase) h))
 right_sent (disconnected destination source) s c p a at j sound live r h is =
     right_by s.course false c (disconnected destination source) s.connections p r a at j sound live
-    (answers_so c.right c.seen_by_right (due_test (is_due Right c) s.course.strays h))
+    (answers_so c.right c.seen_by_right (source == c.right.reference) (due_test (is_due Right c source) s.course.strays h))
 right_sent (data0 end user) s c p a at j sound live r h is =
     right_by s.course false c (data0 end user) s.connections p r a at j sound live
     (same_phase c.right c.seen_by_right (half_after (data0 end user) c.right) refl refl)

@@ -16,28 +16,28 @@ open_if : (put : List Value) (phase : Phase) → OpenIfAny put phase → put ≢
 open_if [] phase h some = absurd (some refl)
 open_if (unit ∷ units) phase h some = h
 
-open_at : (peer limit : ℕ) (x : Tally) (mine theirs : Half) (put : List Value) (link : Option Standing) →
-    PutsAt peer limit x mine theirs put link → put ≢ [] → is_open mine.phase ≡ true
-open_at peer limit x mine theirs put None (puts, so) some = open_if put mine.phase so some
-open_at peer limit x mine theirs put (Some link) (puts, so) some = so
+open_at : (r peer limit : ℕ) (x : Tally) (mine theirs : Half) (put : List Value) (link : Option Standing) →
+    PutsAt r peer limit x mine theirs put link → put ≢ [] → is_open mine.phase ≡ true
+open_at r peer limit x mine theirs put None (puts, so) some = open_if put mine.phase so some
+open_at r peer limit x mine theirs put (Some link) (puts, so) some = so
 
-holds_open : (peer : ℕ) (line : Line) → Holds peer line → line.put ≢ [] → is_open line.tap.left.phase ≡ true
-holds_open peer line h some = open_at peer h.limit h.tally line.tap.left line.tap.right line.put line.link h.puts some
+holds_open : (r peer : ℕ) (line : Line) → Holds r peer line → line.put ≢ [] → is_open line.tap.left.phase ≡ true
+holds_open r peer line h some = open_at r peer h.limit h.tally line.tap.left line.tap.right line.put line.link h.puts some
 
 pub left_holds : (r peer : ℕ) (begin line : Line) (acts : List Act) → IsOpened Left r peer begin → ActsAlong Left r peer begin acts line →
-    line.tap.is_judged ≡ true → Holds peer line
+    line.tap.is_judged ≡ true → Holds r peer line
 left_holds r peer begin line acts o along judged = all_keep r peer acts begin line along (λ _. opened_holds r peer begin o) judged
 
 right_holds : (r peer : ℕ) (begin line : Line) (acts : List Act) → IsOpened Right r peer begin → ActsAlong Right r peer begin acts line →
-    line.tap.is_judged ≡ true → Holds peer (turned_line line)
+    line.tap.is_judged ≡ true → Holds r peer (turned_line line)
 right_holds r peer begin line acts o along judged =
     all_turned r peer acts begin line along (λ _. opened_holds r peer (turned_line begin) (opened_turned r peer begin o)) judged
 
 pub waits_open : (d : Direction) (r peer : ℕ) (begin line : Line) (acts : List Act) → IsOpened d r peer begin →
     ActsAlong d r peer begin acts line → line.tap.is_judged ≡ true → line.put ≢ [] → is_open (own d line.tap).phase ≡ true
-waits_open Left r peer begin line acts o along judged some = holds_open peer line (left_holds r peer begin line acts o along judged) some
+waits_open Left r peer begin line acts o along judged some = holds_open r peer line (left_holds r peer begin line acts o along judged) some
 waits_open Right r peer begin line acts o along judged some =
-    holds_open peer (turned_line line) (right_holds r peer begin line acts o along judged) some
+    holds_open r peer (turned_line line) (right_holds r peer begin line acts o along judged) some
 
 pub peer_keeps : (d : Direction) (r peer : ℕ) (begin line : Line) (acts : List Act) → IsOpened d r peer begin →
     ActsAlong d r peer begin acts line → line.tap.is_judged ≡ true → (theirs d line.tap).reference ≡ peer

@@ -65,13 +65,13 @@ was_judged d f v c h = judged_before d v (is_applied f) (reach_of (Some Two) f) 
 
 -- ---- at left
 
-abbrev pub Keeps : ℕ → Line → Type 0
-Keeps peer line = line.tap.is_judged ≡ true → Holds peer line
+abbrev pub Keeps : (r peer : ℕ) → Line → Type 0
+Keeps r peer line = line.tap.is_judged ≡ true → Holds r peer line
 
 same_tap : (old new line : Line) → new ≡ line → line.tap ≡ old.tap → new.tap.is_judged ≡ true → old.tap.is_judged ≡ true
 same_tap old new line e same judged = sym (ap (λ (l : Line). l.tap.is_judged) e ∙ ap (λ (c : Connection). c.is_judged) same) ∙ judged
 
-act_keeps : (r peer : ℕ) (act : Act) (old new : Line) → Acts Left r peer act old new → Keeps peer old → Keeps peer new
+act_keeps : (r peer : ℕ) (act : Act) (old new : Line) → Acts Left r peer act old new → Keeps r peer old → Keeps r peer new
 act_keeps r peer (moves move) old new (link, after, is, e, short, coming, new_is) h judged =
     moves_hold r peer move old new (link, after, is, e, short, coming, new_is)
     (h (sym (ap (λ (l : Line). l.tap.is_judged) new_is) ∙ judged))
@@ -96,8 +96,8 @@ act_keeps r peer (passes_other course in_use unit) old new (range, named, some, 
     let was = was_judged Right (finding_of Right course in_use old.tap unit) unit old.tap still in
     passes_other_holds r peer course in_use unit old new (range, named, some, new_is) was judged (h was)
 
-pub all_keep : (r peer : ℕ) (acts : List Act) (old new : Line) → ActsAlong Left r peer old acts new → Keeps peer old → Keeps peer new
-all_keep r peer [] old new e h = subst (λ (l : Line). Keeps peer l) (sym e) h
+pub all_keep : (r peer : ℕ) (acts : List Act) (old new : Line) → ActsAlong Left r peer old acts new → Keeps r peer old → Keeps r peer new
+all_keep r peer [] old new e h = subst (λ (l : Line). Keeps r peer l) (sym e) h
 all_keep r peer (act ∷ acts) old new (mid, a, more) h = all_keep r peer acts mid new more (act_keeps r peer act old mid a h)
 
 -- ---- as it begins
@@ -106,7 +106,7 @@ fits_most : (o : Option ℕ) (size : ℕ) → 5 ≤ size → IfSome o (λ most. 
 fits_most None size h k = tt
 fits_most (Some most) size h k = omega arith
 
-pub opened_holds : (r peer : ℕ) (line : Line) → IsOpened Left r peer line → Holds peer line
+pub opened_holds : (r peer : ℕ) (line : Line) → IsOpened Left r peer line → Holds r peer line
 opened_holds r peer line o =
     let two = fresh_two o.size o.window o.credit in
     let begun_link = two_standing two.ends two.flow in
@@ -137,12 +137,13 @@ opened_holds r peer line o =
         their_awaited = ap (λ (h : Half). h.awaited) o.came;
         their_edge = omega arith;
         known_next = o.noted;
+        own_reference = ap (λ (h : Half). h.reference) o.sent;
         reference = ap (λ (h : Half). h.reference) o.came;
         there = ap (λ (h : Half). is_there h.phase) o.came;
         fits = fits_most line.tap.size o.size o.least o.most;
       };
-      puts = subst (λ (l : Option Standing). PutsAt peer (o.size - 5) x line.tap.left line.tap.right line.put l) (sym o.link)
-          (subst (λ (l : List Value). PutsAt peer (o.size - 5) x line.tap.left line.tap.right l (Some begun_link)) (sym o.put)
+      puts = subst (λ (l : Option Standing). PutsAt r peer (o.size - 5) x line.tap.left line.tap.right line.put l) (sym o.link)
+          (subst (λ (l : List Value). PutsAt r peer (o.size - 5) x line.tap.left line.tap.right l (Some begun_link)) (sym o.put)
           ((refl, ap (λ (h : Half). h.begun) o.sent), live));
       takes = subst (λ (l : Option Standing). TakesAt (o.size - 5) x line.tap.right line.coming l) (sym o.link)
           (subst (λ (l : List Value). TakesAt (o.size - 5) x line.tap.right l (Some begun_link)) (sym o.coming)
@@ -241,7 +242,7 @@ found_other course in_use c (acknowledge credit destination number) = inl refl
 found_other course in_use c (error destination cause) = inl refl
 
 own_turned : (r peer : ℕ) (course : Course) (in_use : Bool) (old new : Line) → Acts Right r peer (passes_own course in_use) old new →
-    old.tap.is_judged ≡ true → Holds peer (turned_line old) →
+    old.tap.is_judged ≡ true → Holds r peer (turned_line old) →
     Acts Left r peer (passes_own course in_use) (turned_line old) (turned_line new)
 own_turned r peer course in_use old new (unit, first, begun, new_is) was h =
     let right = first_is (turned old.tap) old.put new.put unit first (h.under_way begun) in
@@ -282,9 +283,9 @@ not_judged : (c : Connection) (unit : Value) (f : Finding) → f ≡ Broke rule.
 not_judged c unit f e = ap (λ (g : Finding). (after_finding Left g unit c).is_judged) e
 
 other_keeps : (r peer : ℕ) (course : Course) (in_use : Bool) (unit : Value) (old new : Line) →
-    Acts Right r peer (passes_other course in_use unit) old new → Keeps peer (turned_line old) →
+    Acts Right r peer (passes_other course in_use unit) old new → Keeps r peer (turned_line old) →
     (found Left course in_use old.tap unit ≡ found Right course in_use (turned old.tap) unit)
-    ⊎ (found Left course in_use old.tap unit ≡ Broke rule.WrongForm) → Keeps peer (turned_line new)
+    ⊎ (found Left course in_use old.tap unit ≡ Broke rule.WrongForm) → Keeps r peer (turned_line new)
 other_keeps r peer course in_use unit old new a h (inl e) judged =
     act_keeps r peer (passes_other course in_use unit) (turned_line old) (turned_line new)
     (other_turned r peer course in_use unit old new a e) h judged
@@ -296,8 +297,8 @@ other_keeps r peer course in_use unit old new (range, named, some, new_is) h (in
     let no = not_judged old.tap unit (finding_of Left course in_use old.tap unit) wrong in
     absurd (cc)
 
-act_turned : (r peer : ℕ) (act : Act) (old new : Line) → Acts Right r peer act old new → Keeps peer (turned_line old) →
-    Keeps peer (turned_line new)
+act_turned : (r peer : ℕ) (act : Act) (old new : Line) → Acts Right r peer act old new → Keeps r peer (turned_line old) →
+    Keeps r peer (turned_line new)
 act_turned r peer (moves move) old new (link, after, is, e, short, coming, new_is) h judged =
     act_keeps r peer (moves move) (turned_line old) (turned_line new) (link, after, is, e, short, coming, ap turned_line new_is) h judged
 act_turned r peer (closes reason units) old new (link, is, coming, new_is) h judged =
@@ -320,9 +321,9 @@ act_turned r peer begins_other old new new_is h judged =
 act_turned r peer (passes_other course in_use unit) old new a h judged =
     other_keeps r peer course in_use unit old new a h (found_other course in_use old.tap unit) judged
 
-pub all_turned : (r peer : ℕ) (acts : List Act) (old new : Line) → ActsAlong Right r peer old acts new → Keeps peer (turned_line old) →
-    Keeps peer (turned_line new)
-all_turned r peer [] old new e h = subst (λ (l : Line). Keeps peer l) (sym (ap turned_line e)) h
+pub all_turned : (r peer : ℕ) (acts : List Act) (old new : Line) → ActsAlong Right r peer old acts new → Keeps r peer (turned_line old) →
+    Keeps r peer (turned_line new)
+all_turned r peer [] old new e h = subst (λ (l : Line). Keeps r peer l) (sym (ap turned_line e)) h
 all_turned r peer (act ∷ acts) old new (mid, a, more) h = all_turned r peer acts mid new more (act_turned r peer act old mid a h)
 
 pub opened_turned : (r peer : ℕ) (line : Line) → IsOpened Right r peer line → IsOpened Left r peer (turned_line line)

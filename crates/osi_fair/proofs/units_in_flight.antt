@@ -9,9 +9,10 @@ use Rattle.osi_fair.proofs.what_a_link_does.{begun_by}
 
 -- ---- units that were put
 
--- So many DTs were put in all, and AKs up to so many DTs. `closed`: the end has closed the connection; `closing`: the other
--- side has.
+-- The reference that this side gave, and that of the other side (`peer`). So many DTs were put in all, and AKs up to so many
+-- DTs. `closed`: the end has closed the connection; `closing`: the other side has.
 pub record Bounds : Type 0 where
+  pub reference : ℕ
   pub peer : ℕ
   pub limit : ℕ
   pub window : ℕ
@@ -31,11 +32,12 @@ Puts s e passed shown begun (acknowledge credit destination number ∷ units) = 
     × (number ≡ count % 128) × (shown ≤ count) × (count ≤ s.acked) × Puts s e passed count begun units
 Puts s e passed shown begun (disconnect destination source reason user ∷ units) = (destination ≡ s.peer) × (s.closed ≡ true) × (units ≡ [])
 Puts s e passed shown begun (disconnected destination source ∷ units) =
-    (destination ≡ s.peer) × (s.closed ≡ true) × (s.closing ≡ true) × (units ≡ [])
+    (destination ≡ s.peer) × (source ≡ s.reference) × (s.closed ≡ true) × (s.closing ≡ true) × (units ≡ [])
 Puts s e passed shown begun (unit ∷ units) = ⊥
 
 -- more may have been put
 pub record IsMore (s t : Bounds) : Type 0 where
+  pub reference : s.reference ≡ t.reference
   pub peer : s.peer ≡ t.peer
   pub limit : s.limit ≡ t.limit
   pub window : s.window ≡ t.window
@@ -67,7 +69,7 @@ puts_more s t e k more m live base passed shown begun within (acknowledge credit
   puts_more s t e k more m live base passed count begun f units g,
 )
 puts_more s t e k more m live base passed shown begun within (disconnect destination source reason user ∷ units) (a, b, c) = absurd (cc)
-puts_more s t e k more m live base passed shown begun within (disconnected destination source ∷ units) (a, b, c, d) = absurd (cc)
+puts_more s t e k more m live base passed shown begun within (disconnected destination source ∷ units) (a, b, c, d, f) = absurd (cc)
 puts_more s t e k more m live base passed shown begun within (request x ∷ units) h = absurd h
 puts_more s t e k more m live base passed shown begun within (confirm destination x ∷ units) h = absurd h
 puts_more s t e k more m live base passed shown begun within (data0 end user ∷ units) h = absurd h
@@ -95,8 +97,8 @@ puts_still s t e m same passed shown begun (acknowledge credit destination numbe
   puts_still s t e m same passed count begun units g,
 )
 puts_still s t e m same passed shown begun (disconnect destination source reason user ∷ units) (a, b, c) = (a ∙ m.peer, sym same ∙ b, c)
-puts_still s t e m same passed shown begun (disconnected destination source ∷ units) (a, b, c, d) =
-    (a ∙ m.peer, sym same ∙ b, m.closing c, d)
+puts_still s t e m same passed shown begun (disconnected destination source ∷ units) (a, b, c, d, f) =
+    (a ∙ m.peer, b ∙ m.reference, sym same ∙ c, m.closing d, f)
 puts_still s t e m same passed shown begun (request x ∷ units) h = absurd h
 puts_still s t e m same passed shown begun (confirm destination x ∷ units) h = absurd h
 puts_still s t e m same passed shown begun (data0 end user ∷ units) h = absurd h

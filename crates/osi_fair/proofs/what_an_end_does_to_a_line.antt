@@ -18,7 +18,7 @@ use Rattle.osi_fair.specs.Lines.{ignores}
 use Rattle.osi_fair.specs.Lines.{Line, moves, closes, answers, Acts, IsRightNow, HandsInShort, units_put, units_taken}
 use Rattle.osi_fair.proofs.what_a_link_does.{HaveRoom, room_more, gives_so, takes_so}
 use Rattle.osi_fair.proofs.units_in_flight.{Puts, puts_more, comes_within}
-use Rattle.osi_fair.proofs.what_holds_of_a_line.{Tally, Ordered, linked, OpenIfAny, PutsAt, TakesAt, Holds, anyhow, bounds_of, came_of}
+use Rattle.osi_fair.proofs.what_holds_of_a_line.{Tally, Ordered, linked, OpenIfAny, PutsAt, TakesAt, Holds, bounds_of, came_of, shut}
 use Rattle.osi_fair.proofs.what_holds_of_a_line.{ends_so, tapped}
 
 right_on : (tap : Connection) (put more : List Value) → IsRightNow Left tap put → IsRightNow Left tap (put ++ more)
@@ -26,28 +26,30 @@ right_on tap [] more h = absurd h
 right_on tap (unit ∷ units) more h = h
 
 -- a call of the link that makes what was put this
-pub record Moved (peer limit : ℕ) (noted : ℕ) (tap : Connection) (put coming : List Value) (link : Standing) : Type 0 where
+pub record Moved (r peer limit : ℕ) (noted : ℕ) (tap : Connection) (put coming : List Value) (link : Standing) : Type 0 where
   pub tally : Tally
   pub ordered : Ordered tally noted
-  pub taps : tapped peer limit tally noted tap
-  pub puts : PutsAt peer limit tally tap.left tap.right put (Some link)
+  pub taps : tapped r peer limit tally noted tap
+  pub puts : PutsAt r peer limit tally tap.left tap.right put (Some link)
   pub takes : linked limit tally tap.right coming link
 
-module _ (peer limit : ℕ) (x : Tally) (noted : ℕ) (tap : Connection) (o : Ordered x noted) (t : tapped peer limit x noted tap) where
+module _ (r peer limit : ℕ) (x : Tally) (noted : ℕ) (tap : Connection) (o : Ordered x noted) (t : tapped r peer limit x noted tap) where
   -- ---- a DT
 
   puts_data : (put coming : List Value) (link after : Standing) (number : ℕ) (end : Bool) (octets : List ℕ)
-      (h : linked limit x tap.right coming link) → PutsAt peer limit x tap.left tap.right put (Some link) →
+      (h : linked limit x tap.right coming link) → PutsAt r peer limit x tap.left tap.right put (Some link) →
       next link ≡ Some (part2 number end octets, after) →
-      Puts (bounds_of peer limit (record x { sent = x.sent + 1 }) false tap.right) (ends_so (x.sent + 1) after.ends.unsent) x.passed x.shown
+      Puts (bounds_of r peer limit (record x { sent = x.sent + 1 }) false tap.right)
+      (ends_so (x.sent + 1) after.ends.unsent) x.passed x.shown
       tap.left.begun (put ++ data2 peer number end octets ∷ [])
   puts_data put coming link after number end octets h p e =
       let (some, is, flow, size, gives) = gives_so link after h.flow (part2 number end octets) h.is e in
       let numbered : number ≡ x.sent % 128 = is ∙ h.next in
       let fits = h.size in
-      puts_more (bounds_of peer limit x false tap.right) (bounds_of peer limit (record x { sent = x.sent + 1 }) false tap.right)
+      puts_more (bounds_of r peer limit x false tap.right) (bounds_of r peer limit (record x { sent = x.sent + 1 }) false tap.right)
       (ends_so x.sent link.ends.unsent) (ends_so (x.sent + 1) after.ends.unsent) (data2 peer number end octets ∷ [])
-      (record { peer = refl; limit = refl; window = refl; sent = omega arith; acked = omega arith; closing = λ k. k }) refl
+      (record { reference = refl; peer = refl; limit = refl; window = refl; sent = omega arith; acked = omega arith; closing = λ k. k })
+      refl
       (λ passed shown begun within now.
       let g = gives begun now.1 in
       let short = g.short in
@@ -56,9 +58,9 @@ module _ (peer limit : ℕ) (x : Tally) (noted : ℕ) (tap : Connection) (o : Or
       x.passed x.shown tap.left.begun o.shown_acked put p.0
 
   gives_data : (put coming : List Value) (link after : Standing) (number : ℕ) (end : Bool) (octets : List ℕ) →
-      linked limit x tap.right coming link → PutsAt peer limit x tap.left tap.right put (Some link) →
+      linked limit x tap.right coming link → PutsAt r peer limit x tap.left tap.right put (Some link) →
       next link ≡ Some (part2 number end octets, after) →
-      Moved peer limit noted tap (put ++ data2 peer number end octets ∷ []) coming after
+      Moved r peer limit noted tap (put ++ data2 peer number end octets ∷ []) coming after
   gives_data put coming link after number end octets h p e =
       let (some, is, flow, size, gives) = gives_so link after h.flow (part2 number end octets) h.is e in
       let within = comes_within (came_of x tap.right) h.taken h.known coming h.comes in
@@ -96,17 +98,18 @@ module _ (peer limit : ℕ) (x : Tally) (noted : ℕ) (tap : Connection) (o : Or
   -- ---- an AK
 
   puts_ack : (put coming : List Value) (link after : Standing) (number credit : ℕ)
-      (h : linked limit x tap.right coming link) → PutsAt peer limit x tap.left tap.right put (Some link) →
+      (h : linked limit x tap.right coming link) → PutsAt r peer limit x tap.left tap.right put (Some link) →
       next link ≡ Some (ack number credit, after) →
-      Puts (bounds_of peer limit (record x { acked = x.acked + 1 }) false tap.right) (ends_so x.sent after.ends.unsent) x.passed x.shown
+      Puts (bounds_of r peer limit (record x { acked = x.acked + 1 }) false tap.right) (ends_so x.sent after.ends.unsent) x.passed x.shown
       tap.left.begun (put ++ acknowledge credit peer number ∷ [])
   puts_ack put coming link after number credit h p e =
       let (some, is, of_window, flow, same) = gives_so link after h.flow (ack number credit) h.is e in
       let within = comes_within (came_of x tap.right) h.taken h.known coming h.comes in
       let numbered : ack_number h.flow.receiver ≡ (x.acked + 1) % 128 = omega arith in
-      puts_more (bounds_of peer limit x false tap.right) (bounds_of peer limit (record x { acked = x.acked + 1 }) false tap.right)
+      puts_more (bounds_of r peer limit x false tap.right) (bounds_of r peer limit (record x { acked = x.acked + 1 }) false tap.right)
       (ends_so x.sent link.ends.unsent) (ends_so x.sent after.ends.unsent) (acknowledge credit peer number ∷ [])
-      (record { peer = refl; limit = refl; window = refl; sent = omega arith; acked = omega arith; closing = λ k. k }) refl
+      (record { reference = refl; peer = refl; limit = refl; window = refl; sent = omega arith; acked = omega arith; closing = λ k. k })
+      refl
       (λ passed shown begun low now. (
         x.acked + 1,
         refl,
@@ -119,9 +122,9 @@ module _ (peer limit : ℕ) (x : Tally) (noted : ℕ) (tap : Connection) (o : Or
       x.passed x.shown tap.left.begun o.shown_acked put p.0
 
   gives_ack : (put coming : List Value) (link after : Standing) (number credit : ℕ) →
-      linked limit x tap.right coming link → PutsAt peer limit x tap.left tap.right put (Some link) →
+      linked limit x tap.right coming link → PutsAt r peer limit x tap.left tap.right put (Some link) →
       next link ≡ Some (ack number credit, after) →
-      Moved peer limit noted tap (put ++ acknowledge credit peer number ∷ []) coming after
+      Moved r peer limit noted tap (put ++ acknowledge credit peer number ∷ []) coming after
   gives_ack put coming link after number credit h p e =
       let (some, is, of_window, flow, same) = gives_so link after h.flow (ack number credit) h.is e in
       let within = comes_within (came_of x tap.right) h.taken h.known coming h.comes in
@@ -159,21 +162,22 @@ module _ (peer limit : ℕ) (x : Tally) (noted : ℕ) (tap : Connection) (o : Or
   -- ---- calls that put nothing
 
   -- what was put stays, with other TSDUs that are still to be sent
-  puts_same : (put : List Value) (link after : Standing) → PutsAt peer limit x tap.left tap.right put (Some link) →
+  puts_same : (put : List Value) (link after : Standing) → PutsAt r peer limit x tap.left tap.right put (Some link) →
       ((begun : ℕ) → HaveRoom begun link.ends.unsent → HaveRoom begun after.ends.unsent) →
-      PutsAt peer limit x tap.left tap.right (put ++ []) (Some after)
+      PutsAt r peer limit x tap.left tap.right (put ++ []) (Some after)
   puts_same put link after p room = (
-    puts_more (bounds_of peer limit x false tap.right) (bounds_of peer limit x false tap.right)
+    puts_more (bounds_of r peer limit x false tap.right) (bounds_of r peer limit x false tap.right)
         (ends_so x.sent link.ends.unsent) (ends_so x.sent after.ends.unsent) []
-        (record { peer = refl; limit = refl; window = refl; sent = omega arith; acked = omega arith; closing = λ k. k }) refl
+        (record { reference = refl; peer = refl; limit = refl; window = refl; sent = omega arith; acked = omega arith; closing = λ k. k })
+        refl
         (λ passed shown begun within now. (now.0, room begun now.1)) x.passed x.shown tap.left.begun o.shown_acked put p.0,
     p.1,
   )
 
   same_flow : (put coming : List Value) (link after : Standing) → linked limit x tap.right coming link →
-      PutsAt peer limit x tap.left tap.right put (Some link) → after.flow ≡ link.flow → after.ends.limit ≡ link.ends.limit →
+      PutsAt r peer limit x tap.left tap.right put (Some link) → after.flow ≡ link.flow → after.ends.limit ≡ link.ends.limit →
       ((begun : ℕ) → HaveRoom begun link.ends.unsent → HaveRoom begun after.ends.unsent) →
-      Moved peer limit noted tap (put ++ []) coming after
+      Moved r peer limit noted tap (put ++ []) coming after
   same_flow put coming link after h p flow size room = record {
     tally = x;
     ordered = o;
@@ -198,8 +202,8 @@ module _ (peer limit : ℕ) (x : Tally) (noted : ℕ) (tap : Connection) (o : Or
 
   takes_data : (put coming : List Value) (link after : Standing) (destination number : ℕ) (end : Bool) (octets : List ℕ) →
       linked limit x tap.right (data2 destination number end octets ∷ coming) link →
-      PutsAt peer limit x tap.left tap.right put (Some link) → taken link (data2 destination number end octets) ≡ Ok after →
-      Moved peer limit noted tap (put ++ []) coming after
+      PutsAt r peer limit x tap.left tap.right put (Some link) → taken link (data2 destination number end octets) ≡ Ok after →
+      Moved r peer limit noted tap (put ++ []) coming after
   takes_data put coming link after destination number end octets h p e =
       let (flow, size, unsent) = takes_so link after h.flow (data2 destination number end octets) h.is e in
       record {
@@ -226,8 +230,8 @@ module _ (peer limit : ℕ) (x : Tally) (noted : ℕ) (tap : Connection) (o : Or
 
   takes_ack : (put coming : List Value) (link after : Standing) (credit destination number : ℕ) →
       linked limit x tap.right (acknowledge credit destination number ∷ coming) link →
-      PutsAt peer limit x tap.left tap.right put (Some link) → taken link (acknowledge credit destination number) ≡ Ok after →
-      Moved peer limit noted tap (put ++ []) coming after
+      PutsAt r peer limit x tap.left tap.right put (Some link) → taken link (acknowledge credit destination number) ≡ Ok after →
+      Moved r peer limit noted tap (put ++ []) coming after
   takes_ack put coming link after credit destination number h p e =
       let (within, enough, flow, same) = takes_so link after h.flow (acknowledge credit destination number) h.is e in
       let (count, is, small, up, edge, comes) = h.comes in
@@ -262,16 +266,16 @@ module _ (peer limit : ℕ) (x : Tally) (noted : ℕ) (tap : Connection) (o : Or
       }
 
   hands_out : (put coming : List Value) (link after : Standing) (tsdu : List ℕ) → linked limit x tap.right coming link →
-      PutsAt peer limit x tap.left tap.right put (Some link) → Hands (Some tsdu) link after →
-      Moved peer limit noted tap (put ++ []) coming after
+      PutsAt r peer limit x tap.left tap.right put (Some link) → Hands (Some tsdu) link after →
+      Moved r peer limit noted tap (put ++ []) coming after
   hands_out put coming link after tsdu h p e =
       let unsent : after.ends.unsent ≡ link.ends.unsent = ap (λ (s : Standing). s.ends.unsent) (sym e) in
       same_flow put coming link after h p (ap (λ (s : Standing). s.flow) (sym e)) (ap (λ (s : Standing). s.ends.limit) (sym e))
       (λ begun room. subst (λ (l : List (List ℕ)). HaveRoom begun l) (sym unsent) room)
 
   hands_in : (put coming : List Value) (link after : Standing) (tsdu : List ℕ) → linked limit x tap.right coming link →
-      PutsAt peer limit x tap.left tap.right put (Some link) → length tsdu ≤ longest_tsdu → after ≡ with_tsdu link tsdu →
-      Moved peer limit noted tap (put ++ []) coming after
+      PutsAt r peer limit x tap.left tap.right put (Some link) → length tsdu ≤ longest_tsdu → after ≡ with_tsdu link tsdu →
+      Moved r peer limit noted tap (put ++ []) coming after
   hands_in put coming link after tsdu h p short e =
       let unsent : after.ends.unsent ≡ link.ends.unsent ++ tsdu ∷ [] = ap (λ (s : Standing). s.ends.unsent) e in
       same_flow put coming link after h p (ap (λ (s : Standing). s.flow) e) (ap (λ (s : Standing). s.ends.limit) e)
@@ -280,8 +284,8 @@ module _ (peer limit : ℕ) (x : Tally) (noted : ℕ) (tap : Connection) (o : Or
   -- ---- each call
 
   takes_any : (put coming : List Value) (link after : Standing) (unit : Value) → linked limit x tap.right (unit ∷ coming) link →
-      PutsAt peer limit x tap.left tap.right put (Some link) → taken link unit ≡ Ok after →
-      Moved peer limit noted tap (put ++ []) coming after
+      PutsAt r peer limit x tap.left tap.right put (Some link) → taken link unit ≡ Ok after →
+      Moved r peer limit noted tap (put ++ []) coming after
   takes_any put coming link after (data2 destination number end octets) h p e =
       takes_data put coming link after destination number end octets h p e
   takes_any put coming link after (acknowledge credit destination number) h p e =
@@ -297,8 +301,8 @@ module _ (peer limit : ℕ) (x : Tally) (noted : ℕ) (tap : Connection) (o : Or
 
   call_moves : (move : Move) (put coming : List Value) (link after : Standing) →
       linked limit x tap.right (units_taken move ++ coming) link →
-      PutsAt peer limit x tap.left tap.right put (Some link) → Moves move link after → HandsInShort move →
-      Moved peer limit noted tap (put ++ units_put peer move) coming after
+      PutsAt r peer limit x tap.left tap.right put (Some link) → Moves move link after → HandsInShort move →
+      Moved r peer limit noted tap (put ++ units_put peer move) coming after
   call_moves (hand_in tsdu) put coming link after h p e short = hands_in put coming link after tsdu h p short e
   call_moves (give_out (part0 end octets)) put coming link after h p e short =
       absurd (gives_so link after h.flow (part0 end octets) h.is e)
@@ -314,13 +318,14 @@ module _ (peer limit : ℕ) (x : Tally) (noted : ℕ) (tap : Connection) (o : Or
   open_if [] phase h = tt
   open_if (unit ∷ units) phase h = h
 
-  closes_by : (unit : Value) (put : List Value) (link : Standing) → PutsAt peer limit x tap.left tap.right put (Some link) →
-      ((passed shown begun : ℕ) → Puts (bounds_of peer limit x true tap.right) anyhow passed shown begun (unit ∷ [])) →
-      PutsAt peer limit x tap.left tap.right (put ++ unit ∷ []) None
+  closes_by : (unit : Value) (put : List Value) (link : Standing) → PutsAt r peer limit x tap.left tap.right put (Some link) →
+      ((passed shown begun : ℕ) → Puts (bounds_of r peer limit x true tap.right) (shut tap.left.phase) passed shown begun (unit ∷ [])) →
+      PutsAt r peer limit x tap.left tap.right (put ++ unit ∷ []) None
   closes_by unit put link p last = (
-    puts_more (bounds_of peer limit x false tap.right) (bounds_of peer limit x true tap.right)
-        (ends_so x.sent link.ends.unsent) anyhow (unit ∷ [])
-        (record { peer = refl; limit = refl; window = refl; sent = omega arith; acked = omega arith; closing = λ k. k }) refl
+    puts_more (bounds_of r peer limit x false tap.right) (bounds_of r peer limit x true tap.right)
+        (ends_so x.sent link.ends.unsent) (shut tap.left.phase) (unit ∷ [])
+        (record { reference = refl; peer = refl; limit = refl; window = refl; sent = omega arith; acked = omega arith; closing = λ k. k })
+        refl
         (λ passed shown begun within now. last passed shown begun) x.passed x.shown tap.left.begun o.shown_acked put p.0,
     open_if (put ++ unit ∷ []) tap.left.phase p.1,
   )
@@ -331,21 +336,22 @@ module _ (peer limit : ℕ) (x : Tally) (noted : ℕ) (tap : Connection) (o : Or
 
 -- ---- what holds stays
 
-puts_with : (peer limit : ℕ) (x : Tally) (mine theirs : Half) (put : List Value) (link : Option Standing) (is : Standing) → link ≡ Some is →
-    PutsAt peer limit x mine theirs put link → PutsAt peer limit x mine theirs put (Some is)
-puts_with peer limit x mine theirs put link is e h = subst (λ (l : Option Standing). PutsAt peer limit x mine theirs put l) e h
+puts_with : (r peer limit : ℕ) (x : Tally) (mine theirs : Half) (put : List Value) (link : Option Standing) (is : Standing) →
+    link ≡ Some is →
+    PutsAt r peer limit x mine theirs put link → PutsAt r peer limit x mine theirs put (Some is)
+puts_with r peer limit x mine theirs put link is e h = subst (λ (l : Option Standing). PutsAt r peer limit x mine theirs put l) e h
 
 takes_with : (limit : ℕ) (x : Tally) (theirs : Half) (coming : List Value) (link : Option Standing) (is : Standing) → link ≡ Some is →
     TakesAt limit x theirs coming link → linked limit x theirs coming is
 takes_with limit x theirs coming link is e h = subst (λ (l : Option Standing). TakesAt limit x theirs coming l) e h
 
-pub moves_hold : (r peer : ℕ) (move : Move) (old new : Line) → Acts Left r peer (moves move) old new → Holds peer old → Holds peer new
+pub moves_hold : (r peer : ℕ) (move : Move) (old new : Line) → Acts Left r peer (moves move) old new → Holds r peer old → Holds r peer new
 moves_hold r peer move old new (link, after, is, e, short, coming, new_is) h =
-    let puts = puts_with peer h.limit h.tally old.tap.left old.tap.right old.put old.link link is h.puts in
+    let puts = puts_with r peer h.limit h.tally old.tap.left old.tap.right old.put old.link link is h.puts in
     let takes = takes_with h.limit h.tally old.tap.right old.coming old.link link is h.takes in
     let came = subst (λ (l : List Value). linked h.limit h.tally old.tap.right l link) coming takes in
-    let m = call_moves peer h.limit h.tally h.noted old.tap h.ordered h.taps move old.put new.coming link after came puts e short in
-    subst (λ (l : Line). Holds peer l) (sym new_is)
+    let m = call_moves r peer h.limit h.tally h.noted old.tap h.ordered h.taps move old.put new.coming link after came puts e short in
+    subst (λ (l : Line). Holds r peer l) (sym new_is)
     (record {
       limit = h.limit;
       tally = m.tally;
@@ -358,26 +364,26 @@ moves_hold r peer move old new (link, after, is, e, short, coming, new_is) h =
     })
 
 pub closes_hold : (r peer reason : ℕ) (units : List Value) (old new : Line) → Acts Left r peer (closes reason units) old new →
-    Holds peer old →
-    Holds peer new
+    Holds r peer old →
+    Holds r peer new
 closes_hold r peer reason units old new (link, is, coming, new_is) h =
-    let puts = puts_with peer h.limit h.tally old.tap.left old.tap.right old.put old.link link is h.puts in
-    subst (λ (l : Line). Holds peer l) (sym new_is)
+    let puts = puts_with r peer h.limit h.tally old.tap.left old.tap.right old.put old.link link is h.puts in
+    subst (λ (l : Line). Holds r peer l) (sym new_is)
     (record {
       limit = h.limit;
       tally = h.tally;
       noted = h.noted;
       ordered = h.ordered;
       taps = h.taps;
-      puts = closes_by peer h.limit h.tally h.noted old.tap h.ordered h.taps (disconnect peer r reason []) old.put link puts
+      puts = closes_by r peer h.limit h.tally h.noted old.tap h.ordered h.taps (disconnect peer r reason []) old.put link puts
           (λ passed shown begun. (refl, refl, refl));
       takes = tt;
       under_way = λ b. right_on old.tap old.put (disconnect peer r reason [] ∷ []) (h.under_way b);
     })
 
-pub ignores_hold : (r peer : ℕ) (units : List Value) (old new : Line) → Acts Left r peer (ignores units) old new → Holds peer old →
-    Holds peer new
-ignores_hold r peer units old new (none, coming, new_is) h = subst (λ (l : Line). Holds peer l) (sym new_is)
+pub ignores_hold : (r peer : ℕ) (units : List Value) (old new : Line) → Acts Left r peer (ignores units) old new → Holds r peer old →
+    Holds r peer new
+ignores_hold r peer units old new (none, coming, new_is) h = subst (λ (l : Line). Holds r peer l) (sym new_is)
     (record {
       limit = h.limit;
       tally = h.tally;
@@ -389,22 +395,23 @@ ignores_hold r peer units old new (none, coming, new_is) h = subst (λ (l : Line
       under_way = h.under_way;
     })
 
-pub answers_hold : (r peer : ℕ) (unit : Value) (old new : Line) → Acts Left r peer (answers unit) old new → Holds peer old → Holds peer new
+pub answers_hold : (r peer : ℕ) (unit : Value) (old new : Line) → Acts Left r peer (answers unit) old new → Holds r peer old →
+    Holds r peer new
 answers_hold r peer unit old new (link, is, (destination, source, reason, user, dr), coming, new_is) h =
-    let puts = puts_with peer h.limit h.tally old.tap.left old.tap.right old.put old.link link is h.puts in
+    let puts = puts_with r peer h.limit h.tally old.tap.left old.tap.right old.put old.link link is h.puts in
     let takes = takes_with h.limit h.tally old.tap.right old.coming old.link link is h.takes in
     let first : old.coming ≡ disconnect destination source reason user ∷ new.coming = coming ∙ ap (λ (v : Value). v ∷ new.coming) dr in
     let came = subst (λ (l : List Value). linked h.limit h.tally old.tap.right l link) first takes in
-    let closing = was_closing peer h.limit h.tally h.noted old.tap h.ordered h.taps new.coming link destination source reason user came in
-    subst (λ (l : Line). Holds peer l) (sym new_is)
+    let closing = was_closing r peer h.limit h.tally h.noted old.tap h.ordered h.taps new.coming link destination source reason user came in
+    subst (λ (l : Line). Holds r peer l) (sym new_is)
     (record {
       limit = h.limit;
       tally = h.tally;
       noted = h.noted;
       ordered = h.ordered;
       taps = h.taps;
-      puts = closes_by peer h.limit h.tally h.noted old.tap h.ordered h.taps (disconnected peer r) old.put link puts
-          (λ passed shown begun. (refl, refl, closing, refl));
+      puts = closes_by r peer h.limit h.tally h.noted old.tap h.ordered h.taps (disconnected peer r) old.put link puts
+          (λ passed shown begun. (refl, refl, refl, closing, refl));
       takes = tt;
       under_way = λ b. right_on old.tap old.put (disconnected peer r ∷ []) (h.under_way b);
     })

@@ -13,12 +13,12 @@ use Rattle.osi_rules.specs.declared.halves.Phase.{Phase}
 use Rattle.osi_rules.specs.declared.halves.Phase.TheVariants.{Silent, Open, Refused, Closing, Closed}
 use Rattle.osi_rules.specs.declared.findings.Finding.TheVariants.{Kept}
 use Rattle.osi_rules.specs.Rows.{first_failed, steps_from, fits_size, data2_tests, acknowledge_tests, disconnect_tests}
-use Rattle.osi_rules.specs.Rows.{disconnected_tests}
+use Rattle.osi_rules.specs.Rows.{disconnected_tests, is_due}
 use Rattle.osi_rules.specs.Sides.{is_silent, is_open, is_refused, is_closing, is_closed, is_over, is_named, begins}
 use Rattle.osi_fair.specs.Lines.{IsRightNow}
 use Rattle.osi_fair.proofs.what_is_right_passes_each_test.{is_right}
 use Rattle.osi_fair.proofs.units_in_flight.{Puts}
-use Rattle.osi_fair.proofs.what_holds_of_a_line.{Tally, Ordered, OpenIfAny, PutsAt, anyhow, bounds_of, ends_so, is_there, tapped}
+use Rattle.osi_fair.proofs.what_holds_of_a_line.{Tally, Ordered, OpenIfAny, PutsAt, bounds_of, ends_so, is_there, shut, tapped}
 
 -- ---- phases
 
@@ -79,7 +79,7 @@ fits_so : (size : Option ℕ) (limit octets : ℕ) → IfSome size (λ most. lim
 fits_so None limit octets h k = refl
 fits_so (Some most) limit octets h k = le-leb (octets + 5) most (omega arith)
 
-module _ (peer limit : ℕ) (x : Tally) (noted : ℕ) (tap : Connection) (o : Ordered x noted) (t : tapped peer limit x noted tap)
+module _ (r peer limit : ℕ) (x : Tally) (noted : ℕ) (tap : Connection) (o : Ordered x noted) (t : tapped r peer limit x noted tap)
     (live : is_open tap.left.phase ≡ true) where
   abbrev known : Connection
   known = begins Left tap
@@ -135,15 +135,18 @@ module _ (peer limit : ℕ) (x : Tally) (noted : ℕ) (tap : Connection) (o : Or
   disconnect_right : first_failed (disconnect_tests Left known) ≡ Kept
   disconnect_right = is_right (disconnect_tests Left known) (or_right (is_silent tap.left.phase) (is_open tap.left.phase) live, tt)
 
-  disconnected_right : (strays : Bool) → is_closing tap.right.phase ≡ true → first_failed (disconnected_tests Left known strays) ≡ Kept
-  disconnected_right strays closing =
-      let due = both (is_open tap.left.phase) (is_closing tap.right.phase) live closing in
-      is_right (disconnected_tests Left known strays)
-      (or_left (is_open tap.left.phase && is_closing tap.right.phase) (not strays) due, (due, tt))
+  -- the DC has this side's reference, and answers a DR that has passed
+  disconnected_right : (source : ℕ) (strays : Bool) → source ≡ r → is_closing tap.right.phase ≡ true →
+      first_failed (disconnected_tests Left known source strays) ≡ Kept
+  disconnected_right source strays mine closing =
+      let same = eq-eqb source tap.left.reference (mine ∙ sym t.own_reference) in
+      let answers = both (is_closing tap.right.phase) (source == tap.left.reference) closing same in
+      let due = both (is_open tap.left.phase) (is_closing tap.right.phase && (source == tap.left.reference)) live answers in
+      is_right (disconnected_tests Left known source strays) (or_left (is_due Left known source) (not strays) due, (due, tt))
 
   -- whether the end has closed the connection or not
   pub first_right : (closed : Bool) (e : ℕ → ℕ → Type 0) (put : List Value) → put ≢ [] →
-      Puts (bounds_of peer limit x closed tap.right) e x.passed x.shown tap.left.begun put → IsRightNow Left known put
+      Puts (bounds_of r peer limit x closed tap.right) e x.passed x.shown tap.left.begun put → IsRightNow Left known put
   first_right closed e [] some h = absurd (some refl)
   first_right closed e (data2 destination number end user ∷ units) some (a, b, c, d, f, g) = record {
     named = named_so destination a;
@@ -157,9 +160,9 @@ module _ (peer limit : ℕ) (x : Tally) (noted : ℕ) (tap : Connection) (o : Or
     named = named_so destination a;
     kept = λ course in_use. disconnect_right;
   }
-  first_right closed e (disconnected destination source ∷ units) some (a, b, c, d) = record {
+  first_right closed e (disconnected destination source ∷ units) some (a, b, c, d, f) = record {
     named = named_so destination a;
-    kept = λ course in_use. disconnected_right course.strays c;
+    kept = λ course in_use. disconnected_right source course.strays b d;
   }
   first_right closed e (request c ∷ units) some h = absurd h
   first_right closed e (confirm destination c ∷ units) some h = absurd h
@@ -170,10 +173,10 @@ open_now : (put : List Value) (phase : Phase) → put ≢ [] → OpenIfAny put p
 open_now [] phase some h = absurd (some refl)
 open_now (unit ∷ units) phase some h = h
 
-pub begins_right : (peer limit : ℕ) (x : Tally) (noted : ℕ) (tap : Connection) → Ordered x noted → tapped peer limit x noted tap →
-    (put : List Value) (link : Option Standing) → put ≢ [] → PutsAt peer limit x tap.left tap.right put link →
+pub begins_right : (r peer limit : ℕ) (x : Tally) (noted : ℕ) (tap : Connection) → Ordered x noted → tapped r peer limit x noted tap →
+    (put : List Value) (link : Option Standing) → put ≢ [] → PutsAt r peer limit x tap.left tap.right put link →
     IsRightNow Left (begins Left tap) put
-begins_right peer limit x noted tap o t put None some (h, k) =
-    first_right peer limit x noted tap o t (open_now put tap.left.phase some k) true anyhow put some h
-begins_right peer limit x noted tap o t put (Some link) some (h, k) =
-    first_right peer limit x noted tap o t k false (ends_so x.sent link.ends.unsent) put some h
+begins_right r peer limit x noted tap o t put None some (h, k) =
+    first_right r peer limit x noted tap o t (open_now put tap.left.phase some k) true (shut tap.left.phase) put some h
+begins_right r peer limit x noted tap o t put (Some link) some (h, k) =
+    first_right r peer limit x noted tap o t k false (ends_so x.sent link.ends.unsent) put some h

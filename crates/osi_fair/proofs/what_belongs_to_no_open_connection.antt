@@ -53,8 +53,8 @@ due_or_not false false h = cc
 found_so : (d : Direction) (s : State) (c : Connection) (n source : ℕ) (judged in_use : Bool) → s.course.strays ≡ true →
     IsNotBlamed (if judged then found d s.course in_use c (disconnected n source) else NotJudged)
 found_so d s c n source false in_use h = inr refl
-found_so Left s c n source true in_use h = due_or_not (is_due Left c) s.course.strays h
-found_so Right s c n source true in_use h = due_or_not (is_due Right c) s.course.strays h
+found_so Left s c n source true in_use h = due_or_not (is_due Left c source) s.course.strays h
+found_so Right s c n source true in_use h = due_or_not (is_due Right c source) s.course.strays h
 
 unnamed_so : (loose strays : Bool) (n source : ℕ) → strays ≡ true →
     IsNotBlamed (if loose then NotJudged else unnamed_by strays (disconnected n source))

@@ -138,15 +138,15 @@ never live h k = cc
 
 -- ---- each kind of unit
 
-module _ (peer limit : ℕ) (x : Tally) (noted : ℕ) (tap : Connection) (put coming : List Value) (link : Option Standing)
-    (o : Ordered x noted) (t : tapped peer limit x noted tap) (p : PutsAt peer limit x tap.left tap.right put link)
+module _ (r peer limit : ℕ) (x : Tally) (noted : ℕ) (tap : Connection) (put coming : List Value) (link : Option Standing)
+    (o : Ordered x noted) (t : tapped r peer limit x noted tap) (p : PutsAt r peer limit x tap.left tap.right put link)
     (k : TakesAt limit x tap.right coming link) where
   abbrev Goes : Value → Connection → Type 0
-  Goes unit after = Went peer limit x noted tap after put (coming ++ unit ∷ []) link
+  Goes unit after = Went r peer limit x noted tap after put (coming ++ unit ∷ []) link
 
   closed_goes : (unit : Value) (f : Finding) → is_open tap.right.phase ≡ false → Leaves f → Goes unit (after_finding Right f unit tap)
   closed_goes unit f closed leaves = subst (λ (c : Connection). Goes unit c) (left_after f unit tap leaves)
-      (goes_same peer limit x noted tap put coming link o t p k unit
+      (goes_same r peer limit x noted tap put coming link o t p k unit
       (λ taken known a b live. absurd (never (is_open tap.right.phase) closed live)))
 
   data_by : (destination number : ℕ) (end : Bool) (user : List ℕ) (f : Finding) → Fate (is_open tap.right.phase) (is_tellable Right tap) f →
@@ -160,7 +160,7 @@ module _ (peer limit : ℕ) (x : Tally) (noted : ℕ) (tap : Connection) (put co
   data_by destination number end user f (inr (inr (inr (live, tells, applies)))) some judged =
       subst (λ (c : Connection). Goes (data2 destination number end user) c)
       (applied_after f (data2 destination number end user) tap applies)
-      (data_goes peer limit x noted tap put coming link o t p k destination number end user tells)
+      (data_goes r peer limit x noted tap put coming link o t p k destination number end user tells)
 
   ack_by : (credit destination number : ℕ) (f : Finding) → number < 128 → credit < 16 →
       Fate (is_open tap.right.phase) (has_passed Right tap number && keeps_credit Right tap number credit) f →
@@ -174,7 +174,7 @@ module _ (peer limit : ℕ) (x : Tally) (noted : ℕ) (tap : Connection) (put co
   ack_by credit destination number f small little (inr (inr (inr (live, tells, applies)))) some judged =
       subst (λ (c : Connection). Goes (acknowledge credit destination number) c)
       (applied_after f (acknowledge credit destination number) tap applies)
-      (ack_goes peer limit x noted tap put coming link o t p k credit destination number small little
+      (ack_goes r peer limit x noted tap put coming link o t p k credit destination number small little
       (first_of (has_passed Right tap number) (keeps_credit Right tap number credit) tells)
       (second_of (has_passed Right tap number) (keeps_credit Right tap number credit) tells))
 
@@ -183,7 +183,7 @@ module _ (peer limit : ℕ) (x : Tally) (noted : ℕ) (tap : Connection) (put co
       Goes (disconnect destination source reason user) (sent_on Right (disconnect destination source reason user) tap)
   disconnect_goes destination source reason user live silent =
       subst (λ (b : Bool). Goes (disconnect destination source reason user) (record tap { right = closing_phase b tap.right })) (sym silent)
-      (ends_goes peer limit x noted tap put coming link o t p k Closing (disconnect destination source reason user) refl (λ c. refl)
+      (ends_goes r peer limit x noted tap put coming link o t p k Closing (disconnect destination source reason user) refl (λ c. refl)
       (λ taken known a b c. (a, b, refl)))
 
   disconnect_by : (destination source reason : ℕ) (user : List ℕ) (f : Finding) →
@@ -197,44 +197,44 @@ module _ (peer limit : ℕ) (x : Tally) (noted : ℕ) (tap : Connection) (put co
       (applied_after f (disconnect destination source reason user) tap applies) (disconnect_goes destination source reason user live silent)
 
   -- a DC
-  disconnected_by : (destination source : ℕ) (f : Finding) → (Leaves f) ⊎ (Loses f ⊎ ((is_due Right tap ≡ true) × Applies f)) →
+  disconnected_by : (destination source : ℕ) (f : Finding) → (Leaves f) ⊎ (Loses f ⊎ ((is_due Right tap source ≡ true) × Applies f)) →
       (after_finding Right f (disconnected destination source) tap).is_judged ≡ true →
       Goes (disconnected destination source) (after_finding Right f (disconnected destination source) tap)
   disconnected_by destination source f (inl leaves) judged =
       subst (λ (c : Connection). Goes (disconnected destination source) c) (left_after f (disconnected destination source) tap leaves)
-      (goes_same peer limit x noted tap put coming link o t p k (disconnected destination source) (λ taken known a b live. (a, b)))
+      (goes_same r peer limit x noted tap put coming link o t p k (disconnected destination source) (λ taken known a b live. (a, b)))
   disconnected_by destination source f (inr (inl loses)) judged = absurd (lost_after f (disconnected destination source) tap loses judged)
   disconnected_by destination source f (inr (inr (due, applies))) judged =
-      let live = first_of (is_open tap.right.phase) (is_closing tap.seen_by_right.phase) due in
+      let live = first_of (is_open tap.right.phase) (is_closing tap.seen_by_right.phase && (source == tap.right.reference)) due in
       subst (λ (c : Connection). Goes (disconnected destination source) c) (applied_after f (disconnected destination source) tap applies)
-      (ends_goes peer limit x noted tap put coming link o t p k Closed (disconnected destination source) refl
+      (ends_goes r peer limit x noted tap put coming link o t p k Closed (disconnected destination source) refl
       (λ c. absurd (not_closing tap.right.phase live c)) (λ taken known a b c. (a, b)))
 
-  pub unit_goes : (r : ℕ) (course : Course) (in_use : Bool) (unit : Value) → HasFieldsInRange unit → destination_of unit ≡ Some r →
+  pub unit_goes : (course : Course) (in_use : Bool) (unit : Value) → HasFieldsInRange unit → destination_of unit ≡ Some r →
       reach_of (Some Two) (found Right course in_use tap unit) ≢ reach.Everything →
       (after_finding Right (found Right course in_use tap unit) unit tap).is_judged ≡ true →
       Goes unit (after_finding Right (found Right course in_use tap unit) unit tap)
-  unit_goes r course in_use (request c) range named some judged = absurd (cc)
-  unit_goes r course in_use (data0 end user) range named some judged = absurd (cc)
-  unit_goes r course in_use (confirm destination c) range named some judged =
+  unit_goes course in_use (request c) range named some judged = absurd (cc)
+  unit_goes course in_use (data0 end user) range named some judged = absurd (cc)
+  unit_goes course in_use (confirm destination c) range named some judged =
       let f = found Right course in_use tap (confirm destination c) in
       let wrong : f ≡ Broke rule.WrongForm = first_fails (is_silent tap.right.phase) _ (there_not_silent tap.right.phase t.there) in
       absurd (lost_after f (confirm destination c) tap (loses_as f (Broke rule.WrongForm) wrong (refl, refl)) judged)
-  unit_goes r course in_use (error destination cause) range named some judged =
+  unit_goes course in_use (error destination cause) range named some judged =
       let f = found Right course in_use tap (error destination cause) in
       let wrong : f ≡ Broke rule.WrongForm = first_fails (is_silent tap.right.phase) Kept (there_not_silent tap.right.phase t.there) in
       absurd (lost_after f (error destination cause) tap (loses_as f (Broke rule.WrongForm) wrong (refl, refl)) judged)
-  unit_goes r course in_use (disconnect destination source reason user) range named some judged =
+  unit_goes course in_use (disconnect destination source reason user) range named some judged =
       disconnect_by destination source reason user (found Right course in_use tap (disconnect destination source reason user))
       (disconnect_fate tap.right.phase t.there)
-  unit_goes r course in_use (disconnected destination source) range named some judged =
+  unit_goes course in_use (disconnected destination source) range named some judged =
       disconnected_by destination source (found Right course in_use tap (disconnected destination source))
-      (disconnected_fate (is_due Right tap) course.strays) judged
-  unit_goes r course in_use (data2 destination number end user) range named some judged =
+      (disconnected_fate (is_due Right tap source) course.strays) judged
+  unit_goes course in_use (data2 destination number end user) range named some judged =
       data_by destination number end user (found Right course in_use tap (data2 destination number end user))
       (data_fate (not (is_silent tap.right.phase)) (is_open tap.right.phase) (number == tap.right.next) (is_tellable Right tap)
       (fits_tsdu Right tap (length user)) (has_credit Right tap) (fits_size tap.size (length user + 5))) some judged
-  unit_goes r course in_use (acknowledge credit destination number) range named some judged =
+  unit_goes course in_use (acknowledge credit destination number) range named some judged =
       ack_by credit destination number (found Right course in_use tap (acknowledge credit destination number)) range.2 range.0
       (ack_fate (not (is_silent tap.right.phase)) (is_open tap.right.phase) (has_passed Right tap number)
       (keeps_credit Right tap number credit))
@@ -245,8 +245,8 @@ judged_finding : (course : Course) (in_use : Bool) (tap : Connection) (unit : Va
 judged_finding course in_use tap unit judged = ap (λ (b : Bool). if b then found Right course in_use tap unit else NotJudged) judged
 
 pub passes_other_holds : (r peer : ℕ) (course : Course) (in_use : Bool) (unit : Value) (old new : Line) →
-    Acts Left r peer (passes_other course in_use unit) old new → old.tap.is_judged ≡ true → new.tap.is_judged ≡ true → Holds peer old →
-    Holds peer new
+    Acts Left r peer (passes_other course in_use unit) old new → old.tap.is_judged ≡ true → new.tap.is_judged ≡ true → Holds r peer old →
+    Holds r peer new
 passes_other_holds r peer course in_use unit old new (range, named, some, new_is) was judged h =
     let f = found Right course in_use old.tap unit in
     let is = judged_finding course in_use old.tap unit was in
@@ -254,9 +254,9 @@ passes_other_holds r peer course in_use unit old new (range, named, some, new_is
     let after : new ≡ record old { tap = after_finding Right f unit old.tap; coming = old.coming ++ unit ∷ [] } = new_is
     ∙ ap (λ (g : Finding). record old { tap = after_finding Right g unit old.tap; coming = old.coming ++ unit ∷ [] }) is in
     let still : (after_finding Right f unit old.tap).is_judged ≡ true = sym (ap (λ (l : Line). l.tap.is_judged) after) ∙ judged in
-    let w = unit_goes peer h.limit h.tally h.noted old.tap old.put old.coming old.link h.ordered h.taps h.puts h.takes r course in_use unit
+    let w = unit_goes r peer h.limit h.tally h.noted old.tap old.put old.coming old.link h.ordered h.taps h.puts h.takes course in_use unit
     range named stop still in
-    subst (λ (l : Line). Holds peer l) (sym after)
+    subst (λ (l : Line). Holds r peer l) (sym after)
     (record {
       limit = h.limit;
       tally = record h.tally { came = w.came; heard = w.heard; edge = w.edge };

@@ -32,7 +32,7 @@ abbrev pub is_there : Phase → Bool
 is_there phase = not (is_silent phase) && not (is_refused phase)
 
 -- The tap knows these numbers. `noted`: what this side had sent when the other's packet began.
-pub record Tapped (peer limit passed shown came heard edge window noted : ℕ) (mine theirs known : Half) (size : Option ℕ) : Type 0 where
+pub record Tapped (r peer limit passed shown came heard edge window noted : ℕ) (mine theirs known : Half) (size : Option ℕ) : Type 0 where
   pub next : mine.next ≡ passed % 128
   pub awaited : mine.awaited ≡ shown % 128
   pub credit : mine.credit ≡ window
@@ -40,6 +40,7 @@ pub record Tapped (peer limit passed shown came heard edge window noted : ℕ) (
   pub their_awaited : theirs.awaited ≡ heard % 128
   pub their_edge : heard + theirs.credit ≡ edge
   pub known_next : known.next ≡ noted % 128
+  pub own_reference : mine.reference ≡ r
   pub reference : theirs.reference ≡ peer
   pub there : is_there theirs.phase ≡ true
   pub fits : IfSome size (λ most. limit + 5 ≤ most)
@@ -54,12 +55,13 @@ pub record Ordered (x : Tally) (noted : ℕ) : Type 0 where
   pub acked_came : x.acked ≤ x.came
   pub tellable : x.came ≤ x.shown + 127
 
-abbrev pub tapped : (peer limit : ℕ) → Tally → (noted : ℕ) → Connection → Type 0
-tapped peer limit x noted tap =
-    Tapped peer limit x.passed x.shown x.came x.heard x.edge x.window noted tap.left tap.right tap.seen_by_right tap.size
+abbrev pub tapped : (r peer limit : ℕ) → Tally → (noted : ℕ) → Connection → Type 0
+tapped r peer limit x noted tap =
+    Tapped r peer limit x.passed x.shown x.came x.heard x.edge x.window noted tap.left tap.right tap.seen_by_right tap.size
 
-abbrev pub bounds_of : (peer limit : ℕ) → Tally → (closed : Bool) → (theirs : Half) → Bounds
-bounds_of peer limit x closed theirs = record {
+abbrev pub bounds_of : (r peer limit : ℕ) → Tally → (closed : Bool) → (theirs : Half) → Bounds
+bounds_of r peer limit x closed theirs = record {
+  reference = r;
   peer = peer;
   limit = limit;
   window = x.window;
@@ -76,8 +78,9 @@ came_of x theirs = record { came = x.came; heard = x.heard; edge = x.edge; phase
 abbrev pub ends_so : (sent : ℕ) → List (List ℕ) → ℕ → ℕ → Type 0
 ends_so sent unsent passed begun = (passed ≡ sent) × HaveRoom begun unsent
 
-abbrev pub anyhow : ℕ → ℕ → Type 0
-anyhow passed begun = Unit {0}
+-- the end has closed the connection, and the unit that says so has passed
+abbrev pub shut : Phase → ℕ → ℕ → Type 0
+shut phase passed begun = is_open phase ≡ false
 
 -- the end has this link; it has taken so many DTs, and AKs up to so many (`known`)
 pub record Linked (limit sent acked window : ℕ) (came : Came) (coming : List Value) (link : Standing) : Type 0 where
@@ -103,23 +106,23 @@ abbrev pub OpenIfAny : List Value → Phase → Type 0
 OpenIfAny [] phase = Unit {0}
 OpenIfAny (unit ∷ units) phase = is_open phase ≡ true
 
-abbrev pub PutsAt : (peer limit : ℕ) → Tally → (mine theirs : Half) → List Value → Option Standing → Type 0
-PutsAt peer limit x mine theirs put None =
-    Puts (bounds_of peer limit x true theirs) anyhow x.passed x.shown mine.begun put × OpenIfAny put mine.phase
-PutsAt peer limit x mine theirs put (Some link) =
-    Puts (bounds_of peer limit x false theirs) (ends_so x.sent link.ends.unsent) x.passed x.shown mine.begun put
+abbrev pub PutsAt : (r peer limit : ℕ) → Tally → (mine theirs : Half) → List Value → Option Standing → Type 0
+PutsAt r peer limit x mine theirs put None =
+    Puts (bounds_of r peer limit x true theirs) (shut mine.phase) x.passed x.shown mine.begun put × OpenIfAny put mine.phase
+PutsAt r peer limit x mine theirs put (Some link) =
+    Puts (bounds_of r peer limit x false theirs) (ends_so x.sent link.ends.unsent) x.passed x.shown mine.begun put
     × (is_open mine.phase ≡ true)
 
 abbrev pub TakesAt : (limit : ℕ) → Tally → (theirs : Half) → List Value → Option Standing → Type 0
 TakesAt limit x theirs coming None = Unit {0}
 TakesAt limit x theirs coming (Some link) = linked limit x theirs coming link
 
-pub record Holds (peer : ℕ) (line : Line) : Type 0 where
+pub record Holds (r peer : ℕ) (line : Line) : Type 0 where
   pub limit : ℕ
   pub tally : Tally
   pub noted : ℕ
   pub ordered : Ordered tally noted
-  pub taps : tapped peer limit tally noted line.tap
-  pub puts : PutsAt peer limit tally line.tap.left line.tap.right line.put line.link
+  pub taps : tapped r peer limit tally noted line.tap
+  pub puts : PutsAt r peer limit tally line.tap.left line.tap.right line.put line.link
   pub takes : TakesAt limit tally line.tap.right line.coming line.link
   pub under_way : line.begun ≡ true → IsRightNow Left line.tap line.put

@@ -19,13 +19,13 @@ use Rattle.osi_fair.specs.Lines.{begins_elsewhere}
 use Rattle.osi_fair.specs.Lines.{Line, begins_own, passes_own, begins_other, Acts, IsRight, IsRightNow, finding_of, after_finding}
 use Rattle.osi_fair.proofs.what_a_link_does.{begun_by}
 use Rattle.osi_fair.proofs.units_in_flight.{Puts}
-use Rattle.osi_fair.proofs.what_holds_of_a_line.{Tally, Ordered, OpenIfAny, PutsAt, TakesAt, Holds, anyhow, bounds_of, ends_so, tapped}
+use Rattle.osi_fair.proofs.what_holds_of_a_line.{Tally, Ordered, OpenIfAny, PutsAt, TakesAt, Holds, bounds_of, ends_so, shut, tapped}
 use Rattle.osi_fair.proofs.what_begins_to_pass_is_right.{begins_right}
 
 -- ---- a packet begins
 
-pub begins_own_holds : (r peer : ℕ) (old new : Line) → Acts Left r peer begins_own old new → Holds peer old → Holds peer new
-begins_own_holds r peer old new (some, idle, new_is) h = subst (λ (l : Line). Holds peer l) (sym new_is)
+pub begins_own_holds : (r peer : ℕ) (old new : Line) → Acts Left r peer begins_own old new → Holds r peer old → Holds r peer new
+begins_own_holds r peer old new (some, idle, new_is) h = subst (λ (l : Line). Holds r peer l) (sym new_is)
     (record {
       limit = h.limit;
       tally = h.tally;
@@ -34,11 +34,11 @@ begins_own_holds r peer old new (some, idle, new_is) h = subst (λ (l : Line). H
       taps = h.taps;
       puts = h.puts;
       takes = h.takes;
-      under_way = λ b. begins_right peer h.limit h.tally h.noted old.tap h.ordered h.taps old.put old.link some h.puts;
+      under_way = λ b. begins_right r peer h.limit h.tally h.noted old.tap h.ordered h.taps old.put old.link some h.puts;
     })
 
-pub elsewhere_holds : (r peer : ℕ) (old new : Line) → Acts Left r peer begins_elsewhere old new → Holds peer old → Holds peer new
-elsewhere_holds r peer old new (idle, new_is) h = subst (λ (l : Line). Holds peer l) (sym new_is)
+pub elsewhere_holds : (r peer : ℕ) (old new : Line) → Acts Left r peer begins_elsewhere old new → Holds r peer old → Holds r peer new
+elsewhere_holds r peer old new (idle, new_is) h = subst (λ (l : Line). Holds r peer l) (sym new_is)
     (record {
       limit = h.limit;
       tally = h.tally;
@@ -69,11 +69,11 @@ right_still tap (unit ∷ units) h = record {
   kept = λ course in_use. same_found course in_use tap unit (h.kept course in_use);
 }
 
-pub begins_other_holds : (r peer : ℕ) (old new : Line) → Acts Left r peer begins_other old new → Holds peer old → Holds peer new
+pub begins_other_holds : (r peer : ℕ) (old new : Line) → Acts Left r peer begins_other old new → Holds r peer old → Holds r peer new
 begins_other_holds r peer old new new_is h =
     let o = h.ordered in
     let t = h.taps in
-    subst (λ (l : Line). Holds peer l) (sym new_is)
+    subst (λ (l : Line). Holds r peer l) (sym new_is)
     (record {
       limit = h.limit;
       tally = h.tally;
@@ -96,6 +96,7 @@ begins_other_holds r peer old new new_is h =
         their_awaited = t.their_awaited;
         their_edge = t.their_edge;
         known_next = t.next;
+        own_reference = t.own_reference;
         reference = t.reference;
         there = t.there;
         fits = t.fits;
@@ -108,12 +109,13 @@ begins_other_holds r peer old new new_is h =
 -- ---- a unit passes
 
 -- the line after it
-pub record Passed (peer limit : ℕ) (x : Tally) (noted : ℕ) (units : List Value) (link : Option Standing) (after : Connection) : Type 0 where
+pub record Passed (r peer limit : ℕ) (x : Tally) (noted : ℕ) (units : List Value) (link : Option Standing)
+    (after : Connection) : Type 0 where
   pub passed : ℕ
   pub shown : ℕ
   pub ordered : Ordered (record x { passed = passed; shown = shown }) noted
-  pub taps : tapped peer limit (record x { passed = passed; shown = shown }) noted after
-  pub puts : PutsAt peer limit (record x { passed = passed; shown = shown }) after.left after.right units link
+  pub taps : tapped r peer limit (record x { passed = passed; shown = shown }) noted after
+  pub puts : PutsAt r peer limit (record x { passed = passed; shown = shown }) after.left after.right units link
 
 begun_same : (half : Half) (end : Bool) (octets : ℕ) → half.begun + octets ≤ longest_tsdu →
     begun_by half.begun end octets ≡ begun_after half end octets
@@ -128,16 +130,17 @@ closing_same : (was : Bool) (half : Half) → not was ≡ true → closing_phase
 closing_same true half h = cc
 closing_same false half h = refl
 
-module _ (peer limit : ℕ) (x : Tally) (noted : ℕ) (tap : Connection) (o : Ordered x noted) (t : tapped peer limit x noted tap) where
+module _ (r peer limit : ℕ) (x : Tally) (noted : ℕ) (tap : Connection) (o : Ordered x noted) (t : tapped r peer limit x noted tap) where
   -- a DT
   data_puts : (link : Option Standing) (destination number : ℕ) (end : Bool) (user : List ℕ) (units : List Value) →
-      PutsAt peer limit x tap.left tap.right (data2 destination number end user ∷ units) link →
+      PutsAt r peer limit x tap.left tap.right (data2 destination number end user ∷ units) link →
       (x.passed < x.sent) ×
-      PutsAt peer limit (record x { passed = x.passed + 1 }) (half_after (data2 destination number end user) tap.left) tap.right units link
+      PutsAt r peer limit (record x { passed = x.passed + 1 })
+      (half_after (data2 destination number end user) tap.left) tap.right units link
   data_puts None destination number end user units ((a, b, c, d, f, g), live) = (
     c,
     (
-      subst (λ (n : ℕ). Puts (bounds_of peer limit x true tap.right) anyhow (x.passed + 1) x.shown n units)
+      subst (λ (n : ℕ). Puts (bounds_of r peer limit x true tap.right) (shut tap.left.phase) (x.passed + 1) x.shown n units)
           (begun_same tap.left end (length user) f) g,
       open_if units tap.left.phase live,
     ),
@@ -145,15 +148,15 @@ module _ (peer limit : ℕ) (x : Tally) (noted : ℕ) (tap : Connection) (o : Or
   data_puts (Some link) destination number end user units ((a, b, c, d, f, g), live) = (
     c,
     (
-      subst (λ (n : ℕ). Puts (bounds_of peer limit x false tap.right) (ends_so x.sent link.ends.unsent) (x.passed + 1) x.shown n units)
+      subst (λ (n : ℕ). Puts (bounds_of r peer limit x false tap.right) (ends_so x.sent link.ends.unsent) (x.passed + 1) x.shown n units)
           (begun_same tap.left end (length user) f) g,
       live,
     ),
   )
 
   data_passes : (link : Option Standing) (destination number : ℕ) (end : Bool) (user : List ℕ) (units : List Value) →
-      PutsAt peer limit x tap.left tap.right (data2 destination number end user ∷ units) link →
-      Passed peer limit x noted units link (sent_on Left (data2 destination number end user) tap)
+      PutsAt r peer limit x tap.left tap.right (data2 destination number end user ∷ units) link →
+      Passed r peer limit x noted units link (sent_on Left (data2 destination number end user) tap)
   data_passes link destination number end user units p =
       let (more, puts) = data_puts link destination number end user units p in
       let n = t.next in
@@ -178,6 +181,7 @@ module _ (peer limit : ℕ) (x : Tally) (noted : ℕ) (tap : Connection) (o : Or
           their_awaited = t.their_awaited;
           their_edge = t.their_edge;
           known_next = t.known_next;
+          own_reference = t.own_reference;
           reference = t.reference;
           there = t.there;
           fits = t.fits;
@@ -192,10 +196,10 @@ module _ (peer limit : ℕ) (x : Tally) (noted : ℕ) (tap : Connection) (o : Or
     window : credit ≡ x.window
     low : x.shown ≤ count
     high : count ≤ x.acked
-    puts : PutsAt peer limit (record x { shown = count }) mine tap.right units link
+    puts : PutsAt r peer limit (record x { shown = count }) mine tap.right units link
 
   ack_puts : (link : Option Standing) (credit destination number : ℕ) (units : List Value) →
-      PutsAt peer limit x tap.left tap.right (acknowledge credit destination number ∷ units) link →
+      PutsAt r peer limit x tap.left tap.right (acknowledge credit destination number ∷ units) link →
       AckPasses number credit (half_after (acknowledge credit destination number) tap.left) units link
   ack_puts None credit destination number units ((count, a, b, c, d, f, g), live) =
       record { count = count; is = c; window = b; low = d; high = f; puts = (g, open_if units tap.left.phase live) }
@@ -203,8 +207,8 @@ module _ (peer limit : ℕ) (x : Tally) (noted : ℕ) (tap : Connection) (o : Or
       record { count = count; is = c; window = b; low = d; high = f; puts = (g, live) }
 
   ack_passes : (link : Option Standing) (credit destination number : ℕ) (units : List Value) →
-      PutsAt peer limit x tap.left tap.right (acknowledge credit destination number ∷ units) link →
-      Passed peer limit x noted units link (sent_on Left (acknowledge credit destination number) tap)
+      PutsAt r peer limit x tap.left tap.right (acknowledge credit destination number ∷ units) link →
+      Passed r peer limit x noted units link (sent_on Left (acknowledge credit destination number) tap)
   ack_passes link credit destination number units p =
       let a = ack_puts link credit destination number units p in
       let low = a.low in
@@ -230,6 +234,7 @@ module _ (peer limit : ℕ) (x : Tally) (noted : ℕ) (tap : Connection) (o : Or
           their_awaited = t.their_awaited;
           their_edge = t.their_edge;
           known_next = t.known_next;
+          own_reference = t.own_reference;
           reference = t.reference;
           there = t.there;
           fits = t.fits;
@@ -239,8 +244,9 @@ module _ (peer limit : ℕ) (x : Tally) (noted : ℕ) (tap : Connection) (o : Or
 
   -- a DR or a DC is the last
   last_passes : (mine : Half) (units : List Value) → mine.next ≡ tap.left.next → mine.awaited ≡ tap.left.awaited →
-      mine.credit ≡ tap.left.credit → units ≡ [] → Passed peer limit x noted units None (record tap { left = mine })
-  last_passes mine units next awaited credit none = record {
+      mine.credit ≡ tap.left.credit → mine.reference ≡ tap.left.reference → is_open mine.phase ≡ false → units ≡ [] →
+      Passed r peer limit x noted units None (record tap { left = mine })
+  last_passes mine units next awaited credit reference closed none = record {
     passed = x.passed;
     shown = x.shown;
     ordered = o;
@@ -252,28 +258,29 @@ module _ (peer limit : ℕ) (x : Tally) (noted : ℕ) (tap : Connection) (o : Or
       their_awaited = t.their_awaited;
       their_edge = t.their_edge;
       known_next = t.known_next;
+      own_reference = reference ∙ t.own_reference;
       reference = t.reference;
       there = t.there;
       fits = t.fits;
     };
-    puts = subst (λ (l : List Value). PutsAt peer limit x mine tap.right l None) (sym none) (tt, tt);
+    puts = subst (λ (l : List Value). PutsAt r peer limit x mine tap.right l None) (sym none) (closed, tt);
   }
 
   closing_passes : (was : Bool) (units : List Value) → units ≡ [] →
-      Passed peer limit x noted units None (record tap { left = closing_phase was tap.left })
-  closing_passes true units none = last_passes (closing_phase true tap.left) units refl refl refl none
-  closing_passes false units none = last_passes (closing_phase false tap.left) units refl refl refl none
+      Passed r peer limit x noted units None (record tap { left = closing_phase was tap.left })
+  closing_passes true units none = last_passes (closing_phase true tap.left) units refl refl refl refl refl none
+  closing_passes false units none = last_passes (closing_phase false tap.left) units refl refl refl refl refl none
 
   pub unit_passes : (link : Option Standing) (unit : Value) (units : List Value) →
-      PutsAt peer limit x tap.left tap.right (unit ∷ units) link → Passed peer limit x noted units link (sent_on Left unit tap)
+      PutsAt r peer limit x tap.left tap.right (unit ∷ units) link → Passed r peer limit x noted units link (sent_on Left unit tap)
   unit_passes link (data2 destination number end user) units p = data_passes link destination number end user units p
   unit_passes link (acknowledge credit destination number) units p = ack_passes link credit destination number units p
   unit_passes None (disconnect destination source reason user) units ((a, b, c), live) =
       closing_passes (is_silent tap.left.phase) units c
   unit_passes (Some link) (disconnect destination source reason user) units ((a, b, c), live) = absurd (cc)
-  unit_passes None (disconnected destination source) units ((a, b, c, d), live) =
-      last_passes (half_after (disconnected destination source) tap.left) units refl refl refl d
-  unit_passes (Some link) (disconnected destination source) units ((a, b, c, d), live) = absurd (cc)
+  unit_passes None (disconnected destination source) units ((a, b, c, d, f), live) =
+      last_passes (half_after (disconnected destination source) tap.left) units refl refl refl refl refl f
+  unit_passes (Some link) (disconnected destination source) units ((a, b, c, d, f), live) = absurd (cc)
   unit_passes None (request c) units (h, live) = absurd h
   unit_passes None (confirm destination c) units (h, live) = absurd h
   unit_passes None (data0 end user) units (h, live) = absurd h
@@ -310,15 +317,15 @@ theirs_same (error destination cause) tap = refl
 
 pub passes_own_holds : (r peer : ℕ) (course : Course) (in_use : Bool) (old new : Line) →
     Acts Left r peer (passes_own course in_use) old new →
-    old.tap.is_judged ≡ true → Holds peer old → Holds peer new
+    old.tap.is_judged ≡ true → Holds r peer old → Holds r peer new
 passes_own_holds r peer course in_use old new (unit, first, begun, new_is) judged h =
     let right = first_is old.tap old.put new.put unit first (h.under_way begun) in
-    let puts = subst (λ (l : List Value). PutsAt peer h.limit h.tally old.tap.left old.tap.right l old.link) first h.puts in
-    let p = unit_passes peer h.limit h.tally h.noted old.tap h.ordered h.taps old.link unit new.put puts in
+    let puts = subst (λ (l : List Value). PutsAt r peer h.limit h.tally old.tap.left old.tap.right l old.link) first h.puts in
+    let p = unit_passes r peer h.limit h.tally h.noted old.tap h.ordered h.taps old.link unit new.put puts in
     let after : new ≡ record old { put = new.put; begun = false; tap = sent_on Left unit old.tap } = new_is
     ∙ ap (λ (f : Finding). record old { put = new.put; begun = false; tap = after_finding Left f unit old.tap })
     (is_kept course in_use old.tap unit judged right) in
-    subst (λ (l : Line). Holds peer l) (sym after)
+    subst (λ (l : Line). Holds r peer l) (sym after)
     (record {
       limit = h.limit;
       tally = record h.tally { passed = p.passed; shown = p.shown };

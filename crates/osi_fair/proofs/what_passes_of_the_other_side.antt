@@ -17,18 +17,18 @@ use Rattle.osi_fair.specs.Later.{IsLater}
 use Rattle.osi_fair.specs.Lines.{IsRightNow}
 use Rattle.osi_fair.proofs.what_was_right_stays_right.{passed_stays}
 use Rattle.osi_fair.proofs.units_in_flight.{Came, Comes, HasMoreCome, comes_more, puts_still}
-use Rattle.osi_fair.proofs.what_holds_of_a_line.{Tally, Ordered, PutsAt, TakesAt, anyhow, bounds_of, came_of, ends_so}
-use Rattle.osi_fair.proofs.what_holds_of_a_line.{is_there, tapped}
+use Rattle.osi_fair.proofs.what_holds_of_a_line.{Tally, Ordered, PutsAt, TakesAt, bounds_of, came_of, ends_so}
+use Rattle.osi_fair.proofs.what_holds_of_a_line.{is_there, shut, tapped}
 
 -- the line after it, with this record of the tap
-pub record Went (peer limit : ℕ) (x : Tally) (noted : ℕ) (tap after : Connection) (put coming : List Value)
+pub record Went (r peer limit : ℕ) (x : Tally) (noted : ℕ) (tap after : Connection) (put coming : List Value)
     (link : Option Standing) : Type 0 where
   pub came : ℕ
   pub heard : ℕ
   pub edge : ℕ
   pub ordered : Ordered (record x { came = came; heard = heard; edge = edge }) noted
-  pub taps : tapped peer limit (record x { came = came; heard = heard; edge = edge }) noted after
-  pub puts : PutsAt peer limit (record x { came = came; heard = heard; edge = edge }) after.left after.right put link
+  pub taps : tapped r peer limit (record x { came = came; heard = heard; edge = edge }) noted after
+  pub puts : PutsAt r peer limit (record x { came = came; heard = heard; edge = edge }) after.left after.right put link
   pub takes : TakesAt limit (record x { came = came; heard = heard; edge = edge }) after.right coming link
   pub under_way : IsRightNow Left tap put → IsRightNow Left after put
 
@@ -40,8 +40,8 @@ right_later tap later (unit ∷ units) l h = record {
   kept = λ course in_use. passed_stays Left course in_use tap later unit l (h.kept course in_use);
 }
 
-module _ (peer limit : ℕ) (x : Tally) (noted : ℕ) (tap : Connection) (put coming : List Value) (link : Option Standing)
-    (o : Ordered x noted) (t : tapped peer limit x noted tap) (p : PutsAt peer limit x tap.left tap.right put link)
+module _ (r peer limit : ℕ) (x : Tally) (noted : ℕ) (tap : Connection) (put coming : List Value) (link : Option Standing)
+    (o : Ordered x noted) (t : tapped r peer limit x noted tap) (p : PutsAt r peer limit x tap.left tap.right put link)
     (k : TakesAt limit x tap.right coming link) where
   abbrev Base : Came → Value → Type 0
   Base s unit = (taken known : ℕ) → taken ≤ x.came → known ≤ x.heard → is_open tap.right.phase ≡ true → Comes s taken known (unit ∷ [])
@@ -50,17 +50,19 @@ module _ (peer limit : ℕ) (x : Tally) (noted : ℕ) (tap : Connection) (put co
 
   puts_later : (came heard edge : ℕ) (later : Half) (l : Option Standing) → (is_closing tap.right.phase ≡ true →
       is_closing later.phase ≡ true) →
-      PutsAt peer limit x tap.left tap.right put l →
-      PutsAt peer limit (record x { came = came; heard = heard; edge = edge }) tap.left later put l
+      PutsAt r peer limit x tap.left tap.right put l →
+      PutsAt r peer limit (record x { came = came; heard = heard; edge = edge }) tap.left later put l
   puts_later came heard edge later None closing (h, live) = (
-    puts_still (bounds_of peer limit x true tap.right) (bounds_of peer limit x true later) anyhow
-        (record { peer = refl; limit = refl; window = refl; sent = omega arith; acked = omega arith; closing = closing }) refl
+    puts_still (bounds_of r peer limit x true tap.right) (bounds_of r peer limit x true later) (shut tap.left.phase)
+        (record { reference = refl; peer = refl; limit = refl; window = refl; sent = omega arith; acked = omega arith; closing = closing })
+        refl
         x.passed x.shown tap.left.begun put h,
     live,
   )
   puts_later came heard edge later (Some link) closing (h, live) = (
-    puts_still (bounds_of peer limit x false tap.right) (bounds_of peer limit x false later) (ends_so x.sent link.ends.unsent)
-        (record { peer = refl; limit = refl; window = refl; sent = omega arith; acked = omega arith; closing = closing }) refl
+    puts_still (bounds_of r peer limit x false tap.right) (bounds_of r peer limit x false later) (ends_so x.sent link.ends.unsent)
+        (record { reference = refl; peer = refl; limit = refl; window = refl; sent = omega arith; acked = omega arith; closing = closing })
+        refl
         x.passed x.shown tap.left.begun put h,
     live,
   )
@@ -91,10 +93,10 @@ module _ (peer limit : ℕ) (x : Tally) (noted : ℕ) (tap : Connection) (put co
 
   goes_later : (came heard edge : ℕ) (later : Half) (unit : Value) → IsLater tap.left tap.right later →
       Ordered (record x { came = came; heard = heard; edge = edge }) noted →
-      tapped peer limit (record x { came = came; heard = heard; edge = edge }) noted (record tap { right = later }) →
+      tapped r peer limit (record x { came = came; heard = heard; edge = edge }) noted (record tap { right = later }) →
       HasMoreCome (came_of x tap.right) (came_of (record x { came = came; heard = heard; edge = edge }) later) →
       Base (came_of (record x { came = came; heard = heard; edge = edge }) later) unit →
-      Went peer limit x noted tap (record tap { right = later }) put (coming ++ unit ∷ []) link
+      Went r peer limit x noted tap (record tap { right = later }) put (coming ++ unit ∷ []) link
   goes_later came heard edge later unit is ordered taps more base = record {
     came = came;
     heard = heard;
@@ -106,7 +108,7 @@ module _ (peer limit : ℕ) (x : Tally) (noted : ℕ) (tap : Connection) (put co
     under_way = λ h. right_later tap later put is h;
   }
 
-  pub goes_same : (unit : Value) → Base (came_of x tap.right) unit → Went peer limit x noted tap tap put (coming ++ unit ∷ []) link
+  pub goes_same : (unit : Value) → Base (came_of x tap.right) unit → Went r peer limit x noted tap tap put (coming ++ unit ∷ []) link
   goes_same unit base = record {
     came = x.came;
     heard = x.heard;
@@ -131,7 +133,7 @@ module _ (peer limit : ℕ) (x : Tally) (noted : ℕ) (tap : Connection) (put co
   -- ---- a DT
 
   pub data_goes : (destination number : ℕ) (end : Bool) (user : List ℕ) → is_tellable Right tap ≡ true →
-      Went peer limit x noted tap (sent_on Right (data2 destination number end user) tap) put
+      Went r peer limit x noted tap (sent_on Right (data2 destination number end user) tap) put
       (coming ++ data2 destination number end user ∷ []) link
   data_goes destination number end user tells =
       let a = t.awaited in
@@ -157,6 +159,7 @@ module _ (peer limit : ℕ) (x : Tally) (noted : ℕ) (tap : Connection) (put co
         their_awaited = t.their_awaited;
         their_edge = t.their_edge;
         known_next = t.known_next;
+        own_reference = t.own_reference;
         reference = t.reference;
         there = t.there;
         fits = t.fits;
@@ -168,7 +171,7 @@ module _ (peer limit : ℕ) (x : Tally) (noted : ℕ) (tap : Connection) (put co
 
   pub ack_goes : (credit destination number : ℕ) → number < 128 → credit < 16 → has_passed Right tap number ≡ true →
       keeps_credit Right tap number credit ≡ true →
-      Went peer limit x noted tap (sent_on Right (acknowledge credit destination number) tap) put
+      Went r peer limit x noted tap (sent_on Right (acknowledge credit destination number) tap) put
       (coming ++ acknowledge credit destination number ∷ []) link
   ack_goes credit destination number small little had keeps =
       let a = t.their_awaited in
@@ -202,6 +205,7 @@ module _ (peer limit : ℕ) (x : Tally) (noted : ℕ) (tap : Connection) (put co
         their_awaited = is;
         their_edge = refl;
         known_next = t.known_next;
+        own_reference = t.own_reference;
         reference = t.reference;
         there = t.there;
         fits = t.fits;
@@ -213,7 +217,7 @@ module _ (peer limit : ℕ) (x : Tally) (noted : ℕ) (tap : Connection) (put co
 
   pub ends_goes : (phase : Phase) (unit : Value) → is_there phase ≡ true → (is_closing tap.right.phase ≡ true → is_closing phase ≡ true) →
       Base (came_of x (record tap.right { phase = phase })) unit →
-      Went peer limit x noted tap (record tap { right = record tap.right { phase = phase } }) put (coming ++ unit ∷ []) link
+      Went r peer limit x noted tap (record tap { right = record tap.right { phase = phase } }) put (coming ++ unit ∷ []) link
   ends_goes phase unit there closing base =
       goes_later x.came x.heard x.edge (record tap.right { phase = phase }) unit
       (record { next = omega arith; awaited = omega arith; credit = omega arith; closing = closing })
@@ -235,6 +239,7 @@ module _ (peer limit : ℕ) (x : Tally) (noted : ℕ) (tap : Connection) (put co
         their_awaited = t.their_awaited;
         their_edge = t.their_edge;
         known_next = t.known_next;
+        own_reference = t.own_reference;
         reference = t.reference;
         there = there;
         fits = t.fits;

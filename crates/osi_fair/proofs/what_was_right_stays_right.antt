@@ -1,7 +1,7 @@
 -- What was right stays right if more of the other side has passed: row by row.
 -- For the law of that name.
 use Rattle.std.proofs.Common.{◌≡◌, ℕ, ◌+◌, ◌≤◌, Bool, true, false, length, arith, refl}
-use Rattle.std.specs.Prelude.{◌&&◌, ◌||◌, not, nat_le, nat_lt}
+use Rattle.std.specs.Prelude.{◌&&◌, ◌||◌, ◌==◌, not, nat_le, nat_lt}
 use Rattle.std.proofs.lemmas.Bool.{leb-true, le-leb, ltb-true, lt-ltb}
 use Rattle.osi_tpdu.specs.Value.{Value, request, confirm, disconnect, disconnected, data0, data2, acknowledge, error}
 use Rattle.osi_rules.specs.declared.connections.Connection.{Connection}
@@ -10,7 +10,7 @@ use Rattle.osi_rules.specs.declared.directions.Direction.{Direction}
 use Rattle.osi_rules.specs.declared.directions.Direction.TheVariants.{Left, Right}
 use Rattle.osi_rules.specs.declared.findings.Finding.TheVariants.{Kept}
 use Rattle.osi_rules.specs.declared.halves.Half.{Half}
-use Rattle.osi_rules.specs.Rows.{first_failed, steps_from, data2_tests, acknowledge_tests, disconnected_tests}
+use Rattle.osi_rules.specs.Rows.{first_failed, steps_from, data2_tests, acknowledge_tests, disconnected_tests, is_due}
 use Rattle.osi_rules.specs.Sides.{is_open, is_closing, own, theirs, seen, sends, other}
 use Rattle.osi_rules.specs.Traffic.{found}
 use Rattle.osi_fair.specs.Later.{IsLater, knows}
@@ -72,26 +72,30 @@ ack_known Right c later number credit h e =
 
 -- ---- a DC, which is due
 
-due_stays : (live before after : Bool) → (before ≡ true → after ≡ true) → (live && before) ≡ true → (live && after) ≡ true
-due_stays true before after more h = more h
-due_stays false before after more h = h
+due_stays : (live before after mine : Bool) → (before ≡ true → after ≡ true) → (live && (before && mine)) ≡ true →
+    (live && (after && mine)) ≡ true
+due_stays true true after mine more h = rw (more refl) h
+due_stays true false after mine more h = cc
+due_stays false before after mine more h = h
 
 or_left : (a b : Bool) → a ≡ true → (a || b) ≡ true
 or_left true b h = refl
 or_left false b h = cc
 
-confirm_known : (d : Direction) (c : Connection) (later : Half) (strays : Bool) → IsLater (own d c) (seen d c) later →
-    first_failed (disconnected_tests d c strays) ≡ Kept → first_failed (disconnected_tests d (knows d later c) strays) ≡ Kept
-confirm_known Left c later strays h e =
-    let p = passes_each (disconnected_tests Left c strays) refl e in
-    let due = due_stays (is_open c.left.phase) (is_closing c.seen_by_left.phase) (is_closing later.phase) h.closing p.1.0 in
-    is_right (disconnected_tests Left (knows Left later c) strays)
-    (or_left (is_open c.left.phase && is_closing later.phase) (not strays) due, (due, tt))
-confirm_known Right c later strays h e =
-    let p = passes_each (disconnected_tests Right c strays) refl e in
-    let due = due_stays (is_open c.right.phase) (is_closing c.seen_by_right.phase) (is_closing later.phase) h.closing p.1.0 in
-    is_right (disconnected_tests Right (knows Right later c) strays)
-    (or_left (is_open c.right.phase && is_closing later.phase) (not strays) due, (due, tt))
+confirm_known : (d : Direction) (c : Connection) (later : Half) (source : ℕ) (strays : Bool) → IsLater (own d c) (seen d c) later →
+    first_failed (disconnected_tests d c source strays) ≡ Kept → first_failed (disconnected_tests d (knows d later c) source strays) ≡ Kept
+confirm_known Left c later source strays h e =
+    let p = passes_each (disconnected_tests Left c source strays) refl e in
+    let due = due_stays (is_open c.left.phase) (is_closing c.seen_by_left.phase) (is_closing later.phase) (source == c.left.reference)
+    h.closing p.1.0 in
+    is_right (disconnected_tests Left (knows Left later c) source strays)
+    (or_left (is_due Left (knows Left later c) source) (not strays) due, (due, tt))
+confirm_known Right c later source strays h e =
+    let p = passes_each (disconnected_tests Right c source strays) refl e in
+    let due = due_stays (is_open c.right.phase) (is_closing c.seen_by_right.phase) (is_closing later.phase) (source == c.right.reference)
+    h.closing p.1.0 in
+    is_right (disconnected_tests Right (knows Right later c) source strays)
+    (or_left (is_due Right (knows Right later c) source) (not strays) due, (due, tt))
 
 -- ---- what has passed of the other side since then
 
@@ -113,7 +117,8 @@ pub known_stays : (d : Direction) (course : Course) (in_use : Bool) (c : Connect
 known_stays Left course in_use c later (request x) h e = e
 known_stays Left course in_use c later (confirm destination x) h e = e
 known_stays Left course in_use c later (disconnect destination source reason user) h e = e
-known_stays Left course in_use c later (disconnected destination source) h e = confirm_known Left c later course.strays h e
+known_stays Left course in_use c later (disconnected destination source) h e =
+    confirm_known Left c later source course.strays h e
 known_stays Left course in_use c later (data0 end user) h e = e
 known_stays Left course in_use c later (data2 destination number end user) h e = data_known Left c later number (length user) h e
 known_stays Left course in_use c later (acknowledge credit destination number) h e = ack_known Left c later number credit h e
@@ -121,7 +126,8 @@ known_stays Left course in_use c later (error destination cause) h e = e
 known_stays Right course in_use c later (request x) h e = e
 known_stays Right course in_use c later (confirm destination x) h e = e
 known_stays Right course in_use c later (disconnect destination source reason user) h e = e
-known_stays Right course in_use c later (disconnected destination source) h e = confirm_known Right c later course.strays h e
+known_stays Right course in_use c later (disconnected destination source) h e =
+    confirm_known Right c later source course.strays h e
 known_stays Right course in_use c later (data0 end user) h e = e
 known_stays Right course in_use c later (data2 destination number end user) h e = data_known Right c later number (length user) h e
 known_stays Right course in_use c later (acknowledge credit destination number) h e = ack_known Right c later number credit h e
