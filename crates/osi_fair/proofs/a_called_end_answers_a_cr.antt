@@ -1,0 +1,493 @@
+-- A called end takes a CR, and puts its answer: a DR that refuses it, or a CC with the next reference.
+-- For the law on a whole called end.
+use Rattle.std.proofs.Common.{◌≡◌, ◌≢◌, ◌∙◌, ◌≤◌, ◌<◌, ◌+◌, ℕ, Bool, true, false, List, [], ◌∷◌, ◌++◌, refl, sym, ap, subst, arith}
+use Rattle.std.proofs.Common.{Option, Some, None, inl, inr, ◌⊎◌, is_some, if◌then◌else◌}
+use Rattle.std.specs.Prelude.{◌&&◌, ◌==◌, slice_get}
+use Rattle.std.specs.List.{AllByRecursion}
+use Rattle.std.proofs.lemmas.Bool.{eq-eqb, eqb-true}
+use Rattle.std.proofs.lemmas.List.{append-nil}
+use Rattle.osi_tpdu.specs.Value.{Value, Connect, request, confirm, disconnect, disconnected, data0, data2, acknowledge, error}
+use Rattle.osi_tpdu.specs.Value.{destination_of}
+use Rattle.osi_class.specs.Link.{Standing}
+use Rattle.osi_class.specs.Negotiation.{accept, selected_by}
+use Rattle.osi_class.specs.declared.terms.Class.TheVariants.{Two}
+use Rattle.osi_class.specs.declared.terms.Local.{Local}
+use Rattle.osi_carrier.specs.Negotiation.{acceptance, opened_link}
+use Rattle.osi_carrier.specs.Rows.{Rows, value_at}
+use Rattle.osi_carrier.specs.State.{State, Connection as Live, linked}
+use Rattle.osi_rules.specs.declared.connections.Connection.{Connection}
+use Rattle.osi_fair.specs.Wholes.{Whole}
+use Rattle.osi_fair.proofs.each_connection_of_a_called_end.{Among, AreAbove, Answering, Asked, Called, IsDc, IsFor, IsStray, IsUnlinked}
+use Rattle.osi_fair.proofs.each_connection_of_a_called_end.{Row, Stand, Untagged, answers, closes, comes, first_some, over, past, refuses}
+use Rattle.osi_fair.proofs.each_connection_of_a_called_end.{runs, talks}
+use Rattle.osi_fair.proofs.units_by_their_place.{Placed, at_first, at_join, at_other, first_at, first_more, units_at, values, values_join}
+use Rattle.osi_fair.proofs.what_a_called_end_does_to_its_lines.{above_more, some_more, strays_keep}
+use Rattle.osi_fair.proofs.what_is_live_at_a_called_end.{IsKnown, Timely, timely_answers, timely_puts}
+use Rattle.osi_fair.proofs.which_units_are_for_a_connection.{keep, names_in, those}
+
+differ : {A : Type 0} (b : Bool) → b ≡ true → b ≡ false → A
+differ b h k = absurd (cc)
+
+unlike : (q p : ℕ) → (q == p) ≡ false → q ≡ p → ⊥
+unlike q p h e = differ (q == p) (ap (λ (x : ℕ). x == p) e ∙ eq-eqb p p refl) h
+
+number_is : (m n : ℕ) → Some m ≡ Some n → m ≡ n
+number_is m n e = cc
+
+no_number : {A : Type 0} (o : Option ℕ) (n : ℕ) → o ≡ None → o ≡ Some n → A
+no_number o n e h = absurd (cc)
+
+no_list : {A : Type 0} (v : Value) (vs l : List Value) → l ≡ v ∷ vs → l ≡ [] → A
+no_list v vs l h e = absurd (cc)
+
+rest_none : (v : Value) (vs l : List Value) → l ≡ v ∷ vs → (x : Value) → l ≡ x ∷ [] → vs ≡ []
+rest_none v vs l h x e = cc
+
+request_is : (x y : Connect) (vs ys l : List Value) → l ≡ request x ∷ vs → l ≡ request y ∷ ys → x ≡ y
+request_is x y vs ys l h e = cc
+
+and_second : (a b : Bool) → (a && b) ≡ true → b ≡ true
+and_second true b h = h
+and_second false b h = cc
+
+gone_not : {A : Type 0} (o : Option Connection) (c : Connection) → o ≡ Some c → o ≡ None → A
+gone_not o c h e = absurd (cc)
+
+item_is : (c e : Connection) (o : Option Connection) → o ≡ Some c → o ≡ Some e → c ≡ e
+item_is c e o h k = cc
+
+place_not : (b : Bool) (c : Bool) → c ≡ b → (b ≡ true → ⊥) → b ≡ false
+place_not true c e h = absurd (h refl)
+place_not false c e h = refl
+
+-- what has come for a reference that was not given is DCs
+own_by : (given r m : ℕ) (v : Value) (vs : List Value) (b : Bool) → (m == r) ≡ b → given < r → (m ≤ given) ⊎ IsDc v →
+    Among [] vs → Among [] (keep b v vs)
+own_by given r m v vs false e above h a = a
+own_by given r m v vs true e above (inl k) a = let same = eqb-true m r e in absurd (omega arith)
+own_by given r m v vs true e above (inr dc) a = inl (dc, a)
+
+not_own : (given r : ℕ) (v : Value) (vs : List Value) (o : Option ℕ) → destination_of v ≡ o → given < r → IsFor given v →
+    Among [] vs → Among [] (keep (names_in r o) v vs)
+not_own given r v vs None d above h a = a
+not_own given r v vs (Some m) d above h a = own_by given r m v vs (m == r) refl above (h m d) a
+
+dcs_alone : (given r : ℕ) (vs : List Value) → given < r → AllByRecursion (IsFor given) vs → Among [] (those r vs)
+dcs_alone given r [] above h = refl
+dcs_alone given r (v ∷ vs) above (one, more) =
+    not_own given r v (those r vs) (destination_of v) refl above one (dcs_alone given r vs above more)
+
+above_cc : (given n : ℕ) (vs : List Value) (m : ℕ) (x : Connect) → x.source ≡ given + 1 → AreAbove given n vs →
+    AreAbove (given + 1) n (vs ++ confirm m x ∷ [])
+above_cc given n [] m x e h = (omega arith, omega arith)
+above_cc given n (request y ∷ vs) m x e h = above_cc given n vs m x e h
+above_cc given n (confirm destination y ∷ vs) m x e (above, h) = (above, above_cc given y.source vs m x e h)
+above_cc given n (disconnect destination source reason user ∷ vs) m x e h = above_cc given n vs m x e h
+above_cc given n (disconnected destination source ∷ vs) m x e h = above_cc given n vs m x e h
+above_cc given n (data0 end user ∷ vs) m x e h = above_cc given n vs m x e h
+above_cc given n (data2 destination number end user ∷ vs) m x e h = above_cc given n vs m x e h
+above_cc given n (acknowledge credit destination number ∷ vs) m x e h = above_cc given n vs m x e h
+above_cc given n (error destination cause ∷ vs) m x e h = above_cc given n vs m x e h
+
+for_by : (given m : ℕ) (v : Value) → (m ≤ given) ⊎ IsDc v → (m ≤ given + 1) ⊎ IsDc v
+for_by given m v (inl h) = inl (omega arith)
+for_by given m v (inr dc) = inr dc
+
+for_more : (given : ℕ) (vs : List Value) → AllByRecursion (IsFor given) vs → AllByRecursion (IsFor (given + 1)) vs
+for_more given [] h = tt
+for_more given (v ∷ vs) (one, more) = (λ m e. for_by given m v (one m e), for_more given vs more)
+
+-- ---- the place of the CR
+
+module _ (local : Local) (w : Whole) (f : Called local w) (was : w.end.ended ≡ None) (p : ℕ) (x : Connect) (later : List Placed)
+    (came : f.came ≡ (Some p, request x) ∷ later) (coming : List Value) (come_is : coming ≡ values later)
+    (few : AllByRecursion (IsFor w.end.given) coming) where
+  abbrev s : State
+  s = w.end
+
+  asks_here : units_at p f.came ≡ request x ∷ units_at p later
+  asks_here = ap (λ (l : List Placed). units_at p l) came ∙ at_first p (request x) later
+
+  asks_other : (i : ℕ) → (i ≡ p → ⊥) → units_at i later ≡ units_at i f.came
+  asks_other i other = sym (ap (λ (l : List Placed). units_at i l) came ∙ at_other i p (request x) later (λ e. other (sym e)))
+
+  those_same : (m : ℕ) → those m coming ≡ those m w.coming
+  those_same m = ap (λ (l : List Value). those m l) come_is
+      ∙ sym (ap (λ (l : List Value). those m l) (f.come ∙ ap (λ (l : List Placed). values l) came))
+
+  untagged_later : AllByRecursion Untagged later
+  untagged_later = (subst (AllByRecursion Untagged) came f.untagged).1
+
+  known_later : w.tap.course.strays ≡ false → AllByRecursion (IsKnown s.given) coming
+  known_later none = subst (AllByRecursion (IsKnown s.given)) (sym come_is)
+      (subst (AllByRecursion (IsKnown s.given)) (f.come ∙ ap (λ (l : List Placed). values l) came) (f.timely none was).known).1
+
+  -- the connection of the CR
+  record Place : Type 0 where
+    c : Connection
+    at : slice_get w.tap.connections p ≡ Some c
+    asked : Asked x c
+    none : units_at p f.tagged ≡ []
+    no_more : units_at p later ≡ []
+    no_ref : f.refs p ≡ None
+
+  stand_place : (c : Connection) → slice_get w.tap.connections p ≡ Some c →
+      Stand local f.shut s w.coming (units_at p f.tagged) (units_at p f.came) (w.begun && first_at p f.tagged) (f.refs p) c → Place
+  stand_place c at (comes y a none ask e) =
+      let same : x ≡ y = request_is x y (units_at p later) [] (units_at p f.came) asks_here (ask was) in
+      record {
+        c = c;
+        at = at;
+        asked = subst (λ (z : Connect). Asked z c) (sym same) a;
+        none = none;
+        no_more = rest_none (request x) (units_at p later) (units_at p f.came) asks_here (request y) (ask was);
+        no_ref = e;
+      }
+  stand_place c at (refuses y a reason is none e seen) = no_list (request x) (units_at p later) (units_at p f.came) asks_here none
+  stand_place c at (answers h none) = no_list (request x) (units_at p later) (units_at p f.came) asks_here none
+  stand_place c at (runs h none) = no_list (request x) (units_at p later) (units_at p f.came) asks_here none
+  stand_place c at (past silent up none ask un off) = no_list (request x) (units_at p later) (units_at p f.came) asks_here ask
+
+  place_by : (o : Option Connection) → slice_get w.tap.connections p ≡ o → Place
+  place_by None e = no_list (request x) (units_at p later) (units_at p f.came) asks_here (f.beyond p e).1
+  place_by (Some c) e = stand_place c e (f.stands p c e)
+
+  place : Place
+  place = place_by (slice_get w.tap.connections p) refl
+
+  -- ---- what is put at this place
+
+  module _ (v : Value) where
+    abbrev tagged : List Placed
+    tagged = f.tagged ++ (Some p, v) ∷ []
+
+    values_are : values tagged ≡ values f.tagged ++ v ∷ []
+    values_are = values_join f.tagged ((Some p, v) ∷ [])
+
+    begun_same : (i : ℕ) → (w.begun && first_at i tagged) ≡ (w.begun && first_at i f.tagged)
+    begun_same i = first_more w.begun i f.tagged ((Some p, v) ∷ []) f.some
+
+    begun_not : {A : Type 0} → (w.begun && first_at p tagged) ≡ true → A
+    begun_not e = absurd (first_some p f.tagged (and_second w.begun (first_at p f.tagged) (sym (begun_same p) ∙ e)) place.none)
+
+    mine_here : units_at p tagged ≡ v ∷ []
+    mine_here = at_join p f.tagged ((Some p, v) ∷ []) ∙ ap (λ (l : List Value). l ++ units_at p ((Some p, v) ∷ [])) place.none
+        ∙ at_first p v []
+
+    mine_other : (i : ℕ) → (i ≡ p → ⊥) → units_at i tagged ≡ units_at i f.tagged
+    mine_other i other = at_join i f.tagged ((Some p, v) ∷ [])
+        ∙ ap (λ (l : List Value). units_at i f.tagged ++ l) (at_other i p v [] (λ e. other (sym e))) ∙ append-nil (units_at i f.tagged)
+
+    -- ---- the other connections
+
+    module _ (t : State) (rows : (m : ℕ) → m ≤ s.given → value_at m t.live ≡ value_at m s.live) where
+      unlinked_still : (r : ℕ) → r ≤ s.given → IsUnlinked s r → IsUnlinked t r
+      unlinked_still r up h lasts peer k e = h was peer k (sym (rows r up) ∙ e)
+
+      row_same : (r peer : ℕ) (link : Option Standing) (come : List Value) → r ≤ s.given → Row s w.coming r peer link come →
+          Row t coming r peer link come
+      row_same r peer link come up (talks k there is among) =
+          talks k (rows r up ∙ there) is (subst (Among come) (sym (those_same r)) among)
+      row_same r peer link come up (closes un is among) =
+          closes (unlinked_still r up un) is (subst (Among come) (sym (those_same r)) among)
+      row_same r peer link come up (over h) = differ (is_some s.ended) h (ap is_some was)
+
+      stand_same : (i : ℕ) (c : Connection) (mine : List Value) (begun : Bool) → (i ≡ p → ⊥) →
+          Stand local f.shut s w.coming mine (units_at i f.came) begun (f.refs i) c →
+          Stand local f.shut t coming mine (units_at i later) begun (f.refs i) c
+      stand_same i c mine begun other (comes y a none ask e) = comes y a none (λ lasts. asks_other i other ∙ ask was) e
+      stand_same i c mine begun other (refuses y a reason is none e seen) = refuses y a reason is (asks_other i other ∙ none) e seen
+      stand_same i c mine begun other (answers h none) = answers (record {
+        x = h.x;
+        size = h.size;
+        r = h.r;
+        index = h.index;
+        asked = h.asked;
+        selected = h.selected;
+        link = h.link;
+        more = h.more;
+        come = h.come;
+        mine_is = h.mine_is;
+        acts = h.acts;
+        along = h.along;
+        seen = h.seen;
+        row = row_same h.r h.x.source h.link h.come (f.homes i h.r h.index).1 h.row;
+        shut_is = h.shut_is;
+      }) (asks_other i other ∙ none)
+      stand_same i c mine begun other (runs g none) = runs (record {
+        r = g.r;
+        peer = g.peer;
+        index = g.index;
+        line = g.line;
+        tap = g.tap;
+        put = g.put;
+        begun_is = g.begun_is;
+        first = g.first;
+        acts = g.acts;
+        opened = g.opened;
+        along = g.along;
+        there = g.there;
+        right = g.right;
+        left = g.left;
+        row = row_same g.r g.peer g.line.link g.line.coming (f.homes i g.r g.index).1 g.row;
+        shut_is = g.shut_is;
+      }) (asks_other i other ∙ none)
+      stand_same i c mine begun other (past silent up none ask un off) =
+          past silent up none (asks_other i other ∙ ask) (λ r e. unlinked_still r (f.homes i r e).1 (un r e)) off
+
+      stand_else : (i : ℕ) (c : Connection) → (i ≡ p → ⊥) → slice_get w.tap.connections i ≡ Some c →
+          Stand local f.shut t coming (units_at i tagged) (units_at i later) (w.begun && first_at i tagged) (f.refs i) c
+      stand_else i c other at =
+          subst (λ (b : Bool). Stand local f.shut t coming (units_at i tagged) (units_at i later) b (f.refs i) c) (sym (begun_same i))
+          (subst (λ (l : List Value). Stand local f.shut t coming l (units_at i later) (w.begun && first_at i f.tagged) (f.refs i) c)
+          (sym (mine_other i other))
+          (stand_same i c (units_at i f.tagged) (w.begun && first_at i f.tagged) other (f.stands i c at)))
+
+      gone_by : (i : ℕ) → slice_get w.tap.connections i ≡ None → (b : Bool) → (i == p) ≡ b →
+          (units_at i tagged ≡ []) × (units_at i later ≡ []) × ((r : ℕ) → f.refs i ≡ Some r → IsUnlinked t r)
+      gone_by i none true e = gone_not (slice_get w.tap.connections p) place.c place.at
+          (ap (λ (j : ℕ). slice_get w.tap.connections j) (sym (eqb-true i p e)) ∙ none)
+      gone_by i none false e =
+          let (a, b, d) = f.beyond i none in
+          (mine_other i (unlike i p e) ∙ a, asks_other i (unlike i p e) ∙ b, λ r k. unlinked_still r (f.homes i r k).1 (d r k))
+
+  -- ---- it is refused
+
+  module _ (t : State) (reason : ℕ) (live : t.live ≡ s.live) (given : t.given ≡ s.given)
+      (timely : w.tap.course.strays ≡ false → t.ended ≡ None → Timely t coming w.tap.connections (values f.tagged)) where
+    abbrev dr : Value
+    dr = disconnect x.source 0 reason []
+
+    rows_dr : (m : ℕ) → m ≤ s.given → value_at m t.live ≡ value_at m s.live
+    rows_dr m up = ap (λ (l : Rows Live). value_at m l) live
+
+    stand_dr : (c : Connection) → Asked x c → Stand local f.shut t coming (units_at p (tagged dr)) (units_at p later)
+        (w.begun && first_at p (tagged dr)) (f.refs p) c
+    stand_dr c a = refuses x a reason (mine_here dr) place.no_more place.no_ref (λ e. begun_not dr e)
+
+    dr_by : (i : ℕ) (c : Connection) (b : Bool) → (i == p) ≡ b → slice_get w.tap.connections i ≡ Some c →
+        Stand local f.shut t coming (units_at i (tagged dr)) (units_at i later) (w.begun && first_at i (tagged dr)) (f.refs i) c
+    dr_by i c true e at =
+        let same = eqb-true i p e in
+        let is : place.c ≡ c = item_is place.c c (slice_get w.tap.connections p) place.at
+        (ap (λ (j : ℕ). slice_get w.tap.connections j) (sym same) ∙ at) in
+        subst (λ (j : ℕ). Stand local f.shut t coming (units_at j (tagged dr)) (units_at j later) (w.begun && first_at j (tagged dr))
+        (f.refs j) c)
+        (sym same) (stand_dr c (subst (λ (y : Connection). Asked x y) is place.asked))
+    dr_by i c false e at = stand_else dr t rows_dr i c (unlike i p e) at
+
+    stray_dr : (v : Value) (rest : List Placed) → IsStray f.shut s f.refs f.home w.tap.course.strays v rest →
+        IsStray f.shut t f.refs f.home w.tap.course.strays v (rest ++ (Some p, dr) ∷ [])
+    stray_dr v rest a = record {
+      m = a.m;
+      n = a.n;
+      is = a.is;
+      strays_is = a.strays_is;
+      given = subst (λ (i : ℕ). a.n ≤ i) (sym given) a.given;
+      shut_is = a.shut_is;
+      none = λ e. at_join (f.home a.n) rest ((Some p, dr) ∷ [])
+          ∙ ap (λ (l : List Value). units_at (f.home a.n) rest ++ l) (at_other (f.home a.n) p dr []
+          (λ same. no_number (f.refs p) a.n place.no_ref (ap (λ (j : ℕ). f.refs j) same ∙ e)))
+          ∙ append-nil (units_at (f.home a.n) rest) ∙ a.none e;
+    }
+
+    pub is_refused : Called local (record w { end = t; put = w.put ++ dr ∷ []; coming = coming })
+    is_refused = record {
+      tagged = tagged dr;
+      put = ap (λ (l : List Value). l ++ dr ∷ []) f.put ∙ sym (values_are dr);
+      came = later;
+      come = come_is;
+      refs = f.refs;
+      home = f.home;
+      shut = f.shut;
+      stands = λ i c at. dr_by i c (i == p) refl at;
+      beyond = λ i none. gone_by dr t rows_dr i none (i == p) refl;
+      homes = λ i r e. ((f.homes i r e).0, subst (λ (j : ℕ). r ≤ j) (sym given) (f.homes i r e).1);
+      linked_at = λ lasts r peer k there. f.linked_at was r peer k (ap (λ (l : Rows Live). value_at r l) (sym live) ∙ there);
+      shut_given = λ r e. subst (λ (j : ℕ). r ≤ j) (sym given) (f.shut_given r e);
+      strays = strays_keep f.shut f.shut s t f.refs f.refs f.home f.home w.tap.course.strays f.tagged ((Some p, dr) ∷ []) stray_dr
+          (tt, tt) f.strays;
+      last = f.last;
+      tops = f.tops;
+      above = subst (λ (j : ℕ). AreAbove j f.last (values (tagged dr))) (sym given)
+          (subst (AreAbove s.given f.last) (sym (values_are dr))
+          (above_more s.given f.last (values f.tagged) (dr ∷ []) (λ m y e. absurd (cc e), tt) f.above));
+      class = f.class;
+      two = f.two;
+      class_seen = f.class_seen;
+      some = λ h. subst (λ (l : List Value). l ≢ []) (sym (values_are dr)) (some_more (values f.tagged) (dr ∷ []) (f.some h));
+      few = subst (λ (j : ℕ). AllByRecursion (IsFor j) coming) (sym given) few;
+      untagged = untagged_later;
+      timely = λ none lasts. subst (λ (l : List Value). Timely t coming w.tap.connections l) (sym (values_are dr))
+          (timely_puts t coming w.tap.connections (values f.tagged) (dr ∷ []) (λ m y e. absurd (cc e), tt) (timely none lasts));
+    }
+
+  -- ---- it is accepted
+
+  module _ (t : State) (size : Option ℕ) (selected : selected_by x local ≡ accept Two size) (given : t.given ≡ s.given + 1)
+      (rows : (m : ℕ) → m ≤ s.given → value_at m t.live ≡ value_at m s.live)
+      (new : value_at (s.given + 1) t.live ≡ Some (linked x.source (opened_link Two size local x.credit)))
+      (others : (m peer : ℕ) (l : Standing) → value_at m t.live ≡ Some (linked peer l) → (m ≡ s.given + 1 → ⊥) → m ≤ s.given)
+      (timely : w.tap.course.strays ≡ false → t.ended ≡ None → Timely t coming w.tap.connections (values f.tagged)) where
+    abbrev r : ℕ
+    r = s.given + 1
+
+    abbrev cc_is : Value
+    cc_is = confirm x.source (acceptance Two size x local r)
+
+    abbrev refs : ℕ → Option ℕ
+    refs i = if i == p then Some r else f.refs i
+
+    abbrev home : ℕ → ℕ
+    home m = if m == r then p else f.home m
+
+    refs_here : (i : ℕ) → (i == p) ≡ true → refs i ≡ Some r
+    refs_here i e = ap (λ (b : Bool). if b then Some r else f.refs i) e
+
+    refs_other : (i : ℕ) → (i == p) ≡ false → refs i ≡ f.refs i
+    refs_other i e = ap (λ (b : Bool). if b then Some r else f.refs i) e
+
+    home_here : (m : ℕ) → (m == r) ≡ true → home m ≡ p
+    home_here m e = ap (λ (b : Bool). if b then p else f.home m) e
+
+    home_other : (m : ℕ) → (m == r) ≡ false → home m ≡ f.home m
+    home_other m e = ap (λ (b : Bool). if b then p else f.home m) e
+
+    same_true : (i : ℕ) → (i == i) ≡ true
+    same_true i = eq-eqb i i refl
+
+    not_by : (m : ℕ) (b : Bool) → (m == r) ≡ b → m ≤ s.given → b ≡ false
+    not_by m true e up = let same = eqb-true m r e in absurd (omega arith)
+    not_by m false e up = refl
+
+    below_not : (m : ℕ) → m ≤ s.given → (m == r) ≡ false
+    below_not m up = not_by m (m == r) refl up
+
+    home_old : (m : ℕ) → m ≤ s.given → home m ≡ f.home m
+    home_old m up = home_other m (below_not m up)
+
+    new_answer : (c : Connection) → Asked x c → Answering local f.shut t coming (units_at p (tagged cc_is))
+        (w.begun && first_at p (tagged cc_is)) (Some r) c
+    new_answer c a = record {
+      x = x;
+      size = size;
+      r = r;
+      index = refl;
+      asked = a;
+      selected = selected;
+      link = Some (opened_link Two size local x.credit);
+      more = [];
+      come = [];
+      mine_is = mine_here cc_is;
+      acts = [];
+      along = λ tap. refl;
+      seen = λ e. begun_not cc_is e;
+      row = talks (opened_link Two size local x.credit) new refl (dcs_alone s.given r coming (omega arith) few);
+      shut_is = λ e. let up = f.shut_given r e in absurd (omega arith);
+    }
+
+    cc_by : (i : ℕ) (c : Connection) (b : Bool) → (i == p) ≡ b → slice_get w.tap.connections i ≡ Some c →
+        Stand local f.shut t coming (units_at i (tagged cc_is)) (units_at i later) (w.begun && first_at i (tagged cc_is)) (refs i) c
+    cc_by i c true e at =
+        let same = eqb-true i p e in
+        let is : place.c ≡ c = item_is place.c c (slice_get w.tap.connections p) place.at
+        (ap (λ (j : ℕ). slice_get w.tap.connections j) (sym same) ∙ at) in
+        subst (λ (o : Option ℕ). Stand local f.shut t coming (units_at i (tagged cc_is)) (units_at i later) (w.begun && first_at i
+        (tagged cc_is)) o c)
+        (sym (refs_here i e))
+        (subst (λ (j : ℕ). Stand local f.shut t coming (units_at j (tagged cc_is)) (units_at j later) (w.begun && first_at j
+        (tagged cc_is)) (Some r) c)
+        (sym same) (answers (new_answer c (subst (λ (y : Connection). Asked x y) is place.asked)) place.no_more))
+    cc_by i c false e at =
+        subst (λ (o : Option ℕ). Stand local f.shut t coming (units_at i (tagged cc_is)) (units_at i later) (w.begun && first_at i
+        (tagged cc_is)) o c)
+        (sym (refs_other i e)) (stand_else cc_is t rows i c (unlike i p e) at)
+
+    gone_cc : (i : ℕ) → slice_get w.tap.connections i ≡ None → (b : Bool) → (i == p) ≡ b →
+        (units_at i (tagged cc_is) ≡ []) × (units_at i later ≡ []) × ((m : ℕ) → refs i ≡ Some m → IsUnlinked t m)
+    gone_cc i none true e = gone_not (slice_get w.tap.connections p) place.c place.at
+        (ap (λ (j : ℕ). slice_get w.tap.connections j) (sym (eqb-true i p e)) ∙ none)
+    gone_cc i none false e =
+        let (a, b, d) = gone_by cc_is t rows i none false e in (a, b, λ m k. d m (sym (refs_other i e) ∙ k))
+
+    homes_by : (i m : ℕ) (b : Bool) → (i == p) ≡ b → refs i ≡ Some m → (home m ≡ i) × (m ≤ t.given)
+    homes_by i m true e h =
+        let is : r ≡ m = number_is r m (sym (refs_here i e) ∙ h) in (
+          home_here m (ap (λ (j : ℕ). j == r) (sym is) ∙ same_true r) ∙ sym (eqb-true i p e),
+          subst (λ (j : ℕ). m ≤ j) (sym given)
+              (omega arith),
+        )
+    homes_by i m false e h =
+        let (a, b) = f.homes i m (sym (refs_other i e) ∙ h) in
+        (home_old m b ∙ a, subst (λ (j : ℕ). m ≤ j) (sym given) (omega arith))
+
+    -- what has a reference from before has another place
+    old_place : (m : ℕ) → f.refs (f.home m) ≡ Some m → (f.home m == p) ≡ false
+    old_place m h = place_not (f.home m == p) (f.home m == p) refl (λ e. no_number (f.refs p) m place.no_ref
+        (ap (λ (j : ℕ). f.refs j) (sym (eqb-true (f.home m) p e)) ∙ h))
+
+    linked_cc : (m peer : ℕ) (l : Standing) (b : Bool) → (m == r) ≡ b → value_at m t.live ≡ Some (linked peer l) → refs (home m) ≡ Some m
+    linked_cc m peer l true e there =
+        ap (λ (j : ℕ). refs j) (home_here m e) ∙ refs_here p (same_true p) ∙ ap (λ (j : ℕ). Some j) (sym (eqb-true m r e))
+    linked_cc m peer l false e there =
+        let up = others m peer l there (unlike m r e) in
+        let old = f.linked_at was m peer l (sym (rows m up) ∙ there) in
+        ap (λ (j : ℕ). refs j) (home_old m up) ∙ refs_other (f.home m) (old_place m old) ∙ old
+
+    stray_place : (m : ℕ) → m ≤ s.given → refs (home m) ≡ Some m → (b : Bool) → (f.home m == p) ≡ b →
+        (f.refs (f.home m) ≡ Some m) × ((f.home m ≡ p) → ⊥)
+    stray_place m up h true e =
+        let is : r ≡ m = number_is r m (sym (refs_here (f.home m) e) ∙ ap (λ (j : ℕ). refs j) (sym (home_old m up)) ∙ h) in
+        absurd (omega arith)
+    stray_place m up h false e =
+        (sym (refs_other (f.home m) e) ∙ ap (λ (j : ℕ). refs j) (sym (home_old m up)) ∙ h, unlike (f.home m) p e)
+
+    stray_cc : (v : Value) (rest : List Placed) → IsStray f.shut s f.refs f.home w.tap.course.strays v rest →
+        IsStray f.shut t refs home w.tap.course.strays v (rest ++ (Some p, cc_is) ∷ [])
+    stray_cc v rest a = record {
+      m = a.m;
+      n = a.n;
+      is = a.is;
+      strays_is = a.strays_is;
+      given = subst (λ (j : ℕ). a.n ≤ j) (sym given) (let up = a.given in omega arith);
+      shut_is = a.shut_is;
+      none = λ e.
+          let (old, other) = stray_place a.n a.given e (f.home a.n == p) refl in
+          ap (λ (j : ℕ). units_at j (rest ++ (Some p, cc_is) ∷ [])) (home_old a.n a.given)
+          ∙ at_join (f.home a.n) rest ((Some p, cc_is) ∷ [])
+          ∙ ap (λ (l : List Value). units_at (f.home a.n) rest ++ l) (at_other (f.home a.n) p cc_is [] (λ same. other (sym same)))
+          ∙ append-nil (units_at (f.home a.n) rest) ∙ a.none old;
+    }
+
+    pub is_accepted : Called local (record w { end = t; put = w.put ++ cc_is ∷ []; coming = coming })
+    is_accepted = record {
+      tagged = tagged cc_is;
+      put = ap (λ (l : List Value). l ++ cc_is ∷ []) f.put ∙ sym (values_are cc_is);
+      came = later;
+      come = come_is;
+      refs = λ i. refs i;
+      home = λ m. home m;
+      shut = f.shut;
+      stands = λ i c at. cc_by i c (i == p) refl at;
+      beyond = λ i none. gone_cc i none (i == p) refl;
+      homes = λ i m h. homes_by i m (i == p) refl h;
+      linked_at = λ lasts m peer l there. linked_cc m peer l (m == r) refl there;
+      shut_given = λ m e. subst (λ (j : ℕ). m ≤ j) (sym given) (let up = f.shut_given m e in omega arith);
+      strays = strays_keep f.shut f.shut s t f.refs (λ i. refs i) f.home (λ m. home m) w.tap.course.strays f.tagged ((Some p, cc_is) ∷ [])
+          stray_cc (tt, tt) f.strays;
+      last = f.last;
+      tops = f.tops;
+      above = subst (λ (j : ℕ). AreAbove j f.last (values (tagged cc_is))) (sym given)
+          (subst (AreAbove (s.given + 1) f.last) (sym (values_are cc_is))
+          (above_cc s.given f.last (values f.tagged) x.source (acceptance Two size x local r) refl f.above));
+      class = f.class;
+      two = f.two;
+      class_seen = f.class_seen;
+      some = λ h. subst (λ (l : List Value). l ≢ []) (sym (values_are cc_is)) (some_more (values f.tagged) (cc_is ∷ []) (f.some h));
+      few = subst (λ (j : ℕ). AllByRecursion (IsFor j) coming) (sym given) (for_more s.given coming few);
+      untagged = untagged_later;
+      timely = λ none lasts. subst (λ (l : List Value). Timely t coming w.tap.connections l) (sym (values_are cc_is))
+          (timely_answers s t coming w.tap.connections (values f.tagged) x.source (acceptance Two size x local r) (ap is_some new)
+          (omega arith)
+          (known_later none) (timely none lasts));
+    }

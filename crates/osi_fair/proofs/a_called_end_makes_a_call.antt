@@ -1,0 +1,299 @@
+-- The user of a whole called end makes a call: it sends TSDUs on an open connection, closes one, or ends the carrier.
+-- For the law on a whole called end.
+use Rattle.std.proofs.Common.{◌≡◌, ◌∙◌, ◌≤◌, ℕ, Bool, true, false, List, [], ◌∷◌, ◌++◌, length, refl, sym, ap, subst, arith, Option, Some}
+use Rattle.std.proofs.Common.{None, is_some, if◌then◌else◌}
+use Rattle.std.specs.Prelude.{◌==◌, not}
+use Rattle.std.specs.List.{AllByRecursion}
+use Rattle.std.proofs.lemmas.Bool.{eq-eqb, eqb-true}
+use Rattle.std.proofs.lemmas.List.{append-nil}
+use Rattle.osi_tpdu.specs.Value.{Value}
+use Rattle.osi_class.specs.Limits.{longest_tsdu}
+use Rattle.osi_class.specs.Giving.{all_given}
+use Rattle.osi_class.specs.Link.{Standing, with_tsdu}
+use Rattle.osi_class.specs.declared.terms.Class.{Class}
+use Rattle.osi_class.specs.declared.terms.Class.TheVariants.{Two}
+use Rattle.osi_class.specs.declared.terms.Local.{Local}
+use Rattle.osi_carrier.specs.Calls.{class_error, closed_on, closed_with, closes as closes_in, ended_by, link_of, open_link, or_else}
+use Rattle.osi_carrier.specs.Calls.{room_error, sent, sent_all, sent_on}
+use Rattle.osi_carrier.specs.Orderly.{IsOrderly}
+use Rattle.osi_carrier.specs.Pump.{pumped}
+use Rattle.osi_carrier.specs.Rows.{put, value_at}
+use Rattle.osi_carrier.specs.Runs.{UserCall, breaks, closes as closes_call, connects, sends, sends_all, user_does}
+use Rattle.osi_carrier.specs.State.{State, Connection as Live, asked, closing, ends as ends_as, linked}
+use Rattle.osi_carrier.specs.declared.ends.EndReason.{EndReason}
+use Rattle.osi_carrier.specs.declared.faults.OpenError.{OpenError}
+use Rattle.osi_carrier.specs.declared.faults.OpenError.TheVariants.{Ended, NotCaller}
+use Rattle.osi_carrier.proofs.effects.a_unit_touches_one_connection.{orderly_closed, orderly_ended, orderly_sent, orderly_sent_all}
+use Rattle.osi_carrier.proofs.references.rows_after_a_change.{put_other}
+use Rattle.osi_carrier.proofs.references.what_a_change_leaves_there.{put_here}
+use Rattle.osi_fair.specs.Following.{Follows, link_now}
+use Rattle.osi_fair.specs.Putting.{put_by, put_closed, put_closing, put_sent, put_together}
+use Rattle.osi_fair.specs.Wholes.{MayCall, Whole}
+use Rattle.osi_fair.proofs.what_becomes_of_a_called_end.{IsCalled, IsNoCc, Same, called_still, units_no_cc}
+use Rattle.osi_fair.proofs.a_carrier_follows_lines.{follows_closed, follows_sent}
+use Rattle.osi_fair.proofs.calls_of_a_line_join.{follows_together, still_open}
+use Rattle.osi_fair.proofs.each_connection_of_a_called_end.{Called}
+use Rattle.osi_fair.proofs.what_a_called_end_does_to_its_lines.{Leaves, line_steps, shuts, still}
+use Rattle.osi_fair.proofs.what_a_called_end_leaves_alone.{is_over}
+use Rattle.osi_fair.proofs.units_by_their_place.{values}
+use Rattle.osi_fair.proofs.what_is_live_at_a_called_end.{IsLive, timely_calls}
+
+-- ---- the end
+
+differ : {A : Type 0} (b : Bool) → b ≡ true → b ≡ false → A
+differ b h k = absurd (cc)
+
+unlike : (q p : ℕ) → (q == p) ≡ false → q ≡ p → ⊥
+unlike q p h e = differ (q == p) (ap (λ (x : ℕ). x == p) e ∙ eq-eqb p p refl) h
+
+no_row : {A : Type 0} (o : Option Live) (k : Live) → o ≡ None → o ≡ Some k → A
+no_row o k e h = absurd (cc)
+
+not_asked : (o : Option Live) (q : ℕ) (l : Standing) → o ≡ Some (linked q l) → o ≡ Some asked → ⊥
+not_asked o q l h e = cc
+
+not_closing : (o : Option Live) (q : ℕ) → o ≡ Some (closing q) → o ≡ Some asked → ⊥
+not_closing o q h e = cc
+
+given_same : {m n : ℕ} → n ≡ m → m ≤ n
+given_same e = omega arith
+
+same_peer : (q p : ℕ) (l k : Standing) → Some (linked q l) ≡ Some (linked p k) → q ≡ p
+same_peer q p l k e = cc
+
+open_of : (r peer : ℕ) (link : Standing) (s : State) → s.ended ≡ None → value_at r s.live ≡ Some (linked peer link) →
+    open_link r s ≡ Some (peer, link)
+open_of r peer link s lasts h =
+    ap (λ (o : Option EndReason). if◌then◌else◌ {A = Option (ℕ × Standing)} (is_some o) None (link_of (value_at r s.live))) lasts
+    ∙ ap link_of h
+
+same_pair : (a b : ℕ × Standing) → Some a ≡ Some b → a ≡ b
+same_pair a b e = cc
+
+row_of : (o : Option Live) (peer : ℕ) (link : Standing) → link_of o ≡ Some (peer, link) → o ≡ Some (linked peer link)
+row_of None peer link e = cc
+row_of (Some asked) peer link e = cc
+row_of (Some (linked q l)) peer link e = ap (λ (p : ℕ × Standing). Some (linked p.0 p.1)) (same_pair (q, l) (peer, link) e)
+row_of (Some (closing q)) peer link e = cc
+
+linked_of : (b : Bool) (o : Option Live) (peer : ℕ) (link : Standing) → (if b then None else link_of o) ≡ Some (peer, link) →
+    (b ≡ false) × (o ≡ Some (linked peer link))
+linked_of true o peer link e = cc
+linked_of false o peer link e = (refl, row_of o peer link e)
+
+not_ended : (o : Option EndReason) → is_some o ≡ false → o ≡ None
+not_ended None e = refl
+not_ended (Some x) e = absurd (cc e)
+
+open_is : (r peer : ℕ) (link : Standing) (s : State) → open_link r s ≡ Some (peer, link) →
+    (s.ended ≡ None) × (value_at r s.live ≡ Some (linked peer link))
+open_is r peer link s e =
+    let (a, b) = linked_of (is_some s.ended) (value_at r s.live) peer link e in (not_ended s.ended a, b)
+
+-- ---- what calls change
+
+rows_sent : (m r : ℕ) (tsdu : List ℕ) (o : Option (ℕ × Standing)) (s : State) → (m ≡ r → ⊥) →
+    value_at m (sent_on r tsdu o s).live ≡ value_at m s.live
+rows_sent m r tsdu None s other = refl
+rows_sent m r tsdu (Some (peer, link)) s other = put_other m r (linked peer (pumped (with_tsdu link tsdu))) s.live other
+
+rows_all : (m r : ℕ) (tsdus : List (List ℕ)) (s : State) → (m ≡ r → ⊥) → value_at m (sent_all r tsdus s).live ≡ value_at m s.live
+rows_all m r [] s other = refl
+rows_all m r (tsdu ∷ tsdus) s other = rows_all m r tsdus (sent r tsdu s) other ∙ rows_sent m r tsdu (open_link r s) s other
+
+same_sent : (r : ℕ) (tsdu : List ℕ) (o : Option (ℕ × Standing)) (s : State) → Same s (sent_on r tsdu o s)
+same_sent r tsdu None s = record { caller = refl; local_is = refl; class = refl; given = refl }
+same_sent r tsdu (Some (peer, link)) s = record { caller = refl; local_is = refl; class = refl; given = refl }
+
+same_then : (a b c : State) → Same a b → Same b c → Same a c
+same_then a b c x y = record {
+  caller = y.caller ∙ x.caller;
+  local_is = y.local_is ∙ x.local_is;
+  class = y.class ∙ x.class;
+  given = y.given ∙ x.given;
+}
+
+same_all : (r : ℕ) (tsdus : List (List ℕ)) (s : State) → Same s (sent_all r tsdus s)
+same_all r [] s = record { caller = refl; local_is = refl; class = refl; given = refl }
+same_all r (tsdu ∷ tsdus) s =
+    same_then s (sent r tsdu s) (sent_all r tsdus (sent r tsdu s)) (same_sent r tsdu (open_link r s) s) (same_all r tsdus (sent r tsdu s))
+
+-- the link after TSDUs that were sent together
+all_open : (r peer : ℕ) (tsdus : List (List ℕ)) (s : State) (link : Standing) → open_link r s ≡ Some (peer, link) →
+    (l : Standing) × (open_link r (sent_all r tsdus s) ≡ Some (peer, l))
+all_open r peer [] s link e = (link, e)
+all_open r peer (tsdu ∷ tsdus) s link e =
+    all_open r peer tsdus (sent r tsdu s) (pumped (with_tsdu link tsdu)) (still_open r peer tsdu s link e)
+
+all_none : (r : ℕ) (tsdus : List (List ℕ)) (s : State) → open_link r s ≡ None →
+    (sent_all r tsdus s ≡ s) × (put_together r tsdus s ≡ [])
+all_none r [] s h = (refl, refl)
+all_none r (tsdu ∷ tsdus) s h =
+    let same : sent r tsdu s ≡ s = ap (λ (o : Option (ℕ × Standing)). sent_on r tsdu o s) h in
+    let (a, b) = all_none r tsdus s h in (
+      ap (λ (t : State). sent_all r tsdus t) same ∙ a,
+      ap (λ (o : Option (ℕ × Standing)). put_sent tsdu o ++ put_together r tsdus (sent r tsdu s)) h
+          ∙ ap (λ (t : State). put_together r tsdus t) same ∙ b,
+    )
+
+-- ---- units that are no CCs
+
+sent_no_cc : (tsdu : List ℕ) (o : Option (ℕ × Standing)) → AllByRecursion IsNoCc (put_sent tsdu o)
+sent_no_cc tsdu None = tt
+sent_no_cc tsdu (Some (peer, link)) = units_no_cc peer (all_given (with_tsdu link tsdu))
+
+join_no_cc : (xs ys : List Value) → AllByRecursion IsNoCc xs → AllByRecursion IsNoCc ys → AllByRecursion IsNoCc (xs ++ ys)
+join_no_cc [] ys a b = b
+join_no_cc (x ∷ xs) ys (one, more) b = (one, join_no_cc xs ys more b)
+
+together_no_cc : (r : ℕ) (tsdus : List (List ℕ)) (s : State) → AllByRecursion IsNoCc (put_together r tsdus s)
+together_no_cc r [] s = tt
+together_no_cc r (tsdu ∷ tsdus) s =
+    join_no_cc (put_sent tsdu (open_link r s)) (put_together r tsdus (sent r tsdu s)) (sent_no_cc tsdu (open_link r s))
+    (together_no_cc r tsdus (sent r tsdu s))
+
+closed_no_cc : (r reason peer : ℕ) (k : Option Class) → k ≡ Some Two → AllByRecursion IsNoCc (put_closed r reason peer k)
+closed_no_cc r reason peer k e =
+    subst (λ (j : Option Class). AllByRecursion IsNoCc (put_closed r reason peer j)) (sym e) (λ m x h. absurd (cc h), tt)
+
+-- ---- any call
+
+module _ (local : Local) (w : Whole) (f : Called local w) (c : IsCalled local w.end) where
+  abbrev s : State
+  s = w.end
+
+  abbrev After : State → List Value → Whole
+  After t units = record w { end = t; put = w.put ++ units }
+
+  abbrev Made : State → List Value → Type 0
+  Made t units = Called local (After t units) × IsCalled local t
+
+  -- it has no effect
+  nothing_so : (t : State) (units : List Value) → t ≡ s → units ≡ [] → Made t units
+  nothing_so t units same none = (
+    subst (λ (l : List Value). Called local (record w { end = t; put = l }))
+        (sym (ap (λ (l : List Value). w.put ++ l) none ∙ append-nil w.put))
+        (subst (λ (e : State). Called local (record w { end = e })) (sym same) f),
+    subst (λ (e : State). IsCalled local e) (sym same) c,
+  )
+
+  none_asked : (t : State) (r peer : ℕ) (l : Standing) → ((m : ℕ) → (m ≡ r → ⊥) → value_at m t.live ≡ value_at m s.live) →
+      value_at r t.live ≡ Some (linked peer l) → (m : ℕ) (b : Bool) → (m == r) ≡ b → value_at m t.live ≡ Some asked → ⊥
+  none_asked t r peer l rows here m true e there =
+      not_asked (value_at r t.live) peer l here (ap (λ (i : ℕ). value_at i t.live) (sym (eqb-true m r e)) ∙ there)
+  none_asked t r peer l rows here m false e there = c.none m (sym (rows m (unlike m r e)) ∙ there)
+
+  row_lives : (t : State) (r : ℕ) → ((m : ℕ) → (m ≡ r → ⊥) → value_at m t.live ≡ value_at m s.live) → IsLive t r → (m : ℕ) (b : Bool) →
+      (m == r) ≡ b → IsLive s m → IsLive t m
+  row_lives t r rows live m true e k = ap (λ (i : ℕ). is_some (value_at i t.live)) (eqb-true m r e) ∙ live
+  row_lives t r rows live m false e k = ap is_some (rows m (unlike m r e)) ∙ k
+
+  -- on an open connection, which stays open
+  talks_so : (t : State) (units : List Value) (r peer : ℕ) (link l : Standing) → s.ended ≡ None → value_at r s.live ≡ Some
+      (linked peer link) →
+      ((m : ℕ) → (m ≡ r → ⊥) → value_at m t.live ≡ value_at m s.live) → Same s t → IsOrderly t →
+      ((q : ℕ) (k : Standing) → value_at r s.live ≡ Some (linked q k) → Follows r q [] units s t) →
+      value_at r t.live ≡ Some (linked peer l) → AllByRecursion IsNoCc units → Made t units
+  talks_so t units r peer link l was here rows same orderly follows there none = (
+    line_steps local w f t units w.coming f.came r peer link here was rows same.given (λ m other. refl) (λ p. refl)
+        (λ q k row come among. record { taken = []; later = come; is = refl; among = among; follows = follows q k row })
+        (λ q k row. subst (λ (i : ℕ). Leaves r i t) (same_peer peer q link k (sym here ∙ row)) (still l there))
+        f.come f.few f.untagged none (λ strays last. timely_calls s t w.coming w.tap.connections (values f.tagged) (given_same same.given)
+        (λ m k. row_lives t r rows (ap is_some there) m (m == r) refl k) (f.timely strays was)),
+    called_still local s t same orderly (λ m h. none_asked t r peer l rows there m (m == r) refl h)
+        (λ m q k h. c.two r peer link here) c,
+  )
+
+  sends_by : (r : ℕ) (tsdu : List ℕ) (o : Option (ℕ × Standing)) → open_link r s ≡ o → length tsdu ≤ longest_tsdu →
+      Made (sent r tsdu s) (put_sent tsdu (open_link r s))
+  sends_by r tsdu None e short = nothing_so (sent r tsdu s) (put_sent tsdu (open_link r s))
+      (ap (λ (o : Option (ℕ × Standing)). sent_on r tsdu o s) e) (ap (λ (o : Option (ℕ × Standing)). put_sent tsdu o) e)
+  sends_by r tsdu (Some (peer, link)) e short =
+      let (was, here) = open_is r peer link s e in
+      let (lasts, there) = open_is r peer (pumped (with_tsdu link tsdu)) (sent r tsdu s) (still_open r peer tsdu s link e) in
+      talks_so (sent r tsdu s) (put_sent tsdu (open_link r s)) r peer link (pumped (with_tsdu link tsdu)) was here
+      (λ m other. rows_sent m r tsdu (open_link r s) s other) (same_sent r tsdu (open_link r s) s) (orderly_sent r tsdu s c.orderly)
+      (λ q k row. follows_sent r q tsdu s k (open_of r q k s was row) short) there (sent_no_cc tsdu (open_link r s))
+
+  together_by : (r : ℕ) (tsdus : List (List ℕ)) (o : Option (ℕ × Standing)) → open_link r s ≡ o →
+      AllByRecursion (λ (tsdu : List ℕ). length tsdu ≤ longest_tsdu) tsdus → Made (sent_all r tsdus s) (put_together r tsdus s)
+  together_by r tsdus None e short =
+      let (a, b) = all_none r tsdus s e in nothing_so (sent_all r tsdus s) (put_together r tsdus s) a b
+  together_by r tsdus (Some (peer, link)) e short =
+      let (was, here) = open_is r peer link s e in
+      let (l, after) = all_open r peer tsdus s link e in
+      let (lasts, there) = open_is r peer l (sent_all r tsdus s) after in
+      talks_so (sent_all r tsdus s) (put_together r tsdus s) r peer link l was here (λ m other. rows_all m r tsdus s other)
+      (same_all r tsdus s) (orderly_sent_all r tsdus s c.orderly)
+      (λ q k row. follows_together r q tsdus s k (open_of r q k s was row) short) there (together_no_cc r tsdus s)
+
+  closing_asked : (t : State) (r peer : ℕ) → ((m : ℕ) → (m ≡ r → ⊥) → value_at m t.live ≡ value_at m s.live) →
+      value_at r t.live ≡ Some (closing peer) → (m : ℕ) (b : Bool) → (m == r) ≡ b → value_at m t.live ≡ Some asked → ⊥
+  closing_asked t r peer rows here m true e there =
+      not_closing (value_at r t.live) peer here (ap (λ (i : ℕ). value_at i t.live) (sym (eqb-true m r e)) ∙ there)
+  closing_asked t r peer rows here m false e there = c.none m (sym (rows m (unlike m r e)) ∙ there)
+
+  closes_by : (r reason : ℕ) (o : Option (ℕ × Standing)) → open_link r s ≡ o →
+      Made (closed_with r reason s) (put_closing r reason (open_link r s) s.class)
+  closes_by r reason None e = nothing_so (closed_with r reason s) (put_closing r reason (open_link r s) s.class)
+      (ap (λ (o : Option (ℕ × Standing)). closed_on r reason o s) e)
+      (ap (λ (o : Option (ℕ × Standing)). put_closing r reason o s.class) e)
+  closes_by r reason (Some (peer, link)) e =
+      let t = closed_with r reason s in
+      let (was, here) = open_is r peer link s e in
+      let two = c.two r peer link here in
+      let is : t ≡ closes_in r peer reason (Some Two) s = ap (λ (o : Option (ℕ × Standing)). closed_on r reason o s) e
+      ∙ ap (λ (k : Option Class). closes_in r peer reason k s) two in
+      let rows : (m : ℕ) → (m ≡ r → ⊥) → value_at m t.live ≡ value_at m s.live = λ m other.
+      ap (λ (x : State). value_at m x.live) is ∙ put_other m r (closing peer) s.live other in
+      let there : value_at r t.live ≡ Some (closing peer) = ap (λ (x : State). value_at r x.live) is
+      ∙ put_here r (closing peer) (linked peer link) s.live here in
+      let same : Same s t = subst (λ (x : State). Same s x) (sym is) (record {
+        caller = refl;
+        local_is = refl;
+        class = refl;
+        given =
+            refl;
+      }) in
+      let units = put_closing r reason (open_link r s) s.class in (
+        line_steps local w f t units w.coming f.came r peer link here was rows same.given (λ m other. refl) (λ p. refl)
+            (λ q k row come among. record {
+              taken = [];
+              later = come;
+              is = refl;
+              among = among;
+              follows = follows_closed r q reason s k (open_of r q k s was row) two;
+            })
+            (λ q k row. shuts (ap link_now there)) f.come f.few f.untagged
+            (subst (AllByRecursion IsNoCc) (sym (ap (λ (o : Option (ℕ × Standing)). put_closing r reason o s.class) e))
+            (closed_no_cc r reason peer s.class two))
+            (λ strays last. timely_calls s t w.coming w.tap.connections (values f.tagged) (given_same same.given)
+            (λ m k. row_lives t r rows (ap is_some there) m (m == r) refl k) (f.timely strays was)),
+        called_still local s t same (orderly_closed r reason s c.orderly) (λ m h. closing_asked t r peer rows there m (m == r) refl h)
+            (λ m q k h. two) c,
+      )
+
+  breaks_by : (reason : EndReason) (b : Bool) → is_some s.ended ≡ b → Made (ended_by reason s) []
+  breaks_by reason true e = nothing_so (ended_by reason s) [] (ap (λ (h : Bool). if h then s else ends_as reason s) e) refl
+  breaks_by reason false e =
+      let t = ends_as reason s in
+      let is : ended_by reason s ≡ t = ap (λ (h : Bool). if h then s else ends_as reason s) e in (
+        subst (λ (x : State). Called local (After x [])) (sym is)
+            (subst (λ (l : List Value). Called local (record w { end = t; put = l })) (sym (append-nil w.put))
+            (is_over local w f t w.coming f.came refl refl (λ p h. h) f.come f.few f.untagged)),
+        subst (λ (x : State). IsCalled local x) (sym is)
+            (called_still local s t (record { caller = refl; local_is = refl; class = refl; given = refl })
+            (subst IsOrderly is (orderly_ended reason s c.orderly)) (λ m h. absurd (cc h)) (λ m q l h. absurd (cc h)) c),
+      )
+
+  may_not : {A : Type 0} (b : Bool) (o : Option OpenError) → b ≡ false → (if not b then Some NotCaller else o) ≡ None → A
+  may_not true o h e = absurd (cc h)
+  may_not false o h e = absurd (cc e)
+
+  pub makes_so : (call : UserCall) → MayCall call s → Made (user_does call s) (put_by call s)
+  makes_so (connects calling called) may =
+      may_not s.is_caller (if is_some s.ended then Some Ended else or_else (class_error s.class s.live) (room_error s)) c.caller may
+  makes_so (sends r tsdu) may = sends_by r tsdu (open_link r s) refl may
+  makes_so (sends_all r tsdus) may = together_by r tsdus (open_link r s) refl may
+  makes_so (closes_call r reason) may = closes_by r reason (open_link r s) refl
+  makes_so (breaks reason) may = breaks_by reason (is_some s.ended) refl

@@ -1,0 +1,541 @@
+-- A whole called end takes a unit: a CR, a unit for an open connection or for one that is not open, or one for which it ends.
+-- For the law on a whole called end.
+use Rattle.std.proofs.Common.{◌≡◌, ◌∙◌, ◌≤◌, ◌<◌, ◌+◌, ℕ, Bool, true, false, List, [], ◌∷◌, ◌++◌, refl, sym, ap, subst, arith, Option}
+use Rattle.std.proofs.Common.{Some, None, inl, inr, ◌⊎◌, is_some, if◌then◌else◌}
+use Rattle.std.specs.Prelude.{◌&&◌, ◌||◌, ◌==◌, IsSome, nat_lt, slice_get}
+use Rattle.std.specs.List.{AllByRecursion}
+use Rattle.std.proofs.lemmas.Bool.{eq-eqb, eqb-true, ltb-false, ltb-true}
+use Rattle.std.proofs.lemmas.List.{append-nil}
+use Rattle.osi_tpdu.specs.Value.{Value, Connect, request, confirm, disconnect, disconnected, data0, data2, acknowledge, error}
+use Rattle.osi_tpdu.specs.Value.{destination_of}
+use Rattle.osi_class.specs.Link.{Standing, taken}
+use Rattle.osi_class.specs.Negotiation.{Selection, accept, keeps_flow_control, proposes, proposes_zero_alone, refuse, selected_by}
+use Rattle.osi_class.specs.Negotiation.{selected_size}
+use Rattle.osi_class.specs.declared.terms.Class.{Class}
+use Rattle.osi_class.specs.declared.terms.Class.TheVariants.{Two, Zero}
+use Rattle.osi_class.specs.declared.terms.Local.{Local}
+use Rattle.osi_carrier.specs.Negotiation.{acceptance, opened_link}
+use Rattle.osi_carrier.specs.Orderly.{AreUpTo, IsOrderly, RiseFrom}
+use Rattle.osi_carrier.specs.React.{accepts, answers as answers_by, answers_request, before_class, denies, has_peer, in_class, in_two}
+use Rattle.osi_carrier.specs.React.{is_full, react_by, to_closing, to_connection, to_unknown}
+unfoldable use Rattle.osi_carrier.specs.React.{react}
+use Rattle.osi_carrier.specs.Rows.{Rows, put, value_at}
+use Rattle.osi_carrier.specs.State.{State, Connection as Live, asked, closing, fails, linked}
+use Rattle.osi_carrier.specs.declared.ends.CarrierFault.TheVariants.{UnexpectedUnit}
+use Rattle.osi_carrier.specs.declared.ends.EndReason.{EndReason}
+use Rattle.osi_carrier.proofs.effects.a_unit_touches_one_connection.{orderly_unit}
+use Rattle.osi_carrier.proofs.references.rows_after_a_change.{push_other}
+use Rattle.osi_carrier.proofs.references.what_a_change_leaves_there.{beyond, push_here, without_here}
+use Rattle.osi_rules.specs.declared.connections.Connection.{Connection}
+use Rattle.osi_fair.specs.Following.{Follows}
+use Rattle.osi_fair.specs.Putting.{put_at, put_for, put_for_request, put_before, put_for_selection, put_in, put_in_two, refusal}
+use Rattle.osi_fair.specs.Wholes.{Whole}
+use Rattle.osi_fair.proofs.a_called_end_answers_a_cr.{is_accepted, is_refused}
+use Rattle.osi_fair.proofs.a_carrier_follows_lines.{follows_open, put_is, react_is}
+use Rattle.osi_fair.proofs.how_a_unit_of_right_passes.{Head, head_of}
+use Rattle.osi_fair.proofs.each_connection_of_a_called_end.{Among, Called, IsDc, IsFor, IsNoCr, Stand, Untagged, answers, comes, past}
+use Rattle.osi_fair.proofs.each_connection_of_a_called_end.{refuses, runs}
+use Rattle.osi_fair.proofs.units_by_their_place.{Placed, at_first, first_at, is_at, units_at, values}
+use Rattle.osi_fair.proofs.what_a_called_end_does_to_its_lines.{Leaves, Took, line_steps}
+use Rattle.osi_fair.proofs.what_a_called_end_leaves_alone.{is_over, left_alone}
+use Rattle.osi_fair.proofs.what_is_live_at_a_called_end.{IsLive, Timely, dr_for, shuts_of, timely_takes}
+use Rattle.osi_fair.proofs.which_units_are_for_a_connection.{first_kept, first_left, keep, named_not, named_so, those}
+use Rattle.osi_fair.proofs.what_becomes_of_a_called_end.{IsCalled, Same, called_still, differ, unlike, same_row, no_row, touch_rows}
+use Rattle.osi_fair.proofs.what_becomes_of_a_called_end.{touch_none, touch_lives, push_lives, IsNoCc, linked_no_cc, OpenSo, open_so}
+use Rattle.osi_fair.proofs.what_becomes_of_a_called_end.{dc_follows, closing_touches, closing_same}
+
+-- ---- small facts
+
+keep_none : (b : Bool) (v : Value) (vs : List Value) → keep b v vs ≡ [] → vs ≡ []
+keep_none true v vs h = absurd (cc)
+keep_none false v vs h = h
+
+no_list : {A : Type 0} (v : Value) (vs l : List Value) → l ≡ v ∷ vs → l ≡ [] → A
+no_list v vs l h e = absurd (cc)
+
+first_is : (u v : Value) (xs ys : List Value) → u ∷ xs ≡ v ∷ ys → u ≡ v
+first_is u v xs ys e = cc
+
+number_is : (m n : ℕ) → Some m ≡ Some n → m ≡ n
+number_is m n e = cc
+
+same_peer : (q p : ℕ) (l k : Standing) → Some (linked q l) ≡ Some (linked p k) → q ≡ p
+same_peer q p l k e = cc
+
+or_first : (a b : Bool) → a ≡ true → (a || b) ≡ true
+or_first true b h = refl
+or_first false b h = cc
+
+or_last : (a b : Bool) → b ≡ true → (a || b) ≡ true
+or_last true b h = refl
+or_last false b h = h
+
+shut_one : (r n : ℕ) (a b : Bool) → (r == n) ≡ a → (a || b) ≡ true → (b ≡ true) ⊎ (r ≡ n)
+shut_one r n true b e h = inr (eqb-true r n e)
+shut_one r n false b e h = inl h
+
+shut_up : (r n given : ℕ) (b : Bool) → n ≤ given → (b ≡ true → r ≤ given) → (b ≡ true) ⊎ (r ≡ n) → r ≤ given
+shut_up r n given b up h (inl k) = h k
+shut_up r n given b up h (inr e) = omega arith
+
+given_same : {m n : ℕ} → n ≡ m → m ≤ n
+given_same e = omega arith
+
+given_so : (n given source reason : ℕ) (user : List ℕ) → (n ≤ given) ⊎ IsDc (disconnect n source reason user) → n ≤ given
+given_so n given source reason user (inl h) = h
+given_so n given source reason user (inr (m, i, e)) = absurd (cc e)
+
+ended_some : (o : Option EndReason) (reason : EndReason) → o ≡ Some reason → IsSome o
+ended_some o reason e = ap is_some e
+
+reacts_on : (u : Value) (s : State) → s.ended ≡ None → react u s ≡ in_class s.class u s
+unfolding react
+reacts_on u s was = ap (λ (e : Option EndReason). react_by (is_some e) u s) was
+
+reacts_not : (u : Value) (s : State) → is_some s.ended ≡ true → react u s ≡ s
+unfolding react
+reacts_not u s over = ap (λ (b : Bool). react_by b u s) over
+
+-- class 0 is not offered
+no_zero : {A : Type 0} (a b z p alone : Bool) (size chosen : Option ℕ) → z ≡ false →
+    (if a && b then accept Two size else (if z && p then accept Zero size else (if alone then refuse 0 else refuse 130))) ≡ accept Zero
+    chosen → A
+no_zero true true z p alone size chosen h e = absurd (cc)
+no_zero true false false p true size chosen h e = absurd (cc)
+no_zero true false false p false size chosen h e = absurd (cc)
+no_zero false b false p true size chosen h e = absurd (cc)
+no_zero false b false p false size chosen h e = absurd (cc)
+no_zero true false true p alone size chosen h e = absurd (cc)
+no_zero false b true p alone size chosen h e = absurd (cc)
+
+not_above : (m n : ℕ) → (n < m → ⊥) → m ≤ n
+not_above m n h = elim (nat_lt n m) as (λ b. nat_lt n m ≡ b → m ≤ n) [
+  | true ↦ λ e. absurd (h (ltb-true n m e))
+  | false ↦ λ e. ltb-false n m e
+] refl
+
+above_none : (given m : ℕ) (o : Live) (rows : Rows Live) → AreUpTo given rows → given < m → value_at m rows ≡ Some o → ⊥
+above_none given m o rows up above there = no_row (value_at m rows) o (beyond m given rows up above) there
+
+up_more : (given m : ℕ) (o : Live) (rows : Rows Live) → AreUpTo given rows → value_at m rows ≡ Some o → m ≤ given
+up_more given m o rows up there = not_above m given (λ above. above_none given m o rows up above there)
+
+-- rows with one more
+up_by : (given m : ℕ) (o k : Live) (rows : Rows Live) → AreUpTo given rows → value_at m (rows ++ (given + 1, k) ∷ []) ≡ Some o →
+    (m ≡ given + 1 → ⊥) → m ≤ given
+up_by given m o k rows up there other = up_more given m o rows up (sym (push_other m (given + 1) k rows other) ∙ there)
+
+accepted_by : (m given : ℕ) (k : Live) (rows : Rows Live) → value_at (given + 1) rows ≡ None → (value_at m rows ≡ Some asked → ⊥) →
+    (k ≡ asked → ⊥) → (b : Bool) → (m == given + 1) ≡ b → value_at m (rows ++ (given + 1, k) ∷ []) ≡ Some asked → ⊥
+accepted_by m given k rows none h settled true e there =
+    settled (same_row k asked (sym (push_here (given + 1) k rows none)
+    ∙ ap (λ (i : ℕ). value_at i (rows ++ (given + 1, k) ∷ [])) (sym (eqb-true m (given + 1) e)) ∙ there))
+accepted_by m given k rows none h settled false e there = h (sym (push_other m (given + 1) k rows (unlike m (given + 1) e)) ∙ there)
+
+accepted_none : (m given : ℕ) (k : Live) (rows : Rows Live) → value_at (given + 1) rows ≡ None →
+    ((i : ℕ) → value_at i rows ≡ Some asked → ⊥) → (k ≡ asked → ⊥) → value_at m (rows ++ (given + 1, k) ∷ []) ≡ Some asked → ⊥
+accepted_none m given k rows none h settled there = accepted_by m given k rows none (h m) settled (m == given + 1) refl there
+
+closing_gone : (n q p : ℕ) (k : Standing) (u : Value) (s : State) → value_at n s.live ≡ Some (closing q) → RiseFrom 0 s.live →
+    value_at n (to_closing n u s).live ≡ Some (linked p k) → ⊥
+closing_gone n q p k (request x) s here rise row = cc (sym here ∙ row)
+closing_gone n q p k (confirm destination x) s here rise row = cc (sym here ∙ row)
+closing_gone n q p k (disconnect destination source reason user) s here rise row = cc (sym (without_here n s.live rise) ∙ row)
+closing_gone n q p k (disconnected destination source) s here rise row = cc (sym (without_here n s.live rise) ∙ row)
+closing_gone n q p k (data0 end user) s here rise row = cc (sym here ∙ row)
+closing_gone n q p k (data2 destination number end user) s here rise row = cc (sym here ∙ row)
+closing_gone n q p k (acknowledge credit destination number) s here rise row = cc (sym here ∙ row)
+closing_gone n q p k (error destination cause) s here rise row = cc (sym here ∙ row)
+
+-- ---- the unit, and what comes after it
+
+tail_none : (p : ℕ) (o : Option ℕ) (v : Value) (ts : List Placed) → units_at p ((o, v) ∷ ts) ≡ [] → units_at p ts ≡ []
+tail_none p o v ts h = keep_none (is_at p o) v (units_at p ts) h
+
+untag_by : {A : Type 0} (o : Option ℕ) (x : Connect) → Untagged (o, request x) → ((p : ℕ) → o ≡ Some p → A) → A
+untag_by None x h k = absurd (h refl x refl)
+untag_by (Some p) x h k = k p refl
+
+module _ (local : Local) (w : Whole) (f : Called local w) (c : IsCalled local w.end)
+    (u : Value) (later : List Value) (come : w.coming ≡ u ∷ later) where
+  abbrev s : State
+  s = w.end
+
+  abbrev t : State
+  t = react u s
+
+  abbrev After : State → List Value → Whole
+  After e units = record w { end = e; put = w.put ++ units; coming = later }
+
+  abbrev Taken : Type 0
+  Taken = Called local (After t (put_for u s)) × IsCalled local t
+
+  -- by what the end is then, and what it puts
+  by_both : (e : State) (units : List Value) → t ≡ e → put_for u s ≡ units → Called local (After e units) × IsCalled local e → Taken
+  by_both e units is puts (a, b) = (
+    subst (λ (x : State). Called local (After x (put_for u s))) (sym is)
+        (subst (λ (l : List Value). Called local (After e l)) (sym puts) a),
+    subst (λ (x : State). IsCalled local x) (sym is) b,
+  )
+
+  head : Head u later f.came
+  head = head_of u later f.came (sym come ∙ f.come)
+
+  few_all : IsFor s.given u × AllByRecursion (IsFor s.given) later
+  few_all = subst (AllByRecursion (IsFor s.given)) come f.few
+
+  untagged_all : Untagged (head.o, u) × AllByRecursion Untagged head.later
+  untagged_all = subst (AllByRecursion Untagged) head.is f.untagged
+
+  timely_then : s.ended ≡ None → (e : State) → s.given ≤ e.given → ((m : ℕ) → IsLive s m → (shuts_of u ≡ Some m → ⊥) → IsLive e m) →
+      w.tap.course.strays ≡ false → Timely e later w.tap.connections (values f.tagged)
+  timely_then was e given lives none = timely_takes s e u later w.tap.connections (values f.tagged) given lives
+      (subst (λ (l : List Value). Timely s l w.tap.connections (values f.tagged)) come (f.timely none was))
+
+  -- a DR for what is gone comes only if a DR has closed nothing
+  gone_dr : s.ended ≡ None → (n source reason : ℕ) (user : List ℕ) → u ≡ disconnect n source reason user → value_at n s.live ≡ None →
+      (b : Bool) → w.tap.course.strays ≡ b → b ≡ true
+  gone_dr was n source reason user e here true is = refl
+  gone_dr was n source reason user e here false is =
+      let h = subst (λ (l : List Value). Timely s l w.tap.connections (values f.tagged)) come (f.timely is was) in
+      differ (is_some (value_at n s.live)) (h.firsts.0 n (ap dr_for e)) (ap is_some here)
+
+  -- ---- the end has ended, or ends
+
+  asks_later : (p : ℕ) → units_at p f.came ≡ [] → units_at p head.later ≡ []
+  asks_later p h = tail_none p head.o u head.later (ap (λ (l : List Placed). units_at p l) (sym head.is) ∙ h)
+
+  over_so : (e : State) → t ≡ e → put_for u s ≡ [] → is_some e.ended ≡ true → Same s e → e.live ≡ [] → Taken
+  over_so e is puts over same live = by_both e [] is puts (
+    subst (λ (l : List Value). Called local (record w { end = e; put = l; coming = later })) (sym (append-nil w.put))
+        (is_over local w f e later head.later over same.given asks_later head.values_are few_all.1 untagged_all.1),
+    called_still local s e same (subst IsOrderly is (orderly_unit u s c.orderly))
+        (λ m h. no_row (value_at m e.live) asked (ap (λ (l : Rows Live). value_at m l) live) h)
+        (λ m q l h. no_row (value_at m e.live) (linked q l) (ap (λ (r : Rows Live). value_at m r) live) h) c,
+  )
+
+  -- ---- a CR
+
+  asks_request : {A : Type 0} (x : Connect) → u ≡ request x → ((p : ℕ) → f.came ≡ (Some p, request x) ∷ head.later → A) → A
+  asks_request x e k =
+      untag_by head.o x (subst (λ (v : Value). Untagged (head.o, v)) e untagged_all.0)
+      (λ p is. k p (head.is ∙ ap (λ (o : Option ℕ). (o, u) ∷ head.later) is ∙ ap (λ (v : Value). (Some p, v) ∷ head.later) e))
+
+  denies_so : (was : s.ended ≡ None) (x : Connect) (reason : ℕ) → u ≡ request x → t ≡ denies reason x.source s →
+      put_for u s ≡ refusal reason x.source → Taken
+  denies_so was x reason e is puts = asks_request x e (λ p came. by_both (denies reason x.source s) (refusal reason x.source) is puts (
+    is_refused local w f was p x head.later came later head.values_are few_all.1 (denies reason x.source s) reason refl refl
+        (λ none last. timely_then was (denies reason x.source s) (given_same refl) (λ m k other. k) none),
+    called_still local s (denies reason x.source s) (record { caller = refl; local_is = refl; class = refl; given = refl })
+        (subst IsOrderly is (orderly_unit u s c.orderly)) c.none c.two c,
+  ))
+
+  accepts_so : (was : s.ended ≡ None) (x : Connect) (size : Option ℕ) → u ≡ request x → selected_by x s.local ≡ accept Two size →
+      t ≡ accepts Two size x s → put_for u s ≡ put_for_selection x (accept Two size) s.class s → Taken
+  accepts_so was x size e selected is puts = asks_request x e (λ p came.
+      let a = accepts Two size x s in
+      let none : value_at (s.given + 1) s.live ≡ None = beyond (s.given + 1) s.given s.live c.orderly.up_to (omega arith) in
+      by_both a (put_for_selection x (accept Two size) s.class s) is puts (
+        subst (λ (l : Local). Called local (After a (confirm x.source (acceptance Two size x l (s.given + 1)) ∷ []))) (sym c.local_is)
+            (is_accepted local w f was p x head.later came later head.values_are few_all.1 a size
+            (ap (λ (l : Local). selected_by x l) (sym c.local_is) ∙ selected) refl
+            (λ m up. push_other m (s.given + 1) (linked x.source (opened_link Two size s.local x.credit)) s.live
+            (λ same. absurd (omega arith)))
+            (push_here (s.given + 1) (linked x.source (opened_link Two size s.local x.credit)) s.live none
+            ∙ ap (λ (l : Local). Some (linked x.source (opened_link Two size l x.credit))) c.local_is)
+            (λ m peer l there other. up_by s.given m (linked peer l) (linked x.source (opened_link Two size s.local x.credit)) s.live
+            c.orderly.up_to there other)
+            (λ none last. timely_then was a (omega arith) (λ m k other. push_lives m (s.given + 1)
+            (linked x.source (opened_link Two size s.local x.credit))
+            s.live k) none)),
+        record {
+          caller = c.caller;
+          local_is = c.local_is;
+          zero = c.zero;
+          class = inr refl;
+          orderly = subst IsOrderly is (orderly_unit u s c.orderly);
+          none = λ m there. accepted_none m s.given (linked x.source (opened_link Two size s.local x.credit)) s.live none c.none (λ k. cc)
+              there;
+          two = λ m q l there. refl;
+        },
+      ))
+
+  selects_so : (was : s.ended ≡ None) (x : Connect) (a : Selection) → u ≡ request x → selected_by x s.local ≡ a →
+      t ≡ answers_by x a s.class s → put_for u s ≡ put_for_selection x a s.class s → Taken
+  selects_so was x (refuse reason) e selected is puts = denies_so was x reason e is puts
+  selects_so was x (accept Two size) e selected is puts = accepts_so was x size e selected is puts
+  selects_so was x (accept Zero size) e selected is puts =
+      no_zero s.local.class2 (proposes x 2 && keeps_flow_control x) s.local.class0 (proposes x 0) (proposes_zero_alone x)
+      (selected_size x s.local) size
+      (ap (λ (l : Local). l.class0) c.local_is ∙ c.zero) selected
+
+  request_so : (was : s.ended ≡ None) (x : Connect) (a b : Bool) → u ≡ request x → has_peer x.source s.live ≡ a → is_full s ≡ b →
+      t ≡ answers_request x s → put_for u s ≡ put_for_request x s → Taken
+  request_so was x true b e has full is puts = denies_so was x 131 e
+      (is ∙ ap (λ (h : Bool). if h then denies 131 x.source s else (if is_full s then denies 1 x.source s else answers_by x
+      (selected_by x s.local) s.class s)) has)
+      (puts ∙ ap (λ (h : Bool). if h then refusal 131 x.source else (if is_full s then refusal 1 x.source
+      else put_for_selection x (selected_by x s.local) s.class s)) has)
+  request_so was x false true e has full is puts = denies_so was x 1 e
+      (is ∙ ap (λ (h : Bool). if h then denies 131 x.source s else (if is_full s then denies 1 x.source s else answers_by x
+      (selected_by x s.local) s.class s)) has
+      ∙ ap (λ (h : Bool). if h then denies 1 x.source s else answers_by x (selected_by x s.local) s.class s) full)
+      (puts ∙ ap (λ (h : Bool). if h then refusal 131 x.source else (if is_full s then refusal 1 x.source
+      else put_for_selection x (selected_by x s.local) s.class s)) has
+      ∙ ap (λ (h : Bool). if h then refusal 1 x.source else put_for_selection x (selected_by x s.local) s.class s) full)
+  request_so was x false false e has full is puts = selects_so was x (selected_by x s.local) e refl
+      (is ∙ ap (λ (h : Bool). if h then denies 131 x.source s else (if is_full s then denies 1 x.source s else answers_by x
+      (selected_by x s.local) s.class s)) has
+      ∙ ap (λ (h : Bool). if h then denies 1 x.source s else answers_by x (selected_by x s.local) s.class s) full)
+      (puts ∙ ap (λ (h : Bool). if h then refusal 131 x.source else (if is_full s then refusal 1 x.source
+      else put_for_selection x (selected_by x s.local) s.class s)) has
+      ∙ ap (λ (h : Bool). if h then refusal 1 x.source else put_for_selection x (selected_by x s.local) s.class s) full)
+
+  -- ---- a unit for a connection
+
+  module _ (was : s.ended ≡ None) (two : s.class ≡ Some Two) (n : ℕ) (dest : destination_of u ≡ Some n) where
+    first_n : those n w.coming ≡ u ∷ those n later
+    first_n = ap (λ (l : List Value). those n l) come ∙ first_kept n u later (named_so n u dest)
+
+    others_n : (m : ℕ) → (m ≡ n → ⊥) → those m later ≡ those m w.coming
+    others_n m other = sym (ap (λ (l : List Value). those m l) come ∙ first_left m u later (named_not n m u (λ e. other (sym e)) dest))
+
+    not_request : IsNoCr u
+    not_request x e = absurd (cc (sym dest ∙ ap destination_of e))
+
+    asked_one : (q : ℕ) (x : Connection) → units_at q f.came ≡ u ∷ units_at q head.later →
+        Stand local f.shut s w.coming (units_at q f.tagged) (units_at q f.came) (w.begun && first_at q f.tagged) (f.refs q) x → ⊥
+    asked_one q x e (comes y a none ask i) = not_request y (first_is u (request y) (units_at q head.later) [] (sym e ∙ ask was))
+    asked_one q x e (refuses y a reason is none i seen) = no_list u (units_at q head.later) (units_at q f.came) e none
+    asked_one q x e (answers h none) = no_list u (units_at q head.later) (units_at q f.came) e none
+    asked_one q x e (runs h none) = no_list u (units_at q head.later) (units_at q f.came) e none
+    asked_one q x e (past silent up none ask un off) = no_list u (units_at q head.later) (units_at q f.came) e ask
+
+    asked_by_place : (q : ℕ) (o : Option Connection) → slice_get w.tap.connections q ≡ o → units_at q f.came ≡ u ∷ units_at q head.later → ⊥
+    asked_by_place q None e h = no_list u (units_at q head.later) (units_at q f.came) h (f.beyond q e).1
+    asked_by_place q (Some x) e h = asked_one q x h (f.stands q x e)
+
+    asked_at : (q : ℕ) → units_at q f.came ≡ u ∷ units_at q head.later → ⊥
+    asked_at q h = asked_by_place q (slice_get w.tap.connections q) refl h
+
+    asks_by : (p : ℕ) (o : Option ℕ) → f.came ≡ (o, u) ∷ head.later → units_at p head.later ≡ units_at p f.came
+    asks_by p None is = sym (ap (λ (l : List Placed). units_at p l) is)
+    asks_by p (Some q) is = absurd (asked_at q (ap (λ (l : List Placed). units_at q l) is ∙ at_first q u head.later))
+
+    asks_same : (p : ℕ) → units_at p head.later ≡ units_at p f.came
+    asks_same p = asks_by p head.o head.is
+
+    to_n : t ≡ to_connection n (value_at n s.live) u s
+    to_n = react_is u s n two was dest
+
+    puts_n : put_for u s ≡ put_at n (value_at n s.live) u s.class
+    puts_n = put_is u s n two was dest
+
+    took_by : (peer : ℕ) (k : Standing) → value_at n s.live ≡ Some (linked peer k) → (line : List Value) → Among line (u ∷ those n later) →
+        Took n peer s t later (put_for u s) line
+    took_by peer k row line (inl ((m, i, e), among)) = record {
+      taken = [];
+      later = line;
+      is = refl;
+      among = among;
+      follows = subst (λ (v : Value). Follows n peer [] (put_for v s) s (react v s)) (sym e)
+          (dc_follows n peer m i k s row two was (ap destination_of (sym e) ∙ dest));
+    }
+    took_by peer k row line (inr (zs, e, among)) = record {
+      taken = u ∷ [];
+      later = zs;
+      is = e;
+      among = among;
+      follows = follows_open u s n peer k c.orderly.rise two was row dest;
+    }
+
+    -- the end has it open
+    at_open : (q : ℕ) (l : Standing) → value_at n s.live ≡ Some (linked q l) → Taken
+    at_open q l here =
+        let is = to_n ∙ ap (λ (o : Option Live). to_connection n o u s) here in
+        let a : OpenSo u n q s t = subst (λ (e : State). OpenSo u n q s e) (sym is) (open_so n q l u s here two c.orderly.rise dest) in
+        let lasts : t.ended ≡ None = a.ended ∙ was in (
+          line_steps local w f t (put_for u s) later head.later n q l here was (λ m other. touch_rows u n s t a.touch lasts m other)
+              a.same.given
+              others_n asks_same (λ peer k row line among. took_by peer k row line (subst (Among line) first_n among))
+              (λ peer k row. subst (λ (i : ℕ). Leaves n i t) (same_peer q peer l k (sym here ∙ row)) a.leaves_so)
+              head.values_are few_all.1 untagged_all.1
+              (subst (AllByRecursion IsNoCc) (sym (puts_n ∙ ap (λ (o : Option Live). put_at n o u s.class) here))
+              (linked_no_cc n q l u s.class two))
+              (λ none last. timely_then was t (given_same a.same.given) (λ m k other. touch_lives u n s t a.touch last m k other) none),
+          called_still local s t a.same (orderly_unit u s c.orderly) (touch_none u n s t a.touch c.orderly.rise c.none) (λ m p k h. two) c,
+        )
+
+    -- it is closing
+    at_closing : (q : ℕ) → value_at n s.live ≡ Some (closing q) → Taken
+    at_closing q here =
+        let is = to_n ∙ ap (λ (o : Option Live). to_connection n o u s) here in
+        let e = to_closing n u s in
+        let (same, ended) = closing_same n u s in
+        let touch = closing_touches n u s dest in
+        let lasts = ended ∙ was in
+        by_both e [] is (puts_n ∙ ap (λ (o : Option Live). put_at n o u s.class) here) (
+          left_alone local w f e [] later head.later n u (λ p k row. absurd (cc (sym here ∙ row)))
+              (λ p k row. closing_gone n q p k u s here c.orderly.rise row) was
+              (λ m other. touch_rows u n s e touch lasts m other) same.given first_n others_n asks_same f.shut (λ r h. inl h) (λ r h. h)
+              (λ r h. subst (λ (i : ℕ). r ≤ i) (sym same.given) (f.shut_given r h)) tt head.values_are few_all.1 untagged_all.1 tt
+              (λ none last. timely_then was e (given_same same.given) (λ m k other. touch_lives u n s e touch last m k other) none),
+          called_still local s e same (subst IsOrderly is (orderly_unit u s c.orderly)) (touch_none u n s e touch c.orderly.rise c.none)
+              (λ m p k h. two) c,
+        )
+
+    -- it is gone, and the unit is a DC
+    at_gone : value_at n s.live ≡ None → t ≡ s → put_for u s ≡ [] → Taken
+    at_gone here is puts = by_both s [] is puts (
+      left_alone local w f s [] later head.later n u (λ p k row. no_row (value_at n s.live) (linked p k) here row)
+          (λ p k row. no_row (value_at n s.live) (linked p k) here row) was (λ m other. refl) refl first_n others_n asks_same f.shut
+          (λ r h. inl h) (λ r h. h) (λ r h. f.shut_given r h) tt head.values_are few_all.1 untagged_all.1 tt
+          (λ none last. timely_then was s (given_same refl) (λ m k other. k) none),
+      c,
+    )
+
+    -- it is gone, and the unit is a DR
+    at_dr : (source reason : ℕ) (user : List ℕ) → u ≡ disconnect n source reason user → value_at n s.live ≡ None →
+        t ≡ to_unknown (disconnect n source reason user) s → put_for u s ≡ disconnected source n ∷ [] → Taken
+    at_dr source reason user e here is puts =
+        let a = to_unknown (disconnect n source reason user) s in
+        let dr : IsFor s.given (disconnect n source reason user) = subst (IsFor s.given) e few_all.0 in
+        let given : n ≤ s.given = given_so n s.given source reason user (dr n refl) in
+        let strays = gone_dr was n source reason user e here w.tap.course.strays refl in
+        by_both a (disconnected source n ∷ []) is puts (
+          left_alone local w f a (disconnected source n ∷ []) later head.later n u
+              (λ p k row. no_row (value_at n s.live) (linked p k) here row)
+              (λ p k row. no_row (value_at n s.live) (linked p k) here row) was (λ m other. refl) refl first_n others_n asks_same
+              (λ r. (r == n) || f.shut r) (λ r h. shut_one r n (r == n) (f.shut r) refl h) (λ r h. or_last (r == n) (f.shut r) h)
+              (λ r h. shut_up r n s.given (f.shut r) given (λ k. f.shut_given r k) (shut_one r n (r == n) (f.shut r) refl h)) (
+                record {
+                  m = source;
+                  n = n;
+                  is = refl;
+                  strays_is = strays;
+                  given = given;
+                  shut_is = or_first (n == n) (f.shut n) (eq-eqb n n refl);
+                  none = λ k. refl;
+                },
+                tt,
+              )
+              head.values_are few_all.1 untagged_all.1 (λ m x k. absurd (cc k), tt)
+              (λ none last. timely_then was a (given_same refl) (λ m k other. k) none),
+          called_still local s a (record { caller = refl; local_is = refl; class = refl; given = refl })
+              (subst IsOrderly is (orderly_unit u s c.orderly)) c.none c.two c,
+        )
+
+    unknown : (v : Value) → u ≡ v → value_at n s.live ≡ None → Taken
+    unknown (request x) e here = absurd (not_request x e)
+    unknown (disconnect destination source reason user) e here =
+        let same : destination ≡ n = number_is destination n (ap destination_of (sym e) ∙ dest) in
+        let v_is = e ∙ ap (λ (i : ℕ). disconnect i source reason user) same in
+        at_dr source reason user v_is here
+        (to_n ∙ ap (λ (o : Option Live). to_connection n o u s) here ∙ ap (λ (v : Value). to_unknown v s) v_is)
+        (puts_n ∙ ap (λ (o : Option Live). put_at n o u s.class) here ∙ ap (λ (v : Value). put_at n None v s.class) v_is)
+    unknown (disconnected destination source) e here =
+        at_gone here (to_n ∙ ap (λ (o : Option Live). to_connection n o u s) here ∙ ap (λ (v : Value). to_unknown v s) e)
+        (puts_n ∙ ap (λ (o : Option Live). put_at n o u s.class) here ∙ ap (λ (v : Value). put_at n None v s.class) e)
+    unknown (confirm destination x) e here = over_so (to_unknown (confirm destination x) s)
+        (to_n ∙ ap (λ (o : Option Live). to_connection n o u s) here ∙ ap (λ (v : Value). to_unknown v s) e)
+        (puts_n ∙ ap (λ (o : Option Live). put_at n o u s.class) here ∙ ap (λ (v : Value). put_at n None v s.class) e)
+        refl (record { caller = refl; local_is = refl; class = refl; given = refl }) refl
+    unknown (data0 end user) e here = over_so (to_unknown (data0 end user) s)
+        (to_n ∙ ap (λ (o : Option Live). to_connection n o u s) here ∙ ap (λ (v : Value). to_unknown v s) e)
+        (puts_n ∙ ap (λ (o : Option Live). put_at n o u s.class) here ∙ ap (λ (v : Value). put_at n None v s.class) e)
+        refl (record { caller = refl; local_is = refl; class = refl; given = refl }) refl
+    unknown (data2 destination number end user) e here = over_so (to_unknown (data2 destination number end user) s)
+        (to_n ∙ ap (λ (o : Option Live). to_connection n o u s) here ∙ ap (λ (v : Value). to_unknown v s) e)
+        (puts_n ∙ ap (λ (o : Option Live). put_at n o u s.class) here ∙ ap (λ (v : Value). put_at n None v s.class) e)
+        refl (record { caller = refl; local_is = refl; class = refl; given = refl }) refl
+    unknown (acknowledge credit destination number) e here = over_so (to_unknown (acknowledge credit destination number) s)
+        (to_n ∙ ap (λ (o : Option Live). to_connection n o u s) here ∙ ap (λ (v : Value). to_unknown v s) e)
+        (puts_n ∙ ap (λ (o : Option Live). put_at n o u s.class) here ∙ ap (λ (v : Value). put_at n None v s.class) e)
+        refl (record { caller = refl; local_is = refl; class = refl; given = refl }) refl
+    unknown (error destination cause) e here = over_so (to_unknown (error destination cause) s)
+        (to_n ∙ ap (λ (o : Option Live). to_connection n o u s) here ∙ ap (λ (v : Value). to_unknown v s) e)
+        (puts_n ∙ ap (λ (o : Option Live). put_at n o u s.class) here ∙ ap (λ (v : Value). put_at n None v s.class) e)
+        refl (record { caller = refl; local_is = refl; class = refl; given = refl }) refl
+
+    by_row : (o : Option Live) → value_at n s.live ≡ o → Taken
+    by_row None here = unknown u refl here
+    by_row (Some asked) here = absurd (c.none n here)
+    by_row (Some (linked q l)) here = at_open q l here
+    by_row (Some (closing q)) here = at_closing q here
+
+  -- ---- any unit
+
+  wrong_so : (was : s.ended ≡ None) (v : Value) → u ≡ v → (e : State) → t ≡ e → put_for u s ≡ [] → e ≡ fails UnexpectedUnit s → Taken
+  wrong_so was v is e to puts fail = over_so e to puts (ap (λ (x : State). is_some x.ended) fail) (record {
+    caller = ap (λ (x : State). x.is_caller) fail;
+    local_is = ap (λ (x : State). x.local) fail;
+    class = ap (λ (x : State). x.class) fail;
+    given = ap (λ (x : State). x.given) fail;
+  }) (ap (λ (x : State). x.live) fail)
+
+  on : (was : s.ended ≡ None) → t ≡ in_class s.class u s
+  on was = reacts_on u s was
+
+  puts_on : (was : s.ended ≡ None) → put_for u s ≡ put_in s.class u s
+  puts_on was = ap (λ (e : Option EndReason). if is_some e then [] else put_in s.class u s) was
+
+  before_by : (was : s.ended ≡ None) → (v : Value) → u ≡ v → t ≡ before_class false v s → put_for u s ≡ put_before false v s → Taken
+  before_by was (request x) e to puts = request_so was x (has_peer x.source s.live) (is_full s) e refl refl to puts
+  before_by was (confirm destination x) e to puts = wrong_so was (confirm destination x) e (before_class false (confirm destination x) s)
+      to puts refl
+  before_by was (disconnect destination source reason user) e to puts = wrong_so was (disconnect destination source reason user) e
+      (before_class false (disconnect destination source reason user) s) to puts refl
+  before_by was (disconnected destination source) e to puts = wrong_so was (disconnected destination source) e
+      (before_class false (disconnected destination source) s) to puts refl
+  before_by was (data0 end user) e to puts = wrong_so was (data0 end user) e (before_class false (data0 end user) s) to puts refl
+  before_by was (data2 destination number end user) e to puts = wrong_so was (data2 destination number end user) e
+      (before_class false (data2 destination number end user) s) to puts refl
+  before_by was (acknowledge credit destination number) e to puts = wrong_so was (acknowledge credit destination number) e
+      (before_class false (acknowledge credit destination number) s) to puts refl
+  before_by was (error destination cause) e to puts = wrong_so was (error destination cause) e
+      (before_class false (error destination cause) s) to puts refl
+
+  -- no class is selected
+  before_so : (was : s.ended ≡ None) → s.class ≡ None → (v : Value) → u ≡ v → Taken
+  before_so was none v e =
+      let to = on was ∙ ap (λ (k : Option Class). in_class k u s) none ∙ ap (λ (b : Bool). before_class b u s) c.caller
+      ∙ ap (λ (x : Value). before_class false x s) e in
+      let puts = puts_on was ∙ ap (λ (k : Option Class). put_in k u s) none ∙ ap (λ (b : Bool). put_before b u s) c.caller
+      ∙ ap (λ (x : Value). put_before false x s) e in
+      before_by was v e to puts
+
+  two_by : (was : s.ended ≡ None) → s.class ≡ Some Two → (v : Value) → u ≡ v → Taken
+  two_by was two (request x) e =
+      request_so was x (has_peer x.source s.live) (is_full s) e refl refl
+      (on was ∙ ap (λ (k : Option Class). in_class k u s) two ∙ ap (λ (b : Bool). in_two b u s) c.caller ∙ ap (λ (x : Value). in_two false
+      x s) e)
+      (puts_on was ∙ ap (λ (k : Option Class). put_in k u s) two ∙ ap (λ (b : Bool). put_in_two b u s) c.caller
+      ∙ ap (λ (x : Value). put_in_two false x s) e)
+  two_by was two (data0 end user) e =
+      wrong_so was (data0 end user) e (in_two false (data0 end user) s)
+      (on was ∙ ap (λ (k : Option Class). in_class k u s) two ∙ ap (λ (b : Bool). in_two b u s) c.caller ∙ ap (λ (x : Value). in_two false
+      x s) e)
+      (puts_on was ∙ ap (λ (k : Option Class). put_in k u s) two ∙ ap (λ (b : Bool). put_in_two b u s) c.caller
+      ∙ ap (λ (x : Value). put_in_two false x s) e) refl
+  two_by was two (confirm destination x) e = by_row was two destination (ap destination_of e) (value_at destination s.live) refl
+  two_by was two (disconnect destination source reason user) e = by_row was two destination (ap destination_of e)
+      (value_at destination s.live) refl
+  two_by was two (disconnected destination source) e = by_row was two destination (ap destination_of e) (value_at destination s.live) refl
+  two_by was two (data2 destination number end user) e = by_row was two destination (ap destination_of e) (value_at destination s.live) refl
+  two_by was two (acknowledge credit destination number) e = by_row was two destination (ap destination_of e)
+      (value_at destination s.live) refl
+  two_by was two (error destination cause) e = by_row was two destination (ap destination_of e) (value_at destination s.live) refl
+
+  by_class : (was : s.ended ≡ None) → (s.class ≡ None) ⊎ (s.class ≡ Some Two) → Taken
+  by_class was (inl none) = before_so was none u refl
+  by_class was (inr two) = two_by was two u refl
+
+  by_end : (o : Option EndReason) → s.ended ≡ o → Taken
+  by_end None e = by_class e c.class
+  by_end (Some reason) e =
+      over_so s (reacts_not u s (ap is_some e)) (ap (λ (x : Option EndReason). if is_some x then [] else put_in s.class u s) e)
+      (ap is_some e)
+      (record { caller = refl; local_is = refl; class = refl; given = refl }) (c.orderly.over (ended_some s.ended reason e))
+
+  pub takes_so : Taken
+  takes_so = by_end s.ended refl

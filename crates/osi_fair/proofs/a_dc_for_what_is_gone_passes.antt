@@ -1,0 +1,202 @@
+-- A DC with which a whole called end answers a DR for what is gone passes: it answers nothing at the tap, and changes nothing.
+-- For the law on a whole called end.
+use Rattle.std.proofs.Common.{◌≡◌, ◌∙◌, ℕ, Bool, true, false, List, [], ◌∷◌, set, refl, sym, ap, subst, Option, Some, None, inr, ◌⊎◌}
+use Rattle.std.proofs.Common.{if◌then◌else◌}
+use Rattle.std.specs.Prelude.{◌&&◌, ◌||◌, ◌==◌, not, position, slice_get}
+use Rattle.std.specs.List.{AllByRecursion}
+use Rattle.std.proofs.lemmas.Bool.{eqb-true}
+use Rattle.osi_tpdu.specs.Value.{Value, Connect, disconnected}
+use Rattle.osi_class.specs.declared.terms.Local.{Local}
+use Rattle.osi_rules.specs.declared.connections.Connection.{Connection}
+use Rattle.osi_rules.specs.declared.directions.Direction.TheVariants.{Left, Right}
+use Rattle.osi_rules.specs.declared.findings.Finding.{Finding}
+use Rattle.osi_rules.specs.declared.findings.Finding.TheVariants.{Broke, Kept, NotJudged}
+use Rattle.osi_rules.specs.declared.findings.Rule.TheVariants as rule
+use Rattle.osi_rules.specs.declared.halves.Half.{Half}
+use Rattle.osi_rules.specs.declared.routes.Route.{Route}
+use Rattle.osi_rules.specs.Reaches.{is_applied, reach_of}
+use Rattle.osi_rules.specs.Rows.{first_failed, is_due}
+use Rattle.osi_rules.specs.Sides.{is_closing, is_named, is_open}
+use Rattle.osi_rules.specs.Traffic.{Outcome, State as Traffic, at_found, at_place, connection_after, course_after, found, found_on}
+use Rattle.osi_rules.specs.Traffic.{is_stopped, none_told, one_told, reached, route, routed, takes, unnamed, unnamed_by}
+use Rattle.osi_fair.specs.Wholes.{Whole}
+use Rattle.osi_fair.proofs.how_a_unit_of_right_passes.{route_dc}
+use Rattle.osi_fair.proofs.all_are_judged_unless_one_broke.{IsJudged}
+use Rattle.osi_fair.proofs.each_connection_of_a_called_end.{AreAbove, AreStrays, Asked, Called, IsStray, Running, Stand, answers, comes}
+use Rattle.osi_fair.proofs.each_connection_of_a_called_end.{past, refuses, runs}
+use Rattle.osi_fair.proofs.units_by_their_place.{Placed, first_at, units_at, values}
+use Rattle.osi_fair.proofs.what_a_called_end_closes_is_to_pass.{close_waits}
+use Rattle.osi_fair.proofs.what_holds_of_one_item.{HoldsOfEach}
+use Rattle.osi_fair.proofs.what_is_live_at_a_called_end.{Answers, IsHeld}
+use Rattle.osi_fair.proofs.while_no_class_is_selected.{set_same}
+
+differ : {A : Type 0} (b : Bool) → b ≡ true → b ≡ false → A
+differ b h k = absurd (cc)
+
+and_false : (b : Bool) → (b && false) ≡ false
+and_false true = refl
+and_false false = refl
+
+due_parts : (a b c : Bool) → (a && (b && c)) ≡ true → (a ≡ true) × (c ≡ true)
+due_parts true true c h = (refl, h)
+due_parts true false c h = cc
+due_parts false b c h = cc
+
+not_due : (due strays : Bool) → due ≡ false → strays ≡ true →
+    first_failed ((due || not strays, NotJudged) ∷ (due, Broke rule.NothingToAnswer) ∷ []) ≡ NotJudged
+not_due false true h k = refl
+not_due false false h k = cc
+not_due true strays h k = cc
+
+unnamed_so : (loose strays : Bool) (m n : ℕ) → strays ≡ true →
+    (if loose then NotJudged else unnamed_by strays (disconnected m n)) ≡ NotJudged
+unnamed_so true strays m n h = refl
+unnamed_so false true m n h = refl
+unnamed_so false false m n h = cc
+
+judged_not : (j : Bool) (g : Finding) → g ≡ NotJudged → (if j then g else NotJudged) ≡ NotJudged
+judged_not true g h = h
+judged_not false g h = refl
+
+is_false : (b : Bool) → (b ≡ true → ⊥) → b ≡ false
+is_false true h = absurd (h refl)
+is_false false h = refl
+
+-- nothing is changed
+record Spared (u : Value) (s : Traffic) (o : Outcome) : Type 0 where
+  finding : o.told.finding ≡ NotJudged
+  state : o.state ≡ s
+
+module _ (m n : ℕ) (s : Traffic) (strays : s.course.strays ≡ true) where
+  none_spared : Spared (disconnected m n) s (none_told Right (unnamed s.course (disconnected m n)) s)
+  none_spared = subst (λ (f : Finding). Spared (disconnected m n) s (none_told Right f s))
+      (sym (unnamed_so s.course.loose s.course.strays m n strays)) (record { finding = refl; state = refl })
+
+  one_spared : (q : ℕ) (c : Connection) → slice_get s.connections q ≡ Some c → is_due Right c n ≡ false →
+      Spared (disconnected m n) s (one_told Right q c (disconnected m n) s)
+  one_spared q c at due =
+      let f : found_on Right s c (disconnected m n) ≡ NotJudged =
+      judged_not c.is_judged (found Right s.course false c (disconnected m n)) (not_due (is_due Right c n) s.course.strays due
+      strays) in
+      record {
+        finding = f;
+        state = ap (λ (g : Finding). record {
+          connections = set s.connections q (connection_after Right (disconnected m n) (is_applied g) (reach_of s.course.class g) c);
+          course = reached Right (reach_of s.course.class g) (course_after Right c (disconnected m n) (is_applied g) s.course);
+        }) f ∙ ap (λ (cs : List Connection). record s { connections = cs }) (set_same s.connections q c at);
+      }
+
+  found_spared : (q : ℕ) (o : Option Connection) → slice_get s.connections q ≡ o →
+      ((c : Connection) → slice_get s.connections q ≡ Some c → is_due Right c n ≡ false) →
+      Spared (disconnected m n) s (at_found Right (disconnected m n) s q o)
+  found_spared q None e h = none_spared
+  found_spared q (Some c) e h = one_spared q c e (h c e)
+
+  place_spared : (o : Option ℕ) → ((q : ℕ) (c : Connection) → slice_get s.connections q ≡ Some c → is_due Right c n ≡ false) →
+      Spared (disconnected m n) s (at_place Right (disconnected m n) s o)
+  place_spared None h = none_spared
+  place_spared (Some q) h = found_spared q (slice_get s.connections q) refl (λ c. h q c)
+
+  spared : s.course.right_stopped ≡ false → ((q : ℕ) (c : Connection) → slice_get s.connections q ≡ Some c → is_due Right c n ≡ false) →
+      Spared (disconnected m n) s (takes Right (disconnected m n) s)
+  spared right h = subst (λ (o : Outcome). Spared (disconnected m n) s o)
+      (sym (ap (λ (b : Bool). if b then none_told Right NotJudged s else routed Right (disconnected m n) s
+      (route Right s.course (disconnected m n)))
+      right ∙ ap (λ (r : Route). routed Right (disconnected m n) s r)
+      (route_dc s.course.class (is_stopped Left s.course) m n)))
+      (place_spared (position (is_named Right m) s.connections) h)
+
+module _ (local : Local) (w : Whole) (f : Called local w) (judged : HoldsOfEach IsJudged w.tap.connections)
+    (right : w.tap.course.right_stopped ≡ false) (u : Value) (rest : List Value) (later : List Placed)
+    (tagged : f.tagged ≡ (None, u) ∷ later) (rest_are : rest ≡ values later) where
+  abbrev after : Traffic → Whole
+  after t = record w { put = rest; begun = false; tap = t }
+
+  strays_all : AreStrays f.shut w.end f.refs f.home w.tap.course.strays ((None, u) ∷ later)
+  strays_all = subst (λ (l : List Placed). AreStrays f.shut w.end f.refs f.home w.tap.course.strays l) tagged f.strays
+
+  stray : IsStray f.shut w.end f.refs f.home w.tap.course.strays u later
+  stray = strays_all.0
+
+  mine_is : (i : ℕ) → units_at i f.tagged ≡ units_at i later
+  mine_is i = ap (λ (l : List Placed). units_at i l) tagged
+
+  begun_not : (i : ℕ) → (w.begun && first_at i f.tagged) ≡ false
+  begun_not i = ap (λ (l : List Placed). w.begun && first_at i l) tagged ∙ and_false w.begun
+
+  -- no connection that is open at the tap has this reference
+  silent_not : {A : Type 0} (x : Connect) (c : Connection) → Asked x c → is_open c.right.phase ≡ true → A
+  silent_not x c a up = differ (is_open c.right.phase) up (ap (λ (h : Half). is_open h.phase) a.right)
+
+  run_not : {A : Type 0} (q : ℕ) (c : Connection) → slice_get w.tap.connections q ≡ Some c → stray.n ≡ c.right.reference →
+      Running f.shut w.end w.coming (units_at q f.tagged) (w.begun && first_at q f.tagged) (f.refs q) c → A
+  run_not q c at same g =
+      let index : f.refs q ≡ Some stray.n = g.index ∙ ap (λ (i : ℕ). Some i) (sym (same ∙ g.right)) in
+      let (home, given) = f.homes q stray.n index in
+      let none : units_at q later ≡ [] = ap (λ (i : ℕ). units_at i later) (sym home)
+      ∙ stray.none (ap (λ (i : ℕ). f.refs i) home ∙ index) in
+      let gone = g.shut_is (ap (λ (i : ℕ). f.shut i) (sym (same ∙ g.right)) ∙ stray.shut_is) in
+      absurd (close_waits g.r g.peer g.first g.opened g.line g.acts g.along (ap (λ (x : Connection). x.is_judged) g.tap ∙ judged q c at)
+      gone
+      (ap (λ (x : Connection). is_open x.right.phase) g.tap ∙ g.there) (g.put ∙ mine_is q ∙ none))
+
+  due_not : {A : Type 0} (q : ℕ) (c : Connection) → slice_get w.tap.connections q ≡ Some c → is_open c.right.phase ≡ true →
+      stray.n ≡ c.right.reference →
+      Stand local f.shut w.end w.coming (units_at q f.tagged) (units_at q f.came) (w.begun && first_at q f.tagged) (f.refs q) c → A
+  due_not q c at up same (comes x a none ask i) = silent_not x c a up
+  due_not q c at up same (refuses x a reason is none i seen) = silent_not x c a up
+  due_not q c at up same (answers h none) = silent_not h.x c h.asked up
+  due_not q c at up same (runs g none) = run_not q c at same g
+  due_not q c at up same (past silent not_up none asks un off) = differ (is_open c.right.phase) up not_up
+
+  no_due : (q : ℕ) (c : Connection) → slice_get w.tap.connections q ≡ Some c → is_due Right c stray.n ≡ false
+  no_due q c at = is_false (is_due Right c stray.n) (λ h.
+      let (a, b) = due_parts (is_open c.right.phase) (is_closing c.seen_by_right.phase) (stray.n == c.right.reference) h in
+      due_not q c at a (eqb-true stray.n c.right.reference b) (f.stands q c at))
+
+  all_spared : Spared u w.tap (takes Right u w.tap)
+  all_spared = subst (λ (v : Value). Spared v w.tap (takes Right v w.tap)) (sym stray.is)
+      (spared stray.m stray.n w.tap stray.strays_is right no_due)
+
+  stays : Called local (after w.tap)
+  stays = record {
+    tagged = later;
+    put = rest_are;
+    came = f.came;
+    come = f.come;
+    refs = f.refs;
+    home = f.home;
+    shut = f.shut;
+    stands = λ i x there.
+        subst (λ (b : Bool). Stand local f.shut w.end w.coming (units_at i later) (units_at i f.came) b (f.refs i) x) (begun_not i)
+        (subst (λ (l : List Value). Stand local f.shut w.end w.coming l (units_at i f.came) (w.begun && first_at i f.tagged) (f.refs i) x)
+        (mine_is i) (f.stands i x there));
+    beyond = λ i none.
+        let (a, b, d) = f.beyond i none in (sym (mine_is i) ∙ a, b, d);
+    homes = f.homes;
+    linked_at = f.linked_at;
+    shut_given = f.shut_given;
+    strays = strays_all.1;
+    last = f.last;
+    tops = f.tops;
+    above = subst (λ (v : Value). AreAbove w.end.given f.last (v ∷ values later)) stray.is
+        (subst (λ (l : List Placed). AreAbove w.end.given f.last (values l)) tagged f.above);
+    class = f.class;
+    two = f.two;
+    class_seen = f.class_seen;
+    some = λ h. absurd (cc h);
+    few = f.few;
+    untagged = f.untagged;
+    timely = λ none last.
+        let h = f.timely none last in
+        record {
+          taps = h.taps;
+          answers = (subst (λ (l : List Placed). AllByRecursion (Answers (IsHeld w.end w.coming)) (values l)) tagged h.answers).1;
+          firsts = h.firsts;
+          known = h.known;
+        };
+  }
+
+  pub stray_passes : (((takes Right u w.tap).told.finding ≡ Kept) ⊎ ((takes Right u w.tap).told.finding ≡ NotJudged))
+      × Called local (after (takes Right u w.tap).state)
+  stray_passes = (inr all_spared.finding, subst (λ (t : Traffic). Called local (after t)) (sym all_spared.state) stays)

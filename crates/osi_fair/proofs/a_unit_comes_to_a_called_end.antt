@@ -1,0 +1,644 @@
+-- A unit of the other side passes at the tap of a whole called end, for one of its connections, or a DC that answers nothing.
+-- For the law on a whole called end.
+use Rattle.std.proofs.Common.{◌≡◌, ◌≢◌, ◌∙◌, ◌≤◌, ◌<◌, ℕ, zero, suc, Bool, true, false, List, [], ◌∷◌, ◌++◌, set, refl, sym, ap, subst}
+use Rattle.std.proofs.Common.{arith, Option, Some, None, inl, inr, ◌⊎◌, if◌then◌else◌}
+use Rattle.std.specs.Prelude.{◌&&◌, ◌||◌, ◌==◌, not, slice_get}
+use Rattle.std.specs.List.{AllByRecursion}
+use Rattle.std.proofs.lemmas.Bool.{eqb-true}
+use Rattle.std.proofs.lemmas.List.{append-nil}
+use Rattle.osi_tpdu.specs.Value.{Value, Connect, HasFieldsInRange, request, confirm, disconnect, disconnected, data0, data2, acknowledge}
+use Rattle.osi_tpdu.specs.Value.{destination_of, error}
+use Rattle.osi_class.specs.Link.{Standing}
+use Rattle.osi_class.specs.declared.terms.Class.{Class}
+use Rattle.osi_class.specs.declared.terms.Class.TheVariants.{Two}
+use Rattle.osi_class.specs.declared.terms.Local.{Local}
+use Rattle.osi_rules.specs.declared.connections.Connection.{Connection}
+use Rattle.osi_rules.specs.declared.courses.Course.{Course}
+use Rattle.osi_rules.specs.declared.directions.Direction.TheVariants.{Left, Right}
+use Rattle.osi_rules.specs.declared.findings.Finding.{Finding}
+use Rattle.osi_rules.specs.declared.findings.Finding.TheVariants.{Broke, NotJudged}
+use Rattle.osi_rules.specs.declared.findings.Reach.{Reach}
+use Rattle.osi_rules.specs.declared.findings.Reach.TheVariants as reach
+use Rattle.osi_rules.specs.declared.findings.Rule.TheVariants as rule
+use Rattle.osi_rules.specs.declared.halves.Half.{Half}
+use Rattle.osi_rules.specs.declared.halves.Phase.{Phase}
+use Rattle.osi_rules.specs.declared.halves.Phase.TheVariants.{Silent, Open, Refused, Closing, Closed}
+use Rattle.osi_rules.specs.Reaches.{is_applied, reach_of}
+use Rattle.osi_rules.specs.Rows.{first_failed, is_due}
+use Rattle.osi_rules.specs.Sides.{is_closed, is_closing, is_named, is_open, is_over, is_over_by, is_refused, is_silent}
+use Rattle.osi_rules.specs.Traffic.{Outcome, State as Traffic, connection_after, course_after, closing_phase, found, found_on, is_stray}
+use Rattle.osi_rules.specs.Traffic.{one_told, reached, takes, uses_source}
+use Rattle.osi_fair.specs.Lines.{Line, after_finding, finding_of, passes_other}
+use Rattle.osi_fair.specs.Naming.{unit as passing}
+use Rattle.osi_fair.specs.Wholes.{Whole}
+use Rattle.osi_fair.proofs.how_a_unit_of_right_passes.{strays_more}
+use Rattle.osi_fair.proofs.all_are_judged_unless_one_broke.{IsJudged}
+use Rattle.osi_fair.proofs.each_connection_of_a_called_end.{Among, AreAbove, Asked, Called, IsDc, IsFor, Row, Running, Stand, Untagged}
+use Rattle.osi_fair.proofs.each_connection_of_a_called_end.{among_more, among_skip, answers, closes, comes, over, past, refuses, runs}
+use Rattle.osi_fair.proofs.each_connection_of_a_called_end.{talks}
+use Rattle.osi_fair.proofs.left_selects_no_class.{left_class}
+use Rattle.osi_fair.proofs.units_by_their_place.{Placed, at_join, first_at, units_at, values, values_join}
+use Rattle.osi_fair.proofs.what_holds_of_one_item.{HoldsOfEach}
+use Rattle.osi_fair.proofs.what_is_live_at_a_called_end.{Answers, IsHeld, Timely, dr_for, shuts_of, timely_closes, timely_comes}
+use Rattle.osi_fair.proofs.what_is_put_before_the_cc_passes.{acts_join}
+use Rattle.osi_fair.proofs.what_keeps_names_apart.{AreApart, Sound}
+use Rattle.osi_fair.proofs.what_lasts_at_the_tap.{Lasts, lasts_passing}
+use Rattle.osi_fair.proofs.what_stays_of_each_connection.{own_stays, right_then}
+use Rattle.osi_fair.proofs.which_units_are_for_a_connection.{first_left, named_not, named_so, names, one_more, those, those_join}
+use Rattle.osi_fair.proofs.while_no_class_is_selected.{after_change}
+use Rattle.osi_fair.proofs.which_unit_comes_to_a_called_end.{IsCalm, calm_before, calm_reach}
+
+-- ---- small facts
+
+differ : {A : Type 0} (b : Bool) → b ≡ true → b ≡ false → A
+differ b h k = absurd (cc)
+
+number_is : (m n : ℕ) → Some m ≡ Some n → m ≡ n
+number_is m n e = cc
+
+named_parts : (a b c : Bool) → (not a && (not b && c)) ≡ true → (a ≡ false) × (b ≡ false) × (c ≡ true)
+named_parts false false true h = (refl, refl, refl)
+named_parts false false false h = cc
+named_parts false true c h = cc
+named_parts true b c h = cc
+
+is_both : (a b : Bool) → a ≡ true → b ≡ true → (a && b) ≡ true
+is_both true b h k = k
+is_both false b h k = cc
+
+set_none : {X : Type 0} (xs : List X) (p i : ℕ) (x : X) → slice_get (set xs p x) i ≡ None → slice_get xs i ≡ None
+set_none [] p i x h = h
+set_none (y ∷ ys) zero zero x h = absurd (cc)
+set_none (y ∷ ys) zero (suc i) x h = h
+set_none (y ∷ ys) (suc p) zero x h = absurd (cc)
+set_none (y ∷ ys) (suc p) (suc i) x h = set_none ys p i x h
+
+all_add : {X : Type 0} (P : X → Type 0) (vs : List X) (v : X) → AllByRecursion P vs → P v → AllByRecursion P (vs ++ v ∷ [])
+all_add P [] v a p = (p, tt)
+all_add P (u ∷ vs) v (one, more) p = (one, all_add P vs v more p)
+
+off_over : (a b : Bool) → (a || b) ≡ true → a ≡ false → b ≡ true
+off_over true b h k = cc
+off_over false b h k = h
+
+refused_by : (p k : Phase) → is_refused k ≡ true →
+    (is_refused p || (is_refused k || (is_closed p || (is_closing p && (is_closing k || is_closed k))))) ≡ true
+refused_by Refused k h = refl
+refused_by Silent Refused h = refl
+refused_by Open Refused h = refl
+refused_by Closing Refused h = refl
+refused_by Closed Refused h = refl
+refused_by p Silent h = cc
+refused_by p Open h = cc
+refused_by p Closing h = cc
+refused_by p Closed h = cc
+
+refused_over : (mine : Half) (k : Phase) → is_refused k ≡ true →
+    (is_refused mine.phase || (is_refused k || (is_closed mine.phase || (is_closing mine.phase && (is_closing k || is_closed k))))) ≡ true
+refused_over mine k h = refused_by mine.phase k h
+
+or_left : (a b : Bool) → (a || b) ≡ false → a ≡ false
+or_left true b h = cc
+or_left false b h = refl
+
+or_right : (a b : Bool) → (a || b) ≡ false → b ≡ false
+or_right true b h = cc
+or_right false b h = h
+
+not_not : (b : Bool) → not b ≡ false → b ≡ true
+not_not true h = refl
+not_not false h = cc
+
+judged_same : (j : Bool) (g : Finding) → j ≡ true → (if j then g else NotJudged) ≡ g
+judged_same true g h = refl
+judged_same false g h = cc
+
+closing_shuts : (was : Bool) (half : Half) → is_open (closing_phase was half).phase ≡ false
+closing_shuts true half = refl
+closing_shuts false half = refl
+
+-- right has closed only what left had closed
+closed_not : (p mine : Phase) → is_silent p ≡ false → is_open p ≡ false → is_refused p ≡ false → is_closing p ≡ false →
+    (is_closed p ≡ true → is_closing mine ≡ true) → is_open mine ≡ true → ⊥
+closed_not Silent mine a b c d k h = cc
+closed_not Open mine a b c d k h = cc
+closed_not Refused mine a b c d k h = cc
+closed_not Closing mine a b c d k h = cc
+closed_not Closed Open a b c d k h = cc (k refl)
+closed_not Closed Silent a b c d k h = cc
+closed_not Closed Refused a b c d k h = cc
+closed_not Closed Closing a b c d k h = cc
+closed_not Closed Closed a b c d k h = cc
+
+connection_not : {A : Type 0} → reach.Nothing ≡ reach.Connection → A
+connection_not e = absurd (cc e)
+
+-- a DC that answers nothing is not passed over
+dc_applied : (due strays : Bool) → strays ≡ false → (g : Finding) →
+    g ≡ first_failed ((due || not strays, NotJudged) ∷ (due, Broke rule.NothingToAnswer) ∷ []) → reach_of (Some Two) g ≡ reach.Nothing →
+    is_applied g ≡ true
+dc_applied true false h g e k = ap is_applied e
+dc_applied false false h g e k = connection_not (sym k ∙ ap (λ (f : Finding). reach_of (Some Two) f) e)
+dc_applied due true h g e k = cc
+
+cc_not_applied : {A : Type 0} (j : Bool) → is_applied (if j then Broke rule.WrongForm else NotJudged) ≡ true → A
+cc_not_applied true h = absurd (cc h)
+cc_not_applied false h = absurd (cc h)
+
+open_by : (s : Traffic) (c : Connection) (v : Value) (applied : Bool) → is_applied (found_on Left s c v) ≡ applied →
+    is_open (connection_after Left v applied reach.Nothing c).left.phase ≡ true → is_open c.left.phase ≡ true
+open_by s c v false e h = h
+open_by s c (request x) true e h = h
+open_by s c (confirm destination x) true e h = cc_not_applied c.is_judged e
+open_by s c (disconnect destination source reason user) true e h =
+    differ (is_open (closing_phase (is_silent c.left.phase) c.left).phase) h (closing_shuts (is_silent c.left.phase) c.left)
+open_by s c (disconnected destination source) true e h = absurd (cc h)
+open_by s c (data0 end user) true e h = h
+open_by s c (data2 destination number end user) true e h = h
+open_by s c (acknowledge credit destination number) true e h = h
+open_by s c (error destination cause) true e h = absurd (cc h)
+
+same_confirm : (m n : ℕ) (x y : Connect) → confirm m x ≡ confirm n y → x ≡ y
+same_confirm m n x y e = cc
+
+above_not : (last n a b : ℕ) → n ≤ last → last < a → a ≡ b → b ≡ n → ⊥
+above_not last n a b up above e same = omega arith
+
+-- the CCs that are to pass give other references
+answers_above : (given last n : ℕ) (vs : List Value) → n ≤ last → AreAbove given last vs → AllByRecursion (Answers (λ m. m ≡ n → ⊥)) vs
+answers_above given last n [] up h = tt
+answers_above given last n (request x ∷ vs) up h = (λ m y e. absurd (cc e), answers_above given last n vs up h)
+answers_above given last n (confirm destination x ∷ vs) up (above, h) = (
+  λ m y e same. absurd (above_not last n x.source y.source up above (ap (λ (z : Connect). z.source) (same_confirm destination m x y e))
+      same),
+  answers_above given x.source n vs (omega arith) h,
+)
+answers_above given last n (disconnect destination source reason user ∷ vs) up h = (
+  λ m y e. absurd (cc e),
+  answers_above given last n vs
+      up h,
+)
+answers_above given last n (disconnected destination source ∷ vs) up h = (λ m y e. absurd (cc e), answers_above given last n vs up h)
+answers_above given last n (data0 end user ∷ vs) up h = (λ m y e. absurd (cc e), answers_above given last n vs up h)
+answers_above given last n (data2 destination number end user ∷ vs) up h = (λ m y e. absurd (cc e), answers_above given last n vs up h)
+answers_above given last n (acknowledge credit destination number ∷ vs) up h = (λ m y e. absurd (cc e), answers_above given last n vs up h)
+answers_above given last n (error destination cause ∷ vs) up h = (λ m y e. absurd (cc e), answers_above given last n vs up h)
+
+nothing_not : reach.Nothing ≡ reach.Everything → ⊥
+nothing_not e = cc
+
+seen_left : (v : Value) (applied : Bool) (c : Connection) → (connection_after Left v applied reach.Nothing c).seen_by_left ≡ c.seen_by_left
+seen_left (request x) true c = refl
+seen_left (confirm destination x) true c = refl
+seen_left (disconnect destination source reason user) true c = refl
+seen_left (disconnected destination source) true c = refl
+seen_left (data0 end user) true c = refl
+seen_left (data2 destination number end user) true c = refl
+seen_left (acknowledge credit destination number) true c = refl
+seen_left (error destination cause) true c = refl
+seen_left v false c = refl
+
+seen_after : (c : Connection) (v : Value) (b : Bool) (course : Course) → (course_after Left c v b course).class_seen ≡ course.class_seen
+seen_after c (request x) b course = refl
+seen_after c (confirm destination x) true course = refl
+seen_after c (confirm destination x) false course = refl
+seen_after c (disconnect destination source reason user) b course = refl
+seen_after c (disconnected destination source) b course = refl
+seen_after c (data0 end user) b course = refl
+seen_after c (data2 destination number end user) b course = refl
+seen_after c (acknowledge credit destination number) b course = refl
+seen_after c (error destination cause) b course = refl
+
+-- ---- all connections
+
+module _ (local : Local) (w : Whole) (f : Called local w) (apart : AreApart w.tap.connections)
+    (judged : HoldsOfEach IsJudged w.tap.connections) (v : Value) (ranges : HasFieldsInRange v)
+    (calm_after : IsCalm (takes Left v w.tap).state.course) where
+  abbrev cs : List Connection
+  cs = w.tap.connections
+
+  abbrev more : List Value
+  more = w.coming ++ v ∷ []
+
+  abbrev after : Whole
+  after = record w { tap = (takes Left v w.tap).state; coming = more }
+
+  pub lasts : Lasts w.tap.course (takes Left v w.tap).state.course
+  lasts = lasts_passing (passing Left v) w.tap
+
+  pub calm : IsCalm w.tap.course
+  calm = calm_before w.tap.course (takes Left v w.tap).state.course lasts calm_after
+
+  pub those_more : (r : ℕ) → names r v ≡ false → those r more ≡ those r w.coming
+  those_more r e = those_join r w.coming (v ∷ []) ∙ ap (λ (l : List Value). those r w.coming ++ l) (first_left r v [] e)
+      ∙ append-nil (those r w.coming)
+
+  pub row_other : (r peer : ℕ) (link : Option Standing) (line : List Value) → names r v ≡ false → Row w.end w.coming r peer link line →
+      Row w.end more r peer link line
+  row_other r peer link line e (talks k there is among) = talks k there is (subst (Among line) (sym (those_more r e)) among)
+  row_other r peer link line e (closes un is among) = closes un is (subst (Among line) (sym (those_more r e)) among)
+  row_other r peer link line e (over h) = over h
+
+  row_skip : (r peer : ℕ) (link : Option Standing) (line : List Value) → names r v ≡ true → IsDc v → Row w.end w.coming r peer link line →
+      Row w.end more r peer link line
+  row_skip r peer link line e dc (talks k there is among) =
+      talks k there is (subst (Among line) (sym (one_more r w.coming v e)) (among_skip line (those r w.coming) v dc among))
+  row_skip r peer link line e dc (closes un is among) =
+      closes un is (subst (Among line) (sym (one_more r w.coming v e)) (among_skip line (those r w.coming) v dc among))
+  row_skip r peer link line e dc (over h) = over h
+
+  row_add : (r peer : ℕ) (link : Option Standing) (line : List Value) → names r v ≡ true → Row w.end w.coming r peer link line →
+      Row w.end more r peer link (line ++ v ∷ [])
+  row_add r peer link line e (talks k there is among) =
+      talks k there is (subst (Among (line ++ v ∷ [])) (sym (one_more r w.coming v e)) (among_more line (those r w.coming) v among))
+  row_add r peer link line e (closes un is among) =
+      closes un is (subst (Among (line ++ v ∷ [])) (sym (one_more r w.coming v e)) (among_more line (those r w.coming) v among))
+  row_add r peer link line e (over h) = over h
+
+  -- a connection of which nothing passes
+  module _ (o : Option ℕ) (asks : ℕ → List Value) (rows : (r peer : ℕ) (link : Option Standing) (line : List Value) → o ≡ Some r →
+      Row w.end w.coming r peer link line → Row w.end more r peer link line) where
+    pub stand_on : (i : ℕ) (c : Connection) (mine was : List Value) (begun : Bool) → asks i ≡ was →
+        Stand local f.shut w.end w.coming mine was begun o c → Stand local f.shut w.end more mine (asks i) begun o c
+    stand_on i c mine was begun same (comes x a none ask e) = comes x a none (λ lasts. same ∙ ask lasts) e
+    stand_on i c mine was begun same (refuses x a reason is none e seen) = refuses x a reason is (same ∙ none) e seen
+    stand_on i c mine was begun same (answers h none) = answers (record {
+      x = h.x;
+      size = h.size;
+      r = h.r;
+      index = h.index;
+      asked = h.asked;
+      selected = h.selected;
+      link = h.link;
+      more = h.more;
+      come = h.come;
+      mine_is = h.mine_is;
+      acts = h.acts;
+      along = h.along;
+      seen = h.seen;
+      row = rows h.r h.x.source h.link h.come h.index h.row;
+      shut_is = h.shut_is;
+    }) (same ∙ none)
+    stand_on i c mine was begun same (runs g none) = runs (record {
+      r = g.r;
+      peer = g.peer;
+      index = g.index;
+      line = g.line;
+      tap = g.tap;
+      put = g.put;
+      begun_is = g.begun_is;
+      first = g.first;
+      acts = g.acts;
+      opened = g.opened;
+      along = g.along;
+      there = g.there;
+      right = g.right;
+      left = g.left;
+      row = rows g.r g.peer g.line.link g.line.coming g.index g.row;
+      shut_is = g.shut_is;
+    }) (same ∙ none)
+    stand_on i c mine was begun same (past silent up none ask un off) = past silent up none (same ∙ ask) un off
+
+  -- ---- a DC that answers nothing
+
+  abbrev came_none : List Placed
+  came_none = f.came ++ (None, v) ∷ []
+
+  values_none : more ≡ values came_none
+  values_none = ap (λ (l : List Value). l ++ v ∷ []) f.come ∙ sym (values_join f.came ((None, v) ∷ []))
+
+  asks_none : (i : ℕ) → units_at i came_none ≡ units_at i f.came
+  asks_none i = at_join i f.came ((None, v) ∷ []) ∙ append-nil (units_at i f.came)
+
+  skip_by : (r peer : ℕ) (link : Option Standing) (line : List Value) (b : Bool) → names r v ≡ b → IsDc v → Row w.end w.coming r peer link
+      line →
+      Row w.end more r peer link line
+  skip_by r peer link line true e dc row = row_skip r peer link line e dc row
+  skip_by r peer link line false e dc row = row_other r peer link line e row
+
+  dc_not_request : IsDc v → (x : Connect) → v ≡ request x → ⊥
+  dc_not_request (m, n, e) x h = cc (sym e ∙ h)
+
+  pub is_lost : IsDc v → w.tap.course.strays ≡ true → (takes Left v w.tap).state ≡ w.tap → Called local after
+  is_lost dc strays same = subst (λ (s : Traffic). Called local (record w { tap = s; coming = more })) (sym same) (record {
+    tagged = f.tagged;
+    put = f.put;
+    came = came_none;
+    come = values_none;
+    refs = f.refs;
+    home = f.home;
+    shut = f.shut;
+    stands = λ i c at. stand_on (f.refs i) (λ j. units_at j came_none)
+        (λ r peer link line e row. skip_by r peer link line (names r v) refl dc row) i c (units_at i f.tagged) (units_at i f.came)
+        (w.begun && first_at i f.tagged) (asks_none i) (f.stands i c at);
+    beyond = λ i none.
+        let (a, b, d) = f.beyond i none in (a, asks_none i ∙ b, d);
+    homes = f.homes;
+    linked_at = f.linked_at;
+    shut_given = f.shut_given;
+    strays = f.strays;
+    last = f.last;
+    tops = f.tops;
+    above = f.above;
+    class = f.class;
+    two = f.two;
+    class_seen = f.class_seen;
+    some = f.some;
+    few = all_add (IsFor w.end.given) w.coming v f.few (λ m e. inr dc);
+    untagged = all_add Untagged f.came (None, v) f.untagged (λ h. dc_not_request dc);
+    timely = λ none last. differ w.tap.course.strays strays none;
+  })
+
+  -- ---- a unit for a connection
+
+  module _ (n q : ℕ) (c : Connection) (dest : destination_of v ≡ Some n) (at : slice_get cs q ≡ Some c) (named : is_named Left n c ≡ true)
+      (is : takes Left v w.tap ≡ one_told Left q c v w.tap) where
+    abbrev found_so : Finding
+    found_so = found_on Left w.tap c v
+
+    abbrev next : Connection
+    next = connection_after Left v (is_applied found_so) reach.Nothing c
+
+    course_is : (takes Left v w.tap).state.course
+        ≡ reached Left (reach_of w.tap.course.class_seen found_so) (course_after Left c v (is_applied found_so) w.tap.course)
+    course_is = ap (λ (o : Outcome). o.state.course) is
+
+    no_reach : (j : Option Class) → reach_of j found_so ≡ reach.Nothing
+    no_reach j = calm_reach j w.tap.course.class_seen found_so (course_after Left c v (is_applied found_so) w.tap.course)
+        (subst IsCalm course_is calm_after)
+
+    conns : (takes Left v w.tap).state.connections ≡ set cs q next
+    conns = ap (λ (o : Outcome). o.state.connections) is
+        ∙ ap (λ (r : Reach). set cs q (connection_after Left v (is_applied found_so) r c)) (no_reach w.tap.course.class_seen)
+
+    sound : Sound c
+    sound = apart.sound q c at (judged q c at)
+
+    parts : (is_over Left c ≡ false) × (is_silent c.seen_by_left.phase ≡ false) × ((c.seen_by_left.reference == n) ≡ true)
+    parts = named_parts (is_over Left c) (is_silent c.seen_by_left.phase) (c.seen_by_left.reference == n) named
+
+    started : is_silent c.right.phase ≡ false
+    started = sound.left_knows.there parts.1
+
+    name_is : c.right.reference ≡ n
+    name_is = sym (sound.left_knows.reference parts.1) ∙ eqb-true c.seen_by_left.reference n parts.2
+
+    next_right : next.right ≡ c.right
+    next_right = right_then v (is_applied found_so) reach.Nothing c
+
+    next_left : next.left.reference ≡ c.left.reference
+    next_left = (own_stays (is_applied found_so) w.tap v reach.Nothing c refl).reference
+
+    not_cr : (x : Connect) → v ≡ request x → ⊥
+    not_cr x e = cc (sym dest ∙ ap destination_of e)
+
+    abbrev StandNow : ℕ → Option ℕ → Connection → Type 0
+    StandNow i o x = Stand local f.shut w.end more (units_at i f.tagged) (units_at i came_none) (w.begun && first_at i f.tagged) o x
+
+    -- its reference is that of this place
+    record Here : Type 0 where
+      ref : f.refs q ≡ Some n
+      stand : StandNow q (f.refs q) next
+
+    silent_not : {A : Type 0} (x : Connect) → Asked x c → A
+    silent_not x a = differ (is_silent c.right.phase) (ap (λ (h : Half). is_silent h.phase) a.right) started
+
+    run_here : (g : Running f.shut w.end w.coming (units_at q f.tagged) (w.begun && first_at q f.tagged) (f.refs q) c) →
+        units_at q f.came ≡ [] → Here
+    run_here g none =
+        let in_use = uses_source Left cs v in
+        let r_is : n ≡ g.r = sym name_is ∙ g.right in
+        let dest_r : destination_of v ≡ Some g.r = dest ∙ ap (λ (i : ℕ). Some i) r_is in
+        let line : Line = record g.line {
+          tap = after_finding Left (finding_of Left w.tap.course in_use g.line.tap v) v g.line.tap;
+          coming = g.line.coming ++ v ∷ [];
+        } in
+        let tap : line.tap ≡ next =
+        ap (λ (x : Connection). after_finding Left (finding_of Left w.tap.course in_use x v) v x) g.tap
+        ∙ ap (λ (r : Reach). connection_after Left v (is_applied found_so) r c) (no_reach (Some Two)) in
+        let some : reach_of (Some Two) (finding_of Left w.tap.course in_use g.line.tap v) ≢ reach.Everything = λ e.
+        nothing_not (sym (no_reach (Some Two))
+        ∙ ap (λ (x : Connection). reach_of (Some Two) (finding_of Left w.tap.course in_use x v)) (sym g.tap) ∙ e) in
+        record {
+          ref = g.index ∙ ap (λ (i : ℕ). Some i) (sym r_is);
+          stand = runs (record {
+            r = g.r;
+            peer = g.peer;
+            index = g.index;
+            line = line;
+            tap = tap;
+            put = g.put;
+            begun_is = g.begun_is;
+            first = g.first;
+            acts = g.acts ++ passes_other w.tap.course in_use v ∷ [];
+            opened = g.opened;
+            along = acts_join Right g.r g.peer g.acts (passes_other w.tap.course in_use v ∷ []) g.first g.line line g.along
+                (line, (ranges, dest_r, some, refl), refl);
+            there = ap (λ (h : Half). is_open h.phase) next_right ∙ g.there;
+            right = ap (λ (h : Half). h.reference) next_right ∙ g.right;
+            left = next_left ∙ g.left;
+            row = row_add g.r g.peer g.line.link g.line.coming (named_so g.r v dest_r) g.row;
+            shut_is = g.shut_is;
+          }) (asks_none q ∙ none);
+        }
+
+    seen_same : next.seen_by_left ≡ c.seen_by_left
+    seen_same = seen_left v (is_applied found_so) c
+
+    here_by : Stand local f.shut w.end w.coming (units_at q f.tagged) (units_at q f.came) (w.begun && first_at q f.tagged) (f.refs q) c →
+        Here
+    here_by (comes x a none ask i) = silent_not x a
+    here_by (refuses x a reason mine none i seen) = silent_not x a
+    here_by (answers h none) = silent_not h.x h.asked
+    here_by (runs g none) = run_here g none
+    here_by (past silent up none ask un (inl (ref, answered))) = record {
+      ref = ref ∙ ap (λ (i : ℕ). Some i) name_is;
+      stand = past (ap (λ (h : Half). is_silent h.phase) next_right ∙ silent) (ap (λ (h : Half). is_open h.phase) next_right ∙ up) none
+          (asks_none q ∙ ask) un (inl (
+            ref ∙ ap (λ (h : Half). Some h.reference) (sym next_right),
+            ap (λ (h : Half). is_refused h.phase) next_right ∙ answered,
+          ));
+    }
+    here_by (past silent up none ask un (inr (refused, seen))) =
+        differ (is_over Left c) (is_both c.is_judged (is_over_by c.left c.seen_by_left) (judged q c at)
+        (refused_over c.left c.seen_by_left.phase
+        (off_over (is_silent c.seen_by_left.phase) (is_refused c.seen_by_left.phase) seen parts.1))) parts.0
+
+    here : Here
+    here = here_by (f.stands q c at)
+
+    item : (i : ℕ) (x : Connection) → slice_get (takes Left v w.tap).state.connections i ≡ Some x →
+        ((i ≡ q) × (x ≡ next)) ⊎ ((i ≡ q → ⊥) × (slice_get cs i ≡ Some x))
+    item i x h = after_change cs q i next x (ap (λ (l : List Connection). slice_get l i) (sym conns) ∙ h)
+
+    name_not : (i r : ℕ) → (i ≡ q → ⊥) → f.refs i ≡ Some r → names r v ≡ false
+    name_not i r other e = named_not n r v (λ same. other (sym (f.homes i r e).0 ∙ ap f.home (sym same) ∙ (f.homes q n here.ref).0)) dest
+
+    stand_by : (i : ℕ) (x : Connection) → ((i ≡ q) × (x ≡ next)) ⊎ ((i ≡ q → ⊥) × (slice_get cs i ≡ Some x)) → StandNow i (f.refs i) x
+    stand_by i x (inl (same, so)) =
+        subst (λ (y : Connection). StandNow i (f.refs i) y) (sym so) (subst (λ (j : ℕ). StandNow j (f.refs j) next) (sym same) here.stand)
+    stand_by i x (inr (other, there)) = stand_on (f.refs i) (λ j. units_at j came_none)
+        (λ r peer link line e row. row_other r peer link line (name_not i r other e) row) i x (units_at i f.tagged) (units_at i f.came)
+        (w.begun && first_at i f.tagged) (asks_none i) (f.stands i x there)
+
+    top_by : (i : ℕ) (x : Connection) → ((i ≡ q) × (x ≡ next)) ⊎ ((i ≡ q → ⊥) × (slice_get cs i ≡ Some x)) → x.right.reference ≤ f.last
+    top_by i x (inl (same, so)) =
+        subst (λ (h : Half). h.reference ≤ f.last) (sym (ap (λ (y : Connection). y.right) so ∙ next_right)) (f.tops q c at)
+    top_by i x (inr (other, there)) = f.tops i x there
+
+    two_by : (i : ℕ) (x : Connection) → ((i ≡ q) × (x ≡ next)) ⊎ ((i ≡ q → ⊥) × (slice_get cs i ≡ Some x)) → is_open x.right.phase ≡ true →
+        (takes Left v w.tap).state.course.class ≡ Some Two
+    two_by i x (inl (same, so)) up =
+        lasts.two (f.two q c at (ap (λ (h : Half). is_open h.phase) (sym (ap (λ (y : Connection). y.right) so ∙ next_right)) ∙ up))
+    two_by i x (inr (other, there)) up = lasts.two (f.two i x there up)
+
+    course_same : ((takes Left v w.tap).state.course.class ≡ w.tap.course.class)
+        × ((takes Left v w.tap).state.course.class_seen ≡ w.tap.course.class_seen)
+    course_same =
+        let so = course_is ∙ ap (λ (r : Reach). reached Left r (course_after Left c v (is_applied found_so) w.tap.course))
+        (no_reach w.tap.course.class_seen) in (
+          left_class v w.tap,
+          ap (λ (k : Course). k.class_seen) so ∙ seen_after c v (is_applied found_so) w.tap.course,
+        )
+
+    -- ---- what it closes
+
+    abbrev TimelyNow : Type 0
+    TimelyNow = Timely w.end more (takes Left v w.tap).state.connections (values f.tagged)
+
+    -- a side that is open was open before
+    open_was : is_open next.left.phase ≡ true → is_open c.left.phase ≡ true
+    open_was h = open_by w.tap c v (is_applied found_so) refl h
+
+    held_at : Timely w.end w.coming cs (values f.tagged) → (i : ℕ) (x : Connection) →
+        ((i ≡ q) × (x ≡ next)) ⊎ ((i ≡ q → ⊥) × (slice_get cs i ≡ Some x)) → is_open x.left.phase ≡ true → is_open x.right.phase ≡ true →
+        IsHeld w.end w.coming x.right.reference
+    held_at h i x (inl (same, so)) a b =
+        subst (λ (k : Half). IsHeld w.end w.coming k.reference) (sym (ap (λ (y : Connection). y.right) so ∙ next_right))
+        (h.taps q c at (open_was (ap (λ (y : Connection). is_open y.left.phase) (sym so) ∙ a))
+        (ap (λ (k : Half). is_open k.phase) (sym (ap (λ (y : Connection). y.right) so ∙ next_right)) ∙ b))
+    held_at h i x (inr (other, there)) a b = h.taps i x there a b
+
+    run_ref : (i : ℕ) (x : Connection) (o : Option ℕ) (mine asks : List Value) (begun : Bool) → is_open x.right.phase ≡ true →
+        Stand local f.shut w.end w.coming mine asks begun o x → o ≡ Some x.right.reference
+    run_ref i x o mine asks begun up (comes y a none ask e) = differ (is_open x.right.phase) up (ap (λ (h : Half). is_open h.phase) a.right)
+    run_ref i x o mine asks begun up (refuses y a reason m none e seen) =
+        differ (is_open x.right.phase) up (ap (λ (h : Half). is_open h.phase) a.right)
+    run_ref i x o mine asks begun up (answers h none) =
+        differ (is_open x.right.phase) up (ap (λ (h : Half). is_open h.phase) h.asked.right)
+    run_ref i x o mine asks begun up (runs g none) = g.index ∙ ap (λ (j : ℕ). Some j) (sym g.right)
+    run_ref i x o mine asks begun up (past silent not_up none ask un off) = differ (is_open x.right.phase) up not_up
+
+    other_ref : (i : ℕ) (x : Connection) → ((i ≡ q) × (x ≡ next)) ⊎ ((i ≡ q → ⊥) × (slice_get cs i ≡ Some x)) →
+        is_open next.left.phase ≡ false → is_open x.left.phase ≡ true → is_open x.right.phase ≡ true → x.right.reference ≡ n → ⊥
+    other_ref i x (inl (same, so)) shut a b e = differ (is_open next.left.phase) (ap (λ (y : Connection). is_open y.left.phase) (sym so)
+        ∙ a) shut
+    other_ref i x (inr (other, there)) shut a b e =
+        let ref = run_ref i x (f.refs i) (units_at i f.tagged) (units_at i f.came) (w.begun && first_at i f.tagged) b
+        (f.stands i x there) in
+        other (sym (f.homes i n (ref ∙ ap (λ (j : ℕ). Some j) e)).0 ∙ (f.homes q n here.ref).0)
+
+    timely_nothing : Timely w.end w.coming cs (values f.tagged) → shuts_of v ≡ None → dr_for v ≡ None → TimelyNow
+    timely_nothing h none no_dr = timely_comes w.end w.coming cs (takes Left v w.tap).state.connections (values f.tagged) v none no_dr
+        (λ i x there a b. held_at h i x (item i x there) a b) h
+
+    timely_one : Timely w.end w.coming cs (values f.tagged) → shuts_of v ≡ Some n → ((m : ℕ) → dr_for v ≡ Some m → IsHeld w.end w.coming
+        m) →
+        is_open next.left.phase ≡ false → TimelyNow
+    timely_one h shuts dr shut =
+        timely_closes w.end w.coming cs (takes Left v w.tap).state.connections (values f.tagged) v n shuts dr (f.homes q n here.ref).1
+        (λ i x there a b. (held_at h i x (item i x there) a b, other_ref i x (item i x there) shut a b))
+        (answers_above w.end.given f.last n (values f.tagged) (subst (λ (i : ℕ). i ≤ f.last) name_is (f.tops q c at)) f.above) h
+
+    dest_is : (m : ℕ) → destination_of v ≡ Some m → m ≡ n
+    dest_is m e = number_is m n (sym e ∙ dest)
+
+    open_by_stand : {A : Type 0} → is_open c.left.phase ≡ true → is_closing c.right.phase ≡ false →
+        Stand local f.shut w.end w.coming (units_at q f.tagged) (units_at q f.came) (w.begun && first_at q f.tagged) (f.refs q) c →
+        (is_open c.right.phase ≡ true → A) → A
+    open_by_stand a b (comes x y none ask i) k = silent_not x y
+    open_by_stand a b (refuses x y reason mine none i seen) k = silent_not x y
+    open_by_stand a b (answers h none) k = silent_not h.x h.asked
+    open_by_stand a b (runs g none) k = k g.there
+    open_by_stand a b (past silent up none ask un (inl (ref, answered))) k =
+        absurd (closed_not c.right.phase c.left.phase silent up answered b sound.right_closed a)
+    open_by_stand a b (past silent up none ask un (inr (refused, seen))) k =
+        differ (is_over Left c) (is_both c.is_judged (is_over_by c.left c.seen_by_left) (judged q c at)
+        (refused_over c.left c.seen_by_left.phase
+        (off_over (is_silent c.seen_by_left.phase) (is_refused c.seen_by_left.phase) seen parts.1))) parts.0
+
+    dr_so : (takes Left v w.tap).state.course.strays ≡ false → Timely w.end w.coming cs (values f.tagged) → (destination source reason : ℕ)
+        (user : List ℕ) → v ≡ disconnect destination source reason user → TimelyNow
+    dr_so none h destination source reason user e =
+        let strays : (w.tap.course.strays || (not (is_applied found_so) || is_stray Left c source)) ≡ false =
+        sym (ap (λ (k : Course). k.strays) (course_is
+        ∙ ap (λ (r : Reach). reached Left r (course_after Left c v (is_applied found_so) w.tap.course))
+        (no_reach w.tap.course.class_seen)
+        ∙ ap (λ (u : Value). course_after Left c u (is_applied found_so) w.tap.course) e)) ∙ none in
+        let both = or_right w.tap.course.strays (not (is_applied found_so) || is_stray Left c source) strays in
+        let applied = not_not (is_applied found_so) (or_left (not (is_applied found_so)) (is_stray Left c source) both) in
+        let stray = or_right (not (is_applied found_so)) (is_stray Left c source) both in
+        let opened = not_not (is_open c.left.phase) (or_left (not (is_open c.left.phase)) (not (source == c.left.reference)
+        || is_closing c.right.phase) stray) in
+        let first = or_right (not (source == c.left.reference)) (is_closing c.right.phase) (or_right (not (is_open c.left.phase))
+        (not (source == c.left.reference) || is_closing c.right.phase) stray) in
+        open_by_stand opened first (f.stands q c at) (λ up.
+        timely_one h (ap shuts_of e ∙ (sym (ap destination_of e) ∙ dest))
+        (λ m k. subst (λ (i : ℕ). IsHeld w.end w.coming i) (name_is ∙ sym (dest_is m (ap destination_of e ∙ (sym (ap dr_for e) ∙ k))))
+        (h.taps q c at opened up))
+        (ap (λ (b : Bool). is_open (connection_after Left v b reach.Nothing c).left.phase) applied
+        ∙ ap (λ (u : Value). is_open (connection_after Left u true reach.Nothing c).left.phase) e
+        ∙ closing_shuts (is_silent c.left.phase) c.left))
+
+    dc_so : (takes Left v w.tap).state.course.strays ≡ false → Timely w.end w.coming cs (values f.tagged) → (destination source : ℕ) →
+        v ≡ disconnected destination source → TimelyNow
+    dc_so none h destination source e =
+        let found_is : found_so ≡ found Left w.tap.course (uses_source Left cs v) c (disconnected destination source) =
+        judged_same c.is_judged (found Left w.tap.course (uses_source Left cs v) c v) (judged q c at)
+        ∙ ap (λ (u : Value). found Left w.tap.course (uses_source Left cs v) c u) e in
+        let applied = dc_applied (is_due Left c source) w.tap.course.strays (lasts.strays none) found_so found_is (no_reach (Some Two)) in
+        timely_one h (ap shuts_of e ∙ (sym (ap destination_of e) ∙ dest)) (λ m k. absurd (cc (sym (ap dr_for e) ∙ k)))
+        (ap (λ (b : Bool). is_open (connection_after Left v b reach.Nothing c).left.phase) applied
+        ∙ ap (λ (u : Value). is_open (connection_after Left u true reach.Nothing c).left.phase) e)
+
+    timely_so : (takes Left v w.tap).state.course.strays ≡ false → Timely w.end w.coming cs (values f.tagged) → (u : Value) → v ≡ u →
+        TimelyNow
+    timely_so none h (request x) e = absurd (not_cr x e)
+    timely_so none h (confirm destination x) e = timely_nothing h (ap shuts_of e) (ap dr_for e)
+    timely_so none h (data0 end user) e = timely_nothing h (ap shuts_of e) (ap dr_for e)
+    timely_so none h (data2 destination number end user) e = timely_nothing h (ap shuts_of e) (ap dr_for e)
+    timely_so none h (acknowledge credit destination number) e = timely_nothing h (ap shuts_of e) (ap dr_for e)
+    timely_so none h (error destination cause) e = timely_nothing h (ap shuts_of e) (ap dr_for e)
+    timely_so none h (disconnect destination source reason user) e = dr_so none h destination source reason user e
+    timely_so none h (disconnected destination source) e = dc_so none h destination source e
+
+    pub for_one_so : Called local after
+    for_one_so = record {
+      tagged = f.tagged;
+      put = f.put;
+      came = came_none;
+      come = values_none;
+      refs = f.refs;
+      home = f.home;
+      shut = f.shut;
+      stands = λ i x there. stand_by i x (item i x there);
+      beyond = λ i none.
+          let (a, b, d) = f.beyond i (set_none cs q i next (ap (λ (l : List Connection). slice_get l i) (sym conns) ∙ none)) in
+          (a, asks_none i ∙ b, d);
+      homes = f.homes;
+      linked_at = f.linked_at;
+      shut_given = f.shut_given;
+      strays = strays_more f.shut w.end f.refs f.home w.tap.course.strays (takes Left v w.tap).state.course.strays f.tagged lasts.strays
+          f.strays;
+      last = f.last;
+      tops = λ i x there. top_by i x (item i x there);
+      above = f.above;
+      class = subst (λ (k : Option Class). (k ≡ None) ⊎ (k ≡ Some Two)) (sym course_same.0) f.class;
+      two = λ i x there up. two_by i x (item i x there) up;
+      class_seen = subst (λ (k : Option Class). (k ≡ None) ⊎ (k ≡ Some Two)) (sym course_same.1) f.class_seen;
+      some = f.some;
+      few = all_add (IsFor w.end.given) w.coming v f.few
+          (λ m e. inl (subst (λ (i : ℕ). i ≤ w.end.given) (number_is n m (sym dest ∙ e)) (f.homes q n here.ref).1));
+      untagged = all_add Untagged f.came (None, v) f.untagged (λ h. not_cr);
+      timely = λ none last. timely_so none (f.timely (lasts.strays none) last) v refl;
+    }

@@ -1,0 +1,488 @@
+-- A unit of a whole called end passes: a CC, a DR that refuses a CR, or a unit of an open connection. Each is right.
+-- For the law on a whole called end.
+use Rattle.std.proofs.Common.{◌≡◌, ◌∙◌, ◌≤◌, ◌<◌, ℕ, Bool, true, false, List, [], ◌∷◌, ◌++◌, set, refl, sym, ap, subst, arith, Option}
+use Rattle.std.proofs.Common.{Some, None, drop, inl, inr, ◌⊎◌, if◌then◌else◌, is_some}
+use Rattle.std.specs.Prelude.{◌&&◌, ◌||◌, ◌==◌, not, position, slice_get}
+use Rattle.std.specs.List.{AllByRecursion, list_any, position_or_len}
+use Rattle.std.proofs.lemmas.Bool.{eq-eqb}
+use Rattle.osi_tpdu.specs.Value.{Value, Connect, confirm, disconnect, error, destination_of}
+use Rattle.osi_class.specs.Link.{Standing}
+use Rattle.osi_class.specs.declared.terms.Class.{Class}
+use Rattle.osi_class.specs.declared.terms.Class.TheVariants.{Two}
+use Rattle.osi_class.specs.declared.terms.Local.{Local}
+use Rattle.osi_carrier.specs.Negotiation.{acceptance, opened_link}
+use Rattle.osi_carrier.specs.Rows.{value_at}
+use Rattle.osi_rules.specs.declared.connections.Connection.{Connection}
+use Rattle.osi_rules.specs.declared.courses.Course.{Course}
+use Rattle.osi_rules.specs.declared.directions.Direction.TheVariants.{Left, Right}
+use Rattle.osi_rules.specs.declared.findings.Finding.{Finding}
+use Rattle.osi_rules.specs.declared.findings.Finding.TheVariants.{Broke, Kept, NotJudged}
+use Rattle.osi_rules.specs.declared.findings.Reach.TheVariants as reach
+use Rattle.osi_rules.specs.declared.findings.Rule.TheVariants as rule
+use Rattle.osi_rules.specs.declared.halves.Half.{Half}
+use Rattle.osi_rules.specs.declared.halves.Phase.TheVariants.{Refused, Closed}
+use Rattle.osi_rules.specs.declared.routes.Route.TheVariants.{Named}
+use Rattle.osi_rules.specs.Rows.{first_failed, confirm_tests}
+use Rattle.osi_rules.specs.Sides.{is_named, is_open, is_over, is_over_by, is_refused, is_silent, other, uses}
+use Rattle.osi_rules.specs.Traffic.{course_after, found, found_on, half_after, is_stopped, route, sent_on, silent_half, takes}
+use Rattle.osi_rules.specs.Traffic.{uses_source}
+use Rattle.osi_fair.specs.Lines.{ActsAlong, IsRight, IsRightNow, Line, after_finding, finding_of, opened_half, opened_line, passes_own}
+use Rattle.osi_fair.specs.Naming.{unit as passing}
+use Rattle.osi_fair.specs.Wholes.{Whole}
+use Rattle.osi_fair.proofs.a_right_unit_is_not_blamed.{first_there, is_first, named_of}
+use Rattle.osi_fair.proofs.all_are_judged_unless_one_broke.{IsJudged}
+use Rattle.osi_fair.proofs.an_end_closes_last.{waits_open}
+use Rattle.osi_fair.proofs.an_open_end_is_fair.{open_is_fair, turned_line}
+use Rattle.osi_fair.proofs.each_connection_of_a_called_end.{AreAbove, AreStrays, Answering, Asked, Called, IsUnlinked, Row, Running}
+use Rattle.osi_fair.proofs.each_connection_of_a_called_end.{Stand, line_of, answers, closes, comes, over, past, refuses, runs, talks}
+use Rattle.osi_fair.proofs.how_a_connection_opens.{called_opens, two_right}
+use Rattle.osi_fair.proofs.units_by_their_place.{Placed, at_elsewhere, at_first, at_here, at_other, first_at, is_at, units_at, values}
+use Rattle.osi_fair.proofs.what_a_called_end_closes_is_to_pass.{run_holds, sent_judged}
+use Rattle.osi_fair.proofs.what_holds_of_one_item.{HoldsOfEach, first_true}
+use Rattle.osi_fair.proofs.what_is_live_at_a_called_end.{Answers, IsHeld, Timely}
+use Rattle.osi_fair.proofs.what_is_put_before_the_cc_passes.{acts_join}
+use Rattle.osi_fair.proofs.what_keeps_names_apart.{AreApart}
+use Rattle.osi_fair.proofs.what_lasts_at_the_tap.{Lasts, lasts_passing}
+use Rattle.osi_fair.proofs.what_stays_of_each_connection.{left_then, right_own}
+use Rattle.osi_fair.proofs.which_units_are_for_a_connection.{AllNamed, line_named}
+use Rattle.osi_fair.proofs.while_no_class_is_selected.{after_change}
+use Rattle.osi_fair.proofs.how_a_unit_of_right_passes.{differ, no_list, rest_is, first_is, number_is, and_false, is_both, name_so, use_so}
+use Rattle.osi_fair.proofs.how_a_unit_of_right_passes.{judged_so, unequal, any_none, open_of, route_confirm, route_dr, route_two_so}
+use Rattle.osi_fair.proofs.how_a_unit_of_right_passes.{class_seen_same, strays_more, above_next, half_keeps, half_started, open_started}
+use Rattle.osi_fair.proofs.how_a_unit_of_right_passes.{half_not_refused, wrong_form, set_none, there_not, finding_kept, conns_kept}
+use Rattle.osi_fair.proofs.how_a_unit_of_right_passes.{course_kept}
+
+-- ---- the first unit passes
+
+module _ (local : Local) (w : Whole) (f : Called local w) (apart : AreApart w.tap.connections)
+    (judged : HoldsOfEach IsJudged w.tap.connections) (right : w.tap.course.right_stopped ≡ false) (u : Value) (rest : List Value)
+    (begun : w.begun ≡ true) where
+  abbrev cs : List Connection
+  cs = w.tap.connections
+
+  abbrev after : Whole
+  after = record w { put = rest; begun = false; tap = (takes Right u w.tap).state }
+
+  -- it is right, or not judged, and all holds after it
+  abbrev Passed : Type 0
+  Passed = (((takes Right u w.tap).told.finding ≡ Kept) ⊎ ((takes Right u w.tap).told.finding ≡ NotJudged)) × Called local after
+
+  lasts : Lasts w.tap.course (takes Right u w.tap).state.course
+  lasts = lasts_passing (passing Right u) w.tap
+
+  name_first : (n p : ℕ) (c : Connection) → slice_get cs p ≡ Some c → is_named Right n c ≡ true → position (is_named Right n) cs ≡ Some p
+  name_first n p c at named =
+      let q = position_or_len (is_named Right n) cs in
+      let first = is_first (is_named Right n) cs p c at named in
+      let (e, there) = first_there (is_named Right n) cs p q c first in
+      let so = first_true (is_named Right n) cs q e first there in
+      let same : p ≡ q = apart.named_right n p q c e at there (judged p c at) (judged q e there) named so in
+      first ∙ ap (λ (i : ℕ). Some i) (sym same)
+
+  module _ (p : ℕ) (later : List Placed) (tagged : f.tagged ≡ (Some p, u) ∷ later) (rest_are : rest ≡ values later) (c : Connection)
+      (at : slice_get cs p ≡ Some c) where
+    abbrev StandAfter : ℕ → Connection → Type 0
+    StandAfter i x = Stand local f.shut w.end w.coming (units_at i later) (units_at i f.came) false (f.refs i) x
+
+    mine_is : units_at p f.tagged ≡ u ∷ units_at p later
+    mine_is = ap (λ (l : List Placed). units_at p l) tagged ∙ at_first p u later
+
+    begins : (w.begun && first_at p f.tagged) ≡ true
+    begins = ap (λ (l : List Placed). w.begun && first_at p l) tagged ∙ is_both w.begun (is_at p (Some p)) begun (at_here p)
+
+    other_mine : (i : ℕ) → (i ≡ p → ⊥) → units_at i f.tagged ≡ units_at i later
+    other_mine i other = ap (λ (l : List Placed). units_at i l) tagged ∙ at_other i p u later (λ e. other (sym e))
+
+    other_begun : (i : ℕ) → (i ≡ p → ⊥) → (w.begun && first_at i f.tagged) ≡ false
+    other_begun i other = ap (λ (l : List Placed). w.begun && first_at i l) tagged
+        ∙ ap (λ (b : Bool). w.begun && b) (at_elsewhere i p (λ e. other (sym e))) ∙ and_false w.begun
+
+    above_all : AreAbove w.end.given f.last (u ∷ values later)
+    above_all = subst (λ (l : List Placed). AreAbove w.end.given f.last (values l)) tagged f.above
+
+    -- ---- all connections after it
+
+    module _ (next : Connection) (conns : (takes Right u w.tap).state.connections ≡ set cs p next)
+        (stand : StandAfter p next) (class : ((takes Right u w.tap).state.course.class ≡ None)
+        ⊎ ((takes Right u w.tap).state.course.class ≡ Some Two))
+        (two : is_open next.right.phase ≡ true → (takes Right u w.tap).state.course.class ≡ Some Two)
+        (seen : (takes Right u w.tap).state.course.class_seen ≡ w.tap.course.class_seen) (top : ℕ) (more : f.last ≤ top)
+        (next_top : next.right.reference ≤ top) (above : AreAbove w.end.given top (values later))
+        (held : Timely w.end w.coming cs (values f.tagged) → is_open next.left.phase ≡ true → is_open next.right.phase ≡ true →
+        IsHeld w.end w.coming next.right.reference) where
+      item : (i : ℕ) (x : Connection) → slice_get (takes Right u w.tap).state.connections i ≡ Some x →
+          ((i ≡ p) × (x ≡ next)) ⊎ ((i ≡ p → ⊥) × (slice_get cs i ≡ Some x))
+      item i x h = after_change cs p i next x (ap (λ (l : List Connection). slice_get l i) (sym conns) ∙ h)
+
+      stand_by : (i : ℕ) (x : Connection) → ((i ≡ p) × (x ≡ next)) ⊎ ((i ≡ p → ⊥) × (slice_get cs i ≡ Some x)) → StandAfter i x
+      stand_by i x (inl (same, is)) =
+          subst (λ (y : Connection). StandAfter i y) (sym is) (subst (λ (j : ℕ). StandAfter j next) (sym same) stand)
+      stand_by i x (inr (not_p, there)) =
+          subst (λ (b : Bool). Stand local f.shut w.end w.coming (units_at i later) (units_at i f.came) b (f.refs i) x)
+          (other_begun i not_p)
+          (subst (λ (l : List Value). Stand local f.shut w.end w.coming l (units_at i f.came) (w.begun && first_at i f.tagged) (f.refs i) x)
+          (other_mine i not_p) (f.stands i x there))
+
+      top_by : (i : ℕ) (x : Connection) → ((i ≡ p) × (x ≡ next)) ⊎ ((i ≡ p → ⊥) × (slice_get cs i ≡ Some x)) → x.right.reference ≤ top
+      top_by i x (inl (same, is)) = subst (λ (y : Connection). y.right.reference ≤ top) (sym is) next_top
+      top_by i x (inr (not_p, there)) = let below = f.tops i x there in omega arith
+
+      two_by : (i : ℕ) (x : Connection) → ((i ≡ p) × (x ≡ next)) ⊎ ((i ≡ p → ⊥) × (slice_get cs i ≡ Some x)) →
+          is_open x.right.phase ≡ true → (takes Right u w.tap).state.course.class ≡ Some Two
+      two_by i x (inl (same, is)) up = two (ap (λ (y : Connection). is_open y.right.phase) (sym is) ∙ up)
+      two_by i x (inr (not_p, there)) up = lasts.two (f.two i x there up)
+
+      gone_by : (i : ℕ) → slice_get cs i ≡ None →
+          (units_at i later ≡ []) × (units_at i f.came ≡ []) × ((r : ℕ) → f.refs i ≡ Some r → IsUnlinked w.end r)
+      gone_by i none =
+          let (a, b, d) = f.beyond i none in
+          (sym (other_mine i (λ e. there_not (slice_get cs p) c at (ap (λ (j : ℕ). slice_get cs j) (sym e) ∙ none))) ∙ a, b, d)
+
+      held_by : Timely w.end w.coming cs (values f.tagged) → (i : ℕ) (x : Connection) →
+          ((i ≡ p) × (x ≡ next)) ⊎ ((i ≡ p → ⊥) × (slice_get cs i ≡ Some x)) → is_open x.left.phase ≡ true → is_open x.right.phase ≡ true →
+          IsHeld w.end w.coming x.right.reference
+      held_by h i x (inl (same, is)) a b =
+          subst (λ (y : Connection). IsHeld w.end w.coming y.right.reference) (sym is)
+          (held h (ap (λ (y : Connection). is_open y.left.phase) (sym is) ∙ a) (ap (λ (y : Connection). is_open y.right.phase) (sym is)
+          ∙ b))
+      held_by h i x (inr (not_p, there)) a b = h.taps i x there a b
+
+      passed : Called local after
+      passed = record {
+        tagged = later;
+        put = rest_are;
+        came = f.came;
+        come = f.come;
+        refs = f.refs;
+        home = f.home;
+        shut = f.shut;
+        stands = λ i x there. stand_by i x (item i x there);
+        beyond = λ i none. gone_by i (set_none cs p i next (ap (λ (l : List Connection). slice_get l i) (sym conns) ∙ none));
+        homes = f.homes;
+        linked_at = f.linked_at;
+        shut_given = f.shut_given;
+        strays = strays_more f.shut w.end f.refs f.home w.tap.course.strays (takes Right u w.tap).state.course.strays later lasts.strays
+            (subst (λ (l : List Placed). AreStrays f.shut w.end f.refs f.home w.tap.course.strays l) tagged f.strays).1;
+        last = top;
+        tops = λ i x there. top_by i x (item i x there);
+        above = above;
+        class = class;
+        two = λ i x there up. two_by i x (item i x there) up;
+        class_seen = subst (λ (k : Option Class). (k ≡ None) ⊎ (k ≡ Some Two)) (sym seen) f.class_seen;
+        some = λ h. absurd (cc h);
+        few = f.few;
+        untagged = f.untagged;
+        timely = λ none last.
+            let h = f.timely (lasts.strays none) last in
+            record {
+              taps = λ i x there a b. held_by h i x (item i x there) a b;
+              answers = (subst (λ (l : List Placed). AllByRecursion (Answers (IsHeld w.end w.coming)) (values l)) tagged h.answers).1;
+              firsts = h.firsts;
+              known = h.known;
+            };
+      }
+
+    -- ---- a CC
+
+    module _ (h : Answering local f.shut w.end w.coming (units_at p f.tagged) (w.begun && first_at p f.tagged) (f.refs p) c)
+        (asks : units_at p f.came ≡ []) where
+      abbrev n : ℕ
+      n = h.x.source
+
+      abbrev cc_is : Value
+      cc_is = confirm n (acceptance Two h.size h.x local h.r)
+
+      u_cc : u ≡ cc_is
+      u_cc = first_is u cc_is (units_at p later) h.more (sym mine_is ∙ h.mine_is)
+
+      half : c.seen_by_right ≡ opened_half n h.x.credit
+      half = h.seen begins ∙ h.asked.left
+
+      cc_named : is_named Right n c ≡ true
+      cc_named = name_so (is_over Right c) (is_silent c.seen_by_right.phase) (c.seen_by_right.reference == n)
+          (ap (λ (b : Bool). c.is_judged && b) (ap (λ (x : Half). is_over_by x c.seen_by_right) h.asked.right
+          ∙ ap (λ (x : Half). is_over_by silent_half x) half) ∙ and_false c.is_judged)
+          (ap (λ (x : Half). is_silent x.phase) half)
+          (eq-eqb c.seen_by_right.reference n (ap (λ (x : Half). x.reference) half))
+
+      above_cc : (f.last < h.r) × AreAbove w.end.given h.r (values later)
+      above_cc = subst (λ (v : Value). AreAbove w.end.given f.last (v ∷ values later)) u_cc above_all
+
+      unused : list_any (λ (e : Connection). uses Right h.r e) cs ≡ false
+      unused = any_none (λ (e : Connection). uses Right h.r e) cs (λ i e there.
+          use_so (is_over Right e) (is_silent e.right.phase) (e.right.reference == h.r)
+          (unequal e.right.reference h.r (e.right.reference == h.r) refl
+          (λ same. let top = f.tops i e there in let less = above_cc.0 in absurd (omega arith))))
+
+      cc_kept : found_on Right w.tap c u ≡ Kept
+      cc_kept = ap (λ (v : Value). found_on Right w.tap c v) u_cc
+          ∙ judged_so c.is_judged (found Right w.tap.course (uses_source Right cs cc_is) c cc_is) Kept (judged p c at)
+          (ap (λ (b : Bool). found Right w.tap.course b c cc_is) unused
+          ∙ two_right local h.x h.size h.r c w.tap.course h.selected h.asked.offer h.asked.right)
+
+      cc_route : route Right w.tap.course u ≡ Named n
+      cc_route = ap (λ (v : Value). route Right w.tap.course v) u_cc
+          ∙ route_confirm w.tap.course.class (is_stopped Left w.tap.course) n (acceptance Two h.size h.x local h.r) f.class
+
+      cc_first : position (is_named Right n) cs ≡ Some p
+      cc_first = name_first n p c at cc_named
+
+      abbrev cc_next : Connection
+      cc_next = sent_on Right cc_is c
+
+      cc_conns : (takes Right u w.tap).state.connections ≡ set cs p cc_next
+      cc_conns = conns_kept u w.tap n p c right cc_route cc_first at cc_kept ∙ ap (λ (v : Value). set cs p (sent_on Right v c)) u_cc
+
+      cc_course : (takes Right u w.tap).state.course ≡ course_after Right c cc_is true w.tap.course
+      cc_course = course_kept u w.tap n p c right cc_route cc_first at cc_kept
+          ∙ ap (λ (v : Value). course_after Right c v true w.tap.course) u_cc
+
+      cc_two : (takes Right u w.tap).state.course.class ≡ Some Two
+      cc_two = ap (λ (k : Course). k.class) cc_course
+
+      cc_stand : StandAfter p cc_next
+      cc_stand = runs (record {
+        r = h.r;
+        peer = n;
+        index = h.index;
+        line = line_of h.link h.more h.come cc_next;
+        tap = refl;
+        put = sym (rest_is u cc_is (units_at p later) h.more (sym mine_is ∙ h.mine_is));
+        begun_is = refl;
+        first = opened_line (opened_link Two h.size local h.x.credit) cc_next;
+        acts = h.acts;
+        opened = called_opens local h.x h.size h.r c h.asked.range h.selected h.asked.left h.asked.right
+            (ap (λ (x : Half). x.next) h.asked.known);
+        along = h.along cc_next;
+        there = refl;
+        right = refl;
+        left = ap (λ (x : Half). x.reference) h.asked.left;
+        row = h.row;
+        shut_is = h.shut_is;
+      }) asks
+
+      pub cc_passes : Passed
+      cc_passes = (
+        inl (finding_kept u w.tap n p c right cc_route cc_first at cc_kept),
+        passed cc_next cc_conns cc_stand (inr cc_two) (λ up. cc_two)
+            (ap (λ (k : Course). k.class_seen) cc_course) h.r (let less = above_cc.0 in omega arith) (omega arith) above_cc.1
+            (λ k a b. (subst (λ (l : List Placed). AllByRecursion (Answers (IsHeld w.end w.coming)) (values l)) tagged k.answers).0 n
+            (acceptance Two h.size h.x local h.r) u_cc),
+      )
+
+    -- ---- a DR that refuses a CR
+
+    module _ (x : Connect) (a : Asked x c) (reason : ℕ) (is : units_at p f.tagged ≡ disconnect x.source 0 reason [] ∷ [])
+        (asks : units_at p f.came ≡ []) (o : f.refs p ≡ None)
+        (seen : (w.begun && first_at p f.tagged) ≡ true → c.seen_by_right ≡ c.left) where
+      abbrev dr : Value
+      dr = disconnect x.source 0 reason []
+
+      u_dr : u ≡ dr
+      u_dr = first_is u dr (units_at p later) [] (sym mine_is ∙ is)
+
+      dr_half : c.seen_by_right ≡ opened_half x.source x.credit
+      dr_half = seen begins ∙ a.left
+
+      dr_named : is_named Right x.source c ≡ true
+      dr_named = name_so (is_over Right c) (is_silent c.seen_by_right.phase) (c.seen_by_right.reference == x.source)
+          (ap (λ (b : Bool). c.is_judged && b) (ap (λ (h : Half). is_over_by h c.seen_by_right) a.right
+          ∙ ap (λ (h : Half). is_over_by silent_half h) dr_half) ∙ and_false c.is_judged)
+          (ap (λ (h : Half). is_silent h.phase) dr_half)
+          (eq-eqb c.seen_by_right.reference x.source (ap (λ (h : Half). h.reference) dr_half))
+
+      dr_kept : found_on Right w.tap c u ≡ Kept
+      dr_kept = ap (λ (v : Value). found_on Right w.tap c v) u_dr
+          ∙ judged_so c.is_judged (found Right w.tap.course false c dr) Kept (judged p c at)
+          (ap (λ (h : Half). first_failed ((is_silent h.phase || is_open h.phase, Broke rule.Closed) ∷ [])) a.right)
+
+      dr_route : route Right w.tap.course u ≡ Named x.source
+      dr_route = ap (λ (v : Value). route Right w.tap.course v) u_dr
+          ∙ route_dr w.tap.course.class (is_stopped Left w.tap.course) x.source 0 reason [] f.class
+
+      dr_first : position (is_named Right x.source) cs ≡ Some p
+      dr_first = name_first x.source p c at dr_named
+
+      abbrev dr_next : Connection
+      dr_next = sent_on Right dr c
+
+      dr_conns : (takes Right u w.tap).state.connections ≡ set cs p dr_next
+      dr_conns = conns_kept u w.tap x.source p c right dr_route dr_first at dr_kept
+          ∙ ap (λ (v : Value). set cs p (sent_on Right v c)) u_dr
+
+      dr_course : (takes Right u w.tap).state.course ≡ course_after Right c dr true w.tap.course
+      dr_course = course_kept u w.tap x.source p c right dr_route dr_first at dr_kept
+          ∙ ap (λ (v : Value). course_after Right c v true w.tap.course) u_dr
+
+      dr_right : dr_next.right ≡ record silent_half { phase = Refused }
+      dr_right = ap (λ (h : Half). half_after dr h) a.right
+
+      dr_stand : StandAfter p dr_next
+      dr_stand = past (ap (λ (h : Half). is_silent h.phase) dr_right) (ap (λ (h : Half). is_open h.phase) dr_right)
+          (rest_is u dr (units_at p later) [] (sym mine_is ∙ is)) asks (λ r e. absurd (cc (sym o ∙ e)))
+          (inr (ap (λ (h : Half). is_refused h.phase) dr_right, ap (λ (h : Half). is_silent h.phase || is_refused h.phase) a.known))
+
+      dr_not : {A : Type 0} → is_open dr_next.right.phase ≡ true → A
+      dr_not h = differ (is_open dr_next.right.phase) h (ap (λ (x : Half). is_open x.phase) dr_right)
+
+      pub dr_passes : Passed
+      dr_passes = (
+        inl (finding_kept u w.tap x.source p c right dr_route dr_first at dr_kept),
+        passed dr_next dr_conns dr_stand
+            (subst (λ (k : Option Class). (k ≡ None) ⊎ (k ≡ Some Two)) (sym (ap (λ (k : Course). k.class) dr_course)) f.class)
+            (λ up. dr_not up) (ap (λ (k : Course). k.class_seen) dr_course) f.last (omega arith)
+            (subst (λ (h : Half). h.reference ≤ f.last) (sym dr_right) (omega arith))
+            (subst (λ (v : Value). AreAbove w.end.given f.last (v ∷ values later)) u_dr above_all) (λ k a b. dr_not b),
+      )
+
+    -- ---- a unit of an open connection
+
+    module _ (g : Running f.shut w.end w.coming (units_at p f.tagged) (w.begun && first_at p f.tagged) (f.refs p) c)
+        (asks : units_at p f.came ≡ []) where
+      line_begun : g.line.begun ≡ true
+      line_begun = g.begun_is ∙ begins
+
+      first_put : g.line.put ≡ u ∷ units_at p later
+      first_put = g.put ∙ mine_is
+
+      line_judged : g.line.tap.is_judged ≡ true
+      line_judged = ap (λ (x : Connection). x.is_judged) g.tap ∙ judged p c at
+
+      is_right : IsRight Right c u
+      is_right = subst (λ (x : Connection). IsRight Right x u) g.tap (subst (IsRightNow Right g.line.tap) first_put
+          (open_is_fair Right g.r g.peer g.first g.line g.acts g.opened g.along line_begun line_judged))
+
+      dest : destination_of u ≡ Some g.peer
+      dest = (subst (AllNamed g.peer) first_put (line_named g.r g.peer (turned_line g.line)
+          (run_holds g.r g.peer g.first g.line g.acts g.opened g.along line_judged))).0
+
+      run_first : position (is_named Right g.peer) cs ≡ Some p
+      run_first = name_first g.peer p c at (named_of (destination_of u) g.peer Right c dest is_right.named)
+
+      run_route : route Right w.tap.course u ≡ Named g.peer
+      run_route = route_two_so w.tap.course.class (is_stopped Left w.tap.course) u g.peer (f.two p c at g.there) dest
+
+      abbrev in_use : Bool
+      in_use = uses_source Right cs u
+
+      run_kept : found_on Right w.tap c u ≡ Kept
+      run_kept = judged_so c.is_judged (found Right w.tap.course in_use c u) Kept (judged p c at) (is_right.kept w.tap.course in_use)
+
+      no_cc : (m : ℕ) (x : Connect) → u ≡ confirm m x → ⊥
+      no_cc m x e = wrong_form (is_silent c.right.phase) (drop 1 (confirm_tests c w.tap.course.class in_use x))
+          (open_started c.right.phase g.there)
+          (sym (ap (λ (v : Value). found Right w.tap.course in_use c v) e) ∙ is_right.kept w.tap.course in_use)
+
+      no_er : (m cause : ℕ) → u ≡ error m cause → ⊥
+      no_er m cause e = wrong_form (is_silent c.right.phase) [] (open_started c.right.phase g.there)
+          (sym (ap (λ (v : Value). found Right w.tap.course in_use c v) e) ∙ is_right.kept w.tap.course in_use)
+
+      abbrev next : Connection
+      next = sent_on Right u c
+
+      next_right : next.right ≡ half_after u c.right
+      next_right = right_own u reach.Nothing c
+
+      next_left : next.left ≡ c.left
+      next_left = left_then u true reach.Nothing c
+
+      next_reference : next.right.reference ≡ c.right.reference
+      next_reference = ap (λ (h : Half). h.reference) next_right ∙ half_keeps u c.right no_cc
+
+      run_conns : (takes Right u w.tap).state.connections ≡ set cs p next
+      run_conns = conns_kept u w.tap g.peer p c right run_route run_first at run_kept
+
+      run_course : (takes Right u w.tap).state.course ≡ course_after Right c u true w.tap.course
+      run_course = course_kept u w.tap g.peer p c right run_route run_first at run_kept
+
+      abbrev line : Line
+      line = record g.line {
+        put = units_at p later;
+        begun = false;
+        tap = after_finding Right (finding_of Right w.tap.course in_use g.line.tap u) u g.line.tap;
+      }
+
+      tap_is : line.tap ≡ next
+      tap_is = ap (λ (x : Connection). after_finding Right (finding_of Right w.tap.course in_use x u) u x) g.tap
+          ∙ ap (λ (k : Finding). after_finding Right k u c) run_kept
+
+      along : ActsAlong Right g.r g.peer g.first (g.acts ++ passes_own w.tap.course in_use ∷ []) line
+      along = acts_join Right g.r g.peer g.acts (passes_own w.tap.course in_use ∷ []) g.first g.line line g.along
+          (line, (u, first_put, line_begun, refl), refl)
+
+      next_judged : line.tap.is_judged ≡ true
+      next_judged = ap (λ (x : Connection). x.is_judged) tap_is ∙ sent_judged u c ∙ judged p c at
+
+      tap_open : is_open line.tap.right.phase ≡ is_open next.right.phase
+      tap_open = ap (λ (x : Connection). is_open x.right.phase) tap_is
+
+      -- as long as the end has its link, it has not closed the connection
+      link_open : (l : Standing) → g.line.link ≡ Some l → is_open next.right.phase ≡ true
+      link_open l e =
+          let held = run_holds g.r g.peer g.first line (g.acts ++ passes_own w.tap.course in_use ∷ []) g.opened along next_judged in
+          sym tap_open ∙ open_of g.r g.peer held.limit held.tally line.tap.right line.tap.left line.put line.link l held.puts e
+
+      not_linked : is_open next.right.phase ≡ false → (r : ℕ) → r ≡ g.r → Row w.end w.coming g.r g.peer g.line.link g.line.coming →
+          IsUnlinked w.end r
+      not_linked shut r same (talks l there is all) live q link here = differ (is_open next.right.phase) (link_open l is) shut
+      not_linked shut r same (closes un is all) live q link here = un live q link (ap (λ (i : ℕ). value_at i w.end.live) (sym same) ∙ here)
+      not_linked shut r same (over h) live q link here = differ (is_some w.end.ended) h (ap is_some live)
+
+      -- the end puts nothing after it has closed the connection
+      none_left : (l : List Value) → units_at p later ≡ l → is_open next.right.phase ≡ false → l ≡ []
+      none_left [] e shut = refl
+      none_left (v ∷ vs) e shut = differ (is_open next.right.phase)
+          (sym tap_open ∙ waits_open Right g.r g.peer g.first line (g.acts ++ passes_own w.tap.course in_use ∷ []) g.opened along
+          next_judged
+          (λ none. no_list v vs (units_at p later) e none)) shut
+
+      run_stand : (b : Bool) → is_open next.right.phase ≡ b → StandAfter p next
+      run_stand true up = runs (record {
+        r = g.r;
+        peer = g.peer;
+        index = g.index;
+        line = line;
+        tap = tap_is;
+        put = refl;
+        begun_is = refl;
+        first = g.first;
+        acts = g.acts ++ passes_own w.tap.course in_use ∷ [];
+        opened = g.opened;
+        along = along;
+        there = up;
+        right = next_reference ∙ g.right;
+        left = ap (λ (h : Half). h.reference) next_left ∙ g.left;
+        row = g.row;
+        shut_is = g.shut_is;
+      }) asks
+      run_stand false shut = past (ap (λ (h : Half). is_silent h.phase) next_right ∙ half_started u c.right (open_started c.right.phase
+          g.there))
+          shut (none_left (units_at p later) refl shut) asks
+          (λ r e. not_linked shut r (number_is r g.r (sym e ∙ g.index)) g.row)
+          (inl (
+            g.index ∙ ap (λ (i : ℕ). Some i) (sym (next_reference ∙ g.right)),
+            ap (λ (h : Half). is_refused h.phase) next_right ∙ half_not_refused u c.right g.there no_er,
+          ))
+
+      pub run_passes : Passed
+      run_passes = (
+        inl (finding_kept u w.tap g.peer p c right run_route run_first at run_kept),
+        passed next run_conns (run_stand (is_open next.right.phase) refl) (inr (lasts.two (f.two p c at g.there)))
+            (λ up. lasts.two (f.two p c at g.there))
+            (ap (λ (k : Course). k.class_seen) run_course ∙ class_seen_same c u w.tap.course) f.last (omega arith)
+            (subst (λ (i : ℕ). i ≤ f.last) (sym next_reference) (f.tops p c at)) (above_next w.end.given f.last u (values later) no_cc
+            above_all)
+            (λ k a b. subst (λ (i : ℕ). IsHeld w.end w.coming i) (sym next_reference)
+            (k.taps p c at (ap (λ (h : Half). is_open h.phase) (sym next_left) ∙ a) g.there)),
+      )
+
+    -- ---- by what the connection is
+
+    pub one_passes : Stand local f.shut w.end w.coming (units_at p f.tagged) (units_at p f.came) (w.begun && first_at p f.tagged)
+        (f.refs p) c →
+        Passed
+    one_passes (comes x a none ask i) = no_list u (units_at p later) (units_at p f.tagged) mine_is none
+    one_passes (refuses x a reason is none i seen) = dr_passes x a reason is none i seen
+    one_passes (answers h none) = cc_passes h none
+    one_passes (runs g none) = run_passes g none
+    one_passes (past silent up none asks un off) = no_list u (units_at p later) (units_at p f.tagged) mine_is none

@@ -1,0 +1,461 @@
+-- Each connection at the tap of a called end: its CR has not been answered, its answer is to pass, or its line goes on.
+-- For the law on a whole called end.
+use Rattle.std.proofs.Common.{◌≡◌, ◌≢◌, ◌∙◌, ◌≤◌, ◌<◌, ◌+◌, ℕ, Bool, true, false, List, [], ◌∷◌, ◌++◌, refl, sym, ap, subst, Option, Some}
+use Rattle.std.proofs.Common.{None, inl, inr, ◌⊎◌, is_some}
+use Rattle.std.specs.Prelude.{◌&&◌, ◌||◌, option_map, slice_get}
+use Rattle.std.specs.List.{AllByRecursion}
+use Rattle.std.proofs.lemmas.Option.{slice_get-map}
+use Rattle.osi_tpdu.specs.Value.{Value, Connect, IsConnect, request, confirm, disconnect, disconnected, data0, data2, acknowledge, error}
+use Rattle.osi_tpdu.specs.Value.{destination_of}
+use Rattle.osi_class.specs.Link.{Standing}
+use Rattle.osi_class.specs.Negotiation.{accept, selected_by}
+use Rattle.osi_class.specs.declared.terms.Class.{Class}
+use Rattle.osi_class.specs.declared.terms.Class.TheVariants.{Two}
+use Rattle.osi_class.specs.declared.terms.Local.{Local}
+use Rattle.osi_carrier.specs.Negotiation.{acceptance, opened_link}
+use Rattle.osi_carrier.specs.Rows.{value_at}
+use Rattle.osi_carrier.specs.State.{State, asked, linked}
+use Rattle.osi_rules.specs.declared.connections.Connection.{Connection}
+use Rattle.osi_rules.specs.declared.directions.Direction.{Direction}
+use Rattle.osi_rules.specs.declared.directions.Direction.TheVariants.{Left, Right}
+use Rattle.osi_rules.specs.declared.halves.Half.{Half}
+use Rattle.osi_rules.specs.Sides.{begins, is_open, is_refused, is_silent}
+use Rattle.osi_rules.specs.Traffic.{State as Traffic, offer_of, packet_begins, silent_half}
+use Rattle.osi_fair.specs.Lines.{Act, ActsAlong, IsOpened, Line, begins_elsewhere, begins_other, begins_own, opened_half, opened_line}
+use Rattle.osi_fair.specs.Wholes.{Whole}
+use Rattle.osi_fair.proofs.units_by_their_place.{Placed, first_at, is_at, units_at, values}
+use Rattle.osi_fair.proofs.what_holds_of_one_item.{after_map}
+use Rattle.osi_fair.proofs.what_is_live_at_a_called_end.{IsHeld, Timely}
+use Rattle.osi_fair.proofs.what_is_put_before_the_cc_passes.{acts_join}
+use Rattle.osi_fair.proofs.which_units_are_for_a_connection.{keep, those}
+
+-- ---- what has come for a line
+
+abbrev pub IsDc : Value → Type 0
+IsDc v = (m : ℕ) × (n : ℕ) × (v ≡ disconnected m n)
+
+-- the units of the line, in order, with DCs between them that answer nothing
+abbrev pub Among : List Value → List Value → Type 0
+Among xs [] = xs ≡ []
+Among xs (v ∷ ys) = (IsDc v × Among xs ys) ⊎ ((zs : List Value) × (xs ≡ v ∷ zs) × Among zs ys)
+
+pub among_more : (xs ys : List Value) (v : Value) → Among xs ys → Among (xs ++ v ∷ []) (ys ++ v ∷ [])
+among_more xs [] v e = inr ([], ap (λ (l : List Value). l ++ v ∷ []) e, refl)
+among_more xs (y ∷ ys) v (inl (dc, a)) = inl (dc, among_more xs ys v a)
+among_more xs (y ∷ ys) v (inr (zs, e, a)) =
+    inr (zs ++ v ∷ [], ap (λ (l : List Value). l ++ v ∷ []) e, among_more zs ys v a)
+
+pub among_skip : (xs ys : List Value) (v : Value) → IsDc v → Among xs ys → Among xs (ys ++ v ∷ [])
+among_skip xs [] v dc e = inl (dc, e)
+among_skip xs (y ∷ ys) v dc (inl (d, a)) = inl (d, among_skip xs ys v dc a)
+among_skip xs (y ∷ ys) v dc (inr (zs, e, a)) = inr (zs, e, among_skip zs ys v dc a)
+
+-- ---- one connection
+
+-- the CR, as the tap knows it until it is answered
+pub record Asked (x : Connect) (c : Connection) : Type 0 where
+  pub range : IsConnect x
+  pub offer : c.offer ≡ offer_of x
+  pub left : c.left ≡ opened_half x.source x.credit
+  pub right : c.right ≡ silent_half
+  pub known : c.seen_by_left ≡ silent_half
+
+-- the end does not have this connection open
+abbrev pub IsUnlinked : State → ℕ → Type 0
+IsUnlinked end r = end.ended ≡ None → (q : ℕ) (link : Standing) → value_at r end.live ≡ Some (linked q link) → ⊥
+
+-- what the end has of the connection, and what has come for it
+pub data Row (end : State) (coming : List Value) (r peer : ℕ) (link : Option Standing) (come : List Value) : Type 0 where
+  talks : (l : Standing) → value_at r end.live ≡ Some (linked peer l) → link ≡ Some l → Among come (those r coming) →
+      Row end coming r peer link come
+  closes : IsUnlinked end r → link ≡ None → Among come (those r coming) → Row end coming r peer link come
+  over : is_some end.ended ≡ true → Row end coming r peer link come
+
+-- a line that begins as the CC passes, whatever the tap knows then
+abbrev pub line_of : Option Standing → List Value → List Value → Connection → Line
+line_of link put come tap = record { link = link; put = put; begun = false; tap = tap; coming = come }
+
+-- the CC is to pass
+pub record Answering (local : Local) (shut : ℕ → Bool) (end : State) (coming mine : List Value) (begun : Bool) (o : Option ℕ)
+    (c : Connection) : Type 0 where
+  pub x : Connect
+  pub size : Option ℕ
+  pub r : ℕ
+  pub index : o ≡ Some r
+  pub asked : Asked x c
+  pub selected : selected_by x local ≡ accept Two size
+  pub link : Option Standing
+  pub more : List Value
+  pub come : List Value
+  pub mine_is : mine ≡ confirm x.source (acceptance Two size x local r) ∷ more
+  pub acts : List Act
+  pub along : (tap : Connection) →
+      ActsAlong Right r x.source (opened_line (opened_link Two size local x.credit) tap) acts (line_of link more come tap)
+  pub seen : begun ≡ true → c.seen_by_right ≡ c.left
+  pub row : Row end coming r x.source link come
+  pub shut_is : shut r ≡ true → link ≡ None
+
+-- the CC has passed
+pub record Running (shut : ℕ → Bool) (end : State) (coming mine : List Value) (begun : Bool) (o : Option ℕ) (c : Connection) : Type 0 where
+  pub r : ℕ
+  pub peer : ℕ
+  pub index : o ≡ Some r
+  pub line : Line
+  pub tap : line.tap ≡ c
+  pub put : line.put ≡ mine
+  pub begun_is : line.begun ≡ begun
+  pub first : Line
+  pub acts : List Act
+  pub opened : IsOpened Right r peer first
+  pub along : ActsAlong Right r peer first acts line
+  pub there : is_open c.right.phase ≡ true
+  pub right : c.right.reference ≡ r
+  pub left : c.left.reference ≡ peer
+  pub row : Row end coming r peer line.link line.coming
+  pub shut_is : shut r ≡ true → line.link ≡ None
+
+-- right has refused it, and left knows nothing else of right
+abbrev pub IsOff : Connection → Type 0
+IsOff c = (is_refused c.right.phase ≡ true) × ((is_silent c.seen_by_left.phase || is_refused c.seen_by_left.phase) ≡ true)
+
+-- right has closed it, which has this reference; or it has refused it
+abbrev pub IsPast : Option ℕ → Connection → Type 0
+IsPast o c = ((o ≡ Some c.right.reference) × (is_refused c.right.phase ≡ false)) ⊎ IsOff c
+
+-- how a connection stands: `mine` and `asks` are the units of its place that are to pass and that are to be taken, `begun` says
+-- that one of these begins to pass, and `o` is the reference that the end gave it; `shut` are those that the end has closed
+pub data Stand (local : Local) (shut : ℕ → Bool) (end : State) (coming mine asks : List Value) (begun : Bool) (o : Option ℕ)
+    (c : Connection) : Type 0 where
+  comes : (x : Connect) → Asked x c → mine ≡ [] → (end.ended ≡ None → asks ≡ request x ∷ []) → o ≡ None →
+      Stand local shut end coming mine asks begun o c
+  refuses : (x : Connect) → Asked x c → (reason : ℕ) → mine ≡ disconnect x.source 0 reason [] ∷ [] → asks ≡ [] → o ≡ None →
+      (begun ≡ true → c.seen_by_right ≡ c.left) → Stand local shut end coming mine asks begun o c
+  answers : Answering local shut end coming mine begun o c → asks ≡ [] → Stand local shut end coming mine asks begun o c
+  runs : Running shut end coming mine begun o c → asks ≡ [] → Stand local shut end coming mine asks begun o c
+  past : is_silent c.right.phase ≡ false → is_open c.right.phase ≡ false → mine ≡ [] → asks ≡ [] →
+      ((r : ℕ) → o ≡ Some r → IsUnlinked end r) → IsPast o c → Stand local shut end coming mine asks begun o c
+
+-- ---- all
+
+-- a DC for a DR which closed nothing: its reference is gone, and no unit of that connection comes after it
+pub record IsStray (shut : ℕ → Bool) (end : State) (refs : ℕ → Option ℕ) (home : ℕ → ℕ) (strays : Bool) (v : Value)
+    (later : List Placed) : Type 0 where
+  pub m : ℕ
+  pub n : ℕ
+  pub is : v ≡ disconnected m n
+  pub strays_is : strays ≡ true
+  pub given : n ≤ end.given
+  pub shut_is : shut n ≡ true
+  pub none : refs (home n) ≡ Some n → units_at (home n) later ≡ []
+
+abbrev pub StrayIf : (ℕ → Bool) → State → (ℕ → Option ℕ) → (ℕ → ℕ) → Bool → Option ℕ → Value → List Placed → Type 0
+StrayIf shut end refs home strays None v later = IsStray shut end refs home strays v later
+StrayIf shut end refs home strays (Some p) v later = Unit {0}
+
+abbrev pub AreStrays : (ℕ → Bool) → State → (ℕ → Option ℕ) → (ℕ → ℕ) → Bool → List Placed → Type 0
+AreStrays shut end refs home strays [] = Unit {0}
+AreStrays shut end refs home strays (t ∷ ts) = StrayIf shut end refs home strays t.0 t.1 ts × AreStrays shut end refs home strays ts
+
+-- the CCs that are to pass give references above this number, in rising order
+abbrev pub AreAbove : ℕ → ℕ → List Value → Type 0
+AreAbove given n [] = n ≤ given
+AreAbove given n (confirm destination x ∷ vs) = (n < x.source) × AreAbove given x.source vs
+AreAbove given n (request x ∷ vs) = AreAbove given n vs
+AreAbove given n (disconnect destination source reason user ∷ vs) = AreAbove given n vs
+AreAbove given n (disconnected destination source ∷ vs) = AreAbove given n vs
+AreAbove given n (data0 end user ∷ vs) = AreAbove given n vs
+AreAbove given n (data2 destination number end user ∷ vs) = AreAbove given n vs
+AreAbove given n (acknowledge credit destination number ∷ vs) = AreAbove given n vs
+AreAbove given n (error destination cause ∷ vs) = AreAbove given n vs
+
+abbrev pub IsNoCr : Value → Type 0
+IsNoCr v = (x : Connect) → v ≡ request x → ⊥
+
+abbrev pub Untagged : Placed → Type 0
+Untagged t = t.0 ≡ None → IsNoCr t.1
+
+-- a unit for a reference that was not given is a DC
+abbrev pub IsFor : ℕ → Value → Type 0
+IsFor given v = (m : ℕ) → destination_of v ≡ Some m → (m ≤ given) ⊎ IsDc v
+
+pub record Called (local : Local) (w : Whole) : Type 0 where
+  pub tagged : List Placed
+  pub put : w.put ≡ values tagged
+  pub came : List Placed
+  pub come : w.coming ≡ values came
+  pub refs : ℕ → Option ℕ
+  pub home : ℕ → ℕ
+  pub shut : ℕ → Bool
+  pub stands : (p : ℕ) (c : Connection) → slice_get w.tap.connections p ≡ Some c →
+      Stand local shut w.end w.coming (units_at p tagged) (units_at p came) (w.begun && first_at p tagged) (refs p) c
+  pub beyond : (p : ℕ) → slice_get w.tap.connections p ≡ None →
+      (units_at p tagged ≡ []) × (units_at p came ≡ []) × ((r : ℕ) → refs p ≡ Some r → IsUnlinked w.end r)
+  pub homes : (p r : ℕ) → refs p ≡ Some r → (home r ≡ p) × (r ≤ w.end.given)
+  pub linked_at : w.end.ended ≡ None → (r peer : ℕ) (link : Standing) → value_at r w.end.live ≡ Some (linked peer link) →
+      refs (home r) ≡ Some r
+  pub shut_given : (q : ℕ) → shut q ≡ true → q ≤ w.end.given
+  pub strays : AreStrays shut w.end refs home w.tap.course.strays tagged
+  pub last : ℕ
+  pub tops : (p : ℕ) (c : Connection) → slice_get w.tap.connections p ≡ Some c → c.right.reference ≤ last
+  pub above : AreAbove w.end.given last (values tagged)
+  pub class : (w.tap.course.class ≡ None) ⊎ (w.tap.course.class ≡ Some Two)
+  pub two : (p : ℕ) (c : Connection) → slice_get w.tap.connections p ≡ Some c → is_open c.right.phase ≡ true →
+      w.tap.course.class ≡ Some Two
+  pub class_seen : (w.tap.course.class_seen ≡ None) ⊎ (w.tap.course.class_seen ≡ Some Two)
+  pub some : w.begun ≡ true → values tagged ≢ []
+  pub few : AllByRecursion (IsFor w.end.given) w.coming
+  pub untagged : AllByRecursion Untagged came
+  -- as long as each DR has closed something
+  pub timely : w.tap.course.strays ≡ false → w.end.ended ≡ None → Timely w.end w.coming w.tap.connections (values tagged)
+
+-- ---- a packet begins
+
+or_right : (a b : Bool) → b ≡ true → (a || b) ≡ true
+or_right true b h = refl
+or_right false b h = h
+
+off_left : (o : Option ℕ) (c : Connection) → IsPast o c → IsPast o (begins Left c)
+off_left o c (inl e) = inl e
+off_left o c (inr (refused, seen)) = inr (refused, or_right (is_silent c.right.phase) (is_refused c.right.phase) refused)
+
+module _ (local : Local) (shut : ℕ → Bool) (end : State) (coming mine asks : List Value) (o : Option ℕ) where
+  -- it is of another connection, or of the other side
+  run_begins : (b : Bool) (c e : Connection) (act : Act) → (h : Running shut end coming mine b o c) →
+      ActsAlong Right h.r h.peer h.line (act ∷ []) (record h.line { tap = e }) → e.right ≡ c.right → e.left ≡ c.left →
+      Running shut end coming mine b o e
+  run_begins b c e act h along right left = record {
+    r = h.r;
+    peer = h.peer;
+    index = h.index;
+    line = record h.line { tap = e };
+    tap = refl;
+    put = h.put;
+    begun_is = h.begun_is;
+    first = h.first;
+    acts = h.acts ++ act ∷ [];
+    opened = h.opened;
+    along = acts_join Right h.r h.peer h.acts (act ∷ []) h.first h.line (record h.line { tap = e }) h.along along;
+    there = ap (λ (x : Half). is_open x.phase) right ∙ h.there;
+    right = ap (λ (x : Half). x.reference) right ∙ h.right;
+    left = ap (λ (x : Half). x.reference) left ∙ h.left;
+    row = h.row;
+    shut_is = h.shut_is;
+  }
+
+  asked_begins : (d : Direction) (x : Connect) (c : Connection) → Asked x c → Asked x (begins d c)
+  asked_begins Left x c a = record { range = a.range; offer = a.offer; left = a.left; right = a.right; known = a.right }
+  asked_begins Right x c a = record { range = a.range; offer = a.offer; left = a.left; right = a.right; known = a.known }
+
+  tap_begins : (d : Direction) (b : Bool) (c : Connection) (h : Running shut end coming mine b o c) →
+      record h.line { tap = begins d h.line.tap } ≡ record h.line { tap = begins d c }
+  tap_begins d b c h = ap (λ (e : Connection). record h.line { tap = begins d e }) h.tap
+
+  other_begins_one : (b : Bool) (c : Connection) → Stand local shut end coming mine asks b o c → Stand local shut end coming mine asks b o
+      (begins Left c)
+  other_begins_one b c (comes x a none ask i) = comes x (asked_begins Left x c a) none ask i
+  other_begins_one b c (refuses x a reason is none i seen) = refuses x (asked_begins Left x c a) reason is none i seen
+  other_begins_one b c (answers h none) = answers (record {
+    x = h.x;
+    size = h.size;
+    r = h.r;
+    index = h.index;
+    asked = asked_begins Left h.x c h.asked;
+    selected = h.selected;
+    link = h.link;
+    more = h.more;
+    come = h.come;
+    mine_is = h.mine_is;
+    acts = h.acts;
+    along = h.along;
+    seen = h.seen;
+    row = h.row;
+    shut_is = h.shut_is;
+  }) none
+  other_begins_one b c (runs h none) =
+      runs (run_begins b c (begins Left c) begins_other h (record h.line { tap = begins Left c }, sym (tap_begins Left b c h), refl) refl
+      refl) none
+  other_begins_one b c (past silent up none asks un off) = past silent up none asks un (off_left o c off)
+
+  -- a packet of this end begins: if one of this connection was passing, it is over
+  elsewhere_begins_one : (c : Connection) → Stand local shut end coming mine asks false o c → Stand local shut end coming mine asks false
+      o (begins Right c)
+  elsewhere_begins_one c (comes x a none ask i) = comes x (asked_begins Right x c a) none ask i
+  elsewhere_begins_one c (refuses x a reason is none i seen) = refuses x (asked_begins Right x c a) reason is none i (λ h. refl)
+  elsewhere_begins_one c (answers h none) = answers (record {
+    x = h.x;
+    size = h.size;
+    r = h.r;
+    index = h.index;
+    asked = asked_begins Right h.x c h.asked;
+    selected = h.selected;
+    link = h.link;
+    more = h.more;
+    come = h.come;
+    mine_is = h.mine_is;
+    acts = h.acts;
+    along = h.along;
+    seen = λ k. refl;
+    row = h.row;
+    shut_is = h.shut_is;
+  }) none
+  elsewhere_begins_one c (runs h none) =
+      runs (run_begins false c (begins Right c) begins_elsewhere h
+      (record h.line { tap = begins Right c }, (h.begun_is, sym (tap_begins Right false c h)), refl) refl refl) none
+  elsewhere_begins_one c (past silent up none asks un off) = past silent up none asks un off
+
+  own_begins_one : (c : Connection) → mine ≢ [] → Stand local shut end coming mine asks false o c → Stand local shut end coming mine asks
+      true o (begins Right c)
+  own_begins_one c some (comes x a none ask i) = comes x (asked_begins Right x c a) none ask i
+  own_begins_one c some (refuses x a reason is none i seen) = refuses x (asked_begins Right x c a) reason is none i (λ h. refl)
+  own_begins_one c some (answers h none) = answers (record {
+    x = h.x;
+    size = h.size;
+    r = h.r;
+    index = h.index;
+    asked = asked_begins Right h.x c h.asked;
+    selected = h.selected;
+    link = h.link;
+    more = h.more;
+    come = h.come;
+    mine_is = h.mine_is;
+    acts = h.acts;
+    along = h.along;
+    seen = λ k. refl;
+    row = h.row;
+    shut_is = h.shut_is;
+  }) none
+  own_begins_one c some (runs h none) =
+      let line = record h.line { begun = true; tap = begins Right c } in
+      runs (record {
+        r = h.r;
+        peer = h.peer;
+        index = h.index;
+        line = line;
+        tap = refl;
+        put = h.put;
+        begun_is = refl;
+        first = h.first;
+        acts = h.acts ++ begins_own ∷ [];
+        opened = h.opened;
+        along = acts_join Right h.r h.peer h.acts (begins_own ∷ []) h.first h.line line h.along (
+          line,
+          (
+            λ e. some (sym h.put ∙ e),
+            h.begun_is,
+            ap (λ (e : Connection). record h.line { begun = true; tap = begins Right e })
+                (sym h.tap),
+          ),
+          refl,
+        );
+        there = h.there;
+        right = h.right;
+        left = h.left;
+        row = h.row;
+        shut_is = h.shut_is;
+      }) none
+  own_begins_one c some (past silent up none asks un off) = past silent up none asks un off
+
+-- ---- all connections, as a packet begins
+
+map_none : (d : Direction) (o : Option Connection) → option_map (begins d) o ≡ None → o ≡ None
+map_none d None e = refl
+map_none d (Some c) e = absurd (cc e)
+
+begun_right : (d : Direction) (c : Connection) → (begins d c).right ≡ c.right
+begun_right Left c = refl
+begun_right Right c = refl
+
+begun_left : (d : Direction) (c : Connection) → (begins d c).left ≡ c.left
+begun_left Left c = refl
+begun_left Right c = refl
+
+course_class : (d : Direction) (s : Traffic) → (packet_begins d s).course.class ≡ s.course.class
+course_class Left s = refl
+course_class Right s = refl
+
+course_strays : (d : Direction) (s : Traffic) → (packet_begins d s).course.strays ≡ s.course.strays
+course_strays Left s = refl
+course_strays Right s = refl
+
+no_list : (v : Value) (vs : List Value) → v ∷ vs ≡ [] → ⊥
+no_list v vs e = cc
+
+some_by : (v : Value) (vs l : List Value) → l ≡ v ∷ vs → l ≢ []
+some_by v vs l e = λ h. no_list v vs (sym e ∙ h)
+
+pub first_some : (p : ℕ) (ts : List Placed) → first_at p ts ≡ true → units_at p ts ≢ []
+first_some p [] h = absurd (cc h)
+first_some p (t ∷ ts) h = some_by t.1 (units_at p ts) (keep (is_at p t.0) t.1 (units_at p ts))
+    (ap (λ (b : Bool). keep b t.1 (units_at p ts)) h)
+
+module _ (local : Local) (w : Whole) (f : Called local w) where
+  abbrev StandsBy : Bool → ℕ → Connection → Type 0
+  StandsBy b p c = Stand local f.shut w.end w.coming (units_at p f.tagged) (units_at p f.came) (b && first_at p f.tagged) (f.refs p) c
+
+  begins_all : (d : Direction) (b : Bool) → (b ≡ true → values f.tagged ≢ []) →
+      (((packet_begins d w.tap).course.class_seen ≡ None) ⊎ ((packet_begins d w.tap).course.class_seen ≡ Some Two)) →
+      ((p : ℕ) (c : Connection) → StandsBy w.begun p c → StandsBy b p (begins d c)) →
+      Called local (record w { begun = b; tap = packet_begins d w.tap })
+  begins_all d b some seen k = record {
+    tagged = f.tagged;
+    put = f.put;
+    came = f.came;
+    come = f.come;
+    refs = f.refs;
+    home = f.home;
+    shut = f.shut;
+    stands = λ p c at.
+        let (x, was, is) = after_map (begins d) w.tap.connections p c at in
+        subst (λ (e : Connection). StandsBy b p e) (sym is) (k p x (f.stands p x was));
+    beyond = λ p none. f.beyond p (map_none d (slice_get w.tap.connections p) (sym (slice_get-map (begins d) w.tap.connections p) ∙ none));
+    homes = f.homes;
+    linked_at = f.linked_at;
+    shut_given = f.shut_given;
+    strays = subst (λ (s : Bool). AreStrays f.shut w.end f.refs f.home s f.tagged) (sym (course_strays d w.tap)) f.strays;
+    last = f.last;
+    tops = λ p c at.
+        let (x, was, is) = after_map (begins d) w.tap.connections p c at in
+        subst (λ (h : Half). h.reference ≤ f.last) (sym (ap (λ (e : Connection). e.right) is ∙ begun_right d x)) (f.tops p x was);
+    above = f.above;
+    class = subst (λ (k : Option Class). (k ≡ None) ⊎ (k ≡ Some Two)) (sym (course_class d w.tap)) f.class;
+    two = λ p c at up.
+        let (x, was, is) = after_map (begins d) w.tap.connections p c at in
+        course_class d w.tap ∙ f.two p x was (ap (λ (h : Half). is_open h.phase) (sym (ap (λ (e : Connection). e.right) is ∙ begun_right d
+        x)) ∙ up);
+    class_seen = seen;
+    some = some;
+    few = f.few;
+    untagged = f.untagged;
+    timely = λ none lasts.
+        let h = f.timely (sym (course_strays d w.tap) ∙ none) lasts in
+        record {
+          taps = λ p c at left right.
+              let (x, was, is) = after_map (begins d) w.tap.connections p c at in
+              let same = ap (λ (e : Connection). e.right) is ∙ begun_right d x in
+              subst (λ (k : Half). IsHeld w.end w.coming k.reference) (sym same)
+              (h.taps p x was (sym (ap (λ (e : Connection). is_open e.left.phase) is ∙ ap (λ (k : Half). is_open k.phase)
+              (begun_left d x)) ∙ left)
+              (ap (λ (k : Half). is_open k.phase) (sym same) ∙ right));
+          answers = h.answers;
+          firsts = h.firsts;
+          known = h.known;
+        };
+  }
+
+  pub other_begins : Called local (record w { tap = packet_begins Left w.tap })
+  other_begins = begins_all Left w.begun f.some f.class (λ p c h.
+      other_begins_one local f.shut w.end w.coming (units_at p f.tagged) (units_at p f.came) (f.refs p) (w.begun && first_at p f.tagged) c
+      h)
+
+  own_by : (p : ℕ) (b : Bool) → first_at p f.tagged ≡ b → (c : Connection) →
+      Stand local f.shut w.end w.coming (units_at p f.tagged) (units_at p f.came) false (f.refs p) c →
+      Stand local f.shut w.end w.coming (units_at p f.tagged) (units_at p f.came) b (f.refs p) (begins Right c)
+  own_by p true e c h =
+      own_begins_one local f.shut w.end w.coming (units_at p f.tagged) (units_at p f.came) (f.refs p) c (first_some p f.tagged e) h
+  own_by p false e c h = elsewhere_begins_one local f.shut w.end w.coming (units_at p f.tagged) (units_at p f.came) (f.refs p) c h
+
+  pub own_begins : w.begun ≡ false → w.put ≢ [] → Called local (record w { begun = true; tap = packet_begins Right w.tap })
+  own_begins e some = begins_all Right true (λ h k. some (f.put ∙ k)) f.class_seen (λ p c h.
+      own_by p (first_at p f.tagged) refl c
+      (subst (λ (b : Bool). Stand local f.shut w.end w.coming (units_at p f.tagged) (units_at p f.came) (b && first_at p f.tagged)
+      (f.refs p) c) e h))

@@ -1,0 +1,90 @@
+-- Units in order, each with the place at the tap of the connection that it is of: the units of one place.
+-- For the law on a whole called end.
+use Rattle.std.proofs.Common.{◌≡◌, ◌≢◌, ◌∙◌, ℕ, Bool, true, false, List, [], ◌∷◌, ◌++◌, refl, ap, Option, Some, None}
+use Rattle.std.specs.Prelude.{◌==◌, ◌&&◌}
+use Rattle.std.proofs.lemmas.Bool.{eq-eqb, eqb-true}
+use Rattle.osi_tpdu.specs.Value.{Value}
+use Rattle.osi_fair.proofs.which_units_are_for_a_connection.{keep}
+
+-- a unit, and the place of its connection; none if it is of no connection
+abbrev pub Placed : Type 0
+Placed = Option ℕ × Value
+
+abbrev pub is_at : ℕ → Option ℕ → Bool
+is_at p None = false
+is_at p (Some q) = q == p
+
+abbrev pub units_at : ℕ → List Placed → List Value
+units_at p [] = []
+units_at p (t ∷ ts) = keep (is_at p t.0) t.1 (units_at p ts)
+
+-- the first unit is of this place
+abbrev pub first_at : ℕ → List Placed → Bool
+first_at p [] = false
+first_at p (t ∷ ts) = is_at p t.0
+
+abbrev pub values : List Placed → List Value
+values [] = []
+values (t ∷ ts) = t.1 ∷ values ts
+
+abbrev pub all_at : Option ℕ → List Value → List Placed
+all_at o [] = []
+all_at o (v ∷ vs) = (o, v) ∷ all_at o vs
+
+keep_join : (b : Bool) (v : Value) (xs ys : List Value) → keep b v (xs ++ ys) ≡ keep b v xs ++ ys
+keep_join true v xs ys = refl
+keep_join false v xs ys = refl
+
+pub at_join : (p : ℕ) (xs ys : List Placed) → units_at p (xs ++ ys) ≡ units_at p xs ++ units_at p ys
+at_join p [] ys = refl
+at_join p (x ∷ xs) ys =
+    ap (λ (l : List Value). keep (is_at p x.0) x.1 l) (at_join p xs ys) ∙ keep_join (is_at p x.0) x.1 (units_at p xs) (units_at p ys)
+
+pub values_join : (xs ys : List Placed) → values (xs ++ ys) ≡ values xs ++ values ys
+values_join [] ys = refl
+values_join (x ∷ xs) ys = ap (λ (l : List Value). x.1 ∷ l) (values_join xs ys)
+
+pub values_all : (o : Option ℕ) (vs : List Value) → values (all_at o vs) ≡ vs
+values_all o [] = refl
+values_all o (v ∷ vs) = ap (λ (l : List Value). v ∷ l) (values_all o vs)
+
+pub at_here : (p : ℕ) → is_at p (Some p) ≡ true
+at_here p = eq-eqb p p refl
+
+unlike_by : (q p : ℕ) (b : Bool) → (q == p) ≡ b → (q ≡ p → ⊥) → b ≡ false
+unlike_by q p true e h = absurd (h (eqb-true q p e))
+unlike_by q p false e h = refl
+
+pub at_elsewhere : (p q : ℕ) → (q ≡ p → ⊥) → is_at p (Some q) ≡ false
+at_elsewhere p q h = unlike_by q p (q == p) refl h
+
+pub at_first : (p : ℕ) (v : Value) (ts : List Placed) → units_at p ((Some p, v) ∷ ts) ≡ v ∷ units_at p ts
+at_first p v ts = ap (λ (b : Bool). keep b v (units_at p ts)) (at_here p)
+
+pub at_other : (p q : ℕ) (v : Value) (ts : List Placed) → (q ≡ p → ⊥) → units_at p ((Some q, v) ∷ ts) ≡ units_at p ts
+at_other p q v ts h = ap (λ (b : Bool). keep b v (units_at p ts)) (at_elsewhere p q h)
+
+pub all_here : (p : ℕ) (vs : List Value) → units_at p (all_at (Some p) vs) ≡ vs
+all_here p [] = refl
+all_here p (v ∷ vs) = at_first p v (all_at (Some p) vs) ∙ ap (λ (l : List Value). v ∷ l) (all_here p vs)
+
+pub all_elsewhere : (p q : ℕ) (vs : List Value) → (q ≡ p → ⊥) → units_at p (all_at (Some q) vs) ≡ []
+all_elsewhere p q [] h = refl
+all_elsewhere p q (v ∷ vs) h = at_other p q v (all_at (Some q) vs) h ∙ all_elsewhere p q vs h
+
+pub all_nowhere : (p : ℕ) (vs : List Value) → units_at p (all_at None vs) ≡ []
+all_nowhere p [] = refl
+all_nowhere p (v ∷ vs) = all_nowhere p vs
+
+no_list : (v : Value) (vs : List Value) → v ∷ vs ≡ [] → ⊥
+no_list v vs e = cc
+
+pub first_more : (b : Bool) (p : ℕ) (ts more : List Placed) → (b ≡ true → values ts ≢ []) →
+    (b && first_at p (ts ++ more)) ≡ (b && first_at p ts)
+first_more false p ts more h = refl
+first_more true p [] more h = absurd (h refl refl)
+first_more true p (t ∷ ts) more h = refl
+
+-- the first of the units of a place is the first of all
+pub first_of_place : (p : ℕ) (v : Value) (ts : List Placed) → first_at p ((Some p, v) ∷ ts) ≡ true
+first_of_place p v ts = at_here p

@@ -1,0 +1,332 @@
+-- A called end takes a unit for a connection that it does not have open, or it ends: what that is for its connections.
+-- For the law on a whole called end.
+use Rattle.std.proofs.Common.{◌≡◌, ◌≢◌, ◌∙◌, ◌≤◌, ◌+◌, ℕ, Bool, true, false, List, [], ◌∷◌, ◌++◌, refl, sym, ap, subst, Option, Some}
+use Rattle.std.proofs.Common.{None, inl, inr, ◌⊎◌, is_some}
+use Rattle.std.specs.Prelude.{◌&&◌, ◌==◌, slice_get}
+use Rattle.std.specs.List.{AllByRecursion}
+use Rattle.std.proofs.lemmas.Bool.{eq-eqb, eqb-true}
+use Rattle.std.proofs.lemmas.List.{append-nil}
+use Rattle.osi_tpdu.specs.Value.{Value, Connect, confirm}
+use Rattle.osi_class.specs.Link.{Standing}
+use Rattle.osi_class.specs.declared.terms.Class.TheVariants.{Two}
+use Rattle.osi_class.specs.declared.terms.Local.{Local}
+use Rattle.osi_carrier.specs.Negotiation.{opened_link}
+use Rattle.osi_carrier.specs.Rows.{value_at}
+use Rattle.osi_carrier.specs.State.{State, linked}
+use Rattle.osi_rules.specs.declared.connections.Connection.{Connection}
+use Rattle.osi_rules.specs.declared.directions.Direction.TheVariants.{Right}
+use Rattle.osi_fair.specs.Lines.{Act, ActsAlong, Line, ignores, opened_line}
+use Rattle.osi_fair.specs.Wholes.{Whole}
+use Rattle.osi_fair.proofs.each_connection_of_a_called_end.{Among, AreAbove, AreStrays, Called, IsFor, IsStray, IsUnlinked, Row, Stand}
+use Rattle.osi_fair.proofs.each_connection_of_a_called_end.{Untagged, answers, closes, comes, line_of, over, past, refuses, runs, talks}
+use Rattle.osi_fair.proofs.units_by_their_place.{Placed, all_at, all_nowhere, at_join, first_at, first_more, units_at, values, values_all}
+use Rattle.osi_fair.proofs.units_by_their_place.{values_join}
+use Rattle.osi_fair.proofs.what_a_called_end_does_to_its_lines.{above_more, some_more, strays_keep}
+use Rattle.osi_fair.proofs.what_is_live_at_a_called_end.{Timely, timely_puts}
+use Rattle.osi_fair.proofs.what_is_put_before_the_cc_passes.{acts_join}
+use Rattle.osi_fair.proofs.which_units_are_for_a_connection.{those}
+
+differ : {A : Type 0} (b : Bool) → b ≡ true → b ≡ false → A
+differ b h k = absurd (cc)
+
+unlike : (q p : ℕ) → (q == p) ≡ false → q ≡ p → ⊥
+unlike q p h e = differ (q == p) (ap (λ (x : ℕ). x == p) e ∙ eq-eqb p p refl) h
+
+either : (A B C : Type 0) → (A → C) → (B → C) → A ⊎ B → C
+either A B C f g (inl a) = f a
+either A B C f g (inr b) = g b
+
+-- ---- a unit for a connection that is not open
+
+module _ (local : Local) (w : Whole) (f : Called local w) (t : State) (units : List Value) (coming : List Value) (came : List Placed)
+    (n : ℕ) (u : Value) (gone : (q : ℕ) (l : Standing) → value_at n w.end.live ≡ Some (linked q l) → ⊥)
+    (gone_then : (q : ℕ) (l : Standing) → value_at n t.live ≡ Some (linked q l) → ⊥) (was : w.end.ended ≡ None)
+    (rows : (m : ℕ) → (m ≡ n → ⊥) → value_at m t.live ≡ value_at m w.end.live) (given : t.given ≡ w.end.given)
+    (first : those n w.coming ≡ u ∷ those n coming)
+    (others : (m : ℕ) → (m ≡ n → ⊥) → those m coming ≡ those m w.coming) (asks : (p : ℕ) → units_at p came ≡ units_at p f.came)
+    (shut : ℕ → Bool) (shut_was : (r : ℕ) → shut r ≡ true → (f.shut r ≡ true) ⊎ (r ≡ n)) (shut_still : (r : ℕ) → f.shut r ≡ true →
+    shut r ≡ true)
+    (shut_given : (r : ℕ) → shut r ≡ true → r ≤ t.given) (strays : AreStrays shut t f.refs f.home w.tap.course.strays (all_at None units))
+    (come_is : coming ≡ values came) (few : AllByRecursion (IsFor w.end.given) coming) (untagged : AllByRecursion Untagged came)
+    (no_cc : AllByRecursion (λ (v : Value). (m : ℕ) (x : Connect) → v ≡ confirm m x → ⊥) units)
+    (timely : w.tap.course.strays ≡ false → t.ended ≡ None → Timely t coming w.tap.connections (values f.tagged)) where
+  abbrev s : State
+  s = w.end
+
+  abbrev tagged : List Placed
+  tagged = f.tagged ++ all_at None units
+
+  unlinked_by : (r : ℕ) (b : Bool) → (r == n) ≡ b → IsUnlinked s r → IsUnlinked t r
+  unlinked_by r true e h lasts q l there = gone_then q l (ap (λ (i : ℕ). value_at i t.live) (sym (eqb-true r n e)) ∙ there)
+  unlinked_by r false e h lasts q l there = h was q l (sym (rows r (unlike r n e)) ∙ there)
+
+  unlinked_still : (r : ℕ) → IsUnlinked s r → IsUnlinked t r
+  unlinked_still r h = unlinked_by r (r == n) refl h
+
+  -- what the line of a connection does
+  record Step (r peer : ℕ) (link : Option Standing) (come : List Value) : Type 0 where
+    later : List Value
+    acts : List Act
+    along : (line : Line) → line.link ≡ link → line.coming ≡ come → ActsAlong Right r peer line acts (record line { coming = later })
+    row : Row t coming r peer link later
+    shut_is : shut r ≡ true → link ≡ None
+
+  shut_old : (r : ℕ) (link : Option Standing) → (r ≡ n → ⊥) → (f.shut r ≡ true → link ≡ None) → shut r ≡ true → link ≡ None
+  shut_old r link other h e = either (f.shut r ≡ true) (r ≡ n) (link ≡ None) h (λ k. absurd (other k)) (shut_was r e)
+
+  stays_as : (line : Line) (come : List Value) → line.coming ≡ come → record line { coming = come } ≡ line
+  stays_as line come e = ap (λ (l : List Value). record line { coming = l }) (sym e)
+
+  step_other : (r peer : ℕ) (link : Option Standing) (come : List Value) → (r ≡ n → ⊥) → (f.shut r ≡ true → link ≡ None) →
+      Row t coming r peer link come → Step r peer link come
+  step_other r peer link come other h row =
+      record { later = come; acts = []; along = λ line is e. stays_as line come e; row = row; shut_is = shut_old r link other h }
+
+  row_other : (r peer : ℕ) (link : Option Standing) (come : List Value) → (r ≡ n → ⊥) → Row s w.coming r peer link come →
+      Row t coming r peer link come
+  row_other r peer link come other (talks k there is among) =
+      talks k (rows r other ∙ there) is (subst (Among come) (sym (others r other)) among)
+  row_other r peer link come other (closes un is among) =
+      closes (unlinked_still r un) is (subst (Among come) (sym (others r other)) among)
+  row_other r peer link come other (over h) = differ (is_some s.ended) h (ap is_some was)
+
+  ignores_it : (r peer : ℕ) (link : Option Standing) (come : List Value) → r ≡ n → link ≡ None → IsUnlinked t r →
+      Among come (u ∷ those n coming) → Step r peer link come
+  ignores_it r peer link come same none un (inl (dc, among)) = record {
+    later = come;
+    acts = [];
+    along = λ line is e. stays_as line come e;
+    row = closes un none (subst (λ (i : ℕ). Among come (those i coming)) (sym same) among);
+    shut_is = λ e. none;
+  }
+  ignores_it r peer link come same none un (inr (zs, e, among)) = record {
+    later = zs;
+    acts = ignores (u ∷ []) ∷ [];
+    along = λ line is k. (record line { coming = zs }, (is ∙ none, k ∙ e, refl), refl);
+    row = closes un none (subst (λ (i : ℕ). Among zs (those i coming)) (sym same) among);
+    shut_is = λ h. none;
+  }
+
+  step_mine : (r peer : ℕ) (link : Option Standing) (come : List Value) → r ≡ n → Row s w.coming r peer link come → Step r peer link come
+  step_mine r peer link come same (talks k there is among) =
+      absurd (gone peer k (ap (λ (i : ℕ). value_at i s.live) (sym same) ∙ there))
+  step_mine r peer link come same (closes un is among) =
+      ignores_it r peer link come same is (unlinked_still r un)
+      (subst (Among come) (ap (λ (i : ℕ). those i w.coming) same ∙ first) among)
+  step_mine r peer link come same (over h) = differ (is_some s.ended) h (ap is_some was)
+
+  step_by : (r peer : ℕ) (link : Option Standing) (come : List Value) (b : Bool) → (r == n) ≡ b → (f.shut r ≡ true → link ≡ None) →
+      Row s w.coming r peer link come → Step r peer link come
+  step_by r peer link come true e h row = step_mine r peer link come (eqb-true r n e) row
+  step_by r peer link come false e h row =
+      step_other r peer link come (unlike r n e) h (row_other r peer link come (unlike r n e) row)
+
+  abbrev StandThen : List Value → Bool → ℕ → Connection → Type 0
+  StandThen mine begun i c = Stand local shut t coming mine (units_at i came) begun (f.refs i) c
+
+  stand_on : (i : ℕ) (c : Connection) (mine : List Value) (begun : Bool) →
+      Stand local f.shut s w.coming mine (units_at i f.came) begun (f.refs i) c → StandThen mine begun i c
+  stand_on i c mine begun (comes x a none ask e) = comes x a none (λ lasts. asks i ∙ ask was) e
+  stand_on i c mine begun (refuses x a reason is none e seen) = refuses x a reason is (asks i ∙ none) e seen
+  stand_on i c mine begun (answers h none) =
+      let g = step_by h.r h.x.source h.link h.come (h.r == n) refl h.shut_is h.row in
+      answers (record {
+        x = h.x;
+        size = h.size;
+        r = h.r;
+        index = h.index;
+        asked = h.asked;
+        selected = h.selected;
+        link = h.link;
+        more = h.more;
+        come = g.later;
+        mine_is = h.mine_is;
+        acts = h.acts ++ g.acts;
+        along = λ tap. acts_join Right h.r h.x.source h.acts g.acts (opened_line (opened_link Two h.size local h.x.credit) tap)
+            (line_of h.link h.more h.come tap) (line_of h.link h.more g.later tap) (h.along tap)
+            (g.along (line_of h.link h.more h.come tap) refl refl);
+        seen = h.seen;
+        row = g.row;
+        shut_is = g.shut_is;
+      }) (asks i ∙ none)
+  stand_on i c mine begun (runs h none) =
+      let g = step_by h.r h.peer h.line.link h.line.coming (h.r == n) refl h.shut_is h.row in
+      runs (record {
+        r = h.r;
+        peer = h.peer;
+        index = h.index;
+        line = record h.line { coming = g.later };
+        tap = h.tap;
+        put = h.put;
+        begun_is = h.begun_is;
+        first = h.first;
+        acts = h.acts ++ g.acts;
+        opened = h.opened;
+        along = acts_join Right h.r h.peer h.acts g.acts h.first h.line (record h.line { coming = g.later }) h.along
+            (g.along h.line refl refl);
+        there = h.there;
+        right = h.right;
+        left = h.left;
+        row = g.row;
+        shut_is = g.shut_is;
+      }) (asks i ∙ none)
+  stand_on i c mine begun (past silent up none ask un off) =
+      past silent up none (asks i ∙ ask) (λ r e. unlinked_still r (un r e)) off
+
+  mine_same : (i : ℕ) → units_at i tagged ≡ units_at i f.tagged
+  mine_same i = at_join i f.tagged (all_at None units)
+      ∙ ap (λ (vs : List Value). units_at i f.tagged ++ vs) (all_nowhere i units) ∙ append-nil (units_at i f.tagged)
+
+  begun_same : (i : ℕ) → (w.begun && first_at i tagged) ≡ (w.begun && first_at i f.tagged)
+  begun_same i = first_more w.begun i f.tagged (all_at None units) f.some
+
+  stand_now : (i : ℕ) (c : Connection) → slice_get w.tap.connections i ≡ Some c →
+      StandThen (units_at i tagged) (w.begun && first_at i tagged) i c
+  stand_now i c at =
+      subst (λ (b : Bool). StandThen (units_at i tagged) b i c) (sym (begun_same i))
+      (subst (λ (vs : List Value). StandThen vs (w.begun && first_at i f.tagged) i c) (sym (mine_same i))
+      (stand_on i c (units_at i f.tagged) (w.begun && first_at i f.tagged) (f.stands i c at)))
+
+  linked_by : (r peer : ℕ) (k : Standing) (b : Bool) → (r == n) ≡ b → value_at r t.live ≡ Some (linked peer k) → f.refs (f.home r) ≡ Some r
+  linked_by r peer k true e there = absurd (gone_then peer k (ap (λ (i : ℕ). value_at i t.live) (sym (eqb-true r n e)) ∙ there))
+  linked_by r peer k false e there = f.linked_at was r peer k (sym (rows r (unlike r n e)) ∙ there)
+
+  stray_still : (v : Value) (later : List Placed) → IsStray f.shut s f.refs f.home w.tap.course.strays v later →
+      IsStray shut t f.refs f.home w.tap.course.strays v (later ++ all_at None units)
+  stray_still v later a = record {
+    m = a.m;
+    n = a.n;
+    is = a.is;
+    strays_is = a.strays_is;
+    given = subst (λ (i : ℕ). a.n ≤ i) (sym given) a.given;
+    shut_is = shut_still a.n a.shut_is;
+    none = λ e. at_join (f.home a.n) later (all_at None units)
+        ∙ ap (λ (vs : List Value). units_at (f.home a.n) later ++ vs) (all_nowhere (f.home a.n) units)
+        ∙ append-nil (units_at (f.home a.n) later) ∙ a.none e;
+  }
+
+  values_are : values tagged ≡ values f.tagged ++ units
+  values_are = values_join f.tagged (all_at None units) ∙ ap (λ (vs : List Value). values f.tagged ++ vs) (values_all None units)
+
+  pub left_alone : Called local (record w { end = t; put = w.put ++ units; coming = coming })
+  left_alone = record {
+    tagged = tagged;
+    put = ap (λ (vs : List Value). vs ++ units) f.put ∙ sym values_are;
+    came = came;
+    come = come_is;
+    refs = f.refs;
+    home = f.home;
+    shut = shut;
+    stands = λ i c at. stand_now i c at;
+    beyond = λ i none.
+        let (a, b, d) = f.beyond i none in (mine_same i ∙ a, asks i ∙ b, λ r e. unlinked_still r (d r e));
+    homes = λ i r e. ((f.homes i r e).0, subst (λ (j : ℕ). r ≤ j) (sym given) (f.homes i r e).1);
+    linked_at = λ lasts r peer k there. linked_by r peer k (r == n) refl there;
+    shut_given = shut_given;
+    strays = strays_keep f.shut shut s t f.refs f.refs f.home f.home w.tap.course.strays f.tagged (all_at None units) stray_still strays
+        f.strays;
+    last = f.last;
+    tops = f.tops;
+    above = subst (λ (j : ℕ). AreAbove j f.last (values tagged)) (sym given)
+        (subst (AreAbove s.given f.last) (sym values_are) (above_more s.given f.last (values f.tagged) units no_cc f.above));
+    class = f.class;
+    two = f.two;
+    class_seen = f.class_seen;
+    some = λ h. subst (λ (vs : List Value). vs ≢ []) (sym values_are) (some_more (values f.tagged) units (f.some h));
+    few = subst (λ (j : ℕ). AllByRecursion (IsFor j) coming) (sym given) few;
+    untagged = untagged;
+    timely = λ none lasts. subst (λ (l : List Value). Timely t coming w.tap.connections l) (sym values_are)
+        (timely_puts t coming w.tap.connections (values f.tagged) units no_cc (timely none lasts));
+  }
+
+-- ---- the end
+
+module _ (local : Local) (w : Whole) (f : Called local w) (t : State) (coming : List Value) (came : List Placed)
+    (gone : is_some t.ended ≡ true) (given : t.given ≡ w.end.given)
+    (asks : (p : ℕ) → units_at p f.came ≡ [] → units_at p came ≡ []) (come_is : coming ≡ values came)
+    (few : AllByRecursion (IsFor w.end.given) coming) (untagged : AllByRecursion Untagged came) where
+  not_last : {A : Type 0} → t.ended ≡ None → A
+  not_last e = differ (is_some t.ended) gone (ap is_some e)
+
+  stand_over : (i : ℕ) (c : Connection) (mine : List Value) (begun : Bool) →
+      Stand local f.shut w.end w.coming mine (units_at i f.came) begun (f.refs i) c →
+      Stand local f.shut t coming mine (units_at i came) begun (f.refs i) c
+  stand_over i c mine begun (comes x a none ask e) = comes x a none (λ lasts. not_last lasts) e
+  stand_over i c mine begun (refuses x a reason is none e seen) = refuses x a reason is (asks i none) e seen
+  stand_over i c mine begun (answers h none) = answers (record {
+    x = h.x;
+    size = h.size;
+    r = h.r;
+    index = h.index;
+    asked = h.asked;
+    selected = h.selected;
+    link = h.link;
+    more = h.more;
+    come = h.come;
+    mine_is = h.mine_is;
+    acts = h.acts;
+    along = h.along;
+    seen = h.seen;
+    row = over gone;
+    shut_is = h.shut_is;
+  }) (asks i none)
+  stand_over i c mine begun (runs h none) = runs (record {
+    r = h.r;
+    peer = h.peer;
+    index = h.index;
+    line = h.line;
+    tap = h.tap;
+    put = h.put;
+    begun_is = h.begun_is;
+    first = h.first;
+    acts = h.acts;
+    opened = h.opened;
+    along = h.along;
+    there = h.there;
+    right = h.right;
+    left = h.left;
+    row = over gone;
+    shut_is = h.shut_is;
+  }) (asks i none)
+  stand_over i c mine begun (past silent up none ask un off) = past silent up none (asks i ask) (λ r e lasts. not_last lasts) off
+
+  stray_over : (v : Value) (later : List Placed) → IsStray f.shut w.end f.refs f.home w.tap.course.strays v later →
+      IsStray f.shut t f.refs f.home w.tap.course.strays v (later ++ [])
+  stray_over v later a = record {
+    m = a.m;
+    n = a.n;
+    is = a.is;
+    strays_is = a.strays_is;
+    given = subst (λ (i : ℕ). a.n ≤ i) (sym given) a.given;
+    shut_is = a.shut_is;
+    none = λ e. ap (λ (l : List Placed). units_at (f.home a.n) l) (append-nil later) ∙ a.none e;
+  }
+
+  pub is_over : Called local (record w { end = t; coming = coming })
+  is_over = record {
+    tagged = f.tagged;
+    put = f.put;
+    came = came;
+    come = come_is;
+    refs = f.refs;
+    home = f.home;
+    shut = f.shut;
+    stands = λ i c at. stand_over i c (units_at i f.tagged) (w.begun && first_at i f.tagged) (f.stands i c at);
+    beyond = λ i none.
+        let (a, b, d) = f.beyond i none in (a, asks i b, λ r e lasts. not_last lasts);
+    homes = λ i r e. ((f.homes i r e).0, subst (λ (j : ℕ). r ≤ j) (sym given) (f.homes i r e).1);
+    linked_at = λ lasts. not_last lasts;
+    shut_given = λ r e. subst (λ (j : ℕ). r ≤ j) (sym given) (f.shut_given r e);
+    strays = subst (λ (l : List Placed). AreStrays f.shut t f.refs f.home w.tap.course.strays l) (append-nil f.tagged)
+        (strays_keep f.shut f.shut w.end t f.refs f.refs f.home f.home w.tap.course.strays f.tagged [] stray_over tt f.strays);
+    last = f.last;
+    tops = f.tops;
+    above = subst (λ (j : ℕ). AreAbove j f.last (values f.tagged)) (sym given) f.above;
+    class = f.class;
+    two = f.two;
+    class_seen = f.class_seen;
+    some = f.some;
+    few = subst (λ (j : ℕ). AllByRecursion (IsFor j) coming) (sym given) few;
+    untagged = untagged;
+    timely = λ none lasts. not_last lasts;
+  }

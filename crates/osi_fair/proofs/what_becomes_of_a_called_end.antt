@@ -1,0 +1,288 @@
+-- What a called end has after it has taken a unit: its class, its references, and which of its connections are live.
+-- For the law on a whole called end.
+use Rattle.std.proofs.Common.{◌≡◌, ◌∙◌, ◌+◌, ℕ, Bool, true, false, List, [], ◌∷◌, ◌++◌, map, refl, sym, ap, subst, Option, Some, None}
+use Rattle.std.proofs.Common.{Result, Ok, Err, ◌⊎◌, is_some}
+use Rattle.std.specs.Prelude.{◌==◌}
+use Rattle.std.specs.List.{AllByRecursion}
+use Rattle.std.proofs.lemmas.Bool.{eq-eqb, eqb-true}
+use Rattle.osi_tpdu.specs.Value.{Value, Connect, request, confirm, disconnect, disconnected, data0, data2, acknowledge, error}
+use Rattle.osi_tpdu.specs.Value.{destination_of}
+use Rattle.osi_class.specs.Ends.{Ends}
+use Rattle.osi_class.specs.Flow.{Flow}
+use Rattle.osi_class.specs.Giving.{all_given}
+use Rattle.osi_class.specs.Link.{Given, Standing, ack, part0, part2, taken, taken_by, unit_of}
+use Rattle.osi_class.specs.declared.faults.LinkFault.{LinkFault}
+use Rattle.osi_class.specs.declared.faults.LinkFault.TheVariants.{WrongForm}
+use Rattle.osi_class.specs.declared.terms.Class.{Class}
+use Rattle.osi_class.specs.declared.terms.Class.TheVariants.{Two}
+use Rattle.osi_class.specs.declared.terms.Local.{Local}
+use Rattle.osi_carrier.specs.Orderly.{IsOrderly, RiseFrom}
+use Rattle.osi_carrier.specs.Pump.{pumped}
+use Rattle.osi_carrier.specs.React.{breaks as breaks_in, handed_out, leaves, taking, to_closing, to_connection, to_linked}
+unfoldable use Rattle.osi_carrier.specs.React.{react}
+use Rattle.osi_carrier.specs.Rows.{Rows, put, value_at, without}
+use Rattle.osi_carrier.specs.State.{State, Connection as Live, asked, closing, linked, packets}
+use Rattle.osi_carrier.specs.declared.ends.EndReason.{EndReason}
+use Rattle.osi_carrier.proofs.references.rows_after_a_change.{push_other, put_other, without_other}
+use Rattle.osi_carrier.proofs.references.what_a_change_leaves_there.{found as row_here, push_here, put_here, without_here}
+use Rattle.osi_fair.specs.Following.{Follows, link_now}
+use Rattle.osi_fair.specs.Lines.{closes as closes_with}
+use Rattle.osi_fair.specs.Putting.{put_at, put_for, put_linked, put_taking}
+use Rattle.osi_fair.proofs.a_carrier_follows_lines.{put_is, react_is}
+use Rattle.osi_fair.proofs.each_connection_of_a_called_end.{refuses}
+use Rattle.osi_fair.proofs.what_a_called_end_does_to_its_lines.{Leaves, shuts, still}
+use Rattle.osi_fair.proofs.what_a_carrier_puts.{unit_writes}
+use Rattle.osi_fair.proofs.what_is_live_at_a_called_end.{IsLive, shuts_of}
+
+-- ---- the end
+
+pub record IsCalled (local : Local) (s : State) : Type 0 where
+  pub caller : s.is_caller ≡ false
+  pub local_is : s.local ≡ local
+  pub zero : local.class0 ≡ false
+  pub class : (s.class ≡ None) ⊎ (s.class ≡ Some Two)
+  pub orderly : IsOrderly s
+  pub none : (m : ℕ) → value_at m s.live ≡ Some asked → ⊥
+  pub two : (m q : ℕ) (l : Standing) → value_at m s.live ≡ Some (linked q l) → s.class ≡ Some Two
+
+pub record Same (s t : State) : Type 0 where
+  pub caller : t.is_caller ≡ s.is_caller
+  pub local_is : t.local ≡ s.local
+  pub class : t.class ≡ s.class
+  pub given : t.given ≡ s.given
+
+pub called_still : (local : Local) (s t : State) → Same s t → IsOrderly t → ((m : ℕ) → value_at m t.live ≡ Some asked → ⊥) →
+    ((m q : ℕ) (l : Standing) → value_at m t.live ≡ Some (linked q l) → s.class ≡ Some Two) → IsCalled local s → IsCalled local t
+called_still local s t same orderly none two c = record {
+  caller = same.caller ∙ c.caller;
+  local_is = same.local_is ∙ c.local_is;
+  zero = c.zero;
+  class = subst (λ (k : Option Class). (k ≡ None) ⊎ (k ≡ Some Two)) (sym same.class) c.class;
+  orderly = orderly;
+  none = none;
+  two = λ m q l h. same.class ∙ two m q l h;
+}
+
+-- ---- what is changed of the live connections
+
+pub data Touch (u : Value) (n : ℕ) (s t : State) : Type 0 where
+  same_rows : t.live ≡ s.live → Touch u n s t
+  puts_row : (z k : Live) → value_at n s.live ≡ Some z → (k ≡ asked → ⊥) → t.live ≡ put n k s.live → Touch u n s t
+  drops_row : shuts_of u ≡ Some n → t.live ≡ without n s.live → Touch u n s t
+  no_rows : t.live ≡ [] → is_some t.ended ≡ true → Touch u n s t
+
+pub differ : {A : Type 0} (b : Bool) → b ≡ true → b ≡ false → A
+differ b h k = absurd (cc)
+
+pub no_end : {A : Type 0} (o : Option EndReason) → is_some o ≡ true → o ≡ None → A
+no_end o h e = absurd (cc)
+
+pub unlike : (q p : ℕ) → (q == p) ≡ false → q ≡ p → ⊥
+unlike q p h e = differ (q == p) (ap (λ (x : ℕ). x == p) e ∙ eq-eqb p p refl) h
+
+pub same_row : (a b : Live) → Some a ≡ Some b → a ≡ b
+same_row a b e = cc
+
+pub no_row : {A : Type 0} (o : Option Live) (k : Live) → o ≡ None → o ≡ Some k → A
+no_row o k e h = absurd (cc)
+
+pub touch_rows : (u : Value) (n : ℕ) (s t : State) → Touch u n s t → t.ended ≡ None → (m : ℕ) → (m ≡ n → ⊥) → value_at m t.live ≡ value_at
+    m s.live
+touch_rows u n s t (same_rows e) lasts m other = ap (λ (l : Rows Live). value_at m l) e
+touch_rows u n s t (puts_row z k here h e) lasts m other = ap (λ (l : Rows Live). value_at m l) e ∙ put_other m n k s.live other
+touch_rows u n s t (drops_row closes e) lasts m other = ap (λ (l : Rows Live). value_at m l) e ∙ without_other m n s.live other
+touch_rows u n s t (no_rows e over) lasts m other = no_end t.ended over lasts
+
+none_by : (u : Value) (n : ℕ) (s t : State) → Touch u n s t → RiseFrom 0 s.live → ((m : ℕ) → value_at m s.live ≡ Some asked → ⊥) →
+    (m : ℕ) (b : Bool) → (m == n) ≡ b → value_at m t.live ≡ Some asked → ⊥
+none_by u n s t (same_rows e) rise none m b h there = none m (sym (ap (λ (l : Rows Live). value_at m l) e) ∙ there)
+none_by u n s t (puts_row z k here settled e) rise none m true h there =
+    settled (same_row k asked (sym (put_here n k z s.live here) ∙ sym (ap (λ (l : Rows Live). value_at n l) e)
+    ∙ ap (λ (i : ℕ). value_at i t.live) (sym (eqb-true m n h)) ∙ there))
+none_by u n s t (puts_row z k here settled e) rise none m false h there =
+    none m (sym (put_other m n k s.live (unlike m n h)) ∙ sym (ap (λ (l : Rows Live). value_at m l) e) ∙ there)
+none_by u n s t (drops_row closes e) rise none m true h there =
+    no_row (value_at m t.live) asked (ap (λ (l : Rows Live). value_at m l) e ∙ ap (λ (i : ℕ). value_at i (without n s.live))
+    (eqb-true m n h)
+    ∙ without_here n s.live rise) there
+none_by u n s t (drops_row closes e) rise none m false h there =
+    none m (sym (without_other m n s.live (unlike m n h)) ∙ sym (ap (λ (l : Rows Live). value_at m l) e) ∙ there)
+none_by u n s t (no_rows e over) rise none m b h there = no_row (value_at m t.live) asked (ap (λ (l : Rows Live). value_at m l) e) there
+
+pub touch_none : (u : Value) (n : ℕ) (s t : State) → Touch u n s t → RiseFrom 0 s.live → ((m : ℕ) → value_at m s.live ≡ Some asked → ⊥) →
+    (m : ℕ) → value_at m t.live ≡ Some asked → ⊥
+touch_none u n s t h rise none m = none_by u n s t h rise none m (m == n) refl
+
+lives_by : (u : Value) (n : ℕ) (s t : State) → Touch u n s t → t.ended ≡ None → (m : ℕ) (b : Bool) → (m == n) ≡ b → IsLive s m →
+    (shuts_of u ≡ Some m → ⊥) → IsLive t m
+lives_by u n s t h lasts m false e live other =
+    ap is_some (touch_rows u n s t h lasts m (unlike m n e)) ∙ live
+lives_by u n s t (same_rows is) lasts m true e live other = ap (λ (l : Rows Live). is_some (value_at m l)) is ∙ live
+lives_by u n s t (puts_row z k here settled is) lasts m true e live other =
+    ap (λ (i : ℕ). is_some (value_at i t.live)) (eqb-true m n e) ∙ ap (λ (l : Rows Live). is_some (value_at n l)) is
+    ∙ ap is_some (put_here n k z s.live here)
+lives_by u n s t (drops_row closes is) lasts m true e live other =
+    absurd (other (closes ∙ ap (λ (i : ℕ). Some i) (sym (eqb-true m n e))))
+lives_by u n s t (no_rows is gone) lasts m true e live other = no_end t.ended gone lasts
+
+pub touch_lives : (u : Value) (n : ℕ) (s t : State) → Touch u n s t → t.ended ≡ None → (m : ℕ) → IsLive s m → (shuts_of u ≡ Some m → ⊥) →
+    IsLive t m
+touch_lives u n s t h lasts m live other = lives_by u n s t h lasts m (m == n) refl live other
+
+pushed_by : (r i : ℕ) (z k y : Live) (rows : Rows Live) (b : Bool) → (i == r) ≡ b → value_at r ((i, y) ∷ rows) ≡ Some z →
+    (value_at r rows ≡ Some z → value_at r (rows ++ (r, k) ∷ []) ≡ Some z) → value_at r ((i, y) ∷ (rows ++ (r, k) ∷ [])) ≡ Some z
+pushed_by r i z k y rows true e h more =
+    row_here r i y (rows ++ (r, k) ∷ []) true e ∙ sym (row_here r i y rows true e) ∙ h
+pushed_by r i z k y rows false e h more =
+    row_here r i y (rows ++ (r, k) ∷ []) false e ∙ more (sym (row_here r i y rows false e) ∙ h)
+
+pushed_still : (r : ℕ) (z k : Live) (rows : Rows Live) → value_at r rows ≡ Some z → value_at r (rows ++ (r, k) ∷ []) ≡ Some z
+pushed_still r z k [] h = cc
+pushed_still r z k ((i, y) ∷ rows) h = pushed_by r i z k y rows (i == r) refl h (pushed_still r z k rows)
+
+push_by : (m r : ℕ) (k : Live) (rows : Rows Live) (b : Bool) → (m == r) ≡ b → is_some (value_at m rows) ≡ true →
+    (o : Option Live) → value_at r rows ≡ o → is_some (value_at m (rows ++ (r, k) ∷ [])) ≡ true
+push_by m r k rows false e live o h = ap is_some (push_other m r k rows (unlike m r e)) ∙ live
+push_by m r k rows true e live None h =
+    ap (λ (i : ℕ). is_some (value_at i (rows ++ (r, k) ∷ []))) (eqb-true m r e) ∙ ap is_some (push_here r k rows h)
+push_by m r k rows true e live (Some z) h = ap (λ (i : ℕ). is_some (value_at i (rows ++ (r, k) ∷ []))) (eqb-true m r e)
+    ∙ ap is_some (pushed_still r z k rows h)
+
+pub push_lives : (m r : ℕ) (k : Live) (rows : Rows Live) → is_some (value_at m rows) ≡ true →
+    is_some (value_at m (rows ++ (r, k) ∷ [])) ≡ true
+push_lives m r k rows live = push_by m r k rows (m == r) refl live (value_at r rows) refl
+
+-- ---- units that are no CCs
+
+abbrev pub IsNoCc : Value → Type 0
+IsNoCc v = (m : ℕ) (x : Connect) → v ≡ confirm m x → ⊥
+
+unit_no_cc : (q : ℕ) (g : Given) → IsNoCc (unit_of q g)
+unit_no_cc q (part0 end user) m x e = cc
+unit_no_cc q (part2 number end user) m x e = cc
+unit_no_cc q (ack number credit) m x e = cc
+
+pub units_no_cc : (q : ℕ) (gs : List Given) → AllByRecursion IsNoCc (map (unit_of q) gs)
+units_no_cc q [] = tt
+units_no_cc q (g ∷ gs) = (unit_no_cc q g, units_no_cc q gs)
+
+taking_no_cc : (n q : ℕ) (result : Result Standing LinkFault) (k : Option Class) → k ≡ Some Two →
+    AllByRecursion IsNoCc (put_taking n q result k)
+taking_no_cc n q (Ok link) k e = units_no_cc q (all_given (handed_out link))
+taking_no_cc n q (Err fault) k e =
+    subst (λ (j : Option Class). AllByRecursion IsNoCc (put_taking n q (Err fault) j)) (sym e) (λ m x h. absurd (cc h), tt)
+
+pub linked_no_cc : (n q : ℕ) (l : Standing) (u : Value) (k : Option Class) → k ≡ Some Two → AllByRecursion IsNoCc (put_linked n q l u k)
+linked_no_cc n q l (request x) k e = taking_no_cc n q (taken l (request x)) k e
+linked_no_cc n q l (confirm destination x) k e = taking_no_cc n q (taken l (confirm destination x)) k e
+linked_no_cc n q l (disconnect destination source reason user) k e =
+    subst (λ (j : Option Class). AllByRecursion IsNoCc (put_linked n q l (disconnect destination source reason user) j)) (sym e)
+    (λ m x h. absurd (cc h), tt)
+linked_no_cc n q l (disconnected destination source) k e = taking_no_cc n q (taken l (disconnected destination source)) k e
+linked_no_cc n q l (data0 end user) k e = taking_no_cc n q (taken l (data0 end user)) k e
+linked_no_cc n q l (data2 destination number end user) k e = taking_no_cc n q (taken l (data2 destination number end user)) k e
+linked_no_cc n q l (acknowledge credit destination number) k e = taking_no_cc n q (taken l (acknowledge credit destination number)) k e
+linked_no_cc n q l (error destination cause) k e = taking_no_cc n q (taken l (error destination cause)) k e
+
+-- ---- an open connection
+
+-- what is so after the end took a unit for it
+pub record OpenSo (u : Value) (n q : ℕ) (s t : State) : Type 0 where
+  pub same : Same s t
+  pub ended : t.ended ≡ s.ended
+  pub touch : Touch u n s t
+  pub leaves_so : Leaves n q t
+
+taking_so : (u : Value) (n q : ℕ) (l : Standing) (result : Result Standing LinkFault) (s : State) → value_at n s.live ≡ Some (linked q l) →
+    s.class ≡ Some Two → OpenSo u n q s (taking n q result s)
+taking_so u n q l (Ok link) s here two = record {
+  same = record { caller = refl; local_is = refl; class = refl; given = refl };
+  ended = refl;
+  touch = puts_row (linked q l) (linked q (pumped (handed_out link))) here (λ e. cc) refl;
+  leaves_so = still (pumped (handed_out link)) (put_here n (linked q (pumped (handed_out link))) (linked q l) s.live here);
+}
+taking_so u n q l (Err fault) s here two =
+    subst (λ (k : Option Class). OpenSo u n q s (breaks_in n q fault k s)) (sym two) (record {
+      same = record { caller = refl; local_is = refl; class = refl; given = refl };
+      ended = refl;
+      touch = puts_row (linked q l) (closing q) here (λ e. cc) refl;
+      leaves_so = shuts (ap link_now (put_here n (closing q) (linked q l) s.live here));
+    })
+
+pub open_so : (n q : ℕ) (l : Standing) (u : Value) (s : State) → value_at n s.live ≡ Some (linked q l) → s.class ≡ Some Two →
+    RiseFrom 0 s.live → destination_of u ≡ Some n → OpenSo u n q s (to_linked n q l u s)
+open_so n q l (request x) s here two rise dest = taking_so (request x) n q l (taken l (request x)) s here two
+open_so n q l (confirm destination x) s here two rise dest = taking_so (confirm destination x) n q l (taken l (confirm destination x)) s
+    here two
+open_so n q l (disconnect destination source reason user) s here two rise dest =
+    subst (λ (k : Option Class). OpenSo (disconnect destination source reason user) n q s (leaves n q reason k s)) (sym two) (record {
+      same = record { caller = refl; local_is = refl; class = refl; given = refl };
+      ended = refl;
+      touch = drops_row dest refl;
+      leaves_so = shuts (ap link_now (without_here n s.live rise));
+    })
+open_so n q l (disconnected destination source) s here two rise dest = taking_so (disconnected destination source) n q l
+    (taken l (disconnected destination source)) s here two
+open_so n q l (data0 end user) s here two rise dest = taking_so (data0 end user) n q l (taken l (data0 end user)) s here two
+open_so n q l (data2 destination number end user) s here two rise dest = taking_so (data2 destination number end user) n q l
+    (taken l (data2 destination number end user)) s here two
+open_so n q l (acknowledge credit destination number) s here two rise dest = taking_so (acknowledge credit destination number) n q l
+    (taken l (acknowledge credit destination number)) s here two
+open_so n q l (error destination cause) s here two rise dest = taking_so (error destination cause) n q l
+    (taken l (error destination cause)) s here two
+
+-- the link refuses a DC
+dc_refused : (e : Ends) (flow : Option Flow) (m n : ℕ) → taken_by e flow (disconnected m n) ≡ Err WrongForm
+dc_refused e None m n = refl
+dc_refused e (Some flow) m n = refl
+
+-- so the end closes the connection, as its user might
+pub dc_follows : (n q m i : ℕ) (k : Standing) (s : State) → value_at n s.live ≡ Some (linked q k) → s.class ≡ Some Two → s.ended ≡ None →
+    destination_of (disconnected m i) ≡ Some n → Follows n q [] (put_for (disconnected m i) s) s (react (disconnected m i) s)
+dc_follows n q m i k s here two was dest =
+    let u = disconnected m i in
+    let to = react_is u s n two was dest ∙ ap (λ (o : Option Live). to_connection n o u s) here
+    ∙ ap (λ (r : Result Standing LinkFault). taking n q r s) (dc_refused k.ends k.flow m i)
+    ∙ ap (λ (c : Option Class). breaks_in n q WrongForm c s) two in
+    let units : put_for u s ≡ disconnect q n 133 [] ∷ [] = put_is u s n two was dest
+    ∙ ap (λ (o : Option Live). put_at n o u s.class) here
+    ∙ ap (λ (r : Result Standing LinkFault). put_taking n q r s.class) (dc_refused k.ends k.flow m i)
+    ∙ ap (λ (c : Option Class). put_taking n q (Err WrongForm) c) two in
+    let there : link_now (value_at n (react u s).live) ≡ None = ap (λ (t : State). link_now (value_at n t.live)) to
+    ∙ ap link_now (put_here n (closing q) (linked q k) s.live here) in
+    subst (λ (l : List Value). Follows n q [] l s (react u s)) (sym units) (record {
+      acts = closes_with 133 [] ∷ [];
+      outgoing = unit_writes u s ∙ ap (λ (l : List Value). s.outgoing ++ packets l) units;
+      along = λ d line later is coming. (
+        record line { link = link_now (value_at n (react u s).live); put = line.put ++ disconnect q n 133 [] ∷ []; coming = later },
+        (
+          k,
+          is ∙ ap link_now here,
+          coming,
+          ap (λ (o : Option Standing). record line { link = o; put = line.put ++ disconnect q n 133 [] ∷ []; coming = later }) there,
+        ),
+        refl,
+      );
+    })
+
+-- ---- a connection that is closing, or gone
+
+pub closing_touches : (n : ℕ) (u : Value) (s : State) → destination_of u ≡ Some n → Touch u n s (to_closing n u s)
+closing_touches n (request x) s dest = same_rows refl
+closing_touches n (confirm destination x) s dest = same_rows refl
+closing_touches n (disconnect destination source reason user) s dest = drops_row dest refl
+closing_touches n (disconnected destination source) s dest = drops_row dest refl
+closing_touches n (data0 end user) s dest = same_rows refl
+closing_touches n (data2 destination number end user) s dest = same_rows refl
+closing_touches n (acknowledge credit destination number) s dest = same_rows refl
+closing_touches n (error destination cause) s dest = same_rows refl
+
+pub closing_same : (n : ℕ) (u : Value) (s : State) → Same s (to_closing n u s) × ((to_closing n u s).ended ≡ s.ended)
+closing_same n (request x) s = (record { caller = refl; local_is = refl; class = refl; given = refl }, refl)
+closing_same n (confirm destination x) s = (record { caller = refl; local_is = refl; class = refl; given = refl }, refl)
+closing_same n (disconnect destination source reason user) s = (record { caller = refl; local_is = refl; class = refl; given = refl }, refl)
+closing_same n (disconnected destination source) s = (record { caller = refl; local_is = refl; class = refl; given = refl }, refl)
+closing_same n (data0 end user) s = (record { caller = refl; local_is = refl; class = refl; given = refl }, refl)
+closing_same n (data2 destination number end user) s = (record { caller = refl; local_is = refl; class = refl; given = refl }, refl)
+closing_same n (acknowledge credit destination number) s = (record { caller = refl; local_is = refl; class = refl; given = refl }, refl)
+closing_same n (error destination cause) s = (record { caller = refl; local_is = refl; class = refl; given = refl }, refl)
