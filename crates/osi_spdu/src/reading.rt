@@ -197,7 +197,7 @@ fn kept_at<'a>(at: usize, octets: &'a [u8], params: &mut Params<'a>) -> Result<K
 }
 
 /// The units of a TSDU: this one of category 0, and those after it.
-#[inline(never)]
+#[inline(always)]
 #[tactic(auto, unfolding(crate::specs::Kept::followed_at))]
 fn read_followed<'a>(
     kind: Kind,
@@ -236,8 +236,7 @@ fn read_kept(octets: &[u8]) -> Result<Group<'_>, SpduFault>
     let found = found_at(true, false, 0, octets, &mut params)?;
     params.settle();
     match found.kind.category() {
-        // It is returned at once, so that the units are put where the caller wants them.
-        Category::Zero => return read_followed(found.kind, &params, found.end, found.rest),
+        Category::Zero => read_followed(found.kind, &params, found.end, found.rest),
         _ => {
             let end = found.end;
             let rest = found.rest;
