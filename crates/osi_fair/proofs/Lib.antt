@@ -69,3 +69,9 @@ pub mod a_unit_comes_to_a_called_end
 pub mod what_comes_to_a_called_end
 pub mod a_dc_for_what_is_gone_passes
 pub mod a_called_end_is_fair
+pub mod what_an_end_puts_in_class_zero
+pub mod what_a_called_end_does_in_class_zero
+pub mod a_called_end_selects_class_zero
+pub mod a_called_end_is_judged_as_the_other_side_is
+pub mod what_comes_to_an_end_of_class_zero
+pub mod a_unit_of_an_end_of_class_zero_passes

@@ -42,10 +42,10 @@
 //!   other side breaks a rule or a DR passes that closes nothing: [`laws::a_calling_end_is_fair`]. There each connection that is
 //!   open at the tap has its line, and each line its place. What a carrier does with a packet, with or without enough memory,
 //!   and what its user does, is such events: [`laws::a_packet_is_events`].
-//! - **A whole called end** that doesn't offer class 0 is fair, whatever DRs pass: [`laws::a_called_end_is_fair`]. Each unit that it
-//!   puts has the place of a connection at the tap, whose CR it answers or whose line it is of. A DC for a DR that closed nothing
-//!   has none, and is not taken for the answer on another connection: its SRC-REF is a reference that the end has closed, and the
-//!   unit which closed that one passes first.
+//! - **A whole called end** is fair, whatever classes it offers and whatever DRs pass: [`laws::a_called_end_is_fair`]. Each unit that
+//!   it puts in class 2 has the place of a connection at the tap, whose CR it answers or whose line it is of. A DC for a DR that
+//!   closed nothing has none, and is not taken for the answer on another connection: its SRC-REF is a reference that the end has
+//!   closed, and the unit which closed that one passes first. In class 0 it puts DTs alone.
 //!
 //! What is not here: the last two of these laws for a called end, and for an end that offers class 0 too; the last one after a DR
 //! that closes nothing (it refuses a CR, crosses a DR, or has the wrong references); and the way from packets to pieces of
