@@ -251,7 +251,8 @@ module _ (r peer : ℕ) (s : State) (link : Standing) (here : value_at r s.live 
         );
       })
 
-  follows_linked : (unit : Value) → RiseFrom 0 s.live → Follows r peer (unit ∷ []) (put_linked r peer link unit s.class) s (to_linked r peer link unit s)
+  follows_linked : (unit : Value) → RiseFrom 0 s.live →
+      Follows r peer (unit ∷ []) (put_linked r peer link unit s.class) s (to_linked r peer link unit s)
   follows_linked (disconnect destination source reason user) rise = follows_disconnect destination source reason user rise
   follows_linked (request c) rise = follows_taking (request c) (taken link (request c)) refl
   follows_linked (confirm destination c) rise = follows_taking (confirm destination c) (taken link (confirm destination c)) refl
@@ -338,7 +339,8 @@ put_two_is : (is_caller : Bool) (unit : Value) (s : State) (r : ℕ) → destina
     put_in_two is_caller unit s ≡ put_to (Some r) unit s
 put_two_is true (request c) s r e = ap (λ (o : Option ℕ). put_to o (request c) s) e
 put_two_is true (confirm destination c) s r e = ap (λ (o : Option ℕ). put_to o (confirm destination c) s) e
-put_two_is true (disconnect destination source reason user) s r e = ap (λ (o : Option ℕ). put_to o (disconnect destination source reason user) s) e
+put_two_is true (disconnect destination source reason user) s r e =
+    ap (λ (o : Option ℕ). put_to o (disconnect destination source reason user) s) e
 put_two_is true (disconnected destination source) s r e = ap (λ (o : Option ℕ). put_to o (disconnected destination source) s) e
 put_two_is true (data0 end user) s r e = ap (λ (o : Option ℕ). put_to o (data0 end user) s) e
 put_two_is true (data2 destination number end user) s r e = ap (λ (o : Option ℕ). put_to o (data2 destination number end user) s) e
@@ -346,7 +348,8 @@ put_two_is true (acknowledge credit destination number) s r e = ap (λ (o : Opti
 put_two_is true (error destination cause) s r e = ap (λ (o : Option ℕ). put_to o (error destination cause) s) e
 put_two_is false (request c) s r e = cc
 put_two_is false (confirm destination c) s r e = ap (λ (o : Option ℕ). put_to o (confirm destination c) s) e
-put_two_is false (disconnect destination source reason user) s r e = ap (λ (o : Option ℕ). put_to o (disconnect destination source reason user) s) e
+put_two_is false (disconnect destination source reason user) s r e =
+    ap (λ (o : Option ℕ). put_to o (disconnect destination source reason user) s) e
 put_two_is false (disconnected destination source) s r e = ap (λ (o : Option ℕ). put_to o (disconnected destination source) s) e
 put_two_is false (data0 end user) s r e = ap (λ (o : Option ℕ). put_to o (data0 end user) s) e
 put_two_is false (data2 destination number end user) s r e = ap (λ (o : Option ℕ). put_to o (data2 destination number end user) s) e
@@ -361,7 +364,8 @@ put_is unit s r two lasts e =
     ∙ put_two_is s.is_caller unit s r e
 
 pub follows_open : (unit : Value) (s : State) (r peer : ℕ) (link : Standing) → RiseFrom 0 s.live → s.class ≡ Some Two → s.ended ≡ None →
-    value_at r s.live ≡ Some (linked peer link) → destination_of unit ≡ Some r → Follows r peer (unit ∷ []) (put_for unit s) s (react unit s)
+    value_at r s.live ≡ Some (linked peer link) → destination_of unit ≡ Some r →
+    Follows r peer (unit ∷ []) (put_for unit s) s (react unit s)
 follows_open unit s r peer link rise two lasts here e =
     let after = react_is unit s r two lasts e ∙ ap (λ (o : Option Connection). to_connection r o unit s) here in
     let puts = put_is unit s r two lasts e ∙ ap (λ (o : Option Connection). put_at r o unit s.class) here in

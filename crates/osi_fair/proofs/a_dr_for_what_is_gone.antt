@@ -1,11 +1,14 @@
 -- A DR that a whole calling end takes for a reference that is gone closed nothing at the tap, whatever happens.
 -- For the law of that name.
 use Rattle.std.proofs.Common.{◌≡◌, ◌∙◌, ℕ, ◌+◌, ◌<◌, ◌≤◌, Bool, true, false, List, [], ◌∷◌, ◌++◌, map, refl, sym, ap, subst, arith}
-use Rattle.std.proofs.Common.{Option, Some, None, inl, is_some}
+use Rattle.std.proofs.Common.{Option, Some, None, inl, inr, ◌⊎◌, is_some}
+use Rattle.std.specs.Prelude.{◌==◌}
 use Rattle.std.specs.List.{AllByRecursion}
 use Rattle.std.proofs.lemmas.List.{append-nil}
 use Rattle.std.proofs.lemmas.Grind.{flat_map-append}
 use Rattle.osi_tpdu.specs.Value.{Value, Connect, request, confirm, disconnect, disconnected, data0, data2, acknowledge, error}
+use Rattle.osi_class.specs.declared.terms.Class.{Class}
+use Rattle.osi_class.specs.declared.terms.Class.TheVariants.{Two, Zero}
 use Rattle.osi_class.specs.declared.terms.Local.{Local}
 use Rattle.osi_carrier.specs.Calls.{open_link}
 use Rattle.osi_carrier.specs.React.{react}
@@ -17,25 +20,35 @@ use Rattle.osi_rules.specs.declared.connections.Connection.{Connection}
 use Rattle.osi_rules.specs.declared.courses.Course.{Course}
 use Rattle.osi_rules.specs.declared.directions.Direction.{Direction}
 use Rattle.osi_rules.specs.declared.directions.Direction.TheVariants.{Left, Right}
-use Rattle.osi_rules.specs.Sides.{begins}
-use Rattle.osi_rules.specs.Traffic.{State as Traffic, asked_by, is_stopped, packet_begins, takes}
+use Rattle.osi_rules.specs.Reaches.{is_applied, reach_of}
+use Rattle.osi_rules.specs.Sides.{begins, is_silent}
+use Rattle.osi_rules.specs.Traffic.{Outcome, State as Traffic, asked_by, class_for, course_after, found_on, packet_begins, reached, takes}
 use Rattle.osi_fair.specs.Asking.{asked_in, asks_with}
 use Rattle.osi_fair.specs.Naming.{Passing, packet, passes, rubbish, unit as passing}
 use Rattle.osi_fair.specs.Putting.{put_by, put_for}
-use Rattle.osi_fair.specs.Wholes.{Event, HappenAlong, Happens, Whole, arrives, begin, begins_other, begins_own, calls, passes_other}
+use Rattle.osi_fair.specs.Wholes.{Event, Happens, Whole, arrives, begin, begins_other, begins_own, calls, passes_other}
 use Rattle.osi_fair.specs.Wholes.{passes_own, passes_rubbish}
 use Rattle.osi_fair.proofs.a_reference_names_one_connection.{fresh_apart, no_item, passes_apart}
 use Rattle.osi_fair.proofs.a_request_of_a_whole_end_is_new.{Newer, still_newer, unit_gives}
 use Rattle.osi_fair.proofs.all_are_judged_unless_one_broke.{still_judged}
 use Rattle.osi_fair.proofs.how_a_calling_end_asks.{over_takes}
 use Rattle.osi_fair.proofs.references_of_requests_rise.{Rise, all_gives, closed_gives, ended_gives, not_less, sent_gives}
-use Rattle.osi_fair.proofs.what_a_calling_end_still_has.{IsLive, OffersTwo, all_last, call_after, closed_lasts, ended_lasts, new_live, sent_lasts}
+use Rattle.osi_fair.proofs.class_0_stays_selected.{zero_stays}
+use Rattle.osi_fair.proofs.what_a_calling_end_still_has.{IsLive, OffersTwo, SelectsTwo, all_last, call_after, closed_lasts, ended_lasts}
+use Rattle.osi_fair.proofs.what_a_calling_end_still_has.{new_live}
+use Rattle.osi_fair.proofs.what_a_calling_end_still_has.{sent_lasts}
 use Rattle.osi_fair.proofs.what_a_calling_end_still_has.{unit_after}
 use Rattle.osi_fair.proofs.what_holds_of_one_item.{HoldsOfEach, after_map, each_map}
-use Rattle.osi_fair.proofs.what_lasts_at_the_tap.{Lasts, lasts_passing}
+use Rattle.osi_fair.proofs.what_lasts_at_the_tap.{lasts_passing}
 use Rattle.osi_fair.proofs.what_stays_of_each_connection.{AreDistinct, IfAsked, IsLively, IsStarted, left_passes}
 use Rattle.osi_fair.proofs.what_stays_of_each_connection.{lively_stays, right_passes, started_stays}
-use Rattle.osi_fair.proofs.what_the_other_side_closes.{Came, IsDr, IsPlain, IsSane, Less, closed_by, closes as closes_one, stays, what_came}
+use Rattle.osi_fair.proofs.what_becomes_of_a_connection.{Answered, IsIdle, Told, answered, cc_waits, comes_for, not_selected, opens}
+use Rattle.osi_fair.proofs.what_becomes_of_a_connection.{refused}
+use Rattle.osi_fair.proofs.what_becomes_of_a_connection.{waits_on}
+use Rattle.osi_fair.proofs.what_keeps_names_apart.{Sound}
+use Rattle.osi_fair.proofs.what_the_other_side_closes.{Came, IsClear, IsDr, IsFirm, IsPlain, IsSane, Less, clear_of, closed_by}
+use Rattle.osi_fair.proofs.what_the_other_side_closes.{closes as closes_one, stays, what_came}
+use Rattle.osi_fair.proofs.which_units_are_for_a_connection.{is_dc}
 use Rattle.osi_fair.proofs.which_requests_are_put.{asked_among, call_asks, unit_asks}
 
 -- ---- what has come
@@ -132,11 +145,12 @@ no_more : (put more : List Value) → asked_among more ≡ [] → asked_among pu
 no_more put more none =
     sym (append-nil (asked_among put)) ∙ ap (λ (l : List ℕ). asked_among put ++ l) (sym none) ∙ sym (flat_map-append asked_in put more)
 
-taking : (w : Whole) (unit : Value) (later : List Value) → w.coming ≡ unit ∷ later → OffersTwo w.end → (react unit w.end).ended ≡ None →
+taking : (w : Whole) (unit : Value) (later : List Value) → w.coming ≡ unit ∷ later → OffersTwo w.end → SelectsTwo unit →
+    (react unit w.end).ended ≡ None →
     Lively w → Lively (record w { end = react unit w.end; put = w.put ++ put_for unit w.end; coming = later })
-taking w unit later e o lasts l =
+taking w unit later e o two lasts l =
     let t = react unit w.end in
-    let a = unit_after unit w.end o in
+    let a = unit_after unit w.end o two in
     let keeps : (m : ℕ) → Held w.end w.coming m → Held t later m = λ m h.
     (let (one, more) = subst (NoneFor m) e h.1 in (a.live lasts m h.0 one, more)) in
     let (first, firsts) = subst (Firsts (IsLive w.end)) e l.firsts in
@@ -166,7 +180,8 @@ no_request w call none given live l =
       known = known_more w.end.given t.given w.coming given l.known;
     }
 
-asking : (w : Whole) (calling called : Option (List ℕ)) → ((m : ℕ) → IsLive w.end m → IsLive (user_does (connects calling called) w.end) m) →
+asking : (w : Whole) (calling called : Option (List ℕ)) →
+    ((m : ℕ) → IsLive w.end m → IsLive (user_does (connects calling called) w.end) m) →
     Lively w → Lively (after_calling w (connects calling called))
 asking w calling called live l =
     let call = connects calling called in
@@ -306,8 +321,10 @@ came w v n l (closes_one q e p c at is dr tap) =
 
 pub record Holds (w : Whole) : Type 0 where
   pub newer : Newer w
-  pub offers : OffersTwo w.end
   pub sane : IsSane w.tap
+  -- the CCs that have come select class 2
+  pub offers : IsClear w.tap.course → OffersTwo w.end
+  pub selects : IsClear w.tap.course → AllByRecursion SelectsTwo w.coming
   pub lively : IsPlain w.tap.course → w.end.ended ≡ None → Lively w
 
 begun_started : (d : Direction) (c : Connection) → IsStarted c → IsStarted (begins d c)
@@ -361,18 +378,76 @@ sane_rubbish s h = record {
   distinct = h.distinct;
 }
 
-was_plain : (a b : Course) → Lasts a b → IsPlain b → IsPlain a
-was_plain a b l p = record { firm = l.firm p.firm; left = l.left p.left; right = l.right p.right; strays = l.strays p.strays }
+before_passing : (p : Passing) (s : Traffic) → IsPlain (passes p s).course → IsPlain s.course
+before_passing p s h =
+    let l = lasts_passing p s in record {
+      firm = l.firm h.firm;
+      left = l.left h.left;
+      right = l.right h.right;
+      strays = l.strays h.strays;
+      two = λ zero. h.two (zero_stays p s zero);
+    }
 
-pub before_passing : (p : Passing) (s : Traffic) → IsPlain (passes p s).course → IsPlain s.course
-before_passing p s h = was_plain s.course (passes p s).course (lasts_passing p s) h
+pub before_firm : (p : Passing) (s : Traffic) → IsFirm (passes p s).course → IsFirm s.course
+before_firm p s h =
+    let l = lasts_passing p s in record { firm = l.firm h.firm; left = l.left h.left; right = l.right h.right }
 
-pub not_over : (call : UserCall) (s : State) → OffersTwo s → (user_does call s).ended ≡ None → s.ended ≡ None
-not_over (connects calling called) s o h = h
-not_over (sends r tsdu) s o h = sym (sent_lasts r tsdu (open_link r s) s) ∙ h
-not_over (sends_all r tsdus) s o h = sym (all_last r tsdus s) ∙ h
-not_over (closes r reason) s o h = closed_lasts r reason (open_link r s) s h
-not_over (breaks reason) s o h = ended_lasts (is_some s.ended) reason s h
+-- and that class 0 is not selected
+pub before_clear : (p : Passing) (s : Traffic) → IsClear (passes p s).course → IsClear s.course
+before_clear p s h = record { sure = before_firm p s h.sure; two = λ zero. h.two (zero_stays p s zero) }
+
+-- ---- a CC of the other side passes
+
+two_of : (k : Option Class) → (k ≡ Some Zero → ⊥) → (k ≡ None) ⊎ (k ≡ Some Two)
+two_of None h = inl refl
+two_of (Some Two) h = inr refl
+two_of (Some Zero) h = absurd (h refl)
+
+pub class_of : (c : Course) → IsClear c → (c.class ≡ None) ⊎ (c.class ≡ Some Two)
+class_of c h = two_of c.class h.two
+
+same_content : (i m : ℕ) (y x : Connect) → confirm i y ≡ confirm m x → x ≡ y
+same_content i m y x e = cc
+
+same_class : (i m : ℕ) (y x : Connect) → confirm i y ≡ confirm m x → (y.class == 2) ≡ true → (x.class == 2) ≡ true
+same_class i m y x e h = ap (λ (z : Connect). z.class == 2) (same_content i m y x e) ∙ h
+
+module _ (s : Traffic) (sane : IsSane s) (clear : IsClear s.course) (v : Value) (after : IsClear (takes Right v s).state.course) where
+  by_answer : (t : Told v s (takes Right v s)) → (judged : t.c.is_judged ≡ true) (sound : Sound t.c) → Answered s t.c judged sound v →
+      SelectsTwo v
+  by_answer t judged sound (opens i y e fine two unused) m x is = same_class i m y x (sym e ∙ is) two
+  by_answer t judged sound (refused h none) m x is = absurd (none m x is)
+  by_answer t judged sound (waits_on dc same) m x is = absurd (cc (sym (ap is_dc is) ∙ dc))
+
+  cc_by : (t : Told v s (takes Right v s)) → (judged : t.c.is_judged ≡ true) (sound : Sound t.c) → (b : Bool) →
+      is_silent t.c.right.phase ≡ b → SelectsTwo v
+  cc_by t judged sound true e m x is =
+      let course_is = ap (λ (o : Outcome). o.state.course) t.is in
+      by_answer t judged sound (answered s t.c judged sound v t.n t.dest e
+      (not_selected s t.c judged sound v (λ h. after.two (ap (λ (k : Course). k.class) course_is ∙ h)))
+      (subst IsFirm course_is after.sure)) m x is
+  cc_by t judged sound false e m x is =
+      absurd (cc_waits s t.c judged sound m x e
+      (subst (λ (u : Value). IsFirm (reached Right (reach_of (class_for Right s.course) (found_on Right s t.c u))
+      (course_after Right t.c u (is_applied (found_on Right s t.c u)) s.course))) is
+      (subst IsFirm (ap (λ (o : Outcome). o.state.course) t.is) after.sure)))
+
+  by_told : Told v s (takes Right v s) ⊎ IsIdle v s (takes Right v s) → SelectsTwo v
+  by_told (inl t) =
+      let judged = sane.judged clear.sure.firm t.q t.c t.at in
+      cc_by t judged (sane.apart.sound t.q t.c t.at judged) (is_silent t.c.right.phase) refl
+  by_told (inr idle) = λ m x is. absurd (cc (sym (ap is_dc is) ∙ ap is_dc idle.dc))
+
+  selects_two : SelectsTwo v
+  selects_two =
+      by_told (comes_for s clear.sure.firm v clear.sure.left clear.sure.right (class_of s.course clear) after.sure)
+
+not_over : (call : UserCall) (s : State) → (user_does call s).ended ≡ None → s.ended ≡ None
+not_over (connects calling called) s h = h
+not_over (sends r tsdu) s h = sym (sent_lasts r tsdu (open_link r s) s) ∙ h
+not_over (sends_all r tsdus) s h = sym (all_last r tsdus s) ∙ h
+not_over (closes r reason) s h = closed_lasts r reason (open_link r s) s h
+not_over (breaks reason) s h = ended_lasts (is_some s.ended) reason s h
 
 abbrev after_arriving : Whole → Value → List Value → Whole
 after_arriving w unit later = record w { end = react unit w.end; put = w.put ++ put_for unit w.end; coming = later }
@@ -382,24 +457,32 @@ holds_taking : (w : Whole) (unit : Value) (later : List Value) → w.coming ≡ 
     Holds (record w { end = react unit w.end; put = w.put ++ put_for unit w.end; coming = later })
 holds_taking w unit later e h n = record {
   newer = n;
-  offers = (unit_after unit w.end h.offers).offers;
+  offers = λ clear. (unit_after unit w.end (h.offers clear) (subst (AllByRecursion SelectsTwo) e (h.selects clear)).0).offers;
+  selects = λ clear. (subst (AllByRecursion SelectsTwo) e (h.selects clear)).1;
   sane = h.sane;
   lively = λ plain lasts.
-      taking w unit later e h.offers lasts (h.lively plain (lasted unit w.end (is_some w.end.ended) refl lasts));
+      taking w unit later e (h.offers (clear_of w.tap.course plain))
+      (subst (AllByRecursion SelectsTwo) e (h.selects (clear_of w.tap.course plain))).0 lasts
+      (h.lively plain (lasted unit w.end (is_some w.end.ended) refl lasts));
 }
 
 holds_calling : (w : Whole) (call : UserCall) → Holds w → Newer (after_calling w call) → Holds (after_calling w call)
-holds_calling w call h n =
-    let a = call_after call w.end h.offers in
-    record {
-      newer = n;
-      offers = a.offers;
-      sane = h.sane;
-      lively = λ plain lasts. calling_by call w (a.live lasts) (h.lively plain (not_over call w.end h.offers lasts));
-    }
+holds_calling w call h n = record {
+  newer = n;
+  sane = h.sane;
+  offers = λ clear. (call_after call w.end (h.offers clear)).offers;
+  selects = h.selects;
+  lively = λ plain lasts.
+      calling_by call w ((call_after call w.end (h.offers (clear_of w.tap.course plain))).live lasts)
+      (h.lively plain (not_over call w.end lasts));
+}
 
 started_asked : (v : Value) (x : Connect) → v ≡ request x → IsStarted (asked_by x)
 started_asked v x e = refl
+
+selects_add : (vs : List Value) (v : Value) → AllByRecursion SelectsTwo vs → SelectsTwo v → AllByRecursion SelectsTwo (vs ++ v ∷ [])
+selects_add [] v h k = (k, tt)
+selects_add (u ∷ vs) v (one, more) k = (one, selects_add vs v more k)
 
 pub next_holds : (event : Event) (w new : Whole) → Happens Left event w new → Holds w → Holds new
 next_holds arrives w new (unit, coming, is) h =
@@ -411,7 +494,8 @@ next_holds begins_own w new (some, not_begun, is) h =
     let after = record w { begun = true; tap = packet_begins Left w.tap } in
     subst Holds (sym is) (record {
       newer = still_newer begins_own w after (some, not_begun, refl) h.newer;
-      offers = h.offers;
+      offers = λ clear. h.offers (before_clear (packet Left) w.tap clear);
+      selects = λ clear. h.selects (before_clear (packet Left) w.tap clear);
       sane = sane_begins Left w.tap h.sane;
       lively = λ plain lasts. beginning Left w true (h.lively (before_passing (packet Left) w.tap plain) lasts);
     })
@@ -419,7 +503,8 @@ next_holds passes_own w new (v, put, begun, is) h =
     let after = record w { put = new.put; begun = false; tap = (takes Left v w.tap).state } in
     subst Holds (sym is) (record {
       newer = still_newer passes_own w after (v, put, begun, refl) h.newer;
-      offers = h.offers;
+      offers = λ clear. h.offers (before_clear (passing Left v) w.tap clear);
+      selects = λ clear. h.selects (before_clear (passing Left v) w.tap clear);
       sane = sane_left v w.tap (above w v new.put put h.newer IsStarted (started_asked v)) h.sane;
       lively = λ plain lasts. own w v new.put put h.newer h.sane.distinct (h.lively (before_passing (passing Left v) w.tap plain) lasts);
     })
@@ -427,39 +512,42 @@ next_holds begins_other w new is h =
     let after = record w { tap = packet_begins Right w.tap } in
     subst Holds (sym is) (record {
       newer = still_newer begins_other w after refl h.newer;
-      offers = h.offers;
+      offers = λ clear. h.offers (before_clear (packet Right) w.tap clear);
+      selects = λ clear. h.selects (before_clear (packet Right) w.tap clear);
       sane = sane_begins Right w.tap h.sane;
       lively = λ plain lasts. beginning Right w w.begun (h.lively (before_passing (packet Right) w.tap plain) lasts);
     })
 next_holds (passes_other v) w new (ranges, is) h =
     subst Holds (sym is) (record {
       newer = still_newer (passes_other v) w (after_other w v) (ranges, refl) h.newer;
-      offers = h.offers;
+      offers = λ clear. h.offers (before_clear (passing Right v) w.tap clear);
+      selects = λ clear_after.
+          let clear = before_clear (passing Right v) w.tap clear_after in
+          selects_add w.coming v (h.selects clear) (selects_two w.tap h.sane clear v clear_after);
       sane = sane_right v w.tap h.sane;
       lively = λ plain lasts.
           let before = before_passing (passing Right v) w.tap plain in
           let l = h.lively before lasts in
-          came w v h.newer l (what_came (Held w.end w.coming) w.tap h.sane l.tap before.firm before.strays before.left v before.right plain);
+          came w v h.newer l (what_came
+          (Held w.end w.coming) w.tap h.sane l.tap before.firm before.strays before.left v before.right plain);
     })
 next_holds passes_rubbish w new is h =
     let after = record w { tap = passes (rubbish Right) w.tap } in
     subst Holds (sym is) (record {
       newer = still_newer passes_rubbish w after refl h.newer;
-      offers = h.offers;
+      offers = λ clear. h.offers (before_clear (rubbish Right) w.tap clear);
+      selects = λ clear. h.selects (before_clear (rubbish Right) w.tap clear);
       sane = sane_rubbish w.tap h.sane;
       lively = λ plain lasts.
           let l = h.lively (before_passing (rubbish Right) w.tap plain) lasts in
           record { tap = l.tap; requests = l.requests; firsts = l.firsts; known = l.known };
     })
 
-all_hold : (events : List Event) (w new : Whole) → HappenAlong Left w events new → Holds w → Holds new
-all_hold [] w new e h = subst Holds (sym e) h
-all_hold (event ∷ events) w new (mid, first, more) h = all_hold events mid new more (next_holds event w mid first h)
-
-pub first_holds : (local : Local) → local.class0 ≡ false → local.class2 ≡ true → Holds (begin true local)
-first_holds local zero two = record {
+pub first_holds : (local : Local) → local.class2 ≡ true → Holds (begin true local)
+first_holds local two = record {
   newer = record { last = 0; below = λ i c at. no_item i c at; rise = tt; up = tt; given = omega arith };
-  offers = record { caller = refl; zero = zero; two = two; class = inl refl };
+  offers = λ clear. record { caller = refl; two = two; class = inl refl };
+  selects = λ clear. tt;
   sane = record {
     apart = fresh_apart;
     judged = λ firm i c at. no_item i c at;
@@ -476,19 +564,17 @@ gone_not None h e = absurd (cc h)
 gone_not (Some x) h e = absurd (cc e)
 
 strays_by : (b : Bool) (w : Whole) (n source reason : ℕ) (user : List ℕ) (more : List Value) → w.tap.course.strays ≡ b → Holds w →
-    w.coming ≡ disconnect n source reason user ∷ more → w.end.ended ≡ None → value_at n w.end.live ≡ None →
-    w.tap.course.left_stopped ≡ false → w.tap.course.right_stopped ≡ false → w.tap.course.loose ≡ false → b ≡ true
-strays_by true w n source reason user more e h coming lasts gone left right firm = refl
-strays_by false w n source reason user more e h coming lasts gone left right firm =
-    let l = h.lively (record { firm = firm; left = left; right = right; strays = e }) lasts in
+    w.coming ≡ disconnect n source reason user ∷ more → w.end.ended ≡ None → value_at n w.end.live ≡ None → IsClear w.tap.course →
+    b ≡ true
+strays_by true w n source reason user more e h coming lasts gone clear = refl
+strays_by false w n source reason user more e h coming lasts gone clear =
+    let sure = clear.sure in
+    let l = h.lively (record { firm = sure.firm; left = sure.left; right = sure.right; strays = e; two = clear.two }) lasts in
     let (first, others) = subst (Firsts (IsLive w.end)) coming l.firsts in
     gone_not (value_at n w.end.live) (first tt n refl) gone
 
-pub gone_strays : (local : Local) (events : List Event) (w : Whole) (n source reason : ℕ) (user : List ℕ) (more : List Value) →
-    local.class0 ≡ false → local.class2 ≡ true → HappenAlong Left (begin true local) events w →
-    w.coming ≡ disconnect n source reason user ∷ more → w.end.ended ≡ None → value_at n w.end.live ≡ None →
-    is_stopped Left w.tap.course ≡ false → is_stopped Right w.tap.course ≡ false → w.tap.course.loose ≡ false →
+pub gone_strays : (w : Whole) (n source reason : ℕ) (user : List ℕ) (more : List Value) → Holds w →
+    w.coming ≡ disconnect n source reason user ∷ more → w.end.ended ≡ None → value_at n w.end.live ≡ None → IsClear w.tap.course →
     w.tap.course.strays ≡ true
-gone_strays local events w n source reason user more zero two along coming lasts gone left right firm =
-    strays_by w.tap.course.strays w n source reason user more refl
-    (all_hold events (begin true local) w along (first_holds local zero two)) coming lasts gone left right firm
+gone_strays w n source reason user more h coming lasts gone clear =
+    strays_by w.tap.course.strays w n source reason user more refl h coming lasts gone clear

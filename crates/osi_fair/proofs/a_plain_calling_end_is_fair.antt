@@ -1,38 +1,50 @@
--- A whole calling end of class 2 is fair as long as the tap is plain: by induction over what happens.
+-- A whole calling end is fair in class 2 as long as the other side has broken no rule: by induction over what happens.
 -- For the law of that name.
 use Rattle.std.proofs.Common.{◌≡◌, ◌∙◌, ℕ, Bool, true, false, List, [], ◌∷◌, ◌++◌, refl, sym, ap, subst}
 use Rattle.std.proofs.Common.{Option, Some, None, inl, inr, ◌⊎◌, is_some}
 use Rattle.std.specs.List.{AllByRecursion}
-use Rattle.osi_tpdu.specs.Value.{Value, HasFieldsInRange}
+use Rattle.osi_tpdu.specs.Value.{Value, HasFieldsInRange, disconnect, disconnected, request}
 use Rattle.osi_class.specs.declared.terms.Class.{Class}
 use Rattle.osi_class.specs.declared.terms.Class.TheVariants.{Two, Zero}
 use Rattle.osi_class.specs.declared.terms.Local.{Local}
 use Rattle.osi_carrier.specs.Orderly.{IsOrderly}
 use Rattle.osi_carrier.specs.React.{react}
 use Rattle.osi_carrier.specs.Runs.{UserCall, breaks, closes, connects, sends, sends_all, user_does}
+use Rattle.osi_carrier.specs.Rows.{value_at}
 use Rattle.osi_carrier.specs.State.{State}
-use Rattle.osi_carrier.proofs.effects.a_unit_touches_one_connection.{orderly_asks, orderly_closed, orderly_ended, orderly_fresh, orderly_sent}
+use Rattle.osi_carrier.proofs.effects.a_unit_touches_one_connection.{orderly_asks, orderly_closed, orderly_ended, orderly_fresh}
+use Rattle.osi_carrier.proofs.effects.a_unit_touches_one_connection.{orderly_sent}
 use Rattle.osi_carrier.proofs.effects.a_unit_touches_one_connection.{orderly_sent_all, orderly_unit}
 use Rattle.osi_rules.specs.declared.courses.Course.{Course}
 use Rattle.osi_rules.specs.declared.directions.Direction.TheVariants.{Left, Right}
-use Rattle.osi_rules.specs.declared.findings.Finding.TheVariants.{Kept, TooMany}
+use Rattle.osi_rules.specs.declared.findings.Finding.TheVariants.{Kept, NotJudged, TooMany}
 use Rattle.osi_rules.specs.Reaches.{reach_by}
-use Rattle.osi_rules.specs.Traffic.{is_stopped, packet_begins, reached, takes}
+use Rattle.osi_rules.specs.declared.connections.Connection.{Connection}
+use Rattle.osi_rules.specs.Traffic.{is_stopped, packet_begins, reached, refused_reach, takes}
 use Rattle.osi_fair.specs.Naming.{packet, passes, rubbish, unit as passing}
 use Rattle.osi_fair.specs.Putting.{put_by, put_for}
-use Rattle.osi_fair.specs.Wholes.{Event, HappenAlong, Happens, MayCall, Whole, arrives, begin, begins_other, begins_own, calls, passes_other}
+use Rattle.osi_fair.specs.Wholes.{Event, HappenAlong, Happens, MayCall, Whole, arrives, begin, begins_other, begins_own, calls}
+use Rattle.osi_fair.specs.Wholes.{passes_other}
 use Rattle.osi_fair.specs.Wholes.{passes_own, passes_rubbish}
-use Rattle.osi_fair.proofs.a_dr_for_what_is_gone.{Firsts, Holds as Kept_so, before_passing, first_holds, lasted, next_holds}
+use Rattle.osi_fair.proofs.a_dr_for_what_is_gone.{Firsts, Holds as Kept_so, before_clear, first_holds, gone_strays, lasted}
+use Rattle.osi_fair.proofs.a_dr_for_what_is_gone.{next_holds}
+use Rattle.osi_fair.proofs.a_dc_for_a_stray_dr_passes.{Passes, dc_found, dc_goes, dc_passes}
+use Rattle.osi_fair.proofs.a_stray_dc_of_the_other_side_passes.{idle_passes}
 use Rattle.osi_fair.proofs.a_reference_names_one_connection.{no_item}
+use Rattle.osi_fair.proofs.class_0_is_selected_if_offered.{not_zero_after}
+use Rattle.osi_fair.proofs.class_0_stays_selected.{reached_class, zero_stays}
+use Rattle.osi_fair.proofs.left_selects_no_class.{left_class}
 use Rattle.osi_fair.proofs.a_unit_of_a_whole_end_passes.{own_kept, own_passes, request_passes}
 use Rattle.osi_fair.proofs.a_unit_of_the_other_side_passes.{other_passes}
 use Rattle.osi_fair.proofs.a_whole_end_ends.{whole_calls, whole_takes}
-use Rattle.osi_fair.proofs.each_connection_has_its_line.{Followed, IsOwned, asking, of, other_begins, own_begins}
+use Rattle.osi_fair.proofs.each_connection_has_its_line.{Followed, IsOwned, asking, of, other_begins, own_begins, stray}
 use Rattle.osi_fair.proofs.no_request_is_blamed.{Holds as Staged, holds_first, holds_next, is_right}
-use Rattle.osi_fair.proofs.what_a_calling_end_still_has.{IsLive, call_after, unit_after}
-use Rattle.osi_fair.proofs.what_becomes_of_a_connection.{comes_for}
-use Rattle.osi_fair.proofs.what_the_other_side_closes.{IsDr, IsPlain, closed_by}
-use Rattle.osi_fair.proofs.which_units_are_for_a_connection.{heads, named_so}
+use Rattle.osi_fair.proofs.the_end_is_judged_as_the_other_side_is.{IsMild, other_judged, own_judged, rubbish_judged}
+use Rattle.osi_fair.proofs.what_a_calling_end_still_has.{IsLive, SelectsTwo, call_after, unit_after}
+use Rattle.osi_fair.proofs.what_becomes_of_a_connection.{IsIdle, Told, comes_for}
+use Rattle.osi_fair.proofs.what_holds_of_one_item.{HoldsOfEach}
+use Rattle.osi_fair.proofs.what_lasts_at_the_tap.{lasts_passing}
+use Rattle.osi_fair.proofs.what_the_other_side_closes.{IsClear, IsDr, IsFirm, IsPlain, IsSane, closed_by}
 
 differ : {A : Type 0} (b : Bool) → b ≡ true → b ≡ false → A
 differ b h k = absurd (cc)
@@ -43,8 +55,12 @@ record Joined (local : Local) (w : Whole) : Type 0 where
   staged : Staged w
   kept : Kept_so w
   orderly : IsOrderly w.end
-  local_is : w.end.local ≡ local
-  followed : IsPlain w.tap.course → Followed local w
+  local_is : IsClear w.tap.course → w.end.local ≡ local
+  followed : IsClear w.tap.course → Followed local w
+  -- class 0 is selected only if it was offered
+  never : local.class0 ≡ false → w.tap.course.loose ≡ false → w.tap.course.right_stopped ≡ false → w.tap.course.class ≡ Some Zero → ⊥
+  judged : (w.tap.course.class ≡ Some Zero → ⊥) → w.tap.course.loose ≡ false → w.tap.course.right_stopped ≡ false →
+      w.tap.course.left_stopped ≡ false
 
 orderly_calls : (call : UserCall) (s : State) → MayCall call s → IsOrderly s → IsOrderly (user_does call s)
 orderly_calls (connects calling called) s may h = orderly_asks calling called s may h
@@ -57,54 +73,174 @@ head_live : (w : Whole) (u : Value) (later : List Value) → w.coming ≡ u ∷ 
     IsDr u → (n : ℕ) → closed_by u ≡ Some n → IsLive w.end n
 head_live w u later e firsts = (subst (Firsts (IsLive w.end)) e firsts).0
 
-module _ (local : Local) (w : Whole) (j : Joined local w) where
-  taking : (u : Value) (later : List Value) → w.coming ≡ u ∷ later → IsPlain w.tap.course →
-      Followed local (record w { end = react u w.end; put = w.put ++ put_for u w.end; coming = later })
-  taking u later e plain =
-      whole_takes local w (j.followed plain) j.kept.sane plain.firm j.kept.offers j.orderly j.local_is u later e
-      (lasted u w.end (is_some w.end.ended) refl) (λ was. head_live w u later e (j.kept.lively plain was).firsts)
+plain_of : (c : Course) → IsClear c → c.strays ≡ false → IsPlain c
+plain_of c h strays = record { firm = h.sure.firm; left = h.sure.left; right = h.sure.right; strays = strays; two = h.two }
 
-  calling : (call : UserCall) → MayCall call w.end → IsPlain w.tap.course →
+module _ (local : Local) (w : Whole) (j : Joined local w) where
+  -- a DR that the end takes is for a connection that it has, or a DR that closed nothing has passed
+  known_by : (b : Bool) → w.tap.course.strays ≡ b → IsClear w.tap.course → (u : Value) (later : List Value) → w.coming ≡ u ∷ later →
+      w.end.ended ≡ None → IsDr u → (n : ℕ) → closed_by u ≡ Some n → IsLive w.end n ⊎ (w.tap.course.strays ≡ true)
+  known_by true e firm u later come was dr n k = inr e
+  known_by false e firm u later come was dr n k =
+      inl (head_live w u later come (j.kept.lively (plain_of w.tap.course firm e) was).firsts dr n k)
+
+  taking : (u : Value) (later : List Value) → w.coming ≡ u ∷ later → IsClear w.tap.course →
+      Followed local (record w { end = react u w.end; put = w.put ++ put_for u w.end; coming = later })
+  taking u later e firm =
+      whole_takes local w (j.followed firm) j.kept.sane firm.sure.firm (j.kept.offers firm) j.orderly (j.local_is firm) u later e
+      (lasted u w.end (is_some w.end.ended) refl) (λ was. known_by w.tap.course.strays refl firm u later e was)
+      (subst (AllByRecursion SelectsTwo) e (j.kept.selects firm)).0
+
+  calling : (call : UserCall) → MayCall call w.end → IsClear w.tap.course →
       Followed local (record w { end = user_does call w.end; put = w.put ++ put_by call w.end })
-  calling call may plain =
-      whole_calls local w (j.followed plain) j.kept.sane plain.firm j.kept.offers j.orderly j.local_is call may j.staged.newer
+  calling call may firm =
+      whole_calls local w (j.followed firm) j.kept.sane firm.sure.firm (j.kept.offers firm) j.orderly
+      (j.local_is firm) call may j.staged.newer
+
+  all_judged : IsClear w.tap.course → HoldsOfEach (λ (c : Connection). c.is_judged ≡ true) w.tap.connections
+  all_judged firm i c at = j.kept.sane.judged firm.sure.firm i c at
+
+  -- what is found of a DC for a DR that closed nothing
+  dc_passing : (m source : ℕ) → w.tap.course.strays ≡ true → IsClear w.tap.course →
+      Passes m source w.tap (takes Left (disconnected m source) w.tap)
+  dc_passing m source strays firm = dc_passes m source w.tap firm.sure.firm strays firm.sure.left (all_judged firm)
 
   own_by : (v : Value) (rest : List Value) → w.put ≡ v ∷ rest → w.begun ≡ true → (after : Kept_so (record w {
     put = rest;
     begun = false;
     tap = (takes Left v w.tap).state;
-  })) → IsPlain (takes Left v w.tap).state.course → IsPlain w.tap.course →
-      (f : Followed local w) → IsOwned w.tap.connections v →
+  })) → IsClear (takes Left v w.tap).state.course → IsClear w.tap.course →
+      (f : Followed local w) → IsOwned w.tap v →
       Followed local (record w { put = rest; begun = false; tap = (takes Left v w.tap).state })
-  own_by v rest e begun after plain_after plain f (asking x is) =
+  own_by v rest e begun after firm_after firm f (asking x is) =
       subst (λ (u : Value). Followed local (record w { put = rest; begun = false; tap = (takes Left u w.tap).state })) (sym is)
-      (request_passes local w f j.kept.sane plain.firm x rest (e ∙ ap (λ (u : Value). u ∷ rest) is))
-  own_by v rest e begun after plain_after plain f (of n p c dest at tracked is) =
-      own_passes local w f j.kept.sane plain.firm v rest n p c e begun plain.left
-      (f.seen n begun (ap (λ (l : List Value). heads n l) e ∙ named_so n v dest)) dest at tracked is after.sane plain_after.firm
+      (request_passes local w f j.kept.sane firm.sure.firm x rest (e ∙ ap (λ (u : Value). u ∷ rest) is))
+  own_by v rest e begun after firm_after firm f (of p c at tracked own) =
+      own_passes local w f j.kept.sane firm.sure.firm v rest p c e begun firm.sure.left at tracked own after.sane firm_after.sure.firm
+  own_by v rest e begun after firm_after firm f (stray m source is strays) =
+      let sane_after = subst (λ (u : Value). IsSane (takes Left u w.tap).state) is after.sane in
+      let loose_after = subst (λ (u : Value). (takes Left u w.tap).state.course.loose ≡ false) is firm_after.sure.firm in
+      subst (λ (u : Value). Followed local (record w { put = rest; begun = false; tap = (takes Left u w.tap).state })) (sym is)
+      (dc_goes local w f j.kept.sane firm.sure.firm m source rest
+      (e ∙ ap (λ (u : Value). u ∷ rest) is) begun firm.sure.left sane_after loose_after
+      (dc_passing m source strays firm))
 
-  other_by : (v : Value) → HasFieldsInRange v → IsPlain (takes Right v w.tap).state.course →
+  other_by : (v : Value) → HasFieldsInRange v → IsClear (takes Right v w.tap).state.course → (f : Followed local w) → IsClear w.tap.course →
+      Told v w.tap (takes Right v w.tap) ⊎ IsIdle v w.tap (takes Right v w.tap) →
       Followed local (record w { tap = (takes Right v w.tap).state; coming = w.coming ++ v ∷ [] })
-  other_by v ranges plain_after =
-      let plain = before_passing (passing Right v) w.tap plain_after in
-      let f = j.followed plain in
-      other_passes local w f j.kept.sane plain.firm plain.strays j.staged.newer v ranges
-      (comes_for w.tap plain.firm plain.strays v plain.left plain.right f.zero plain_after) plain_after
+  other_by v ranges firm_after f firm (inl told) =
+      other_passes local w f j.kept.sane firm.sure.firm j.staged.newer v ranges told firm_after.sure firm_after.two
+  other_by v ranges firm_after f firm (inr idle) = idle_passes local w f j.kept.sane firm.sure.firm v ranges idle
+
+  other_goes : (v : Value) → HasFieldsInRange v → IsClear (takes Right v w.tap).state.course →
+      Followed local (record w { tap = (takes Right v w.tap).state; coming = w.coming ++ v ∷ [] })
+  other_goes v ranges firm_after =
+      let firm = before_clear (passing Right v) w.tap firm_after in
+      let f = j.followed firm in
+      other_by v ranges firm_after f firm (comes_for w.tap firm.sure.firm v firm.sure.left firm.sure.right f.zero firm_after.sure)
 
   not_zero : {A : Type 0} (k : Option Class) → (k ≡ None) ⊎ (k ≡ Some Two) → k ≡ Some Zero → A
   not_zero k (inl e) h = absurd (cc (sym e ∙ h))
   not_zero k (inr e) h = absurd (cc (sym e ∙ h))
 
-  rubbish_not : (k : Option Class) → (k ≡ None) ⊎ (k ≡ Some Two) → (c : Course) → IsPlain (reached Right (reach_by k false) c) → ⊥
-  rubbish_not None e c h = differ true refl h.left
-  rubbish_not (Some Two) e c h = differ true refl h.left
+  rubbish_not : (k : Option Class) → (k ≡ None) ⊎ (k ≡ Some Two) → (c : Course) → IsClear (reached Right (reach_by k false) c) → ⊥
+  rubbish_not None e c h = differ true refl h.sure.left
+  rubbish_not (Some Two) e c h = differ true refl h.sure.left
   rubbish_not (Some Zero) e c h = not_zero (Some Zero) e refl
 
-  rubbish_by : IsPlain (passes (rubbish Right) w.tap).course →
+  rubbish_by : IsClear (passes (rubbish Right) w.tap).course →
       Followed local (record w { tap = passes (rubbish Right) w.tap })
-  rubbish_by plain_after =
-      let plain = before_passing (rubbish Right) w.tap plain_after in
-      absurd (rubbish_not w.tap.course.class (j.followed plain).zero w.tap.course plain_after)
+  rubbish_by firm_after =
+      let firm = before_clear (rubbish Right) w.tap firm_after in
+      absurd (rubbish_not w.tap.course.class (j.followed firm).zero w.tap.course firm_after)
+
+-- ---- the unit that is passing
+
+-- It is right, or a CR and there are too many connections, or a DC that is not judged, since a DR has closed nothing.
+abbrev IsFine : Whole → Value → Type 0
+IsFine w v = ((takes Left v w.tap).told.finding ≡ Kept) ⊎ (((takes Left v w.tap).told.finding ≡ TooMany)
+    ⊎ (((takes Left v w.tap).told.finding ≡ NotJudged) × (w.tap.course.strays ≡ true)))
+
+fine_request : (w : Whole) (v : Value) →
+    ((takes Left v w.tap).told.finding ≡ Kept) ⊎ ((takes Left v w.tap).told.finding ≡ TooMany) → IsFine w v
+fine_request w v (inl e) = inl e
+fine_request w v (inr e) = inr (inl e)
+
+fine_dc : (w : Whole) (v : Value) → w.tap.course.strays ≡ true →
+    ((takes Left v w.tap).told.finding ≡ Kept) ⊎ ((takes Left v w.tap).told.finding ≡ NotJudged) → IsFine w v
+fine_dc w v strays (inl e) = inl e
+fine_dc w v strays (inr e) = inr (inr (e, strays))
+
+fine_by : (local : Local) (w : Whole) (v : Value) (rest : List Value) → Joined local w → w.put ≡ v ∷ rest → w.begun ≡ true →
+    IsClear w.tap.course → IsOwned w.tap v → IsFine w v
+fine_by local w v rest j e begun firm (asking x is) =
+    subst (λ (u : Value). IsFine w u) (sym is)
+    (fine_request w (request x) (is_right x rest w (e ∙ ap (λ (u : Value). u ∷ rest) is) begun firm.sure.left j.staged.newer
+    (j.staged.stage firm.sure.left)))
+fine_by local w v rest j e begun firm (of p c at tracked own) =
+    inl (own_kept local w (j.followed firm) j.kept.sane firm.sure.firm v rest p c e begun firm.sure.left at tracked own)
+fine_by local w v rest j e begun firm (stray m source is strays) =
+    subst (λ (u : Value). IsFine w u) (sym is) (fine_dc w (disconnected m source) strays
+    (dc_found local w (j.followed firm) j.kept.sane firm.sure.firm m source rest (e ∙ ap (λ (u : Value). u ∷ rest) is) begun firm.sure.left
+    (dc_passing local w j m source strays firm)))
+
+mild_of : (w : Whole) (v : Value) → IsFine w v → IsMild (takes Left v w.tap).told.finding
+mild_of w v (inl e) = inl e
+mild_of w v (inr (inl e)) = inr (inl e)
+mild_of w v (inr (inr (e, strays))) = inr (inr e)
+
+-- ---- whatever happens
+
+-- the end is judged as the other side is
+abbrev IsJudged : Course → Type 0
+IsJudged c = (c.class ≡ Some Zero → ⊥) → c.loose ≡ false → c.right_stopped ≡ false → c.left_stopped ≡ false
+
+clear_by : (c : Course) → IsJudged c → (c.class ≡ Some Zero → ⊥) → c.loose ≡ false → c.right_stopped ≡ false → IsClear c
+clear_by c h two firm right = record { sure = record { firm = firm; left = h two firm right; right = right }; two = two }
+
+own_stays : (local : Local) (w : Whole) (v : Value) (rest : List Value) → Joined local w → w.put ≡ v ∷ rest → w.begun ≡ true →
+    IsJudged (takes Left v w.tap).state.course
+own_stays local w v rest j e begun two firm right =
+    let l = lasts_passing (passing Left v) w.tap in
+    let before = clear_by w.tap.course j.judged (λ zero. two (zero_stays (passing Left v) w.tap zero)) (l.firm firm) (l.right right) in
+    let head = (subst (AllByRecursion (IsOwned w.tap)) e (j.followed before).owned).0 in
+    own_judged v w.tap (mild_of w v (fine_by local w v rest j e begun before head)) before.sure.left right
+
+other_stays : (local : Local) (w : Whole) (v : Value) → Joined local w → IsJudged (takes Right v w.tap).state.course
+other_stays local w v j two firm right =
+    let l = lasts_passing (passing Right v) w.tap in
+    other_judged v w.tap (j.judged (λ zero. two (zero_stays (passing Right v) w.tap zero)) (l.firm firm) (l.right right)) right
+
+rubbish_stays : (local : Local) (w : Whole) → Joined local w → IsJudged (passes (rubbish Right) w.tap).course
+rubbish_stays local w j two firm right =
+    let l = lasts_passing (rubbish Right) w.tap in
+    rubbish_judged w.tap (j.judged (λ zero. two (zero_stays (rubbish Right) w.tap zero)) (l.firm firm) (l.right right)) right
+
+-- what passes selects class 0 only if that was offered
+own_never : (local : Local) (w : Whole) (v : Value) → Joined local w → local.class0 ≡ false →
+    (takes Left v w.tap).state.course.loose ≡ false → (takes Left v w.tap).state.course.right_stopped ≡ false →
+    (takes Left v w.tap).state.course.class ≡ Some Zero → ⊥
+own_never local w v j none firm right zero =
+    let l = lasts_passing (passing Left v) w.tap in
+    j.never none (l.firm firm) (l.right right) (sym (left_class v w.tap) ∙ zero)
+
+other_never : (local : Local) (w : Whole) (v : Value) → Joined local w → local.class0 ≡ false →
+    (takes Right v w.tap).state.course.loose ≡ false → (takes Right v w.tap).state.course.right_stopped ≡ false →
+    (takes Right v w.tap).state.course.class ≡ Some Zero → ⊥
+other_never local w v j none firm right zero =
+    let l = lasts_passing (passing Right v) w.tap in
+    let two = j.never none (l.firm firm) (l.right right) in
+    let clear = clear_by w.tap.course j.judged two (l.firm firm) (l.right right) in
+    let after : IsFirm (takes Right v w.tap).state.course =
+    record { firm = firm; left = other_judged v w.tap clear.sure.left right; right = right } in
+    not_zero_after local w (j.followed clear) j.kept.sane clear none v after zero
+
+rubbish_never : (local : Local) (w : Whole) → Joined local w → local.class0 ≡ false →
+    (passes (rubbish Right) w.tap).course.loose ≡ false → (passes (rubbish Right) w.tap).course.right_stopped ≡ false →
+    (passes (rubbish Right) w.tap).course.class ≡ Some Zero → ⊥
+rubbish_never local w j none firm right zero =
+    let l = lasts_passing (rubbish Right) w.tap in
+    j.never none (l.firm firm) (l.right right) (sym (reached_class Right (refused_reach Right w.tap) w.tap.course) ∙ zero)
 
 next_joined : (local : Local) (event : Event) (w new : Whole) → Happens Left event w new → Joined local w → Joined local new
 next_joined local arrives w new (u, coming, is) j =
@@ -113,8 +249,12 @@ next_joined local arrives w new (u, coming, is) j =
       staged = holds_next arrives w after (u, coming, refl) j.staged;
       kept = next_holds arrives w after (u, coming, refl) j.kept;
       orderly = orderly_unit u w.end j.orderly;
-      local_is = (unit_after u w.end j.kept.offers).local ∙ j.local_is;
-      followed = λ plain. taking local w j u new.coming coming plain;
+      local_is = λ clear. (unit_after u w.end (j.kept.offers clear)
+          (subst (AllByRecursion SelectsTwo) coming (j.kept.selects clear)).0).local
+          ∙ j.local_is clear;
+      never = j.never;
+      followed = λ firm. taking local w j u new.coming coming firm;
+      judged = j.judged;
     })
 next_joined local (calls call) w new (may, is) j =
     let after = record w { end = user_does call w.end; put = w.put ++ put_by call w.end } in
@@ -122,8 +262,10 @@ next_joined local (calls call) w new (may, is) j =
       staged = holds_next (calls call) w after (may, refl) j.staged;
       kept = next_holds (calls call) w after (may, refl) j.kept;
       orderly = orderly_calls call w.end may j.orderly;
-      local_is = (call_after call w.end j.kept.offers).local ∙ j.local_is;
-      followed = λ plain. calling local w j call may plain;
+      local_is = λ clear. (call_after call w.end (j.kept.offers clear)).local ∙ j.local_is clear;
+      never = j.never;
+      followed = λ firm. calling local w j call may firm;
+      judged = j.judged;
     })
 next_joined local begins_own w new (some, not_begun, is) j =
     let after = record w { begun = true; tap = packet_begins Left w.tap } in
@@ -131,8 +273,12 @@ next_joined local begins_own w new (some, not_begun, is) j =
       staged = holds_next begins_own w after (some, not_begun, refl) j.staged;
       kept = next_holds begins_own w after (some, not_begun, refl) j.kept;
       orderly = j.orderly;
-      local_is = j.local_is;
-      followed = λ plain. own_begins local w not_begun some (j.followed (before_passing (packet Left) w.tap plain));
+      local_is = λ clear. j.local_is (before_clear (packet Left) w.tap clear);
+      never = j.never;
+      followed = λ begun_firm.
+          let firm = before_clear (packet Left) w.tap begun_firm in
+          own_begins local w (all_judged local w j firm) not_begun some (j.followed firm);
+      judged = j.judged;
     })
 next_joined local passes_own w new (v, put, begun, is) j =
     let after = record w { put = new.put; begun = false; tap = (takes Left v w.tap).state } in
@@ -141,12 +287,13 @@ next_joined local passes_own w new (v, put, begun, is) j =
       staged = holds_next passes_own w after (v, put, begun, refl) j.staged;
       kept = kept;
       orderly = j.orderly;
-      local_is = j.local_is;
-      followed = λ plain_after.
-          let plain = before_passing (passing Left v) w.tap plain_after in
-          let f = j.followed plain in
-          own_by local w j v new.put put begun kept plain_after plain f
-          (subst (AllByRecursion (λ (u : Value). IsOwned w.tap.connections u)) put f.owned).0;
+      local_is = λ clear. j.local_is (before_clear (passing Left v) w.tap clear);
+      never = own_never local w v j;
+      followed = λ firm_after.
+          let firm = before_clear (passing Left v) w.tap firm_after in
+          let f = j.followed firm in
+          own_by local w j v new.put put begun kept firm_after firm f (subst (AllByRecursion (IsOwned w.tap)) put f.owned).0;
+      judged = own_stays local w v new.put j put begun;
     })
 next_joined local begins_other w new is j =
     let after = record w { tap = packet_begins Right w.tap } in
@@ -154,8 +301,10 @@ next_joined local begins_other w new is j =
       staged = holds_next begins_other w after refl j.staged;
       kept = next_holds begins_other w after refl j.kept;
       orderly = j.orderly;
-      local_is = j.local_is;
-      followed = λ plain. other_begins local w (j.followed (before_passing (packet Right) w.tap plain));
+      local_is = λ clear. j.local_is (before_clear (packet Right) w.tap clear);
+      never = j.never;
+      followed = λ firm. other_begins local w (j.followed (before_clear (packet Right) w.tap firm));
+      judged = j.judged;
     })
 next_joined local (passes_other v) w new (ranges, is) j =
     let after = record w { tap = (takes Right v w.tap).state; coming = w.coming ++ v ∷ [] } in
@@ -163,8 +312,10 @@ next_joined local (passes_other v) w new (ranges, is) j =
       staged = holds_next (passes_other v) w after (ranges, refl) j.staged;
       kept = next_holds (passes_other v) w after (ranges, refl) j.kept;
       orderly = j.orderly;
-      local_is = j.local_is;
-      followed = λ plain. other_by local w j v ranges plain;
+      local_is = λ clear. j.local_is (before_clear (passing Right v) w.tap clear);
+      never = other_never local w v j;
+      followed = λ firm. other_goes local w j v ranges firm;
+      judged = other_stays local w v j;
     })
 next_joined local passes_rubbish w new is j =
     let after = record w { tap = passes (rubbish Right) w.tap } in
@@ -172,8 +323,10 @@ next_joined local passes_rubbish w new is j =
       staged = holds_next passes_rubbish w after refl j.staged;
       kept = next_holds passes_rubbish w after refl j.kept;
       orderly = j.orderly;
-      local_is = j.local_is;
-      followed = λ plain. rubbish_by local w j plain;
+      local_is = λ clear. j.local_is (before_clear (rubbish Right) w.tap clear);
+      never = rubbish_never local w j;
+      followed = λ firm. rubbish_by local w j firm;
+      judged = rubbish_stays local w j;
     })
 
 all_joined : (local : Local) (events : List Event) (w new : Whole) → HappenAlong Left w events new → Joined local w → Joined local new
@@ -181,13 +334,14 @@ all_joined local [] w new e j = subst (Joined local) (sym e) j
 all_joined local (event ∷ events) w new (mid, first, more) j =
     all_joined local events mid new more (next_joined local event w mid first j)
 
-first_joined : (local : Local) → local.class0 ≡ false → local.class2 ≡ true → Joined local (begin true local)
-first_joined local no_zero two = record {
+first_joined : (local : Local) → local.class2 ≡ true → Joined local (begin true local)
+first_joined local two = record {
   staged = holds_first local;
-  kept = first_holds local no_zero two;
+  kept = first_holds local two;
   orderly = orderly_fresh true local;
-  local_is = refl;
-  followed = λ plain. record {
+  local_is = λ clear. refl;
+  never = λ none firm right zero. cc;
+  followed = λ firm. record {
     lines = λ i c at. no_item i c at;
     waiting = λ i c at. no_item i c at;
     owned = tt;
@@ -200,31 +354,44 @@ first_joined local no_zero two = record {
     zero = inl refl;
     some = λ h. absurd (cc h);
     few = tt;
-    seen = λ n h. absurd (cc h);
+    seen = λ i c at. no_item i c at;
+    settled = tt;
   };
+  judged = λ two firm right. refl;
 }
 
--- ---- the unit that is passing
+pub clear_fair : (local : Local) (events : List Event) (w : Whole) (v : Value) (rest : List Value) →
+    local.class2 ≡ true → HappenAlong Left (begin true local) events w → w.begun ≡ true → w.put ≡ v ∷ rest →
+    (w.tap.course.class ≡ Some Zero → ⊥) → is_stopped Right w.tap.course ≡ false → w.tap.course.loose ≡ false →
+    ((takes Left v w.tap).told.finding ≡ Kept) ⊎ (((takes Left v w.tap).told.finding ≡ TooMany)
+    ⊎ (((takes Left v w.tap).told.finding ≡ NotJudged) × (w.tap.course.strays ≡ true)))
+clear_fair local events w v rest two along begun e none right firm =
+    let j = all_joined local events (begin true local) w along (first_joined local two) in
+    let clear = clear_by w.tap.course j.judged none firm right in
+    fine_by local w v rest j e begun clear (subst (AllByRecursion (IsOwned w.tap)) e (j.followed clear).owned).0
 
-abbrev IsFine : Whole → Value → Type 0
-IsFine w v = ((takes Left v w.tap).told.finding ≡ Kept) ⊎ ((takes Left v w.tap).told.finding ≡ TooMany)
-
-fine_by : (local : Local) (w : Whole) (v : Value) (rest : List Value) → Joined local w → w.put ≡ v ∷ rest → w.begun ≡ true →
-    IsPlain w.tap.course → IsOwned w.tap.connections v → IsFine w v
-fine_by local w v rest j e begun plain (asking x is) =
-    subst (λ (u : Value). IsFine w u) (sym is)
-    (is_right x rest w (e ∙ ap (λ (u : Value). u ∷ rest) is) begun plain.left j.staged.newer (j.staged.stage plain.left))
-fine_by local w v rest j e begun plain (of n p c dest at tracked is) =
-    let f = j.followed plain in
-    inl (own_kept local w f j.kept.sane plain.firm v rest n p c e begun plain.left
-    (f.seen n begun (ap (λ (l : List Value). heads n l) e ∙ named_so n v dest)) dest at tracked is)
+-- class 0 is not selected if it was not offered
+never_selected : (local : Local) (events : List Event) (w : Whole) → local.class0 ≡ false → local.class2 ≡ true →
+    HappenAlong Left (begin true local) events w → is_stopped Right w.tap.course ≡ false → w.tap.course.loose ≡ false →
+    w.tap.course.class ≡ Some Zero → ⊥
+never_selected local events w no_zero two along right firm =
+    let j = all_joined local events (begin true local) w along (first_joined local two) in
+    j.never no_zero firm right
 
 pub plain_fair : (local : Local) (events : List Event) (w : Whole) (v : Value) (rest : List Value) → local.class0 ≡ false →
     local.class2 ≡ true → HappenAlong Left (begin true local) events w → w.begun ≡ true → w.put ≡ v ∷ rest →
+    is_stopped Right w.tap.course ≡ false → w.tap.course.loose ≡ false →
+    ((takes Left v w.tap).told.finding ≡ Kept) ⊎ (((takes Left v w.tap).told.finding ≡ TooMany)
+    ⊎ (((takes Left v w.tap).told.finding ≡ NotJudged) × (w.tap.course.strays ≡ true)))
+plain_fair local events w v rest no_zero two along begun e right firm =
+    clear_fair local events w v rest two along begun e (never_selected local events w no_zero two along right firm) right firm
+
+pub gone : (local : Local) (events : List Event) (w : Whole) (n source reason : ℕ) (user : List ℕ) (more : List Value) →
+    local.class0 ≡ false → local.class2 ≡ true → HappenAlong Left (begin true local) events w →
+    w.coming ≡ disconnect n source reason user ∷ more → w.end.ended ≡ None → value_at n w.end.live ≡ None →
     is_stopped Left w.tap.course ≡ false → is_stopped Right w.tap.course ≡ false → w.tap.course.loose ≡ false →
-    w.tap.course.strays ≡ false → ((takes Left v w.tap).told.finding ≡ Kept) ⊎ ((takes Left v w.tap).told.finding ≡ TooMany)
-plain_fair local events w v rest no_zero two along begun e left right firm strays =
-    let j = all_joined local events (begin true local) w along (first_joined local no_zero two) in
-    let plain : IsPlain w.tap.course = record { firm = firm; left = left; right = right; strays = strays } in
-    fine_by local w v rest j e begun plain
-    (subst (AllByRecursion (λ (u : Value). IsOwned w.tap.connections u)) e (j.followed plain).owned).0
+    w.tap.course.strays ≡ true
+gone local events w n source reason user more no_zero two along coming lasts none left right firm =
+    let j = all_joined local events (begin true local) w along (first_joined local two) in
+    let sure : IsFirm w.tap.course = record { firm = firm; left = left; right = right } in
+    gone_strays w n source reason user more j.kept coming lasts none (record { sure = sure; two = j.never no_zero firm right })

@@ -1,10 +1,10 @@
 -- A unit of a whole calling end passes: a CR, whose connection waits then, or a unit of an open connection, which is right.
 -- For the law on a whole end.
-use Rattle.std.proofs.Common.{◌≡◌, ◌∙◌, ℕ, zero, suc, Bool, true, false, List, [], ◌∷◌, ◌++◌, set, refl, sym, ap, subst}
+use Rattle.std.proofs.Common.{◌≡◌, ◌∙◌, ℕ, Bool, true, false, List, [], ◌∷◌, ◌++◌, set, refl, sym, ap, subst}
 use Rattle.std.proofs.Common.{Option, Some, None, inl, inr, ◌⊎◌, if◌then◌else◌, is_some}
 use Rattle.std.specs.Prelude.{◌&&◌, ◌||◌, ◌==◌, not, position, slice_get}
 use Rattle.std.specs.List.{AllByRecursion, position_or_len}
-use Rattle.std.proofs.lemmas.Bool.{eq-eqb, eqb-true}
+use Rattle.std.proofs.lemmas.Bool.{eqb-true}
 use Rattle.osi_tpdu.specs.Value.{Value, Connect, confirm, request, destination_of}
 use Rattle.osi_class.specs.Link.{Standing}
 use Rattle.osi_class.specs.declared.terms.Class.{Class}
@@ -17,11 +17,9 @@ use Rattle.osi_rules.specs.declared.directions.Direction.TheVariants.{Left, Righ
 use Rattle.osi_rules.specs.declared.findings.Finding.{Finding}
 use Rattle.osi_rules.specs.declared.findings.Finding.TheVariants.{Broke, Kept, NotJudged, Outside, TooMany}
 use Rattle.osi_rules.specs.declared.halves.Half.{Half}
-use Rattle.osi_rules.specs.declared.halves.Phase.{Phase}
-use Rattle.osi_rules.specs.declared.halves.Phase.TheVariants.{Silent, Open, Refused, Closing, Closed}
 use Rattle.osi_rules.specs.Reaches.{is_applied, reach_of}
 use Rattle.osi_rules.specs.Rows.{first_failed}
-use Rattle.osi_rules.specs.Sides.{is_closed, is_closing, is_free, is_named, is_open, is_over, is_over_by, is_refused, is_silent, uses}
+use Rattle.osi_rules.specs.Sides.{is_closing, is_free, is_named, is_open, is_over, is_silent}
 use Rattle.osi_rules.specs.Traffic.{Outcome, State as Traffic, asked_by, asks_by, class_for, is_stopped, none_told, placed, request_tests}
 use Rattle.osi_rules.specs.Traffic.{found, route, route_in, routed, takes, uses_source}
 use Rattle.osi_fair.specs.Following.{IsAtPlace}
@@ -33,151 +31,20 @@ use Rattle.osi_fair.proofs.a_unit_is_an_act_of_its_line.{after_is, found_is}
 use Rattle.osi_fair.proofs.an_end_closes_last.{waits_open}
 use Rattle.osi_fair.proofs.an_open_end_is_fair.{open_is_fair}
 use Rattle.osi_fair.proofs.each_connection_has_its_line.{Followed, Following, IsAnswer, IsAsking, IsOwned, Row, Tracked, Tracks, Waiting}
-use Rattle.osi_fair.proofs.each_connection_has_its_line.{all_so, asking, asks, closes, is_tracked, is_waiting, of, over, talks, tracks_hold}
-use Rattle.osi_fair.proofs.each_connection_has_its_line.{tracks_on}
+use Rattle.osi_fair.proofs.each_connection_has_its_line.{AreSettled, IsSettled, IsSpare, all_so, asking, asks, closes, is_tracked}
+use Rattle.osi_fair.proofs.each_connection_has_its_line.{is_waiting, no_spare, of, over, stray, talks, tracks_hold, tracks_on}
 use Rattle.osi_fair.proofs.what_holds_of_a_line.{PutsAt, Tally}
 use Rattle.osi_fair.proofs.what_holds_of_one_item.{after_add, after_set, first_true}
-use Rattle.osi_fair.proofs.what_keeps_names_apart.{Sound}
 use Rattle.osi_fair.proofs.what_lasts_at_the_tap.{lasts_passing}
 use Rattle.osi_fair.proofs.left_selects_no_class.{left_class}
 use Rattle.osi_fair.proofs.what_stays_of_each_connection.{own_stays, right_then}
 use Rattle.osi_fair.proofs.what_the_other_side_closes.{IsSane}
-use Rattle.osi_fair.proofs.which_units_are_for_a_connection.{first_kept, first_left, heads, named_not, named_so, names, none_named, those}
+use Rattle.osi_fair.proofs.which_units_are_for_a_connection.{IsOf, picked_first, picked_rest, is_ours, leads, ours, ours_not, ours_so}
+use Rattle.osi_fair.proofs.which_units_are_for_a_connection.{picked_each}
+use Rattle.osi_fair.proofs.what_belongs_to_no_open_connection.{strays_last}
 use Rattle.osi_fair.proofs.while_no_class_is_selected.{after_change, set_there}
-
--- ---- where an item is
-
-pub set_other : {X : Type 0} (xs : List X) (p i : ℕ) (x y : X) → (i ≡ p → ⊥) → slice_get xs i ≡ Some y → slice_get (set xs p x) i ≡ Some y
-set_other [] p i x y other h = absurd (cc)
-set_other (z ∷ xs) zero zero x y other h = absurd (other refl)
-set_other (z ∷ xs) zero (suc i) x y other h = h
-set_other (z ∷ xs) (suc p) zero x y other h = h
-set_other (z ∷ xs) (suc p) (suc i) x y other h = set_other xs p i x y (λ e. other (ap suc e)) h
-
-pub added_still : {X : Type 0} (xs : List X) (i : ℕ) (x y : X) → slice_get xs i ≡ Some y → slice_get (xs ++ x ∷ []) i ≡ Some y
-added_still [] i x y h = absurd (cc)
-added_still (z ∷ xs) zero x y h = h
-added_still (z ∷ xs) (suc i) x y h = added_still xs i x y h
-
-pub item_is : {X : Type 0} (x y : X) → Some x ≡ Some y → y ≡ x
-item_is x y e = cc
-
-pub differ : {A : Type 0} (b : Bool) → b ≡ true → b ≡ false → A
-differ b h k = absurd (cc)
-
-pub unlike : (q p : ℕ) → (q == p) ≡ false → q ≡ p → ⊥
-unlike q p h e = differ (q == p) (ap (λ (x : ℕ). x == p) e ∙ eq-eqb p p refl) h
-
--- ---- a connection that is open
-
-pub and_first : (a b : Bool) → (a && b) ≡ true → a ≡ true
-and_first true b h = refl
-and_first false b h = cc
-
-pub and_second : (a b : Bool) → (a && b) ≡ true → b ≡ true
-and_second true b h = h
-and_second false b h = cc
-
-pub both : (a b : Bool) → a ≡ true → b ≡ true → (a && b) ≡ true
-both true b h k = k
-both false b h k = cc
-
-pub left_open : (c : Connection) → is_tracked c ≡ true → is_open c.left.phase ≡ true
-left_open c h = and_first (is_open c.left.phase) (is_open c.right.phase || is_closing c.right.phase) h
-
-pub right_there : (c : Connection) → is_tracked c ≡ true → (is_open c.right.phase || is_closing c.right.phase) ≡ true
-right_there c h = and_second (is_open c.left.phase) (is_open c.right.phase || is_closing c.right.phase) h
-
-pub there_not_silent : (p : Phase) → (is_open p || is_closing p) ≡ true → is_silent p ≡ false
-there_not_silent Open h = refl
-there_not_silent Closing h = refl
-there_not_silent Silent h = cc
-there_not_silent Refused h = cc
-there_not_silent Closed h = cc
-
-there_not_refused : (p : Phase) → (is_open p || is_closing p) ≡ true → is_refused p ≡ true → ⊥
-there_not_refused Open h k = cc
-there_not_refused Closing h k = cc
-there_not_refused Silent h k = cc
-there_not_refused Refused h k = cc
-there_not_refused Closed h k = cc
-
--- over for left only if right is known to have refused it
-open_over : (p k : Phase) → is_open p ≡ true →
-    (is_refused p || (is_refused k || (is_closed p || (is_closing p && (is_closing k || is_closed k))))) ≡ true → is_refused k ≡ true
-open_over Open Refused h e = refl
-open_over Open Silent h e = cc
-open_over Open Open h e = cc
-open_over Open Closing h e = cc
-open_over Open Closed h e = cc
-open_over Silent k h e = cc
-open_over Refused k h e = cc
-open_over Closing k h e = cc
-open_over Closed k h e = cc
-
-tracked_over : (c : Connection) → Sound c → is_tracked c ≡ true → is_over Left c ≡ true → ⊥
-tracked_over c s h gone =
-    there_not_refused c.right.phase (right_there c h)
-    (s.left_knows.refused (open_over c.left.phase c.seen_by_left.phase (left_open c h) (and_second c.is_judged
-    (is_over_by c.left c.seen_by_left) gone)))
-
--- over for right only if left is known to have refused or closed it
-there_over : (p k : Phase) → (is_open p || is_closing p) ≡ true →
-    (is_refused p || (is_refused k || (is_closed p || (is_closing p && (is_closing k || is_closed k))))) ≡ true →
-    (is_refused k || (is_closing k || is_closed k)) ≡ true
-there_over Open Refused h e = refl
-there_over Open Closing h e = refl
-there_over Open Closed h e = refl
-there_over Open Silent h e = cc
-there_over Open Open h e = cc
-there_over Closing Refused h e = refl
-there_over Closing Closing h e = refl
-there_over Closing Closed h e = refl
-there_over Closing Silent h e = cc
-there_over Closing Open h e = cc
-there_over Silent k h e = cc
-there_over Refused k h e = cc
-there_over Closed k h e = cc
-
-pub open_not : (p k : Phase) → is_open p ≡ true → (is_refused k ≡ true → is_refused p ≡ true) → (is_closing k ≡ true → is_closing p ≡ true) →
-    (is_closed k ≡ true → is_closed p ≡ true) → (is_refused k || (is_closing k || is_closed k)) ≡ true → ⊥
-open_not Open Refused h a b c e = cc (a refl)
-open_not Open Closing h a b c e = cc (b refl)
-open_not Open Closed h a b c e = cc (c refl)
-open_not Open Silent h a b c e = cc
-open_not Open Open h a b c e = cc
-open_not Silent k h a b c e = cc
-open_not Refused k h a b c e = cc
-open_not Closing k h a b c e = cc
-open_not Closed k h a b c e = cc
-
-not_over_by : (b : Bool) (A : Type 0) → (b ≡ true → ⊥) → b ≡ false
-not_over_by true A h = absurd (h refl)
-not_over_by false A h = refl
-
-three_so : (a b c : Bool) → a ≡ false → b ≡ false → c ≡ true → (not a && (not b && c)) ≡ true
-three_so false false true h k m = refl
-three_so true b c h k m = cc
-three_so false true c h k m = cc
-three_so false false false h k m = cc
-
--- right uses its reference
-pub uses_tracked : (c : Connection) (n : ℕ) → Sound c → is_tracked c ≡ true → c.right.reference ≡ n → uses Right n c ≡ true
-uses_tracked c n s h e =
-    three_so (is_over Right c) (is_silent c.right.phase) (c.right.reference == n)
-    (not_over_by (is_over Right c) (Unit {0}) (λ gone. open_not c.left.phase c.seen_by_right.phase (left_open c h) s.right_knows.refused
-    s.right_knows.closing s.right_knows.closed (there_over c.right.phase c.seen_by_right.phase (right_there c h)
-    (and_second c.is_judged (is_over_by c.right c.seen_by_right) gone))))
-    (there_not_silent c.right.phase (right_there c h)) (eq-eqb c.right.reference n e)
-
-pub one_peer : (s : Traffic) → IsSane s → s.course.loose ≡ false → (p q : ℕ) (c e : Connection) → slice_get s.connections p ≡ Some c →
-    slice_get s.connections q ≡ Some e → is_tracked c ≡ true → is_tracked e ≡ true → c.right.reference ≡ e.right.reference → p ≡ q
-one_peer s sane firm p q c e at there a b same =
-    let j = sane.judged firm p c at in
-    let k = sane.judged firm q e there in
-    sane.apart.used_right e.right.reference p q c e at there j k
-    (uses_tracked c e.right.reference (sane.apart.sound p c at j) a same)
-    (uses_tracked e e.right.reference (sane.apart.sound q e there k) b refl)
+use Rattle.osi_fair.proofs.no_two_open_connections_have_one_peer.{added_still, and_second, both, differ, item_is, one_peer, right_there}
+use Rattle.osi_fair.proofs.no_two_open_connections_have_one_peer.{set_other, there_not_silent, tracked_over, unlike}
 
 -- ---- a CR
 
@@ -234,8 +101,8 @@ none_begun false = refl
 
 pub row_same : (local : Local) (end : State) (coming : List Value) (r peer : ℕ) (line after : Line) → after.link ≡ line.link →
     after.coming ≡ line.coming → Row local end coming r peer line → Row local end coming r peer after
-row_same local end coming r peer line after link same (asks there x source first is) =
-    asks there x source (first ∙ ap (λ (l : List Value). confirm r x ∷ l) (sym same)) (link ∙ is)
+row_same local end coming r peer line after link same (asks there x source early dcs first is) =
+    asks there x source early dcs (first ∙ ap (λ (l : List Value). early ++ confirm r x ∷ l) (sym same)) (link ∙ is)
 row_same local end coming r peer line after link same (talks l there is all) = talks l there (link ∙ is) (all ∙ sym same)
 row_same local end coming r peer line after link same (closes o there q e is all) = closes o there q e (link ∙ is) (all ∙ sym same)
 row_same local end coming r peer line after link same (over h) = over h
@@ -255,6 +122,12 @@ is_held (Some (closing peer)) = false
 
 no_list : (v : Value) (vs : List Value) → v ∷ vs ≡ [] → ⊥
 no_list v vs e = cc
+
+same_head : (u v : Value) (us vs : List Value) → u ∷ us ≡ v ∷ vs → u ≡ v
+same_head u v us vs e = cc
+
+same_tail : (u v : Value) (us vs : List Value) → u ∷ us ≡ v ∷ vs → us ≡ vs
+same_tail u v us vs e = cc
 
 pub all_two : (P Q R : Value → Type 0) (vs : List Value) → ((v : Value) → P v → Q v → R v) → AllByRecursion P vs → AllByRecursion Q vs →
     AllByRecursion R vs
@@ -293,12 +166,23 @@ module _ (local : Local) (w : Whole) (f : Followed local w) (sane : IsSane w.tap
   tracked_by x p c tracked (inl is) = absurd (cc (sym (ap is_tracked is) ∙ tracked))
   tracked_by x p c tracked (inr at) = at
 
-  owned_still : (x : Connect) (v : Value) → IsOwned cs v → IsOwned (takes Left (request x) w.tap).state.connections v
+  strays_still : (v : Value) → w.tap.course.strays ≡ true → (takes Left v w.tap).state.course.strays ≡ true
+  strays_still v h = strays_last (passing Left v) w.tap h
+
+  spares_still : (v : Value) (r peer : ℕ) (spare : List Value) → AllByRecursion (IsSpare w.tap.course.strays r peer) spare →
+      AllByRecursion (IsSpare (takes Left v w.tap).state.course.strays r peer) spare
+  spares_still v r peer spare h =
+      all_so (IsSpare w.tap.course.strays r peer) (IsSpare (takes Left v w.tap).state.course.strays r peer) spare
+      (λ u k. record { is = k.is; strays = strays_still v k.strays }) h
+
+  owned_still : (x : Connect) (v : Value) → IsOwned w.tap v → IsOwned (takes Left (request x) w.tap).state v
   owned_still x v (asking y e) = asking y e
-  owned_still x v (of n p c e at tracked is) = of n p c e (request_stays x p c (request_does x w.tap) at tracked) tracked is
+  owned_still x v (of p c at tracked is) = of p c (request_stays x p c (request_does x w.tap) at tracked) tracked is
+  owned_still x v (stray m source e strays) = stray m source e (strays_still (request x) strays)
 
   request_line : (x : Connect) (rest : List Value) (c : Connection) → w.put ≡ request x ∷ rest →
-      Following local w.put w.begun w.end w.coming c → Following local rest false w.end w.coming c
+      Following local w.put w.begun w.tap.course.strays w.end w.coming c →
+      Following local rest false (takes Left (request x) w.tap).state.course.strays w.end w.coming c
   request_line x rest c e g = record {
     r = g.r;
     peer = g.peer;
@@ -307,8 +191,11 @@ module _ (local : Local) (w : Whole) (f : Followed local w) (sane : IsSane w.tap
     right = g.right;
     tracks = g.tracks;
     tap = g.tap;
-    put_is = g.put_is ∙ ap (λ (l : List Value). those g.peer l) e;
-    begun_is = g.begun_is ∙ ap (λ (l : List Value). w.begun && heads g.peer l) e ∙ none_begun w.begun;
+    spare = g.spare;
+    put_is = ap (λ (l : List Value). ours g.r g.peer l) (sym e) ∙ g.put_is;
+    spares = spares_still (request x) g.r g.peer g.spare g.spares;
+    gone = g.gone;
+    begun_is = g.begun_is ∙ ap (λ (l : List Value). w.begun && leads (is_ours g.r g.peer) l) e ∙ none_begun w.begun;
     row = g.row;
     calm = g.calm;
   }
@@ -321,7 +208,7 @@ module _ (local : Local) (w : Whole) (f : Followed local w) (sane : IsSane w.tap
     right = refl;
     seen = refl;
     class0 = a.class0;
-    none = a.none;
+    early = a.early;
     row = a.row;
   })
   request_waits x c p a (inr at) waits = f.waiting p c at waits
@@ -331,17 +218,44 @@ module _ (local : Local) (w : Whole) (f : Followed local w) (sane : IsSane w.tap
   request_silent x i c none (inl is) = ap (λ (e : Connection). is_open e.left.phase) is
   request_silent x i c none (inr at) = f.silent i c at none
 
+  -- a connection that waits now has the reference of the CR, or waited before
+  settled_one : (x : Connect) (rest : List Value) (r given : ℕ) → IsSettled cs (request x ∷ rest) given r → (i : ℕ) (c : Connection) →
+      (c ≡ asked_by x) ⊎ (slice_get cs i ≡ Some c) → is_waiting c ≡ true → c.left.reference ≡ r → ⊥
+  settled_one x rest r given k i c (inl is) waits same =
+      k.asks.0 x refl (ap (λ (e : Connection). e.left.reference) (sym is) ∙ same)
+  settled_one x rest r given k i c (inr at) waits same = k.waits i c at waits same
+
+  settled_item : (x : Connect) (rest : List Value) (r given : ℕ) → IsSettled cs (request x ∷ rest) given r →
+      IsSettled (takes Left (request x) w.tap).state.connections rest given r
+  settled_item x rest r given k = record {
+    up = k.up;
+    waits = λ i c at waits same. settled_one x rest r given k i c (request_item x i c (request_does x w.tap) at) waits same;
+    asks = k.asks.1;
+  }
+
+  settled_still : (x : Connect) (rest : List Value) → w.put ≡ request x ∷ rest → (v : Value) →
+      AreSettled cs w.put w.end.given v → AreSettled (takes Left (request x) w.tap).state.connections rest w.end.given v
+  settled_still x rest e v h m source is =
+      settled_item x rest source w.end.given (subst (λ (l : List Value). IsSettled cs l w.end.given source) e (h m source is))
+
+  seen_still : (x : Connect) (i : ℕ) (c : Connection) → is_tracked c ≡ true → is_silent c.seen_by_left.phase ≡ false →
+      (c ≡ asked_by x) ⊎ (slice_get cs i ≡ Some c) → (takes Left (request x) w.tap).state.course.class_seen ≡ Some Two
+  seen_still x i c tracked known (inl is) = absurd (cc (sym (ap is_tracked is) ∙ tracked))
+  seen_still x i c tracked known (inr at) =
+      (lasts_passing (passing Left (request x)) w.tap).seen (f.two c.left.reference (i, c, at, tracked, refl)) (f.seen i c at tracked known)
+
   pub request_passes : (x : Connect) (rest : List Value) → w.put ≡ request x ∷ rest → Followed local (after_request x rest)
   request_passes x rest e =
       let (first, requests) = subst (AllByRecursion (λ (v : Value). (y : Connect) → v ≡ request y → IsAsking local w.end w.coming y)) e
       f.requests in
-      let (head, owned) = subst (AllByRecursion (λ (v : Value). IsOwned cs v)) e f.owned in
+      let (head, owned) = subst (AllByRecursion (λ (v : Value). IsOwned w.tap v)) e f.owned in
+      let (alone, settled) = subst (AllByRecursion (AreSettled cs w.put w.end.given)) e f.settled in
       let does = request_does x w.tap in
       record {
         lines = λ i c at tracked.
             request_line x rest c e (f.lines i c (tracked_by x i c tracked (request_item x i c does at)) tracked);
         waiting = λ i c at waits. request_waits x c i (first x refl) (request_item x i c does at) waits;
-        owned = all_so (λ v. IsOwned cs v) (λ v. IsOwned (takes Left (request x) w.tap).state.connections v) rest
+        owned = all_so (λ v. IsOwned w.tap v) (λ v. IsOwned (takes Left (request x) w.tap).state v) rest
             (λ v. owned_still x v) owned;
         linked = λ lasts r peer link h. let (t, two) = f.linked lasts r peer link h in (tracked_still x r t, two);
         answers = all_so (λ v. IsAnswer cs w.end v) (λ v. IsAnswer (takes Left (request x) w.tap).state.connections w.end v) w.coming
@@ -355,7 +269,10 @@ module _ (local : Local) (w : Whole) (f : Followed local w) (sane : IsSane w.tap
         zero = subst (λ (k : Option Class). (k ≡ None) ⊎ (k ≡ Some Two)) (sym (left_class (request x) w.tap)) f.zero;
         some = λ h. absurd (cc h);
         few = f.few;
-        seen = λ n h. absurd (cc h);
+        seen = λ i c at tracked known. seen_still x i c tracked known (request_item x i c does at);
+        settled = all_so (AreSettled cs w.put w.end.given)
+            (AreSettled (takes Left (request x) w.tap).state.connections rest w.end.given) rest
+            (λ v h. settled_still x rest e v h) settled;
       }
 
   -- ---- a unit of an open connection passes
@@ -369,30 +286,57 @@ module _ (local : Local) (w : Whole) (f : Followed local w) (sane : IsSane w.tap
       let same : p ≡ q = sane.apart.named_left n p q c e at there (sane.judged firm p c at) (sane.judged firm q e there) named so in
       first ∙ ap (λ (i : ℕ). Some i) (sym same)
 
+  named_parts : (a b d : Bool) → (not a && (not b && d)) ≡ true → b ≡ false
+  named_parts false false d h = refl
+  named_parts false true d h = cc
+  named_parts true b d h = cc
+
   judged_so : (j : Bool) (g : Finding) → j ≡ true → g ≡ Kept → (if j then g else NotJudged) ≡ Kept
   judged_so true g h e = e
   judged_so false g h e = cc
 
-  module _ (u : Value) (rest : List Value) (n p : ℕ) (c : Connection) (e : w.put ≡ u ∷ rest) (begun : w.begun ≡ true)
-      (left : w.tap.course.left_stopped ≡ false) (seen : w.tap.course.class_seen ≡ Some Two) (named : destination_of u ≡ Some n)
-      (at : slice_get cs p ≡ Some c) (tracked : is_tracked c ≡ true) (reference : c.right.reference ≡ n) where
-    abbrev g : Following local w.put w.begun w.end w.coming c
+  -- the first of the units with the references of a line is the line's
+  put_first : (u : Value) (others line spare : List Value) → u ∷ others ≡ line ++ spare → (line ≡ [] → spare ≡ []) →
+      (vs : List Value) × ((line ≡ u ∷ vs) × (others ≡ vs ++ spare))
+  put_first u others [] spare e none = absurd (no_list u others (e ∙ none refl))
+  put_first u others (v ∷ vs) spare e none =
+      (vs, (ap (λ (x : Value). x ∷ vs) (sym (same_head u v others (vs ++ spare) e)), same_tail u v others (vs ++ spare) e))
+
+  module _ (u : Value) (rest : List Value) (p : ℕ) (c : Connection) (e : w.put ≡ u ∷ rest) (begun : w.begun ≡ true)
+      (left : w.tap.course.left_stopped ≡ false) (at : slice_get cs p ≡ Some c) (tracked : is_tracked c ≡ true)
+      (own : IsOf c.left.reference c.right.reference u) where
+    abbrev g : Following local w.put w.begun w.tap.course.strays w.end w.coming c
     g = f.lines p c at tracked
 
-    peer_is : n ≡ g.peer
-    peer_is = sym reference ∙ g.right
+    abbrev n : ℕ
+    n = c.right.reference
 
-    named_by : names g.peer u ≡ true
-    named_by = named_so g.peer u (named ∙ ap (λ (i : ℕ). Some i) peer_is)
-
-    first_put : g.line.put ≡ u ∷ those g.peer rest
-    first_put = g.put_is ∙ ap (λ (l : List Value). those g.peer l) e ∙ first_kept g.peer u rest named_by
-
-    line_begun : g.line.begun ≡ true
-    line_begun = g.begun_is ∙ ap (λ (l : List Value). w.begun && heads g.peer l) e ∙ both w.begun (names g.peer u) begun named_by
+    named : destination_of u ≡ Some n
+    named = own.named
 
     judged : c.is_judged ≡ true
     judged = sane.judged firm p c at
+
+    own_line : IsOf g.r g.peer u
+    own_line = subst (λ (i : ℕ). IsOf i g.peer u) g.left (subst (λ (i : ℕ). IsOf c.left.reference i u) g.right own)
+
+    named_by : is_ours g.r g.peer u ≡ true
+    named_by = ours_so g.r g.peer u own_line
+
+    parts : (vs : List Value) × ((g.line.put ≡ u ∷ vs) × (ours g.r g.peer rest ≡ vs ++ g.spare))
+    parts = put_first u (ours g.r g.peer rest) g.line.put g.spare
+        (sym (picked_first (is_ours g.r g.peer) u rest named_by) ∙ ap (λ (l : List Value). ours g.r g.peer l) (sym e) ∙ g.put_is)
+        (no_spare local w.put w.coming w.begun w.tap.course.strays w.end c judged tracked g)
+
+    abbrev still : List Value
+    still = parts.0
+
+    first_put : g.line.put ≡ u ∷ still
+    first_put = parts.1.0
+
+    line_begun : g.line.begun ≡ true
+    line_begun = g.begun_is ∙ ap (λ (l : List Value). w.begun && leads (is_ours g.r g.peer) l) e
+        ∙ both w.begun (is_ours g.r g.peer u) begun named_by
 
     right : IsRight Left c u
     right =
@@ -401,11 +345,17 @@ module _ (local : Local) (w : Whole) (f : Followed local w) (sane : IsSane w.tap
         let now : IsRight Left g.line.tap u = subst (IsRightNow Left g.line.tap) first_put fair in
         subst (λ (x : Connection). IsRight Left x u) g.tap now
 
+    is_its_name : is_named Left n c ≡ true
+    is_its_name = named_of (destination_of u) n Left c named right.named
+
+    seen : w.tap.course.class_seen ≡ Some Two
+    seen = f.seen p c at tracked (named_parts (is_over Left c) (is_silent c.seen_by_left.phase) (c.seen_by_left.reference == n) is_its_name)
+
     place : IsAtPlace Left w.tap n p c
     place = record {
       judged = left;
       class = seen;
-      first = name_first n p c at (named_of (destination_of u) n Left c named right.named);
+      first = name_first n p c at is_its_name;
       is = at;
     }
 
@@ -433,7 +383,7 @@ module _ (local : Local) (w : Whole) (f : Followed local w) (sane : IsSane w.tap
     module _ (sane_after : IsSane after.tap) (firm_after : after.tap.course.loose ≡ false) where
       abbrev line_after : Line
       line_after = record g.line {
-        put = those g.peer rest;
+        put = still;
         begun = false;
         tap = after_finding Left (finding g.line.tap) u g.line.tap;
       }
@@ -466,11 +416,13 @@ module _ (local : Local) (w : Whole) (f : Followed local w) (sane : IsSane w.tap
       linked_open link h =
           let held = tracks_hold g.r g.peer line_after tracks_after line_judged in
           tracked_if (ap (λ (x : Connection). is_open x.left.phase) (sym tap_after)
-          ∙ put_open g.r g.peer held.limit held.tally line_after.tap.left line_after.tap.right line_after.put line_after.link link held.puts h)
+          ∙ put_open g.r g.peer held.limit held.tally line_after.tap.left line_after.tap.right line_after.put line_after.link link
+          held.puts h)
 
-      row_open : w.end.ended ≡ None → (o : Option Live) → value_at g.r w.end.live ≡ o → is_held o ≡ true → Row local w.end w.coming g.r g.peer g.line →
+      row_open : w.end.ended ≡ None → (o : Option Live) → value_at g.r w.end.live ≡ o → is_held o ≡ true →
+          Row local w.end w.coming g.r g.peer g.line →
           is_tracked next ≡ true
-      row_open lasts o e held (asks there x source first is) = linked_open _ is
+      row_open lasts o e held (asks there x source early dcs first is) = linked_open _ is
       row_open lasts o e held (talks link there is all) = linked_open link is
       row_open lasts o e held (over h) = differ (is_some w.end.ended) h (ap is_some lasts)
       row_open lasts o e held (closes k there q (inl is) none all) =
@@ -479,14 +431,15 @@ module _ (local : Local) (w : Whole) (f : Followed local w) (sane : IsSane w.tap
           differ (is_held o) held (ap is_held (sym e ∙ there ∙ is))
 
       -- the end puts nothing after it has closed the connection
-      none_by : (l : List Value) → those g.peer rest ≡ l → is_tracked next ≡ false → l ≡ []
+      none_by : (l : List Value) → still ≡ l → is_tracked next ≡ false → l ≡ []
       none_by [] e h = refl
       none_by (v ∷ vs) e h = differ (is_tracked next) (tracked_if (ap (λ (x : Connection). is_open x.left.phase) (sym tap_after)
           ∙ waits_open Left g.r g.peer tracks_after.first line_after tracks_after.acts tracks_after.opened tracks_after.along line_judged
           (λ none. no_list v vs (sym e ∙ none)))) h
 
-      none_left : is_tracked next ≡ false → those g.peer rest ≡ []
-      none_left h = none_by (those g.peer rest) refl h
+      -- so the units with its references are spare then
+      spare_left : is_tracked next ≡ false → ours g.r g.peer rest ≡ g.spare
+      spare_left h = parts.1.1 ∙ ap (λ (l : List Value). l ++ g.spare) (none_by still refl h)
 
       item : (i : ℕ) (x : Connection) → slice_get (takes Left u w.tap).state.connections i ≡ Some x →
           ((i ≡ p) × (x ≡ next)) ⊎ ((i ≡ p → ⊥) × (slice_get cs i ≡ Some x))
@@ -501,7 +454,7 @@ module _ (local : Local) (w : Whole) (f : Followed local w) (sane : IsSane w.tap
 
       -- ---- lines
 
-      line_next : Following local rest false w.end w.coming next
+      line_next : Following local rest false after.tap.course.strays w.end w.coming next
       line_next = record {
         r = g.r;
         peer = g.peer;
@@ -510,18 +463,21 @@ module _ (local : Local) (w : Whole) (f : Followed local w) (sane : IsSane w.tap
         right = ap (λ (x : Half). x.reference) next_right ∙ g.right;
         tracks = tracks_after;
         tap = tap_after;
-        put_is = refl;
+        spare = g.spare;
+        put_is = parts.1.1;
+        spares = spares_still u g.r g.peer g.spare g.spares;
+        gone = g.gone;
         begun_is = refl;
         row = row_same local w.end w.coming g.r g.peer g.line line_after refl refl g.row;
         calm = g.calm;
       }
 
       line_other : (i : ℕ) (x : Connection) → (i ≡ p → ⊥) → slice_get cs i ≡ Some x → is_tracked x ≡ true →
-          Following local rest false w.end w.coming x
+          Following local rest false after.tap.course.strays w.end w.coming x
       line_other i x other there is_there =
           let k = f.lines i x there is_there in
-          let not_named : names k.peer u ≡ false = named_not n k.peer u (λ same. other (one_peer w.tap sane firm i p x c there at is_there
-          tracked (k.right ∙ sym same ∙ sym reference))) named in
+          let not_named : is_ours k.r k.peer u ≡ false = ours_not k.r n k.peer u (λ same. other (one_peer w.tap sane firm i p x c there at
+          is_there tracked (k.right ∙ sym same))) named in
           record {
             r = k.r;
             peer = k.peer;
@@ -530,16 +486,22 @@ module _ (local : Local) (w : Whole) (f : Followed local w) (sane : IsSane w.tap
             right = k.right;
             tracks = k.tracks;
             tap = k.tap;
-            put_is = k.put_is ∙ ap (λ (l : List Value). those k.peer l) e ∙ first_left k.peer u rest not_named;
-            begun_is = k.begun_is ∙ ap (λ (l : List Value). w.begun && heads k.peer l) e ∙ ap (λ (b : Bool). w.begun && b) not_named
-                ∙ none_begun w.begun;
+            spare = k.spare;
+            put_is = sym (picked_rest (is_ours k.r k.peer) u rest not_named) ∙ ap (λ (l : List Value). ours k.r k.peer l) (sym e)
+                ∙ k.put_is;
+            spares = spares_still u k.r k.peer k.spare k.spares;
+            gone = k.gone;
+            begun_is = k.begun_is ∙ ap (λ (l : List Value). w.begun && leads (is_ours k.r k.peer) l) e
+                ∙ ap (λ (b : Bool). w.begun && b) not_named ∙ none_begun w.begun;
             row = k.row;
             calm = k.calm;
           }
 
       line_at : (i : ℕ) (x : Connection) → is_tracked x ≡ true →
-          ((i ≡ p) × (x ≡ next)) ⊎ ((i ≡ p → ⊥) × (slice_get cs i ≡ Some x)) → Following local rest false w.end w.coming x
-      line_at i x is_there (inl (same, is)) = subst (λ (y : Connection). Following local rest false w.end w.coming y) (sym is) line_next
+          ((i ≡ p) × (x ≡ next)) ⊎ ((i ≡ p → ⊥) × (slice_get cs i ≡ Some x)) →
+          Following local rest false after.tap.course.strays w.end w.coming x
+      line_at i x is_there (inl (same, is)) =
+          subst (λ (y : Connection). Following local rest false after.tap.course.strays w.end w.coming y) (sym is) line_next
       line_at i x is_there (inr (other, there)) = line_other i x other there is_there
 
       waits_at : (i : ℕ) (x : Connection) → is_waiting x ≡ true →
@@ -575,34 +537,70 @@ module _ (local : Local) (w : Whole) (f : Followed local w) (sane : IsSane w.tap
           (p, c, at, tracked, sym next_left ∙ ap (λ (y : Connection). y.left.reference) (sym so) ∙ is)
       tracked_was r i x is_there is (inr (other, there)) = (i, x, there, is_there, is)
 
-      owned_one : (v : Value) (m i : ℕ) (x : Connection) → destination_of v ≡ Some m → slice_get cs i ≡ Some x → is_tracked x ≡ true →
-          x.right.reference ≡ m → (is_tracked next ≡ false → names g.peer v ≡ false) → (b d : Bool) → (i == p) ≡ b → is_tracked next ≡ d →
-          IsOwned (takes Left u w.tap).state.connections v
-      owned_one v m i x there_named there is_there is k true true h d =
-          of m p next there_named next_at d (ap (λ (y : Half). y.reference) next_right
-          ∙ ap (λ (y : Connection). y.right.reference) (sym (same_one i x (eqb-true i p h) there)) ∙ is)
-      owned_one v m i x there_named there is_there is k true false h d =
-          let so = ap (λ (y : Connection). y.right.reference) (sym (same_one i x (eqb-true i p h) there)) ∙ is in
-          differ (names g.peer v) (named_so g.peer v (there_named ∙ ap (λ (j : ℕ). Some j) (sym so ∙ g.right))) (k d)
-      owned_one v m i x there_named there is_there is k false d h e =
-          of m i x there_named (other_at i x (unlike i p h) there) is_there is
+      -- a unit that is still to pass for the connection that has just been closed is a spare DC
+      abbrev IsSpareIf : Value → Type 0
+      IsSpareIf v = is_tracked next ≡ false → is_ours g.r g.peer v ≡ true → IsSpare w.tap.course.strays g.r g.peer v
 
-      owned_next : (v : Value) → (is_tracked next ≡ false → names g.peer v ≡ false) → IsOwned cs v →
-          IsOwned (takes Left u w.tap).state.connections v
+      of_next : (v : Value) → is_tracked next ≡ true → IsOf c.left.reference c.right.reference v → IsOwned after.tap v
+      of_next v h is = of p next next_at h
+          (subst (λ (x : Half). IsOf next.left.reference x.reference v) (sym next_right)
+          (subst (λ (i : ℕ). IsOf i c.right.reference v) (sym next_left) is))
+
+      owned_one : (v : Value) (i : ℕ) (x : Connection) → slice_get cs i ≡ Some x → is_tracked x ≡ true →
+          IsOf x.left.reference x.right.reference v → IsSpareIf v → (b d : Bool) → (i == p) ≡ b → is_tracked next ≡ d →
+          IsOwned after.tap v
+      owned_one v i x there is_there is k true true h d =
+          of_next v d (subst (λ (y : Connection). IsOf y.left.reference y.right.reference v) (same_one i x (eqb-true i p h) there) is)
+      owned_one v i x there is_there is k true false h d =
+          let so = subst (λ (y : Connection). IsOf y.left.reference y.right.reference v) (same_one i x (eqb-true i p h) there) is in
+          let mine = subst (λ (j : ℕ). IsOf j g.peer v) g.left (subst (λ (j : ℕ). IsOf c.left.reference j v) g.right so) in
+          let spare = k d (ours_so g.r g.peer v mine) in
+          stray g.peer g.r spare.is (strays_still u spare.strays)
+      owned_one v i x there is_there is k false d h e = of i x (other_at i x (unlike i p h) there) is_there is
+
+      owned_next : (v : Value) → IsSpareIf v → IsOwned w.tap v → IsOwned after.tap v
       owned_next v k (asking x e) = asking x e
-      owned_next v k (of m i x there_named there is_there is) =
-          owned_one v m i x there_named there is_there is k (i == p) (is_tracked next) refl refl
+      owned_next v k (of i x there is_there is) = owned_one v i x there is_there is k (i == p) (is_tracked next) refl refl
+      owned_next v k (stray m source is strays) = stray m source is (strays_still u strays)
 
-      owned_rest : (b : Bool) → is_tracked next ≡ b → AllByRecursion (λ (v : Value). IsOwned cs v) rest →
-          AllByRecursion (λ (v : Value). IsOwned (takes Left u w.tap).state.connections v) rest
+      owned_rest : (b : Bool) → is_tracked next ≡ b → AllByRecursion (λ (v : Value). IsOwned w.tap v) rest →
+          AllByRecursion (λ (v : Value). IsOwned after.tap v) rest
       owned_rest true h a =
-          all_so (λ v. IsOwned cs v) (λ v. IsOwned (takes Left u w.tap).state.connections v) rest
-          (λ v o. owned_next v (λ k. differ (is_tracked next) h k) o) a
+          all_so (λ v. IsOwned w.tap v) (λ v. IsOwned after.tap v) rest (λ v o. owned_next v (λ k. differ (is_tracked next) h k) o) a
       owned_rest false h a =
-          all_two (λ v. IsOwned cs v) (λ v. names g.peer v ≡ false) (λ v. IsOwned (takes Left u w.tap).state.connections v) rest
-          (λ v o none. owned_next v (λ k. none) o) a (none_named g.peer rest (none_left h))
+          all_two (λ v. IsOwned w.tap v) (λ v. is_ours g.r g.peer v ≡ true → IsSpare w.tap.course.strays g.r g.peer v)
+          (λ v. IsOwned after.tap v) rest (λ v o spare. owned_next v (λ k. spare) o) a
+          (picked_each (IsSpare w.tap.course.strays g.r g.peer) (is_ours g.r g.peer) rest
+          (subst (AllByRecursion (IsSpare w.tap.course.strays g.r g.peer)) (sym (spare_left h)) g.spares))
 
-      held_at : w.end.ended ≡ None → (r : ℕ) (o : Option Live) → value_at r w.end.live ≡ o → is_held o ≡ true → c.left.reference ≡ r → is_tracked next ≡ true
+      -- ---- the class, and the references that are settled
+
+      seen_at : (i : ℕ) (x : Connection) → is_tracked x ≡ true → is_silent x.seen_by_left.phase ≡ false →
+          ((i ≡ p) × (x ≡ next)) ⊎ ((i ≡ p → ⊥) × (slice_get cs i ≡ Some x)) → after.tap.course.class_seen ≡ Some Two
+      seen_at i x is_there known (inl (same, so)) =
+          (lasts_passing (passing Left u) w.tap).seen (f.two c.left.reference (p, c, at, tracked, refl)) seen
+      seen_at i x is_there known (inr (other, there)) =
+          (lasts_passing (passing Left u) w.tap).seen (f.two x.left.reference (i, x, there, is_there, refl))
+          (f.seen i x there is_there known)
+
+      not_waiting : (i : ℕ) (x : Connection) → is_waiting x ≡ true →
+          ((i ≡ p) × (x ≡ next)) ⊎ ((i ≡ p → ⊥) × (slice_get cs i ≡ Some x)) → slice_get cs i ≡ Some x
+      not_waiting i x waits (inl (same, is)) =
+          differ (is_silent c.right.phase) (ap (λ (h : Half). is_silent h.phase) (sym (ap (λ (y : Connection). y.right) is ∙ next_right))
+          ∙ and_second (is_open x.left.phase) (is_silent x.right.phase) waits) (there_not_silent c.right.phase (right_there c tracked))
+      not_waiting i x waits (inr (other, there)) = there
+
+      settled_next : (v : Value) → AreSettled cs w.put w.end.given v → AreSettled after.tap.connections rest w.end.given v
+      settled_next v h m source is =
+          let k = h m source is in
+          record {
+            up = k.up;
+            waits = λ i x there waits same. k.waits i x (not_waiting i x waits (item i x there)) waits same;
+            asks = (subst (AllByRecursion (λ (y : Value). (z : Connect) → y ≡ request z → z.source ≡ source → ⊥)) e k.asks).1;
+          }
+
+      held_at : w.end.ended ≡ None → (r : ℕ) (o : Option Live) → value_at r w.end.live ≡ o → is_held o ≡ true →
+          c.left.reference ≡ r → is_tracked next ≡ true
       held_at lasts r o there held is =
           row_open lasts o (ap (λ (j : ℕ). value_at j w.end.live) (sym g.left ∙ is) ∙ there) held g.row
 
@@ -610,7 +608,8 @@ module _ (local : Local) (w : Whole) (f : Followed local w) (sane : IsSane w.tap
       own_passes =
           let (head, requests) = subst (AllByRecursion (λ (v : Value). (y : Connect) → v ≡ request y → IsAsking local w.end w.coming y)) e
           f.requests in
-          let (one, owned) = subst (AllByRecursion (λ (v : Value). IsOwned cs v)) e f.owned in
+          let (one, owned) = subst (AllByRecursion (λ (v : Value). IsOwned w.tap v)) e f.owned in
+          let (alone, settled) = subst (AllByRecursion (AreSettled cs w.put w.end.given)) e f.settled in
           record {
             lines = λ i x there is_there. line_at i x is_there (item i x there);
             waiting = λ i x there waits. waits_at i x waits (item i x there);
@@ -619,7 +618,8 @@ module _ (local : Local) (w : Whole) (f : Followed local w) (sane : IsSane w.tap
                 let (t, two) = f.linked lasts r peer link h in
                 (tracked_next r t (λ is. held_at lasts r (Some (linked peer link)) h refl is), two);
             answers = all_so (λ v. IsAnswer cs w.end v) (λ v. IsAnswer (takes Left u w.tap).state.connections w.end v) w.coming
-                (λ v h m y k lasts. let (t, row) = h m y k lasts in (tracked_next m t (λ is. held_at lasts m (Some asked) row refl is), row))
+                (λ v h m y k lasts. let (t, row) = h m y k
+                lasts in (tracked_next m t (λ is. held_at lasts m (Some asked) row refl is), row))
                 f.answers;
             requests = requests;
             two = λ r t.
@@ -629,5 +629,7 @@ module _ (local : Local) (w : Whole) (f : Followed local w) (sane : IsSane w.tap
             zero = subst (λ (k : Option Class). (k ≡ None) ⊎ (k ≡ Some Two)) (sym (left_class u w.tap)) f.zero;
             some = λ h. absurd (cc h);
             few = f.few;
-            seen = λ n h. absurd (cc h);
+            seen = λ i x there is_there known. seen_at i x is_there known (item i x there);
+            settled = all_so (AreSettled cs w.put w.end.given)
+                (AreSettled after.tap.connections rest w.end.given) rest settled_next settled;
           }

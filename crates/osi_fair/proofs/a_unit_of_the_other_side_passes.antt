@@ -5,15 +5,15 @@ use Rattle.std.proofs.Common.{Option, Some, None, inl, inr, ◌⊎◌, if◌then
 use Rattle.std.specs.Prelude.{◌&&◌, ◌||◌, ◌==◌, not, slice_get}
 use Rattle.std.specs.List.{AllByRecursion, list_any}
 use Rattle.std.proofs.lemmas.Bool.{eqb-true}
-use Rattle.std.proofs.lemmas.List.{append-nil}
-use Rattle.osi_tpdu.specs.Value.{Value, Connect, HasFieldsInRange, request, confirm, disconnect, disconnected, data0, data2, acknowledge, error}
+use Rattle.osi_tpdu.specs.Value.{Value, Connect, HasFieldsInRange, request, confirm, disconnect, disconnected, data0, data2, acknowledge}
+use Rattle.osi_tpdu.specs.Value.{error}
 use Rattle.osi_tpdu.specs.Value.{destination_of}
 use Rattle.osi_class.specs.declared.terms.Class.{Class}
 use Rattle.osi_class.specs.declared.terms.Class.TheVariants.{Two, Zero}
 use Rattle.osi_class.specs.declared.terms.Local.{Local}
 use Rattle.osi_carrier.specs.Negotiation.{agreed_size, opened_link}
 use Rattle.osi_carrier.specs.Rows.{value_at}
-use Rattle.osi_carrier.specs.State.{State, asked}
+use Rattle.osi_carrier.specs.State.{asked}
 use Rattle.osi_rules.specs.declared.connections.Connection.{Connection}
 use Rattle.osi_rules.specs.declared.courses.Course.{Course}
 use Rattle.osi_rules.specs.declared.directions.Direction.TheVariants.{Right}
@@ -29,91 +29,35 @@ use Rattle.osi_rules.specs.Reaches.{is_applied, reach_of}
 use Rattle.osi_rules.specs.Sides.{is_closed, is_closing, is_open, is_over, is_over_by, is_refused, is_silent, uses}
 use Rattle.osi_rules.specs.Traffic.{Outcome, class_for, class_of, closing_phase, connection_after}
 use Rattle.osi_rules.specs.Traffic.{course_after, found_on, half_after, reached}
-use Rattle.osi_rules.specs.Traffic.{sent_on, takes, uses_source}
+use Rattle.osi_rules.specs.Traffic.{judged_on, sent_on, takes, uses_source}
 use Rattle.osi_fair.specs.Lines.{Line, after_finding, finding_of, opened_line, passes_other}
 use Rattle.osi_fair.specs.Naming.{unit as passing}
 use Rattle.osi_fair.specs.Wholes.{Whole}
 use Rattle.osi_fair.proofs.a_request_of_a_whole_end_is_new.{Newer}
-use Rattle.osi_fair.proofs.a_unit_of_a_whole_end_passes.{and_first, and_second, both, differ, item_is, left_open, none_begun, right_there}
-use Rattle.osi_fair.proofs.a_unit_of_a_whole_end_passes.{all_two, set_other, there_not_silent, unlike, uses_tracked}
-use Rattle.osi_fair.proofs.each_connection_has_its_line.{Followed, Following, IsAnswer, IsAsking, IsNoCc, IsOwned, Row, Tracked}
-use Rattle.osi_fair.proofs.each_connection_has_its_line.{AreGiven, Waiting, all_so, asking, asks, closes, head_two, is_tracked, is_waiting, no_end, of, over}
-use Rattle.osi_fair.proofs.each_connection_has_its_line.{talks, tracks_on}
+use Rattle.osi_fair.proofs.a_unit_of_a_whole_end_passes.{none_begun}
+use Rattle.osi_fair.proofs.no_two_open_connections_have_one_peer.{and_first, and_second, both, differ, item_is, left_open, right_there}
+use Rattle.osi_fair.proofs.a_unit_of_a_whole_end_passes.{all_two}
+use Rattle.osi_fair.proofs.no_two_open_connections_have_one_peer.{set_other, there_not_silent, unlike, uses_tracked}
+use Rattle.osi_fair.proofs.each_connection_has_its_line.{Followed, Following, IsAnswer, IsAsking, IsNoCc, IsOwned, Tracked}
+use Rattle.osi_fair.proofs.each_connection_has_its_line.{AreGiven, AreSettled, Waiting, all_so, asking, asks, is_tracked}
+use Rattle.osi_fair.proofs.each_connection_has_its_line.{is_waiting, of, stray, tracks_on}
 use Rattle.osi_fair.proofs.how_a_connection_opens.{calling_opens}
 use Rattle.osi_fair.proofs.references_of_requests_rise.{Rise, rise_from}
 use Rattle.osi_fair.proofs.what_holds_of_one_item.{none_true}
 use Rattle.osi_fair.proofs.what_keeps_names_apart.{Sound}
 use Rattle.osi_fair.proofs.what_lasts_at_the_tap.{lasts_passing}
 use Rattle.osi_fair.proofs.what_stays_of_each_connection.{left_then, right_judged, right_own}
-use Rattle.osi_fair.proofs.what_the_other_side_closes.{IsPlain, IsSane, is_name}
+use Rattle.osi_fair.proofs.what_belongs_to_no_open_connection.{strays_last}
+use Rattle.osi_fair.proofs.what_the_other_side_closes.{IsFirm, IsSane, is_name}
 use Rattle.osi_fair.proofs.which_requests_are_put.{asked_among}
-use Rattle.osi_fair.proofs.which_units_are_for_a_connection.{heads_nothing, named_not, named_so, names, one_more, those, those_join}
-use Rattle.osi_fair.proofs.which_units_are_for_a_connection.{first_left, those_nothing}
+use Rattle.osi_fair.proofs.which_units_are_for_a_connection.{IsOf, dc_not_ours, is_dc, is_ours, leads_none, named_not, named_so}
+use Rattle.osi_fair.proofs.which_units_are_for_a_connection.{names}
+use Rattle.osi_fair.proofs.which_units_are_for_a_connection.{picked_more, ours_not, picked_none, those}
 use Rattle.osi_fair.proofs.while_no_class_is_selected.{after_change, set_there}
-use Rattle.osi_fair.proofs.what_becomes_of_a_connection.{Answered, Told, answered, cc_waits, open_stays, opens, refused}
-
--- ---- what has come for a connection, with one unit more
-
-more_other : (r : ℕ) (coming : List Value) (v : Value) → names r v ≡ false → those r (coming ++ v ∷ []) ≡ those r coming
-more_other r coming v e = those_join r coming (v ∷ []) ∙ ap (λ (l : List Value). those r coming ++ l) (first_left r v [] e)
-    ∙ append-nil (those r coming)
-
-row_other : (local : Local) (end : State) (coming : List Value) (r peer : ℕ) (line : Line) (v : Value) → names r v ≡ false →
-    Row local end coming r peer line → Row local end (coming ++ v ∷ []) r peer line
-row_other local end coming r peer line v e (asks there x source first is) = asks there x source (more_other r coming v e ∙ first) is
-row_other local end coming r peer line v e (talks link there is all) = talks link there is (more_other r coming v e ∙ all)
-row_other local end coming r peer line v e (closes o there q k is all) = closes o there q k is (more_other r coming v e ∙ all)
-row_other local end coming r peer line v e (over h) = over h
-
-row_add : (local : Local) (end : State) (coming : List Value) (r peer : ℕ) (line after : Line) (v : Value) → names r v ≡ true →
-    after.link ≡ line.link → after.coming ≡ line.coming ++ v ∷ [] → Row local end coming r peer line →
-    Row local end (coming ++ v ∷ []) r peer after
-row_add local end coming r peer line after v e link same (asks there x source first is) =
-    asks there x source (one_more r coming v e ∙ ap (λ (l : List Value). l ++ v ∷ []) first ∙ ap (λ (l : List Value). confirm r x ∷ l) (sym same))
-    (link ∙ is)
-row_add local end coming r peer line after v e link same (talks l there is all) =
-    talks l there (link ∙ is) (one_more r coming v e ∙ ap (λ (l : List Value). l ++ v ∷ []) all ∙ sym same)
-row_add local end coming r peer line after v e link same (closes o there q k is all) =
-    closes o there q k (link ∙ is) (one_more r coming v e ∙ ap (λ (l : List Value). l ++ v ∷ []) all ∙ sym same)
-row_add local end coming r peer line after v e link same (over h) = over h
-
--- as long as the end has not ended
-row_or : (local : Local) (end : State) (coming : List Value) (r peer : ℕ) (line : Line) (b : Bool) → is_some end.ended ≡ b →
-    (end.ended ≡ None → Row local end coming r peer line) → Row local end coming r peer line
-row_or local end coming r peer line true e k = over e
-row_or local end coming r peer line false e k = k (no_end end.ended e)
-
-following_other : (local : Local) (put : List Value) (b : Bool) (end : State) (coming : List Value) (x : Connection) (v : Value) →
-    (k : Following local put b end coming x) → names k.r v ≡ false → Following local put b end (coming ++ v ∷ []) x
-following_other local put b end coming x v k e = record {
-  r = k.r;
-  peer = k.peer;
-  line = k.line;
-  left = k.left;
-  right = k.right;
-  tracks = k.tracks;
-  tap = k.tap;
-  put_is = k.put_is;
-  begun_is = k.begun_is;
-  row = row_other local end coming k.r k.peer k.line v e k.row;
-  calm = k.calm;
-}
-
-waiting_other : (local : Local) (end : State) (coming : List Value) (x : Connection) (v : Value) → (k : Waiting local end coming x) →
-    names k.r v ≡ false → Waiting local end (coming ++ v ∷ []) x
-waiting_other local end coming x v k e = record {
-  r = k.r;
-  left = k.left;
-  right = k.right;
-  seen = k.seen;
-  class0 = k.class0;
-  none = more_other k.r coming v e ∙ k.none;
-  row = k.row;
-}
-
-all_add : (P : Value → Type 0) (vs : List Value) (v : Value) → AllByRecursion P vs → P v → AllByRecursion P (vs ++ v ∷ [])
-all_add P [] v a p = (p, tt)
-all_add P (u ∷ vs) v (one, more) p = (one, all_add P vs v more p)
+use Rattle.osi_fair.proofs.what_becomes_of_a_connection.{Answered, Told, answered, cc_waits, not_selected, open_stays, opens}
+use Rattle.osi_fair.proofs.what_becomes_of_a_connection.{refused, waits_on}
+use Rattle.osi_fair.proofs.what_has_come_with_one_unit_more.{all_add, early_other, following_other, row_add, row_or, spares_on, waiting_dc}
+use Rattle.osi_fair.proofs.what_has_come_with_one_unit_more.{waiting_other}
 
 -- ---- the CRs that are to pass
 
@@ -132,7 +76,8 @@ rise_parts n (data2 destination number end user) vs rise = (λ y e. absurd (cc e
 rise_parts n (acknowledge credit destination number) vs rise = (λ y e. absurd (cc e), rise)
 rise_parts n (error destination cause) vs rise = (λ y e. absurd (cc e), rise)
 
-rise_all : (n : ℕ) (vs : List Value) → Rise n (asked_among vs) → AllByRecursion (λ (v : Value). (x : Connect) → v ≡ request x → n < x.source) vs
+rise_all : (n : ℕ) (vs : List Value) → Rise n (asked_among vs) →
+    AllByRecursion (λ (v : Value). (x : Connect) → v ≡ request x → n < x.source) vs
 rise_all n [] h = tt
 rise_all n (v ∷ vs) h = let (one, more) = rise_parts n v vs h in (one, rise_all n vs more)
 
@@ -186,7 +131,7 @@ half_not_silent (data2 destination number end user) half h = h
 half_not_silent (acknowledge credit destination number) half h = h
 half_not_silent (error destination cause) half h = refl
 
-course_same : (c : Connection) (v : Value) (b : Bool) (course : Course) → ((m : ℕ) (x : Connect) → v ≡ confirm m x → ⊥) →
+pub course_same : (c : Connection) (v : Value) (b : Bool) (course : Course) → ((m : ℕ) (x : Connect) → v ≡ confirm m x → ⊥) →
     (course_after Right c v b course).class ≡ course.class
 course_same c (request x) b course h = refl
 course_same c (confirm destination x) b course h = absurd (h destination x refl)
@@ -196,6 +141,31 @@ course_same c (data0 end user) b course h = refl
 course_same c (data2 destination number end user) b course h = refl
 course_same c (acknowledge credit destination number) b course h = refl
 course_same c (error destination cause) b course h = refl
+
+known_judged : (r : Reach) (c : Connection) → (judged_on r c).seen_by_left ≡ c.seen_by_left
+known_judged reach.Nothing c = refl
+known_judged reach.Connection c = refl
+known_judged reach.Side c = refl
+known_judged reach.Everything c = refl
+
+known_sized : (v : Value) (c : Connection) → (sent_on Right v c).seen_by_left ≡ c.seen_by_left
+known_sized (request x) c = refl
+known_sized (confirm destination x) c = refl
+known_sized (disconnect destination source reason user) c = refl
+known_sized (disconnected destination source) c = refl
+known_sized (data0 end user) c = refl
+known_sized (data2 destination number end user) c = refl
+known_sized (acknowledge credit destination number) c = refl
+known_sized (error destination cause) c = refl
+
+-- what left knows stays as right sends
+known_then : (v : Value) (applied : Bool) (r : Reach) (c : Connection) →
+    (connection_after Right v applied r c).seen_by_left ≡ c.seen_by_left
+known_then v true r c = known_judged r (sent_on Right v c) ∙ known_sized v c
+known_then v false r c = known_judged r c
+
+pub dc_no_cc : (v : Value) → is_dc v ≡ true → (m : ℕ) (x : Connect) → v ≡ confirm m x → ⊥
+dc_no_cc v dc m x e = cc (sym (ap is_dc e) ∙ dc)
 
 reached_same : (r : Reach) (course : Course) → (reached Right r course).class ≡ course.class
 reached_same reach.Nothing c = refl
@@ -209,8 +179,8 @@ data Kind (c : Connection) : Type 0 where
   is_past : is_open c.left.phase ≡ false → is_silent c.right.phase ≡ false → Kind c
 
 module _ (local : Local) (w : Whole) (f : Followed local w) (sane : IsSane w.tap) (firm : w.tap.course.loose ≡ false)
-    (plain : w.tap.course.strays ≡ false) (newer : Newer w) (v : Value) (ranges : HasFieldsInRange v)
-    (t : Told v w.tap (takes Right v w.tap)) (plain_after : IsPlain (takes Right v w.tap).state.course) where
+    (newer : Newer w) (v : Value) (ranges : HasFieldsInRange v) (t : Told v w.tap (takes Right v w.tap))
+    (firm_after : IsFirm (takes Right v w.tap).state.course) (none_zero : (takes Right v w.tap).state.course.class ≡ Some Zero → ⊥) where
   abbrev cs : List Connection
   cs = w.tap.connections
 
@@ -247,8 +217,14 @@ module _ (local : Local) (w : Whole) (f : Followed local w) (sane : IsSane w.tap
   course_is : (takes Right v w.tap).state.course ≡ course_so
   course_is = ap (λ (o : Outcome). o.state.course) t.is
 
-  plain_so : IsPlain course_so
-  plain_so = subst IsPlain course_is plain_after
+  firm_so : IsFirm course_so
+  firm_so = subst IsFirm course_is firm_after
+
+  abbrev strays_after : Bool
+  strays_after = (takes Right v w.tap).state.course.strays
+
+  strays_on : w.tap.course.strays ≡ true → strays_after ≡ true
+  strays_on h = strays_last (passing Right v) w.tap h
 
   name_is : c.left.reference ≡ t.n
   name_is = is_name c t.n sound_c t.named
@@ -260,7 +236,8 @@ module _ (local : Local) (w : Whole) (f : Followed local w) (sane : IsSane w.tap
   nxt_at = ap (λ (l : List Connection). slice_get l t.q) conns ∙ set_there cs t.q nxt c t.at
 
   not_over : is_over Right c ≡ true → ⊥
-  not_over gone_so = not_both (is_over Right c) (not (is_silent c.seen_by_right.phase) && (c.seen_by_right.reference == t.n)) gone_so t.named
+  not_over gone_so = not_both (is_over Right c)
+      (not (is_silent c.seen_by_right.phase) && (c.seen_by_right.reference == t.n)) gone_so t.named
 
   over_so : is_over_by c.right c.seen_by_right ≡ true → ⊥
   over_so h = not_over (both c.is_judged (is_over_by c.right c.seen_by_right) judged_c h)
@@ -290,20 +267,23 @@ module _ (local : Local) (w : Whole) (f : Followed local w) (sane : IsSane w.tap
 
   data Next : Type 0 where
     goes_on : is_tracked c ≡ true → is_tracked nxt ≡ true → nxt.right.reference ≡ c.right.reference →
-        ((m : ℕ) (x : Connect) → v ≡ confirm m x → ⊥) → Following local w.put w.begun w.end more nxt → Next
-    opened : is_tracked c ≡ false → is_tracked nxt ≡ true → Following local w.put w.begun w.end more nxt →
+        ((m : ℕ) (x : Connect) → v ≡ confirm m x → ⊥) → Following local w.put w.begun strays_after w.end more nxt → Next
+    opened : is_tracked c ≡ false → is_silent c.right.phase ≡ true → is_tracked nxt ≡ true →
+        Following local w.put w.begun strays_after w.end more nxt →
         (w.end.ended ≡ None → value_at t.n w.end.live ≡ Some asked) → course_so.class ≡ Some Two → Next
+    -- a DC that is not judged
+    quiet : is_tracked c ≡ false → nxt ≡ c → is_dc v ≡ true → Next
     gone : is_tracked c ≡ false → is_tracked nxt ≡ false → is_silent nxt.right.phase ≡ false →
         ((m : ℕ) (x : Connect) → v ≡ confirm m x → ⊥) → Next
 
   no_cc : is_silent c.right.phase ≡ false → (m : ℕ) (x : Connect) → v ≡ confirm m x → ⊥
   no_cc h m x e =
-      cc_waits w.tap c judged_c sound_c plain m x h
-      (subst (λ (u : Value). IsPlain (reached Right (reach_of (class_for Right w.tap.course) (found_on Right w.tap c u))
-      (course_after Right c u (is_applied (found_on Right w.tap c u)) w.tap.course))) e plain_so)
+      cc_waits w.tap c judged_c sound_c m x h
+      (subst (λ (u : Value). IsFirm (reached Right (reach_of (class_for Right w.tap.course) (found_on Right w.tap c u))
+      (course_after Right c u (is_applied (found_on Right w.tap c u)) w.tap.course))) e firm_so)
 
   line_on : (tracked : is_tracked c ≡ true) → nxt.right.reference ≡ c.right.reference → IsNoCc v →
-      Following local w.put w.begun w.end more nxt
+      Following local w.put w.begun strays_after w.end more nxt
   line_on tracked right none =
       let g = f.lines t.q c t.at tracked in
       let in_use = uses_source Right cs v in
@@ -320,16 +300,20 @@ module _ (local : Local) (w : Whole) (f : Followed local w) (sane : IsSane w.tap
       let some : reach_of (Some Two) (finding_of Right w.tap.course in_use g.line.tap v) ≢ reach.Everything = λ e.
       differ course_so.left_stopped (ap (λ (r : Reach). (reached Right r (course_after Right c v (is_applied found_so)
       w.tap.course)).left_stopped) (ap (λ (k : Option Class). reach_of k found_so) class
-      ∙ ap (λ (x : Connection). reach_of (Some Two) (finding_of Right w.tap.course in_use x v)) (sym g.tap) ∙ e)) plain_so.left in
+      ∙ ap (λ (x : Connection). reach_of (Some Two) (finding_of Right w.tap.course in_use x v)) (sym g.tap) ∙ e)) firm_so.left in
       record {
         r = g.r;
         peer = g.peer;
         line = line;
         left = ap (λ (x : Half). x.reference) nxt_left ∙ g.left;
         right = right ∙ g.right;
-        tracks = tracks_on g.r g.peer g.line line (passes_other w.tap.course in_use v ∷ []) g.tracks (line, (ranges, dest, some, refl), refl);
+        tracks = tracks_on g.r g.peer g.line line (passes_other w.tap.course in_use v ∷ []) g.tracks
+            (line, (ranges, dest, some, refl), refl);
         tap = tap;
+        spare = g.spare;
         put_is = g.put_is;
+        spares = spares_on w.tap.course.strays strays_after g.r g.peer g.spare strays_on g.spares;
+        gone = g.gone;
         begun_is = g.begun_is;
         row = row_add local w.end w.coming g.r g.peer g.line line v (named_so g.r v dest) refl refl g.row;
         calm = all_add IsNoCc g.line.coming v g.calm none;
@@ -337,26 +321,32 @@ module _ (local : Local) (w : Whole) (f : Followed local w) (sane : IsSane w.tap
 
   goes_so : is_tracked c ≡ true → Next
   goes_so tracked =
-      let (there, right) = open_stays w.tap c judged_c sound_c plain v t.n t.dest tracked plain_so in
+      let (there, right) = open_stays w.tap c judged_c sound_c v t.n t.dest tracked firm_so in
       let still = both (is_open nxt.left.phase) (is_open nxt.right.phase || is_closing nxt.right.phase)
       (ap (λ (h : Half). is_open h.phase) nxt_left ∙ left_open c tracked) there in
       let none = no_cc (there_not_silent c.right.phase (right_there c tracked)) in
       goes_on tracked still right none (line_on tracked right none)
 
   -- right uses the reference of the CC for no other connection, so nothing that is to pass names it
-  unnamed_by : (x : Connect) (u : Value) (m : ℕ) (b : Bool) → (m == x.source) ≡ b → list_any (λ (e : Connection). uses Right x.source e) cs ≡ false →
-      destination_of u ≡ Some m → (i : ℕ) (e : Connection) → slice_get cs i ≡ Some e → is_tracked e ≡ true → e.right.reference ≡ m →
-      names x.source u ≡ false
-  unnamed_by x u m true same unused dest i e there tracked is =
+  unnamed_by : (x : Connect) (r : ℕ) (u : Value) (i : ℕ) (e : Connection) (b : Bool) → (e.right.reference == x.source) ≡ b →
+      list_any (λ (e : Connection). uses Right x.source e) cs ≡ false → slice_get cs i ≡ Some e → is_tracked e ≡ true →
+      destination_of u ≡ Some e.right.reference → is_ours r x.source u ≡ false
+  unnamed_by x r u i e true same unused there tracked dest =
       let j = sane.judged firm i e there in
-      differ (uses Right x.source e) (uses_tracked e x.source (sane.apart.sound i e there j) tracked (is ∙ eqb-true m x.source same))
+      differ (uses Right x.source e)
+      (uses_tracked e x.source (sane.apart.sound i e there j) tracked (eqb-true e.right.reference x.source same))
       (none_true (λ (y : Connection). uses Right x.source y) cs i e unused there)
-  unnamed_by x u m false same unused dest i e there tracked is = named_not m x.source u (unlike m x.source same) dest
+  unnamed_by x r u i e false same unused there tracked dest =
+      ours_not r e.right.reference x.source u (unlike e.right.reference x.source same) dest
 
-  unnamed_put : (x : Connect) → list_any (λ (e : Connection). uses Right x.source e) cs ≡ false → (u : Value) → IsOwned cs u →
-      names x.source u ≡ false
-  unnamed_put x unused u (asking y e) = ap (λ (a : Value). names x.source a) e
-  unnamed_put x unused u (of m i e dest there tracked is) = unnamed_by x u m (m == x.source) refl unused dest i e there tracked is
+  unnamed_put : (x : Connect) (r : ℕ) → list_any (λ (e : Connection). uses Right x.source e) cs ≡ false → is_waiting c ≡ true →
+      c.left.reference ≡ r → (u : Value) → IsOwned w.tap u → AreSettled cs w.put w.end.given u → is_ours r x.source u ≡ false
+  unnamed_put x r unused waiting mine u (asking y e) k = ap (λ (a : Value). is_ours r x.source a) e
+  unnamed_put x r unused waiting mine u (of i e there tracked own) k =
+      unnamed_by x r u i e (e.right.reference == x.source) refl unused there tracked own.named
+  unnamed_put x r unused waiting mine u (stray m source e strays) k =
+      ap (λ (a : Value). is_ours r x.source a) e
+      ∙ dc_not_ours r x.source m source (λ same. (k m source e).waits t.q c t.at waiting (mine ∙ sym same))
 
   class_opened : (x : Connect) → (x.class == 2) ≡ true → class_of x ≡ Two
   class_opened x h = ap (λ (b : Bool). if b then Two else Zero) h
@@ -373,13 +363,14 @@ module _ (local : Local) (w : Whole) (f : Followed local w) (sane : IsSane w.tap
       uses_source Right cs v ≡ false → is_waiting c ≡ true → is_tracked c ≡ false → Waiting local w.end w.coming c → Next
   opens_so m x e right_so two unused waiting not_tracked k =
       let (applied, nothing) = fine_reach (class_for Right w.tap.course) found_so right_so in
-      let none_use : list_any (λ (y : Connection). uses Right x.source y) cs ≡ false = sym (ap (λ (u : Value). uses_source Right cs u) e) ∙ unused in
+      let none_use : list_any (λ (y : Connection). uses Right x.source y) cs ≡ false =
+      sym (ap (λ (u : Value). uses_source Right cs u) e) ∙ unused in
       let r_is : k.r ≡ t.n = sym (ap (λ (h : Half). h.reference) k.left) ∙ name_is in
       let named_r = named_so k.r v (t.dest ∙ ap (λ (i : ℕ). Some i) (sym r_is)) in
-      let none_put = those_nothing x.source w.put (all_so (λ u. IsOwned cs u) (λ u. names x.source u ≡ false) w.put
-      (unnamed_put x none_use) f.owned) in
-      let none_head = heads_nothing x.source w.put (all_so (λ u. IsOwned cs u) (λ u. names x.source u ≡ false) w.put
-      (unnamed_put x none_use) f.owned) in
+      let others = all_two (λ u. IsOwned w.tap u) (λ u. AreSettled cs w.put w.end.given u) (λ u. is_ours k.r x.source u ≡ false) w.put
+      (unnamed_put x k.r none_use waiting (name_is ∙ sym r_is)) f.owned f.settled in
+      let none_put = picked_none (is_ours k.r x.source) w.put others in
+      let none_head = leads_none (is_ours k.r x.source) w.put others in
       let opened_as : Connection = sent_on Right (confirm k.r x) c in
       let is : nxt ≡ opened_as =
       ap (λ (b : Bool). connection_after Right v b far c) applied ∙ ap (λ (r : Reach). connection_after Right v true r c) nothing
@@ -390,7 +381,7 @@ module _ (local : Local) (w : Whole) (f : Followed local w) (sane : IsSane w.tap
       both (is_open nxt.left.phase) (is_open nxt.right.phase || is_closing nxt.right.phase)
       (ap (λ (h : Half). is_open h.phase) nxt_left ∙ and_first (is_open c.left.phase) (is_silent c.right.phase) waiting)
       (ap (λ (y : Connection). is_open y.right.phase || is_closing y.right.phase) is) in
-      opened not_tracked tracked (record {
+      opened not_tracked (and_second (is_open c.left.phase) (is_silent c.right.phase) waiting) tracked (record {
         r = k.r;
         peer = x.source;
         line = line;
@@ -398,10 +389,14 @@ module _ (local : Local) (w : Whole) (f : Followed local w) (sane : IsSane w.tap
         right = ap (λ (y : Connection). y.right.reference) is;
         tracks = record { first = line; acts = []; opened = calling_opens local x k.r c range.1 k.left k.right k.seen; along = refl };
         tap = sym is;
-        put_is = sym none_put;
+        spare = [];
+        put_is = none_put;
+        spares = tt;
+        gone = λ h. absurd (h refl);
         begun_is = sym (ap (λ (b : Bool). w.begun && b) none_head ∙ none_begun w.begun);
-        row = row_or local w.end more k.r x.source line (is_some w.end.ended) refl (λ lasts. asks (k.row lasts) x refl (one_more k.r w.coming v named_r ∙ ap (λ (l : List Value). l ++ v ∷ []) k.none
-            ∙ ap (λ (u : Value). u ∷ []) (e ∙ ap (λ (i : ℕ). confirm i x) (same_name m x e ∙ sym r_is))) refl);
+        row = row_or local w.end more k.r x.source line (is_some w.end.ended) refl (λ lasts.
+            asks (k.row lasts) x refl (those k.r w.coming) k.early (picked_more (names k.r) w.coming v named_r
+            ∙ ap (λ (u : Value). those k.r w.coming ++ u ∷ []) (e ∙ ap (λ (i : ℕ). confirm i x) (same_name m x e ∙ sym r_is))) refl);
         calm = tt;
       }) (λ lasts. ap (λ (i : ℕ). value_at i w.end.live) (sym r_is) ∙ k.row lasts)
       (reached_same far (course_after Right c v (is_applied found_so) w.tap.course)
@@ -414,10 +409,11 @@ module _ (local : Local) (w : Whole) (f : Followed local w) (sane : IsSane w.tap
       let (a, b) = refused_parts nxt.right.phase h in
       gone not_tracked (and_not (is_open nxt.left.phase) (is_open nxt.right.phase || is_closing nxt.right.phase) a) b none
 
-  by_answer : is_waiting c ≡ true → is_tracked c ≡ false → Answered w.tap c judged_c sound_c plain v → Next
+  by_answer : is_waiting c ≡ true → is_tracked c ≡ false → Answered w.tap c judged_c sound_c v → Next
   by_answer waiting not_tracked (opens m x e right_so two unused) =
       opens_so m x e right_so two unused waiting not_tracked (f.waiting t.q c t.at waiting)
   by_answer waiting not_tracked (refused h none) = refused_so h not_tracked none
+  by_answer waiting not_tracked (waits_on dc same) = quiet not_tracked same dc
 
   right_after : (b : Bool) → is_applied found_so ≡ b → nxt.right ≡ (if b then half_after v c.right else c.right)
   right_after true e = ap (λ (b : Bool). (connection_after Right v b far c).right) e ∙ right_own v far c
@@ -430,8 +426,8 @@ module _ (local : Local) (w : Whole) (f : Followed local w) (sane : IsSane w.tap
   by_kind : Kind c → Next
   by_kind (stands tracked) = goes_so tracked
   by_kind (waits_yet waiting silent not_tracked) =
-      by_answer waiting not_tracked (answered w.tap c judged_c sound_c plain v t.n t.dest silent
-      (f.waiting t.q c t.at waiting).class0 plain_so)
+      by_answer waiting not_tracked (answered w.tap c judged_c sound_c v t.n t.dest silent
+      (not_selected w.tap c judged_c sound_c v (λ h. none_zero (ap (λ (k : Course). k.class) course_is ∙ h))) firm_so)
   by_kind (is_past not_open not_silent_c) =
       gone (and_first_not (is_open c.left.phase) (is_open c.right.phase || is_closing c.right.phase) not_open)
       (and_first_not (is_open nxt.left.phase) (is_open nxt.right.phase || is_closing nxt.right.phase)
@@ -460,39 +456,58 @@ module _ (local : Local) (w : Whole) (f : Followed local w) (sane : IsSane w.tap
   unlike_r i x r other there is =
       named_not t.n r v (λ same. other (sane.distinct i t.q x c there t.at (is ∙ sym same ∙ sym name_is))) t.dest
 
-  line_at : (i : ℕ) (x : Connection) → is_tracked x ≡ true → Next → Item i x → Following local w.put w.begun w.end more x
+  line_at : (i : ℕ) (x : Connection) → is_tracked x ≡ true → Next → Item i x → Following local w.put w.begun strays_after w.end more x
   line_at i x tracked k (inr (other, there)) =
       let g = f.lines i x there tracked in
-      following_other local w.put w.begun w.end w.coming x v g (unlike_r i x g.r other there g.left)
+      following_other local w.put w.begun w.tap.course.strays strays_after w.end w.coming x v strays_on g
+      (unlike_r i x g.r other there g.left)
   line_at i x tracked (goes_on a b right none line) (inl (same, is)) =
-      subst (λ (y : Connection). Following local w.put w.begun w.end more y) (sym is) line
-  line_at i x tracked (opened a b line row class) (inl (same, is)) =
-      subst (λ (y : Connection). Following local w.put w.begun w.end more y) (sym is) line
+      subst (λ (y : Connection). Following local w.put w.begun strays_after w.end more y) (sym is) line
+  line_at i x tracked (opened a silent b line row class) (inl (same, is)) =
+      subst (λ (y : Connection). Following local w.put w.begun strays_after w.end more y) (sym is) line
   line_at i x tracked (gone a b silent none) (inl (same, is)) = differ (is_tracked nxt) (ap is_tracked (sym is) ∙ tracked) b
+  line_at i x tracked (quiet a still dc) (inl (same, is)) = differ (is_tracked c) (ap is_tracked (sym (is ∙ still)) ∙ tracked) a
 
-  nxt_silent : Next → is_silent nxt.right.phase ≡ false
-  nxt_silent (goes_on a b right none line) = there_not_silent nxt.right.phase (right_there nxt b)
-  nxt_silent (opened a b line row class) = there_not_silent nxt.right.phase (right_there nxt b)
-  nxt_silent (gone a b silent none) = silent
+  -- what waits now waited before
+  was_waiting : (i : ℕ) (x : Connection) → is_silent x.right.phase ≡ true → Next → Item i x → slice_get cs i ≡ Some x
+  was_waiting i x silent k (inr (other, there)) = there
+  was_waiting i x silent (quiet a still dc) (inl (same, is)) =
+      ap (λ (j : ℕ). slice_get cs j) same ∙ t.at ∙ ap (λ (y : Connection). Some y) (sym (is ∙ still))
+  was_waiting i x silent (goes_on a b right none line) (inl (same, is)) =
+      differ (is_silent nxt.right.phase) (ap (λ (y : Connection). is_silent y.right.phase) (sym is) ∙ silent)
+      (there_not_silent nxt.right.phase (right_there nxt b))
+  was_waiting i x silent (opened a before b line row class) (inl (same, is)) =
+      differ (is_silent nxt.right.phase) (ap (λ (y : Connection). is_silent y.right.phase) (sym is) ∙ silent)
+      (there_not_silent nxt.right.phase (right_there nxt b))
+  was_waiting i x silent (gone a b later none) (inl (same, is)) =
+      differ (is_silent nxt.right.phase) (ap (λ (y : Connection). is_silent y.right.phase) (sym is) ∙ silent) later
 
-  waits_at : (i : ℕ) (x : Connection) → is_waiting x ≡ true → Item i x → Waiting local w.end more x
-  waits_at i x waiting (inl (same, is)) =
-      differ (is_silent nxt.right.phase) (ap (λ (y : Connection). is_silent y.right.phase) (sym is)
-      ∙ and_second (is_open x.left.phase) (is_silent x.right.phase) waiting) (nxt_silent next_so)
-  waits_at i x waiting (inr (other, there)) =
-      let k = f.waiting i x there waiting in
-      waiting_other local w.end w.coming x v k (unlike_r i x k.r other there (ap (λ (h : Half). h.reference) k.left))
+  waits_silent : (x : Connection) → is_waiting x ≡ true → is_silent x.right.phase ≡ true
+  waits_silent x waiting = and_second (is_open x.left.phase) (is_silent x.right.phase) waiting
 
-  silent_at : (i : ℕ) (x : Connection) → is_silent x.right.phase ≡ true → Item i x → is_open x.left.phase ≡ true
-  silent_at i x silent (inl (same, is)) =
-      differ (is_silent nxt.right.phase) (ap (λ (y : Connection). is_silent y.right.phase) (sym is) ∙ silent) (nxt_silent next_so)
-  silent_at i x silent (inr (other, there)) = f.silent i x there silent
+  not_quiet : {A : Type 0} (x : Connection) → is_waiting x ≡ true → is_silent nxt.right.phase ≡ false → x ≡ nxt → A
+  not_quiet x waiting later is =
+      differ (is_silent nxt.right.phase) (ap (λ (y : Connection). is_silent y.right.phase) (sym is) ∙ waits_silent x waiting) later
+
+  waits_at : (i : ℕ) (x : Connection) → is_waiting x ≡ true → Next → Item i x → Waiting local w.end more x
+  waits_at i x waiting k (inr (other, there)) =
+      let g = f.waiting i x there waiting in
+      waiting_other local w.end w.coming x v g (unlike_r i x g.r other there (ap (λ (h : Half). h.reference) g.left))
+  waits_at i x waiting (quiet a still dc) (inl (same, is)) =
+      waiting_dc local w.end w.coming x v dc
+      (f.waiting i x (was_waiting i x (waits_silent x waiting) (quiet a still dc) (inl (same, is))) waiting)
+  waits_at i x waiting (goes_on a b right none line) (inl (same, is)) =
+      not_quiet x waiting (there_not_silent nxt.right.phase (right_there nxt b)) is
+  waits_at i x waiting (opened a before b line row class) (inl (same, is)) =
+      not_quiet x waiting (there_not_silent nxt.right.phase (right_there nxt b)) is
+  waits_at i x waiting (gone a b later none) (inl (same, is)) = not_quiet x waiting later is
 
   -- of a connection that was open
   was_open : (A : Type 0) → is_tracked c ≡ true → (is_tracked nxt ≡ true → nxt.right.reference ≡ c.right.reference → A) → Next → A
   was_open A tracked k (goes_on a b right none line) = k b right
-  was_open A tracked k (opened a b line row class) = differ (is_tracked c) tracked a
+  was_open A tracked k (opened a silent b line row class) = differ (is_tracked c) tracked a
   was_open A tracked k (gone a b silent none) = differ (is_tracked c) tracked a
+  was_open A tracked k (quiet a still dc) = differ (is_tracked c) tracked a
 
   nxt_reference : nxt.left.reference ≡ c.left.reference
   nxt_reference = ap (λ (h : Half). h.reference) nxt_left
@@ -508,22 +523,27 @@ module _ (local : Local) (w : Whole) (f : Followed local w) (sane : IsSane w.tap
   tracked_to : (r : ℕ) → Tracked cs r → Tracked (takes Right v w.tap).state.connections r
   tracked_to r (i, x, there, tracked, is) = tracked_one r i x there tracked is (i == t.q) refl
 
-  owned_one : (u : Value) (m i : ℕ) (x : Connection) → destination_of u ≡ Some m → slice_get cs i ≡ Some x → is_tracked x ≡ true →
-      x.right.reference ≡ m → (b : Bool) → (i == t.q) ≡ b → IsOwned (takes Right v w.tap).state.connections u
-  owned_one u m i x dest there tracked is false h = of m i x dest (other_at i x (unlike i t.q h) there) tracked is
-  owned_one u m i x dest there tracked is true h =
+  owned_one : (u : Value) (i : ℕ) (x : Connection) → slice_get cs i ≡ Some x → is_tracked x ≡ true →
+      IsOf x.left.reference x.right.reference u → (b : Bool) → (i == t.q) ≡ b → IsOwned (takes Right v w.tap).state u
+  owned_one u i x there tracked own false h = of i x (other_at i x (unlike i t.q h) there) tracked own
+  owned_one u i x there tracked own true h =
       let so = same_one i x (eqb-true i t.q h) there in
-      was_open (IsOwned (takes Right v w.tap).state.connections u) (ap is_tracked (sym so) ∙ tracked)
-      (λ still right. of m t.q nxt dest nxt_at still (right ∙ ap (λ (y : Connection). y.right.reference) (sym so) ∙ is)) next_so
+      was_open (IsOwned (takes Right v w.tap).state u) (ap is_tracked (sym so) ∙ tracked)
+      (λ still right. of t.q nxt nxt_at still
+      (subst (λ (j : ℕ). IsOf j nxt.right.reference u) (sym nxt_reference)
+      (subst (λ (j : ℕ). IsOf c.left.reference j u) (sym right)
+      (subst (λ (y : Connection). IsOf y.left.reference y.right.reference u) so own)))) next_so
 
-  owned_to : (u : Value) → IsOwned cs u → IsOwned (takes Right v w.tap).state.connections u
+  owned_to : (u : Value) → IsOwned w.tap u → IsOwned (takes Right v w.tap).state u
   owned_to u (asking x e) = asking x e
-  owned_to u (of m i x dest there tracked is) = owned_one u m i x dest there tracked is (i == t.q) refl
+  owned_to u (of i x there tracked own) = owned_one u i x there tracked own (i == t.q) refl
+  owned_to u (stray m source e strays) = stray m source e (strays_on strays)
 
   answers_to : Next → IsAnswer (takes Right v w.tap).state.connections w.end v
   answers_to (goes_on a b right none line) m x e lasts = absurd (none m x e)
   answers_to (gone a b silent none) m x e lasts = absurd (none m x e)
-  answers_to (opened a b line row class) m x e lasts =
+  answers_to (quiet a still dc) m x e lasts = absurd (dc_no_cc v dc m x e)
+  answers_to (opened a silent b line row class) m x e lasts =
       let same = same_name m x e in (
         (t.q, nxt, nxt_at, b, nxt_reference ∙ name_is ∙ sym same),
         ap (λ (i : ℕ). value_at i w.end.live) same ∙ row lasts,
@@ -535,8 +555,9 @@ module _ (local : Local) (w : Whole) (f : Followed local w) (sane : IsSane w.tap
       (lasts_passing (passing Right v) w.tap).two (f.two r (i, x, there, tracked, is))
   class_from r i x tracked is (goes_on a b right none line) (inl (same, so)) =
       (lasts_passing (passing Right v) w.tap).two (f.two c.left.reference (t.q, c, t.at, a, refl))
-  class_from r i x tracked is (opened a b line row class) (inl (same, so)) = ap (λ (k : Course). k.class) course_is ∙ class
+  class_from r i x tracked is (opened a silent b line row class) (inl (same, so)) = ap (λ (k : Course). k.class) course_is ∙ class
   class_from r i x tracked is (gone a b silent none) (inl (same, so)) = differ (is_tracked nxt) (ap is_tracked (sym so) ∙ tracked) b
+  class_from r i x tracked is (quiet a still dc) (inl (same, so)) = differ (is_tracked c) (ap is_tracked (sym (so ∙ still)) ∙ tracked) a
 
   same_class : ((m : ℕ) (x : Connect) → v ≡ confirm m x → ⊥) → (takes Right v w.tap).state.course.class ≡ w.tap.course.class
   same_class none =
@@ -547,7 +568,8 @@ module _ (local : Local) (w : Whole) (f : Followed local w) (sane : IsSane w.tap
   zero_after (goes_on a b right none line) =
       subst (λ (k : Option Class). (k ≡ None) ⊎ (k ≡ Some Two)) (sym (same_class none)) f.zero
   zero_after (gone a b silent none) = subst (λ (k : Option Class). (k ≡ None) ⊎ (k ≡ Some Two)) (sym (same_class none)) f.zero
-  zero_after (opened a b line row class) = inr (ap (λ (k : Course). k.class) course_is ∙ class)
+  zero_after (quiet a still dc) = subst (λ (k : Option Class). (k ≡ None) ⊎ (k ≡ Some Two)) (sym (same_class (dc_no_cc v dc))) f.zero
+  zero_after (opened a silent b line row class) = inr (ap (λ (k : Course). k.class) course_is ∙ class)
 
   new_request : (u : Value) → ((x : Connect) → u ≡ request x → IsAsking local w.end w.coming x) →
       ((x : Connect) → u ≡ request x → newer.last < x.source) → (x : Connect) → u ≡ request x → IsAsking local w.end more x
@@ -559,12 +581,12 @@ module _ (local : Local) (w : Whole) (f : Followed local w) (sane : IsSane w.tap
       record {
         left = a.left;
         class0 = a.class0;
-        none = more_other x.source w.coming v (named_not t.n x.source v (λ same. absurd (omega arith)) t.dest) ∙ a.none;
+        early = early_other x.source w.coming v (named_not t.n x.source v (λ same. absurd (omega arith)) t.dest) a.early;
         row = a.row;
       }
 
   given_so : AreGiven w.end.given v
-  given_so m e =
+  given_so dc m e =
       let below = newer.below t.q c t.at in
       let last = newer.given in
       let is = name_is in
@@ -572,23 +594,51 @@ module _ (local : Local) (w : Whole) (f : Followed local w) (sane : IsSane w.tap
       let same : m ≡ t.n = cc in
       omega arith
 
+  seen_at : (i : ℕ) (x : Connection) → is_tracked x ≡ true → is_silent x.seen_by_left.phase ≡ false → Next → Item i x →
+      (takes Right v w.tap).state.course.class_seen ≡ Some Two
+  seen_at i x tracked known k (inr (other, there)) =
+      (lasts_passing (passing Right v) w.tap).seen (f.two x.left.reference (i, x, there, tracked, refl)) (f.seen i x there tracked known)
+  seen_at i x tracked known (goes_on a b right none line) (inl (same, is)) =
+      let before = ap (λ (h : Half). is_silent h.phase) (sym (known_then v (is_applied found_so) far c))
+      ∙ ap (λ (y : Connection). is_silent y.seen_by_left.phase) (sym is) ∙ known in
+      (lasts_passing (passing Right v) w.tap).seen (f.two c.left.reference (t.q, c, t.at, a, refl)) (f.seen t.q c t.at a before)
+  seen_at i x tracked known (opened a silent b line row class) (inl (same, is)) =
+      let before = ap (λ (h : Half). is_silent h.phase) (sym (known_then v (is_applied found_so) far c))
+      ∙ ap (λ (y : Connection). is_silent y.seen_by_left.phase) (sym is) ∙ known in
+      differ (is_silent c.right.phase) silent (sound_c.left_knows.there before)
+  seen_at i x tracked known (gone a b silent none) (inl (same, is)) = differ (is_tracked nxt) (ap is_tracked (sym is) ∙ tracked) b
+  seen_at i x tracked known (quiet a still dc) (inl (same, is)) = differ (is_tracked c) (ap is_tracked (sym (is ∙ still)) ∙ tracked) a
+
+  settled_to : (u : Value) → AreSettled cs w.put w.end.given u → AreSettled (takes Right v w.tap).state.connections w.put w.end.given u
+  settled_to u h m source e =
+      let k = h m source e in
+      record {
+        up = k.up;
+        waits = λ i x there waiting same.
+            k.waits i x (was_waiting i x (waits_silent x waiting) next_so (item i x there)) waiting same;
+        asks = k.asks;
+      }
+
   pub other_passes : Followed local after
   other_passes = record {
     lines = λ i x there tracked. line_at i x tracked next_so (item i x there);
-    waiting = λ i x there waiting. waits_at i x waiting (item i x there);
-    owned = all_so (λ u. IsOwned cs u) (λ u. IsOwned (takes Right v w.tap).state.connections u) w.put owned_to f.owned;
+    waiting = λ i x there waiting. waits_at i x waiting next_so (item i x there);
+    owned = all_so (λ u. IsOwned w.tap u) (λ u. IsOwned (takes Right v w.tap).state u) w.put owned_to f.owned;
     linked = λ lasts r peer link h. let (k, two) = f.linked lasts r peer link h in (tracked_to r k, two);
     answers = all_add (λ u. IsAnswer (takes Right v w.tap).state.connections w.end u) w.coming v
         (all_so (λ u. IsAnswer cs w.end u) (λ u. IsAnswer (takes Right v w.tap).state.connections w.end u) w.coming
         (λ u h m x e lasts. let (k, row) = h m x e lasts in (tracked_to m k, row)) f.answers) (answers_to next_so);
     requests = all_two (λ u. (x : Connect) → u ≡ request x → IsAsking local w.end w.coming x)
-        (λ u. (x : Connect) → u ≡ request x → newer.last < x.source) (λ u. (x : Connect) → u ≡ request x → IsAsking local w.end more x) w.put
+        (λ u. (x : Connect) → u ≡ request x → newer.last < x.source)
+        (λ u. (x : Connect) → u ≡ request x → IsAsking local w.end more x) w.put
         new_request f.requests (rise_all newer.last w.put newer.rise);
     two = λ r k.
         let (i, x, there, tracked, is) = k in class_from r i x tracked is next_so (item i x there);
-    silent = λ i x there silent. silent_at i x silent (item i x there);
+    silent = λ i x there silent. f.silent i x (was_waiting i x silent next_so (item i x there)) silent;
     zero = zero_after next_so;
     some = f.some;
     few = all_add (AreGiven w.end.given) w.coming v f.few given_so;
-    seen = λ n b h. (lasts_passing (passing Right v) w.tap).seen (head_two local w f n h) (f.seen n b h);
+    seen = λ i x there tracked known. seen_at i x tracked known next_so (item i x there);
+    settled = all_so (AreSettled cs w.put w.end.given) (AreSettled (takes Right v w.tap).state.connections w.put w.end.given) w.put
+        settled_to f.settled;
   }

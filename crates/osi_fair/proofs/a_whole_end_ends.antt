@@ -1,6 +1,6 @@
 -- A whole calling end ends: it puts nothing then, and what it has put still passes by its lines.
 -- For the law on a whole end.
-use Rattle.std.proofs.Common.{◌≡◌, ◌∙◌, ℕ, Bool, true, false, List, [], ◌∷◌, ◌++◌, refl, sym, ap, subst, arith}
+use Rattle.std.proofs.Common.{◌≡◌, ◌∙◌, ◌≤◌, ℕ, Bool, true, false, List, [], ◌∷◌, ◌++◌, refl, sym, ap, subst, arith}
 use Rattle.std.proofs.Common.{Option, Some, None, Result, Ok, Err, inl, inr, ◌⊎◌, is_some}
 use Rattle.std.specs.List.{AllByRecursion}
 use Rattle.std.proofs.lemmas.List.{append-nil}
@@ -21,14 +21,17 @@ use Rattle.osi_fair.specs.Putting.{put_at, put_before, put_by, put_for, put_in_t
 use Rattle.osi_fair.specs.Putting.{put_taking}
 use Rattle.osi_fair.specs.Wholes.{MayCall, Whole}
 use Rattle.osi_fair.proofs.a_request_of_a_whole_end_is_new.{Newer, unit_gives}
-use Rattle.osi_fair.proofs.a_whole_end_makes_a_call.{end_calls, nothing_so}
-use Rattle.osi_fair.proofs.a_whole_end_takes_a_unit.{end_takes, two_puts, two_reacts}
-use Rattle.osi_fair.proofs.each_connection_has_its_line.{AreGiven, Followed, Following, IsAnswer, IsAsking, all_so, no_end, over}
-use Rattle.osi_fair.proofs.how_a_calling_end_asks.{Idle, IsCalling, broke, over_calls, over_takes, put_is as put_calling, react_is as react_calling, same}
+use Rattle.osi_fair.proofs.a_whole_end_makes_a_call.{end_calls, nothing_so, same_up}
+use Rattle.osi_fair.proofs.a_whole_end_takes_a_unit.{end_takes}
+use Rattle.osi_fair.proofs.what_a_unit_leaves_at_a_calling_end.{two_puts, two_reacts}
+use Rattle.osi_fair.proofs.each_connection_has_its_line.{AreGiven, AreSettled, Followed, Following, IsAnswer, IsAsking, all_so, no_end}
+use Rattle.osi_fair.proofs.each_connection_has_its_line.{over}
+use Rattle.osi_fair.proofs.how_a_calling_end_asks.{Idle, IsCalling, broke, over_calls, over_takes, put_is as put_calling}
+use Rattle.osi_fair.proofs.how_a_calling_end_asks.{react_is as react_calling, same}
 use Rattle.osi_fair.proofs.references_of_requests_rise.{all_gives, closed_gives, ended_gives, sent_gives}
-use Rattle.osi_fair.proofs.what_a_calling_end_still_has.{IsLive, OffersTwo, all_last, over_not, sent_lasts}
+use Rattle.osi_fair.proofs.what_a_calling_end_still_has.{IsLive, OffersTwo, SelectsTwo, all_last, over_not, sent_lasts}
 use Rattle.osi_fair.proofs.what_the_other_side_closes.{IsDr, IsSane, closed_by}
-use Rattle.osi_fair.proofs.which_units_are_for_a_connection.{keep, names, those}
+use Rattle.osi_fair.proofs.which_units_are_for_a_connection.{IsDc, keep, names, those}
 
 -- ---- as it ends it puts nothing
 
@@ -38,25 +41,29 @@ never s t lasts e h = over_not t.ended h (e ∙ lasts)
 unknown_puts : (n : ℕ) (u : Value) (s : State) → s.ended ≡ None → is_some (to_unknown u s).ended ≡ true → put_at n None u s.class ≡ []
 unknown_puts n (request x) s lasts h = refl
 unknown_puts n (confirm destination x) s lasts h = refl
-unknown_puts n (disconnect destination source reason user) s lasts h = never s (to_unknown (disconnect destination source reason user) s) lasts refl h
+unknown_puts n (disconnect destination source reason user) s lasts h =
+    never s (to_unknown (disconnect destination source reason user) s) lasts refl h
 unknown_puts n (disconnected destination source) s lasts h = refl
 unknown_puts n (data0 end user) s lasts h = refl
 unknown_puts n (data2 destination number end user) s lasts h = refl
 unknown_puts n (acknowledge credit destination number) s lasts h = refl
 unknown_puts n (error destination cause) s lasts h = refl
 
-fault_puts : (n peer : ℕ) (fault : LinkFault) (k : Option Class) (s : State) → s.ended ≡ None → is_some (breaks_in n peer fault k s).ended ≡ true →
+fault_puts : (n peer : ℕ) (fault : LinkFault) (k : Option Class) (s : State) → s.ended ≡ None →
+    is_some (breaks_in n peer fault k s).ended ≡ true →
     put_taking n peer (Err fault) k ≡ []
 fault_puts n peer fault None s lasts h = refl
 fault_puts n peer fault (Some Zero) s lasts h = refl
 fault_puts n peer fault (Some Two) s lasts h = never s (breaks_in n peer fault (Some Two) s) lasts refl h
 
-taking_puts : (n peer : ℕ) (result : Result Standing LinkFault) (s : State) → s.ended ≡ None → is_some (taking n peer result s).ended ≡ true →
+taking_puts : (n peer : ℕ) (result : Result Standing LinkFault) (s : State) → s.ended ≡ None →
+    is_some (taking n peer result s).ended ≡ true →
     put_taking n peer result s.class ≡ []
 taking_puts n peer (Ok link) s lasts h = never s (taking n peer (Ok link) s) lasts refl h
 taking_puts n peer (Err fault) s lasts h = fault_puts n peer fault s.class s lasts h
 
-leaving_puts : (n peer reason : ℕ) (k : Option Class) (s : State) (u : Value) → s.ended ≡ None → is_some (leaves n peer reason k s).ended ≡ true →
+leaving_puts : (n peer reason : ℕ) (k : Option Class) (s : State) (u : Value) → s.ended ≡ None →
+    is_some (leaves n peer reason k s).ended ≡ true →
     put_leaving n peer k ≡ []
 leaving_puts n peer reason None s u lasts h = refl
 leaving_puts n peer reason (Some Zero) s u lasts h = refl
@@ -66,11 +73,15 @@ linked_puts : (n peer : ℕ) (link : Standing) (u : Value) (s : State) → s.end
     put_linked n peer link u s.class ≡ []
 linked_puts n peer link (request x) s lasts h = taking_puts n peer (taken link (request x)) s lasts h
 linked_puts n peer link (confirm destination x) s lasts h = taking_puts n peer (taken link (confirm destination x)) s lasts h
-linked_puts n peer link (disconnect destination source reason user) s lasts h = leaving_puts n peer reason s.class s (disconnect destination source reason user) lasts h
-linked_puts n peer link (disconnected destination source) s lasts h = taking_puts n peer (taken link (disconnected destination source)) s lasts h
+linked_puts n peer link (disconnect destination source reason user) s lasts h =
+    leaving_puts n peer reason s.class s (disconnect destination source reason user) lasts h
+linked_puts n peer link (disconnected destination source) s lasts h =
+    taking_puts n peer (taken link (disconnected destination source)) s lasts h
 linked_puts n peer link (data0 end user) s lasts h = taking_puts n peer (taken link (data0 end user)) s lasts h
-linked_puts n peer link (data2 destination number end user) s lasts h = taking_puts n peer (taken link (data2 destination number end user)) s lasts h
-linked_puts n peer link (acknowledge credit destination number) s lasts h = taking_puts n peer (taken link (acknowledge credit destination number)) s lasts h
+linked_puts n peer link (data2 destination number end user) s lasts h =
+    taking_puts n peer (taken link (data2 destination number end user)) s lasts h
+linked_puts n peer link (acknowledge credit destination number) s lasts h =
+    taking_puts n peer (taken link (acknowledge credit destination number)) s lasts h
 linked_puts n peer link (error destination cause) s lasts h = taking_puts n peer (taken link (error destination cause)) s lasts h
 
 row_puts : (n : ℕ) (o : Option Live) (u : Value) (s : State) → s.ended ≡ None → is_some (to_connection n o u s).ended ≡ true →
@@ -83,7 +94,8 @@ row_puts n (Some (closing q)) u s lasts h = refl
 before_puts : (u : Value) (s : State) → s.ended ≡ None → is_some (before_class true u s).ended ≡ true → put_before true u s ≡ []
 before_puts (request x) s lasts h = refl
 before_puts (confirm destination x) s lasts h = row_puts destination (value_at destination s.live) (confirm destination x) s lasts h
-before_puts (disconnect destination source reason user) s lasts h = row_puts destination (value_at destination s.live) (disconnect destination source reason user) s lasts h
+before_puts (disconnect destination source reason user) s lasts h =
+    row_puts destination (value_at destination s.live) (disconnect destination source reason user) s lasts h
 before_puts (disconnected destination source) s lasts h = refl
 before_puts (data0 end user) s lasts h = refl
 before_puts (data2 destination number end user) s lasts h = refl
@@ -93,11 +105,15 @@ before_puts (error destination cause) s lasts h = row_puts destination (value_at
 in_two_puts : (u : Value) (s : State) → s.ended ≡ None → is_some (in_two true u s).ended ≡ true → put_in_two true u s ≡ []
 in_two_puts (request x) s lasts h = refl
 in_two_puts (confirm destination x) s lasts h = row_puts destination (value_at destination s.live) (confirm destination x) s lasts h
-in_two_puts (disconnect destination source reason user) s lasts h = row_puts destination (value_at destination s.live) (disconnect destination source reason user) s lasts h
-in_two_puts (disconnected destination source) s lasts h = row_puts destination (value_at destination s.live) (disconnected destination source) s lasts h
+in_two_puts (disconnect destination source reason user) s lasts h =
+    row_puts destination (value_at destination s.live) (disconnect destination source reason user) s lasts h
+in_two_puts (disconnected destination source) s lasts h =
+    row_puts destination (value_at destination s.live) (disconnected destination source) s lasts h
 in_two_puts (data0 end user) s lasts h = refl
-in_two_puts (data2 destination number end user) s lasts h = row_puts destination (value_at destination s.live) (data2 destination number end user) s lasts h
-in_two_puts (acknowledge credit destination number) s lasts h = row_puts destination (value_at destination s.live) (acknowledge credit destination number) s lasts h
+in_two_puts (data2 destination number end user) s lasts h =
+    row_puts destination (value_at destination s.live) (data2 destination number end user) s lasts h
+in_two_puts (acknowledge credit destination number) s lasts h =
+    row_puts destination (value_at destination s.live) (acknowledge credit destination number) s lasts h
 in_two_puts (error destination cause) s lasts h = row_puts destination (value_at destination s.live) (error destination cause) s lasts h
 
 class_puts : (u : Value) (s : State) → OffersTwo s → s.ended ≡ None → (s.class ≡ None) ⊎ (s.class ≡ Some Two) →
@@ -119,9 +135,9 @@ all_made : (P : Value → Type 0) (vs : List Value) → ((v : Value) → P v) �
 all_made P [] h = tt
 all_made P (v ∷ vs) h = (h v, all_made P vs h)
 
-over_line : (local : Local) (put : List Value) (b : Bool) (s t : State) (coming later : List Value) (c : Connection) →
-    is_some t.ended ≡ true → Following local put b s coming c → Following local put b t later c
-over_line local put b s t coming later c h g = record {
+over_line : (local : Local) (put : List Value) (b strays : Bool) (s t : State) (coming later : List Value) (c : Connection) →
+    is_some t.ended ≡ true → Following local put b strays s coming c → Following local put b strays t later c
+over_line local put b strays s t coming later c h g = record {
   r = g.r;
   peer = g.peer;
   line = g.line;
@@ -129,17 +145,21 @@ over_line local put b s t coming later c h g = record {
   right = g.right;
   tracks = g.tracks;
   tap = g.tap;
+  spare = g.spare;
   put_is = g.put_is;
+  spares = g.spares;
+  gone = g.gone;
   begun_is = g.begun_is;
   row = over h;
   calm = g.calm;
 }
 
 is_over : (local : Local) (w : Whole) → Followed local w → (t : State) (later : List Value) → is_some t.ended ≡ true →
-    ((r : ℕ) → those r w.coming ≡ [] → those r later ≡ []) → AllByRecursion (AreGiven t.given) later →
+    ((r : ℕ) → AllByRecursion IsDc (those r w.coming) → AllByRecursion IsDc (those r later)) → AllByRecursion (AreGiven t.given) later →
+    w.end.given ≤ t.given →
     Followed local (record w { end = t; coming = later })
-is_over local w f t later h none few = record {
-  lines = λ i c at tracked. over_line local w.put w.begun w.end t w.coming later c h (f.lines i c at tracked);
+is_over local w f t later h early few up = record {
+  lines = λ i c at tracked. over_line local w.put w.begun w.tap.course.strays w.end t w.coming later c h (f.lines i c at tracked);
   waiting = λ i c at waits.
       let k = f.waiting i c at waits in
       record {
@@ -148,7 +168,7 @@ is_over local w f t later h none few = record {
         right = k.right;
         seen = k.seen;
         class0 = k.class0;
-        none = none k.r k.none;
+        early = early k.r k.early;
         row = λ lasts. over_not t.ended h lasts;
       };
   owned = f.owned;
@@ -159,7 +179,7 @@ is_over local w f t later h none few = record {
       (λ v k x e. let a = k x e in record {
         left = a.left;
         class0 = a.class0;
-        none = none x.source a.none;
+        early = early x.source a.early;
         row = λ lasts. over_not t.ended h lasts;
       }) f.requests;
   two = f.two;
@@ -168,6 +188,11 @@ is_over local w f t later h none few = record {
   some = f.some;
   few = few;
   seen = f.seen;
+  settled = all_so (AreSettled w.tap.connections w.put w.end.given) (AreSettled w.tap.connections w.put t.given) w.put
+      (λ v k m source e.
+      let a = k m source e in
+      let before = a.up in
+      record { up = omega arith; waits = a.waits; asks = a.asks }) f.settled;
 }
 
 with_nothing : (local : Local) (w : Whole) (t : State) (later units : List Value) → units ≡ [] →
@@ -176,9 +201,9 @@ with_nothing local w t later units none f =
     subst (λ (l : List Value). Followed local (record w { end = t; put = l; coming = later }))
     (sym (ap (λ (l : List Value). w.put ++ l) none ∙ append-nil w.put)) f
 
-kept_none : (b : Bool) (v : Value) (vs : List Value) → keep b v vs ≡ [] → vs ≡ []
-kept_none true v vs e = cc
-kept_none false v vs e = e
+kept_early : (b : Bool) (v : Value) (vs : List Value) → AllByRecursion IsDc (keep b v vs) → AllByRecursion IsDc vs
+kept_early true v vs h = h.1
+kept_early false v vs h = h
 
 -- ---- a unit, and a call, whether the end ends or not
 
@@ -190,23 +215,26 @@ module _ (local : Local) (w : Whole) (f : Followed local w) (sane : IsSane w.tap
   few_later : (u : Value) (later : List Value) → w.coming ≡ u ∷ later → AllByRecursion (AreGiven (react u w.end).given) later
   few_later u later e =
       let up = unit_gives u w.end in
-      all_so (AreGiven w.end.given) (AreGiven (react u w.end).given) later (λ v h m k. let x = h m k in omega arith)
+      all_so (AreGiven w.end.given) (AreGiven (react u w.end).given) later (λ v h none m k. let x = h none m k in omega arith)
       (subst (AllByRecursion (AreGiven w.end.given)) e f.few).1
 
   takes_by : (b : Bool) (u : Value) (later : List Value) → is_some (react u w.end).ended ≡ b → w.coming ≡ u ∷ later →
       ((react u w.end).ended ≡ None → w.end.ended ≡ None) →
-      (w.end.ended ≡ None → IsDr u → (m : ℕ) → closed_by u ≡ Some m → IsLive w.end m) → Followed local (after u later)
-  takes_by true u later h e was live_dr =
+      (w.end.ended ≡ None → IsDr u → (m : ℕ) → closed_by u ≡ Some m → IsLive w.end m ⊎ (w.tap.course.strays ≡ true)) → SelectsTwo u →
+      Followed local (after u later)
+  takes_by true u later h e was live_dr selects =
       with_nothing local w (react u w.end) later (put_for u w.end) (ended_puts (is_some w.end.ended) u w.end refl offers h)
       (is_over local w f (react u w.end) later h
-      (λ r none. kept_none (names r u) u (those r later) (ap (λ (l : List Value). those r l) (sym e) ∙ none)) (few_later u later e))
-  takes_by false u later h e was live_dr =
+      (λ r dcs. kept_early (names r u) u (those r later) (subst (λ (l : List Value). AllByRecursion IsDc (those r l)) e dcs))
+      (few_later u later e) (unit_gives u w.end))
+  takes_by false u later h e was live_dr selects =
       let lasts = no_end (react u w.end).ended h in
-      end_takes local w f sane firm offers orderly local_is (was lasts) u later e lasts (live_dr (was lasts))
+      end_takes local w f sane firm offers orderly local_is (was lasts) u later e lasts (live_dr (was lasts)) selects
 
   pub whole_takes : (u : Value) (later : List Value) → w.coming ≡ u ∷ later → ((react u w.end).ended ≡ None → w.end.ended ≡ None) →
-      (w.end.ended ≡ None → IsDr u → (m : ℕ) → closed_by u ≡ Some m → IsLive w.end m) → Followed local (after u later)
-  whole_takes u later e was live_dr = takes_by (is_some (react u w.end).ended) u later refl e was live_dr
+      (w.end.ended ≡ None → IsDr u → (m : ℕ) → closed_by u ≡ Some m → IsLive w.end m ⊎ (w.tap.course.strays ≡ true)) → SelectsTwo u →
+      Followed local (after u later)
+  whole_takes u later e was live_dr selects = takes_by (is_some (react u w.end).ended) u later refl e was live_dr selects
 
   abbrev called : UserCall → Whole
   called call = record w { end = user_does call w.end; put = w.put ++ put_by call w.end }
@@ -216,7 +244,8 @@ module _ (local : Local) (w : Whole) (f : Followed local w) (sane : IsSane w.tap
   over_call call given h none =
       with_nothing local w (user_does call w.end) w.coming (put_by call w.end) none
       (is_over local w f (user_does call w.end) w.coming h (λ r e. e)
-      (subst (λ (i : ℕ). AllByRecursion (AreGiven i) w.coming) (sym given) f.few))
+      (subst (λ (i : ℕ). AllByRecursion (AreGiven i) w.coming) (sym given) f.few)
+      (subst (λ (i : ℕ). w.end.given ≤ i) (sym given) (same_up w.end.given)))
 
   closes_last : (r peer reason : ℕ) (k : Option Class) → (k ≡ None) ⊎ (k ≡ Some Two) → (closes_in r peer reason k w.end).ended ≡ w.end.ended
   closes_last r peer reason None e = refl

@@ -27,6 +27,7 @@ use Rattle.osi_carrier.proofs.references.rows_after_a_change.{push_other, put_ot
 use Rattle.osi_carrier.proofs.references.what_a_change_leaves_there.{beyond, push_here, put_here}
 use Rattle.osi_rules.specs.declared.connections.Connection.{Connection}
 use Rattle.osi_rules.specs.declared.directions.Direction.TheVariants.{Left}
+use Rattle.osi_rules.specs.declared.halves.Half.{Half}
 use Rattle.osi_rules.specs.Traffic.{asked_by}
 use Rattle.osi_fair.specs.Following.{Follows, link_now}
 use Rattle.osi_fair.specs.Lines.{Line, opened_half}
@@ -34,26 +35,31 @@ use Rattle.osi_fair.specs.Putting.{put_by, put_closing, put_sent, put_together}
 use Rattle.osi_fair.specs.Wholes.{MayCall, Whole}
 use Rattle.osi_fair.proofs.a_carrier_follows_lines.{follows_closed, follows_sent}
 use Rattle.osi_fair.proofs.a_request_of_a_whole_end_is_new.{Newer}
-use Rattle.osi_fair.proofs.a_unit_of_a_whole_end_passes.{differ, item_is, one_peer, unlike}
-use Rattle.osi_fair.proofs.a_whole_end_takes_a_unit.{Linked, ends, still}
+use Rattle.osi_fair.proofs.no_two_open_connections_have_one_peer.{differ, item_is, one_peer, unlike}
+use Rattle.osi_fair.proofs.what_a_unit_leaves_at_a_calling_end.{Linked, ends, given_by, spare_none, still}
 use Rattle.osi_fair.proofs.calls_of_a_line_join.{follows_together, still_open}
-use Rattle.osi_fair.proofs.each_connection_has_its_line.{AreGiven, Followed, Following, IsAnswer, IsAsking, IsOwned, Row, Tracked}
+use Rattle.osi_fair.proofs.each_connection_has_its_line.{AreGiven, AreSettled, Followed, Following, IsAnswer, IsAsking, IsOwned, IsSettled}
+use Rattle.osi_fair.proofs.each_connection_has_its_line.{Row, Tracked}
 use Rattle.osi_fair.proofs.each_connection_has_its_line.{all_so, asking, asks, closes, over, is_tracked, talks, tracks_hold, tracks_on}
 use Rattle.osi_fair.proofs.how_a_connection_opens.{asked_so}
 use Rattle.osi_fair.proofs.references_of_requests_rise.{all_gives, closed_gives, sent_gives}
 use Rattle.osi_fair.proofs.what_a_calling_end_still_has.{OffersTwo}
-use Rattle.osi_fair.proofs.what_a_whole_end_takes.{Owner, all_join, heads_more, heads_was, some_more, units_ask, units_owned}
+use Rattle.osi_fair.proofs.what_a_whole_end_takes.{IsAnswered, Owner, Puts, all_join, leads_more, of_line, settled_more, some_more}
+use Rattle.osi_fair.proofs.what_a_whole_end_takes.{units_ask}
+use Rattle.osi_fair.proofs.what_a_whole_end_takes.{units_owned, units_settled}
 use Rattle.osi_fair.proofs.what_the_other_side_closes.{IsSane}
-use Rattle.osi_fair.proofs.which_units_are_for_a_connection.{AllNamed, heads, last_named, line_named, names, names_in, named_not, those}
-use Rattle.osi_fair.proofs.which_units_are_for_a_connection.{those_all}
-use Rattle.osi_fair.proofs.which_units_are_for_a_connection.{those_join, those_none, those_nothing}
+use Rattle.osi_fair.proofs.which_units_are_for_a_connection.{AllOurs, IsDc, all_ours, each_picked, is_dc, is_ours, last_ours, line_ours}
+use Rattle.osi_fair.proofs.which_units_are_for_a_connection.{named_is, names, none_ours, picked_other, ours, picked_join, those}
+
+pub same_up : (n : ℕ) → n ≤ n
+same_up n = omega arith
 
 -- ---- a call on an open connection
 
 module _ (local : Local) (w : Whole) (f : Followed local w) (sane : IsSane w.tap) (firm : w.tap.course.loose ≡ false) (t : State)
     (units : List Value) (n peer : ℕ) (link : Standing) (here : value_at n w.end.live ≡ Some (linked peer link))
     (rows : (m : ℕ) → (m ≡ n → ⊥) → value_at m t.live ≡ value_at m w.end.live) (class : t.class ≡ w.end.class)
-    (given : t.given ≡ w.end.given) (was : w.end.ended ≡ None) (after_row : Linked n peer t)
+    (given : t.given ≡ w.end.given) (was : w.end.ended ≡ None) (orderly : IsOrderly w.end) (after_row : Linked n peer t)
     (follows : (r q : ℕ) (l : Standing) → r ≡ n → value_at r w.end.live ≡ Some (linked q l) → Follows r q [] units w.end t) where
   abbrev cs : List Connection
   cs = w.tap.connections
@@ -78,21 +84,25 @@ module _ (local : Local) (w : Whole) (f : Followed local w) (sane : IsSane w.tap
       let row = ap (λ (j : ℕ). value_at j t.live) same ∙ there in closes o row i (inr h) (is ∙ ap link_now (row ∙ h)) coming
 
   record Grown (c : Connection) : Type 0 where
-    grown : Following local (w.put ++ units) w.begun t w.coming c
-    named : AllNamed c.right.reference units
+    grown : Following local (w.put ++ units) w.begun w.tap.course.strays t w.coming c
+    own : AllOurs n c.right.reference units
 
   same_linked : (q r : ℕ) (l k : Standing) → Some (linked q l) ≡ Some (linked r k) → q ≡ r
   same_linked q r l k e = cc
 
-  grows : (p : ℕ) (c : Connection) → slice_get cs p ≡ Some c → (g : Following local w.put w.begun w.end w.coming c) → g.r ≡ n →
-      (l : Standing) → value_at g.r w.end.live ≡ Some (linked g.peer l) → g.line.link ≡ Some l → those g.r w.coming ≡ g.line.coming → Grown c
+  grows : (p : ℕ) (c : Connection) → slice_get cs p ≡ Some c → (g : Following local w.put w.begun w.tap.course.strays w.end w.coming c) →
+      g.r ≡ n →
+      (l : Standing) → value_at g.r w.end.live ≡ Some (linked g.peer l) → g.line.link ≡ Some l → those g.r w.coming ≡ g.line.coming →
+      Grown c
   grows p c at g same l r is come_all =
       let acts = follows g.r g.peer l same r in
       let same_peer = same_linked g.peer peer l link (sym r ∙ ap (λ (i : ℕ). value_at i w.end.live) same ∙ here) in
       let line : Line = record g.line { link = link_now (value_at g.r t.live); put = g.line.put ++ units } in
-      let tracks = tracks_on g.r g.peer g.line line acts.acts g.tracks (acts.along Left g.line g.line.coming (is ∙ sym (ap link_now r)) refl) in
+      let tracks = tracks_on g.r g.peer g.line line acts.acts g.tracks
+      (acts.along Left g.line g.line.coming (is ∙ sym (ap link_now r)) refl) in
       let judged = ap (λ (x : Connection). x.is_judged) g.tap ∙ sane.judged firm p c at in
-      let named = last_named g.peer g.line.put units (line_named g.r g.peer line (tracks_hold g.r g.peer line tracks judged)) in
+      let own = last_ours g.r g.peer g.line.put units (line_ours g.r g.peer line (tracks_hold g.r g.peer line tracks judged)) in
+      let none = spare_none g.spare g.line.link l g.gone is in
       record {
         grown = record {
           r = g.r;
@@ -102,52 +112,60 @@ module _ (local : Local) (w : Whole) (f : Followed local w) (sane : IsSane w.tap
           right = g.right;
           tracks = tracks;
           tap = g.tap;
-          put_is = ap (λ (v : List Value). v ++ units) g.put_is
-              ∙ sym (those_join g.peer w.put units ∙ ap (λ (v : List Value). those g.peer w.put ++ v) (those_all g.peer units named));
-          begun_is = g.begun_is ∙ heads_more w.begun g.peer w.put units f.some;
+          spare = [];
+          put_is = picked_join (is_ours g.r g.peer) w.put units
+              ∙ ap (λ (v : List Value). v ++ ours g.r g.peer units) (g.put_is ∙ ap (λ (v : List Value). g.line.put ++ v) none
+              ∙ append-nil g.line.put)
+              ∙ ap (λ (v : List Value). g.line.put ++ v) (all_ours g.r g.peer units own) ∙ sym (append-nil (g.line.put ++ units));
+          spares = tt;
+          gone = λ h. absurd (h refl);
+          begun_is = g.begun_is ∙ leads_more w.begun (is_ours g.r g.peer) w.put units f.some;
           row = new_row g.r g.peer line same same_peer refl come_all after_row;
           calm = g.calm;
         };
-        named = subst (λ (i : ℕ). AllNamed i units) (sym g.right) named;
+        own = subst (λ (i : ℕ). AllOurs n i units) (sym g.right) (subst (λ (i : ℕ). AllOurs i g.peer units) same own);
       }
 
-  grown_by : (p : ℕ) (c : Connection) → slice_get cs p ≡ Some c → (g : Following local w.put w.begun w.end w.coming c) → g.r ≡ n →
+  grown_by : (p : ℕ) (c : Connection) → slice_get cs p ≡ Some c →
+      (g : Following local w.put w.begun w.tap.course.strays w.end w.coming c) → g.r ≡ n →
       Row local w.end w.coming g.r g.peer g.line → Grown c
   grown_by p c at g same (over h) = differ (is_some w.end.ended) h (ap is_some was)
   grown_by p c at g same (talks l r is come_all) = grows p c at g same l r is come_all
-  grown_by p c at g same (asks r x source first is) =
+  grown_by p c at g same (asks r x source early dcs first is) =
       absurd (cc (sym here ∙ ap (λ (i : ℕ). value_at i w.end.live) (sym same) ∙ r))
   grown_by p c at g same (closes o r i (inl h) gone come_all) =
       absurd (cc (sym here ∙ ap (λ (i : ℕ). value_at i w.end.live) (sym same) ∙ r ∙ h))
   grown_by p c at g same (closes o r i (inr h) gone come_all) =
       absurd (cc (sym here ∙ ap (λ (i : ℕ). value_at i w.end.live) (sym same) ∙ r ∙ h))
 
-  owner : Owner cs n units
+  owner : Owner w.tap n units
   owner =
       let ((p, c, at, tracked, left), two) = f.linked was n peer link here in
       let g = f.lines p c at tracked in
-      record { p = p; c = c; at = at; tracked = tracked; left = left; named = (grown_by p c at g (sym g.left ∙ left) g.row).named }
+      record { p = p; c = c; at = at; tracked = tracked; left = left; own = (grown_by p c at g (sym g.left ∙ left) g.row).own }
 
-  same_left : (p : ℕ) (c : Connection) → slice_get cs p ≡ Some c → (o : Owner cs n units) → p ≡ o.p → c.left.reference ≡ n
+  same_left : (p : ℕ) (c : Connection) → slice_get cs p ≡ Some c → (o : Owner w.tap n units) → p ≡ o.p → c.left.reference ≡ n
   same_left p c at o same =
       let is : c ≡ o.c = item_is o.c c (sym o.at ∙ ap (λ (i : ℕ). slice_get cs i) (sym same) ∙ at) in
       ap (λ (x : Connection). x.left.reference) is ∙ o.left
 
-  put_other_peer : (p : ℕ) (c : Connection) → slice_get cs p ≡ Some c → is_tracked c ≡ true → (q : ℕ) → c.right.reference ≡ q →
-      (c.left.reference ≡ n → ⊥) → (o : Owner cs n units) → those q (w.put ++ units) ≡ those q w.put
-  put_other_peer p c at tracked q right other o =
-      those_join q w.put units ∙ ap (λ (l : List Value). those q w.put ++ l) (those_none o.c.right.reference q units
-      (λ same. other (same_left p c at o (one_peer w.tap sane firm p o.p c o.c at o.at tracked o.tracked (right ∙ sym same)))) o.named)
-      ∙ append-nil (those q w.put)
+  put_other_peer : (p : ℕ) (c : Connection) → slice_get cs p ≡ Some c → is_tracked c ≡ true → (r q : ℕ) → c.right.reference ≡ q →
+      (c.left.reference ≡ n → ⊥) → (o : Owner w.tap n units) → ours r q (w.put ++ units) ≡ ours r q w.put
+  put_other_peer p c at tracked r q right other o =
+      picked_join (is_ours r q) w.put units ∙ ap (λ (l : List Value). ours r q w.put ++ l) (none_ours r n o.c.right.reference q units
+      (λ same. other (same_left p c at o (one_peer w.tap sane firm p o.p c o.c at o.at tracked o.tracked (right ∙ sym same)))) o.own)
+      ∙ append-nil (ours r q w.put)
 
   row_other : (r q : ℕ) (line : Line) → (r ≡ n → ⊥) → Row local w.end w.coming r q line → Row local t w.coming r q line
-  row_other r q line other (asks there x source first is) = asks (rows r other ∙ there) x source first is
+  row_other r q line other (asks there x source early dcs first is) =
+      asks (rows r other ∙ there) x source early dcs first is
   row_other r q line other (over h) = differ (is_some w.end.ended) h (ap is_some was)
   row_other r q line other (talks l there is come_all) = talks l (rows r other ∙ there) is come_all
   row_other r q line other (closes o there i h is come_all) = closes o (rows r other ∙ there) i h is come_all
 
   line_other : (p : ℕ) (c : Connection) → slice_get cs p ≡ Some c → is_tracked c ≡ true →
-      (g : Following local w.put w.begun w.end w.coming c) → (g.r ≡ n → ⊥) → Following local (w.put ++ units) w.begun t w.coming c
+      (g : Following local w.put w.begun w.tap.course.strays w.end w.coming c) → (g.r ≡ n → ⊥) →
+      Following local (w.put ++ units) w.begun w.tap.course.strays t w.coming c
   line_other p c at tracked g other = record {
     r = g.r;
     peer = g.peer;
@@ -156,15 +174,18 @@ module _ (local : Local) (w : Whole) (f : Followed local w) (sane : IsSane w.tap
     right = g.right;
     tracks = g.tracks;
     tap = g.tap;
-    put_is = g.put_is ∙ sym (put_other_peer p c at tracked g.peer g.right (λ e. other (sym g.left ∙ e)) owner);
-    begun_is = g.begun_is ∙ heads_more w.begun g.peer w.put units f.some;
+    spare = g.spare;
+    put_is = put_other_peer p c at tracked g.r g.peer g.right (λ e. other (sym g.left ∙ e)) owner ∙ g.put_is;
+    spares = g.spares;
+    gone = g.gone;
+    begun_is = g.begun_is ∙ leads_more w.begun (is_ours g.r g.peer) w.put units f.some;
     row = row_other g.r g.peer g.line other g.row;
     calm = g.calm;
   }
 
   line_by : (p : ℕ) (c : Connection) → slice_get cs p ≡ Some c → is_tracked c ≡ true →
-      (g : Following local w.put w.begun w.end w.coming c) → (b : Bool) → (g.r == n) ≡ b →
-      Following local (w.put ++ units) w.begun t w.coming c
+      (g : Following local w.put w.begun w.tap.course.strays w.end w.coming c) → (b : Bool) → (g.r == n) ≡ b →
+      Following local (w.put ++ units) w.begun w.tap.course.strays t w.coming c
   line_by p c at tracked g true e = (grown_by p c at g (eqb-true g.r n e) g.row).grown
   line_by p c at tracked g false e = line_other p c at tracked g (unlike g.r n e)
 
@@ -174,6 +195,28 @@ module _ (local : Local) (w : Whole) (f : Followed local w) (sane : IsSane w.tap
       let (k, two) = f.linked was n peer link here in (subst (Tracked cs) (sym (eqb-true m n e)) k, class ∙ two)
   linked_by m q l false e h =
       let (k, two) = f.linked was m q l (sym (rows m (unlike m n e)) ∙ h) in (k, class ∙ two)
+
+  answered_so : IsAnswered w.end n
+  answered_so = record {
+    up = given_by n w.end.given w.end.live (linked peer link) orderly.up_to here;
+    row = λ h. absurd (cc (sym here ∙ h));
+  }
+
+  puts : Puts w.tap w.end n units
+  puts = of_line owner answered_so
+
+  settled_here : IsAnswered w.end n → IsSettled cs (w.put ++ units) t.given n
+  settled_here a = record {
+    up = subst (λ (i : ℕ). n ≤ i) (sym given) a.up;
+    waits = λ i c at waits same.
+        let k = f.waiting i c at waits in
+        a.row (ap (λ (j : ℕ). value_at j w.end.live) (sym same ∙ ap (λ (h : Half). h.reference) k.left) ∙ k.row was);
+    asks = all_join (λ (v : Value). (x : Connect) → v ≡ request x → x.source ≡ n → ⊥) w.put units
+        (all_so (λ v. (x : Connect) → v ≡ request x → IsAsking local w.end w.coming x)
+        (λ v. (x : Connect) → v ≡ request x → x.source ≡ n → ⊥) w.put
+        (λ v h x e same. a.row (ap (λ (j : ℕ). value_at j w.end.live) (sym same) ∙ (h x e).row was)) f.requests)
+        (units_ask w.tap w.end n units (λ x. x.source ≡ n → ⊥) puts);
+  }
 
   called_so : Followed local after
   called_so = record {
@@ -187,25 +230,31 @@ module _ (local : Local) (w : Whole) (f : Followed local w) (sane : IsSane w.tap
           right = k.right;
           seen = k.seen;
           class0 = k.class0;
-          none = k.none;
+          early = k.early;
           row = λ lasts. asked_still k.r (k.row was);
         };
-    owned = all_join (λ v. IsOwned cs v) w.put units f.owned (units_owned cs n units (inr owner));
+    owned = all_join (λ v. IsOwned w.tap v) w.put units f.owned (units_owned w.tap w.end n units puts);
     linked = λ lasts m q l h. linked_by m q l (m == n) refl h;
     answers = all_so (λ v. IsAnswer cs w.end v) (λ v. IsAnswer cs t v) w.coming
         (λ v h m x e lasts. let (k, row) = h m x e was in (k, asked_still m row)) f.answers;
     requests = all_join (λ v. (x : Connect) → v ≡ request x → IsAsking local t w.coming x) w.put units
         (all_so (λ v. (x : Connect) → v ≡ request x → IsAsking local w.end w.coming x) (λ v. (x : Connect) → v ≡ request x →
         IsAsking local t w.coming x) w.put
-        (λ v h x e. let k = h x e in record { left = k.left; class0 = k.class0; none = k.none; row = λ lasts. asked_still x.source (k.row was) })
+        (λ v h x e. let k = h x e in record
+        { left = k.left; class0 = k.class0; early = k.early; row = λ lasts. asked_still x.source (k.row was) })
         f.requests)
-        (units_ask cs n units (λ x. IsAsking local t w.coming x) (inr owner));
+        (units_ask w.tap w.end n units (λ x. IsAsking local t w.coming x) puts);
     two = f.two;
     silent = f.silent;
     zero = f.zero;
     some = λ h. some_more w.put units (f.some h);
     few = subst (λ (i : ℕ). AllByRecursion (AreGiven i) w.coming) (sym given) f.few;
-    seen = λ m b h. f.seen m b (heads_was w.begun (heads m w.put) (heads m (w.put ++ units)) b (heads_more w.begun m w.put units f.some) h);
+    seen = f.seen;
+    settled = all_join (AreSettled cs (w.put ++ units) t.given) w.put units
+        (all_so (AreSettled cs w.put w.end.given) (AreSettled cs (w.put ++ units) t.given) w.put
+        (settled_more cs w.put units w.end.given t.given (λ r. units_ask w.tap w.end n units (λ x. x.source ≡ r → ⊥) puts)
+        (subst (λ (i : ℕ). w.end.given ≤ i) (sym given) (same_up w.end.given))) f.settled)
+        (units_settled w.tap w.end (w.put ++ units) t.given n units puts settled_here);
   }
 
 -- ---- a call for a connection
@@ -266,7 +315,8 @@ module _ (local : Local) (w : Whole) (f : Followed local w) (sane : IsSane w.tap
   asked_c m h = rows_c m (live_c m asked h) ∙ h
 
   row_c : (m q : ℕ) (line : Line) → (m ≡ r → ⊥) → Row local s w.coming m q line → Row local t w.coming m q line
-  row_c m q line other (asks there y source first is) = asks (rows_c m other ∙ there) y source first is
+  row_c m q line other (asks there y source early dcs first is) =
+      asks (rows_c m other ∙ there) y source early dcs first is
   row_c m q line other (over h) = differ (is_some s.ended) h (ap is_some was)
   row_c m q line other (talks l there is come_all) = talks l (rows_c m other ∙ there) is come_all
   row_c m q line other (closes o there i h is come_all) = closes o (rows_c m other ∙ there) i h is come_all
@@ -277,8 +327,9 @@ module _ (local : Local) (w : Whole) (f : Followed local w) (sane : IsSane w.tap
       let last = newer.given in
       omega arith
 
-  line_c : (p : ℕ) (c : Connection) → slice_get w.tap.connections p ≡ Some c → Following local w.put w.begun s w.coming c →
-      Following local (w.put ++ request x ∷ []) w.begun t w.coming c
+  line_c : (p : ℕ) (c : Connection) → slice_get w.tap.connections p ≡ Some c →
+      Following local w.put w.begun w.tap.course.strays s w.coming c →
+      Following local (w.put ++ request x ∷ []) w.begun w.tap.course.strays t w.coming c
   line_c p c at g = record {
     r = g.r;
     peer = g.peer;
@@ -287,19 +338,39 @@ module _ (local : Local) (w : Whole) (f : Followed local w) (sane : IsSane w.tap
     right = g.right;
     tracks = g.tracks;
     tap = g.tap;
-    put_is = g.put_is ∙ sym (those_join g.peer w.put (request x ∷ []) ∙ append-nil (those g.peer w.put));
-    begun_is = g.begun_is ∙ heads_more w.begun g.peer w.put (request x ∷ []) f.some;
+    spare = g.spare;
+    put_is = picked_other (is_ours g.r g.peer) w.put (request x) refl ∙ g.put_is;
+    spares = g.spares;
+    gone = g.gone;
+    begun_is = g.begun_is ∙ leads_more w.begun (is_ours g.r g.peer) w.put (request x ∷ []) f.some;
     row = row_c g.r g.peer g.line (not_new p c at g.r g.left) g.row;
     calm = g.calm;
   }
 
-  not_named : (v : Value) (o : Option ℕ) → destination_of v ≡ o → AreGiven s.given v → names r v ≡ false
-  not_named v None e h = ap (λ (a : Option ℕ). names_in r a) e
-  not_named v (Some m) e h = named_not m r v (λ same. let up = h m e in absurd (omega arith)) e
+  -- only a DC may have come for a reference that was not given
+  dc_by : (v : Value) (b : Bool) → is_dc v ≡ b → AreGiven s.given v → destination_of v ≡ Some r → is_dc v ≡ true
+  dc_by v true e h named = e
+  dc_by v false e h named = let up = h e r named in absurd (omega arith)
 
-  none_come : those r w.coming ≡ []
-  none_come = those_nothing r w.coming (all_so (AreGiven s.given) (λ v. names r v ≡ false) w.coming
-      (λ v h. not_named v (destination_of v) refl h) f.few)
+  early_come : AllByRecursion IsDc (those r w.coming)
+  early_come = each_picked IsDc (names r) w.coming (all_so (AreGiven s.given) (λ v. names r v ≡ true → IsDc v) w.coming
+      (λ v h named. dc_by v (is_dc v) refl h (named_is (destination_of v) r named)) f.few)
+
+  too_low : (source : ℕ) (y : Connect) → y.source ≡ r → y.source ≡ source → source ≤ s.given → ⊥
+  too_low source y new same low = absurd (omega arith)
+
+  -- no DC that is to pass has the new reference
+  settled_c : (v : Value) → AreSettled w.tap.connections w.put s.given v →
+      AreSettled w.tap.connections (w.put ++ request x ∷ []) t.given v
+  settled_c v h m source e =
+      let k = h m source e in
+      let before = k.up in
+      record {
+        up = omega arith;
+        waits = k.waits;
+        asks = all_join (λ (u : Value). (y : Connect) → u ≡ request y → y.source ≡ source → ⊥) w.put (request x ∷ []) k.asks
+            (λ y is same. too_low source y (ap (λ (z : Connect). z.source) (same_request x y is) ∙ source_is) same before, tt);
+      }
 
   linked_c : (m q : ℕ) (l : Standing) (b : Bool) → (m == r) ≡ b → value_at m t.live ≡ Some (linked q l) →
       Tracked w.tap.connections m × (s.class ≡ Some Two)
@@ -309,15 +380,15 @@ module _ (local : Local) (w : Whole) (f : Followed local w) (sane : IsSane w.tap
   new_asking : (y : Connect) → request x ≡ request y → IsAsking local t w.coming y
   new_asking y e =
       let two : proposes_two s.local ≡ true = offers.two in
-      let zero : proposes_zero s.local s.class ≡ false = zero_none (is_none s.class) s.local.class0 s.local.class2 offers.zero offers.two in
       let first : (asked_by x).left ≡ opened_half x.source (window_units local.window) =
       asked_so s.local s.class calling called r offers.two
       ∙ ap (λ (i : ℕ). opened_half i (window_units s.local.window)) (sym source_is)
       ∙ ap (λ (l : Local). opened_half x.source (window_units l.window)) local_is in
       subst (λ (z : Connect). IsAsking local t w.coming z) (sym (same_request x y e)) (record {
         left = first;
-        class0 = offers_none (proposes_two s.local) s.local s.class calling called r two zero;
-        none = ap (λ (i : ℕ). those i w.coming) source_is ∙ none_come;
+        class0 = λ none. offers_none (proposes_two s.local) s.local s.class calling called r two (zero_none (is_none s.class)
+            s.local.class0 s.local.class2 (ap (λ (l : Local). l.class0) local_is ∙ none) offers.two);
+        early = subst (λ (i : ℕ). AllByRecursion IsDc (those i w.coming)) (sym source_is) early_come;
         row = λ lasts. ap (λ (i : ℕ). value_at i t.live) source_is ∙ here_c;
       })
 
@@ -326,24 +397,38 @@ module _ (local : Local) (w : Whole) (f : Followed local w) (sane : IsSane w.tap
     lines = λ i c at tracked. line_c i c at (f.lines i c at tracked);
     waiting = λ i c at waits.
         let k = f.waiting i c at waits in
-        record { r = k.r; left = k.left; right = k.right; seen = k.seen; class0 = k.class0; none = k.none; row = λ lasts. asked_c k.r (k.row was) };
-    owned = all_join (λ v. IsOwned w.tap.connections v) w.put (request x ∷ []) f.owned (asking x refl, tt);
+        record {
+          r = k.r;
+          left = k.left;
+          right = k.right;
+          seen = k.seen;
+          class0 = k.class0;
+          early = k.early;
+          row = λ lasts. asked_c k.r
+              (k.row was);
+        };
+    owned = all_join (λ v. IsOwned w.tap v) w.put (request x ∷ []) f.owned (asking x refl, tt);
     linked = λ lasts m q l h. linked_c m q l (m == r) refl h;
     answers = all_so (λ v. IsAnswer w.tap.connections s v) (λ v. IsAnswer w.tap.connections t v) w.coming
         (λ v h m y e lasts. let (k, row) = h m y e was in (k, asked_c m row)) f.answers;
     requests = all_join (λ v. (y : Connect) → v ≡ request y → IsAsking local t w.coming y) w.put (request x ∷ [])
         (all_so (λ v. (y : Connect) → v ≡ request y → IsAsking local s w.coming y) (λ v. (y : Connect) → v ≡ request y →
         IsAsking local t w.coming y) w.put
-        (λ v h y e. let k = h y e in record { left = k.left; class0 = k.class0; none = k.none; row = λ lasts. asked_c y.source (k.row was) })
+        (λ v h y e. let k = h y e in record
+        { left = k.left; class0 = k.class0; early = k.early; row = λ lasts. asked_c y.source (k.row was) })
         f.requests)
         (new_asking, tt);
     two = f.two;
     silent = f.silent;
     zero = f.zero;
     some = λ h. some_more w.put (request x ∷ []) (f.some h);
-    few = all_so (AreGiven s.given) (AreGiven t.given) w.coming (λ v h m e. let up = h m e in omega arith) f.few;
-    seen = λ m b h. f.seen m b (heads_was w.begun (heads m w.put) (heads m (w.put ++ request x ∷ [])) b
-        (heads_more w.begun m w.put (request x ∷ []) f.some) h);
+    few = all_so (AreGiven s.given) (AreGiven t.given) w.coming (λ v h none m e. let up = h none m e in omega arith) f.few;
+    seen = f.seen;
+    settled = all_join (AreSettled w.tap.connections (w.put ++ request x ∷ []) t.given) w.put (request x ∷ [])
+        (all_so (AreSettled w.tap.connections w.put s.given)
+        (AreSettled w.tap.connections (w.put ++ request x ∷ []) t.given) w.put settled_c
+        f.settled)
+        (λ m source e. absurd (cc e), tt);
   }
 
 -- ---- any call
@@ -430,7 +515,7 @@ module _ (local : Local) (w : Whole) (f : Followed local w) (sane : IsSane w.tap
       let after = still_open r peer tsdu w.end link e in
       called_so local w f sane firm (sent r tsdu w.end) (put_sent tsdu (open_link r w.end)) r peer link here
       (λ m other. rows_sent m r tsdu (open_link r w.end) w.end other) (class_sent r tsdu (open_link r w.end) w.end)
-      (sent_gives r tsdu (open_link r w.end) w.end) was
+      (sent_gives r tsdu (open_link r w.end) w.end) was orderly
       (still (pumped (with_tsdu link tsdu)) (linked_of (is_some (sent r tsdu w.end).ended) (value_at r (sent r tsdu w.end).live) peer
       (pumped (with_tsdu link tsdu)) after))
       (λ i q l same row. subst (λ (j : ℕ). Follows i q [] (put_sent tsdu (open_link j w.end)) w.end (sent j tsdu w.end)) same
@@ -445,7 +530,7 @@ module _ (local : Local) (w : Whole) (f : Followed local w) (sane : IsSane w.tap
       let here = linked_of (is_some w.end.ended) (value_at r w.end.live) peer link e in
       let (l, after) = all_open r peer tsdus w.end link e in
       called_so local w f sane firm (sent_all r tsdus w.end) (put_together r tsdus w.end) r peer link here
-      (λ m other. rows_all m r tsdus w.end other) (class_all r tsdus w.end) (all_gives r tsdus w.end) was
+      (λ m other. rows_all m r tsdus w.end other) (class_all r tsdus w.end) (all_gives r tsdus w.end) was orderly
       (still l (linked_of (is_some (sent_all r tsdus w.end).ended) (value_at r (sent_all r tsdus w.end).live) peer l after))
       (λ i q l same row. subst (λ (j : ℕ). Follows i q [] (put_together j tsdus w.end) w.end (sent_all j tsdus w.end)) same
       (follows_together i q tsdus w.end l (open_of i q l w.end was row) short))
@@ -466,7 +551,7 @@ module _ (local : Local) (w : Whole) (f : Followed local w) (sane : IsSane w.tap
       let is = closed_two r reason peer link e two in
       called_so local w f sane firm (closed_with r reason w.end) (put_closing r reason (open_link r w.end) w.end.class) r peer link here
       (λ m other. ap (λ (t : State). value_at m t.live) is ∙ put_other m r (closing peer) w.end.live other)
-      (ap (λ (t : State). t.class) is) (closed_gives r reason (open_link r w.end) w.end) was
+      (ap (λ (t : State). t.class) is) (closed_gives r reason (open_link r w.end) w.end) was orderly
       (ends (Some (closing peer)) (ap (λ (t : State). value_at r t.live) is ∙ put_here r (closing peer) (linked peer link) w.end.live here)
       peer (inl refl))
       (λ i q l same row. subst (λ (j : ℕ). Follows i q [] (put_closing j reason (open_link j w.end) w.end.class) w.end

@@ -75,5 +75,6 @@ pub follows_together : (r peer : ℕ) (tsdus : List (List ℕ)) (s : State) (lin
     AllByRecursion (λ (tsdu : List ℕ). length tsdu ≤ longest_tsdu) tsdus → Follows r peer [] (put_together r tsdus s) s (sent_all r tsdus s)
 follows_together r peer [] s link e short = follows_none r peer s
 follows_together r peer (tsdu ∷ tsdus) s link e (one, more) =
-    follows_then r peer [] [] (put_sent tsdu (open_link r s)) (put_together r tsdus (sent r tsdu s)) s (sent r tsdu s) (sent_all r tsdus (sent r tsdu s)) (follows_sent r peer tsdu s link e one)
+    follows_then r peer [] [] (put_sent tsdu (open_link r s)) (put_together r tsdus (sent r tsdu s)) s (sent r tsdu s)
+    (sent_all r tsdus (sent r tsdu s)) (follows_sent r peer tsdu s link e one)
     (follows_together r peer tsdus (sent r tsdu s) (pumped (with_tsdu link tsdu)) (still_open r peer tsdu s link e) more)

@@ -6,7 +6,7 @@ use Rattle.std.specs.Prelude.{◌&&◌, ◌||◌, option_map, slice_get}
 use Rattle.std.specs.List.{AllByRecursion}
 use Rattle.std.proofs.lemmas.Option.{slice_get-map}
 use Rattle.osi_tpdu.specs.Limits.{window_units}
-use Rattle.osi_tpdu.specs.Value.{Value, Connect, request, confirm, destination_of}
+use Rattle.osi_tpdu.specs.Value.{Value, Connect, request, confirm, disconnected, destination_of}
 use Rattle.osi_class.specs.Link.{Standing}
 use Rattle.osi_class.specs.declared.terms.Class.{Class}
 use Rattle.osi_class.specs.declared.terms.Class.TheVariants.{Two}
@@ -27,7 +27,7 @@ use Rattle.osi_fair.proofs.an_end_closes_last.{left_holds}
 use Rattle.osi_fair.proofs.what_holds_of_a_line.{Holds}
 use Rattle.osi_fair.proofs.what_holds_of_one_item.{HoldsOfEach, after_map}
 use Rattle.osi_fair.proofs.what_is_put_before_the_cc_passes.{acts_join}
-use Rattle.osi_fair.proofs.which_units_are_for_a_connection.{heads, names, some_there, those}
+use Rattle.osi_fair.proofs.which_units_are_for_a_connection.{IsDc, IsOf, close_waits, is_dc, is_ours, leads, ours, some_picked, those}
 
 -- ---- a line since its connection was opened
 
@@ -64,8 +64,9 @@ Tracked cs r = (p : ℕ) × (c : Connection) × (slice_get cs p ≡ Some c) × (
 
 -- what the end has of the connection, and what has come for it
 pub data Row (local : Local) (end : State) (coming : List Value) (r peer : ℕ) (line : Line) : Type 0 where
-  -- it has not taken the CC
-  asks : value_at r end.live ≡ Some asked → (x : Connect) → x.source ≡ peer → those r coming ≡ confirm r x ∷ line.coming →
+  -- it has not taken the CC, nor DCs that came before it
+  asks : value_at r end.live ≡ Some asked → (x : Connect) → x.source ≡ peer → (early : List Value) → AllByRecursion IsDc early →
+      those r coming ≡ early ++ confirm r x ∷ line.coming →
       line.link ≡ Some (opened_link Two (agreed_size x.parameters.size local) local x.credit) → Row local end coming r peer line
   talks : (link : Standing) → value_at r end.live ≡ Some (linked peer link) → line.link ≡ Some link → those r coming ≡ line.coming →
       Row local end coming r peer line
@@ -79,8 +80,15 @@ pub data Row (local : Local) (end : State) (coming : List Value) (r peer : ℕ) 
 abbrev pub IsNoCc : Value → Type 0
 IsNoCc v = (m : ℕ) (x : Connect) → v ≡ confirm m x → ⊥
 
--- the line of a connection that is open
-pub record Following (local : Local) (put : List Value) (begun : Bool) (end : State) (coming : List Value) (c : Connection) : Type 0 where
+-- a DC for a DR that closed nothing
+pub record IsSpare (is_stray : Bool) (r peer : ℕ) (v : Value) : Type 0 where
+  pub is : v ≡ disconnected peer r
+  pub strays : is_stray ≡ true
+
+-- The line of a connection that is open. Of the units that are to pass with its references, the line has put the first ones;
+-- the end has put the others after it had closed the connection (`spare`).
+pub record Following (local : Local) (put : List Value) (begun strays : Bool) (end : State) (coming : List Value) (c : Connection) :
+    Type 0 where
   pub r : ℕ
   pub peer : ℕ
   pub line : Line
@@ -88,8 +96,11 @@ pub record Following (local : Local) (put : List Value) (begun : Bool) (end : St
   pub right : c.right.reference ≡ peer
   pub tracks : Tracks r peer line
   pub tap : line.tap ≡ c
-  pub put_is : line.put ≡ those peer put
-  pub begun_is : line.begun ≡ (begun && heads peer put)
+  pub spare : List Value
+  pub put_is : ours r peer put ≡ line.put ++ spare
+  pub spares : AllByRecursion (IsSpare strays r peer) spare
+  pub gone : spare ≢ [] → line.link ≡ None
+  pub begun_is : line.begun ≡ (begun && leads (is_ours r peer) put)
   pub row : Row local end coming r peer line
   pub calm : AllByRecursion IsNoCc line.coming
 
@@ -99,34 +110,46 @@ pub record Waiting (local : Local) (end : State) (coming : List Value) (c : Conn
   pub left : c.left ≡ opened_half r (window_units local.window)
   pub right : c.right ≡ silent_half
   pub seen : c.seen_by_right.next ≡ 0
-  pub class0 : c.offer.class0 ≡ false
-  pub none : those r coming ≡ []
+  pub class0 : local.class0 ≡ false → c.offer.class0 ≡ false
+  pub early : AllByRecursion IsDc (those r coming)
   pub row : end.ended ≡ None → value_at r end.live ≡ Some asked
 
 -- a CR that is to pass
 pub record IsAsking (local : Local) (end : State) (coming : List Value) (x : Connect) : Type 0 where
   pub left : (asked_by x).left ≡ opened_half x.source (window_units local.window)
-  pub class0 : (asked_by x).offer.class0 ≡ false
-  pub none : those x.source coming ≡ []
+  pub class0 : local.class0 ≡ false → (asked_by x).offer.class0 ≡ false
+  pub early : AllByRecursion IsDc (those x.source coming)
   pub row : end.ended ≡ None → value_at x.source end.live ≡ Some asked
 
--- a unit that is to pass is a CR, or is of an open connection
-pub data IsOwned (cs : List Connection) (v : Value) : Type 0 where
-  asking : (x : Connect) → v ≡ request x → IsOwned cs v
-  of : (n p : ℕ) (c : Connection) → destination_of v ≡ Some n → slice_get cs p ≡ Some c → is_tracked c ≡ true →
-      c.right.reference ≡ n → IsOwned cs v
+-- a unit that is to pass is a CR, or of an open connection, or a DC for a DR that closed nothing
+pub data IsOwned (s : Traffic) (v : Value) : Type 0 where
+  asking : (x : Connect) → v ≡ request x → IsOwned s v
+  of : (p : ℕ) (c : Connection) → slice_get s.connections p ≡ Some c → is_tracked c ≡ true →
+      IsOf c.left.reference c.right.reference v → IsOwned s v
+  stray : (m source : ℕ) → v ≡ disconnected m source → s.course.strays ≡ true → IsOwned s v
 
 -- a CC that has come is for an open connection whose CR the end has put
 abbrev pub IsAnswer : List Connection → State → Value → Type 0
 IsAnswer cs end v = (n : ℕ) (x : Connect) → v ≡ confirm n x → end.ended ≡ None → Tracked cs n × (value_at n end.live ≡ Some asked)
 
+-- a unit but a DC is for a reference that was given
 abbrev pub AreGiven : ℕ → Value → Type 0
-AreGiven n v = (m : ℕ) → destination_of v ≡ Some m → m ≤ n
+AreGiven n v = is_dc v ≡ false → (m : ℕ) → destination_of v ≡ Some m → m ≤ n
+
+-- a reference that was given, and for which no CR waits or is to pass
+pub record IsSettled (cs : List Connection) (put : List Value) (given r : ℕ) : Type 0 where
+  pub up : r ≤ given
+  pub waits : HoldsOfEach (λ (c : Connection). is_waiting c ≡ true → c.left.reference ≡ r → ⊥) cs
+  pub asks : AllByRecursion (λ (v : Value). (x : Connect) → v ≡ request x → x.source ≡ r → ⊥) put
+
+abbrev pub AreSettled : List Connection → (all : List Value) → (given : ℕ) → Value → Type 0
+AreSettled cs all given v = (m source : ℕ) → v ≡ disconnected m source → IsSettled cs all given source
 
 pub record Followed (local : Local) (w : Whole) : Type 0 where
-  pub lines : HoldsOfEach (λ (c : Connection). is_tracked c ≡ true → Following local w.put w.begun w.end w.coming c) w.tap.connections
+  pub lines : HoldsOfEach (λ (c : Connection). is_tracked c ≡ true → Following local w.put w.begun w.tap.course.strays w.end w.coming c)
+      w.tap.connections
   pub waiting : HoldsOfEach (λ (c : Connection). is_waiting c ≡ true → Waiting local w.end w.coming c) w.tap.connections
-  pub owned : AllByRecursion (λ (v : Value). IsOwned w.tap.connections v) w.put
+  pub owned : AllByRecursion (λ (v : Value). IsOwned w.tap v) w.put
   pub linked : w.end.ended ≡ None → (r peer : ℕ) (link : Standing) → value_at r w.end.live ≡ Some (linked peer link) →
       Tracked w.tap.connections r × (w.end.class ≡ Some Two)
   pub answers : AllByRecursion (λ (v : Value). IsAnswer w.tap.connections w.end v) w.coming
@@ -138,8 +161,11 @@ pub record Followed (local : Local) (w : Whole) : Type 0 where
   pub some : w.begun ≡ true → w.put ≢ []
   -- what has come is for references that were given
   pub few : AllByRecursion (AreGiven w.end.given) w.coming
-  -- left knows the class as a unit of a connection passes
-  pub seen : (n : ℕ) → w.begun ≡ true → heads n w.put ≡ true → w.tap.course.class_seen ≡ Some Two
+  -- left knows the class if it knows of a CC
+  pub seen : HoldsOfEach (λ (c : Connection). is_tracked c ≡ true → is_silent c.seen_by_left.phase ≡ false →
+      w.tap.course.class_seen ≡ Some Two) w.tap.connections
+  -- no CR waits for the connection of a DC that is to pass
+  pub settled : AllByRecursion (AreSettled w.tap.connections w.put w.end.given) w.put
 
 -- ---- a packet begins
 
@@ -149,15 +175,19 @@ no_end (Some x) e = absurd (cc e)
 
 begun_row : (local : Local) (end : State) (coming : List Value) (r peer : ℕ) (line : Line) (b : Bool) (c : Connection) →
     Row local end coming r peer line → Row local end coming r peer (record line { begun = b; tap = c })
-begun_row local end coming r peer line b c (asks there x source first link) = asks there x source first link
+begun_row local end coming r peer line b c (asks there x source early dcs first link) = asks there x source early dcs first link
 begun_row local end coming r peer line b c (talks link there is same) = talks link there is same
 begun_row local end coming r peer line b c (closes o there q e is same) = closes o there q e is same
 begun_row local end coming r peer line b c (over h) = over h
 
-left_begins : (local : Local) (put : List Value) (end : State) (coming : List Value) (c : Connection) (b : Bool) →
-    (f : Following local put false end coming c) → heads f.peer put ≡ b →
-    Following local put true end coming (begins Left c)
-left_begins local put end coming c true f e =
+no_first : (line : Line) (spare : List Value) → line.put ++ spare ≢ [] → (line.put ≡ [] → spare ≡ []) → line.put ≢ []
+no_first line spare some none e =
+    some (ap (λ (l : List Value). l ++ spare) e ∙ none e)
+
+left_begins : (local : Local) (put : List Value) (strays : Bool) (end : State) (coming : List Value) (c : Connection) (b : Bool) →
+    (f : Following local put false strays end coming c) → (f.line.put ≡ [] → f.spare ≡ []) → leads (is_ours f.r f.peer) put ≡ b →
+    Following local put true strays end coming (begins Left c)
+left_begins local put strays end coming c true f none e =
     let after = record f.line { begun = true; tap = begins Left f.line.tap } in
     record {
       r = f.r;
@@ -166,14 +196,17 @@ left_begins local put end coming c true f e =
       left = f.left;
       right = f.right;
       tracks = tracks_on f.r f.peer f.line after (begins_own ∷ []) f.tracks
-          (after, (λ h. some_there f.peer put e (sym f.put_is ∙ h), f.begun_is, refl), refl);
+          (after, (no_first f.line f.spare (λ h. some_picked (is_ours f.r f.peer) put e (f.put_is ∙ h)) none, f.begun_is, refl), refl);
       tap = ap (begins Left) f.tap;
+      spare = f.spare;
       put_is = f.put_is;
+      spares = f.spares;
+      gone = f.gone;
       begun_is = sym e;
       row = begun_row local end coming f.r f.peer f.line true (begins Left f.line.tap) f.row;
       calm = f.calm;
     }
-left_begins local put end coming c false f e =
+left_begins local put strays end coming c false f none e =
     let after = record f.line { tap = begins Left f.line.tap } in
     record {
       r = f.r;
@@ -183,15 +216,18 @@ left_begins local put end coming c false f e =
       right = f.right;
       tracks = tracks_on f.r f.peer f.line after (begins_elsewhere ∷ []) f.tracks (after, (f.begun_is, refl), refl);
       tap = ap (begins Left) f.tap;
+      spare = f.spare;
       put_is = f.put_is;
+      spares = f.spares;
+      gone = f.gone;
       begun_is = f.begun_is ∙ sym e;
       row = begun_row local end coming f.r f.peer f.line f.line.begun (begins Left f.line.tap) f.row;
       calm = f.calm;
     }
 
-right_begins : (local : Local) (put : List Value) (b : Bool) (end : State) (coming : List Value) (c : Connection) →
-    Following local put b end coming c → Following local put b end coming (begins Right c)
-right_begins local put b end coming c f =
+right_begins : (local : Local) (put : List Value) (b strays : Bool) (end : State) (coming : List Value) (c : Connection) →
+    Following local put b strays end coming c → Following local put b strays end coming (begins Right c)
+right_begins local put b strays end coming c f =
     let after = record f.line { tap = begins Right f.line.tap } in
     record {
       r = f.r;
@@ -201,11 +237,22 @@ right_begins local put b end coming c f =
       right = f.right;
       tracks = tracks_on f.r f.peer f.line after (begins_other ∷ []) f.tracks (after, refl, refl);
       tap = ap (begins Right) f.tap;
+      spare = f.spare;
       put_is = f.put_is;
+      spares = f.spares;
+      gone = f.gone;
       begun_is = f.begun_is;
       row = begun_row local end coming f.r f.peer f.line f.line.begun (begins Right f.line.tap) f.row;
       calm = f.calm;
     }
+
+course_class : (d : Direction) (s : Traffic) → (packet_begins d s).course.class ≡ s.course.class
+course_class Left s = refl
+course_class Right s = refl
+
+course_strays : (d : Direction) (s : Traffic) → (packet_begins d s).course.strays ≡ s.course.strays
+course_strays Left s = refl
+course_strays Right s = refl
 
 tracked_begins : (d : Direction) (c : Connection) → is_tracked (begins d c) ≡ is_tracked c
 tracked_begins Left c = refl
@@ -239,8 +286,8 @@ waits_begun local d end coming c w = record {
   left = begun_left d c ∙ w.left;
   right = begun_right d c ∙ w.right;
   seen = begun_seen d c w.r (window_units local.window) w.left w.seen;
-  class0 = begun_offer d c ∙ w.class0;
-  none = w.none;
+  class0 = λ none. begun_offer d c ∙ w.class0 none;
+  early = w.early;
   row = w.row;
 }
 
@@ -263,35 +310,56 @@ tracked_was d cs r (p, c, at, tracked, is) =
       sym (ap (λ (h : Half). h.reference) (begun_left d x)) ∙ ap (λ (e : Connection). e.left.reference) (sym so) ∙ is,
     )
 
-owned_at : (d : Direction) (cs : List Connection) (v : Value) → IsOwned cs v → IsOwned (map (begins d) cs) v
-owned_at d cs v (asking x e) = asking x e
-owned_at d cs v (of n p c e at tracked is) = of n p (begins d c) e
-    (slice_get-map (begins d) cs p ∙ ap (λ (o : Option Connection). option_map (begins d) o) at) (tracked_begins d c ∙ tracked)
-    (ap (λ (x : Half). x.reference) (begun_right d c) ∙ is)
+owned_at : (d : Direction) (s : Traffic) (v : Value) → IsOwned s v → IsOwned (packet_begins d s) v
+owned_at d s v (asking x e) = asking x e
+owned_at d s v (of p c at tracked is) = of p (begins d c)
+    (slice_get-map (begins d) s.connections p ∙ ap (λ (o : Option Connection). option_map (begins d) o) at) (tracked_begins d c ∙ tracked)
+    (subst (λ (x : Half). IsOf x.reference (begins d c).right.reference v) (sym (begun_left d c))
+    (subst (λ (x : Half). IsOf c.left.reference x.reference v) (sym (begun_right d c)) is))
+owned_at d s v (stray m source e strays) = stray m source e (course_strays d s ∙ strays)
 
 pub all_so : (P Q : Value → Type 0) (vs : List Value) → ((v : Value) → P v → Q v) → AllByRecursion P vs → AllByRecursion Q vs
 all_so P Q [] h a = tt
 all_so P Q (v ∷ vs) h (one, more) = (h v one, all_so P Q vs h more)
 
-course_class : (d : Direction) (s : Traffic) → (packet_begins d s).course.class ≡ s.course.class
-course_class Left s = refl
-course_class Right s = refl
+-- the reference of a DC that is to pass is settled as before
+settled_at : (d : Direction) (cs : List Connection) (all : List Value) (given : ℕ) (v : Value) → AreSettled cs all given v →
+    AreSettled (map (begins d) cs) all given v
+settled_at d cs all given v h m source e =
+    let k = h m source e in
+    record {
+      up = k.up;
+      waits = λ i c at waits same.
+          let (x, was, is) = after_map (begins d) cs i c at in
+          k.waits i x was (sym (waiting_begins d x) ∙ ap is_waiting (sym is) ∙ waits)
+          (sym (ap (λ (h : Half). h.reference) (begun_left d x)) ∙ ap (λ (e : Connection). e.left.reference) (sym is) ∙ same);
+      asks = k.asks;
+    }
 
-pub followed_begins : (local : Local) (d : Direction) (w : Whole) (b : Bool) → (b ≡ true → w.put ≢ []) →
-    ((n : ℕ) → b ≡ true → heads n w.put ≡ true → (packet_begins d w.tap).course.class_seen ≡ Some Two) → Followed local w →
-    ((c : Connection) → Following local w.put w.begun w.end w.coming c → Following local w.put b w.end w.coming (begins d c)) →
+-- left knows the class that is selected
+seen_at : (local : Local) (d : Direction) (w : Whole) → Followed local w → (i : ℕ) (x : Connection) →
+    slice_get w.tap.connections i ≡ Some x → is_tracked x ≡ true → is_silent (begins d x).seen_by_left.phase ≡ false →
+    (packet_begins d w.tap).course.class_seen ≡ Some Two
+seen_at local Left w f i x was tracked known = f.two x.left.reference (i, x, was, tracked, refl)
+seen_at local Right w f i x was tracked known = f.seen i x was tracked known
+
+pub followed_begins : (local : Local) (d : Direction) (w : Whole) (b : Bool) → (b ≡ true → w.put ≢ []) → Followed local w →
+    ((i : ℕ) (c : Connection) → slice_get w.tap.connections i ≡ Some c → is_tracked c ≡ true →
+    Following local w.put w.begun w.tap.course.strays w.end w.coming c →
+    Following local w.put b w.tap.course.strays w.end w.coming (begins d c)) →
     Followed local (record w { begun = b; tap = packet_begins d w.tap })
-followed_begins local d w b some seen f k = record {
+followed_begins local d w b some f k = record {
   lines = λ i c at tracked.
       let (x, was, is) = after_map (begins d) w.tap.connections i c at in
-      subst (λ (e : Connection). Following local w.put b w.end w.coming e) (sym is)
-      (k x (f.lines i x was (sym (tracked_begins d x) ∙ ap is_tracked (sym is) ∙ tracked)));
+      let before = sym (tracked_begins d x) ∙ ap is_tracked (sym is) ∙ tracked in
+      subst (λ (s : Bool). Following local w.put b s w.end w.coming c) (sym (course_strays d w.tap))
+      (subst (λ (e : Connection). Following local w.put b w.tap.course.strays w.end w.coming e) (sym is)
+      (k i x was before (f.lines i x was before)));
   waiting = λ i c at waits.
       let (x, was, is) = after_map (begins d) w.tap.connections i c at in
       subst (λ (e : Connection). Waiting local w.end w.coming e) (sym is)
       (waits_begun local d w.end w.coming x (f.waiting i x was (sym (waiting_begins d x) ∙ ap is_waiting (sym is) ∙ waits)));
-  owned = all_so (λ v. IsOwned w.tap.connections v) (λ v. IsOwned (map (begins d) w.tap.connections) v) w.put
-      (λ v. owned_at d w.tap.connections v) f.owned;
+  owned = all_so (λ v. IsOwned w.tap v) (λ v. IsOwned (packet_begins d w.tap) v) w.put (λ v. owned_at d w.tap v) f.owned;
   linked = λ lasts r peer link e. let (t, two) = f.linked lasts r peer link e in (tracked_at d w.tap.connections r t, two);
   answers = all_so (λ v. IsAnswer w.tap.connections w.end v) (λ v. IsAnswer (map (begins d) w.tap.connections) w.end v) w.coming
       (λ v h n x e lasts. let (t, row) = h n x e lasts in (tracked_at d w.tap.connections n t, row)) f.answers;
@@ -305,29 +373,45 @@ followed_begins local d w b some seen f k = record {
   zero = subst (λ (k : Option Class). (k ≡ None) ⊎ (k ≡ Some Two)) (sym (course_class d w.tap)) f.zero;
   some = some;
   few = f.few;
-  seen = seen;
+  seen = λ i c at tracked known.
+      let (x, was, is) = after_map (begins d) w.tap.connections i c at in
+      seen_at local d w f i x was (sym (tracked_begins d x) ∙ ap is_tracked (sym is) ∙ tracked)
+      (ap (λ (e : Connection). is_silent e.seen_by_left.phase) (sym is) ∙ known);
+  settled = all_so (AreSettled w.tap.connections w.put w.end.given) (AreSettled (map (begins d) w.tap.connections) w.put w.end.given) w.put
+      (λ v. settled_at d w.tap.connections w.put w.end.given v) f.settled;
 }
 
-head_owned : (local : Local) (w : Whole) → Followed local w → (n : ℕ) (v : Value) → names n v ≡ true → IsOwned w.tap.connections v →
-    w.tap.course.class ≡ Some Two
-head_owned local w f n v h (asking x e) = absurd (cc (sym (ap (λ (u : Value). names n u) e) ∙ h))
-head_owned local w f n v h (of m p c dest at tracked is) = f.two c.left.reference (p, c, at, tracked, refl)
+and_first : (a b : Bool) → (a && b) ≡ true → a ≡ true
+and_first true b h = refl
+and_first false b h = cc
 
-head_by : (local : Local) (w : Whole) → Followed local w → (n : ℕ) (put : List Value) → heads n put ≡ true →
-    AllByRecursion (λ (v : Value). IsOwned w.tap.connections v) put → w.tap.course.class ≡ Some Two
-head_by local w f n [] h a = absurd (cc h)
-head_by local w f n (v ∷ vs) h (one, more) = head_owned local w f n v h one
+differ : {A : Type 0} (b : Bool) → b ≡ true → b ≡ false → A
+differ b h k = absurd (cc)
 
--- the first unit is of an open connection, so class 2 is selected
-pub head_two : (local : Local) (w : Whole) → Followed local w → (n : ℕ) → heads n w.put ≡ true → w.tap.course.class ≡ Some Two
-head_two local w f n h = head_by local w f n w.put h f.owned
+-- what the line of a connection that is open at the tap has put comes before the spare DCs
+none_by : (spare : List Value) (put : List Value) → (spare ≢ [] → put ≡ [] → ⊥) → put ≡ [] → spare ≡ []
+none_by [] put h e = refl
+none_by (v ∷ vs) put h e = absurd (h (λ k. cc k) e)
 
-pub own_begins : (local : Local) (w : Whole) → w.begun ≡ false → w.put ≢ [] → Followed local w →
-    Followed local (record w { begun = true; tap = packet_begins Left w.tap })
-own_begins local w e some f =
-    followed_begins local Left w true (λ h. some) (λ n b h. head_two local w f n h) f (λ c g.
-    let h = subst (λ (b : Bool). Following local w.put b w.end w.coming c) e g in
-    left_begins local w.put w.end w.coming c (heads h.peer w.put) h refl)
+pub no_spare : (local : Local) (put coming : List Value) (b strays : Bool) (end : State) (c : Connection) → c.is_judged ≡ true →
+    is_tracked c ≡ true → (g : Following local put b strays end coming c) → g.line.put ≡ [] → g.spare ≡ []
+no_spare local put coming b strays end c judged tracked g e =
+    let line_judged = ap (λ (x : Connection). x.is_judged) g.tap ∙ judged in
+    let live = ap (λ (x : Connection). is_open x.left.phase) g.tap
+    ∙ and_first (is_open c.left.phase) (is_open c.right.phase || is_closing c.right.phase) tracked in
+    none_by g.spare g.line.put
+    (λ some none. close_waits g.r g.peer g.line (tracks_hold g.r g.peer g.line g.tracks line_judged) (g.gone some) live none) e
+
+pub own_begins : (local : Local) (w : Whole) → HoldsOfEach (λ (c : Connection). c.is_judged ≡ true) w.tap.connections → w.begun ≡ false →
+    w.put ≢ [] → Followed local w → Followed local (record w { begun = true; tap = packet_begins Left w.tap })
+own_begins local w judged e some f =
+    followed_begins local Left w true (λ h. some) f (λ i c at tracked g.
+    let s = w.tap.course.strays in
+    let h = subst (λ (b : Bool). Following local w.put b s w.end w.coming c) e g in
+    left_begins local w.put s w.end w.coming c (leads (is_ours h.r h.peer) w.put) h
+    (no_spare local w.put w.coming false s w.end c (judged i c at) tracked h) refl)
 
 pub other_begins : (local : Local) (w : Whole) → Followed local w → Followed local (record w { tap = packet_begins Right w.tap })
-other_begins local w f = followed_begins local Right w w.begun f.some f.seen f (λ c g. right_begins local w.put w.begun w.end w.coming c g)
+other_begins local w f =
+    followed_begins local Right w w.begun f.some f (λ i c at tracked g.
+    right_begins local w.put w.begun w.tap.course.strays w.end w.coming c g)

@@ -14,7 +14,8 @@ use Rattle.osi_carrier.specs.Calls.{or_else, room_error, sent, sent_all, sent_on
 use Rattle.osi_carrier.specs.Negotiation.{agreed_size, confirmed, opened_link, proposal, proposal_by, proposes_two, proposes_zero}
 use Rattle.osi_carrier.specs.Negotiation.{selects_expedited}
 use Rattle.osi_carrier.specs.Pump.{pumped}
-use Rattle.osi_carrier.specs.React.{before_class, breaks as breaks_in, handed_out, in_class, in_zero, leaves, opens, react_by, taking, to_connection}
+use Rattle.osi_carrier.specs.React.{before_class, breaks as breaks_in, handed_out, in_class, in_zero, leaves, opens, react_by, taking}
+use Rattle.osi_carrier.specs.React.{to_connection}
 use Rattle.osi_carrier.specs.React.{to_linked, to_only}
 unfoldable use Rattle.osi_carrier.specs.React.{react}
 use Rattle.osi_carrier.specs.Rows.{Rows, put, value_at, without}
@@ -156,7 +157,8 @@ gone_one : (r : ℕ) (s : State) → IsCalling (one r) s → without r s.live �
 gone_one r s is = ap (λ (rows : Rows Connection). without r rows) is.live
     ∙ ap (λ (b : Bool). if◌then◌else◌ {A = Rows Connection} b [] ((r, asked) ∷ [])) (eq-eqb r r refl)
 
-refused_takes : (r : ℕ) (unit : Value) (s : State) → IsCalling (one r) s → put_before true unit s ≡ put_at r (value_at r s.live) unit s.class →
+refused_takes : (r : ℕ) (unit : Value) (s : State) → IsCalling (one r) s →
+    put_before true unit s ≡ put_at r (value_at r s.live) unit s.class →
     put_at r (Some asked) unit s.class ≡ [] → before_class true unit s ≡ to_connection r (value_at r s.live) unit s →
     IsCalling [] (to_connection r (Some asked) unit s) → Puts (IsCalling []) unit s
 refused_takes r unit s is a none b h =
@@ -224,19 +226,26 @@ zero_linked n q link (error destination cause) s z = zero_taking n q (taken link
 zero_unit : (unit : Value) (s : State) → InZero s → Rests (in_zero true unit s)
 zero_unit (request c) s z = over refl
 zero_unit (confirm destination c) s z =
-    subst (λ (rows : Rows Connection). Rests (to_only rows (confirm destination c) s)) (sym z.live) (zero_linked z.r z.peer z.link (confirm destination c) s z)
+    subst (λ (rows : Rows Connection). Rests (to_only rows (confirm destination c) s)) (sym z.live)
+    (zero_linked z.r z.peer z.link (confirm destination c) s z)
 zero_unit (disconnect destination source reason user) s z =
-    subst (λ (rows : Rows Connection). Rests (to_only rows (disconnect destination source reason user) s)) (sym z.live) (zero_linked z.r z.peer z.link (disconnect destination source reason user) s z)
+    subst (λ (rows : Rows Connection). Rests (to_only rows (disconnect destination source reason user) s)) (sym z.live)
+    (zero_linked z.r z.peer z.link (disconnect destination source reason user) s z)
 zero_unit (disconnected destination source) s z =
-    subst (λ (rows : Rows Connection). Rests (to_only rows (disconnected destination source) s)) (sym z.live) (zero_linked z.r z.peer z.link (disconnected destination source) s z)
+    subst (λ (rows : Rows Connection). Rests (to_only rows (disconnected destination source) s)) (sym z.live)
+    (zero_linked z.r z.peer z.link (disconnected destination source) s z)
 zero_unit (data0 end user) s z =
-    subst (λ (rows : Rows Connection). Rests (to_only rows (data0 end user) s)) (sym z.live) (zero_linked z.r z.peer z.link (data0 end user) s z)
+    subst (λ (rows : Rows Connection). Rests (to_only rows (data0 end user) s)) (sym z.live)
+    (zero_linked z.r z.peer z.link (data0 end user) s z)
 zero_unit (data2 destination number end user) s z =
-    subst (λ (rows : Rows Connection). Rests (to_only rows (data2 destination number end user) s)) (sym z.live) (zero_linked z.r z.peer z.link (data2 destination number end user) s z)
+    subst (λ (rows : Rows Connection). Rests (to_only rows (data2 destination number end user) s)) (sym z.live)
+    (zero_linked z.r z.peer z.link (data2 destination number end user) s z)
 zero_unit (acknowledge credit destination number) s z =
-    subst (λ (rows : Rows Connection). Rests (to_only rows (acknowledge credit destination number) s)) (sym z.live) (zero_linked z.r z.peer z.link (acknowledge credit destination number) s z)
+    subst (λ (rows : Rows Connection). Rests (to_only rows (acknowledge credit destination number) s)) (sym z.live)
+    (zero_linked z.r z.peer z.link (acknowledge credit destination number) s z)
 zero_unit (error destination cause) s z =
-    subst (λ (rows : Rows Connection). Rests (to_only rows (error destination cause) s)) (sym z.live) (zero_linked z.r z.peer z.link (error destination cause) s z)
+    subst (λ (rows : Rows Connection). Rests (to_only rows (error destination cause) s)) (sym z.live)
+    (zero_linked z.r z.peer z.link (error destination cause) s z)
 
 zero_by : (b : Bool) (unit : Value) (s : State) → InZero s → is_some s.ended ≡ b → Rests (react_by b unit s)
 zero_by true unit s z e = over e
@@ -292,7 +301,8 @@ ended_over false reason s h = refl
 
 sends_none : (r : ℕ) (tsdu : List ℕ) (s : State) → NoneOpen s → Idle (sends r tsdu) s
 sends_none r tsdu s none =
-    same (ap (λ (o : Option (ℕ × Standing)). sent_on r tsdu o s) (none r)) (ap (λ (o : Option (ℕ × Standing)). put_sent tsdu o) (none r)) refl
+    same (ap (λ (o : Option (ℕ × Standing)). sent_on r tsdu o s) (none r))
+    (ap (λ (o : Option (ℕ × Standing)). put_sent tsdu o) (none r)) refl
 
 all_sends_none : (r : ℕ) (tsdus : List (List ℕ)) (s : State) → NoneOpen s → Idle (sends_all r tsdus) s
 all_sends_none r tsdus s none = let (a, b) = all_none r tsdus s none in same a b refl

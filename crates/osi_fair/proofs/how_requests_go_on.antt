@@ -33,7 +33,8 @@ use Rattle.osi_fair.proofs.how_a_calling_end_asks.{refusal_takes, rests_calls, r
 use Rattle.osi_fair.proofs.what_holds_of_one_item.{HoldsOfEach}
 use Rattle.osi_fair.proofs.what_lasts_at_the_tap.{lasts_passing}
 use Rattle.osi_fair.proofs.which_requests_are_put.{asked_among, call_asks, unit_asks}
-use Rattle.osi_fair.proofs.while_no_class_is_selected.{AllOver, Answer, Asked, GoesOn, IsDc, IsDone, IsRefusal, Waits, asks_passed, calm_tap}
+use Rattle.osi_fair.proofs.while_no_class_is_selected.{AllOver, Answer, Asked, GoesOn, IsDc, IsDone, IsRefusal, Waits, asks_passed}
+use Rattle.osi_fair.proofs.while_no_class_is_selected.{calm_tap}
 use Rattle.osi_fair.proofs.while_no_class_is_selected.{confirms, done_begins, done_takes, over_begins, over_still, refuses, says_nothing}
 use Rattle.osi_fair.proofs.while_no_class_is_selected.{waits_begins, waits_takes}
 
@@ -359,7 +360,8 @@ other_passes w v goes (known two seen) =
 abbrev after_rubbish : Whole → Whole
 after_rubbish w = record w { tap = not_read Right w.tap }
 
-calm_stops : {A : Type 0} (w : Whole) (cs : List Connection) (strays : Bool) → w.tap ≡ calm_tap cs strays → GoesOn (not_read Right w.tap) → A
+calm_stops : {A : Type 0} (w : Whole) (cs : List Connection) (strays : Bool) → w.tap ≡ calm_tap cs strays → GoesOn (not_read Right w.tap) →
+    A
 calm_stops w cs strays tap goes = absurd (cc (subst (λ (t : Traffic). GoesOn (not_read Right t)) tap goes))
 
 rubbish_passes : (w : Whole) → GoesOn (not_read Right w.tap) → Stage w → Stage (after_rubbish w)

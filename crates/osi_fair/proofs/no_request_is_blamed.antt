@@ -11,7 +11,8 @@ use Rattle.osi_rules.specs.declared.findings.Finding.TheVariants.{Kept, TooMany}
 use Rattle.osi_rules.specs.Rows.{first_failed}
 use Rattle.osi_rules.specs.Traffic.{State as Traffic, is_stopped, request_tests, takes}
 use Rattle.osi_fair.specs.Naming.{packet, rubbish, unit as passing}
-use Rattle.osi_fair.specs.Wholes.{Event, HappenAlong, Happens, Whole, arrives, begin, begins_other, begins_own, calls, passes_other, passes_own}
+use Rattle.osi_fair.specs.Wholes.{Event, HappenAlong, Happens, Whole, arrives, begin, begins_other, begins_own, calls, passes_other}
+use Rattle.osi_fair.specs.Wholes.{passes_own}
 use Rattle.osi_fair.specs.Wholes.{passes_rubbish}
 use Rattle.osi_fair.proofs.a_new_reference_is_not_in_use.{Passed, asked_finding, asked_is, tests_pass}
 use Rattle.osi_fair.proofs.a_reference_names_one_connection.{no_item}
@@ -74,7 +75,8 @@ while_calm x w cs strays rest e newer tap all =
     subst (λ (t : Traffic). IsRightCr x t) (sym tap)
     (subst (λ (f : Finding). Passed f) (sym (asked_finding tests x (calm_tap cs strays))) (calm_passes x cs strays all unused))
 
-pub is_right : (x : Connect) (rest : List Value) (w : Whole) → w.put ≡ request x ∷ rest → w.begun ≡ true → GoesOn w.tap → Newer w → Stage w →
+pub is_right : (x : Connect) (rest : List Value) (w : Whole) → w.put ≡ request x ∷ rest → w.begun ≡ true → GoesOn w.tap → Newer w →
+    Stage w →
     IsRightCr x w.tap
 is_right x rest w e begun goes newer (rests none r) = no_cr x rest w.put e none
 is_right x rest w e begun goes newer (quiet is none not_begun cs strays tap done dcs) = some_cr w x rest e none

@@ -1,8 +1,8 @@
 -- Which connections a calling end of class 2 still has after a unit or a call: all but the one that a DR, DC or ER names.
 -- For the law on DRs.
 use Rattle.std.proofs.Common.{◌≡◌, ◌∙◌, ℕ, ◌+◌, Bool, true, false, List, [], ◌∷◌, ◌++◌, refl, sym, ap, subst}
-use Rattle.std.proofs.Common.{Option, Some, None, Result, Ok, Err, inl, inr, ◌⊎◌, if◌then◌else◌, is_none, is_some}
-use Rattle.std.specs.Prelude.{◌&&◌, ◌||◌, ◌==◌, not}
+use Rattle.std.proofs.Common.{Option, Some, None, Result, Ok, Err, inl, inr, ◌⊎◌, if◌then◌else◌, is_some}
+use Rattle.std.specs.Prelude.{◌&&◌, ◌==◌, not}
 use Rattle.std.proofs.lemmas.Bool.{eq-eqb, eqb-true}
 use Rattle.osi_tpdu.specs.Value.{Value, Connect, request, confirm, disconnect, disconnected, data0, data2, acknowledge, error}
 use Rattle.osi_class.specs.Link.{Standing, taken, with_tsdu}
@@ -13,7 +13,8 @@ use Rattle.osi_class.specs.declared.terms.Local.{Local}
 use Rattle.osi_carrier.specs.Calls.{closed_on, closes as closes_in, open_link, sent, sent_all, sent_on}
 use Rattle.osi_carrier.specs.Negotiation.{agreed_size, confirmed, opened_link, proposes_two, proposes_zero, selects_expedited}
 use Rattle.osi_carrier.specs.Pump.{pumped}
-use Rattle.osi_carrier.specs.React.{before_class, breaks as breaks_in, handed_out, in_class, in_two, leaves, opens, react_by, taking, to_asked}
+use Rattle.osi_carrier.specs.React.{before_class, breaks as breaks_in, handed_out, in_class, in_two, leaves, opens, react_by, taking}
+use Rattle.osi_carrier.specs.React.{to_asked}
 use Rattle.osi_carrier.specs.React.{to_closing, to_connection, to_linked, to_unknown}
 unfoldable use Rattle.osi_carrier.specs.React.{react}
 use Rattle.osi_carrier.specs.Rows.{Rows, put, value_at, without}
@@ -27,10 +28,9 @@ use Rattle.osi_fair.proofs.what_the_other_side_closes.{closed_by}
 abbrev pub IsLive : State → ℕ → Type 0
 IsLive s m = is_some (value_at m s.live) ≡ true
 
--- a calling end that offers class 2 alone
+-- a calling end that offers class 2, while class 0 is not selected
 pub record OffersTwo (s : State) : Type 0 where
   pub caller : s.is_caller ≡ true
-  pub zero : s.local.class0 ≡ false
   pub two : s.local.class2 ≡ true
   pub class : (s.class ≡ None) ⊎ (s.class ≡ Some Two)
 
@@ -92,7 +92,6 @@ pub record After (unit : Value) (s t : State) : Type 0 where
 pub stays : (s t : State) → OffersTwo s → t.is_caller ≡ s.is_caller → t.local ≡ s.local → t.class ≡ s.class → OffersTwo t
 stays s t o a b c = record {
   caller = a ∙ o.caller;
-  zero = ap (λ (l : Local). l.class0) b ∙ o.zero;
   two = ap (λ (l : Local). l.class2) b ∙ o.two;
   class = subst (λ (k : Option Class). (k ≡ None) ⊎ (k ≡ Some Two)) (sym c) o.class;
 }
@@ -141,56 +140,69 @@ after_drop unit s t r o a b c closed e = record {
 unknown_after : (unit : Value) (s : State) → OffersTwo s → After unit s (to_unknown unit s)
 unknown_after (request x) s o = after_end (request x) s (to_unknown (request x) s) o refl refl refl refl
 unknown_after (confirm destination x) s o = after_end (confirm destination x) s (to_unknown (confirm destination x) s) o refl refl refl refl
-unknown_after (disconnect destination source reason user) s o = after_same (disconnect destination source reason user) s (to_unknown (disconnect destination source reason user) s) o refl refl refl refl
-unknown_after (disconnected destination source) s o = after_same (disconnected destination source) s (to_unknown (disconnected destination source) s) o refl refl refl refl
+unknown_after (disconnect destination source reason user) s o =
+    after_same (disconnect destination source reason user) s
+    (to_unknown (disconnect destination source reason user) s) o refl refl refl refl
+unknown_after (disconnected destination source) s o =
+    after_same (disconnected destination source) s (to_unknown (disconnected destination source) s) o refl refl refl refl
 unknown_after (data0 end user) s o = after_end (data0 end user) s (to_unknown (data0 end user) s) o refl refl refl refl
-unknown_after (data2 destination number end user) s o = after_end (data2 destination number end user) s (to_unknown (data2 destination number end user) s) o refl refl refl refl
-unknown_after (acknowledge credit destination number) s o = after_end (acknowledge credit destination number) s (to_unknown (acknowledge credit destination number) s) o refl refl refl refl
-unknown_after (error destination cause) s o = after_end (error destination cause) s (to_unknown (error destination cause) s) o refl refl refl refl
+unknown_after (data2 destination number end user) s o =
+    after_end (data2 destination number end user) s (to_unknown (data2 destination number end user) s) o refl refl refl refl
+unknown_after (acknowledge credit destination number) s o =
+    after_end (acknowledge credit destination number) s (to_unknown (acknowledge credit destination number) s) o refl refl refl refl
+unknown_after (error destination cause) s o =
+    after_end (error destination cause) s (to_unknown (error destination cause) s) o refl refl refl refl
 
 opens_by : (r : ℕ) (x : Connect) (a b z : Bool) (s : State) → OffersTwo s → (b && z) ≡ false →
     After (confirm r x) s (opens r x (if a then Some Two else (if (b && z) then Some Zero else None)) s)
 opens_by r x true b z s o e =
     after_put (confirm r x) s (opens r x (Some Two) s) r
     (linked x.source (opened_link Two (agreed_size x.parameters.size s.local) s.local x.credit))
-    (record { caller = o.caller; zero = o.zero; two = o.two; class = inr refl }) refl (λ h. refl) refl
+    (record { caller = o.caller; two = o.two; class = inr refl }) refl (λ h. refl) refl
 opens_by r x false b z s o e =
     subst (λ (c : Bool). After (confirm r x) s (opens r x (if c then Some Zero else None) s)) (sym e)
     (after_end (confirm r x) s (opens r x None s) o refl refl refl refl)
 
-pub never_zero : (b c : Bool) (k : Bool) → b ≡ false → c ≡ true → (k && (b || not c)) ≡ false
-never_zero false true true h e = refl
-never_zero false true false h e = refl
-never_zero true c k h e = cc
-never_zero b false k h e = cc
+-- a CC selects class 2
+abbrev pub SelectsTwo : Value → Type 0
+SelectsTwo unit = (m : ℕ) (x : Connect) → unit ≡ confirm m x → (x.class == 2) ≡ true
 
-pub and_none : (a b : Bool) → b ≡ false → (a && b) ≡ false
-and_none true b h = h
-and_none false b h = refl
+two_not_zero : (n : ℕ) → (n == 2) ≡ true → (n == 0) ≡ false
+two_not_zero n h = ap (λ (i : ℕ). i == 0) (eqb-true n 2 h)
 
-opens_after : (r : ℕ) (x : Connect) (s : State) → OffersTwo s → After (confirm r x) s (opens r x (confirmed x s.local s.class) s)
-opens_after r x s o =
+first_none : (a b : Bool) → a ≡ false → (a && b) ≡ false
+first_none true b h = cc
+first_none false b h = refl
+
+-- so it does not select class 0
+pub not_zero : (x : Connect) (b : Bool) → (x.class == 2) ≡ true → ((x.class == 0) && b) ≡ false
+not_zero x b h = first_none (x.class == 0) b (two_not_zero x.class h)
+
+opens_after : (r : ℕ) (x : Connect) (s : State) → OffersTwo s → (x.class == 2) ≡ true →
+    After (confirm r x) s (opens r x (confirmed x s.local s.class) s)
+opens_after r x s o two =
     opens_by r x ((x.class == 2) && (proposes_two s.local && not (selects_expedited x.parameters.additional))) (x.class == 0)
-    (proposes_zero s.local s.class) s o
-    (and_none (x.class == 0) (proposes_zero s.local s.class) (never_zero s.local.class0 s.local.class2 (is_none s.class) o.zero o.two))
+    (proposes_zero s.local s.class) s o (not_zero x (proposes_zero s.local s.class) two)
 
 -- a CC closes nothing, whatever it names
 widen : (r n : ℕ) (x : Connect) (s : State) → After (confirm r x) s (opens r x (confirmed x s.local s.class) s) →
     After (confirm n x) s (opens r x (confirmed x s.local s.class) s)
 widen r n x s a = record { offers = a.offers; local = a.local; class = a.class; live = a.live }
 
-asked_after : (r : ℕ) (unit : Value) (s : State) → OffersTwo s → ((n : ℕ) → closed_by unit ≡ Some n → n ≡ r) →
+asked_after : (r : ℕ) (unit : Value) (s : State) → OffersTwo s → SelectsTwo unit → ((n : ℕ) → closed_by unit ≡ Some n → n ≡ r) →
     After unit s (to_asked r unit s)
-asked_after r (request x) s o is = after_end (request x) s (to_asked r (request x) s) o refl refl refl refl
-asked_after r (confirm destination x) s o is = widen r destination x s (opens_after r x s o)
-asked_after r (disconnect destination source reason user) s o is =
+asked_after r (request x) s o two is = after_end (request x) s (to_asked r (request x) s) o refl refl refl refl
+asked_after r (confirm destination x) s o two is = widen r destination x s (opens_after r x s o (two destination x refl))
+asked_after r (disconnect destination source reason user) s o two is =
     after_drop (disconnect destination source reason user) s (to_asked r (disconnect destination source reason user) s) r o refl refl refl
     (ap (λ (n : ℕ). Some n) (is destination refl)) refl
-asked_after r (disconnected destination source) s o is = after_same (disconnected destination source) s s o refl refl refl refl
-asked_after r (data0 end user) s o is = after_end (data0 end user) s (to_asked r (data0 end user) s) o refl refl refl refl
-asked_after r (data2 destination number end user) s o is = after_end (data2 destination number end user) s (to_asked r (data2 destination number end user) s) o refl refl refl refl
-asked_after r (acknowledge credit destination number) s o is = after_end (acknowledge credit destination number) s (to_asked r (acknowledge credit destination number) s) o refl refl refl refl
-asked_after r (error destination cause) s o is =
+asked_after r (disconnected destination source) s o two is = after_same (disconnected destination source) s s o refl refl refl refl
+asked_after r (data0 end user) s o two is = after_end (data0 end user) s (to_asked r (data0 end user) s) o refl refl refl refl
+asked_after r (data2 destination number end user) s o two is =
+    after_end (data2 destination number end user) s (to_asked r (data2 destination number end user) s) o refl refl refl refl
+asked_after r (acknowledge credit destination number) s o two is =
+    after_end (acknowledge credit destination number) s (to_asked r (acknowledge credit destination number) s) o refl refl refl refl
+asked_after r (error destination cause) s o two is =
     after_drop (error destination cause) s (to_asked r (error destination cause) s) r o refl refl refl
     (ap (λ (n : ℕ). Some n) (is destination refl)) refl
 
@@ -198,14 +210,16 @@ breaks_by : (unit : Value) (r peer : ℕ) (fault : LinkFault) (k : Option Class)
     (k ≡ None) ⊎ (k ≡ Some Two) → After unit s (breaks_in r peer fault k s)
 breaks_by unit r peer fault None s o e = after_end unit s (breaks_in r peer fault None s) o refl refl refl refl
 breaks_by unit r peer fault (Some Two) s o e =
-    after_put unit s (breaks_in r peer fault (Some Two) s) r (closing peer) (stays s (breaks_in r peer fault (Some Two) s) o refl refl refl) refl
+    after_put unit s (breaks_in r peer fault (Some Two) s) r (closing peer)
+    (stays s (breaks_in r peer fault (Some Two) s) o refl refl refl) refl
     (λ h. h) refl
 breaks_by unit r peer fault (Some Zero) s o e = after_end unit s (breaks_in r peer fault (Some Zero) s) o refl refl refl refl
 
 taking_after : (unit : Value) (r peer : ℕ) (result : Result Standing LinkFault) (s : State) → OffersTwo s →
     After unit s (taking r peer result s)
 taking_after unit r peer (Ok link) s o =
-    after_put unit s (taking r peer (Ok link) s) r (linked peer (pumped (handed_out link))) (stays s (taking r peer (Ok link) s) o refl refl refl)
+    after_put unit s (taking r peer (Ok link) s) r (linked peer (pumped (handed_out link)))
+    (stays s (taking r peer (Ok link) s) o refl refl refl)
     refl (λ h. h) refl
 taking_after unit r peer (Err fault) s o = breaks_by unit r peer fault s.class s o o.class
 
@@ -218,14 +232,19 @@ leaves_by unit r peer reason (Some Two) s o e = after_drop unit s (leaves r peer
 linked_after : (r peer : ℕ) (link : Standing) (unit : Value) (s : State) → OffersTwo s → ((n : ℕ) → closed_by unit ≡ Some n → n ≡ r) →
     After unit s (to_linked r peer link unit s)
 linked_after r peer link (request x) s o is = taking_after (request x) r peer (taken link (request x)) s o
-linked_after r peer link (confirm destination x) s o is = taking_after (confirm destination x) r peer (taken link (confirm destination x)) s o
+linked_after r peer link (confirm destination x) s o is =
+    taking_after (confirm destination x) r peer (taken link (confirm destination x)) s o
 linked_after r peer link (disconnect destination source reason user) s o is =
     leaves_by (disconnect destination source reason user) r peer reason s.class s o (ap (λ (n : ℕ). Some n) (is destination refl))
-linked_after r peer link (disconnected destination source) s o is = taking_after (disconnected destination source) r peer (taken link (disconnected destination source)) s o
+linked_after r peer link (disconnected destination source) s o is =
+    taking_after (disconnected destination source) r peer (taken link (disconnected destination source)) s o
 linked_after r peer link (data0 end user) s o is = taking_after (data0 end user) r peer (taken link (data0 end user)) s o
-linked_after r peer link (data2 destination number end user) s o is = taking_after (data2 destination number end user) r peer (taken link (data2 destination number end user)) s o
-linked_after r peer link (acknowledge credit destination number) s o is = taking_after (acknowledge credit destination number) r peer (taken link (acknowledge credit destination number)) s o
-linked_after r peer link (error destination cause) s o is = taking_after (error destination cause) r peer (taken link (error destination cause)) s o
+linked_after r peer link (data2 destination number end user) s o is =
+    taking_after (data2 destination number end user) r peer (taken link (data2 destination number end user)) s o
+linked_after r peer link (acknowledge credit destination number) s o is =
+    taking_after (acknowledge credit destination number) r peer (taken link (acknowledge credit destination number)) s o
+linked_after r peer link (error destination cause) s o is =
+    taking_after (error destination cause) r peer (taken link (error destination cause)) s o
 
 closing_after : (r : ℕ) (unit : Value) (s : State) → OffersTwo s → ((n : ℕ) → closed_by unit ≡ Some n → n ≡ r) →
     After unit s (to_closing r unit s)
@@ -239,15 +258,16 @@ closing_after r (disconnected destination source) s o is =
     (ap (λ (n : ℕ). Some n) (is destination refl)) refl
 closing_after r (data0 end user) s o is = after_same (data0 end user) s s o refl refl refl refl
 closing_after r (data2 destination number end user) s o is = after_same (data2 destination number end user) s s o refl refl refl refl
-closing_after r (acknowledge credit destination number) s o is = after_same (acknowledge credit destination number) s s o refl refl refl refl
+closing_after r (acknowledge credit destination number) s o is =
+    after_same (acknowledge credit destination number) s s o refl refl refl refl
 closing_after r (error destination cause) s o is = after_same (error destination cause) s s o refl refl refl refl
 
-connection_after : (r : ℕ) (o : Option Connection) (unit : Value) (s : State) → OffersTwo s →
+connection_after : (r : ℕ) (o : Option Connection) (unit : Value) (s : State) → OffersTwo s → SelectsTwo unit →
     ((n : ℕ) → closed_by unit ≡ Some n → n ≡ r) → After unit s (to_connection r o unit s)
-connection_after r None unit s o is = unknown_after unit s o
-connection_after r (Some asked) unit s o is = asked_after r unit s o is
-connection_after r (Some (linked peer link)) unit s o is = linked_after r peer link unit s o is
-connection_after r (Some (closing peer)) unit s o is = closing_after r unit s o is
+connection_after r None unit s o two is = unknown_after unit s o
+connection_after r (Some asked) unit s o two is = asked_after r unit s o two is
+connection_after r (Some (linked peer link)) unit s o two is = linked_after r peer link unit s o is
+connection_after r (Some (closing peer)) unit s o two is = closing_after r unit s o is
 
 same_number : (n r : ℕ) → Some r ≡ Some n → n ≡ r
 same_number n r e = cc
@@ -255,49 +275,56 @@ same_number n r e = cc
 none_number : {A : Type 0} (n : ℕ) → None ≡ Some n → A
 none_number n e = absurd (cc)
 
-before_after : (unit : Value) (s : State) → OffersTwo s → After unit s (before_class true unit s)
-before_after (request x) s o = after_end (request x) s (before_class true (request x) s) o refl refl refl refl
-before_after (confirm destination x) s o =
-    connection_after destination (value_at destination s.live) (confirm destination x) s o (λ n e. none_number n e)
-before_after (disconnect destination source reason user) s o =
-    connection_after destination (value_at destination s.live) (disconnect destination source reason user) s o (λ n e. same_number n destination e)
-before_after (disconnected destination source) s o = after_end (disconnected destination source) s (before_class true (disconnected destination source) s) o refl refl refl refl
-before_after (data0 end user) s o = after_end (data0 end user) s (before_class true (data0 end user) s) o refl refl refl refl
-before_after (data2 destination number end user) s o = after_end (data2 destination number end user) s (before_class true (data2 destination number end user) s) o refl refl refl refl
-before_after (acknowledge credit destination number) s o = after_end (acknowledge credit destination number) s (before_class true (acknowledge credit destination number) s) o refl refl refl refl
-before_after (error destination cause) s o =
-    connection_after destination (value_at destination s.live) (error destination cause) s o (λ n e. same_number n destination e)
+before_after : (unit : Value) (s : State) → OffersTwo s → SelectsTwo unit → After unit s (before_class true unit s)
+before_after (request x) s o two = after_end (request x) s (before_class true (request x) s) o refl refl refl refl
+before_after (confirm destination x) s o two =
+    connection_after destination (value_at destination s.live) (confirm destination x) s o two (λ n e. none_number n e)
+before_after (disconnect destination source reason user) s o two =
+    connection_after destination (value_at destination s.live) (disconnect destination source reason user) s o two
+    (λ n e. same_number n destination e)
+before_after (disconnected destination source) s o two =
+    after_end (disconnected destination source) s (before_class true (disconnected destination source) s) o refl refl refl refl
+before_after (data0 end user) s o two = after_end (data0 end user) s (before_class true (data0 end user) s) o refl refl refl refl
+before_after (data2 destination number end user) s o two =
+    after_end (data2 destination number end user) s (before_class true (data2 destination number end user) s) o refl refl refl refl
+before_after (acknowledge credit destination number) s o two =
+    after_end (acknowledge credit destination number) s (before_class true (acknowledge credit destination number) s) o refl refl refl refl
+before_after (error destination cause) s o two =
+    connection_after destination (value_at destination s.live) (error destination cause) s o two (λ n e. same_number n destination e)
 
-two_after : (unit : Value) (s : State) → OffersTwo s → After unit s (in_two true unit s)
-two_after (request x) s o = after_end (request x) s (in_two true (request x) s) o refl refl refl refl
-two_after (confirm destination x) s o =
-    connection_after destination (value_at destination s.live) (confirm destination x) s o (λ n e. none_number n e)
-two_after (disconnect destination source reason user) s o =
-    connection_after destination (value_at destination s.live) (disconnect destination source reason user) s o (λ n e. same_number n destination e)
-two_after (disconnected destination source) s o =
-    connection_after destination (value_at destination s.live) (disconnected destination source) s o (λ n e. same_number n destination e)
-two_after (data0 end user) s o = after_end (data0 end user) s (in_two true (data0 end user) s) o refl refl refl refl
-two_after (data2 destination number end user) s o =
-    connection_after destination (value_at destination s.live) (data2 destination number end user) s o (λ n e. none_number n e)
-two_after (acknowledge credit destination number) s o =
-    connection_after destination (value_at destination s.live) (acknowledge credit destination number) s o (λ n e. none_number n e)
-two_after (error destination cause) s o =
-    connection_after destination (value_at destination s.live) (error destination cause) s o (λ n e. same_number n destination e)
+two_after : (unit : Value) (s : State) → OffersTwo s → SelectsTwo unit → After unit s (in_two true unit s)
+two_after (request x) s o two = after_end (request x) s (in_two true (request x) s) o refl refl refl refl
+two_after (confirm destination x) s o two =
+    connection_after destination (value_at destination s.live) (confirm destination x) s o two (λ n e. none_number n e)
+two_after (disconnect destination source reason user) s o two =
+    connection_after destination (value_at destination s.live) (disconnect destination source reason user) s o two
+    (λ n e. same_number n destination e)
+two_after (disconnected destination source) s o two =
+    connection_after destination (value_at destination s.live) (disconnected destination source) s o two
+    (λ n e. same_number n destination e)
+two_after (data0 end user) s o two = after_end (data0 end user) s (in_two true (data0 end user) s) o refl refl refl refl
+two_after (data2 destination number end user) s o two =
+    connection_after destination (value_at destination s.live) (data2 destination number end user) s o two (λ n e. none_number n e)
+two_after (acknowledge credit destination number) s o two =
+    connection_after destination (value_at destination s.live) (acknowledge credit destination number) s o two (λ n e. none_number n e)
+two_after (error destination cause) s o two =
+    connection_after destination (value_at destination s.live) (error destination cause) s o two (λ n e. same_number n destination e)
 
-class_after : (k : Option Class) (unit : Value) (s : State) → OffersTwo s → (k ≡ None) ⊎ (k ≡ Some Two) → After unit s (in_class k unit s)
-class_after None unit s o e =
-    subst (λ (b : Bool). After unit s (before_class b unit s)) (sym o.caller) (before_after unit s o)
-class_after (Some Two) unit s o e = subst (λ (b : Bool). After unit s (in_two b unit s)) (sym o.caller) (two_after unit s o)
-class_after (Some Zero) unit s o (inl e) = absurd (cc e)
-class_after (Some Zero) unit s o (inr e) = absurd (cc e)
+class_after : (k : Option Class) (unit : Value) (s : State) → OffersTwo s → SelectsTwo unit → (k ≡ None) ⊎ (k ≡ Some Two) →
+    After unit s (in_class k unit s)
+class_after None unit s o two e =
+    subst (λ (b : Bool). After unit s (before_class b unit s)) (sym o.caller) (before_after unit s o two)
+class_after (Some Two) unit s o two e = subst (λ (b : Bool). After unit s (in_two b unit s)) (sym o.caller) (two_after unit s o two)
+class_after (Some Zero) unit s o two (inl e) = absurd (cc e)
+class_after (Some Zero) unit s o two (inr e) = absurd (cc e)
 
-by_end : (over : Bool) (unit : Value) (s : State) → OffersTwo s → After unit s (react_by over unit s)
-by_end true unit s o = after_same unit s s o refl refl refl refl
-by_end false unit s o = class_after s.class unit s o o.class
+by_end : (over : Bool) (unit : Value) (s : State) → OffersTwo s → SelectsTwo unit → After unit s (react_by over unit s)
+by_end true unit s o two = after_same unit s s o refl refl refl refl
+by_end false unit s o two = class_after s.class unit s o two o.class
 
-pub unit_after : (unit : Value) (s : State) → OffersTwo s → After unit s (react unit s)
+pub unit_after : (unit : Value) (s : State) → OffersTwo s → SelectsTwo unit → After unit s (react unit s)
 unfolding react
-unit_after unit s o = by_end (is_some s.ended) unit s o
+unit_after unit s o two = by_end (is_some s.ended) unit s o two
 
 -- ---- a call
 

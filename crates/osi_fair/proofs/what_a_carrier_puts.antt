@@ -14,7 +14,8 @@ use Rattle.osi_class.specs.declared.terms.Class.{Class}
 use Rattle.osi_class.specs.declared.terms.Class.TheVariants.{Two, Zero}
 use Rattle.osi_carrier.specs.Calls.{closed_on, closes as closes_in, open_link, sent, sent_all, sent_on}
 use Rattle.osi_carrier.specs.Negotiation.{confirmed}
-use Rattle.osi_carrier.specs.React.{answers, answers_request, before_class, breaks as breaks_in, denies, has_peer, in_class, in_two, in_zero}
+use Rattle.osi_carrier.specs.React.{answers, answers_request, before_class, breaks as breaks_in, denies, has_peer, in_class, in_two}
+use Rattle.osi_carrier.specs.React.{in_zero}
 use Rattle.osi_carrier.specs.React.{is_full, leaves, opens, react_by, taking, to_asked, to_closing, to_connection, to_linked, to_only}
 use Rattle.osi_carrier.specs.React.{to_reference, to_unknown}
 unfoldable use Rattle.osi_carrier.specs.React.{react}
@@ -141,7 +142,8 @@ before true (acknowledge credit destination number) s = none_written s (before_c
 before true (error destination cause) s = for_reference destination (error destination cause) s
 before false (request c) s = for_request c s
 before false (confirm destination c) s = none_written s (before_class false (confirm destination c) s) refl
-before false (disconnect destination source reason user) s = none_written s (before_class false (disconnect destination source reason user) s) refl
+before false (disconnect destination source reason user) s =
+    none_written s (before_class false (disconnect destination source reason user) s) refl
 before false (disconnected destination source) s = none_written s (before_class false (disconnected destination source) s) refl
 before false (data0 end user) s = none_written s (before_class false (data0 end user) s) refl
 before false (data2 destination number end user) s = none_written s (before_class false (data2 destination number end user) s) refl

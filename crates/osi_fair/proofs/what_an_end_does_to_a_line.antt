@@ -18,7 +18,7 @@ use Rattle.osi_fair.specs.Lines.{ignores}
 use Rattle.osi_fair.specs.Lines.{Line, moves, closes, answers, Acts, IsRightNow, HandsInShort, units_put, units_taken}
 use Rattle.osi_fair.proofs.what_a_link_does.{HaveRoom, room_more, gives_so, takes_so}
 use Rattle.osi_fair.proofs.units_in_flight.{Puts, puts_more, comes_within}
-use Rattle.osi_fair.proofs.what_holds_of_a_line.{Tally, Ordered, linked, OpenIfAny, PutsAt, TakesAt, Holds, anyhow, bounds_of, came_of}
+use Rattle.osi_fair.proofs.what_holds_of_a_line.{Tally, Ordered, linked, OpenIfAny, PutsAt, TakesAt, Holds, bounds_of, came_of, shut}
 use Rattle.osi_fair.proofs.what_holds_of_a_line.{ends_so, tapped}
 
 right_on : (tap : Connection) (put more : List Value) → IsRightNow Left tap put → IsRightNow Left tap (put ++ more)
@@ -39,7 +39,8 @@ module _ (r peer limit : ℕ) (x : Tally) (noted : ℕ) (tap : Connection) (o : 
   puts_data : (put coming : List Value) (link after : Standing) (number : ℕ) (end : Bool) (octets : List ℕ)
       (h : linked limit x tap.right coming link) → PutsAt r peer limit x tap.left tap.right put (Some link) →
       next link ≡ Some (part2 number end octets, after) →
-      Puts (bounds_of r peer limit (record x { sent = x.sent + 1 }) false tap.right) (ends_so (x.sent + 1) after.ends.unsent) x.passed x.shown
+      Puts (bounds_of r peer limit (record x { sent = x.sent + 1 }) false tap.right)
+      (ends_so (x.sent + 1) after.ends.unsent) x.passed x.shown
       tap.left.begun (put ++ data2 peer number end octets ∷ [])
   puts_data put coming link after number end octets h p e =
       let (some, is, flow, size, gives) = gives_so link after h.flow (part2 number end octets) h.is e in
@@ -47,7 +48,8 @@ module _ (r peer limit : ℕ) (x : Tally) (noted : ℕ) (tap : Connection) (o : 
       let fits = h.size in
       puts_more (bounds_of r peer limit x false tap.right) (bounds_of r peer limit (record x { sent = x.sent + 1 }) false tap.right)
       (ends_so x.sent link.ends.unsent) (ends_so (x.sent + 1) after.ends.unsent) (data2 peer number end octets ∷ [])
-      (record { reference = refl; peer = refl; limit = refl; window = refl; sent = omega arith; acked = omega arith; closing = λ k. k }) refl
+      (record { reference = refl; peer = refl; limit = refl; window = refl; sent = omega arith; acked = omega arith; closing = λ k. k })
+      refl
       (λ passed shown begun within now.
       let g = gives begun now.1 in
       let short = g.short in
@@ -106,7 +108,8 @@ module _ (r peer limit : ℕ) (x : Tally) (noted : ℕ) (tap : Connection) (o : 
       let numbered : ack_number h.flow.receiver ≡ (x.acked + 1) % 128 = omega arith in
       puts_more (bounds_of r peer limit x false tap.right) (bounds_of r peer limit (record x { acked = x.acked + 1 }) false tap.right)
       (ends_so x.sent link.ends.unsent) (ends_so x.sent after.ends.unsent) (acknowledge credit peer number ∷ [])
-      (record { reference = refl; peer = refl; limit = refl; window = refl; sent = omega arith; acked = omega arith; closing = λ k. k }) refl
+      (record { reference = refl; peer = refl; limit = refl; window = refl; sent = omega arith; acked = omega arith; closing = λ k. k })
+      refl
       (λ passed shown begun low now. (
         x.acked + 1,
         refl,
@@ -165,7 +168,8 @@ module _ (r peer limit : ℕ) (x : Tally) (noted : ℕ) (tap : Connection) (o : 
   puts_same put link after p room = (
     puts_more (bounds_of r peer limit x false tap.right) (bounds_of r peer limit x false tap.right)
         (ends_so x.sent link.ends.unsent) (ends_so x.sent after.ends.unsent) []
-        (record { reference = refl; peer = refl; limit = refl; window = refl; sent = omega arith; acked = omega arith; closing = λ k. k }) refl
+        (record { reference = refl; peer = refl; limit = refl; window = refl; sent = omega arith; acked = omega arith; closing = λ k. k })
+        refl
         (λ passed shown begun within now. (now.0, room begun now.1)) x.passed x.shown tap.left.begun o.shown_acked put p.0,
     p.1,
   )
@@ -315,12 +319,13 @@ module _ (r peer limit : ℕ) (x : Tally) (noted : ℕ) (tap : Connection) (o : 
   open_if (unit ∷ units) phase h = h
 
   closes_by : (unit : Value) (put : List Value) (link : Standing) → PutsAt r peer limit x tap.left tap.right put (Some link) →
-      ((passed shown begun : ℕ) → Puts (bounds_of r peer limit x true tap.right) anyhow passed shown begun (unit ∷ [])) →
+      ((passed shown begun : ℕ) → Puts (bounds_of r peer limit x true tap.right) (shut tap.left.phase) passed shown begun (unit ∷ [])) →
       PutsAt r peer limit x tap.left tap.right (put ++ unit ∷ []) None
   closes_by unit put link p last = (
     puts_more (bounds_of r peer limit x false tap.right) (bounds_of r peer limit x true tap.right)
-        (ends_so x.sent link.ends.unsent) anyhow (unit ∷ [])
-        (record { reference = refl; peer = refl; limit = refl; window = refl; sent = omega arith; acked = omega arith; closing = λ k. k }) refl
+        (ends_so x.sent link.ends.unsent) (shut tap.left.phase) (unit ∷ [])
+        (record { reference = refl; peer = refl; limit = refl; window = refl; sent = omega arith; acked = omega arith; closing = λ k. k })
+        refl
         (λ passed shown begun within now. last passed shown begun) x.passed x.shown tap.left.begun o.shown_acked put p.0,
     open_if (put ++ unit ∷ []) tap.left.phase p.1,
   )
@@ -331,7 +336,8 @@ module _ (r peer limit : ℕ) (x : Tally) (noted : ℕ) (tap : Connection) (o : 
 
 -- ---- what holds stays
 
-puts_with : (r peer limit : ℕ) (x : Tally) (mine theirs : Half) (put : List Value) (link : Option Standing) (is : Standing) → link ≡ Some is →
+puts_with : (r peer limit : ℕ) (x : Tally) (mine theirs : Half) (put : List Value) (link : Option Standing) (is : Standing) →
+    link ≡ Some is →
     PutsAt r peer limit x mine theirs put link → PutsAt r peer limit x mine theirs put (Some is)
 puts_with r peer limit x mine theirs put link is e h = subst (λ (l : Option Standing). PutsAt r peer limit x mine theirs put l) e h
 
@@ -389,7 +395,8 @@ ignores_hold r peer units old new (none, coming, new_is) h = subst (λ (l : Line
       under_way = h.under_way;
     })
 
-pub answers_hold : (r peer : ℕ) (unit : Value) (old new : Line) → Acts Left r peer (answers unit) old new → Holds r peer old → Holds r peer new
+pub answers_hold : (r peer : ℕ) (unit : Value) (old new : Line) → Acts Left r peer (answers unit) old new → Holds r peer old →
+    Holds r peer new
 answers_hold r peer unit old new (link, is, (destination, source, reason, user, dr), coming, new_is) h =
     let puts = puts_with r peer h.limit h.tally old.tap.left old.tap.right old.put old.link link is h.puts in
     let takes = takes_with h.limit h.tally old.tap.right old.coming old.link link is h.takes in

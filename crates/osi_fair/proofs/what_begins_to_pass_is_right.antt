@@ -18,7 +18,7 @@ use Rattle.osi_rules.specs.Sides.{is_silent, is_open, is_refused, is_closing, is
 use Rattle.osi_fair.specs.Lines.{IsRightNow}
 use Rattle.osi_fair.proofs.what_is_right_passes_each_test.{is_right}
 use Rattle.osi_fair.proofs.units_in_flight.{Puts}
-use Rattle.osi_fair.proofs.what_holds_of_a_line.{Tally, Ordered, OpenIfAny, PutsAt, anyhow, bounds_of, ends_so, is_there, tapped}
+use Rattle.osi_fair.proofs.what_holds_of_a_line.{Tally, Ordered, OpenIfAny, PutsAt, bounds_of, ends_so, is_there, shut, tapped}
 
 -- ---- phases
 
@@ -177,6 +177,6 @@ pub begins_right : (r peer limit : ℕ) (x : Tally) (noted : ℕ) (tap : Connect
     (put : List Value) (link : Option Standing) → put ≢ [] → PutsAt r peer limit x tap.left tap.right put link →
     IsRightNow Left (begins Left tap) put
 begins_right r peer limit x noted tap o t put None some (h, k) =
-    first_right r peer limit x noted tap o t (open_now put tap.left.phase some k) true anyhow put some h
+    first_right r peer limit x noted tap o t (open_now put tap.left.phase some k) true (shut tap.left.phase) put some h
 begins_right r peer limit x noted tap o t put (Some link) some (h, k) =
     first_right r peer limit x noted tap o t k false (ends_so x.sent link.ends.unsent) put some h

@@ -78,8 +78,9 @@ came_of x theirs = record { came = x.came; heard = x.heard; edge = x.edge; phase
 abbrev pub ends_so : (sent : ℕ) → List (List ℕ) → ℕ → ℕ → Type 0
 ends_so sent unsent passed begun = (passed ≡ sent) × HaveRoom begun unsent
 
-abbrev pub anyhow : ℕ → ℕ → Type 0
-anyhow passed begun = Unit {0}
+-- the end has closed the connection, and the unit that says so has passed
+abbrev pub shut : Phase → ℕ → ℕ → Type 0
+shut phase passed begun = is_open phase ≡ false
 
 -- the end has this link; it has taken so many DTs, and AKs up to so many (`known`)
 pub record Linked (limit sent acked window : ℕ) (came : Came) (coming : List Value) (link : Standing) : Type 0 where
@@ -107,7 +108,7 @@ OpenIfAny (unit ∷ units) phase = is_open phase ≡ true
 
 abbrev pub PutsAt : (r peer limit : ℕ) → Tally → (mine theirs : Half) → List Value → Option Standing → Type 0
 PutsAt r peer limit x mine theirs put None =
-    Puts (bounds_of r peer limit x true theirs) anyhow x.passed x.shown mine.begun put × OpenIfAny put mine.phase
+    Puts (bounds_of r peer limit x true theirs) (shut mine.phase) x.passed x.shown mine.begun put × OpenIfAny put mine.phase
 PutsAt r peer limit x mine theirs put (Some link) =
     Puts (bounds_of r peer limit x false theirs) (ends_so x.sent link.ends.unsent) x.passed x.shown mine.begun put
     × (is_open mine.phase ≡ true)

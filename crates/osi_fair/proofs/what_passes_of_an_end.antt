@@ -19,7 +19,7 @@ use Rattle.osi_fair.specs.Lines.{begins_elsewhere}
 use Rattle.osi_fair.specs.Lines.{Line, begins_own, passes_own, begins_other, Acts, IsRight, IsRightNow, finding_of, after_finding}
 use Rattle.osi_fair.proofs.what_a_link_does.{begun_by}
 use Rattle.osi_fair.proofs.units_in_flight.{Puts}
-use Rattle.osi_fair.proofs.what_holds_of_a_line.{Tally, Ordered, OpenIfAny, PutsAt, TakesAt, Holds, anyhow, bounds_of, ends_so, tapped}
+use Rattle.osi_fair.proofs.what_holds_of_a_line.{Tally, Ordered, OpenIfAny, PutsAt, TakesAt, Holds, bounds_of, ends_so, shut, tapped}
 use Rattle.osi_fair.proofs.what_begins_to_pass_is_right.{begins_right}
 
 -- ---- a packet begins
@@ -109,7 +109,8 @@ begins_other_holds r peer old new new_is h =
 -- ---- a unit passes
 
 -- the line after it
-pub record Passed (r peer limit : ℕ) (x : Tally) (noted : ℕ) (units : List Value) (link : Option Standing) (after : Connection) : Type 0 where
+pub record Passed (r peer limit : ℕ) (x : Tally) (noted : ℕ) (units : List Value) (link : Option Standing)
+    (after : Connection) : Type 0 where
   pub passed : ℕ
   pub shown : ℕ
   pub ordered : Ordered (record x { passed = passed; shown = shown }) noted
@@ -134,11 +135,12 @@ module _ (r peer limit : ℕ) (x : Tally) (noted : ℕ) (tap : Connection) (o : 
   data_puts : (link : Option Standing) (destination number : ℕ) (end : Bool) (user : List ℕ) (units : List Value) →
       PutsAt r peer limit x tap.left tap.right (data2 destination number end user ∷ units) link →
       (x.passed < x.sent) ×
-      PutsAt r peer limit (record x { passed = x.passed + 1 }) (half_after (data2 destination number end user) tap.left) tap.right units link
+      PutsAt r peer limit (record x { passed = x.passed + 1 })
+      (half_after (data2 destination number end user) tap.left) tap.right units link
   data_puts None destination number end user units ((a, b, c, d, f, g), live) = (
     c,
     (
-      subst (λ (n : ℕ). Puts (bounds_of r peer limit x true tap.right) anyhow (x.passed + 1) x.shown n units)
+      subst (λ (n : ℕ). Puts (bounds_of r peer limit x true tap.right) (shut tap.left.phase) (x.passed + 1) x.shown n units)
           (begun_same tap.left end (length user) f) g,
       open_if units tap.left.phase live,
     ),
@@ -242,8 +244,9 @@ module _ (r peer limit : ℕ) (x : Tally) (noted : ℕ) (tap : Connection) (o : 
 
   -- a DR or a DC is the last
   last_passes : (mine : Half) (units : List Value) → mine.next ≡ tap.left.next → mine.awaited ≡ tap.left.awaited →
-      mine.credit ≡ tap.left.credit → mine.reference ≡ tap.left.reference → units ≡ [] → Passed r peer limit x noted units None (record tap { left = mine })
-  last_passes mine units next awaited credit reference none = record {
+      mine.credit ≡ tap.left.credit → mine.reference ≡ tap.left.reference → is_open mine.phase ≡ false → units ≡ [] →
+      Passed r peer limit x noted units None (record tap { left = mine })
+  last_passes mine units next awaited credit reference closed none = record {
     passed = x.passed;
     shown = x.shown;
     ordered = o;
@@ -260,13 +263,13 @@ module _ (r peer limit : ℕ) (x : Tally) (noted : ℕ) (tap : Connection) (o : 
       there = t.there;
       fits = t.fits;
     };
-    puts = subst (λ (l : List Value). PutsAt r peer limit x mine tap.right l None) (sym none) (tt, tt);
+    puts = subst (λ (l : List Value). PutsAt r peer limit x mine tap.right l None) (sym none) (closed, tt);
   }
 
   closing_passes : (was : Bool) (units : List Value) → units ≡ [] →
       Passed r peer limit x noted units None (record tap { left = closing_phase was tap.left })
-  closing_passes true units none = last_passes (closing_phase true tap.left) units refl refl refl refl none
-  closing_passes false units none = last_passes (closing_phase false tap.left) units refl refl refl refl none
+  closing_passes true units none = last_passes (closing_phase true tap.left) units refl refl refl refl refl none
+  closing_passes false units none = last_passes (closing_phase false tap.left) units refl refl refl refl refl none
 
   pub unit_passes : (link : Option Standing) (unit : Value) (units : List Value) →
       PutsAt r peer limit x tap.left tap.right (unit ∷ units) link → Passed r peer limit x noted units link (sent_on Left unit tap)
@@ -276,7 +279,7 @@ module _ (r peer limit : ℕ) (x : Tally) (noted : ℕ) (tap : Connection) (o : 
       closing_passes (is_silent tap.left.phase) units c
   unit_passes (Some link) (disconnect destination source reason user) units ((a, b, c), live) = absurd (cc)
   unit_passes None (disconnected destination source) units ((a, b, c, d, f), live) =
-      last_passes (half_after (disconnected destination source) tap.left) units refl refl refl refl f
+      last_passes (half_after (disconnected destination source) tap.left) units refl refl refl refl refl f
   unit_passes (Some link) (disconnected destination source) units ((a, b, c, d, f), live) = absurd (cc)
   unit_passes None (request c) units (h, live) = absurd h
   unit_passes None (confirm destination c) units (h, live) = absurd h

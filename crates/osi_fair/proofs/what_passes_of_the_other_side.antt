@@ -17,8 +17,8 @@ use Rattle.osi_fair.specs.Later.{IsLater}
 use Rattle.osi_fair.specs.Lines.{IsRightNow}
 use Rattle.osi_fair.proofs.what_was_right_stays_right.{passed_stays}
 use Rattle.osi_fair.proofs.units_in_flight.{Came, Comes, HasMoreCome, comes_more, puts_still}
-use Rattle.osi_fair.proofs.what_holds_of_a_line.{Tally, Ordered, PutsAt, TakesAt, anyhow, bounds_of, came_of, ends_so}
-use Rattle.osi_fair.proofs.what_holds_of_a_line.{is_there, tapped}
+use Rattle.osi_fair.proofs.what_holds_of_a_line.{Tally, Ordered, PutsAt, TakesAt, bounds_of, came_of, ends_so}
+use Rattle.osi_fair.proofs.what_holds_of_a_line.{is_there, shut, tapped}
 
 -- the line after it, with this record of the tap
 pub record Went (r peer limit : ℕ) (x : Tally) (noted : ℕ) (tap after : Connection) (put coming : List Value)
@@ -53,14 +53,16 @@ module _ (r peer limit : ℕ) (x : Tally) (noted : ℕ) (tap : Connection) (put 
       PutsAt r peer limit x tap.left tap.right put l →
       PutsAt r peer limit (record x { came = came; heard = heard; edge = edge }) tap.left later put l
   puts_later came heard edge later None closing (h, live) = (
-    puts_still (bounds_of r peer limit x true tap.right) (bounds_of r peer limit x true later) anyhow
-        (record { reference = refl; peer = refl; limit = refl; window = refl; sent = omega arith; acked = omega arith; closing = closing }) refl
+    puts_still (bounds_of r peer limit x true tap.right) (bounds_of r peer limit x true later) (shut tap.left.phase)
+        (record { reference = refl; peer = refl; limit = refl; window = refl; sent = omega arith; acked = omega arith; closing = closing })
+        refl
         x.passed x.shown tap.left.begun put h,
     live,
   )
   puts_later came heard edge later (Some link) closing (h, live) = (
     puts_still (bounds_of r peer limit x false tap.right) (bounds_of r peer limit x false later) (ends_so x.sent link.ends.unsent)
-        (record { reference = refl; peer = refl; limit = refl; window = refl; sent = omega arith; acked = omega arith; closing = closing }) refl
+        (record { reference = refl; peer = refl; limit = refl; window = refl; sent = omega arith; acked = omega arith; closing = closing })
+        refl
         x.passed x.shown tap.left.begun put h,
     live,
   )

@@ -343,7 +343,8 @@ module _ (P : Connection → Type 0) where
   right_routes (confirm destination x) s k h a =
       right_other (confirm destination x) s (route Right s.course (confirm destination x)) k h a (h, a)
   right_routes (disconnect destination source reason user) s k h a =
-      right_other (disconnect destination source reason user) s (route Right s.course (disconnect destination source reason user)) k h a (h, a)
+      right_other (disconnect destination source reason user) s (route Right s.course (disconnect destination source reason user)) k h a
+      (h, a)
   right_routes (disconnected destination source) s k h a =
       right_other (disconnected destination source) s (route Right s.course (disconnected destination source)) k h a (h, a)
   right_routes (data0 end user) s k h a =

@@ -33,12 +33,30 @@ use Rattle.osi_fair.proofs.when_a_connection_has_a_name.{three}
 use Rattle.osi_fair.proofs.while_no_class_is_selected.{after_change, named_where}
 use Rattle.osi_fair.proofs.what_stays_of_each_connection.{AreDistinct, IsLively, IsStarted, is_there, left_then, right_judged, right_own}
 
--- both sides are judged, no connection has lost its judgement, and each DR has closed something
+-- both sides are judged, no connection has lost its judgement, class 0 is not selected, and each DR has closed something
 pub record IsPlain (c : Course) : Type 0 where
   pub firm : c.loose ≡ false
   pub left : c.left_stopped ≡ false
   pub right : c.right_stopped ≡ false
   pub strays : c.strays ≡ false
+  pub two : c.class ≡ Some Zero → ⊥
+
+-- both sides are judged, and no connection has lost its judgement
+pub record IsFirm (c : Course) : Type 0 where
+  pub firm : c.loose ≡ false
+  pub left : c.left_stopped ≡ false
+  pub right : c.right_stopped ≡ false
+
+firm_of : (c : Course) → IsPlain c → IsFirm c
+firm_of c h = record { firm = h.firm; left = h.left; right = h.right }
+
+-- and class 0 is not selected
+pub record IsClear (c : Course) : Type 0 where
+  pub sure : IsFirm c
+  pub two : c.class ≡ Some Zero → ⊥
+
+pub clear_of : (c : Course) → IsPlain c → IsClear c
+clear_of c h = record { sure = firm_of c h; two = h.two }
 
 -- the reference of the connection that a unit of the other side refuses or closes
 abbrev pub closed_by : Value → Option ℕ
@@ -73,18 +91,21 @@ pub data Came (L : ℕ → Type 0) (v : Value) (s t : State) : Type 0 where
 differ : {A : Type 0} (b : Bool) → b ≡ true → b ≡ false → A
 differ b h k = absurd (cc)
 
--- ---- what is wrong is not plain
+-- ---- what is wrong is not firm
 
-by_reach : (k : Option Class) (b : Bool) (c : Course) → IsPlain (reached Right (reach_by k b) c) → ⊥
+by_reach : (k : Option Class) (b : Bool) (c : Course) → IsFirm (reached Right (reach_by k b) c) → ⊥
 by_reach None b c h = differ true refl h.left
 by_reach (Some Zero) b c h = differ true refl h.right
 by_reach (Some Two) true c h = differ true refl h.firm
 by_reach (Some Two) false c h = differ true refl h.left
 
-pub bad : (k : Option Class) (r : Rule) (c : Course) → passes_over r ≡ false → IsPlain (reached Right (reach_of k (Broke r)) c) → ⊥
-bad k r c e h =
+pub not_firm : (k : Option Class) (r : Rule) (c : Course) → passes_over r ≡ false → IsFirm (reached Right (reach_of k (Broke r)) c) → ⊥
+not_firm k r c e h =
     by_reach k (is_of_connection r) c
-    (subst (λ (b : Bool). IsPlain (reached Right (reach_past b (reach_by k (is_of_connection r))) c)) e h)
+    (subst (λ (b : Bool). IsFirm (reached Right (reach_past b (reach_by k (is_of_connection r))) c)) e h)
+
+bad : (k : Option Class) (r : Rule) (c : Course) → passes_over r ≡ false → IsPlain (reached Right (reach_of k (Broke r)) c) → ⊥
+bad k r c e h = not_firm k r c e (firm_of (reached Right (reach_of k (Broke r)) c) h)
 
 -- a unit for no connection
 none_rule : (v : Value) → (r : Rule) × (unnamed_by false v ≡ Broke r) × (passes_over r ≡ false)
@@ -97,7 +118,7 @@ none_rule (data2 destination number end user) = (rule.UnknownReference, refl, re
 none_rule (acknowledge credit destination number) = (rule.UnknownReference, refl, refl)
 none_rule (error destination cause) = (rule.UnknownReference, refl, refl)
 
-pub none_bad : (v : Value) (s : State) → s.course.loose ≡ false → s.course.strays ≡ false →
+none_bad : (v : Value) (s : State) → s.course.loose ≡ false → s.course.strays ≡ false →
     IsPlain (unnamed_told Right v s).state.course → ⊥
 none_bad v s firm plain h =
     let (r, is, over) = none_rule v in
@@ -106,7 +127,7 @@ none_bad v s firm plain h =
     ∙ ap (λ (b : Bool). unnamed_by b v) plain ∙ is in
     bad (class_for Right c) r c over (subst (λ (f : Finding). IsPlain (reached Right (reach_of (class_for Right c) f) c)) so h)
 
-pub reached_plain : (r : Reach) (c : Course) → (reached Right r c).strays ≡ false → c.strays ≡ false
+reached_plain : (r : Reach) (c : Course) → (reached Right r c).strays ≡ false → c.strays ≡ false
 reached_plain reach.Nothing c h = h
 reached_plain reach.Connection c h = h
 reached_plain reach.Side c h = h
@@ -354,12 +375,15 @@ module _ (L : ℕ → Type 0) (s : State) (q : ℕ) (c : Connection) (at : slice
   one_came (request x) is h = stays refl (all_lively (request x) (same_phase (request x) refl))
   one_came (confirm destination x) is h = stays refl (all_lively (confirm destination x) (confirms destination x))
   one_came (disconnect destination source reason user) is h =
-      closes_by destination source reason user (is_applied (finding (disconnect destination source reason user))) refl (is destination refl) h
+      closes_by destination source reason user (is_applied (finding (disconnect destination source reason user))) refl
+      (is destination refl) h
   one_came (disconnected destination source) is h =
       answers_by destination source (is destination refl) (dc_found destination source) h
   one_came (data0 end user) is h = stays refl (all_lively (data0 end user) (same_phase (data0 end user) refl))
-  one_came (data2 destination number end user) is h = stays refl (all_lively (data2 destination number end user) (same_phase (data2 destination number end user) refl))
-  one_came (acknowledge credit destination number) is h = stays refl (all_lively (acknowledge credit destination number) (same_phase (acknowledge credit destination number) refl))
+  one_came (data2 destination number end user) is h =
+      stays refl (all_lively (data2 destination number end user) (same_phase (data2 destination number end user) refl))
+  one_came (acknowledge credit destination number) is h =
+      stays refl (all_lively (acknowledge credit destination number) (same_phase (acknowledge credit destination number) refl))
   one_came (error destination cause) is h =
       refuses_by destination cause (is destination refl) (er_found destination cause) h
 
@@ -424,9 +448,11 @@ module _ (L : ℕ → Type 0) (s : State) (sane : IsSane s) (lively : HoldsOfEac
   by_class None (confirm destination x) =
       at_name (confirm destination x) destination (position (is_named Right destination) s.connections) refl (λ m e. absurd (cc e))
   by_class None (disconnect destination source reason user) =
-      at_name (disconnect destination source reason user) destination (position (is_named Right destination) s.connections) refl (λ m e. same_number destination m e)
+      at_name (disconnect destination source reason user) destination (position (is_named Right destination) s.connections) refl
+      (λ m e. same_number destination m e)
   by_class None (disconnected destination source) =
-      at_name (disconnected destination source) destination (position (is_named Right destination) s.connections) refl (λ m e. same_number destination m e)
+      at_name (disconnected destination source) destination (position (is_named Right destination) s.connections) refl
+      (λ m e. same_number destination m e)
   by_class None (data0 end user) =
       wrong (data0 end user) rule.UnexpectedUnit refl
   by_class None (data2 destination number end user) =
@@ -434,7 +460,8 @@ module _ (L : ℕ → Type 0) (s : State) (sane : IsSane s) (lively : HoldsOfEac
   by_class None (acknowledge credit destination number) =
       wrong (acknowledge credit destination number) rule.UnexpectedUnit refl
   by_class None (error destination cause) =
-      at_name (error destination cause) destination (position (is_named Right destination) s.connections) refl (λ m e. same_number destination m e)
+      at_name (error destination cause) destination (position (is_named Right destination) s.connections) refl
+      (λ m e. same_number destination m e)
   by_class (Some Zero) (request x) =
       wrong (request x) rule.UnexpectedUnit refl
   by_class (Some Zero) (confirm destination x) =
@@ -442,7 +469,8 @@ module _ (L : ℕ → Type 0) (s : State) (sane : IsSane s) (lively : HoldsOfEac
   by_class (Some Zero) (disconnect destination source reason user) =
       wrong (disconnect destination source reason user) rule.WrongForm refl
   by_class (Some Zero) (disconnected destination source) =
-      at_name (disconnected destination source) destination (position (is_named Right destination) s.connections) refl (λ m e. same_number destination m e)
+      at_name (disconnected destination source) destination (position (is_named Right destination) s.connections) refl
+      (λ m e. same_number destination m e)
   by_class (Some Zero) (data0 end user) =
       at_only (data0 end user) (position (is_live Right) s.connections) refl
   by_class (Some Zero) (data2 destination number end user) =
@@ -456,17 +484,22 @@ module _ (L : ℕ → Type 0) (s : State) (sane : IsSane s) (lively : HoldsOfEac
   by_class (Some Two) (confirm destination x) =
       at_name (confirm destination x) destination (position (is_named Right destination) s.connections) refl (λ m e. absurd (cc e))
   by_class (Some Two) (disconnect destination source reason user) =
-      at_name (disconnect destination source reason user) destination (position (is_named Right destination) s.connections) refl (λ m e. same_number destination m e)
+      at_name (disconnect destination source reason user) destination (position (is_named Right destination) s.connections) refl
+      (λ m e. same_number destination m e)
   by_class (Some Two) (disconnected destination source) =
-      at_name (disconnected destination source) destination (position (is_named Right destination) s.connections) refl (λ m e. same_number destination m e)
+      at_name (disconnected destination source) destination (position (is_named Right destination) s.connections) refl
+      (λ m e. same_number destination m e)
   by_class (Some Two) (data0 end user) =
       wrong (data0 end user) rule.UnexpectedUnit refl
   by_class (Some Two) (data2 destination number end user) =
-      at_name (data2 destination number end user) destination (position (is_named Right destination) s.connections) refl (λ m e. absurd (cc e))
+      at_name (data2 destination number end user) destination (position (is_named Right destination) s.connections) refl
+      (λ m e. absurd (cc e))
   by_class (Some Two) (acknowledge credit destination number) =
-      at_name (acknowledge credit destination number) destination (position (is_named Right destination) s.connections) refl (λ m e. absurd (cc e))
+      at_name (acknowledge credit destination number) destination (position (is_named Right destination) s.connections) refl
+      (λ m e. absurd (cc e))
   by_class (Some Two) (error destination cause) =
-      at_name (error destination cause) destination (position (is_named Right destination) s.connections) refl (λ m e. same_number destination m e)
+      at_name (error destination cause) destination (position (is_named Right destination) s.connections) refl
+      (λ m e. same_number destination m e)
 
   pub what_came : (v : Value) → s.course.right_stopped ≡ false → IsPlain (takes Right v s).state.course → Came L v s (takes Right v s).state
   what_came v judged =

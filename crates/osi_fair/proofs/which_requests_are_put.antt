@@ -83,7 +83,8 @@ for_linked r peer link (disconnect destination source reason user) held = for_le
 for_linked r peer link (disconnected destination source) held = for_taking r peer (taken link (disconnected destination source)) held
 for_linked r peer link (data0 end user) held = for_taking r peer (taken link (data0 end user)) held
 for_linked r peer link (data2 destination number end user) held = for_taking r peer (taken link (data2 destination number end user)) held
-for_linked r peer link (acknowledge credit destination number) held = for_taking r peer (taken link (acknowledge credit destination number)) held
+for_linked r peer link (acknowledge credit destination number) held =
+    for_taking r peer (taken link (acknowledge credit destination number)) held
 for_linked r peer link (error destination cause) held = for_taking r peer (taken link (error destination cause)) held
 
 for_connection : (r : ℕ) (o : Option Connection) (unit : Value) (held : Option Class) → NoCr (put_at r o unit held)
@@ -95,7 +96,8 @@ for_connection r (Some (closing peer)) unit held = refl
 before : (is_caller : Bool) (unit : Value) (s : State) → NoCr (put_before is_caller unit s)
 before true (request c) s = refl
 before true (confirm destination c) s = for_connection destination (value_at destination s.live) (confirm destination c) s.class
-before true (disconnect destination source reason user) s = for_connection destination (value_at destination s.live) (disconnect destination source reason user) s.class
+before true (disconnect destination source reason user) s =
+    for_connection destination (value_at destination s.live) (disconnect destination source reason user) s.class
 before true (disconnected destination source) s = refl
 before true (data0 end user) s = refl
 before true (data2 destination number end user) s = refl
@@ -128,19 +130,27 @@ in_class_zero true (error destination cause) s = only s.live (error destination 
 in_class_two : (is_caller : Bool) (unit : Value) (s : State) → NoCr (put_in_two is_caller unit s)
 in_class_two true (request c) s = refl
 in_class_two true (confirm destination c) s = for_connection destination (value_at destination s.live) (confirm destination c) s.class
-in_class_two true (disconnect destination source reason user) s = for_connection destination (value_at destination s.live) (disconnect destination source reason user) s.class
-in_class_two true (disconnected destination source) s = for_connection destination (value_at destination s.live) (disconnected destination source) s.class
+in_class_two true (disconnect destination source reason user) s =
+    for_connection destination (value_at destination s.live) (disconnect destination source reason user) s.class
+in_class_two true (disconnected destination source) s =
+    for_connection destination (value_at destination s.live) (disconnected destination source) s.class
 in_class_two true (data0 end user) s = refl
-in_class_two true (data2 destination number end user) s = for_connection destination (value_at destination s.live) (data2 destination number end user) s.class
-in_class_two true (acknowledge credit destination number) s = for_connection destination (value_at destination s.live) (acknowledge credit destination number) s.class
+in_class_two true (data2 destination number end user) s =
+    for_connection destination (value_at destination s.live) (data2 destination number end user) s.class
+in_class_two true (acknowledge credit destination number) s =
+    for_connection destination (value_at destination s.live) (acknowledge credit destination number) s.class
 in_class_two true (error destination cause) s = for_connection destination (value_at destination s.live) (error destination cause) s.class
 in_class_two false (request c) s = for_request c s
 in_class_two false (confirm destination c) s = for_connection destination (value_at destination s.live) (confirm destination c) s.class
-in_class_two false (disconnect destination source reason user) s = for_connection destination (value_at destination s.live) (disconnect destination source reason user) s.class
-in_class_two false (disconnected destination source) s = for_connection destination (value_at destination s.live) (disconnected destination source) s.class
+in_class_two false (disconnect destination source reason user) s =
+    for_connection destination (value_at destination s.live) (disconnect destination source reason user) s.class
+in_class_two false (disconnected destination source) s =
+    for_connection destination (value_at destination s.live) (disconnected destination source) s.class
 in_class_two false (data0 end user) s = refl
-in_class_two false (data2 destination number end user) s = for_connection destination (value_at destination s.live) (data2 destination number end user) s.class
-in_class_two false (acknowledge credit destination number) s = for_connection destination (value_at destination s.live) (acknowledge credit destination number) s.class
+in_class_two false (data2 destination number end user) s =
+    for_connection destination (value_at destination s.live) (data2 destination number end user) s.class
+in_class_two false (acknowledge credit destination number) s =
+    for_connection destination (value_at destination s.live) (acknowledge credit destination number) s.class
 in_class_two false (error destination cause) s = for_connection destination (value_at destination s.live) (error destination cause) s.class
 
 by_class : (held : Option Class) (unit : Value) (s : State) → NoCr (put_in held unit s)

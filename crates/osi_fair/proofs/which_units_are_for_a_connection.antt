@@ -1,16 +1,19 @@
--- Which units of a list are for a connection, by their DST-REF; and those that the line of a connection has put.
+-- Which units of a list are for a connection, by their references; and those that the line of a connection has put.
 -- For the law on a whole end.
-use Rattle.std.proofs.Common.{◌≡◌, ◌≢◌, ◌∙◌, ℕ, ◌+◌, Bool, true, false, List, [], ◌∷◌, ◌++◌, length, refl, sym, ap, subst, Option, Some, None}
-use Rattle.std.specs.Prelude.{◌==◌}
+use Rattle.std.proofs.Common.{◌≡◌, ◌≢◌, ◌∙◌, ℕ, ◌+◌, Bool, true, false, List, [], ◌∷◌, ◌++◌, length, refl, sym, ap, subst, Option, Some}
+use Rattle.std.proofs.Common.{None}
+use Rattle.std.specs.Prelude.{◌&&◌, ◌==◌}
 use Rattle.std.specs.List.{AllByRecursion}
 use Rattle.std.proofs.lemmas.Bool.{eq-eqb, eqb-true}
+use Rattle.std.proofs.lemmas.List.{append-nil}
 use Rattle.osi_tpdu.specs.Value.{Value, request, confirm, disconnect, disconnected, data0, data2, acknowledge, error, destination_of}
 use Rattle.osi_class.specs.Link.{Standing}
 use Rattle.osi_rules.specs.declared.halves.Half.{Half}
+use Rattle.osi_rules.specs.Sides.{is_open}
 use Rattle.osi_fair.specs.Lines.{Line}
 use Rattle.osi_fair.proofs.units_in_flight.{Bounds, Puts}
 use Rattle.osi_fair.proofs.what_a_link_does.{begun_by}
-use Rattle.osi_fair.proofs.what_holds_of_a_line.{Holds, PutsAt, Tally, anyhow, bounds_of, ends_so}
+use Rattle.osi_fair.proofs.what_holds_of_a_line.{Holds, PutsAt, Tally, bounds_of, ends_so, shut}
 
 abbrev pub names_in : ℕ → Option ℕ → Bool
 names_in n None = false
@@ -23,33 +26,143 @@ abbrev pub keep : Bool → Value → List Value → List Value
 keep true v vs = v ∷ vs
 keep false v vs = vs
 
--- the units that name it, in order
-abbrev pub those : ℕ → List Value → List Value
-those n [] = []
-those n (v ∷ vs) = keep (names n v) v (those n vs)
+differ : (b : Bool) → b ≡ true → b ≡ false → ⊥
+differ b h k = cc
 
--- the first unit names it
-abbrev pub heads : ℕ → List Value → Bool
-heads n [] = false
-heads n (v ∷ vs) = names n v
+-- the units of which this holds, in order
+abbrev pub picked : (Value → Bool) → List Value → List Value
+picked f [] = []
+picked f (v ∷ vs) = keep (f v) v (picked f vs)
+
+-- it holds of the first
+abbrev pub leads : (Value → Bool) → List Value → Bool
+leads f [] = false
+leads f (v ∷ vs) = f v
+
+-- the units that name it
+abbrev pub those : ℕ → List Value → List Value
+those n vs = picked (names n) vs
 
 keep_join : (b : Bool) (v : Value) (xs ys : List Value) → keep b v (xs ++ ys) ≡ keep b v xs ++ ys
 keep_join true v xs ys = refl
 keep_join false v xs ys = refl
 
+pub picked_join : (f : Value → Bool) (xs ys : List Value) → picked f (xs ++ ys) ≡ picked f xs ++ picked f ys
+picked_join f [] ys = refl
+picked_join f (x ∷ xs) ys =
+    ap (λ (l : List Value). keep (f x) x l) (picked_join f xs ys) ∙ keep_join (f x) x (picked f xs) (picked f ys)
+
+pub picked_first : (f : Value → Bool) (v : Value) (vs : List Value) → f v ≡ true → picked f (v ∷ vs) ≡ v ∷ picked f vs
+picked_first f v vs e = ap (λ (b : Bool). keep b v (picked f vs)) e
+
+pub picked_rest : (f : Value → Bool) (v : Value) (vs : List Value) → f v ≡ false → picked f (v ∷ vs) ≡ picked f vs
+picked_rest f v vs e = ap (λ (b : Bool). keep b v (picked f vs)) e
+
+pub picked_none : (f : Value → Bool) (units : List Value) → AllByRecursion (λ (v : Value). f v ≡ false) units → picked f units ≡ []
+picked_none f [] h = refl
+picked_none f (v ∷ vs) (one, more) = picked_rest f v vs one ∙ picked_none f vs more
+
+pub leads_none : (f : Value → Bool) (units : List Value) → AllByRecursion (λ (v : Value). f v ≡ false) units → leads f units ≡ false
+leads_none f [] h = refl
+leads_none f (v ∷ vs) (one, more) = one
+
+-- one more
+pub picked_more : (f : Value → Bool) (units : List Value) (v : Value) → f v ≡ true → picked f (units ++ v ∷ []) ≡ picked f units ++ v ∷ []
+picked_more f units v e = picked_join f units (v ∷ []) ∙ ap (λ (l : List Value). picked f units ++ l) (picked_first f v [] e)
+
+pub picked_other : (f : Value → Bool) (units : List Value) (v : Value) → f v ≡ false → picked f (units ++ v ∷ []) ≡ picked f units
+picked_other f units v e = picked_join f units (v ∷ []) ∙ ap (λ (l : List Value). picked f units ++ l) (picked_rest f v [] e)
+    ∙ append-nil (picked f units)
+
+-- what holds of all that are picked
+each_by : (P : Value → Type 0) (f : Value → Bool) (v : Value) (vs : List Value) (b : Bool) → f v ≡ b →
+    (AllByRecursion P (picked f vs) → AllByRecursion (λ (u : Value). f u ≡ true → P u) vs) → AllByRecursion P (keep b v (picked f vs)) →
+    AllByRecursion (λ (u : Value). f u ≡ true → P u) (v ∷ vs)
+each_by P f v vs true e rest (one, more) = (λ k. one, rest more)
+each_by P f v vs false e rest h = (λ k. absurd (differ (f v) k e), rest h)
+
+pub picked_each : (P : Value → Type 0) (f : Value → Bool) (vs : List Value) → AllByRecursion P (picked f vs) →
+    AllByRecursion (λ (u : Value). f u ≡ true → P u) vs
+picked_each P f [] h = tt
+picked_each P f (v ∷ vs) h = each_by P f v vs (f v) refl (picked_each P f vs) h
+
+kept_each : (P : Value → Type 0) (b : Bool) (v : Value) (vs : List Value) → (b ≡ true → P v) → AllByRecursion P vs →
+    AllByRecursion P (keep b v vs)
+kept_each P true v vs one more = (one refl, more)
+kept_each P false v vs one more = more
+
+pub each_picked : (P : Value → Type 0) (f : Value → Bool) (vs : List Value) → AllByRecursion (λ (u : Value). f u ≡ true → P u) vs →
+    AllByRecursion P (picked f vs)
+each_picked P f [] h = tt
+each_picked P f (v ∷ vs) (one, more) = kept_each P (f v) v (picked f vs) one (each_picked P f vs more)
+
+no_list : (v : Value) (vs : List Value) → v ∷ vs ≡ [] → ⊥
+no_list v vs e = cc
+
+pub some_picked : (f : Value → Bool) (units : List Value) → leads f units ≡ true → picked f units ≢ []
+some_picked f [] h = absurd (cc h)
+some_picked f (v ∷ vs) h = λ e. no_list v (picked f vs) (sym (picked_first f v vs h) ∙ e)
+
+-- ---- the units that name a reference
+
 pub those_join : (n : ℕ) (xs ys : List Value) → those n (xs ++ ys) ≡ those n xs ++ those n ys
-those_join n [] ys = refl
-those_join n (x ∷ xs) ys =
-    ap (λ (l : List Value). keep (names n x) x l) (those_join n xs ys) ∙ keep_join (names n x) x (those n xs) (those n ys)
+those_join n xs ys = picked_join (names n) xs ys
+
+pub first_kept : (n : ℕ) (v : Value) (vs : List Value) → names n v ≡ true → those n (v ∷ vs) ≡ v ∷ those n vs
+first_kept n v vs e = picked_first (names n) v vs e
+
+pub first_left : (n : ℕ) (v : Value) (vs : List Value) → names n v ≡ false → those n (v ∷ vs) ≡ those n vs
+first_left n v vs e = picked_rest (names n) v vs e
+
+pub one_more : (n : ℕ) (units : List Value) (v : Value) → names n v ≡ true → those n (units ++ v ∷ []) ≡ those n units ++ v ∷ []
+one_more n units v e = picked_more (names n) units v e
 
 abbrev pub AllNamed : ℕ → List Value → Type 0
 AllNamed n units = AllByRecursion (λ (v : Value). destination_of v ≡ Some n) units
 
+-- ---- the units of a connection of the end
+
+-- a DC
+abbrev pub is_dc : Value → Bool
+is_dc (request x) = false
+is_dc (confirm destination x) = false
+is_dc (disconnect destination source reason user) = false
+is_dc (disconnected destination source) = true
+is_dc (data0 end user) = false
+is_dc (data2 destination number end user) = false
+is_dc (acknowledge credit destination number) = false
+is_dc (error destination cause) = false
+
+abbrev pub IsDc : Value → Type 0
+IsDc v = is_dc v ≡ true
+
+-- a DC has the reference that this side gave
+abbrev pub is_from : ℕ → Value → Bool
+is_from r (request x) = true
+is_from r (confirm destination x) = true
+is_from r (disconnect destination source reason user) = true
+is_from r (disconnected destination source) = source == r
+is_from r (data0 end user) = true
+is_from r (data2 destination number end user) = true
+is_from r (acknowledge credit destination number) = true
+is_from r (error destination cause) = true
+
+-- a unit of the connection with the reference `r` of this side, and `peer` of the other
+abbrev pub is_ours : (r peer : ℕ) → Value → Bool
+is_ours r peer v = names peer v && is_from r v
+
+abbrev pub ours : (r peer : ℕ) → List Value → List Value
+ours r peer vs = picked (is_ours r peer) vs
+
+pub record IsOf (r peer : ℕ) (v : Value) : Type 0 where
+  pub named : destination_of v ≡ Some peer
+  pub from : is_from r v ≡ true
+
+abbrev pub AllOurs : (r peer : ℕ) → List Value → Type 0
+AllOurs r peer units = AllByRecursion (IsOf r peer) units
+
 pub named_so : (n : ℕ) (v : Value) → destination_of v ≡ Some n → names n v ≡ true
 named_so n v e = ap (λ (o : Option ℕ). names_in n o) e ∙ eq-eqb n n refl
-
-differ : (b : Bool) → b ≡ true → b ≡ false → ⊥
-differ b h k = cc
 
 unlike : (m n : ℕ) (b : Bool) → (m == n) ≡ b → (m ≡ n → ⊥) → b ≡ false
 unlike m n true e h = absurd (h (eqb-true m n e))
@@ -58,76 +171,105 @@ unlike m n false e h = refl
 pub named_not : (m n : ℕ) (v : Value) → (m ≡ n → ⊥) → destination_of v ≡ Some m → names n v ≡ false
 named_not m n v other e = ap (λ (o : Option ℕ). names_in n o) e ∙ unlike m n (m == n) refl other
 
-pub those_all : (n : ℕ) (units : List Value) → AllNamed n units → those n units ≡ units
-those_all n [] h = refl
-those_all n (v ∷ vs) (one, more) =
-    ap (λ (b : Bool). keep b v (those n vs)) (named_so n v one) ∙ ap (λ (l : List Value). v ∷ l) (those_all n vs more)
+both_so : (a b : Bool) → a ≡ true → b ≡ true → (a && b) ≡ true
+both_so true b h k = k
+both_so false b h k = cc
 
-pub those_none : (m n : ℕ) (units : List Value) → (m ≡ n → ⊥) → AllNamed m units → those n units ≡ []
-those_none m n [] other h = refl
-those_none m n (v ∷ vs) other (one, more) =
-    ap (λ (b : Bool). keep b v (those n vs)) (named_not m n v other one) ∙ those_none m n vs other more
+first_not : (a b : Bool) → a ≡ false → (a && b) ≡ false
+first_not true b h = cc
+first_not false b h = refl
 
-pub first_kept : (n : ℕ) (v : Value) (vs : List Value) → names n v ≡ true → those n (v ∷ vs) ≡ v ∷ those n vs
-first_kept n v vs e = ap (λ (b : Bool). keep b v (those n vs)) e
+second_not : (a b : Bool) → b ≡ false → (a && b) ≡ false
+second_not true b h = h
+second_not false b h = refl
 
-pub first_left : (n : ℕ) (v : Value) (vs : List Value) → names n v ≡ false → those n (v ∷ vs) ≡ those n vs
-first_left n v vs e = ap (λ (b : Bool). keep b v (those n vs)) e
+and_parts : (a b : Bool) → (a && b) ≡ true → (a ≡ true) × (b ≡ true)
+and_parts true b h = (refl, h)
+and_parts false b h = cc
 
-no_list : (v : Value) (vs : List Value) → v ∷ vs ≡ [] → ⊥
-no_list v vs e = cc
+pub named_is : (o : Option ℕ) (n : ℕ) → names_in n o ≡ true → o ≡ Some n
+named_is None n h = cc
+named_is (Some m) n h = ap (λ (i : ℕ). Some i) (eqb-true m n h)
 
-pub some_there : (n : ℕ) (units : List Value) → heads n units ≡ true → those n units ≢ []
-some_there n [] h = absurd (cc h)
-some_there n (v ∷ vs) h = λ e. no_list v (those n vs) (sym (first_kept n v vs h) ∙ e)
+pub ours_so : (r peer : ℕ) (v : Value) → IsOf r peer v → is_ours r peer v ≡ true
+ours_so r peer v h = both_so (names peer v) (is_from r v) (named_so peer v h.named) h.from
 
--- if none is left, none names it
-rest_none : (b : Bool) (v : Value) (vs : List Value) → keep b v vs ≡ [] → (b ≡ false) × (vs ≡ [])
-rest_none true v vs e = absurd (no_list v vs e)
-rest_none false v vs e = (refl, e)
+pub ours_is : (r peer : ℕ) (v : Value) → is_ours r peer v ≡ true → IsOf r peer v
+ours_is r peer v h =
+    let (a, b) = and_parts (names peer v) (is_from r v) h in record { named = named_is (destination_of v) peer a; from = b }
 
-pub none_named : (n : ℕ) (units : List Value) → those n units ≡ [] → AllByRecursion (λ (v : Value). names n v ≡ false) units
-none_named n [] e = tt
-none_named n (v ∷ vs) e = let (a, b) = rest_none (names n v) v (those n vs) e in (a, none_named n vs b)
+-- a unit for another reference of the other side
+pub ours_not : (r m peer : ℕ) (v : Value) → (m ≡ peer → ⊥) → destination_of v ≡ Some m → is_ours r peer v ≡ false
+ours_not r m peer v other e = first_not (names peer v) (is_from r v) (named_not m peer v other e)
 
-pub those_nothing : (n : ℕ) (units : List Value) → AllByRecursion (λ (v : Value). names n v ≡ false) units → those n units ≡ []
-those_nothing n [] h = refl
-those_nothing n (v ∷ vs) (one, more) = first_left n v vs one ∙ those_nothing n vs more
+-- a DC of another connection
+pub dc_not_ours : (r peer d s : ℕ) → (s ≡ r → ⊥) → is_ours r peer (disconnected d s) ≡ false
+dc_not_ours r peer d s other = second_not (d == peer) (s == r) (unlike s r (s == r) refl other)
 
-pub heads_nothing : (n : ℕ) (units : List Value) → AllByRecursion (λ (v : Value). names n v ≡ false) units → heads n units ≡ false
-heads_nothing n [] h = refl
-heads_nothing n (v ∷ vs) (one, more) = one
+pub all_ours : (r peer : ℕ) (units : List Value) → AllOurs r peer units → ours r peer units ≡ units
+all_ours r peer [] h = refl
+all_ours r peer (v ∷ vs) (one, more) =
+    picked_first (is_ours r peer) v vs (ours_so r peer v one) ∙ ap (λ (l : List Value). v ∷ l) (all_ours r peer vs more)
 
--- one more
-pub one_more : (n : ℕ) (units : List Value) (v : Value) → names n v ≡ true → those n (units ++ v ∷ []) ≡ those n units ++ v ∷ []
-one_more n units v e = those_join n units (v ∷ []) ∙ ap (λ (l : List Value). those n units ++ l) (first_kept n v [] e)
+-- units of a connection to which the other side gave another reference
+pub none_ours : (r q m peer : ℕ) (units : List Value) → (m ≡ peer → ⊥) → AllOurs q m units → ours r peer units ≡ []
+none_ours r q m peer [] other h = refl
+none_ours r q m peer (v ∷ vs) other (one, more) =
+    picked_rest (is_ours r peer) v vs (ours_not r m peer v other one.named) ∙ none_ours r q m peer vs other more
 
 -- ---- the units that a line has put
 
-puts_named : (s : Bounds) (e : ℕ → ℕ → Type 0) (passed shown begun : ℕ) (units : List Value) → Puts s e passed shown begun units →
-    AllNamed s.peer units
-puts_named s e passed shown begun [] h = tt
-puts_named s e passed shown begun (data2 destination number end user ∷ units) (a, b, c, d, f, g) =
-    (ap (λ (n : ℕ). Some n) a, puts_named s e (passed + 1) shown (begun_by begun end (length user)) units g)
-puts_named s e passed shown begun (acknowledge credit destination number ∷ units) (count, a, b, c, d, f, g) =
-    (ap (λ (n : ℕ). Some n) a, puts_named s e passed count begun units g)
-puts_named s e passed shown begun (disconnect destination source reason user ∷ units) (a, b, c) =
-    (ap (λ (n : ℕ). Some n) a, subst (λ (l : List Value). AllNamed s.peer l) (sym c) tt)
-puts_named s e passed shown begun (disconnected destination source ∷ units) (a, b, c, d, f) =
-    (ap (λ (n : ℕ). Some n) a, subst (λ (l : List Value). AllNamed s.peer l) (sym f) tt)
-puts_named s e passed shown begun (request x ∷ units) h = absurd h
-puts_named s e passed shown begun (confirm destination x ∷ units) h = absurd h
-puts_named s e passed shown begun (data0 end user ∷ units) h = absurd h
-puts_named s e passed shown begun (error destination cause ∷ units) h = absurd h
+puts_ours : (s : Bounds) (e : ℕ → ℕ → Type 0) (passed shown begun : ℕ) (units : List Value) → Puts s e passed shown begun units →
+    AllOurs s.reference s.peer units
+puts_ours s e passed shown begun [] h = tt
+puts_ours s e passed shown begun (data2 destination number end user ∷ units) (a, b, c, d, f, g) = (
+  record { named = ap (λ (n : ℕ). Some n) a; from = refl },
+  puts_ours s e (passed + 1) shown (begun_by begun end (length user)) units g,
+)
+puts_ours s e passed shown begun (acknowledge credit destination number ∷ units) (count, a, b, c, d, f, g) =
+    (record { named = ap (λ (n : ℕ). Some n) a; from = refl }, puts_ours s e passed count begun units g)
+puts_ours s e passed shown begun (disconnect destination source reason user ∷ units) (a, b, c) = (
+  record { named = ap (λ (n : ℕ). Some n) a; from = refl },
+  subst (λ (l : List Value). AllOurs s.reference s.peer l) (sym c) tt,
+)
+puts_ours s e passed shown begun (disconnected destination source ∷ units) (a, b, c, d, f) = (
+  record { named = ap (λ (n : ℕ). Some n) a; from = eq-eqb source s.reference b },
+  subst (λ (l : List Value). AllOurs s.reference s.peer l) (sym f) tt,
+)
+puts_ours s e passed shown begun (request x ∷ units) h = absurd h
+puts_ours s e passed shown begun (confirm destination x ∷ units) h = absurd h
+puts_ours s e passed shown begun (data0 end user ∷ units) h = absurd h
+puts_ours s e passed shown begun (error destination cause ∷ units) h = absurd h
 
 puts_at : (r peer limit : ℕ) (x : Tally) (mine theirs : Half) (put : List Value) (link : Option Standing) →
-    PutsAt r peer limit x mine theirs put link → AllNamed peer put
-puts_at r peer limit x mine theirs put None (puts, so) = puts_named (bounds_of r peer limit x true theirs) anyhow x.passed x.shown mine.begun put puts
-puts_at r peer limit x mine theirs put (Some link) (puts, so) = puts_named (bounds_of r peer limit x false theirs) (ends_so x.sent link.ends.unsent) x.passed x.shown mine.begun put puts
+    PutsAt r peer limit x mine theirs put link → AllOurs r peer put
+puts_at r peer limit x mine theirs put None (puts, so) =
+    puts_ours (bounds_of r peer limit x true theirs) (shut mine.phase) x.passed x.shown mine.begun put puts
+puts_at r peer limit x mine theirs put (Some link) (puts, so) =
+    puts_ours (bounds_of r peer limit x false theirs) (ends_so x.sent link.ends.unsent) x.passed x.shown mine.begun put puts
+
+pub line_ours : (r peer : ℕ) (line : Line) → Holds r peer line → AllOurs r peer line.put
+line_ours r peer line h = puts_at r peer h.limit h.tally line.tap.left line.tap.right line.put line.link h.puts
+
+all_named : (r peer : ℕ) (units : List Value) → AllOurs r peer units → AllNamed peer units
+all_named r peer [] h = tt
+all_named r peer (v ∷ vs) (one, more) = (one.named, all_named r peer vs more)
 
 pub line_named : (r peer : ℕ) (line : Line) → Holds r peer line → AllNamed peer line.put
-line_named r peer line h = puts_at r peer h.limit h.tally line.tap.left line.tap.right line.put line.link h.puts
+line_named r peer line h = all_named r peer line.put (line_ours r peer line h)
 
-pub last_named : (n : ℕ) (xs ys : List Value) → AllNamed n (xs ++ ys) → AllNamed n ys
-last_named n [] ys h = h
-last_named n (x ∷ xs) ys (one, more) = last_named n xs ys more
+pub last_ours : (r peer : ℕ) (xs ys : List Value) → AllOurs r peer (xs ++ ys) → AllOurs r peer ys
+last_ours r peer [] ys h = h
+last_ours r peer (x ∷ xs) ys (one, more) = last_ours r peer xs ys more
+
+-- an end that has closed a connection which is open at the tap has put the unit that says so, and it has not passed
+waits_at : (r peer limit : ℕ) (x : Tally) (mine theirs : Half) (put : List Value) (link : Option Standing) →
+    PutsAt r peer limit x mine theirs put link → link ≡ None → is_open mine.phase ≡ true → put ≡ [] → ⊥
+waits_at r peer limit x mine theirs [] None (closed, so) none live e = differ (is_open mine.phase) live closed
+waits_at r peer limit x mine theirs (v ∷ vs) None h none live e = no_list v vs e
+waits_at r peer limit x mine theirs put (Some link) h none live e = absurd (cc none)
+
+pub close_waits : (r peer : ℕ) (line : Line) → Holds r peer line → line.link ≡ None → is_open line.tap.left.phase ≡ true →
+    line.put ≡ [] → ⊥
+close_waits r peer line h none live e =
+    waits_at r peer h.limit h.tally line.tap.left line.tap.right line.put line.link h.puts none live e

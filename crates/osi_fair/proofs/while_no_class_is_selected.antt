@@ -167,16 +167,20 @@ module _ (cs : List Connection) (strays : Bool) where
   pub done_takes : (v : Value) → HoldsOfEach IsDone cs → GoesOn (takes Right v s).state → OnlyDc v cs strays (takes Right v s).state
   done_takes (request c) done h = absurd (cc)
   done_takes (confirm destination c) done h =
-      at_none (confirm destination c) (position (is_named Right destination) cs) (none_by cs destination (position (is_named Right destination) cs) refl done) h
+      at_none (confirm destination c) (position (is_named Right destination) cs)
+      (none_by cs destination (position (is_named Right destination) cs) refl done) h
   done_takes (disconnect destination source reason user) done h =
-      at_none (disconnect destination source reason user) (position (is_named Right destination) cs) (none_by cs destination (position (is_named Right destination) cs) refl done) h
+      at_none (disconnect destination source reason user) (position (is_named Right destination) cs)
+      (none_by cs destination (position (is_named Right destination) cs) refl done) h
   done_takes (disconnected destination source) done h =
-      at_none (disconnected destination source) (position (is_named Right destination) cs) (none_by cs destination (position (is_named Right destination) cs) refl done) h
+      at_none (disconnected destination source) (position (is_named Right destination) cs)
+      (none_by cs destination (position (is_named Right destination) cs) refl done) h
   done_takes (data0 end user) done h = absurd (cc)
   done_takes (data2 destination number end user) done h = absurd (cc)
   done_takes (acknowledge credit destination number) done h = absurd (cc)
   done_takes (error destination cause) done h =
-      at_none (error destination cause) (position (is_named Right destination) cs) (none_by cs destination (position (is_named Right destination) cs) refl done) h
+      at_none (error destination cause) (position (is_named Right destination) cs)
+      (none_by cs destination (position (is_named Right destination) cs) refl done) h
 
 -- ---- one waits for an answer
 
@@ -318,7 +322,8 @@ module _ (r p : ℕ) (cs : List Connection) (strays : Bool) (w : Waits r p cs) w
   silent_so : is_silent c.right.phase ≡ true
   silent_so = ap is_silent w.silent
 
-  to_confirm : (destination : ℕ) (x : Connect) → GoesOn (by_finding p c cs strays (confirm destination x) (finding (confirm destination x))) →
+  to_confirm : (destination : ℕ) (x : Connect) →
+      GoesOn (by_finding p c cs strays (confirm destination x) (finding (confirm destination x))) →
       Answer r p cs strays (confirm destination x) (by_finding p c cs strays (confirm destination x) (finding (confirm destination x)))
   to_confirm destination x h =
       let tests = confirm_or (is_silent c.right.phase) (is_offered c.offer None x) (is_inside x) (not (uses_source Right cs
@@ -361,7 +366,8 @@ module _ (r p : ℕ) (cs : List Connection) (strays : Bool) (w : Waits r p cs) w
       (w.judged, ap (λ (b : Bool). is_refused (closing_phase b c.right).phase) silent_so)
 
   to_error : (destination cause : ℕ) → destination ≡ r →
-      Answer r p cs strays (error destination cause) (by_finding p c cs strays (error destination cause) (finding (error destination cause)))
+      Answer r p cs strays (error destination cause)
+      (by_finding p c cs strays (error destination cause) (finding (error destination cause)))
   to_error destination cause e =
       let v = error destination cause in
       refusing v e (finding v)
@@ -415,9 +421,11 @@ module _ (r p : ℕ) (cs : List Connection) (strays : Bool) (w : Waits r p cs) w
   waits_takes (confirm destination x) h =
       at_named (confirm destination x) destination (position (is_named Right destination) cs) refl (λ e. to_confirm destination x) h
   waits_takes (disconnect destination source reason user) h =
-      at_named (disconnect destination source reason user) destination (position (is_named Right destination) cs) refl (λ e h. to_disconnect destination source reason user e) h
+      at_named (disconnect destination source reason user) destination (position (is_named Right destination) cs) refl
+      (λ e h. to_disconnect destination source reason user e) h
   waits_takes (disconnected destination source) h =
-      at_named (disconnected destination source) destination (position (is_named Right destination) cs) refl (λ e. to_dc destination source) h
+      at_named (disconnected destination source) destination (position (is_named Right destination) cs) refl
+      (λ e. to_dc destination source) h
   waits_takes (data0 end user) h = absurd (cc)
   waits_takes (data2 destination number end user) h = absurd (cc)
   waits_takes (acknowledge credit destination number) h = absurd (cc)

@@ -103,8 +103,9 @@ pub fn what_is_put_before_the_cc_passes()
 
 /// What a carrier of class 2 does to one of its connections is acts of its line, and it writes the units that these put: as a
 /// unit for the connection arrives (`open`, and `closing` if the end has sent a DR), as a TSDU is sent (`sent`) or several
-/// together (`together`), and as the connection is closed (`closed`). What is done one after the other joins (`joined`). A unit for another connection leaves this one as it is, by
-/// `a_unit_changes_one_connection` of `osi_carrier`. So [`an_open_end_is_fair`] speaks of every connection of a carrier.
+/// together (`together`), and as the connection is closed (`closed`). What is done one after the other joins (`joined`). A unit
+/// for another connection leaves this one as it is, by `a_unit_changes_one_connection` of `osi_carrier`. So
+/// [`an_open_end_is_fair`] speaks of every connection of a carrier.
 pub fn a_carrier_follows_its_lines()
     ensures open { (unit : Value) (s : State) (r peer : ℕ) (link : Standing) → IsOrderly s → s.class ≡ Some Two → s.ended ≡ None →
         value_at r s.live ≡ Some (linked peer link) → destination_of unit ≡ Some r →
@@ -145,8 +146,9 @@ pub fn a_reference_names_one_connection()
 {}
 
 /// A connection keeps its place and its name. A reference that names it for a side names it at this place until it is over for
-/// this side, whatever passes (`stays`); what this side has refused or closed there, it has closed until then (`closed`). As long as no connection has lost its judgement, because a side broke a rule, this is the
-/// place at which a unit with this reference is judged (`place`). The reference by which the other side's units name it is the one that this side gave it
+/// this side, whatever passes (`stays`); what this side has refused or closed there, it has closed until then (`closed`). As
+/// long as no connection has lost its judgement, because a side broke a rule, this is the place at which a unit with this
+/// reference is judged (`place`). The reference by which the other side's units name it is the one that this side gave it
 /// (`own`), so a tap and this end say of the same connection that a unit is for it.
 pub fn a_connection_keeps_its_place()
     ensures stays { (passings : List Passing) (passing : Passing) (d : Direction) (n place : ℕ) (c after : Connection) →
@@ -186,8 +188,9 @@ pub fn a_new_reference_is_not_in_use()
         ⊎ ((takes Direction.Left (request c) (all_passed passings fresh)).told.finding ≡ Finding.TooMany) }
 {}
 
-/// While right has selected no class, one CR at most waits for its answer: of the connections that are judged, all but one are over
-/// for left (`one`). Once that one has been refused and a packet of left has begun, all are (`refused`): a next CR may come.
+/// While right has selected no class, one CR at most waits for its answer: of the connections that are judged, all but one are
+/// over for left (`one`). Once that one has been refused and a packet of left has begun, all are (`refused`): a next CR may
+/// come.
 pub fn one_request_waits()
     ensures one { (passings : List Passing) → (all_passed passings fresh).course.class ≡ None →
         HoldsOfOne (is_live Direction.Left) (all_passed passings fresh).connections }
@@ -208,9 +211,9 @@ pub fn a_right_unit_is_not_blamed()
         ⊎ ((takes d v (all_passed passings fresh)).told.finding ≡ Finding.NotJudged) }
 {}
 
-/// What an end answers without an open connection. A DR that refuses a CR is right (`refusal`). After a DR that closed nothing no
-/// DC is blamed (`dc`), whatever passes after it (`lasts`); a DR of the other side for no connection is such a one (`stray`), and so is each DR except one that just closes an open
-/// connection which is judged (`closes`).
+/// What an end answers without an open connection. A DR that refuses a CR is right (`refusal`). After a DR that closed nothing
+/// no DC is blamed (`dc`), whatever passes after it (`lasts`); a DR of the other side for no connection is such a one
+/// (`stray`), and so is each DR except one that just closes an open connection which is judged (`closes`).
 pub fn what_belongs_to_no_open_connection()
     ensures refusal { (c : Connection) (course : Course) (in_use : Bool) (destination source reason : ℕ) (user : List ℕ) →
         is_silent c.right.phase ≡ true →
@@ -227,8 +230,8 @@ pub fn what_belongs_to_no_open_connection()
         ((takes d (disconnect n source reason user) s).state.course.strays ≡ true) ⊎ JustCloses d s n source }
 {}
 
-/// The units that a carrier puts (`specs/Putting`) are what it writes, each in a packet of its own: as it takes a unit (`arrives`),
-/// and as its user makes a call (`calls`).
+/// The units that a carrier puts (`specs/Putting`) are what it writes, each in a packet of its own: as it takes a unit
+/// (`arrives`), and as its user makes a call (`calls`).
 pub fn what_a_carrier_puts()
     ensures arrives { (unit : Value) (s : State) → (react unit s).outgoing ≡ s.outgoing ++ packets (put_for unit s) }
     ensures calls { (call : UserCall) (s : State) → (user_does call s).outgoing ≡ s.outgoing ++ packets (put_by call s) }
@@ -245,10 +248,10 @@ pub fn no_request_is_blamed()
         ⊎ ((takes Direction.Left (request c) w.tap).told.finding ≡ Finding.TooMany) }
 {}
 
-/// A DR that a calling end takes for a reference which is gone closed nothing at the tap. Take any run of a whole end that offers
-/// class 2 alone. If the next unit that it takes is a DR for a reference which is not live there, a DR that closed nothing has passed,
-/// as long as both sides are judged and no connection has lost its judgement. So the DC with which it answers is not blamed:
-/// [`what_belongs_to_no_open_connection`], clauses `dc` and `lasts`.
+/// A DR that a calling end takes for a reference which is gone closed nothing at the tap. Take any run of a whole end that
+/// offers class 2 alone. If the next unit that it takes is a DR for a reference which is not live there, a DR that closed
+/// nothing has passed, as long as both sides are judged and no connection has lost its judgement. So the DC with which it
+/// answers is not blamed: [`what_belongs_to_no_open_connection`], clauses `dc` and `lasts`.
 pub fn a_dr_for_what_is_gone_closed_nothing()
     ensures { (local : Local) (events : List Event) (w : Whole) (n source reason : ℕ) (user : List ℕ) (more : List Value) →
         local.class0 ≡ false → local.class2 ≡ true → HappenAlong Direction.Left (begin true local) events w →
@@ -257,18 +260,26 @@ pub fn a_dr_for_what_is_gone_closed_nothing()
         w.tap.course.loose ≡ false → w.tap.course.strays ≡ true }
 {}
 
-/// A whole calling end is fair, until a DR passes that closes nothing. Take any run of an end that offers class 2 alone: any calls of
-/// its user, whatever units the other side sends, however many connections, and a tap anywhere between the two ends. Then each
-/// unit of the end that passes is right, or it is a CR and there are more connections than the rules look at. This holds as
-/// long as both sides are judged, no connection has lost its judgement because the other side broke a rule, and each DR that
-/// has passed closed an open connection which the side to which it goes had not closed.
+/// A whole calling end is fair in class 2. Take any run of an end that offers this class: any calls of its user, whatever units
+/// the other side sends, however many connections, and a tap anywhere between the two ends. Then each unit of the end that passes
+/// is right, or it is a CR and there are more connections than the rules look at, or it is a DC that is not judged, since a DR has
+/// passed that closed nothing. This holds as long as the other side is judged, and no connection has lost its judgement because
+/// that side broke a rule: for an end that offers class 2 alone (`alone`), and for one that offers class 0 too as long as no CC has
+/// selected class 0 (`either`).
 pub fn a_calling_end_is_fair()
-    ensures { (local : Local) (events : List Event) (w : Whole) (unit : Value) (rest : List Value) →
+    ensures alone { (local : Local) (events : List Event) (w : Whole) (unit : Value) (rest : List Value) →
         local.class0 ≡ false → local.class2 ≡ true → HappenAlong Direction.Left (begin true local) events w → w.begun ≡ true →
-        w.put ≡ unit ∷ rest → is_stopped Direction.Left w.tap.course ≡ false →
-        is_stopped Direction.Right w.tap.course ≡ false → w.tap.course.loose ≡ false → w.tap.course.strays ≡ false →
+        w.put ≡ unit ∷ rest → is_stopped Direction.Right w.tap.course ≡ false → w.tap.course.loose ≡ false →
         ((takes Direction.Left unit w.tap).told.finding ≡ Finding.Kept)
-        ⊎ ((takes Direction.Left unit w.tap).told.finding ≡ Finding.TooMany) }
+        ⊎ (((takes Direction.Left unit w.tap).told.finding ≡ Finding.TooMany)
+        ⊎ (((takes Direction.Left unit w.tap).told.finding ≡ Finding.NotJudged) × (w.tap.course.strays ≡ true))) }
+    ensures either { (local : Local) (events : List Event) (w : Whole) (unit : Value) (rest : List Value) →
+        local.class2 ≡ true → HappenAlong Direction.Left (begin true local) events w → w.begun ≡ true →
+        w.put ≡ unit ∷ rest → w.tap.course.class ≢ Some Zero → is_stopped Direction.Right w.tap.course ≡ false →
+        w.tap.course.loose ≡ false →
+        ((takes Direction.Left unit w.tap).told.finding ≡ Finding.Kept)
+        ⊎ (((takes Direction.Left unit w.tap).told.finding ≡ Finding.TooMany)
+        ⊎ (((takes Direction.Left unit w.tap).told.finding ≡ Finding.NotJudged) × (w.tap.course.strays ≡ true))) }
 {}
 
 /// A whole called end is fair. Take any run of it, whatever classes it offers: any calls of its user, whatever units the other side

@@ -38,25 +38,21 @@
 //!   to it. The units that it puts (`specs/Putting`) are what it writes: [`laws::what_a_carrier_puts`]. In any run of a calling end
 //!   no CR is blamed, as long as it is judged: [`laws::no_request_is_blamed`]. If it offers class 2 alone, a DR that it takes for a
 //!   reference which is gone closed nothing at the tap, so the DC with which it answers is not blamed:
-//!   [`laws::a_dr_for_what_is_gone_closed_nothing`]. And each unit of it that passes is right, of whatever connection, until the
-//!   other side breaks a rule or a DR passes that closes nothing: [`laws::a_calling_end_is_fair`]. There each connection that is
-//!   open at the tap has its line, and each line its place. What a carrier does with a packet, with or without enough memory,
-//!   and what its user does, is such events: [`laws::a_packet_is_events`].
+//!   [`laws::a_dr_for_what_is_gone_closed_nothing`]. And no unit of it that passes is blamed, of whatever connection, until the
+//!   other side breaks a rule: [`laws::a_calling_end_is_fair`]. That holds too if it offers class 0, until a CC selects that.
+//!   There each connection that is open at the tap has its line, and each line its place. What a carrier does with a packet, with
+//!   or without enough memory, and what its user does, is such events: [`laws::a_packet_is_events`].
+//! - **A DC for a DR that closed nothing** has for its DST-REF whatever SRC-REF that DR had, maybe that of another open connection.
+//!   The rules don't take it for the answer on that connection, since its SRC-REF is not the reference that the end gave there:
+//!   references rise, so the one that is gone is given to no later connection. And a DC of the other side that answers nothing is
+//!   not judged either: the line of its connection takes it, and closes.
 //! - **A whole called end** is fair, whatever classes it offers and whatever DRs pass: [`laws::a_called_end_is_fair`]. Each unit that
 //!   it puts in class 2 has the place of a connection at the tap, whose CR it answers or whose line it is of. A DC for a DR that
 //!   closed nothing has none, and is not taken for the answer on another connection: its SRC-REF is a reference that the end has
 //!   closed, and the unit which closed that one passes first. In class 0 it puts DTs alone.
 //!
-//! What is not here: the last two of these laws for a called end, and for an end that offers class 0 too; the last one after a DR
-//! that closes nothing (it refuses a CR, crosses a DR, or has the wrong references); and the way from packets to pieces of
-//! octets. So the theorem on a whole end of class 2, as `osi_honest` has it for class 0, doesn't follow yet.
-//!
-//! It doesn't hold either with the rules as they are. They take a DC as the answer to a DR on the connection that its DST-REF names,
-//! and don't look at its SRC-REF. An end answers a DR for a reference that is gone by a DC whose DST-REF is the SRC-REF of that DR. If
-//! the other side puts the reference of another connection there, and closes that one too before the end knows, the rules take the
-//! DC for the answer on the other connection, and blame the DTs that the end has put there before it takes the second DR
-//! (`UnknownReference`). A DR with the right SRC-REF does the same if the other side gives its reference to another connection
-//! before the DC passes. The theorem wants `is_due` of `osi_rules` to ask that the SRC-REF of the DC is the reference of its sender.
+//! What is not here: a calling end once class 0 is selected; and the way from packets to pieces of octets. So the theorem on a
+//! whole end of class 2, as `osi_honest` has it for class 0, doesn't follow yet.
 #![tactic(auto)]
 
 pub mod laws;

@@ -1,0 +1,217 @@
+-- A DC of a whole calling end passes that answers a DR which closed nothing: it changes nothing at the tap, or it is that of a line.
+-- For the law on a whole end.
+use Rattle.std.proofs.Common.{◌≡◌, ◌∙◌, ℕ, Bool, true, false, List, [], ◌∷◌, set, refl, sym, ap, subst}
+use Rattle.std.proofs.Common.{Option, Some, None, inl, inr, ◌⊎◌, if◌then◌else◌}
+use Rattle.std.specs.Prelude.{◌&&◌, ◌||◌, ◌==◌, not, position, slice_get}
+use Rattle.std.specs.List.{AllByRecursion}
+use Rattle.std.proofs.lemmas.Bool.{eqb-true}
+use Rattle.osi_tpdu.specs.Value.{Value, Connect, disconnected, request}
+use Rattle.osi_class.specs.declared.terms.Class.{Class}
+use Rattle.osi_class.specs.declared.terms.Class.TheVariants.{Two, Zero}
+use Rattle.osi_class.specs.declared.terms.Local.{Local}
+use Rattle.osi_rules.specs.declared.connections.Connection.{Connection}
+use Rattle.osi_rules.specs.declared.directions.Direction.TheVariants.{Left, Right}
+use Rattle.osi_rules.specs.declared.findings.Finding.{Finding}
+use Rattle.osi_rules.specs.declared.findings.Finding.TheVariants.{Broke, Kept, NotJudged}
+use Rattle.osi_rules.specs.declared.findings.Rule.TheVariants as rule
+use Rattle.osi_rules.specs.Reaches.{is_applied, reach_of}
+use Rattle.osi_rules.specs.Rows.{first_failed, is_due}
+use Rattle.osi_rules.specs.Sides.{is_closing, is_named, is_open, is_over, is_silent}
+use Rattle.osi_rules.specs.Traffic.{Outcome, State as Traffic, at_found, at_place, class_for, connection_after, course_after, found}
+use Rattle.osi_rules.specs.Traffic.{is_stopped}
+use Rattle.osi_rules.specs.Traffic.{none_told, one_told, reached, route, route_in, routed, takes, unnamed, unnamed_by, unnamed_told}
+use Rattle.osi_rules.specs.Traffic.{uses_source}
+use Rattle.osi_fair.specs.Wholes.{Whole}
+use Rattle.osi_fair.proofs.a_right_unit_is_not_blamed.{first_there}
+use Rattle.osi_fair.proofs.a_unit_of_a_whole_end_passes.{none_begun, own_kept, own_passes}
+use Rattle.osi_fair.proofs.no_two_open_connections_have_one_peer.{and_first, and_second, both}
+use Rattle.osi_fair.proofs.each_connection_has_its_line.{AreSettled, Followed, Following, IsAsking, IsOwned, all_so, is_tracked}
+use Rattle.osi_fair.proofs.what_holds_of_one_item.{first_true}
+use Rattle.osi_fair.proofs.what_keeps_names_apart.{Sound}
+use Rattle.osi_fair.proofs.what_the_other_side_closes.{IsSane, judged_same}
+use Rattle.osi_fair.proofs.which_units_are_for_a_connection.{IsOf, picked_rest, is_ours, leads, ours, ours_is}
+use Rattle.osi_fair.proofs.while_no_class_is_selected.{set_same}
+
+-- ---- at the tap
+
+-- it is not judged and changes nothing, or it answers a DR on a connection
+pub data Passes (m source : ℕ) (s : Traffic) (o : Outcome) : Type 0 where
+  idle : o.told.finding ≡ NotJudged → o.state ≡ s → Passes m source s o
+  due : (p : ℕ) (c : Connection) → slice_get s.connections p ≡ Some c → is_named Left m c ≡ true → is_due Left c source ≡ true →
+      Passes m source s o
+
+where_named : (cs : List Connection) (n q : ℕ) → position (is_named Left n) cs ≡ Some q →
+    (e : Connection) × (slice_get cs q ≡ Some e) × (is_named Left n e ≡ true)
+where_named [] n q h = absurd (cc)
+where_named (c ∷ cs) n q h =
+    let (e, at) = first_there (is_named Left n) (c ∷ cs) q q c h in (e, at, first_true (is_named Left n) (c ∷ cs) q e h at)
+
+pub not_due : (due strays : Bool) → due ≡ false → strays ≡ true →
+    first_failed ((due || not strays, NotJudged) ∷ (due, Broke rule.NothingToAnswer) ∷ []) ≡ NotJudged
+not_due false true h k = refl
+not_due true strays h k = cc
+not_due false false h k = cc
+
+module _ (m source : ℕ) (s : Traffic) (firm : s.course.loose ≡ false) (strays : s.course.strays ≡ true) where
+  abbrev v : Value
+  v = disconnected m source
+
+  none_passes : Passes m source s (unnamed_told Left v s)
+  none_passes =
+      let so : unnamed s.course v ≡ NotJudged = ap (λ (b : Bool). if b then NotJudged else unnamed_by s.course.strays v) firm
+      ∙ ap (λ (b : Bool). unnamed_by b v) strays in
+      idle so (ap (λ (g : Finding). (none_told Left g s).state) so)
+
+  one_passes : (p : ℕ) (c : Connection) → slice_get s.connections p ≡ Some c → is_named Left m c ≡ true → c.is_judged ≡ true →
+      (b : Bool) → is_due Left c source ≡ b → Passes m source s (one_told Left p c v s)
+  one_passes p c at named judged true e = due p c at named e
+  one_passes p c at named judged false e =
+      let so : (if c.is_judged then found Left s.course (uses_source Left s.connections v) c v else NotJudged) ≡ NotJudged =
+      judged_same c.is_judged (found Left s.course (uses_source Left s.connections v) c v) judged
+      ∙ not_due (is_due Left c source) s.course.strays e strays in
+      idle so
+      (ap (λ (g : Finding). record s {
+        connections = set s.connections p (connection_after Left v (is_applied g) (reach_of (class_for Left s.course) g) c);
+        course = reached Left (reach_of (class_for Left s.course) g) (course_after Left c v (is_applied g) s.course);
+      }) so
+      ∙ ap (λ (l : List Connection). record s { connections = l }) (set_same s.connections p c at))
+
+  at_passes : (judged : (i : ℕ) (c : Connection) → slice_get s.connections i ≡ Some c → c.is_judged ≡ true) → (o : Option ℕ) →
+      position (is_named Left m) s.connections ≡ o → Passes m source s (at_place Left v s o)
+  at_passes judged None e = none_passes
+  at_passes judged (Some p) e =
+      let (c, at, named) = where_named s.connections m p e in
+      subst (λ (o : Option Connection). Passes m source s (at_found Left v s p o)) (sym at)
+      (one_passes p c at named (judged p c at) (is_due Left c source) refl)
+
+  by_class : (k : Option Class) (b : Bool) → Passes m source s (at_place Left v s (position (is_named Left m) s.connections)) →
+      Passes m source s (routed Left v s (route_in k Left b v))
+  by_class None b h = h
+  by_class (Some Zero) true h = h
+  by_class (Some Zero) false h = h
+  by_class (Some Two) b h = h
+
+  pub dc_passes : s.course.left_stopped ≡ false →
+      ((i : ℕ) (c : Connection) → slice_get s.connections i ≡ Some c → c.is_judged ≡ true) → Passes m source s (takes Left v s)
+  dc_passes left judged =
+      subst (λ (b : Bool). Passes m source s (if b then none_told Left NotJudged s else routed Left v s (route Left s.course v))) (sym left)
+      (by_class (class_for Left s.course) (is_stopped Right s.course)
+      (at_passes judged (position (is_named Left m) s.connections) refl))
+
+-- ---- at the end
+
+name_so : (a b d : Bool) → (not a && (not b && d)) ≡ true → (b ≡ false) × (d ≡ true)
+name_so false false d h = (refl, h)
+name_so false true d h = cc
+name_so true b d h = cc
+
+-- the connection on which it is due is open, and it has its references
+pub record IsDueOn (c : Connection) (m source : ℕ) : Type 0 where
+  pub tracked : is_tracked c ≡ true
+  pub own : IsOf c.left.reference c.right.reference (disconnected m source)
+
+or_second : (a b : Bool) → b ≡ true → (a || b) ≡ true
+or_second true b h = refl
+or_second false b h = h
+
+due_on : (c : Connection) (m source : ℕ) → Sound c → is_named Left m c ≡ true → is_due Left c source ≡ true → IsDueOn c m source
+due_on c m source sound named h =
+    let (known, same) = name_so (is_over Left c) (is_silent c.seen_by_left.phase) (c.seen_by_left.reference == m) named in
+    let live = and_first (is_open c.left.phase) (is_closing c.seen_by_left.phase && (source == c.left.reference)) h in
+    let rest = and_second (is_open c.left.phase) (is_closing c.seen_by_left.phase && (source == c.left.reference)) h in
+    let closing = sound.left_knows.closing (and_first (is_closing c.seen_by_left.phase) (source == c.left.reference) rest) in
+    record {
+      tracked = both (is_open c.left.phase) (is_open c.right.phase || is_closing c.right.phase) live
+          (or_second (is_open c.right.phase) (is_closing c.right.phase) closing);
+      own = record {
+        named = ap (λ (i : ℕ). Some i) (sym (eqb-true c.seen_by_left.reference m same) ∙ sound.left_knows.reference known);
+        from = and_second (is_closing c.seen_by_left.phase) (source == c.left.reference) rest;
+      };
+    }
+
+module _ (local : Local) (w : Whole) (f : Followed local w) (sane : IsSane w.tap) (firm : w.tap.course.loose ≡ false) (m source : ℕ)
+    (rest : List Value) (e : w.put ≡ disconnected m source ∷ rest) (begun : w.begun ≡ true) (left : w.tap.course.left_stopped ≡ false) where
+  abbrev dc : Value
+  dc = disconnected m source
+
+  abbrev after : Whole
+  after = record w { put = rest; begun = false; tap = (takes Left dc w.tap).state }
+
+  not_ours : (takes Left dc w.tap).told.finding ≡ NotJudged → (i : ℕ) (c : Connection) → slice_get w.tap.connections i ≡ Some c →
+      is_tracked c ≡ true → (g : Following local w.put w.begun w.tap.course.strays w.end w.coming c) → (b : Bool) →
+      is_ours g.r g.peer dc ≡ b → is_ours g.r g.peer dc ≡ false
+  not_ours spared i c at tracked g false h = h
+  not_ours spared i c at tracked g true h =
+      let own = subst (λ (j : ℕ). IsOf j c.right.reference dc) (sym g.left)
+      (subst (λ (j : ℕ). IsOf g.r j dc) (sym g.right) (ours_is g.r g.peer dc h)) in
+      let kept = own_kept local w f sane firm dc rest i c e begun left at tracked own in
+      absurd (cc (sym kept ∙ spared))
+
+  idle_line : (c : Connection) → (g : Following local w.put w.begun w.tap.course.strays w.end w.coming c) →
+      is_ours g.r g.peer dc ≡ false → Following local rest false w.tap.course.strays w.end w.coming c
+  idle_line c g other = record {
+    r = g.r;
+    peer = g.peer;
+    line = g.line;
+    left = g.left;
+    right = g.right;
+    tracks = g.tracks;
+    tap = g.tap;
+    spare = g.spare;
+    put_is = sym (picked_rest (is_ours g.r g.peer) dc rest other) ∙ ap (λ (l : List Value). ours g.r g.peer l) (sym e) ∙ g.put_is;
+    spares = g.spares;
+    gone = g.gone;
+    begun_is = g.begun_is ∙ ap (λ (l : List Value). w.begun && leads (is_ours g.r g.peer) l) e ∙ ap (λ (b : Bool). w.begun && b) other
+        ∙ none_begun w.begun;
+    row = g.row;
+    calm = g.calm;
+  }
+
+  settled_rest : (v : Value) → AreSettled w.tap.connections w.put w.end.given v → AreSettled w.tap.connections rest w.end.given v
+  settled_rest v h i j is =
+      let k = h i j is in
+      record {
+        up = k.up;
+        waits = k.waits;
+        asks = (subst (AllByRecursion (λ (y : Value). (z : Connect) → y ≡ request z → z.source ≡ j → ⊥)) e k.asks).1;
+      }
+
+  idle_all : (takes Left dc w.tap).told.finding ≡ NotJudged → Followed local (record w { put = rest; begun = false })
+  idle_all spared =
+      let (first, owned) = subst (AllByRecursion (λ (v : Value). IsOwned w.tap v)) e f.owned in
+      let (none, requests) = subst (AllByRecursion (λ (v : Value). (y : Connect) → v ≡ request y → IsAsking local w.end w.coming y)) e
+      f.requests in
+      let (alone, settled) = subst (AllByRecursion (AreSettled w.tap.connections w.put w.end.given)) e f.settled in
+      record {
+        lines = λ i c at tracked.
+            let g = f.lines i c at tracked in
+            idle_line c g (not_ours spared i c at tracked g (is_ours g.r g.peer dc) refl);
+        waiting = f.waiting;
+        owned = owned;
+        linked = f.linked;
+        answers = f.answers;
+        requests = requests;
+        two = f.two;
+        silent = f.silent;
+        zero = f.zero;
+        some = λ h. absurd (cc h);
+        few = f.few;
+        seen = f.seen;
+        settled = all_so (AreSettled w.tap.connections w.put w.end.given) (AreSettled w.tap.connections rest w.end.given) rest settled_rest
+            settled;
+      }
+
+  -- what is known of it as it passes
+  pub dc_found : Passes m source w.tap (takes Left dc w.tap) →
+      ((takes Left dc w.tap).told.finding ≡ Kept) ⊎ ((takes Left dc w.tap).told.finding ≡ NotJudged)
+  dc_found (idle spared same) = inr spared
+  dc_found (due p c at named h) =
+      let on = due_on c m source (sane.apart.sound p c at (sane.judged firm p c at)) named h in
+      inl (own_kept local w f sane firm dc rest p c e begun left at on.tracked on.own)
+
+  pub dc_goes : IsSane after.tap → after.tap.course.loose ≡ false → Passes m source w.tap (takes Left dc w.tap) → Followed local after
+  dc_goes sane_after firm_after (idle spared same) =
+      subst (λ (t : Traffic). Followed local (record w { put = rest; begun = false; tap = t })) (sym same) (idle_all spared)
+  dc_goes sane_after firm_after (due p c at named h) =
+      let on = due_on c m source (sane.apart.sound p c at (sane.judged firm p c at)) named h in
+      own_passes local w f sane firm dc rest p c e begun left at on.tracked on.own sane_after firm_after

@@ -1,0 +1,135 @@
+-- A DC of the other side passes that answers nothing: the lines of its connection may take it, and nothing else changes.
+-- For the law on a whole end.
+use Rattle.std.proofs.Common.{◌≡◌, ◌≢◌, ◌∙◌, Bool, true, false, List, [], ◌∷◌, ◌++◌, refl, sym, ap, subst}
+use Rattle.std.proofs.Common.{Some}
+use Rattle.std.specs.Prelude.{◌&&◌, ◌==◌}
+use Rattle.osi_tpdu.specs.Value.{Value, Connect, HasFieldsInRange, request, destination_of}
+use Rattle.osi_class.specs.declared.terms.Class.TheVariants.{Two}
+use Rattle.osi_class.specs.declared.terms.Local.{Local}
+use Rattle.osi_rules.specs.declared.connections.Connection.{Connection}
+use Rattle.osi_rules.specs.declared.directions.Direction.TheVariants.{Right}
+use Rattle.osi_rules.specs.declared.findings.Finding.{Finding}
+use Rattle.osi_rules.specs.declared.findings.Finding.TheVariants.{NotJudged}
+use Rattle.osi_rules.specs.declared.findings.Reach.TheVariants as reach
+use Rattle.osi_rules.specs.declared.halves.Phase.{Phase}
+use Rattle.osi_rules.specs.declared.halves.Phase.TheVariants.{Silent, Open, Refused, Closing, Closed}
+use Rattle.osi_rules.specs.Reaches.{reach_of}
+use Rattle.osi_rules.specs.Rows.{is_due}
+use Rattle.osi_rules.specs.Sides.{is_closing, is_open}
+use Rattle.osi_rules.specs.Traffic.{State as Traffic, found, takes}
+use Rattle.osi_fair.specs.Lines.{Line, after_finding, finding_of, passes_other}
+use Rattle.osi_fair.specs.Wholes.{Whole}
+use Rattle.osi_fair.proofs.a_dc_for_a_stray_dr_passes.{not_due}
+use Rattle.osi_fair.proofs.no_two_open_connections_have_one_peer.{and_first, and_second, differ, left_open}
+use Rattle.osi_fair.proofs.a_unit_of_the_other_side_passes.{dc_no_cc}
+use Rattle.osi_fair.proofs.what_has_come_with_one_unit_more.{all_add, early_more, following_other, row_add, waiting_dc}
+use Rattle.osi_fair.proofs.each_connection_has_its_line.{AreGiven, Followed, Following, IsAnswer, IsAsking, IsNoCc, all_so, is_tracked}
+use Rattle.osi_fair.proofs.each_connection_has_its_line.{tracks_on}
+use Rattle.osi_fair.proofs.what_becomes_of_a_connection.{IsIdle}
+use Rattle.osi_fair.proofs.what_keeps_names_apart.{Sound}
+use Rattle.osi_fair.proofs.what_the_other_side_closes.{IsSane, judged_same}
+use Rattle.osi_fair.proofs.which_units_are_for_a_connection.{is_dc, named_is, names}
+
+not_so : (b : Bool) → (b ≡ true → ⊥) → b ≡ false
+not_so true h = absurd (h refl)
+not_so false h = refl
+
+open_or_closing : (p : Phase) → is_open p ≡ true → is_closing p ≡ true → ⊥
+open_or_closing Open h k = cc
+open_or_closing Silent h k = cc
+open_or_closing Refused h k = cc
+open_or_closing Closing h k = cc
+open_or_closing Closed h k = cc
+
+module _ (local : Local) (w : Whole) (f : Followed local w) (sane : IsSane w.tap) (firm : w.tap.course.loose ≡ false) (v : Value)
+    (ranges : HasFieldsInRange v) (t : IsIdle v w.tap (takes Right v w.tap)) where
+  abbrev more : List Value
+  more = w.coming ++ v ∷ []
+
+  dc : is_dc v ≡ true
+  dc = ap is_dc t.dc
+
+  -- it is not due on a connection that left has not closed
+  spared : (c : Connection) → c.is_judged ≡ true → Sound c → is_tracked c ≡ true → finding_of Right w.tap.course false c v ≡ NotJudged
+  spared c judged sound tracked =
+      let none : is_due Right c t.source ≡ false = not_so (is_due Right c t.source) (λ h.
+      open_or_closing c.left.phase (left_open c tracked) (sound.right_knows.closing
+      (and_first (is_closing c.seen_by_right.phase) (t.source == c.right.reference)
+      (and_second (is_open c.right.phase) (is_closing c.seen_by_right.phase && (t.source == c.right.reference)) h)))) in
+      judged_same c.is_judged (found Right w.tap.course false c v) judged
+      ∙ ap (λ (u : Value). found Right w.tap.course false c u) t.dc ∙ not_due (is_due Right c t.source) w.tap.course.strays none t.strays
+
+  not_all : (g : Finding) → g ≡ NotJudged → reach_of (Some Two) g ≢ reach.Everything
+  not_all g e h = cc (sym (ap (λ (x : Finding). reach_of (Some Two) x) e) ∙ h)
+
+  line_takes : (c : Connection) → c.is_judged ≡ true → Sound c → is_tracked c ≡ true →
+      (g : Following local w.put w.begun w.tap.course.strays w.end w.coming c) → names g.r v ≡ true →
+      Following local w.put w.begun w.tap.course.strays w.end more c
+  line_takes c judged sound tracked g named =
+      let line : Line = record g.line { coming = g.line.coming ++ v ∷ [] } in
+      let is : finding_of Right w.tap.course false g.line.tap v ≡ NotJudged =
+      ap (λ (x : Connection). finding_of Right w.tap.course false x v) g.tap ∙ spared c judged sound tracked in
+      record {
+        r = g.r;
+        peer = g.peer;
+        line = line;
+        left = g.left;
+        right = g.right;
+        tracks = tracks_on g.r g.peer g.line line (passes_other w.tap.course false v ∷ []) g.tracks (
+          line,
+          (
+            ranges,
+            named_is (destination_of v) g.r named,
+            not_all (finding_of Right w.tap.course false g.line.tap v) is,
+            ap (λ (x : Finding). record g.line { tap = after_finding Right x v g.line.tap; coming = g.line.coming ++ v ∷ [] }) (sym is),
+          ),
+          refl,
+        );
+        tap = g.tap;
+        spare = g.spare;
+        put_is = g.put_is;
+        spares = g.spares;
+        gone = g.gone;
+        begun_is = g.begun_is;
+        row = row_add local w.end w.coming g.r g.peer g.line line v named refl refl g.row;
+        calm = all_add IsNoCc g.line.coming v g.calm (dc_no_cc v dc);
+      }
+
+  line_idle : (c : Connection) → c.is_judged ≡ true → Sound c → is_tracked c ≡ true →
+      (g : Following local w.put w.begun w.tap.course.strays w.end w.coming c) → (b : Bool) → names g.r v ≡ b →
+      Following local w.put w.begun w.tap.course.strays w.end more c
+  line_idle c judged sound tracked g true e = line_takes c judged sound tracked g e
+  line_idle c judged sound tracked g false e =
+      following_other local w.put w.begun w.tap.course.strays w.tap.course.strays w.end w.coming c v (λ h. h) g e
+
+  still_asking : (x : Connect) → IsAsking local w.end w.coming x → IsAsking local w.end more x
+  still_asking x a = record {
+    left = a.left;
+    class0 = a.class0;
+    early = early_more x.source w.coming v dc (names x.source v) refl a.early;
+    row = a.row;
+  }
+
+  idle_so : Followed local (record w { coming = more })
+  idle_so = record {
+    lines = λ i c at tracked.
+        let judged = sane.judged firm i c at in
+        let g = f.lines i c at tracked in
+        line_idle c judged (sane.apart.sound i c at judged) tracked g (names g.r v) refl;
+    waiting = λ i c at waits. waiting_dc local w.end w.coming c v dc (f.waiting i c at waits);
+    owned = f.owned;
+    linked = f.linked;
+    answers = all_add (λ u. IsAnswer w.tap.connections w.end u) w.coming v f.answers (λ m x e lasts. absurd (dc_no_cc v dc m x e));
+    requests = all_so (λ u. (x : Connect) → u ≡ request x → IsAsking local w.end w.coming x)
+        (λ u. (x : Connect) → u ≡ request x → IsAsking local w.end more x) w.put (λ u h x e. still_asking x (h x e)) f.requests;
+    two = f.two;
+    silent = f.silent;
+    zero = f.zero;
+    some = f.some;
+    few = all_add (AreGiven w.end.given) w.coming v f.few (λ none m e. differ (is_dc v) dc none);
+    seen = f.seen;
+    settled = f.settled;
+  }
+
+  pub idle_passes : Followed local (record w { tap = (takes Right v w.tap).state; coming = more })
+  idle_passes = subst (λ (s : Traffic). Followed local (record w { tap = s; coming = more })) (sym t.same) idle_so
