@@ -61,10 +61,10 @@ place_not true c e h = absurd (h refl)
 place_not false c e h = refl
 
 -- what has come for a reference that was not given is DCs
-own_by : (given r m : ℕ) (v : Value) (vs : List Value) (b : Bool) → (m == r) ≡ b → given < r → (m ≤ given) ⊎ IsDc v →
+own_by : (given r m : ℕ) (v : Value) (vs : List Value) (b : Bool) → (m == r) ≡ b → given < r → ((m ≤ given) × (1 ≤ m)) ⊎ IsDc v →
     Among [] vs → Among [] (keep b v vs)
 own_by given r m v vs false e above h a = a
-own_by given r m v vs true e above (inl k) a = let same = eqb-true m r e in absurd (omega arith)
+own_by given r m v vs true e above (inl (k, one)) a = let same = eqb-true m r e in absurd (omega arith)
 own_by given r m v vs true e above (inr dc) a = inl (dc, a)
 
 not_own : (given r : ℕ) (v : Value) (vs : List Value) (o : Option ℕ) → destination_of v ≡ o → given < r → IsFor given v →
@@ -89,8 +89,8 @@ above_cc given n (data2 destination number end user ∷ vs) m x e h = above_cc g
 above_cc given n (acknowledge credit destination number ∷ vs) m x e h = above_cc given n vs m x e h
 above_cc given n (error destination cause ∷ vs) m x e h = above_cc given n vs m x e h
 
-for_by : (given m : ℕ) (v : Value) → (m ≤ given) ⊎ IsDc v → (m ≤ given + 1) ⊎ IsDc v
-for_by given m v (inl h) = inl (omega arith)
+for_by : (given m : ℕ) (v : Value) → ((m ≤ given) × (1 ≤ m)) ⊎ IsDc v → ((m ≤ given + 1) × (1 ≤ m)) ⊎ IsDc v
+for_by given m v (inl (h, one)) = inl (omega arith, one)
 for_by given m v (inr dc) = inr dc
 
 for_more : (given : ℕ) (vs : List Value) → AllByRecursion (IsFor given) vs → AllByRecursion (IsFor (given + 1)) vs
@@ -123,13 +123,13 @@ module _ (local : Local) (w : Whole) (f : Called local w) (was : w.end.ended ≡
       (subst (AllByRecursion (IsKnown s.given)) (f.come ∙ ap (λ (l : List Placed). values l) came) (f.timely none was).known).1
 
   -- the connection of the CR
-  record Place : Type 0 where
-    c : Connection
-    at : slice_get w.tap.connections p ≡ Some c
-    asked : Asked x c
-    none : units_at p f.tagged ≡ []
-    no_more : units_at p later ≡ []
-    no_ref : f.refs p ≡ None
+  pub record Place : Type 0 where
+    pub c : Connection
+    pub at : slice_get w.tap.connections p ≡ Some c
+    pub asked : Asked x c
+    pub none : units_at p f.tagged ≡ []
+    pub no_more : units_at p later ≡ []
+    pub no_ref : f.refs p ≡ None
 
   stand_place : (c : Connection) → slice_get w.tap.connections p ≡ Some c →
       Stand local f.shut s w.coming (units_at p f.tagged) (units_at p f.came) (w.begun && first_at p f.tagged) (f.refs p) c → Place
@@ -152,7 +152,7 @@ module _ (local : Local) (w : Whole) (f : Called local w) (was : w.end.ended ≡
   place_by None e = no_list (request x) (units_at p later) (units_at p f.came) asks_here (f.beyond p e).1
   place_by (Some c) e = stand_place c e (f.stands p c e)
 
-  place : Place
+  pub place : Place
   place = place_by (slice_get w.tap.connections p) refl
 
   -- ---- what is put at this place
@@ -284,6 +284,7 @@ module _ (local : Local) (w : Whole) (f : Called local w) (was : w.end.ended ≡
       is = a.is;
       strays_is = a.strays_is;
       given = subst (λ (i : ℕ). a.n ≤ i) (sym given) a.given;
+      positive = a.positive;
       shut_is = a.shut_is;
       none = λ e. at_join (f.home a.n) rest ((Some p, dr) ∷ [])
           ∙ ap (λ (l : List Value). units_at (f.home a.n) rest ++ l) (at_other (f.home a.n) p dr []
@@ -303,6 +304,7 @@ module _ (local : Local) (w : Whole) (f : Called local w) (was : w.end.ended ≡
       stands = λ i c at. dr_by i c (i == p) refl at;
       beyond = λ i none. gone_by dr t rows_dr i none (i == p) refl;
       homes = λ i r e. ((f.homes i r e).0, subst (λ (j : ℕ). r ≤ j) (sym given) (f.homes i r e).1);
+      positive = f.positive;
       linked_at = λ lasts r peer k there. f.linked_at was r peer k (ap (λ (l : Rows Live). value_at r l) (sym live) ∙ there);
       shut_given = λ r e. subst (λ (j : ℕ). r ≤ j) (sym given) (f.shut_given r e);
       strays = strays_keep f.shut f.shut s t f.refs f.refs f.home f.home w.tap.course.strays f.tagged ((Some p, dr) ∷ []) stray_dr
@@ -315,6 +317,8 @@ module _ (local : Local) (w : Whole) (f : Called local w) (was : w.end.ended ≡
       class = f.class;
       two = f.two;
       class_seen = f.class_seen;
+      past_two = λ h. subst (λ (j : ℕ). 1 ≤ j) (sym given) (f.past_two h);
+      seen_two = f.seen_two;
       some = λ h. subst (λ (l : List Value). l ≢ []) (sym (values_are dr)) (some_more (values f.tagged) (dr ∷ []) (f.some h));
       few = subst (λ (j : ℕ). AllByRecursion (IsFor j) coming) (sym given) few;
       untagged = untagged_later;
@@ -421,6 +425,10 @@ module _ (local : Local) (w : Whole) (f : Called local w) (was : w.end.ended ≡
         let (a, b) = f.homes i m (sym (refs_other i e) ∙ h) in
         (home_old m b ∙ a, subst (λ (j : ℕ). m ≤ j) (sym given) (omega arith))
 
+    positive_by : (i m : ℕ) (b : Bool) → (i == p) ≡ b → refs i ≡ Some m → 1 ≤ m
+    positive_by i m true e h = let is : r ≡ m = number_is r m (sym (refs_here i e) ∙ h) in omega arith
+    positive_by i m false e h = f.positive i m (sym (refs_other i e) ∙ h)
+
     -- what has a reference from before has another place
     old_place : (m : ℕ) → f.refs (f.home m) ≡ Some m → (f.home m == p) ≡ false
     old_place m h = place_not (f.home m == p) (f.home m == p) refl (λ e. no_number (f.refs p) m place.no_ref
@@ -450,6 +458,7 @@ module _ (local : Local) (w : Whole) (f : Called local w) (was : w.end.ended ≡
       is = a.is;
       strays_is = a.strays_is;
       given = subst (λ (j : ℕ). a.n ≤ j) (sym given) (let up = a.given in omega arith);
+      positive = a.positive;
       shut_is = a.shut_is;
       none = λ e.
           let (old, other) = stray_place a.n a.given e (f.home a.n == p) refl in
@@ -471,6 +480,7 @@ module _ (local : Local) (w : Whole) (f : Called local w) (was : w.end.ended ≡
       stands = λ i c at. cc_by i c (i == p) refl at;
       beyond = λ i none. gone_cc i none (i == p) refl;
       homes = λ i m h. homes_by i m (i == p) refl h;
+      positive = λ i m h. positive_by i m (i == p) refl h;
       linked_at = λ lasts m peer l there. linked_cc m peer l (m == r) refl there;
       shut_given = λ m e. subst (λ (j : ℕ). m ≤ j) (sym given) (let up = f.shut_given m e in omega arith);
       strays = strays_keep f.shut f.shut s t f.refs (λ i. refs i) f.home (λ m. home m) w.tap.course.strays f.tagged ((Some p, cc_is) ∷ [])
@@ -483,6 +493,8 @@ module _ (local : Local) (w : Whole) (f : Called local w) (was : w.end.ended ≡
       class = f.class;
       two = f.two;
       class_seen = f.class_seen;
+      past_two = λ h. subst (λ (j : ℕ). 1 ≤ j) (sym given) (omega arith);
+      seen_two = f.seen_two;
       some = λ h. subst (λ (l : List Value). l ≢ []) (sym (values_are cc_is)) (some_more (values f.tagged) (cc_is ∷ []) (f.some h));
       few = subst (λ (j : ℕ). AllByRecursion (IsFor j) coming) (sym given) (for_more s.given coming few);
       untagged = untagged_later;

@@ -1,19 +1,30 @@
--- A whole called end of class 2 is fair as long as both sides are judged: by induction over what happens.
+-- A whole called end is fair as long as both sides are judged: by induction over what happens.
 -- For the law of that name.
-use Rattle.std.proofs.Common.{◌≡◌, ◌∙◌, ℕ, true, false, List, [], ◌∷◌, refl, sym, ap, subst, arith, Option, Some, None, inl, ◌⊎◌}
+use Rattle.std.proofs.Common.{◌≡◌, ◌≢◌, ◌∙◌, ℕ, true, false, List, [], ◌∷◌, ◌++◌, refl, sym, ap, subst, arith, Option, Some, None, inl}
+use Rattle.std.proofs.Common.{inr, ◌⊎◌}
+use Rattle.osi_tpdu.specs.Value.{Value, HasFieldsInRange}
+use Rattle.osi_carrier.specs.React.{react}
+use Rattle.osi_carrier.specs.Runs.{UserCall, user_does}
+use Rattle.osi_rules.specs.Sides.{is_live}
+use Rattle.osi_rules.specs.Traffic.{State as Traffic, fresh, is_stopped, packet_begins, takes}
+use Rattle.osi_fair.specs.Naming.{HoldsOfOne, Passing, all_passed, packet, passes, rubbish, unit as passing}
+use Rattle.osi_fair.specs.Putting.{put_by, put_for}
+use Rattle.osi_fair.specs.Wholes.{Event, HappenAlong, Happens, MayCall, Whole, arrives, begin, begins_other, begins_own, calls}
+use Rattle.osi_fair.specs.Wholes.{passes_other, passes_own, passes_rubbish}
+use Rattle.osi_fair.proofs.a_called_end_selects_class_zero.{Selected, Selecting, selected_begins, selected_calls, selected_takes}
+use Rattle.osi_fair.proofs.a_called_end_selects_class_zero.{selecting_begins, selecting_calls, selecting_takes}
+use Rattle.osi_fair.proofs.a_unit_of_an_end_of_class_zero_passes.{selected_passes, selecting_passes}
+use Rattle.osi_fair.proofs.what_comes_to_an_end_of_class_zero.{selected_comes, selecting_comes}
+use Rattle.osi_fair.proofs.a_called_end_takes_a_unit.{SelectsZero, selects_zero, takes_so}
+use Rattle.osi_fair.proofs.one_request_waits.{one_waits}
 use Rattle.std.specs.Prelude.{slice_get}
-use Rattle.osi_tpdu.specs.Value.{Value}
 use Rattle.osi_class.specs.declared.terms.Local.{Local}
 use Rattle.osi_carrier.proofs.effects.a_unit_touches_one_connection.{orderly_fresh}
 use Rattle.osi_rules.specs.declared.connections.Connection.{Connection}
 use Rattle.osi_rules.specs.declared.directions.Direction.TheVariants.{Left, Right}
 use Rattle.osi_rules.specs.declared.findings.Finding.TheVariants.{Kept, NotJudged}
-use Rattle.osi_rules.specs.Traffic.{is_stopped, takes}
-use Rattle.osi_fair.specs.Naming.{Passing, packet, passes, rubbish, unit as passing}
-use Rattle.osi_fair.specs.Wholes.{Event, HappenAlong, Happens, Whole, arrives, begin, begins_other, begins_own, calls, passes_other}
-use Rattle.osi_fair.specs.Wholes.{passes_own, passes_rubbish}
+use Rattle.osi_fair.proofs.a_called_end_is_judged_as_the_other_side_is.{IsMild, other_judged, own_judged, rubbish_judged}
 use Rattle.osi_fair.proofs.a_called_end_makes_a_call.{makes_so}
-use Rattle.osi_fair.proofs.a_called_end_takes_a_unit.{takes_so}
 use Rattle.osi_fair.proofs.what_becomes_of_a_called_end.{IsCalled}
 use Rattle.osi_fair.proofs.a_dc_for_what_is_gone_passes.{stray_passes}
 use Rattle.osi_fair.proofs.a_reference_names_one_connection.{fresh_apart, no_item, passes_apart}
@@ -34,7 +45,8 @@ no_list v vs l h e = absurd (cc)
 -- ---- a unit of the end
 
 abbrev IsFine : Whole → Value → Type 0
-IsFine w v = ((takes Right v w.tap).told.finding ≡ Kept) ⊎ ((takes Right v w.tap).told.finding ≡ NotJudged)
+IsFine w v = ((takes Right v w.tap).told.finding ≡ Kept) ⊎ (((takes Right v w.tap).told.finding ≡ NotJudged)
+    × (w.tap.course.strays ≡ true))
 
 module _ (local : Local) (w : Whole) (f : Called local w) (apart : AreApart w.tap.connections)
     (judged : HoldsOfEach IsJudged w.tap.connections) (right : w.tap.course.right_stopped ≡ false) (v : Value) (rest : List Value)
@@ -57,120 +69,211 @@ module _ (local : Local) (w : Whole) (f : Called local w) (apart : AreApart w.ta
   own_passes : w.put ≡ v ∷ rest → Passed
   own_passes e = let h = head_of v rest f.tagged (sym e ∙ f.put) in by_tag h.o h.later h.is h.values_are
 
+mild : (w : Whole) (v : Value) → IsFine w v → IsMild (takes Right v w.tap).told.finding
+mild w v (inl e) = inl e
+mild w v (inr (e, strays)) = inr e
+
 -- ---- all that holds
+
+-- no class is selected, or class 2; class 0 is selected, and the CC is to pass, or has passed
+data Stage (local : Local) (w : Whole) : Type 0 where
+  lines : Called local w → IsCalled local w.end → Stage local w
+  selecting : Selecting local w → Stage local w
+  selected : Selected w → Stage local w
 
 record Joined (local : Local) (w : Whole) : Type 0 where
   apart : AreApart w.tap.connections
   judged : AreJudged w.tap
-  both : IsCalm w.tap.course → Called local w × IsCalled local w.end
+  passings : List Passing
+  tap : w.tap ≡ all_passed passings fresh
+  stage : IsCalm w.tap.course → Stage local w
+  -- as long as the other side is judged, this one is
+  right : w.tap.course.left_stopped ≡ false → w.tap.course.loose ≡ false → w.tap.course.right_stopped ≡ false
 
 calm_was : (p : Passing) (w : Whole) → IsCalm (passes p w.tap).course → IsCalm w.tap.course
 calm_was p w h = calm_before w.tap.course (passes p w.tap).course (lasts_passing p w.tap) h
 
+one_more : (ps : List Passing) (p : Passing) (s : Traffic) → all_passed (ps ++ p ∷ []) s ≡ passes p (all_passed ps s)
+one_more [] p s = refl
+one_more (q ∷ ps) p s = one_more ps p (passes q s)
+
+tap_next : (local : Local) (w : Whole) (p : Passing) (j : Joined local w) → passes p w.tap ≡ all_passed (j.passings ++ p ∷ []) fresh
+tap_next local w p j = ap (passes p) j.tap ∙ sym (one_more j.passings p fresh)
+
+-- while no class is selected one CR waits
+one_so : (local : Local) (w : Whole) (j : Joined local w) → w.tap.course.class ≡ None → HoldsOfOne (is_live Left) w.tap.connections
+one_so local w j none = subst (λ (s : Traffic). HoldsOfOne (is_live Left) s.connections) (sym j.tap)
+    (one_waits j.passings (ap (λ (s : Traffic). s.course.class) (sym j.tap) ∙ none))
+
+module _ (local : Local) (w : Whole) (j : Joined local w) where
+  taken_by : (u : Value) (later : List Value) (f : Called local w) (c : IsCalled local w.end) (come : w.coming ≡ u ∷ later) →
+      IsCalm w.tap.course → (Called local (record w { end = react u w.end; put = w.put ++ put_for u w.end; coming = later })
+      × IsCalled local (react u w.end)) ⊎ SelectsZero local w f c u later come →
+      Stage local (record w { end = react u w.end; put = w.put ++ put_for u w.end; coming = later })
+  taken_by u later f c come calm (inl (a, b)) = lines a b
+  taken_by u later f c come calm (inr z) =
+      selecting (selects_zero local w f c u later come z (one_so local w j) (j.judged calm.firm))
+
+  takes_stage : (u : Value) (later : List Value) → w.coming ≡ u ∷ later → IsCalm w.tap.course → Stage local w →
+      Stage local (record w { end = react u w.end; put = w.put ++ put_for u w.end; coming = later })
+  takes_stage u later come calm (lines f c) = taken_by u later f c come calm (takes_so local w f c u later come)
+  takes_stage u later come calm (selecting f) = selecting (selecting_takes local w u later f)
+  takes_stage u later come calm (selected f) = selected (selected_takes w u later f)
+
+  calls_stage : (call : UserCall) → MayCall call w.end → Stage local w →
+      Stage local (record w { end = user_does call w.end; put = w.put ++ put_by call w.end })
+  calls_stage call may (lines f c) = let (a, b) = makes_so local w f c call may in lines a b
+  calls_stage call may (selecting f) = selecting (selecting_calls local w call may f)
+  calls_stage call may (selected f) = selected (selected_calls w call may f)
+
+  own_stage : w.begun ≡ false → w.put ≢ [] → Stage local w → Stage local (record w { begun = true; tap = packet_begins Right w.tap })
+  own_stage e some (lines f c) = lines (line_begins local w f e some) c
+  own_stage e some (selecting f) = selecting (selecting_begins local Right w true (λ c h k. refl) f)
+  own_stage e some (selected f) = selected (selected_begins Right w true f)
+
+  other_stage : Stage local w → Stage local (record w { tap = packet_begins Left w.tap })
+  other_stage (lines f c) = lines (lines_begin local w f) c
+  other_stage (selecting f) = selecting (selecting_begins local Left w w.begun (λ c h k. h k) f)
+  other_stage (selected f) = selected (selected_begins Left w w.begun f)
+
+  abbrev Passes : Value → List Value → Type 0
+  Passes v rest = IsFine w v × Stage local (record w { put = rest; begun = false; tap = (takes Right v w.tap).state })
+
+  passes_stage : (v : Value) (rest : List Value) → w.put ≡ v ∷ rest → w.begun ≡ true → IsCalm w.tap.course → Stage local w → Passes v rest
+  passes_stage v rest e begun calm (lines f c) =
+      let (fine, after) = own_passes local w f j.apart (j.judged calm.firm) calm.right v rest begun e in (fine, lines after c)
+  passes_stage v rest e begun calm (selecting f) =
+      let (fine, after) = selecting_passes local w j.apart (j.judged calm.firm) calm.right v rest begun e f in (inl fine, selected after)
+  passes_stage v rest e begun calm (selected f) =
+      let (fine, after) = selected_passes local w j.apart (j.judged calm.firm) calm.right v rest begun e f in (inl fine, selected after)
+
+  comes_stage : (v : Value) → HasFieldsInRange v → IsCalm w.tap.course → IsCalm (takes Left v w.tap).state.course → Stage local w →
+      Stage local (record w { tap = (takes Left v w.tap).state; coming = w.coming ++ v ∷ [] })
+  comes_stage v ranges calm calm_after (lines f c) = lines (comes_so local w f j.apart (j.judged calm.firm) v ranges calm_after) c
+  comes_stage v ranges calm calm_after (selecting f) = selecting (selecting_comes w j.apart (j.judged calm.firm) v calm_after local f)
+  comes_stage v ranges calm calm_after (selected f) = selected (selected_comes w j.apart (j.judged calm.firm) v calm_after f)
+
 next_joined : (local : Local) (event : Event) (w new : Whole) → Happens Right event w new → Joined local w → Joined local new
-next_joined local arrives w new (u, coming, is) j =
-    subst (Joined local) (sym is) (record {
-      apart = j.apart;
-      judged = j.judged;
-      both = λ calm.
-          let (f, c) = j.both calm in takes_so local w f c u new.coming coming;
-    })
-next_joined local (calls call) w new (may, is) j =
-    subst (Joined local) (sym is) (record {
-      apart = j.apart;
-      judged = j.judged;
-      both = λ calm.
-          let (f, c) = j.both calm in makes_so local w f c call may;
-    })
-next_joined local begins_own w new (some, not_begun, is) j =
-    subst (Joined local) (sym is) (record {
-      apart = passes_apart (packet Right) w.tap j.apart;
-      judged = still_judged (packet Right) w.tap j.judged;
-      both = λ calm.
-          let (f, c) = j.both (calm_was (packet Right) w calm) in (line_begins local w f not_begun some, c);
-    })
-next_joined local passes_own w new (v, put, begun, is) j =
-    subst (Joined local) (sym is) (record {
-      apart = passes_apart (passing Right v) w.tap j.apart;
-      judged = still_judged (passing Right v) w.tap j.judged;
-      both = λ calm.
-          let before = calm_was (passing Right v) w calm in
-          let (f, c) = j.both before in
-          ((own_passes local w f j.apart (j.judged before.firm) before.right v new.put begun put).1, c);
-    })
-next_joined local begins_other w new is j =
-    subst (Joined local) (sym is) (record {
-      apart = passes_apart (packet Left) w.tap j.apart;
-      judged = still_judged (packet Left) w.tap j.judged;
-      both = λ calm.
-          let (f, c) = j.both (calm_was (packet Left) w calm) in (lines_begin local w f, c);
-    })
-next_joined local (passes_other v) w new (ranges, is) j =
-    subst (Joined local) (sym is) (record {
-      apart = passes_apart (passing Left v) w.tap j.apart;
-      judged = still_judged (passing Left v) w.tap j.judged;
-      both = λ calm.
-          let before = calm_was (passing Left v) w calm in
-          let (f, c) = j.both before in (comes_so local w f j.apart (j.judged before.firm) v ranges calm, c);
-    })
-next_joined local passes_rubbish w new is j =
-    subst (Joined local) (sym is) (record {
-      apart = passes_apart (rubbish Left) w.tap j.apart;
-      judged = still_judged (rubbish Left) w.tap j.judged;
-      both = λ calm. by_reach w.tap.course.class_seen false w.tap.course calm;
-    })
+next_joined local arrives w new (u, coming, is) j = subst (Joined local) (sym is) (record {
+  apart = j.apart;
+  judged = j.judged;
+  passings = j.passings;
+  tap = j.tap;
+  stage = λ calm. takes_stage local w j u new.coming coming calm (j.stage calm);
+  right = j.right;
+})
+next_joined local (calls call) w new (may, is) j = subst (Joined local) (sym is) (record {
+  apart = j.apart;
+  judged = j.judged;
+  passings = j.passings;
+  tap = j.tap;
+  stage = λ calm. calls_stage local w j call may (j.stage calm);
+  right = j.right;
+})
+next_joined local begins_own w new (some, not_begun, is) j = subst (Joined local) (sym is) (record {
+  apart = passes_apart (packet Right) w.tap j.apart;
+  judged = still_judged (packet Right) w.tap j.judged;
+  passings = j.passings ++ packet Right ∷ [];
+  tap = tap_next local w (packet Right) j;
+  stage = λ calm. own_stage local w j not_begun some (j.stage (calm_was (packet Right) w calm));
+  right = j.right;
+})
+next_joined local passes_own w new (v, put, begun, is) j = subst (Joined local) (sym is) (record {
+  apart = passes_apart (passing Right v) w.tap j.apart;
+  judged = still_judged (passing Right v) w.tap j.judged;
+  passings = j.passings ++ passing Right v ∷ [];
+  tap = tap_next local w (passing Right v) j;
+  stage = λ calm.
+      let before = calm_was (passing Right v) w calm in
+      (passes_stage local w j v new.put put begun before (j.stage before)).1;
+  right = λ left firm.
+      let l = lasts_passing (passing Right v) w.tap in
+      let before : IsCalm w.tap.course =
+      record { firm = l.firm firm; left = l.left left; right = j.right (l.left left) (l.firm firm) } in
+      own_judged v w.tap (mild w v (passes_stage local w j v new.put put begun before (j.stage before)).0) before.right;
+})
+next_joined local begins_other w new is j = subst (Joined local) (sym is) (record {
+  apart = passes_apart (packet Left) w.tap j.apart;
+  judged = still_judged (packet Left) w.tap j.judged;
+  passings = j.passings ++ packet Left ∷ [];
+  tap = tap_next local w (packet Left) j;
+  stage = λ calm. other_stage local w j (j.stage (calm_was (packet Left) w calm));
+  right = j.right;
+})
+next_joined local (passes_other v) w new (ranges, is) j = subst (Joined local) (sym is) (record {
+  apart = passes_apart (passing Left v) w.tap j.apart;
+  judged = still_judged (passing Left v) w.tap j.judged;
+  passings = j.passings ++ passing Left v ∷ [];
+  tap = tap_next local w (passing Left v) j;
+  stage = λ calm.
+      let before = calm_was (passing Left v) w calm in comes_stage local w j v ranges before calm (j.stage before);
+  right = λ left firm.
+      let l = lasts_passing (passing Left v) w.tap in other_judged v w.tap (j.right (l.left left) (l.firm firm)) left;
+})
+next_joined local passes_rubbish w new is j = subst (Joined local) (sym is) (record {
+  apart = passes_apart (rubbish Left) w.tap j.apart;
+  judged = still_judged (rubbish Left) w.tap j.judged;
+  passings = j.passings ++ rubbish Left ∷ [];
+  tap = tap_next local w (rubbish Left) j;
+  stage = λ calm. by_reach w.tap.course.class_seen false w.tap.course calm;
+  right = λ left firm.
+      let l = lasts_passing (rubbish Left) w.tap in rubbish_judged w.tap (j.right (l.left left) (l.firm firm)) left;
+})
 
 all_joined : (local : Local) (events : List Event) (w new : Whole) → HappenAlong Right w events new → Joined local w → Joined local new
 all_joined local [] w new e j = subst (Joined local) (sym e) j
 all_joined local (event ∷ events) w new (mid, first, more) j =
     all_joined local events mid new more (next_joined local event w mid first j)
 
-first_joined : (local : Local) → local.class0 ≡ false → Joined local (begin false local)
-first_joined local no_zero = record {
+first_joined : (local : Local) → Joined local (begin false local)
+first_joined local = record {
   apart = fresh_apart;
   judged = λ firm i c at. no_item i c at;
-  both = λ calm. (
-    record {
-      tagged = [];
-      put = refl;
-      came = [];
-      come = refl;
-      refs = λ p. None;
-      home = λ r. 0;
-      shut = λ r. false;
-      stands = λ i c at. no_item i c at;
-      beyond = λ i none. (refl, refl, λ r e. absurd (cc e));
-      homes = λ i r e. absurd (cc e);
-      linked_at = λ last r peer l e. absurd (cc e);
-      shut_given = λ r e. absurd (cc e);
-      strays = tt;
-      last = 0;
-      tops = λ i c at. no_item i c at;
-      above = omega arith;
-      class = inl refl;
-      two = λ i c at. no_item i c at;
-      class_seen = inl refl;
-      some = λ h. absurd (cc h);
-      few = tt;
-      untagged = tt;
-      timely = λ strays last. record { taps = λ i c at. no_item i c at; answers = tt; firsts = tt; known = tt };
-    },
-    record {
-      caller = refl;
-      local_is = refl;
-      zero = no_zero;
-      class = inl refl;
-      orderly = orderly_fresh false local;
-      none = λ m h. cc h;
-      two = λ m q l h. absurd (cc h);
-    },
-  );
+  passings = [];
+  tap = refl;
+  right = λ left firm. refl;
+  stage = λ calm. lines (record {
+    tagged = [];
+    put = refl;
+    came = [];
+    come = refl;
+    refs = λ p. None;
+    home = λ r. 0;
+    shut = λ r. false;
+    stands = λ i c at. no_item i c at;
+    beyond = λ i none. (refl, refl, λ r e. absurd (cc e));
+    homes = λ i r e. absurd (cc e);
+    positive = λ i r e. absurd (cc e);
+    linked_at = λ last r peer l e. absurd (cc e);
+    shut_given = λ r e. absurd (cc e);
+    strays = tt;
+    last = 0;
+    tops = λ i c at. no_item i c at;
+    above = omega arith;
+    class = inl refl;
+    two = λ i c at. no_item i c at;
+    class_seen = inl refl;
+    past_two = λ h. absurd (cc h);
+    seen_two = λ h. absurd (cc h);
+    some = λ h. absurd (cc h);
+    few = tt;
+    untagged = tt;
+    timely = λ strays last. record { taps = λ i c at. no_item i c at; answers = tt; firsts = tt; known = tt };
+  }) (record {
+    caller = refl;
+    local_is = refl;
+    class = inl refl;
+    orderly = orderly_fresh false local;
+    none = λ m h. cc h;
+    two = λ m q l h. absurd (cc h);
+    none_given = λ h. refl;
+  });
 }
 
-pub called_fair : (local : Local) (events : List Event) (w : Whole) (v : Value) (rest : List Value) → local.class0 ≡ false →
+pub called_fair : (local : Local) (events : List Event) (w : Whole) (v : Value) (rest : List Value) →
     HappenAlong Right (begin false local) events w → w.begun ≡ true → w.put ≡ v ∷ rest →
-    is_stopped Left w.tap.course ≡ false → is_stopped Right w.tap.course ≡ false → w.tap.course.loose ≡ false → IsFine w v
-called_fair local events w v rest no_zero along begun e left right firm =
-    let j = all_joined local events (begin false local) w along (first_joined local no_zero) in
-    let calm : IsCalm w.tap.course = record { firm = firm; left = left; right = right } in
-    (own_passes local w (j.both calm).0 j.apart (j.judged firm) right v rest begun e).0
+    is_stopped Left w.tap.course ≡ false → w.tap.course.loose ≡ false → IsFine w v
+called_fair local events w v rest along begun e left firm =
+    let j = all_joined local events (begin false local) w along (first_joined local) in
+    let calm : IsCalm w.tap.course = record { firm = firm; left = left; right = j.right left firm } in
+    (passes_stage local w j v rest e begun calm (j.stage calm)).0

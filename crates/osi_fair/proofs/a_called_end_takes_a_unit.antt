@@ -1,20 +1,19 @@
 -- A whole called end takes a unit: a CR, a unit for an open connection or for one that is not open, or one for which it ends.
 -- For the law on a whole called end.
-use Rattle.std.proofs.Common.{◌≡◌, ◌∙◌, ◌≤◌, ◌<◌, ◌+◌, ℕ, Bool, true, false, List, [], ◌∷◌, ◌++◌, refl, sym, ap, subst, arith, Option}
-use Rattle.std.proofs.Common.{Some, None, inl, inr, ◌⊎◌, is_some, if◌then◌else◌}
-use Rattle.std.specs.Prelude.{◌&&◌, ◌||◌, ◌==◌, IsSome, nat_lt, slice_get}
+use Rattle.std.proofs.Common.{◌≡◌, ◌∙◌, ◌≤◌, ◌<◌, ◌+◌, ◌-◌, ℕ, Bool, true, false, List, [], ◌∷◌, ◌++◌, refl, sym, ap, subst, arith}
+use Rattle.std.proofs.Common.{Option, Some, None, inl, inr, ◌⊎◌, is_some, if◌then◌else◌}
+use Rattle.std.specs.Prelude.{not, ◌&&◌, ◌||◌, ◌==◌, IsSome, nat_lt, slice_get}
 use Rattle.std.specs.List.{AllByRecursion}
 use Rattle.std.proofs.lemmas.Bool.{eq-eqb, eqb-true, ltb-false, ltb-true}
 use Rattle.std.proofs.lemmas.List.{append-nil}
 use Rattle.osi_tpdu.specs.Value.{Value, Connect, request, confirm, disconnect, disconnected, data0, data2, acknowledge, error}
 use Rattle.osi_tpdu.specs.Value.{destination_of}
 use Rattle.osi_class.specs.Link.{Standing, taken}
-use Rattle.osi_class.specs.Negotiation.{Selection, accept, keeps_flow_control, proposes, proposes_zero_alone, refuse, selected_by}
-use Rattle.osi_class.specs.Negotiation.{selected_size}
+use Rattle.osi_class.specs.Negotiation.{Selection, accept, refuse, selected_by}
 use Rattle.osi_class.specs.declared.terms.Class.{Class}
 use Rattle.osi_class.specs.declared.terms.Class.TheVariants.{Two, Zero}
 use Rattle.osi_class.specs.declared.terms.Local.{Local}
-use Rattle.osi_carrier.specs.Negotiation.{acceptance, opened_link}
+use Rattle.osi_carrier.specs.Negotiation.{acceptance, opened_link, unit_octets}
 use Rattle.osi_carrier.specs.Orderly.{AreUpTo, IsOrderly, RiseFrom}
 use Rattle.osi_carrier.specs.React.{accepts, answers as answers_by, answers_request, before_class, denies, has_peer, in_class, in_two}
 use Rattle.osi_carrier.specs.React.{is_full, react_by, to_closing, to_connection, to_unknown}
@@ -30,19 +29,28 @@ use Rattle.osi_rules.specs.declared.connections.Connection.{Connection}
 use Rattle.osi_fair.specs.Following.{Follows}
 use Rattle.osi_fair.specs.Putting.{put_at, put_for, put_for_request, put_before, put_for_selection, put_in, put_in_two, refusal}
 use Rattle.osi_fair.specs.Wholes.{Whole}
-use Rattle.osi_fair.proofs.a_called_end_answers_a_cr.{is_accepted, is_refused}
+use Rattle.osi_fair.proofs.a_called_end_answers_a_cr.{Place, is_accepted, is_refused as refuses_it, place}
+use Rattle.osi_fair.proofs.a_called_end_selects_class_zero.{Selecting}
+use Rattle.osi_fair.proofs.all_are_judged_unless_one_broke.{IsJudged}
+use Rattle.osi_fair.proofs.what_a_called_end_does_in_class_zero.{IsInZero, talks as goes_on}
+use Rattle.osi_fair.proofs.what_holds_of_one_item.{HoldsOfEach}
+use Rattle.osi_fair.specs.Naming.{HoldsOfOne}
+use Rattle.osi_fair.specs.Lines.{opened_half}
+use Rattle.osi_rules.specs.declared.directions.Direction.TheVariants.{Left}
+use Rattle.osi_rules.specs.declared.halves.Half.{Half}
+use Rattle.osi_rules.specs.Sides.{is_live, is_over_by, is_refused}
 use Rattle.osi_fair.proofs.a_carrier_follows_lines.{follows_open, put_is, react_is}
 use Rattle.osi_fair.proofs.how_a_unit_of_right_passes.{Head, head_of}
-use Rattle.osi_fair.proofs.each_connection_of_a_called_end.{Among, Called, IsDc, IsFor, IsNoCr, Stand, Untagged, answers, comes, past}
-use Rattle.osi_fair.proofs.each_connection_of_a_called_end.{refuses, runs}
+use Rattle.osi_fair.proofs.each_connection_of_a_called_end.{AreStrays, Asked, Among, Called, IsDc, IsFor, IsNoCr, Stand, Untagged}
+use Rattle.osi_fair.proofs.each_connection_of_a_called_end.{answers, comes, past, refuses, runs}
 use Rattle.osi_fair.proofs.units_by_their_place.{Placed, at_first, first_at, is_at, units_at, values}
 use Rattle.osi_fair.proofs.what_a_called_end_does_to_its_lines.{Leaves, Took, line_steps}
 use Rattle.osi_fair.proofs.what_a_called_end_leaves_alone.{is_over, left_alone}
 use Rattle.osi_fair.proofs.what_is_live_at_a_called_end.{IsLive, Timely, dr_for, shuts_of, timely_takes}
 use Rattle.osi_fair.proofs.which_units_are_for_a_connection.{first_kept, first_left, keep, named_not, named_so, those}
-use Rattle.osi_fair.proofs.what_becomes_of_a_called_end.{IsCalled, Same, called_still, differ, unlike, same_row, no_row, touch_rows}
-use Rattle.osi_fair.proofs.what_becomes_of_a_called_end.{touch_none, touch_lives, push_lives, IsNoCc, linked_no_cc, OpenSo, open_so}
-use Rattle.osi_fair.proofs.what_becomes_of_a_called_end.{dc_follows, closing_touches, closing_same}
+use Rattle.osi_fair.proofs.what_becomes_of_a_called_end.{above_up, rows_none, IsCalled, Same, called_still, differ, unlike, same_row}
+use Rattle.osi_fair.proofs.what_becomes_of_a_called_end.{no_row, touch_rows, touch_none, touch_lives, push_lives, IsNoCc, linked_no_cc}
+use Rattle.osi_fair.proofs.what_becomes_of_a_called_end.{OpenSo, open_so, dc_follows, closing_touches, closing_same}
 
 -- ---- small facts
 
@@ -81,7 +89,8 @@ shut_up r n given b up h (inr e) = omega arith
 given_same : {m n : ℕ} → n ≡ m → m ≤ n
 given_same e = omega arith
 
-given_so : (n given source reason : ℕ) (user : List ℕ) → (n ≤ given) ⊎ IsDc (disconnect n source reason user) → n ≤ given
+given_so : (n given source reason : ℕ) (user : List ℕ) → ((n ≤ given) × (1 ≤ n)) ⊎ IsDc (disconnect n source reason user) →
+    (n ≤ given) × (1 ≤ n)
 given_so n given source reason user (inl h) = h
 given_so n given source reason user (inr (m, i, e)) = absurd (cc e)
 
@@ -95,18 +104,6 @@ reacts_on u s was = ap (λ (e : Option EndReason). react_by (is_some e) u s) was
 reacts_not : (u : Value) (s : State) → is_some s.ended ≡ true → react u s ≡ s
 unfolding react
 reacts_not u s over = ap (λ (b : Bool). react_by b u s) over
-
--- class 0 is not offered
-no_zero : {A : Type 0} (a b z p alone : Bool) (size chosen : Option ℕ) → z ≡ false →
-    (if a && b then accept Two size else (if z && p then accept Zero size else (if alone then refuse 0 else refuse 130))) ≡ accept Zero
-    chosen → A
-no_zero true true z p alone size chosen h e = absurd (cc)
-no_zero true false false p true size chosen h e = absurd (cc)
-no_zero true false false p false size chosen h e = absurd (cc)
-no_zero false b false p true size chosen h e = absurd (cc)
-no_zero false b false p false size chosen h e = absurd (cc)
-no_zero true false true p alone size chosen h e = absurd (cc)
-no_zero false b true p alone size chosen h e = absurd (cc)
 
 not_above : (m n : ℕ) → (n < m → ⊥) → m ≤ n
 not_above m n h = elim (nat_lt n m) as (λ b. nat_lt n m ≡ b → m ≤ n) [
@@ -155,6 +152,14 @@ tail_none p o v ts h = keep_none (is_at p o) v (units_at p ts) h
 untag_by : {A : Type 0} (o : Option ℕ) (x : Connect) → Untagged (o, request x) → ((p : ℕ) → o ≡ Some p → A) → A
 untag_by None x h k = absurd (h refl x refl)
 untag_by (Some p) x h k = k p refl
+
+either_none : (k : Option Class) → (k ≡ None) ⊎ (k ≡ Some Two) → (k ≡ Some Two → ⊥) → k ≡ None
+either_none k (inl e) h = e
+either_none k (inr e) h = absurd (h e)
+
+and_none : (b : Bool) → (b && false) ≡ false
+and_none true = refl
+and_none false = refl
 
 module _ (local : Local) (w : Whole) (f : Called local w) (c : IsCalled local w.end)
     (u : Value) (later : List Value) (come : w.coming ≡ u ∷ later) where
@@ -224,7 +229,7 @@ module _ (local : Local) (w : Whole) (f : Called local w) (c : IsCalled local w.
   denies_so : (was : s.ended ≡ None) (x : Connect) (reason : ℕ) → u ≡ request x → t ≡ denies reason x.source s →
       put_for u s ≡ refusal reason x.source → Taken
   denies_so was x reason e is puts = asks_request x e (λ p came. by_both (denies reason x.source s) (refusal reason x.source) is puts (
-    is_refused local w f was p x head.later came later head.values_are few_all.1 (denies reason x.source s) reason refl refl
+    refuses_it local w f was p x head.later came later head.values_are few_all.1 (denies reason x.source s) reason refl refl
         (λ none last. timely_then was (denies reason x.source s) (given_same refl) (λ m k other. k) none),
     called_still local s (denies reason x.source s) (record { caller = refl; local_is = refl; class = refl; given = refl })
         (subst IsOrderly is (orderly_unit u s c.orderly)) c.none c.two c,
@@ -251,38 +256,63 @@ module _ (local : Local) (w : Whole) (f : Called local w) (c : IsCalled local w.
         record {
           caller = c.caller;
           local_is = c.local_is;
-          zero = c.zero;
           class = inr refl;
           orderly = subst IsOrderly is (orderly_unit u s c.orderly);
           none = λ m there. accepted_none m s.given (linked x.source (opened_link Two size s.local x.credit)) s.live none c.none (λ k. cc)
               there;
           two = λ m q l there. refl;
+          none_given = λ h. absurd (cc h);
         },
       ))
 
+  -- class 0 is selected
+  pub record SelectsZero : Type 0 where
+    pub x : Connect
+    pub size : Option ℕ
+    pub is_cr : u ≡ request x
+    pub was : s.ended ≡ None
+    pub selected : selected_by x s.local ≡ accept Zero size
+    pub none : s.class ≡ None
+    pub end_is : t ≡ accepts Zero size x s
+    pub puts : put_for u s ≡ confirm x.source (acceptance Zero size x s.local (s.given + 1)) ∷ []
+
+  zero_so : (was : s.ended ≡ None) (x : Connect) (size : Option ℕ) → u ≡ request x → selected_by x s.local ≡ accept Zero size →
+      (k : Option Class) → s.class ≡ k → t ≡ answers_by x (accept Zero size) s.class s →
+      put_for u s ≡ put_for_selection x (accept Zero size) s.class s → Taken ⊎ SelectsZero
+  zero_so was x size e selected None none is puts = inr (record {
+    x = x;
+    size = size;
+    is_cr = e;
+    was = was;
+    selected = selected;
+    none = none;
+    end_is = is ∙ ap (λ (k : Option Class). answers_by x (accept Zero size) k s) none;
+    puts = puts ∙ ap (λ (k : Option Class). put_for_selection x (accept Zero size) k s) none;
+  })
+  zero_so was x size e selected (Some class) held is puts = inl (denies_so was x 136 e
+      (is ∙ ap (λ (k : Option Class). answers_by x (accept Zero size) k s) held)
+      (puts ∙ ap (λ (k : Option Class). put_for_selection x (accept Zero size) k s) held))
+
   selects_so : (was : s.ended ≡ None) (x : Connect) (a : Selection) → u ≡ request x → selected_by x s.local ≡ a →
-      t ≡ answers_by x a s.class s → put_for u s ≡ put_for_selection x a s.class s → Taken
-  selects_so was x (refuse reason) e selected is puts = denies_so was x reason e is puts
-  selects_so was x (accept Two size) e selected is puts = accepts_so was x size e selected is puts
-  selects_so was x (accept Zero size) e selected is puts =
-      no_zero s.local.class2 (proposes x 2 && keeps_flow_control x) s.local.class0 (proposes x 0) (proposes_zero_alone x)
-      (selected_size x s.local) size
-      (ap (λ (l : Local). l.class0) c.local_is ∙ c.zero) selected
+      t ≡ answers_by x a s.class s → put_for u s ≡ put_for_selection x a s.class s → Taken ⊎ SelectsZero
+  selects_so was x (refuse reason) e selected is puts = inl (denies_so was x reason e is puts)
+  selects_so was x (accept Two size) e selected is puts = inl (accepts_so was x size e selected is puts)
+  selects_so was x (accept Zero size) e selected is puts = zero_so was x size e selected s.class refl is puts
 
   request_so : (was : s.ended ≡ None) (x : Connect) (a b : Bool) → u ≡ request x → has_peer x.source s.live ≡ a → is_full s ≡ b →
-      t ≡ answers_request x s → put_for u s ≡ put_for_request x s → Taken
-  request_so was x true b e has full is puts = denies_so was x 131 e
+      t ≡ answers_request x s → put_for u s ≡ put_for_request x s → Taken ⊎ SelectsZero
+  request_so was x true b e has full is puts = inl (denies_so was x 131 e
       (is ∙ ap (λ (h : Bool). if h then denies 131 x.source s else (if is_full s then denies 1 x.source s else answers_by x
       (selected_by x s.local) s.class s)) has)
       (puts ∙ ap (λ (h : Bool). if h then refusal 131 x.source else (if is_full s then refusal 1 x.source
-      else put_for_selection x (selected_by x s.local) s.class s)) has)
-  request_so was x false true e has full is puts = denies_so was x 1 e
+      else put_for_selection x (selected_by x s.local) s.class s)) has))
+  request_so was x false true e has full is puts = inl (denies_so was x 1 e
       (is ∙ ap (λ (h : Bool). if h then denies 131 x.source s else (if is_full s then denies 1 x.source s else answers_by x
       (selected_by x s.local) s.class s)) has
       ∙ ap (λ (h : Bool). if h then denies 1 x.source s else answers_by x (selected_by x s.local) s.class s) full)
       (puts ∙ ap (λ (h : Bool). if h then refusal 131 x.source else (if is_full s then refusal 1 x.source
       else put_for_selection x (selected_by x s.local) s.class s)) has
-      ∙ ap (λ (h : Bool). if h then refusal 1 x.source else put_for_selection x (selected_by x s.local) s.class s) full)
+      ∙ ap (λ (h : Bool). if h then refusal 1 x.source else put_for_selection x (selected_by x s.local) s.class s) full))
   request_so was x false false e has full is puts = selects_so was x (selected_by x s.local) e refl
       (is ∙ ap (λ (h : Bool). if h then denies 131 x.source s else (if is_full s then denies 1 x.source s else answers_by x
       (selected_by x s.local) s.class s)) has
@@ -400,7 +430,7 @@ module _ (local : Local) (w : Whole) (f : Called local w) (c : IsCalled local w.
     at_dr source reason user e here is puts =
         let a = to_unknown (disconnect n source reason user) s in
         let dr : IsFor s.given (disconnect n source reason user) = subst (IsFor s.given) e few_all.0 in
-        let given : n ≤ s.given = given_so n s.given source reason user (dr n refl) in
+        let (given, one) = given_so n s.given source reason user (dr n refl) in
         let strays = gone_dr was n source reason user e here w.tap.course.strays refl in
         by_both a (disconnected source n ∷ []) is puts (
           left_alone local w f a (disconnected source n ∷ []) later head.later n u
@@ -414,6 +444,7 @@ module _ (local : Local) (w : Whole) (f : Called local w) (c : IsCalled local w.
                   is = refl;
                   strays_is = strays;
                   given = given;
+                  positive = one;
                   shut_is = or_first (n == n) (f.shut n) (eq-eqb n n refl);
                   none = λ k. refl;
                 },
@@ -479,24 +510,26 @@ module _ (local : Local) (w : Whole) (f : Called local w) (c : IsCalled local w.
   puts_on : (was : s.ended ≡ None) → put_for u s ≡ put_in s.class u s
   puts_on was = ap (λ (e : Option EndReason). if is_some e then [] else put_in s.class u s) was
 
-  before_by : (was : s.ended ≡ None) → (v : Value) → u ≡ v → t ≡ before_class false v s → put_for u s ≡ put_before false v s → Taken
+  before_by : (was : s.ended ≡ None) → (v : Value) → u ≡ v → t ≡ before_class false v s → put_for u s ≡ put_before false v s →
+      Taken ⊎ SelectsZero
   before_by was (request x) e to puts = request_so was x (has_peer x.source s.live) (is_full s) e refl refl to puts
-  before_by was (confirm destination x) e to puts = wrong_so was (confirm destination x) e (before_class false (confirm destination x) s)
-      to puts refl
-  before_by was (disconnect destination source reason user) e to puts = wrong_so was (disconnect destination source reason user) e
-      (before_class false (disconnect destination source reason user) s) to puts refl
-  before_by was (disconnected destination source) e to puts = wrong_so was (disconnected destination source) e
-      (before_class false (disconnected destination source) s) to puts refl
-  before_by was (data0 end user) e to puts = wrong_so was (data0 end user) e (before_class false (data0 end user) s) to puts refl
-  before_by was (data2 destination number end user) e to puts = wrong_so was (data2 destination number end user) e
-      (before_class false (data2 destination number end user) s) to puts refl
-  before_by was (acknowledge credit destination number) e to puts = wrong_so was (acknowledge credit destination number) e
-      (before_class false (acknowledge credit destination number) s) to puts refl
-  before_by was (error destination cause) e to puts = wrong_so was (error destination cause) e
-      (before_class false (error destination cause) s) to puts refl
+  before_by was (confirm destination x) e to puts = inl (wrong_so was (confirm destination x) e
+      (before_class false (confirm destination x) s)
+      to puts refl)
+  before_by was (disconnect destination source reason user) e to puts = inl (wrong_so was (disconnect destination source reason user) e
+      (before_class false (disconnect destination source reason user) s) to puts refl)
+  before_by was (disconnected destination source) e to puts = inl (wrong_so was (disconnected destination source) e
+      (before_class false (disconnected destination source) s) to puts refl)
+  before_by was (data0 end user) e to puts = inl (wrong_so was (data0 end user) e (before_class false (data0 end user) s) to puts refl)
+  before_by was (data2 destination number end user) e to puts = inl (wrong_so was (data2 destination number end user) e
+      (before_class false (data2 destination number end user) s) to puts refl)
+  before_by was (acknowledge credit destination number) e to puts = inl (wrong_so was (acknowledge credit destination number) e
+      (before_class false (acknowledge credit destination number) s) to puts refl)
+  before_by was (error destination cause) e to puts = inl (wrong_so was (error destination cause) e
+      (before_class false (error destination cause) s) to puts refl)
 
   -- no class is selected
-  before_so : (was : s.ended ≡ None) → s.class ≡ None → (v : Value) → u ≡ v → Taken
+  before_so : (was : s.ended ≡ None) → s.class ≡ None → (v : Value) → u ≡ v → Taken ⊎ SelectsZero
   before_so was none v e =
       let to = on was ∙ ap (λ (k : Option Class). in_class k u s) none ∙ ap (λ (b : Bool). before_class b u s) c.caller
       ∙ ap (λ (x : Value). before_class false x s) e in
@@ -504,7 +537,7 @@ module _ (local : Local) (w : Whole) (f : Called local w) (c : IsCalled local w.
       ∙ ap (λ (x : Value). put_before false x s) e in
       before_by was v e to puts
 
-  two_by : (was : s.ended ≡ None) → s.class ≡ Some Two → (v : Value) → u ≡ v → Taken
+  two_by : (was : s.ended ≡ None) → s.class ≡ Some Two → (v : Value) → u ≡ v → Taken ⊎ SelectsZero
   two_by was two (request x) e =
       request_so was x (has_peer x.source s.live) (is_full s) e refl refl
       (on was ∙ ap (λ (k : Option Class). in_class k u s) two ∙ ap (λ (b : Bool). in_two b u s) c.caller ∙ ap (λ (x : Value). in_two false
@@ -512,30 +545,142 @@ module _ (local : Local) (w : Whole) (f : Called local w) (c : IsCalled local w.
       (puts_on was ∙ ap (λ (k : Option Class). put_in k u s) two ∙ ap (λ (b : Bool). put_in_two b u s) c.caller
       ∙ ap (λ (x : Value). put_in_two false x s) e)
   two_by was two (data0 end user) e =
-      wrong_so was (data0 end user) e (in_two false (data0 end user) s)
+      inl (wrong_so was (data0 end user) e (in_two false (data0 end user) s)
       (on was ∙ ap (λ (k : Option Class). in_class k u s) two ∙ ap (λ (b : Bool). in_two b u s) c.caller ∙ ap (λ (x : Value). in_two false
       x s) e)
       (puts_on was ∙ ap (λ (k : Option Class). put_in k u s) two ∙ ap (λ (b : Bool). put_in_two b u s) c.caller
-      ∙ ap (λ (x : Value). put_in_two false x s) e) refl
-  two_by was two (confirm destination x) e = by_row was two destination (ap destination_of e) (value_at destination s.live) refl
-  two_by was two (disconnect destination source reason user) e = by_row was two destination (ap destination_of e)
-      (value_at destination s.live) refl
-  two_by was two (disconnected destination source) e = by_row was two destination (ap destination_of e) (value_at destination s.live) refl
-  two_by was two (data2 destination number end user) e = by_row was two destination (ap destination_of e) (value_at destination s.live) refl
-  two_by was two (acknowledge credit destination number) e = by_row was two destination (ap destination_of e)
-      (value_at destination s.live) refl
-  two_by was two (error destination cause) e = by_row was two destination (ap destination_of e) (value_at destination s.live) refl
+      ∙ ap (λ (x : Value). put_in_two false x s) e) refl)
+  two_by was two (confirm destination x) e = inl (by_row was two destination (ap destination_of e) (value_at destination s.live) refl)
+  two_by was two (disconnect destination source reason user) e = inl (by_row was two destination (ap destination_of e)
+      (value_at destination s.live) refl)
+  two_by was two (disconnected destination source) e = inl (by_row was two destination (ap destination_of e) (value_at destination s.live)
+      refl)
+  two_by was two (data2 destination number end user) e = inl (by_row was two destination (ap destination_of e)
+      (value_at destination s.live) refl)
+  two_by was two (acknowledge credit destination number) e = inl (by_row was two destination (ap destination_of e)
+      (value_at destination s.live) refl)
+  two_by was two (error destination cause) e = inl (by_row was two destination (ap destination_of e) (value_at destination s.live) refl)
 
-  by_class : (was : s.ended ≡ None) → (s.class ≡ None) ⊎ (s.class ≡ Some Two) → Taken
+  by_class : (was : s.ended ≡ None) → (s.class ≡ None) ⊎ (s.class ≡ Some Two) → Taken ⊎ SelectsZero
   by_class was (inl none) = before_so was none u refl
   by_class was (inr two) = two_by was two u refl
 
-  by_end : (o : Option EndReason) → s.ended ≡ o → Taken
+  by_end : (o : Option EndReason) → s.ended ≡ o → Taken ⊎ SelectsZero
   by_end None e = by_class e c.class
   by_end (Some reason) e =
-      over_so s (reacts_not u s (ap is_some e)) (ap (λ (x : Option EndReason). if is_some x then [] else put_in s.class u s) e)
+      inl (over_so s (reacts_not u s (ap is_some e)) (ap (λ (x : Option EndReason). if is_some x then [] else put_in s.class u s) e)
       (ap is_some e)
-      (record { caller = refl; local_is = refl; class = refl; given = refl }) (c.orderly.over (ended_some s.ended reason e))
+      (record { caller = refl; local_is = refl; class = refl; given = refl }) (c.orderly.over (ended_some s.ended reason e)))
 
-  pub takes_so : Taken
+  pub takes_so : Taken ⊎ SelectsZero
   takes_so = by_end s.ended refl
+
+  -- ---- class 0 is selected
+
+  module _ (z : SelectsZero) (one : w.tap.course.class ≡ None → HoldsOfOne (is_live Left) w.tap.connections)
+      (judged : HoldsOfEach IsJudged w.tap.connections) where
+    no_ref : {A : Type 0} (i r : ℕ) → f.refs i ≡ Some r → A
+    no_ref i r e =
+        let zero = c.none_given z.none in
+        let low = f.positive i r e in
+        let up = (f.homes i r e).1 in
+        absurd (omega arith)
+
+    class_none : w.tap.course.class ≡ None
+    class_none = either_none w.tap.course.class f.class (λ two. let zero = c.none_given z.none in let one_given = f.past_two two in absurd
+        (omega arith))
+
+    seen_none : w.tap.course.class_seen ≡ None
+    seen_none = either_none w.tap.course.class_seen f.class_seen (λ two. absurd (cc (sym class_none ∙ f.seen_two two)))
+
+    asked_live : (y : Connect) (e : Connection) → Asked y e → is_live Left e ≡ true
+    asked_live y e a = ap not (ap (λ (b : Bool). e.is_judged && b) (ap (λ (h : Half). is_over_by h e.seen_by_left) a.left
+        ∙ ap (λ (h : Half). is_over_by (opened_half y.source y.credit) h) a.known) ∙ and_none e.is_judged)
+
+    module _ (p : ℕ) (came : f.came ≡ (Some p, request z.x) ∷ head.later) where
+      abbrev here : Place local w f z.was p z.x head.later came later head.values_are few_all.1
+      here = place local w f z.was p z.x head.later came later head.values_are few_all.1
+
+      one_asked : (i : ℕ) (e : Connection) (y : Connect) → slice_get w.tap.connections i ≡ Some e → Asked y e → i ≡ p
+      one_asked i e y at a = one class_none i p e here.c at here.at (judged i e at) (judged p here.c here.at) (asked_live y e a)
+          (asked_live z.x here.c here.asked)
+
+      other_one : (i : ℕ) (e : Connection) → slice_get w.tap.connections i ≡ Some e → (i ≡ p → ⊥) →
+          Stand local f.shut s w.coming (units_at i f.tagged) (units_at i f.came) (w.begun && first_at i f.tagged) (f.refs i) e →
+          is_refused e.right.phase ≡ true
+      other_one i e at other (comes y a none ask o) = absurd (other (one_asked i e y at a))
+      other_one i e at other (refuses y a reason is none o seen) = absurd (other (one_asked i e y at a))
+      other_one i e at other (answers h none) = no_ref i h.r h.index
+      other_one i e at other (runs g none) = no_ref i g.r g.index
+      other_one i e at other (past silent up none ask un (inl (ref, answered))) = no_ref i e.right.reference ref
+      other_one i e at other (past silent up none ask un (inr (refused, seen))) = refused
+
+      none_at : (q : ℕ) (v : Value) (ts : List Placed) → f.tagged ≡ (Some q, v) ∷ ts → (e : Connection) → slice_get w.tap.connections
+          q ≡ Some e →
+          Stand local f.shut s w.coming (units_at q f.tagged) (units_at q f.came) (w.begun && first_at q f.tagged) (f.refs q) e → ⊥
+      none_at q v ts is e at (comes y a none ask o) = no_list v (units_at q ts) (units_at q f.tagged)
+          (ap (λ (l : List Placed). units_at q l) is ∙ at_first q v ts) none
+      none_at q v ts is e at (refuses y a reason mine none o seen) = no_list v (units_at q ts) (units_at q f.tagged)
+          (ap (λ (l : List Placed). units_at q l) is ∙ at_first q v ts)
+          (ap (λ (i : ℕ). units_at i f.tagged) (one_asked q e y at a) ∙ here.none)
+      none_at q v ts is e at (answers h none) = no_ref q h.r h.index
+      none_at q v ts is e at (runs g none) = no_ref q g.r g.index
+      none_at q v ts is e at (past silent up none ask un off) = no_list v (units_at q ts) (units_at q f.tagged)
+          (ap (λ (l : List Placed). units_at q l) is ∙ at_first q v ts) none
+
+      none_by_place : (q : ℕ) (v : Value) (ts : List Placed) → f.tagged ≡ (Some q, v) ∷ ts → (o : Option Connection) →
+          slice_get w.tap.connections q ≡ o → ⊥
+      none_by_place q v ts is None e = no_list v (units_at q ts) (units_at q f.tagged)
+          (ap (λ (l : List Placed). units_at q l) is ∙ at_first q v ts) (f.beyond q e).0
+      none_by_place q v ts is (Some e) at = none_at q v ts is e at (f.stands q e at)
+
+      none_tagged : (ts : List Placed) → f.tagged ≡ ts → values ts ≡ []
+      none_tagged [] is = refl
+      none_tagged ((Some q, v) ∷ ts) is = absurd (none_by_place q v ts is (slice_get w.tap.connections q) refl)
+      none_tagged ((None, v) ∷ ts) is =
+          let stray = (subst (λ (l : List Placed). AreStrays f.shut s f.refs f.home w.tap.course.strays l) is f.strays).0 in
+          let zero = c.none_given z.none in
+          let up = stray.given in
+          let low = stray.positive in
+          absurd (omega arith)
+
+      none_put : values f.tagged ≡ []
+      none_put = none_tagged f.tagged refl
+
+      live_none : s.live ≡ []
+      live_none = rows_none s.given s.live (c.none_given z.none) c.orderly.rise c.orderly.up_to
+
+      zero_end : IsInZero (unit_octets z.size - 3) (accepts Zero z.size z.x s) 0 []
+      zero_end = record {
+        caller = c.caller;
+        class = refl;
+        row = goes_on (s.given + 1) z.x.source (opened_link Zero z.size s.local z.x.credit)
+            (ap (λ (l : Rows Live). l ++ (s.given + 1, linked z.x.source (opened_link Zero z.size s.local z.x.credit)) ∷ []) live_none)
+            (record { flow = refl; size = refl }) refl;
+      }
+
+      selecting : Selecting local (After t (put_for u s))
+      selecting = record {
+        x = z.x;
+        size = z.size;
+        r = s.given + 1;
+        p = p;
+        c = here.c;
+        at = here.at;
+        asked = here.asked;
+        selected = ap (λ (l : Local). selected_by z.x l) (sym c.local_is) ∙ z.selected;
+        more = [];
+        put = ap (λ (l : List Value). l ++ put_for u s) (f.put ∙ none_put) ∙ z.puts;
+        seen = λ b. absurd (f.some b none_put);
+        class = class_none;
+        class_seen = seen_none;
+        unused = λ i e at same.
+            let top = f.tops i e at in
+            let up = above_up s.given f.last (values f.tagged) f.above in
+            absurd (omega arith);
+        others = λ i e at other. other_one i e at other (f.stands i e at);
+        end = subst (λ (x : State). IsInZero (unit_octets z.size - 3) x 0 []) (sym z.end_is) zero_end;
+      }
+
+    pub selects_zero : Selecting local (After t (put_for u s))
+    selects_zero = asks_request z.x z.is_cr (λ p came. selecting p came)

@@ -23,12 +23,13 @@ use Rattle.osi_rules.specs.Traffic.{none_told, one_told, reached, route, route_i
 use Rattle.osi_rules.specs.Traffic.{uses_source}
 use Rattle.osi_fair.specs.Wholes.{Whole}
 use Rattle.osi_fair.proofs.a_right_unit_is_not_blamed.{first_there}
-use Rattle.osi_fair.proofs.a_unit_of_a_whole_end_passes.{and_first, and_second, both, differ, none_begun, own_kept, own_passes}
+use Rattle.osi_fair.proofs.a_unit_of_a_whole_end_passes.{none_begun, own_kept, own_passes}
+use Rattle.osi_fair.proofs.no_two_open_connections_have_one_peer.{and_first, and_second, both}
 use Rattle.osi_fair.proofs.each_connection_has_its_line.{AreSettled, Followed, Following, IsAsking, IsOwned, all_so, is_tracked}
 use Rattle.osi_fair.proofs.what_holds_of_one_item.{first_true}
 use Rattle.osi_fair.proofs.what_keeps_names_apart.{Sound}
 use Rattle.osi_fair.proofs.what_the_other_side_closes.{IsSane, judged_same}
-use Rattle.osi_fair.proofs.which_units_are_for_a_connection.{IsOf, first_left, is_ours, leads, ours, ours_is}
+use Rattle.osi_fair.proofs.which_units_are_for_a_connection.{IsOf, picked_rest, is_ours, leads, ours, ours_is}
 use Rattle.osi_fair.proofs.while_no_class_is_selected.{set_same}
 
 -- ---- at the tap
@@ -157,7 +158,7 @@ module _ (local : Local) (w : Whole) (f : Followed local w) (sane : IsSane w.tap
     tracks = g.tracks;
     tap = g.tap;
     spare = g.spare;
-    put_is = sym (first_left (is_ours g.r g.peer) dc rest other) ∙ ap (λ (l : List Value). ours g.r g.peer l) (sym e) ∙ g.put_is;
+    put_is = sym (picked_rest (is_ours g.r g.peer) dc rest other) ∙ ap (λ (l : List Value). ours g.r g.peer l) (sym e) ∙ g.put_is;
     spares = g.spares;
     gone = g.gone;
     begun_is = g.begun_is ∙ ap (λ (l : List Value). w.begun && leads (is_ours g.r g.peer) l) e ∙ ap (λ (b : Bool). w.begun && b) other

@@ -174,6 +174,7 @@ module _ (local : Local) (w : Whole) (f : Called local w) (judged : HoldsOfEach 
     beyond = λ i none.
         let (a, b, d) = f.beyond i none in (sym (mine_is i) ∙ a, b, d);
     homes = f.homes;
+    positive = f.positive;
     linked_at = f.linked_at;
     shut_given = f.shut_given;
     strays = strays_all.1;
@@ -184,6 +185,8 @@ module _ (local : Local) (w : Whole) (f : Called local w) (judged : HoldsOfEach 
     class = f.class;
     two = f.two;
     class_seen = f.class_seen;
+    past_two = f.past_two;
+    seen_two = f.seen_two;
     some = λ h. absurd (cc h);
     few = f.few;
     untagged = f.untagged;
@@ -197,6 +200,7 @@ module _ (local : Local) (w : Whole) (f : Called local w) (judged : HoldsOfEach 
         };
   }
 
-  pub stray_passes : (((takes Right u w.tap).told.finding ≡ Kept) ⊎ ((takes Right u w.tap).told.finding ≡ NotJudged))
+  pub stray_passes : (((takes Right u w.tap).told.finding ≡ Kept) ⊎ (((takes Right u w.tap).told.finding ≡ NotJudged)
+      × (w.tap.course.strays ≡ true)))
       × Called local (after (takes Right u w.tap).state)
-  stray_passes = (inr all_spared.finding, subst (λ (t : Traffic). Called local (after t)) (sym all_spared.state) stays)
+  stray_passes = (inr (all_spared.finding, stray.strays_is), subst (λ (t : Traffic). Called local (after t)) (sym all_spared.state) stays)

@@ -26,7 +26,7 @@ use Rattle.osi_rules.specs.Traffic.{Outcome, State as Traffic, asked_by, class_f
 use Rattle.osi_fair.specs.Asking.{asked_in, asks_with}
 use Rattle.osi_fair.specs.Naming.{Passing, packet, passes, rubbish, unit as passing}
 use Rattle.osi_fair.specs.Putting.{put_by, put_for}
-use Rattle.osi_fair.specs.Wholes.{Event, HappenAlong, Happens, Whole, arrives, begin, begins_other, begins_own, calls, passes_other}
+use Rattle.osi_fair.specs.Wholes.{Event, Happens, Whole, arrives, begin, begins_other, begins_own, calls, passes_other}
 use Rattle.osi_fair.specs.Wholes.{passes_own, passes_rubbish}
 use Rattle.osi_fair.proofs.a_reference_names_one_connection.{fresh_apart, no_item, passes_apart}
 use Rattle.osi_fair.proofs.a_request_of_a_whole_end_is_new.{Newer, still_newer, unit_gives}
@@ -39,7 +39,7 @@ use Rattle.osi_fair.proofs.what_a_calling_end_still_has.{new_live}
 use Rattle.osi_fair.proofs.what_a_calling_end_still_has.{sent_lasts}
 use Rattle.osi_fair.proofs.what_a_calling_end_still_has.{unit_after}
 use Rattle.osi_fair.proofs.what_holds_of_one_item.{HoldsOfEach, after_map, each_map}
-use Rattle.osi_fair.proofs.what_lasts_at_the_tap.{Lasts, lasts_passing}
+use Rattle.osi_fair.proofs.what_lasts_at_the_tap.{lasts_passing}
 use Rattle.osi_fair.proofs.what_stays_of_each_connection.{AreDistinct, IfAsked, IsLively, IsStarted, left_passes}
 use Rattle.osi_fair.proofs.what_stays_of_each_connection.{lively_stays, right_passes, started_stays}
 use Rattle.osi_fair.proofs.what_becomes_of_a_connection.{Answered, IsIdle, Told, answered, cc_waits, comes_for, not_selected, opens}

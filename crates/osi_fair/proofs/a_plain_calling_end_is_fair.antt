@@ -20,13 +20,13 @@ use Rattle.osi_rules.specs.declared.directions.Direction.TheVariants.{Left, Righ
 use Rattle.osi_rules.specs.declared.findings.Finding.TheVariants.{Kept, NotJudged, TooMany}
 use Rattle.osi_rules.specs.Reaches.{reach_by}
 use Rattle.osi_rules.specs.declared.connections.Connection.{Connection}
-use Rattle.osi_rules.specs.Traffic.{State as Traffic, is_stopped, packet_begins, reached, refused_reach, takes}
-use Rattle.osi_fair.specs.Naming.{Passing, packet, passes, rubbish, unit as passing}
+use Rattle.osi_rules.specs.Traffic.{is_stopped, packet_begins, reached, refused_reach, takes}
+use Rattle.osi_fair.specs.Naming.{packet, passes, rubbish, unit as passing}
 use Rattle.osi_fair.specs.Putting.{put_by, put_for}
 use Rattle.osi_fair.specs.Wholes.{Event, HappenAlong, Happens, MayCall, Whole, arrives, begin, begins_other, begins_own, calls}
 use Rattle.osi_fair.specs.Wholes.{passes_other}
 use Rattle.osi_fair.specs.Wholes.{passes_own, passes_rubbish}
-use Rattle.osi_fair.proofs.a_dr_for_what_is_gone.{Firsts, Holds as Kept_so, before_clear, class_of, first_holds, gone_strays, lasted}
+use Rattle.osi_fair.proofs.a_dr_for_what_is_gone.{Firsts, Holds as Kept_so, before_clear, first_holds, gone_strays, lasted}
 use Rattle.osi_fair.proofs.a_dr_for_what_is_gone.{next_holds}
 use Rattle.osi_fair.proofs.a_dc_for_a_stray_dr_passes.{Passes, dc_found, dc_goes, dc_passes}
 use Rattle.osi_fair.proofs.a_stray_dc_of_the_other_side_passes.{idle_passes}
@@ -43,7 +43,7 @@ use Rattle.osi_fair.proofs.the_end_is_judged_as_the_other_side_is.{IsMild, other
 use Rattle.osi_fair.proofs.what_a_calling_end_still_has.{IsLive, SelectsTwo, call_after, unit_after}
 use Rattle.osi_fair.proofs.what_becomes_of_a_connection.{IsIdle, Told, comes_for}
 use Rattle.osi_fair.proofs.what_holds_of_one_item.{HoldsOfEach}
-use Rattle.osi_fair.proofs.what_lasts_at_the_tap.{Lasts, lasts_passing}
+use Rattle.osi_fair.proofs.what_lasts_at_the_tap.{lasts_passing}
 use Rattle.osi_fair.proofs.what_the_other_side_closes.{IsClear, IsDr, IsFirm, IsPlain, IsSane, closed_by}
 
 differ : {A : Type 0} (b : Bool) → b ≡ true → b ≡ false → A

@@ -1,20 +1,16 @@
 -- A DC of the other side passes that answers nothing: the lines of its connection may take it, and nothing else changes.
 -- For the law on a whole end.
-use Rattle.std.proofs.Common.{◌≡◌, ◌≢◌, ◌∙◌, ℕ, Bool, true, false, List, [], ◌∷◌, ◌++◌, refl, sym, ap, subst}
-use Rattle.std.proofs.Common.{Option, Some, None, if◌then◌else◌}
-use Rattle.std.specs.Prelude.{◌&&◌, ◌||◌, ◌==◌, not, slice_get}
-use Rattle.std.specs.List.{AllByRecursion}
-use Rattle.osi_tpdu.specs.Value.{Value, Connect, HasFieldsInRange, confirm, disconnected, request, destination_of}
+use Rattle.std.proofs.Common.{◌≡◌, ◌≢◌, ◌∙◌, Bool, true, false, List, [], ◌∷◌, ◌++◌, refl, sym, ap, subst}
+use Rattle.std.proofs.Common.{Some}
+use Rattle.std.specs.Prelude.{◌&&◌, ◌==◌}
+use Rattle.osi_tpdu.specs.Value.{Value, Connect, HasFieldsInRange, request, destination_of}
 use Rattle.osi_class.specs.declared.terms.Class.TheVariants.{Two}
 use Rattle.osi_class.specs.declared.terms.Local.{Local}
-use Rattle.osi_carrier.specs.State.{State}
 use Rattle.osi_rules.specs.declared.connections.Connection.{Connection}
 use Rattle.osi_rules.specs.declared.directions.Direction.TheVariants.{Right}
 use Rattle.osi_rules.specs.declared.findings.Finding.{Finding}
-use Rattle.osi_rules.specs.declared.findings.Finding.TheVariants.{Broke, NotJudged}
-use Rattle.osi_rules.specs.declared.findings.Reach.{Reach}
+use Rattle.osi_rules.specs.declared.findings.Finding.TheVariants.{NotJudged}
 use Rattle.osi_rules.specs.declared.findings.Reach.TheVariants as reach
-use Rattle.osi_rules.specs.declared.findings.Rule.TheVariants as rule
 use Rattle.osi_rules.specs.declared.halves.Phase.{Phase}
 use Rattle.osi_rules.specs.declared.halves.Phase.TheVariants.{Silent, Open, Refused, Closing, Closed}
 use Rattle.osi_rules.specs.Reaches.{reach_of}
@@ -24,8 +20,9 @@ use Rattle.osi_rules.specs.Traffic.{State as Traffic, found, takes}
 use Rattle.osi_fair.specs.Lines.{Line, after_finding, finding_of, passes_other}
 use Rattle.osi_fair.specs.Wholes.{Whole}
 use Rattle.osi_fair.proofs.a_dc_for_a_stray_dr_passes.{not_due}
-use Rattle.osi_fair.proofs.a_unit_of_a_whole_end_passes.{and_first, and_second, differ, left_open}
-use Rattle.osi_fair.proofs.a_unit_of_the_other_side_passes.{all_add, dc_no_cc, early_more, following_other, row_add, waiting_dc}
+use Rattle.osi_fair.proofs.no_two_open_connections_have_one_peer.{and_first, and_second, differ, left_open}
+use Rattle.osi_fair.proofs.a_unit_of_the_other_side_passes.{dc_no_cc}
+use Rattle.osi_fair.proofs.what_has_come_with_one_unit_more.{all_add, early_more, following_other, row_add, waiting_dc}
 use Rattle.osi_fair.proofs.each_connection_has_its_line.{AreGiven, Followed, Following, IsAnswer, IsAsking, IsNoCc, all_so, is_tracked}
 use Rattle.osi_fair.proofs.each_connection_has_its_line.{tracks_on}
 use Rattle.osi_fair.proofs.what_becomes_of_a_connection.{IsIdle}

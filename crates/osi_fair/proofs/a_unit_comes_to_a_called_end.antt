@@ -334,6 +334,7 @@ module _ (local : Local) (w : Whole) (f : Called local w) (apart : AreApart w.ta
     beyond = λ i none.
         let (a, b, d) = f.beyond i none in (a, asks_none i ∙ b, d);
     homes = f.homes;
+    positive = f.positive;
     linked_at = f.linked_at;
     shut_given = f.shut_given;
     strays = f.strays;
@@ -343,6 +344,8 @@ module _ (local : Local) (w : Whole) (f : Called local w) (apart : AreApart w.ta
     class = f.class;
     two = f.two;
     class_seen = f.class_seen;
+    past_two = f.past_two;
+    seen_two = f.seen_two;
     some = f.some;
     few = all_add (IsFor w.end.given) w.coming v f.few (λ m e. inr dc);
     untagged = all_add Untagged f.came (None, v) f.untagged (λ h. dc_not_request dc);
@@ -626,6 +629,7 @@ module _ (local : Local) (w : Whole) (f : Called local w) (apart : AreApart w.ta
           let (a, b, d) = f.beyond i (set_none cs q i next (ap (λ (l : List Connection). slice_get l i) (sym conns) ∙ none)) in
           (a, asks_none i ∙ b, d);
       homes = f.homes;
+      positive = f.positive;
       linked_at = f.linked_at;
       shut_given = f.shut_given;
       strays = strays_more f.shut w.end f.refs f.home w.tap.course.strays (takes Left v w.tap).state.course.strays f.tagged lasts.strays
@@ -636,9 +640,12 @@ module _ (local : Local) (w : Whole) (f : Called local w) (apart : AreApart w.ta
       class = subst (λ (k : Option Class). (k ≡ None) ⊎ (k ≡ Some Two)) (sym course_same.0) f.class;
       two = λ i x there up. two_by i x (item i x there) up;
       class_seen = subst (λ (k : Option Class). (k ≡ None) ⊎ (k ≡ Some Two)) (sym course_same.1) f.class_seen;
+      past_two = λ h. f.past_two (sym course_same.0 ∙ h);
+      seen_two = λ h. course_same.0 ∙ f.seen_two (sym course_same.1 ∙ h);
       some = f.some;
       few = all_add (IsFor w.end.given) w.coming v f.few
-          (λ m e. inl (subst (λ (i : ℕ). i ≤ w.end.given) (number_is n m (sym dest ∙ e)) (f.homes q n here.ref).1));
+          (λ m e. inl (subst (λ (i : ℕ). (i ≤ w.end.given) × (1 ≤ i)) (number_is n m (sym dest ∙ e))
+          ((f.homes q n here.ref).1, f.positive q n here.ref)));
       untagged = all_add Untagged f.came (None, v) f.untagged (λ h. not_cr);
       timely = λ none last. timely_so none (f.timely (lasts.strays none) last) v refl;
     }

@@ -65,7 +65,8 @@ module _ (local : Local) (w : Whole) (f : Called local w) (apart : AreApart w.ta
 
   -- it is right, or not judged, and all holds after it
   abbrev Passed : Type 0
-  Passed = (((takes Right u w.tap).told.finding ≡ Kept) ⊎ ((takes Right u w.tap).told.finding ≡ NotJudged)) × Called local after
+  Passed = (((takes Right u w.tap).told.finding ≡ Kept) ⊎ (((takes Right u w.tap).told.finding ≡ NotJudged)
+      × (w.tap.course.strays ≡ true))) × Called local after
 
   lasts : Lasts w.tap.course (takes Right u w.tap).state.course
   lasts = lasts_passing (passing Right u) w.tap
@@ -108,6 +109,7 @@ module _ (local : Local) (w : Whole) (f : Called local w) (apart : AreApart w.ta
         (two : is_open next.right.phase ≡ true → (takes Right u w.tap).state.course.class ≡ Some Two)
         (seen : (takes Right u w.tap).state.course.class_seen ≡ w.tap.course.class_seen) (top : ℕ) (more : f.last ≤ top)
         (next_top : next.right.reference ≤ top) (above : AreAbove w.end.given top (values later))
+        (past_two : (takes Right u w.tap).state.course.class ≡ Some Two → 1 ≤ w.end.given)
         (held : Timely w.end w.coming cs (values f.tagged) → is_open next.left.phase ≡ true → is_open next.right.phase ≡ true →
         IsHeld w.end w.coming next.right.reference) where
       item : (i : ℕ) (x : Connection) → slice_get (takes Right u w.tap).state.connections i ≡ Some x →
@@ -159,6 +161,7 @@ module _ (local : Local) (w : Whole) (f : Called local w) (apart : AreApart w.ta
         stands = λ i x there. stand_by i x (item i x there);
         beyond = λ i none. gone_by i (set_none cs p i next (ap (λ (l : List Connection). slice_get l i) (sym conns) ∙ none));
         homes = f.homes;
+        positive = f.positive;
         linked_at = f.linked_at;
         shut_given = f.shut_given;
         strays = strays_more f.shut w.end f.refs f.home w.tap.course.strays (takes Right u w.tap).state.course.strays later lasts.strays
@@ -169,6 +172,8 @@ module _ (local : Local) (w : Whole) (f : Called local w) (apart : AreApart w.ta
         class = class;
         two = λ i x there up. two_by i x (item i x there) up;
         class_seen = subst (λ (k : Option Class). (k ≡ None) ⊎ (k ≡ Some Two)) (sym seen) f.class_seen;
+        past_two = past_two;
+        seen_two = λ h. lasts.two (f.seen_two (sym seen ∙ h));
         some = λ h. absurd (cc h);
         few = f.few;
         untagged = f.untagged;
@@ -266,6 +271,7 @@ module _ (local : Local) (w : Whole) (f : Called local w) (apart : AreApart w.ta
         inl (finding_kept u w.tap n p c right cc_route cc_first at cc_kept),
         passed cc_next cc_conns cc_stand (inr cc_two) (λ up. cc_two)
             (ap (λ (k : Course). k.class_seen) cc_course) h.r (let less = above_cc.0 in omega arith) (omega arith) above_cc.1
+            (λ k. let up = (f.homes p h.r h.index).1 in let one = f.positive p h.r h.index in omega arith)
             (λ k a b. (subst (λ (l : List Placed). AllByRecursion (Answers (IsHeld w.end w.coming)) (values l)) tagged k.answers).0 n
             (acceptance Two h.size h.x local h.r) u_cc),
       )
@@ -332,7 +338,8 @@ module _ (local : Local) (w : Whole) (f : Called local w) (apart : AreApart w.ta
             (subst (λ (k : Option Class). (k ≡ None) ⊎ (k ≡ Some Two)) (sym (ap (λ (k : Course). k.class) dr_course)) f.class)
             (λ up. dr_not up) (ap (λ (k : Course). k.class_seen) dr_course) f.last (omega arith)
             (subst (λ (h : Half). h.reference ≤ f.last) (sym dr_right) (omega arith))
-            (subst (λ (v : Value). AreAbove w.end.given f.last (v ∷ values later)) u_dr above_all) (λ k a b. dr_not b),
+            (subst (λ (v : Value). AreAbove w.end.given f.last (v ∷ values later)) u_dr above_all)
+            (λ k. f.past_two (sym (ap (λ (c : Course). c.class) dr_course) ∙ k)) (λ k a b. dr_not b),
       )
 
     -- ---- a unit of an open connection
@@ -472,6 +479,7 @@ module _ (local : Local) (w : Whole) (f : Called local w) (apart : AreApart w.ta
             (ap (λ (k : Course). k.class_seen) run_course ∙ class_seen_same c u w.tap.course) f.last (omega arith)
             (subst (λ (i : ℕ). i ≤ f.last) (sym next_reference) (f.tops p c at)) (above_next w.end.given f.last u (values later) no_cc
             above_all)
+            (λ k. f.past_two (f.two p c at g.there))
             (λ k a b. subst (λ (i : ℕ). IsHeld w.end w.coming i) (sym next_reference)
             (k.taps p c at (ap (λ (h : Half). is_open h.phase) (sym next_left) ∙ a) g.there)),
       )

@@ -5,7 +5,6 @@ use Rattle.std.proofs.Common.{Option, Some, None, inl, inr, ◌⊎◌, if◌then
 use Rattle.std.specs.Prelude.{◌&&◌, ◌||◌, ◌==◌, not, slice_get}
 use Rattle.std.specs.List.{AllByRecursion, list_any}
 use Rattle.std.proofs.lemmas.Bool.{eqb-true}
-use Rattle.std.proofs.lemmas.List.{append_assoc}
 use Rattle.osi_tpdu.specs.Value.{Value, Connect, HasFieldsInRange, request, confirm, disconnect, disconnected, data0, data2, acknowledge}
 use Rattle.osi_tpdu.specs.Value.{error}
 use Rattle.osi_tpdu.specs.Value.{destination_of}
@@ -14,7 +13,7 @@ use Rattle.osi_class.specs.declared.terms.Class.TheVariants.{Two, Zero}
 use Rattle.osi_class.specs.declared.terms.Local.{Local}
 use Rattle.osi_carrier.specs.Negotiation.{agreed_size, opened_link}
 use Rattle.osi_carrier.specs.Rows.{value_at}
-use Rattle.osi_carrier.specs.State.{State, asked}
+use Rattle.osi_carrier.specs.State.{asked}
 use Rattle.osi_rules.specs.declared.connections.Connection.{Connection}
 use Rattle.osi_rules.specs.declared.courses.Course.{Course}
 use Rattle.osi_rules.specs.declared.directions.Direction.TheVariants.{Right}
@@ -35,11 +34,13 @@ use Rattle.osi_fair.specs.Lines.{Line, after_finding, finding_of, opened_line, p
 use Rattle.osi_fair.specs.Naming.{unit as passing}
 use Rattle.osi_fair.specs.Wholes.{Whole}
 use Rattle.osi_fair.proofs.a_request_of_a_whole_end_is_new.{Newer}
-use Rattle.osi_fair.proofs.a_unit_of_a_whole_end_passes.{and_first, and_second, both, differ, item_is, left_open, none_begun, right_there}
-use Rattle.osi_fair.proofs.a_unit_of_a_whole_end_passes.{all_two, set_other, there_not_silent, unlike, uses_tracked}
-use Rattle.osi_fair.proofs.each_connection_has_its_line.{Followed, Following, IsAnswer, IsAsking, IsNoCc, IsOwned, Row, Tracked}
-use Rattle.osi_fair.proofs.each_connection_has_its_line.{AreGiven, AreSettled, IsSpare, Waiting, all_so, asking, asks, closes, is_tracked}
-use Rattle.osi_fair.proofs.each_connection_has_its_line.{is_waiting, no_end, of, over, stray, talks, tracks_on}
+use Rattle.osi_fair.proofs.a_unit_of_a_whole_end_passes.{none_begun}
+use Rattle.osi_fair.proofs.no_two_open_connections_have_one_peer.{and_first, and_second, both, differ, item_is, left_open, right_there}
+use Rattle.osi_fair.proofs.a_unit_of_a_whole_end_passes.{all_two}
+use Rattle.osi_fair.proofs.no_two_open_connections_have_one_peer.{set_other, there_not_silent, unlike, uses_tracked}
+use Rattle.osi_fair.proofs.each_connection_has_its_line.{Followed, Following, IsAnswer, IsAsking, IsNoCc, IsOwned, Tracked}
+use Rattle.osi_fair.proofs.each_connection_has_its_line.{AreGiven, AreSettled, Waiting, all_so, asking, asks, is_tracked}
+use Rattle.osi_fair.proofs.each_connection_has_its_line.{is_waiting, of, stray, tracks_on}
 use Rattle.osi_fair.proofs.how_a_connection_opens.{calling_opens}
 use Rattle.osi_fair.proofs.references_of_requests_rise.{Rise, rise_from}
 use Rattle.osi_fair.proofs.what_holds_of_one_item.{none_true}
@@ -49,110 +50,14 @@ use Rattle.osi_fair.proofs.what_stays_of_each_connection.{left_then, right_judge
 use Rattle.osi_fair.proofs.what_belongs_to_no_open_connection.{strays_last}
 use Rattle.osi_fair.proofs.what_the_other_side_closes.{IsFirm, IsSane, is_name}
 use Rattle.osi_fair.proofs.which_requests_are_put.{asked_among}
-use Rattle.osi_fair.proofs.which_units_are_for_a_connection.{IsDc, IsOf, dc_not_ours, is_dc, is_ours, leads_none, named_not, named_so}
+use Rattle.osi_fair.proofs.which_units_are_for_a_connection.{IsOf, dc_not_ours, is_dc, is_ours, leads_none, named_not, named_so}
 use Rattle.osi_fair.proofs.which_units_are_for_a_connection.{names}
-use Rattle.osi_fair.proofs.which_units_are_for_a_connection.{one_more, one_other, ours_not, picked_none, those}
+use Rattle.osi_fair.proofs.which_units_are_for_a_connection.{picked_more, ours_not, picked_none, those}
 use Rattle.osi_fair.proofs.while_no_class_is_selected.{after_change, set_there}
-use Rattle.osi_fair.proofs.what_becomes_of_a_connection.{Answered, IsIdle, Told, answered, cc_waits, not_selected, open_stays, opens}
+use Rattle.osi_fair.proofs.what_becomes_of_a_connection.{Answered, Told, answered, cc_waits, not_selected, open_stays, opens}
 use Rattle.osi_fair.proofs.what_becomes_of_a_connection.{refused, waits_on}
-
--- ---- what has come for a connection, with one unit more
-
-more_other : (r : ℕ) (coming : List Value) (v : Value) → names r v ≡ false → those r (coming ++ v ∷ []) ≡ those r coming
-more_other r coming v e = one_other (names r) coming v e
-
-pub all_add : (P : Value → Type 0) (vs : List Value) (v : Value) → AllByRecursion P vs → P v → AllByRecursion P (vs ++ v ∷ [])
-all_add P [] v a p = (p, tt)
-all_add P (u ∷ vs) v (one, more) p = (one, all_add P vs v more p)
-
--- DCs for a reference, and one more
-early_other : (r : ℕ) (coming : List Value) (v : Value) → names r v ≡ false → AllByRecursion IsDc (those r coming) →
-    AllByRecursion IsDc (those r (coming ++ v ∷ []))
-early_other r coming v e h = subst (AllByRecursion IsDc) (sym (more_other r coming v e)) h
-
-pub early_more : (r : ℕ) (coming : List Value) (v : Value) → is_dc v ≡ true → (b : Bool) → names r v ≡ b →
-    AllByRecursion IsDc (those r coming) →
-    AllByRecursion IsDc (those r (coming ++ v ∷ []))
-early_more r coming v dc false e h = early_other r coming v e h
-early_more r coming v dc true e h =
-    subst (AllByRecursion IsDc) (sym (one_more (names r) coming v e)) (all_add IsDc (those r coming) v h dc)
-
-row_other : (local : Local) (end : State) (coming : List Value) (r peer : ℕ) (line : Line) (v : Value) → names r v ≡ false →
-    Row local end coming r peer line → Row local end (coming ++ v ∷ []) r peer line
-row_other local end coming r peer line v e (asks there x source early dcs first is) =
-    asks there x source early dcs (more_other r coming v e ∙ first) is
-row_other local end coming r peer line v e (talks link there is all) = talks link there is (more_other r coming v e ∙ all)
-row_other local end coming r peer line v e (closes o there q k is all) = closes o there q k is (more_other r coming v e ∙ all)
-row_other local end coming r peer line v e (over h) = over h
-
-pub row_add : (local : Local) (end : State) (coming : List Value) (r peer : ℕ) (line after : Line) (v : Value) → names r v ≡ true →
-    after.link ≡ line.link → after.coming ≡ line.coming ++ v ∷ [] → Row local end coming r peer line →
-    Row local end (coming ++ v ∷ []) r peer after
-row_add local end coming r peer line after v e link same (asks there x source early dcs first is) =
-    asks there x source early dcs (one_more (names r) coming v e ∙ ap (λ (l : List Value). l ++ v ∷ []) first
-    ∙ append_assoc early (confirm r x ∷ line.coming) (v ∷ []) ∙ ap (λ (l : List Value). early ++ confirm r x ∷ l) (sym same))
-    (link ∙ is)
-row_add local end coming r peer line after v e link same (talks l there is all) =
-    talks l there (link ∙ is) (one_more (names r) coming v e ∙ ap (λ (l : List Value). l ++ v ∷ []) all ∙ sym same)
-row_add local end coming r peer line after v e link same (closes o there q k is all) =
-    closes o there q k (link ∙ is) (one_more (names r) coming v e ∙ ap (λ (l : List Value). l ++ v ∷ []) all ∙ sym same)
-row_add local end coming r peer line after v e link same (over h) = over h
-
--- as long as the end has not ended
-row_or : (local : Local) (end : State) (coming : List Value) (r peer : ℕ) (line : Line) (b : Bool) → is_some end.ended ≡ b →
-    (end.ended ≡ None → Row local end coming r peer line) → Row local end coming r peer line
-row_or local end coming r peer line true e k = over e
-row_or local end coming r peer line false e k = k (no_end end.ended e)
-
-spares_on : (s t : Bool) (r peer : ℕ) (spare : List Value) → (s ≡ true → t ≡ true) → AllByRecursion (IsSpare s r peer) spare →
-    AllByRecursion (IsSpare t r peer) spare
-spares_on s t r peer spare on h =
-    all_so (IsSpare s r peer) (IsSpare t r peer) spare (λ u k. record { is = k.is; strays = on k.strays }) h
-
-pub following_other : (local : Local) (put : List Value) (b s t : Bool) (end : State) (coming : List Value) (x : Connection) (v : Value) →
-    (s ≡ true → t ≡ true) → (k : Following local put b s end coming x) → names k.r v ≡ false →
-    Following local put b t end (coming ++ v ∷ []) x
-following_other local put b s t end coming x v on k e = record {
-  r = k.r;
-  peer = k.peer;
-  line = k.line;
-  left = k.left;
-  right = k.right;
-  tracks = k.tracks;
-  tap = k.tap;
-  spare = k.spare;
-  put_is = k.put_is;
-  spares = spares_on s t k.r k.peer k.spare on k.spares;
-  gone = k.gone;
-  begun_is = k.begun_is;
-  row = row_other local end coming k.r k.peer k.line v e k.row;
-  calm = k.calm;
-}
-
-waiting_other : (local : Local) (end : State) (coming : List Value) (x : Connection) (v : Value) → (k : Waiting local end coming x) →
-    names k.r v ≡ false → Waiting local end (coming ++ v ∷ []) x
-waiting_other local end coming x v k e = record {
-  r = k.r;
-  left = k.left;
-  right = k.right;
-  seen = k.seen;
-  class0 = k.class0;
-  early = early_other k.r coming v e k.early;
-  row = k.row;
-}
-
--- a DC may come before the answer
-pub waiting_dc : (local : Local) (end : State) (coming : List Value) (x : Connection) (v : Value) → is_dc v ≡ true →
-    Waiting local end coming x → Waiting local end (coming ++ v ∷ []) x
-waiting_dc local end coming x v dc k = record {
-  r = k.r;
-  left = k.left;
-  right = k.right;
-  seen = k.seen;
-  class0 = k.class0;
-  early = early_more k.r coming v dc (names k.r v) refl k.early;
-  row = k.row;
-}
+use Rattle.osi_fair.proofs.what_has_come_with_one_unit_more.{all_add, early_other, following_other, row_add, row_or, spares_on, waiting_dc}
+use Rattle.osi_fair.proofs.what_has_come_with_one_unit_more.{waiting_other}
 
 -- ---- the CRs that are to pass
 
@@ -490,7 +395,7 @@ module _ (local : Local) (w : Whole) (f : Followed local w) (sane : IsSane w.tap
         gone = λ h. absurd (h refl);
         begun_is = sym (ap (λ (b : Bool). w.begun && b) none_head ∙ none_begun w.begun);
         row = row_or local w.end more k.r x.source line (is_some w.end.ended) refl (λ lasts.
-            asks (k.row lasts) x refl (those k.r w.coming) k.early (one_more (names k.r) w.coming v named_r
+            asks (k.row lasts) x refl (those k.r w.coming) k.early (picked_more (names k.r) w.coming v named_r
             ∙ ap (λ (u : Value). those k.r w.coming ++ u ∷ []) (e ∙ ap (λ (i : ℕ). confirm i x) (same_name m x e ∙ sym r_is))) refl);
         calm = tt;
       }) (λ lasts. ap (λ (i : ℕ). value_at i w.end.live) (sym r_is) ∙ k.row lasts)

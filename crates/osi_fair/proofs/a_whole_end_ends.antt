@@ -22,7 +22,8 @@ use Rattle.osi_fair.specs.Putting.{put_taking}
 use Rattle.osi_fair.specs.Wholes.{MayCall, Whole}
 use Rattle.osi_fair.proofs.a_request_of_a_whole_end_is_new.{Newer, unit_gives}
 use Rattle.osi_fair.proofs.a_whole_end_makes_a_call.{end_calls, nothing_so, same_up}
-use Rattle.osi_fair.proofs.a_whole_end_takes_a_unit.{end_takes, two_puts, two_reacts}
+use Rattle.osi_fair.proofs.a_whole_end_takes_a_unit.{end_takes}
+use Rattle.osi_fair.proofs.what_a_unit_leaves_at_a_calling_end.{two_puts, two_reacts}
 use Rattle.osi_fair.proofs.each_connection_has_its_line.{AreGiven, AreSettled, Followed, Following, IsAnswer, IsAsking, all_so, no_end}
 use Rattle.osi_fair.proofs.each_connection_has_its_line.{over}
 use Rattle.osi_fair.proofs.how_a_calling_end_asks.{Idle, IsCalling, broke, over_calls, over_takes, put_is as put_calling}

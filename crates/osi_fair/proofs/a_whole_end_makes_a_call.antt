@@ -35,8 +35,8 @@ use Rattle.osi_fair.specs.Putting.{put_by, put_closing, put_sent, put_together}
 use Rattle.osi_fair.specs.Wholes.{MayCall, Whole}
 use Rattle.osi_fair.proofs.a_carrier_follows_lines.{follows_closed, follows_sent}
 use Rattle.osi_fair.proofs.a_request_of_a_whole_end_is_new.{Newer}
-use Rattle.osi_fair.proofs.a_unit_of_a_whole_end_passes.{differ, item_is, one_peer, unlike}
-use Rattle.osi_fair.proofs.a_whole_end_takes_a_unit.{Linked, ends, given_by, spare_none, still}
+use Rattle.osi_fair.proofs.no_two_open_connections_have_one_peer.{differ, item_is, one_peer, unlike}
+use Rattle.osi_fair.proofs.what_a_unit_leaves_at_a_calling_end.{Linked, ends, given_by, spare_none, still}
 use Rattle.osi_fair.proofs.calls_of_a_line_join.{follows_together, still_open}
 use Rattle.osi_fair.proofs.each_connection_has_its_line.{AreGiven, AreSettled, Followed, Following, IsAnswer, IsAsking, IsOwned, IsSettled}
 use Rattle.osi_fair.proofs.each_connection_has_its_line.{Row, Tracked}
@@ -49,7 +49,7 @@ use Rattle.osi_fair.proofs.what_a_whole_end_takes.{units_ask}
 use Rattle.osi_fair.proofs.what_a_whole_end_takes.{units_owned, units_settled}
 use Rattle.osi_fair.proofs.what_the_other_side_closes.{IsSane}
 use Rattle.osi_fair.proofs.which_units_are_for_a_connection.{AllOurs, IsDc, all_ours, each_picked, is_dc, is_ours, last_ours, line_ours}
-use Rattle.osi_fair.proofs.which_units_are_for_a_connection.{named_is, names, none_ours, one_other, ours, picked_join, those}
+use Rattle.osi_fair.proofs.which_units_are_for_a_connection.{named_is, names, none_ours, picked_other, ours, picked_join, those}
 
 pub same_up : (n : ℕ) → n ≤ n
 same_up n = omega arith
@@ -339,7 +339,7 @@ module _ (local : Local) (w : Whole) (f : Followed local w) (sane : IsSane w.tap
     tracks = g.tracks;
     tap = g.tap;
     spare = g.spare;
-    put_is = one_other (is_ours g.r g.peer) w.put (request x) refl ∙ g.put_is;
+    put_is = picked_other (is_ours g.r g.peer) w.put (request x) refl ∙ g.put_is;
     spares = g.spares;
     gone = g.gone;
     begun_is = g.begun_is ∙ leads_more w.begun (is_ours g.r g.peer) w.put (request x ∷ []) f.some;

@@ -1,14 +1,11 @@
 -- At the tap of a whole calling end class 0 is selected only if the end has offered it.
 -- For the law on a whole end.
-use Rattle.std.proofs.Common.{◌≡◌, ◌∙◌, ℕ, Bool, true, false, List, [], ◌∷◌, refl, sym, ap, subst}
-use Rattle.std.proofs.Common.{Option, Some, None, inl, inr, ◌⊎◌, if◌then◌else◌}
-use Rattle.std.specs.Prelude.{◌&&◌, ◌==◌, slice_get}
+use Rattle.std.proofs.Common.{◌≡◌, ◌∙◌, ℕ, Bool, true, false, refl, sym, ap, subst}
+use Rattle.std.proofs.Common.{Option, Some, inl, inr, ◌⊎◌, if◌then◌else◌}
 use Rattle.osi_tpdu.specs.Value.{Value, Connect, request, confirm, disconnect, disconnected, data0, data2, acknowledge, error}
 use Rattle.osi_class.specs.declared.terms.Class.{Class}
 use Rattle.osi_class.specs.declared.terms.Class.TheVariants.{Two, Zero}
 use Rattle.osi_class.specs.declared.terms.Local.{Local}
-use Rattle.osi_rules.specs.declared.connections.Connection.{Connection}
-use Rattle.osi_rules.specs.declared.courses.Course.{Course}
 use Rattle.osi_rules.specs.declared.directions.Direction.TheVariants.{Right}
 use Rattle.osi_rules.specs.declared.findings.Finding.{Finding}
 use Rattle.osi_rules.specs.declared.findings.Finding.TheVariants.{Broke, Kept}
@@ -18,7 +15,7 @@ use Rattle.osi_rules.specs.Sides.{is_open, is_silent}
 use Rattle.osi_rules.specs.Traffic.{Outcome, State as Traffic, class_for, course_after, found_on, reached, takes}
 use Rattle.osi_fair.specs.Wholes.{Whole}
 use Rattle.osi_fair.proofs.a_dr_for_what_is_gone.{class_of}
-use Rattle.osi_fair.proofs.a_unit_of_a_whole_end_passes.{both}
+use Rattle.osi_fair.proofs.no_two_open_connections_have_one_peer.{both}
 use Rattle.osi_fair.proofs.a_unit_of_the_other_side_passes.{course_same}
 use Rattle.osi_fair.proofs.class_0_stays_selected.{reached_class}
 use Rattle.osi_fair.proofs.each_connection_has_its_line.{Followed}

@@ -1,8 +1,8 @@
 -- Class 0 stays selected at the tap, whatever passes.
 -- For the law on a whole end.
-use Rattle.std.proofs.Common.{◌≡◌, ◌∙◌, ℕ, Bool, true, false, [], ◌∷◌, refl, sym, ap, subst, Option, Some, None, if◌then◌else◌}
+use Rattle.std.proofs.Common.{◌≡◌, ◌∙◌, ℕ, Bool, true, false, refl, ap, Option, Some, None, if◌then◌else◌}
 use Rattle.std.specs.Prelude.{position, slice_get}
-use Rattle.osi_tpdu.specs.Value.{Value, Connect, request, confirm, disconnect, disconnected, data0, data2, acknowledge, error}
+use Rattle.osi_tpdu.specs.Value.{Value, request, confirm, disconnect, disconnected, data0, data2, acknowledge, error}
 use Rattle.osi_class.specs.declared.terms.Class.{Class}
 use Rattle.osi_class.specs.declared.terms.Class.TheVariants.{Two, Zero}
 use Rattle.osi_rules.specs.declared.connections.Connection.{Connection}
@@ -17,7 +17,7 @@ use Rattle.osi_rules.specs.declared.findings.Rule.TheVariants as rule
 use Rattle.osi_rules.specs.Reaches.{is_applied, reach_of}
 use Rattle.osi_rules.specs.Sides.{is_live, is_named}
 use Rattle.osi_rules.specs.Traffic.{Outcome, State, at_found, at_place, class_for, course_after, course_after_none, found_on, is_stopped}
-use Rattle.osi_rules.specs.Traffic.{none_told, reached, refused_reach, route, route_in, route_zero, routed, takes, unnamed}
+use Rattle.osi_rules.specs.Traffic.{none_told, reached, refused_reach, route_in, route_zero, routed, unnamed}
 use Rattle.osi_fair.specs.Naming.{Passing, packet, passes, rubbish, unit}
 use Rattle.osi_fair.proofs.left_selects_no_class.{left_class}
 

@@ -145,6 +145,7 @@ pub record IsStray (shut : ℕ → Bool) (end : State) (refs : ℕ → Option �
   pub is : v ≡ disconnected m n
   pub strays_is : strays ≡ true
   pub given : n ≤ end.given
+  pub positive : 1 ≤ n
   pub shut_is : shut n ≡ true
   pub none : refs (home n) ≡ Some n → units_at (home n) later ≡ []
 
@@ -176,7 +177,7 @@ Untagged t = t.0 ≡ None → IsNoCr t.1
 
 -- a unit for a reference that was not given is a DC
 abbrev pub IsFor : ℕ → Value → Type 0
-IsFor given v = (m : ℕ) → destination_of v ≡ Some m → (m ≤ given) ⊎ IsDc v
+IsFor given v = (m : ℕ) → destination_of v ≡ Some m → ((m ≤ given) × (1 ≤ m)) ⊎ IsDc v
 
 pub record Called (local : Local) (w : Whole) : Type 0 where
   pub tagged : List Placed
@@ -191,6 +192,7 @@ pub record Called (local : Local) (w : Whole) : Type 0 where
   pub beyond : (p : ℕ) → slice_get w.tap.connections p ≡ None →
       (units_at p tagged ≡ []) × (units_at p came ≡ []) × ((r : ℕ) → refs p ≡ Some r → IsUnlinked w.end r)
   pub homes : (p r : ℕ) → refs p ≡ Some r → (home r ≡ p) × (r ≤ w.end.given)
+  pub positive : (p r : ℕ) → refs p ≡ Some r → 1 ≤ r
   pub linked_at : w.end.ended ≡ None → (r peer : ℕ) (link : Standing) → value_at r w.end.live ≡ Some (linked peer link) →
       refs (home r) ≡ Some r
   pub shut_given : (q : ℕ) → shut q ≡ true → q ≤ w.end.given
@@ -202,6 +204,9 @@ pub record Called (local : Local) (w : Whole) : Type 0 where
   pub two : (p : ℕ) (c : Connection) → slice_get w.tap.connections p ≡ Some c → is_open c.right.phase ≡ true →
       w.tap.course.class ≡ Some Two
   pub class_seen : (w.tap.course.class_seen ≡ None) ⊎ (w.tap.course.class_seen ≡ Some Two)
+  -- a class was selected by a CC
+  pub past_two : w.tap.course.class ≡ Some Two → 1 ≤ w.end.given
+  pub seen_two : w.tap.course.class_seen ≡ Some Two → w.tap.course.class ≡ Some Two
   pub some : w.begun ≡ true → values tagged ≢ []
   pub few : AllByRecursion (IsFor w.end.given) w.coming
   pub untagged : AllByRecursion Untagged came
@@ -394,9 +399,10 @@ module _ (local : Local) (w : Whole) (f : Called local w) where
 
   begins_all : (d : Direction) (b : Bool) → (b ≡ true → values f.tagged ≢ []) →
       (((packet_begins d w.tap).course.class_seen ≡ None) ⊎ ((packet_begins d w.tap).course.class_seen ≡ Some Two)) →
+      ((packet_begins d w.tap).course.class_seen ≡ Some Two → (packet_begins d w.tap).course.class ≡ Some Two) →
       ((p : ℕ) (c : Connection) → StandsBy w.begun p c → StandsBy b p (begins d c)) →
       Called local (record w { begun = b; tap = packet_begins d w.tap })
-  begins_all d b some seen k = record {
+  begins_all d b some seen seen_is k = record {
     tagged = f.tagged;
     put = f.put;
     came = f.came;
@@ -409,6 +415,7 @@ module _ (local : Local) (w : Whole) (f : Called local w) where
         subst (λ (e : Connection). StandsBy b p e) (sym is) (k p x (f.stands p x was));
     beyond = λ p none. f.beyond p (map_none d (slice_get w.tap.connections p) (sym (slice_get-map (begins d) w.tap.connections p) ∙ none));
     homes = f.homes;
+    positive = f.positive;
     linked_at = f.linked_at;
     shut_given = f.shut_given;
     strays = subst (λ (s : Bool). AreStrays f.shut w.end f.refs f.home s f.tagged) (sym (course_strays d w.tap)) f.strays;
@@ -423,6 +430,8 @@ module _ (local : Local) (w : Whole) (f : Called local w) where
         course_class d w.tap ∙ f.two p x was (ap (λ (h : Half). is_open h.phase) (sym (ap (λ (e : Connection). e.right) is ∙ begun_right d
         x)) ∙ up);
     class_seen = seen;
+    past_two = λ h. f.past_two (sym (course_class d w.tap) ∙ h);
+    seen_two = seen_is;
     some = some;
     few = f.few;
     untagged = f.untagged;
@@ -443,7 +452,7 @@ module _ (local : Local) (w : Whole) (f : Called local w) where
   }
 
   pub other_begins : Called local (record w { tap = packet_begins Left w.tap })
-  other_begins = begins_all Left w.begun f.some f.class (λ p c h.
+  other_begins = begins_all Left w.begun f.some f.class (λ h. h) (λ p c h.
       other_begins_one local f.shut w.end w.coming (units_at p f.tagged) (units_at p f.came) (f.refs p) (w.begun && first_at p f.tagged) c
       h)
 
@@ -455,7 +464,7 @@ module _ (local : Local) (w : Whole) (f : Called local w) where
   own_by p false e c h = elsewhere_begins_one local f.shut w.end w.coming (units_at p f.tagged) (units_at p f.came) (f.refs p) c h
 
   pub own_begins : w.begun ≡ false → w.put ≢ [] → Called local (record w { begun = true; tap = packet_begins Right w.tap })
-  own_begins e some = begins_all Right true (λ h k. some (f.put ∙ k)) f.class_seen (λ p c h.
+  own_begins e some = begins_all Right true (λ h k. some (f.put ∙ k)) f.class_seen f.seen_two (λ p c h.
       own_by p (first_at p f.tagged) refl c
       (subst (λ (b : Bool). Stand local f.shut w.end w.coming (units_at p f.tagged) (units_at p f.came) (b && first_at p f.tagged)
       (f.refs p) c) e h))

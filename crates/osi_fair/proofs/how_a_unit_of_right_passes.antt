@@ -173,6 +173,7 @@ strays_more shut end refs home a b ((None, v) ∷ ts) h (one, more) = (
     is = one.is;
     strays_is = strays_by a b h one.strays_is;
     given = one.given;
+    positive = one.positive;
     shut_is = one.shut_is;
     none = one.none;
   },

@@ -1,6 +1,6 @@
 -- As long as the other side is judged, an end is: what is right stops nothing, and what stops the end stops both sides.
 -- For the law on a whole end.
-use Rattle.std.proofs.Common.{◌≡◌, ◌∙◌, ℕ, Bool, true, false, sym, refl, ap, Option, Some, None, inl, inr, ◌⊎◌, if◌then◌else◌}
+use Rattle.std.proofs.Common.{◌≡◌, ◌∙◌, ℕ, Bool, true, false, refl, ap, Option, Some, None, inl, inr, ◌⊎◌, if◌then◌else◌}
 use Rattle.std.specs.Prelude.{◌||◌, position, slice_get}
 use Rattle.osi_tpdu.specs.Value.{Value, Connect, request, confirm, disconnect, disconnected, data0, data2, acknowledge, error}
 use Rattle.osi_class.specs.declared.terms.Class.{Class}

@@ -362,6 +362,7 @@ module _ (local : Local) (w : Whole) (f : Called local w) (t : State) (units : L
     is = a.is;
     strays_is = a.strays_is;
     given = subst (λ (i : ℕ). a.n ≤ i) (sym given) a.given;
+    positive = a.positive;
     shut_is = a.shut_is;
     none = λ e. at_join (f.home a.n) later (all_at (Some p) units)
         ∙ ap (λ (vs : List Value). units_at (f.home a.n) later ++ vs)
@@ -382,6 +383,7 @@ module _ (local : Local) (w : Whole) (f : Called local w) (t : State) (units : L
     stands = λ i c at. stand_by i c (i == p) refl at;
     beyond = λ i none. gone_by i none (i == p) refl;
     homes = λ i r e. ((f.homes i r e).0, subst (λ (j : ℕ). r ≤ j) (sym given) (f.homes i r e).1);
+    positive = f.positive;
     linked_at = λ lasts r peer k there. linked_by r peer k (r == n) refl there;
     shut_given = λ r e. subst (λ (j : ℕ). r ≤ j) (sym given) (f.shut_given r e);
     strays = strays_keep f.shut f.shut s t f.refs f.refs f.home f.home w.tap.course.strays f.tagged (all_at (Some p) units) stray_still
@@ -395,6 +397,8 @@ module _ (local : Local) (w : Whole) (f : Called local w) (t : State) (units : L
     class = f.class;
     two = f.two;
     class_seen = f.class_seen;
+    past_two = λ h. subst (λ (j : ℕ). 1 ≤ j) (sym given) (f.past_two h);
+    seen_two = f.seen_two;
     some = λ h. subst (λ (vs : List Value). vs ≢ []) (sym (values_join f.tagged (all_at (Some p) units)))
         (some_more (values f.tagged) (values (all_at (Some p) units)) (f.some h));
     few = subst (λ (j : ℕ). AllByRecursion (IsFor j) coming) (sym given) few;

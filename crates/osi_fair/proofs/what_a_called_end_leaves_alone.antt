@@ -199,6 +199,7 @@ module _ (local : Local) (w : Whole) (f : Called local w) (t : State) (units : L
     is = a.is;
     strays_is = a.strays_is;
     given = subst (λ (i : ℕ). a.n ≤ i) (sym given) a.given;
+    positive = a.positive;
     shut_is = shut_still a.n a.shut_is;
     none = λ e. at_join (f.home a.n) later (all_at None units)
         ∙ ap (λ (vs : List Value). units_at (f.home a.n) later ++ vs) (all_nowhere (f.home a.n) units)
@@ -221,6 +222,7 @@ module _ (local : Local) (w : Whole) (f : Called local w) (t : State) (units : L
     beyond = λ i none.
         let (a, b, d) = f.beyond i none in (mine_same i ∙ a, asks i ∙ b, λ r e. unlinked_still r (d r e));
     homes = λ i r e. ((f.homes i r e).0, subst (λ (j : ℕ). r ≤ j) (sym given) (f.homes i r e).1);
+    positive = f.positive;
     linked_at = λ lasts r peer k there. linked_by r peer k (r == n) refl there;
     shut_given = shut_given;
     strays = strays_keep f.shut shut s t f.refs f.refs f.home f.home w.tap.course.strays f.tagged (all_at None units) stray_still strays
@@ -232,6 +234,8 @@ module _ (local : Local) (w : Whole) (f : Called local w) (t : State) (units : L
     class = f.class;
     two = f.two;
     class_seen = f.class_seen;
+    past_two = λ h. subst (λ (j : ℕ). 1 ≤ j) (sym given) (f.past_two h);
+    seen_two = f.seen_two;
     some = λ h. subst (λ (vs : List Value). vs ≢ []) (sym values_are) (some_more (values f.tagged) units (f.some h));
     few = subst (λ (j : ℕ). AllByRecursion (IsFor j) coming) (sym given) few;
     untagged = untagged;
@@ -298,6 +302,7 @@ module _ (local : Local) (w : Whole) (f : Called local w) (t : State) (coming : 
     is = a.is;
     strays_is = a.strays_is;
     given = subst (λ (i : ℕ). a.n ≤ i) (sym given) a.given;
+    positive = a.positive;
     shut_is = a.shut_is;
     none = λ e. ap (λ (l : List Placed). units_at (f.home a.n) l) (append-nil later) ∙ a.none e;
   }
@@ -315,6 +320,7 @@ module _ (local : Local) (w : Whole) (f : Called local w) (t : State) (coming : 
     beyond = λ i none.
         let (a, b, d) = f.beyond i none in (a, asks i b, λ r e lasts. not_last lasts);
     homes = λ i r e. ((f.homes i r e).0, subst (λ (j : ℕ). r ≤ j) (sym given) (f.homes i r e).1);
+    positive = f.positive;
     linked_at = λ lasts. not_last lasts;
     shut_given = λ r e. subst (λ (j : ℕ). r ≤ j) (sym given) (f.shut_given r e);
     strays = subst (λ (l : List Placed). AreStrays f.shut t f.refs f.home w.tap.course.strays l) (append-nil f.tagged)
@@ -325,6 +331,8 @@ module _ (local : Local) (w : Whole) (f : Called local w) (t : State) (coming : 
     class = f.class;
     two = f.two;
     class_seen = f.class_seen;
+    past_two = λ h. subst (λ (j : ℕ). 1 ≤ j) (sym given) (f.past_two h);
+    seen_two = f.seen_two;
     some = f.some;
     few = subst (λ (j : ℕ). AllByRecursion (IsFor j) coming) (sym given) few;
     untagged = untagged;

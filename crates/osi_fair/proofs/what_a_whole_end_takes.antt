@@ -1,7 +1,7 @@
 -- What the line of each connection of a whole calling end is after the end has taken a unit that names a connection.
 -- For the law on a whole end.
 use Rattle.std.proofs.Common.{◌≡◌, ◌≢◌, ◌∙◌, ◌≤◌, ℕ, Bool, true, false, List, [], ◌∷◌, ◌++◌, refl, sym, ap, subst, arith}
-use Rattle.std.proofs.Common.{Some, None, inl, inr, ◌⊎◌, is_some}
+use Rattle.std.proofs.Common.{Some, None, inl, inr, is_some}
 use Rattle.std.specs.Prelude.{◌&&◌, ◌==◌, slice_get}
 use Rattle.std.specs.List.{AllByRecursion}
 use Rattle.std.proofs.lemmas.Bool.{eqb-true}
@@ -17,15 +17,16 @@ use Rattle.osi_rules.specs.declared.halves.Half.{Half}
 use Rattle.osi_rules.specs.Traffic.{State as Traffic}
 use Rattle.osi_fair.specs.Lines.{Line}
 use Rattle.osi_fair.specs.Wholes.{Whole}
-use Rattle.osi_fair.proofs.a_unit_of_a_whole_end_passes.{all_two, differ, item_is, one_peer, unlike}
+use Rattle.osi_fair.proofs.a_unit_of_a_whole_end_passes.{all_two}
+use Rattle.osi_fair.proofs.no_two_open_connections_have_one_peer.{differ, item_is, one_peer, unlike}
 use Rattle.osi_fair.proofs.each_connection_has_its_line.{AreGiven, AreSettled, Followed, Following, IsAnswer, IsAsking, IsNoCc, IsOwned}
 use Rattle.osi_fair.proofs.each_connection_has_its_line.{IsSettled, Row, Tracked, Waiting, all_so, asks, closes, over, is_tracked, of}
 use Rattle.osi_fair.proofs.each_connection_has_its_line.{stray}
-use Rattle.osi_fair.proofs.each_connection_has_its_line.{is_waiting, talks}
+use Rattle.osi_fair.proofs.each_connection_has_its_line.{talks}
 use Rattle.osi_fair.proofs.what_the_other_side_closes.{IsSane}
-use Rattle.osi_fair.proofs.which_units_are_for_a_connection.{AllOurs, IsDc, IsOf, dc_not_ours, first_kept, first_left, is_dc, is_from}
+use Rattle.osi_fair.proofs.which_units_are_for_a_connection.{AllOurs, IsDc, IsOf, dc_not_ours, picked_first, picked_rest, is_dc, is_from}
 use Rattle.osi_fair.proofs.which_units_are_for_a_connection.{is_ours}
-use Rattle.osi_fair.proofs.which_units_are_for_a_connection.{leads, named_not, named_so, names, none_ours, one_other, ours, picked_each}
+use Rattle.osi_fair.proofs.which_units_are_for_a_connection.{leads, named_not, named_so, names, none_ours, picked_other, ours, picked_each}
 use Rattle.osi_fair.proofs.which_units_are_for_a_connection.{picked_join, those}
 
 -- ---- lists
@@ -173,11 +174,11 @@ module _ (local : Local) (w : Whole) (f : Followed local w) (sane : IsSane w.tap
   named_n = named_so n u dest
 
   first_n : those n w.coming ≡ u ∷ those n later
-  first_n = ap (λ (l : List Value). those n l) come ∙ first_kept (names n) u later named_n
+  first_n = ap (λ (l : List Value). those n l) come ∙ picked_first (names n) u later named_n
 
   later_other : (r : ℕ) → (r ≡ n → ⊥) → those r w.coming ≡ those r later
   later_other r other =
-      ap (λ (l : List Value). those r l) come ∙ first_left (names r) u later (named_not n r u (λ same. other (sym same)) dest)
+      ap (λ (l : List Value). those r l) come ∙ picked_rest (names r) u later (named_not n r u (λ same. other (sym same)) dest)
 
   row_later : (r peer : ℕ) (line : Line) → (r ≡ n → ⊥) → Row local w.end w.coming r peer line → Row local t later r peer line
   row_later r peer line other (asks there x source early dcs first is) =
@@ -202,7 +203,7 @@ module _ (local : Local) (w : Whole) (f : Followed local w) (sane : IsSane w.tap
       ∙ append-nil (ours r peer w.put)
   put_by p c at tracked r peer left right other (of_none a k) =
       ap (λ (l : List Value). ours r peer (w.put ++ l)) a.is
-      ∙ one_other (is_ours r peer) w.put (disconnected a.m n) (dc_not_ours r peer a.m n (λ same. other (sym same)))
+      ∙ picked_other (is_ours r peer) w.put (disconnected a.m n) (dc_not_ours r peer a.m n (λ same. other (sym same)))
 
   line_other : (p : ℕ) (c : Connection) → slice_get cs p ≡ Some c → is_tracked c ≡ true →
       (g : Following local w.put w.begun w.tap.course.strays w.end w.coming c) → (g.r ≡ n → ⊥) →

@@ -1,7 +1,7 @@
 -- What a called end has after it has taken a unit: its class, its references, and which of its connections are live.
 -- For the law on a whole called end.
-use Rattle.std.proofs.Common.{◌≡◌, ◌∙◌, ◌+◌, ℕ, Bool, true, false, List, [], ◌∷◌, ◌++◌, map, refl, sym, ap, subst, Option, Some, None}
-use Rattle.std.proofs.Common.{Result, Ok, Err, ◌⊎◌, is_some}
+use Rattle.std.proofs.Common.{◌≤◌, ◌+◌, ℕ, List, [], ◌∷◌, arith, ◌≡◌, ◌∙◌, Bool, true, false, ◌++◌, map, refl, sym, ap, subst, Option}
+use Rattle.std.proofs.Common.{Some, None, Result, Ok, Err, ◌⊎◌, is_some}
 use Rattle.std.specs.Prelude.{◌==◌}
 use Rattle.std.specs.List.{AllByRecursion}
 use Rattle.std.proofs.lemmas.Bool.{eq-eqb, eqb-true}
@@ -16,7 +16,7 @@ use Rattle.osi_class.specs.declared.faults.LinkFault.TheVariants.{WrongForm}
 use Rattle.osi_class.specs.declared.terms.Class.{Class}
 use Rattle.osi_class.specs.declared.terms.Class.TheVariants.{Two}
 use Rattle.osi_class.specs.declared.terms.Local.{Local}
-use Rattle.osi_carrier.specs.Orderly.{IsOrderly, RiseFrom}
+use Rattle.osi_carrier.specs.Orderly.{IsOrderly, RiseFrom, AreUpTo}
 use Rattle.osi_carrier.specs.Pump.{pumped}
 use Rattle.osi_carrier.specs.React.{breaks as breaks_in, handed_out, leaves, taking, to_closing, to_connection, to_linked}
 unfoldable use Rattle.osi_carrier.specs.React.{react}
@@ -25,11 +25,11 @@ use Rattle.osi_carrier.specs.State.{State, Connection as Live, asked, closing, l
 use Rattle.osi_carrier.specs.declared.ends.EndReason.{EndReason}
 use Rattle.osi_carrier.proofs.references.rows_after_a_change.{push_other, put_other, without_other}
 use Rattle.osi_carrier.proofs.references.what_a_change_leaves_there.{found as row_here, push_here, put_here, without_here}
+use Rattle.osi_fair.proofs.each_connection_of_a_called_end.{AreAbove, refuses}
 use Rattle.osi_fair.specs.Following.{Follows, link_now}
 use Rattle.osi_fair.specs.Lines.{closes as closes_with}
 use Rattle.osi_fair.specs.Putting.{put_at, put_for, put_linked, put_taking}
 use Rattle.osi_fair.proofs.a_carrier_follows_lines.{put_is, react_is}
-use Rattle.osi_fair.proofs.each_connection_of_a_called_end.{refuses}
 use Rattle.osi_fair.proofs.what_a_called_end_does_to_its_lines.{Leaves, shuts, still}
 use Rattle.osi_fair.proofs.what_a_carrier_puts.{unit_writes}
 use Rattle.osi_fair.proofs.what_is_live_at_a_called_end.{IsLive, shuts_of}
@@ -39,11 +39,11 @@ use Rattle.osi_fair.proofs.what_is_live_at_a_called_end.{IsLive, shuts_of}
 pub record IsCalled (local : Local) (s : State) : Type 0 where
   pub caller : s.is_caller ≡ false
   pub local_is : s.local ≡ local
-  pub zero : local.class0 ≡ false
   pub class : (s.class ≡ None) ⊎ (s.class ≡ Some Two)
   pub orderly : IsOrderly s
   pub none : (m : ℕ) → value_at m s.live ≡ Some asked → ⊥
   pub two : (m q : ℕ) (l : Standing) → value_at m s.live ≡ Some (linked q l) → s.class ≡ Some Two
+  pub none_given : s.class ≡ None → s.given ≡ 0
 
 pub record Same (s t : State) : Type 0 where
   pub caller : t.is_caller ≡ s.is_caller
@@ -56,11 +56,11 @@ pub called_still : (local : Local) (s t : State) → Same s t → IsOrderly t �
 called_still local s t same orderly none two c = record {
   caller = same.caller ∙ c.caller;
   local_is = same.local_is ∙ c.local_is;
-  zero = c.zero;
   class = subst (λ (k : Option Class). (k ≡ None) ⊎ (k ≡ Some Two)) (sym same.class) c.class;
   orderly = orderly;
   none = none;
   two = λ m q l h. same.class ∙ two m q l h;
+  none_given = λ h. same.given ∙ c.none_given (sym same.class ∙ h);
 }
 
 -- ---- what is changed of the live connections
@@ -286,3 +286,20 @@ closing_same n (data0 end user) s = (record { caller = refl; local_is = refl; cl
 closing_same n (data2 destination number end user) s = (record { caller = refl; local_is = refl; class = refl; given = refl }, refl)
 closing_same n (acknowledge credit destination number) s = (record { caller = refl; local_is = refl; class = refl; given = refl }, refl)
 closing_same n (error destination cause) s = (record { caller = refl; local_is = refl; class = refl; given = refl }, refl)
+
+-- ---- references
+
+pub above_up : (given n : ℕ) (vs : List Value) → AreAbove given n vs → n ≤ given
+above_up given n [] h = h
+above_up given n (request x ∷ vs) h = above_up given n vs h
+above_up given n (confirm destination x ∷ vs) (above, h) = let up = above_up given x.source vs h in omega arith
+above_up given n (disconnect destination source reason user ∷ vs) h = above_up given n vs h
+above_up given n (disconnected destination source ∷ vs) h = above_up given n vs h
+above_up given n (data0 end user ∷ vs) h = above_up given n vs h
+above_up given n (data2 destination number end user ∷ vs) h = above_up given n vs h
+above_up given n (acknowledge credit destination number ∷ vs) h = above_up given n vs h
+above_up given n (error destination cause ∷ vs) h = above_up given n vs h
+
+pub rows_none : (given : ℕ) (rows : Rows Live) → given ≡ 0 → RiseFrom 0 rows → AreUpTo given rows → rows ≡ []
+rows_none given [] e rise up = refl
+rows_none given ((r, x) ∷ rows) e (above, rise) (up, more) = absurd (omega arith)

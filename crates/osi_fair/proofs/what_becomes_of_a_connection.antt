@@ -26,8 +26,8 @@ use Rattle.osi_rules.specs.Traffic.{Outcome, State as Traffic, at_found, at_plac
 use Rattle.osi_rules.specs.Traffic.{course_after, course_after_none, found, found_on, half_after, none_told, one_told, reached, route}
 use Rattle.osi_rules.specs.Traffic.{route_in}
 use Rattle.osi_rules.specs.Traffic.{routed, takes, unnamed, unnamed_by, unnamed_told, uses_source}
-use Rattle.osi_fair.proofs.a_unit_of_a_whole_end_passes.{and_first, and_second, differ, left_open, right_there}
-use Rattle.osi_fair.proofs.a_unit_of_a_whole_end_passes.{there_not_silent}
+use Rattle.osi_fair.proofs.no_two_open_connections_have_one_peer.{and_first, and_second, differ, left_open, right_there}
+use Rattle.osi_fair.proofs.no_two_open_connections_have_one_peer.{there_not_silent}
 use Rattle.osi_fair.proofs.class_0_stays_selected.{reached_class}
 use Rattle.osi_fair.proofs.each_connection_has_its_line.{is_tracked}
 use Rattle.osi_fair.proofs.what_keeps_names_apart.{Sound}

@@ -9,7 +9,7 @@ use Rattle.std.proofs.lemmas.List.{append-nil}
 use Rattle.osi_tpdu.specs.Value.{Value, Connect, HasFieldsInRange, request, destination_of}
 use Rattle.osi_class.specs.Link.{Standing}
 use Rattle.osi_class.specs.declared.terms.Class.{Class}
-use Rattle.osi_class.specs.declared.terms.Class.TheVariants.{Two}
+use Rattle.osi_class.specs.declared.terms.Class.TheVariants.{Two, Zero}
 use Rattle.osi_class.specs.declared.terms.Local.{Local}
 use Rattle.osi_carrier.specs.Rows.{value_at}
 use Rattle.osi_carrier.specs.State.{linked}
@@ -37,7 +37,7 @@ use Rattle.osi_fair.proofs.what_keeps_names_apart.{AreApart}
 use Rattle.osi_fair.proofs.which_units_are_for_a_connection.{names}
 use Rattle.osi_fair.proofs.while_no_class_is_selected.{added_there, after_change, set_there}
 use Rattle.osi_fair.proofs.a_unit_comes_to_a_called_end.{calm, for_one_so, is_lost, lasts, row_other, stand_on}
-use Rattle.osi_fair.proofs.which_unit_comes_to_a_called_end.{Came, IsCalm, asks_so, came_so, for_one, lost}
+use Rattle.osi_fair.proofs.which_unit_comes_to_a_called_end.{Came, IsCalm, asks_so, came_so, for_one, lost, only}
 
 -- ---- small facts
 
@@ -82,7 +82,7 @@ all_add P [] v a p = (p, tt)
 all_add P (u ∷ vs) v (one, more) p = (one, all_add P vs v more p)
 
 -- left has closed nothing that right has open, if it has not refused it
-open_over : (p k mine : Phase) → is_open mine ≡ true → is_there p ≡ true → (is_refused k ≡ true → is_refused mine ≡ true) →
+pub open_over : (p k mine : Phase) → is_open mine ≡ true → is_there p ≡ true → (is_refused k ≡ true → is_refused mine ≡ true) →
     (is_closing k ≡ true → is_closing mine ≡ true) → (is_closed k ≡ true → is_closed mine ≡ true) →
     (is_closed p ≡ true → is_closing mine ≡ true) →
     (is_refused p || (is_refused k || (is_closed p || (is_closing p && (is_closing k || is_closed k))))) ≡ true → ⊥
@@ -102,6 +102,10 @@ open_over p k Silent h there a b c d e = cc
 open_over p k Refused h there a b c d e = cc
 open_over p k Closing h there a b c d e = cc
 open_over p k Closed h there a b c d e = cc
+
+not_zero : {A : Type 0} (k : Option Class) → (k ≡ None) ⊎ (k ≡ Some Two) → k ≡ Some Zero → A
+not_zero k (inl e) h = absurd (cc (sym e ∙ h))
+not_zero k (inr e) h = absurd (cc (sym e ∙ h))
 
 -- ---- a CR
 
@@ -278,6 +282,7 @@ module _ (local : Local) (w : Whole) (f : Called local w) (apart : AreApart w.ta
           is = one.is;
           strays_is = one.strays_is;
           given = one.given;
+          positive = one.positive;
           shut_is = one.shut_is;
           none = λ e. one.none (old_ref (f.home one.n) one.n (f.home one.n == p) refl e);
         },
@@ -306,6 +311,7 @@ module _ (local : Local) (w : Whole) (f : Called local w) (apart : AreApart w.ta
             let (a, b, d) = f.beyond i gone in
             (a, asks_other i other ∙ b, λ r h. d r (old_ref i r (i == p) refl h));
         homes = λ i r h. f.homes i r (old_ref i r (i == p) refl h);
+        positive = λ i r h. f.positive i r (old_ref i r (i == p) refl h);
         linked_at = λ lasts r peer l there. linked_case r peer l lasts there (f.home r == p) refl;
         shut_given = f.shut_given;
         strays = strays_more f.shut w.end (λ i. refs i) f.home w.tap.course.strays (takes Left v w.tap).state.course.strays f.tagged
@@ -318,6 +324,8 @@ module _ (local : Local) (w : Whole) (f : Called local w) (apart : AreApart w.ta
         two = λ i c at up. two_case i c (free.item i c (ap (λ (l : List Connection). slice_get l i) (sym free.conns) ∙ at)) up;
         class_seen = subst (λ (k : Option Class). (k ≡ None) ⊎ (k ≡ Some Two)) (sym (ap (λ (k : Course). k.class_seen) course_so))
             f.class_seen;
+        past_two = λ h. f.past_two (sym (ap (λ (k : Course). k.class) course_so) ∙ h);
+        seen_two = λ h. ap (λ (k : Course). k.class) course_so ∙ f.seen_two (sym (ap (λ (k : Course). k.class_seen) course_so) ∙ h);
         some = f.some;
         few = all_add (IsFor w.end.given) w.coming v f.few (λ m e. absurd (cc (sym (ap destination_of v_is) ∙ e)));
         untagged = all_add Untagged f.came (Some p, v) f.untagged (λ h. absurd (cc h));
@@ -335,11 +343,12 @@ module _ (local : Local) (w : Whole) (f : Called local w) (apart : AreApart w.ta
   -- ---- any unit
 
   by_came : Came v w.tap (takes Left v w.tap) → Called local after
-  by_came (asks_so x e is) = by_place x e is (position is_free cs) refl
+  by_came (asks_so x e class kept is) = by_place x e is (position is_free cs) refl
   by_came (for_one n q c dest at named is) = for_one_so local w f apart judged v ranges calm_after n q c dest at named is
+  by_came (only q c at class is) = not_zero w.tap.course.class_seen f.class_seen class
   by_came (lost dc strays same) = is_lost local w f apart judged v ranges calm_after dc strays same
 
   pub comes_so : Called local after
   comes_so =
       let before = calm local w f apart judged v ranges calm_after in
-      by_came (came_so v w.tap judged before.left before.firm before.right f.class_seen calm_after)
+      by_came (came_so v w.tap judged before.left before.firm before.right calm_after)

@@ -18,7 +18,7 @@ use Rattle.osi_rules.specs.declared.findings.Rule.{Rule}
 use Rattle.osi_rules.specs.declared.findings.Rule.TheVariants as rule
 use Rattle.osi_rules.specs.Reaches.{is_of_connection, passes_over, reach_by, reach_of, reach_past}
 use Rattle.osi_rules.specs.Rows.{first_failed}
-use Rattle.osi_rules.specs.Sides.{is_free, is_named, is_over, uses}
+use Rattle.osi_rules.specs.Sides.{is_live, is_free, is_named, is_over, uses}
 use Rattle.osi_rules.specs.Traffic.{Outcome, State as Traffic, asks_by, asks_kept, asks_of, at_found, at_place, course_after_none}
 use Rattle.osi_rules.specs.Traffic.{has_place, is_not_judged, is_stopped, none_told, one_told, reached, request_tests, route, route_in}
 use Rattle.osi_rules.specs.Traffic.{routed, takes, unnamed, unnamed_by, unnamed_told}
@@ -80,9 +80,13 @@ calm_reach j k (Broke r) c h = past_by (passes_over r) j k r c refl h
 -- ---- which unit it is
 
 pub data Came (v : Value) (s : Traffic) (o : Outcome) : Type 0 where
-  asks_so : (x : Connect) → v ≡ request x → o ≡ asks_kept x s (position is_free s.connections) → Came v s o
+  asks_so : (x : Connect) → v ≡ request x → (s.course.class_seen ≡ Some Zero → ⊥) → first_failed (request_tests s x) ≡ Kept →
+      o ≡ asks_kept x s (position is_free s.connections) → Came v s o
   for_one : (n q : ℕ) (c : Connection) → destination_of v ≡ Some n → slice_get s.connections q ≡ Some c → is_named Left n c ≡ true →
       o ≡ one_told Left q c v s → Came v s o
+  -- class 0 has one connection
+  only : (q : ℕ) (c : Connection) → slice_get s.connections q ≡ Some c → s.course.class_seen ≡ Some Zero → o ≡ one_told Left q c v s →
+      Came v s o
   lost : IsDc v → s.course.strays ≡ true → o.state ≡ s → Came v s o
 
 -- the tests of a CR
@@ -123,21 +127,22 @@ module _ (v : Value) (s : Traffic) (judged : HoldsOfEach IsJudged s.connections)
       IsCalm (none_told Left f s).state.course → A
   none_calm f h k = absurd (h s.course.class_seen s.course k)
 
-  asks_by_case : (x : Connect) → v ≡ request x → ((first_failed (request_tests s x)) ≡ Kept)
+  asks_by_case : (x : Connect) → v ≡ request x → (s.course.class_seen ≡ Some Zero → ⊥) → ((first_failed (request_tests s x)) ≡ Kept)
       ⊎ (((k : Option Class) (course : Course) → IsCalm (reached Left (reach_of k (first_failed (request_tests s x))) course) → ⊥)
       × (first_failed (request_tests s x) ≡ NotJudged → ⊥)) → Comes (asks_by Left (first_failed (request_tests s x)) x s)
-  asks_by_case x e (inl kept) h = asks_so x e (ap (λ (f : Finding). asks_by Left f x s) kept)
-  asks_by_case x e (inr (wrong, judges)) h =
+  asks_by_case x e class (inl kept) h = asks_so x e class kept (ap (λ (f : Finding). asks_by Left f x s) kept)
+  asks_by_case x e class (inr (wrong, judges)) h =
       none_calm (first_failed (request_tests s x)) wrong
       (subst (λ (o : Outcome). IsCalm o.state.course) (not_kept x s (first_failed (request_tests s x))
       (λ kept. wrong None s.course (subst (λ (f : Finding). IsCalm (reached Left (reach_of None f) s.course)) (sym kept)
       (record { firm = firm; left = left; right = right })))) h)
 
-  asks_came : (x : Connect) → v ≡ request x → Comes (asks_by Left (first_failed (request_tests s x)) x s)
-  asks_came x e h =
+  asks_came : (x : Connect) → v ≡ request x → (s.course.class_seen ≡ Some Zero → ⊥) →
+      Comes (asks_by Left (first_failed (request_tests s x)) x s)
+  asks_came x e class h =
       let b : not (list_any (is_not_judged x.source) s.connections) ≡ true = ap not (any_none (is_not_judged x.source) s.connections
       (λ i c at. not_judged_not c.is_judged (c.left.reference == x.source) (judged i c at))) in
-      asks_by_case x e (request_by (is_some s.course.class_seen || list_all (is_over Left) s.connections)
+      asks_by_case x e class (request_by (is_some s.course.class_seen || list_all (is_over Left) s.connections)
       (not (list_any (is_not_judged x.source) s.connections)) (not (list_any (uses Left x.source) s.connections))
       (has_place s.connections) b
       (first_failed (request_tests s x)) refl) h
@@ -207,11 +212,33 @@ module _ (v : Value) (s : Traffic) (judged : HoldsOfEach IsJudged s.connections)
   wrong : (r : Rule) → passes_over r ≡ false → Comes (none_told Left (Broke r) s)
   wrong r e h = bad s.course.class_seen r s.course e h
 
-  routes : (k : Option Class) → (k ≡ None) ⊎ (k ≡ Some Two) → (w : Value) → v ≡ w →
+  at_live : (q : ℕ) (o : Option Connection) → slice_get s.connections q ≡ o → s.course.class_seen ≡ Some Zero →
+      Comes (at_found Left v s q o)
+  at_live q None e zero h = unnamed_came h
+  at_live q (Some c) e zero h = only q c e zero refl
+
+  at_only : (o : Option ℕ) → s.course.class_seen ≡ Some Zero → Comes (at_place Left v s o)
+  at_only None zero h = unnamed_came h
+  at_only (Some q) zero h = at_live q (slice_get s.connections q) refl zero h
+
+  error_wrong : (destination cause : ℕ) → Comes (routed Left v s (route_in (Some Zero) Left (is_stopped Right s.course)
+      (error destination cause)))
+  error_wrong destination cause =
+      subst (λ (stopped : Bool). Comes (routed Left v s (route_in (Some Zero) Left stopped (error destination cause)))) (sym right)
+      (wrong rule.WrongForm refl)
+
+  routes : (k : Option Class) → s.course.class_seen ≡ k → (w : Value) → v ≡ w →
       Comes (routed Left v s (route_in k Left (is_stopped Right s.course) w))
-  routes (Some Zero) (inl h) w e = absurd (cc h)
-  routes (Some Zero) (inr h) w e = absurd (cc h)
-  routes None h (request x) e = subst (λ (u : Value). Comes (asks_of Left u s)) (sym e) (asks_came x e)
+  routes (Some Zero) h (request x) e = wrong rule.OneConnection refl
+  routes (Some Zero) h (confirm destination x) e = wrong rule.WrongForm refl
+  routes (Some Zero) h (disconnect destination source reason user) e = wrong rule.WrongForm refl
+  routes (Some Zero) h (disconnected destination source) e =
+      at_name destination (position (is_named Left destination) s.connections) refl (ap destination_of e)
+  routes (Some Zero) h (data0 end user) e = at_only (position (is_live Left) s.connections) h
+  routes (Some Zero) h (data2 destination number end user) e = wrong rule.WrongForm refl
+  routes (Some Zero) h (acknowledge credit destination number) e = wrong rule.WrongForm refl
+  routes (Some Zero) h (error destination cause) e = error_wrong destination cause
+  routes None h (request x) e = subst (λ (u : Value). Comes (asks_of Left u s)) (sym e) (asks_came x e (λ zero. cc (sym h ∙ zero)))
   routes None h (confirm destination x) e = wrong rule.UnexpectedUnit refl
   routes None h (disconnect destination source reason user) e = wrong rule.UnexpectedUnit refl
   routes None h (disconnected destination source) e =
@@ -220,7 +247,7 @@ module _ (v : Value) (s : Traffic) (judged : HoldsOfEach IsJudged s.connections)
   routes None h (data2 destination number end user) e = wrong rule.UnexpectedUnit refl
   routes None h (acknowledge credit destination number) e = wrong rule.UnexpectedUnit refl
   routes None h (error destination cause) e = wrong rule.UnexpectedUnit refl
-  routes (Some Two) h (request x) e = subst (λ (u : Value). Comes (asks_of Left u s)) (sym e) (asks_came x e)
+  routes (Some Two) h (request x) e = subst (λ (u : Value). Comes (asks_of Left u s)) (sym e) (asks_came x e (λ zero. cc (sym h ∙ zero)))
   routes (Some Two) h (confirm destination x) e =
       at_name destination (position (is_named Left destination) s.connections) refl (ap destination_of e)
   routes (Some Two) h (disconnect destination source reason user) e =
@@ -235,6 +262,6 @@ module _ (v : Value) (s : Traffic) (judged : HoldsOfEach IsJudged s.connections)
   routes (Some Two) h (error destination cause) e =
       at_name destination (position (is_named Left destination) s.connections) refl (ap destination_of e)
 
-  pub came_so : (s.course.class_seen ≡ None) ⊎ (s.course.class_seen ≡ Some Two) → Comes (takes Left v s)
-  came_so h = subst Comes (sym (ap (λ (b : Bool). if b then none_told Left NotJudged s else routed Left v s (route Left s.course v)) left))
-      (routes s.course.class_seen h v refl)
+  pub came_so : Comes (takes Left v s)
+  came_so = subst Comes (sym (ap (λ (b : Bool). if b then none_told Left NotJudged s else routed Left v s (route Left s.course v)) left))
+      (routes s.course.class_seen refl v refl)

@@ -52,30 +52,26 @@ picked_join f [] ys = refl
 picked_join f (x ∷ xs) ys =
     ap (λ (l : List Value). keep (f x) x l) (picked_join f xs ys) ∙ keep_join (f x) x (picked f xs) (picked f ys)
 
-pub first_kept : (f : Value → Bool) (v : Value) (vs : List Value) → f v ≡ true → picked f (v ∷ vs) ≡ v ∷ picked f vs
-first_kept f v vs e = ap (λ (b : Bool). keep b v (picked f vs)) e
+pub picked_first : (f : Value → Bool) (v : Value) (vs : List Value) → f v ≡ true → picked f (v ∷ vs) ≡ v ∷ picked f vs
+picked_first f v vs e = ap (λ (b : Bool). keep b v (picked f vs)) e
 
-pub first_left : (f : Value → Bool) (v : Value) (vs : List Value) → f v ≡ false → picked f (v ∷ vs) ≡ picked f vs
-first_left f v vs e = ap (λ (b : Bool). keep b v (picked f vs)) e
-
-pub picked_all : (f : Value → Bool) (units : List Value) → AllByRecursion (λ (v : Value). f v ≡ true) units → picked f units ≡ units
-picked_all f [] h = refl
-picked_all f (v ∷ vs) (one, more) = first_kept f v vs one ∙ ap (λ (l : List Value). v ∷ l) (picked_all f vs more)
+pub picked_rest : (f : Value → Bool) (v : Value) (vs : List Value) → f v ≡ false → picked f (v ∷ vs) ≡ picked f vs
+picked_rest f v vs e = ap (λ (b : Bool). keep b v (picked f vs)) e
 
 pub picked_none : (f : Value → Bool) (units : List Value) → AllByRecursion (λ (v : Value). f v ≡ false) units → picked f units ≡ []
 picked_none f [] h = refl
-picked_none f (v ∷ vs) (one, more) = first_left f v vs one ∙ picked_none f vs more
+picked_none f (v ∷ vs) (one, more) = picked_rest f v vs one ∙ picked_none f vs more
 
 pub leads_none : (f : Value → Bool) (units : List Value) → AllByRecursion (λ (v : Value). f v ≡ false) units → leads f units ≡ false
 leads_none f [] h = refl
 leads_none f (v ∷ vs) (one, more) = one
 
 -- one more
-pub one_more : (f : Value → Bool) (units : List Value) (v : Value) → f v ≡ true → picked f (units ++ v ∷ []) ≡ picked f units ++ v ∷ []
-one_more f units v e = picked_join f units (v ∷ []) ∙ ap (λ (l : List Value). picked f units ++ l) (first_kept f v [] e)
+pub picked_more : (f : Value → Bool) (units : List Value) (v : Value) → f v ≡ true → picked f (units ++ v ∷ []) ≡ picked f units ++ v ∷ []
+picked_more f units v e = picked_join f units (v ∷ []) ∙ ap (λ (l : List Value). picked f units ++ l) (picked_first f v [] e)
 
-pub one_other : (f : Value → Bool) (units : List Value) (v : Value) → f v ≡ false → picked f (units ++ v ∷ []) ≡ picked f units
-one_other f units v e = picked_join f units (v ∷ []) ∙ ap (λ (l : List Value). picked f units ++ l) (first_left f v [] e)
+pub picked_other : (f : Value → Bool) (units : List Value) (v : Value) → f v ≡ false → picked f (units ++ v ∷ []) ≡ picked f units
+picked_other f units v e = picked_join f units (v ∷ []) ∙ ap (λ (l : List Value). picked f units ++ l) (picked_rest f v [] e)
     ∙ append-nil (picked f units)
 
 -- what holds of all that are picked
@@ -105,7 +101,24 @@ no_list v vs e = cc
 
 pub some_picked : (f : Value → Bool) (units : List Value) → leads f units ≡ true → picked f units ≢ []
 some_picked f [] h = absurd (cc h)
-some_picked f (v ∷ vs) h = λ e. no_list v (picked f vs) (sym (first_kept f v vs h) ∙ e)
+some_picked f (v ∷ vs) h = λ e. no_list v (picked f vs) (sym (picked_first f v vs h) ∙ e)
+
+-- ---- the units that name a reference
+
+pub those_join : (n : ℕ) (xs ys : List Value) → those n (xs ++ ys) ≡ those n xs ++ those n ys
+those_join n xs ys = picked_join (names n) xs ys
+
+pub first_kept : (n : ℕ) (v : Value) (vs : List Value) → names n v ≡ true → those n (v ∷ vs) ≡ v ∷ those n vs
+first_kept n v vs e = picked_first (names n) v vs e
+
+pub first_left : (n : ℕ) (v : Value) (vs : List Value) → names n v ≡ false → those n (v ∷ vs) ≡ those n vs
+first_left n v vs e = picked_rest (names n) v vs e
+
+pub one_more : (n : ℕ) (units : List Value) (v : Value) → names n v ≡ true → those n (units ++ v ∷ []) ≡ those n units ++ v ∷ []
+one_more n units v e = picked_more (names n) units v e
+
+abbrev pub AllNamed : ℕ → List Value → Type 0
+AllNamed n units = AllByRecursion (λ (v : Value). destination_of v ≡ Some n) units
 
 -- ---- the units of a connection of the end
 
@@ -196,13 +209,13 @@ dc_not_ours r peer d s other = second_not (d == peer) (s == r) (unlike s r (s ==
 pub all_ours : (r peer : ℕ) (units : List Value) → AllOurs r peer units → ours r peer units ≡ units
 all_ours r peer [] h = refl
 all_ours r peer (v ∷ vs) (one, more) =
-    first_kept (is_ours r peer) v vs (ours_so r peer v one) ∙ ap (λ (l : List Value). v ∷ l) (all_ours r peer vs more)
+    picked_first (is_ours r peer) v vs (ours_so r peer v one) ∙ ap (λ (l : List Value). v ∷ l) (all_ours r peer vs more)
 
 -- units of a connection to which the other side gave another reference
 pub none_ours : (r q m peer : ℕ) (units : List Value) → (m ≡ peer → ⊥) → AllOurs q m units → ours r peer units ≡ []
 none_ours r q m peer [] other h = refl
 none_ours r q m peer (v ∷ vs) other (one, more) =
-    first_left (is_ours r peer) v vs (ours_not r m peer v other one.named) ∙ none_ours r q m peer vs other more
+    picked_rest (is_ours r peer) v vs (ours_not r m peer v other one.named) ∙ none_ours r q m peer vs other more
 
 -- ---- the units that a line has put
 
@@ -237,6 +250,13 @@ puts_at r peer limit x mine theirs put (Some link) (puts, so) =
 
 pub line_ours : (r peer : ℕ) (line : Line) → Holds r peer line → AllOurs r peer line.put
 line_ours r peer line h = puts_at r peer h.limit h.tally line.tap.left line.tap.right line.put line.link h.puts
+
+all_named : (r peer : ℕ) (units : List Value) → AllOurs r peer units → AllNamed peer units
+all_named r peer [] h = tt
+all_named r peer (v ∷ vs) (one, more) = (one.named, all_named r peer vs more)
+
+pub line_named : (r peer : ℕ) (line : Line) → Holds r peer line → AllNamed peer line.put
+line_named r peer line h = all_named r peer line.put (line_ours r peer line h)
 
 pub last_ours : (r peer : ℕ) (xs ys : List Value) → AllOurs r peer (xs ++ ys) → AllOurs r peer ys
 last_ours r peer [] ys h = h

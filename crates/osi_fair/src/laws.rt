@@ -282,18 +282,17 @@ pub fn a_calling_end_is_fair()
         ⊎ (((takes Direction.Left unit w.tap).told.finding ≡ Finding.NotJudged) × (w.tap.course.strays ≡ true))) }
 {}
 
-/// A whole called end is fair. Take any run of an end that doesn't offer class 0: any calls of its user, whatever units the other
-/// side sends, however many connections, memory that runs out at any time, and a tap anywhere between the two ends. Then each
-/// unit of the end that passes is right, or nothing is found of it: a CC, a DR that refuses a CR, what it puts on an open
-/// connection, and a DC for a DR that closed nothing. This holds as long as both sides are judged and no connection has lost its
-/// judgement, because the other side broke a rule.
+/// A whole called end is fair. Take any run of it, whatever classes it offers: any calls of its user, whatever units the other side
+/// sends, however many connections, memory that runs out at any time, and a tap anywhere between the two ends. Then each unit of
+/// the end that passes is right: a CC, a DR that refuses a CR, and what it puts on an open connection of either class; or it is a
+/// DC that is not judged, since a DR has passed that closed nothing. This holds as long as the other side is judged, and no
+/// connection has lost its judgement because that side broke a rule.
 pub fn a_called_end_is_fair()
     ensures { (local : Local) (events : List Event) (w : Whole) (unit : Value) (rest : List Value) →
-        local.class0 ≡ false → HappenAlong Direction.Right (begin false local) events w → w.begun ≡ true →
-        w.put ≡ unit ∷ rest → is_stopped Direction.Left w.tap.course ≡ false →
-        is_stopped Direction.Right w.tap.course ≡ false → w.tap.course.loose ≡ false →
+        HappenAlong Direction.Right (begin false local) events w → w.begun ≡ true → w.put ≡ unit ∷ rest →
+        is_stopped Direction.Left w.tap.course ≡ false → w.tap.course.loose ≡ false →
         ((takes Direction.Right unit w.tap).told.finding ≡ Finding.Kept)
-        ⊎ ((takes Direction.Right unit w.tap).told.finding ≡ Finding.NotJudged) }
+        ⊎ (((takes Direction.Right unit w.tap).told.finding ≡ Finding.NotJudged) × (w.tap.course.strays ≡ true)) }
 {}
 
 /// What a carrier does with a packet, with or without enough memory, is events of its whole end: the units of the packet arrive

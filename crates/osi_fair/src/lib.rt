@@ -40,17 +40,19 @@
 //!   reference which is gone closed nothing at the tap, so the DC with which it answers is not blamed:
 //!   [`laws::a_dr_for_what_is_gone_closed_nothing`]. And no unit of it that passes is blamed, of whatever connection, until the
 //!   other side breaks a rule: [`laws::a_calling_end_is_fair`]. That holds too if it offers class 0, until a CC selects that.
-//!   There each connection that is open at the tap has its line, and each line its place. What a carrier does with a packet,
-//!   with or without enough memory, and what its user does, is such events: [`laws::a_packet_is_events`].
-//! - **A whole called end** that doesn't offer class 0 is fair: [`laws::a_called_end_is_fair`]. Each unit that it puts has the place
-//!   of a connection at the tap, whose CR it answers or whose line it is of.
+//!   There each connection that is open at the tap has its line, and each line its place. What a carrier does with a packet, with
+//!   or without enough memory, and what its user does, is such events: [`laws::a_packet_is_events`].
 //! - **A DC for a DR that closed nothing** has for its DST-REF whatever SRC-REF that DR had, maybe that of another open connection.
 //!   The rules don't take it for the answer on that connection, since its SRC-REF is not the reference that the end gave there:
-//!   references rise, so the one that is gone is given to no later connection, and the unit that closed it passes first. And a
-//!   DC of the other side that answers nothing is not judged either: the line of its connection takes it, and closes.
+//!   references rise, so the one that is gone is given to no later connection. And a DC of the other side that answers nothing is
+//!   not judged either: the line of its connection takes it, and closes.
+//! - **A whole called end** is fair, whatever classes it offers and whatever DRs pass: [`laws::a_called_end_is_fair`]. Each unit that
+//!   it puts in class 2 has the place of a connection at the tap, whose CR it answers or whose line it is of. A DC for a DR that
+//!   closed nothing has none, and is not taken for the answer on another connection: its SRC-REF is a reference that the end has
+//!   closed, and the unit which closed that one passes first. In class 0 it puts DTs alone.
 //!
-//! What is not here: the same of a called end that offers class 0 too, and of an end in class 0; and the way from packets to pieces of
-//! octets. So the theorem on a whole end of class 2, as `osi_honest` has it for class 0, doesn't follow yet.
+//! What is not here: a calling end once class 0 is selected; and the way from packets to pieces of octets. So the theorem on a
+//! whole end of class 2, as `osi_honest` has it for class 0, doesn't follow yet.
 #![tactic(auto)]
 
 pub mod laws;

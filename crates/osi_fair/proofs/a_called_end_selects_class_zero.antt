@@ -1,0 +1,222 @@
+-- A whole called end selects class 0: what holds until its CC has passed and after that, as the end goes on and packets begin.
+-- For the law on a whole called end.
+use Rattle.std.proofs.Common.{◌≡◌, ◌∙◌, ◌≤◌, ◌+◌, ◌-◌, ℕ, zero, suc, Bool, true, List, [], ◌∷◌, ◌++◌, map, refl, sym, ap, subst, IfSome}
+use Rattle.std.proofs.Common.{Option, Some, None, inr, ◌⊎◌}
+use Rattle.std.specs.Prelude.{slice_get}
+use Rattle.osi_tpdu.specs.Value.{Value, Connect, confirm}
+use Rattle.osi_class.specs.Negotiation.{accept, selected_by}
+use Rattle.osi_class.specs.declared.terms.Class.TheVariants.{Zero}
+use Rattle.osi_class.specs.declared.terms.Local.{Local}
+use Rattle.osi_carrier.specs.Negotiation.{acceptance, unit_octets}
+use Rattle.osi_carrier.specs.React.{react}
+use Rattle.osi_carrier.specs.Runs.{UserCall, user_does}
+use Rattle.osi_rules.specs.declared.connections.Connection.{Connection}
+use Rattle.osi_rules.specs.declared.directions.Direction.{Direction}
+use Rattle.osi_rules.specs.declared.directions.Direction.TheVariants.{Left, Right}
+use Rattle.osi_rules.specs.declared.halves.Half.{Half}
+use Rattle.osi_rules.specs.Sides.{begins, is_open, is_refused}
+use Rattle.osi_rules.specs.Traffic.{State as Traffic, packet_begins, takes}
+use Rattle.osi_fair.specs.Putting.{put_by, put_for}
+use Rattle.osi_fair.specs.Wholes.{MayCall, Whole}
+use Rattle.osi_fair.proofs.each_connection_of_a_called_end.{Asked}
+use Rattle.osi_fair.proofs.what_a_called_end_does_in_class_zero.{IsInZero, zero_calls, zero_takes}
+use Rattle.osi_fair.proofs.what_holds_of_a_line.{is_there}
+use Rattle.osi_fair.proofs.what_holds_of_one_item.{after_map}
+
+-- ---- what holds
+
+-- the CC has been put
+pub record Selecting (local : Local) (w : Whole) : Type 0 where
+  pub x : Connect
+  pub size : Option ℕ
+  pub r : ℕ
+  pub p : ℕ
+  pub c : Connection
+  pub at : slice_get w.tap.connections p ≡ Some c
+  pub asked : Asked x c
+  pub selected : selected_by x local ≡ accept Zero size
+  pub more : List Value
+  pub put : w.put ≡ confirm x.source (acceptance Zero size x local r) ∷ more
+  pub seen : w.begun ≡ true → c.seen_by_right ≡ c.left
+  pub class : w.tap.course.class ≡ None
+  pub class_seen : w.tap.course.class_seen ≡ None
+  pub unused : (i : ℕ) (e : Connection) → slice_get w.tap.connections i ≡ Some e → e.right.reference ≡ r → ⊥
+  pub others : (i : ℕ) (e : Connection) → slice_get w.tap.connections i ≡ Some e → (i ≡ p → ⊥) → is_refused e.right.phase ≡ true
+  pub end : IsInZero (unit_octets size - 3) w.end 0 more
+
+-- it has passed
+pub record Selected (w : Whole) : Type 0 where
+  pub p : ℕ
+  pub c : Connection
+  pub limit : ℕ
+  pub at : slice_get w.tap.connections p ≡ Some c
+  pub up : is_open c.right.phase ≡ true
+  pub there : is_there c.left.phase ≡ true
+  pub class : w.tap.course.class ≡ Some Zero
+  pub class_seen : (w.tap.course.class_seen ≡ None) ⊎ (w.tap.course.class_seen ≡ Some Zero)
+  pub fits : IfSome c.size (λ most. limit + 3 ≤ most)
+  pub others : (i : ℕ) (e : Connection) → slice_get w.tap.connections i ≡ Some e → (i ≡ p → ⊥) → is_refused e.right.phase ≡ true
+  pub end : IsInZero limit w.end c.right.begun w.put
+
+-- ---- small facts
+
+item_is : {X : Type 0} (x y : X) (o : Option X) → o ≡ Some x → o ≡ Some y → x ≡ y
+item_is x y o h k = cc
+
+-- ---- the end takes a unit, and its user makes a call
+
+pub selecting_takes : (local : Local) (w : Whole) (u : Value) (later : List Value) → Selecting local w →
+    Selecting local (record w { end = react u w.end; put = w.put ++ put_for u w.end; coming = later })
+selecting_takes local w u later f = record {
+  x = f.x;
+  size = f.size;
+  r = f.r;
+  p = f.p;
+  c = f.c;
+  at = f.at;
+  asked = f.asked;
+  selected = f.selected;
+  more = f.more ++ put_for u w.end;
+  put = ap (λ (l : List Value). l ++ put_for u w.end) f.put;
+  seen = f.seen;
+  class = f.class;
+  class_seen = f.class_seen;
+  unused = f.unused;
+  others = f.others;
+  end = zero_takes (unit_octets f.size - 3) w.end 0 f.more f.end u;
+}
+
+pub selecting_calls : (local : Local) (w : Whole) (call : UserCall) → MayCall call w.end → Selecting local w →
+    Selecting local (record w { end = user_does call w.end; put = w.put ++ put_by call w.end })
+selecting_calls local w call may f = record {
+  x = f.x;
+  size = f.size;
+  r = f.r;
+  p = f.p;
+  c = f.c;
+  at = f.at;
+  asked = f.asked;
+  selected = f.selected;
+  more = f.more ++ put_by call w.end;
+  put = ap (λ (l : List Value). l ++ put_by call w.end) f.put;
+  seen = f.seen;
+  class = f.class;
+  class_seen = f.class_seen;
+  unused = f.unused;
+  others = f.others;
+  end = zero_calls (unit_octets f.size - 3) w.end 0 f.more call f.end may;
+}
+
+pub selected_takes : (w : Whole) (u : Value) (later : List Value) → Selected w →
+    Selected (record w { end = react u w.end; put = w.put ++ put_for u w.end; coming = later })
+selected_takes w u later f = record {
+  p = f.p;
+  c = f.c;
+  limit = f.limit;
+  at = f.at;
+  up = f.up;
+  there = f.there;
+  class = f.class;
+  class_seen = f.class_seen;
+  fits = f.fits;
+  others = f.others;
+  end = zero_takes f.limit w.end f.c.right.begun w.put f.end u;
+}
+
+pub selected_calls : (w : Whole) (call : UserCall) → MayCall call w.end → Selected w →
+    Selected (record w { end = user_does call w.end; put = w.put ++ put_by call w.end })
+selected_calls w call may f = record {
+  p = f.p;
+  c = f.c;
+  limit = f.limit;
+  at = f.at;
+  up = f.up;
+  there = f.there;
+  class = f.class;
+  class_seen = f.class_seen;
+  fits = f.fits;
+  others = f.others;
+  end = zero_calls f.limit w.end f.c.right.begun w.put call f.end may;
+}
+
+-- ---- a packet begins
+
+begun_right : (d : Direction) (c : Connection) → (begins d c).right ≡ c.right
+begun_right Left c = refl
+begun_right Right c = refl
+
+begun_left : (d : Direction) (c : Connection) → (begins d c).left ≡ c.left
+begun_left Left c = refl
+begun_left Right c = refl
+
+begun_size : (d : Direction) (c : Connection) → (begins d c).size ≡ c.size
+begun_size Left c = refl
+begun_size Right c = refl
+
+course_class : (d : Direction) (s : Traffic) → (packet_begins d s).course.class ≡ s.course.class
+course_class Left s = refl
+course_class Right s = refl
+
+seen_none : (d : Direction) (s : Traffic) → s.course.class ≡ None → s.course.class_seen ≡ None →
+    (packet_begins d s).course.class_seen ≡ None
+seen_none Left s a b = a
+seen_none Right s a b = b
+
+seen_zero : (d : Direction) (s : Traffic) → s.course.class ≡ Some Zero → (s.course.class_seen ≡ None) ⊎ (s.course.class_seen ≡ Some Zero) →
+    ((packet_begins d s).course.class_seen ≡ None) ⊎ ((packet_begins d s).course.class_seen ≡ Some Zero)
+seen_zero Left s a b = inr a
+seen_zero Right s a b = b
+
+mapped : (d : Direction) (cs : List Connection) (p : ℕ) (c : Connection) → slice_get cs p ≡ Some c →
+    slice_get (map (begins d) cs) p ≡ Some (begins d c)
+mapped d [] p c h = absurd (cc)
+mapped d (x ∷ cs) zero c h = ap (λ (e : Connection). Some (begins d e)) (item_is x c (Some x) refl h)
+mapped d (x ∷ cs) (suc p) c h = mapped d cs p c h
+
+asked_begins : (d : Direction) (x : Connect) (c : Connection) → Asked x c → Asked x (begins d c)
+asked_begins Left x c a = record { range = a.range; offer = a.offer; left = a.left; right = a.right; known = a.right }
+asked_begins Right x c a = record { range = a.range; offer = a.offer; left = a.left; right = a.right; known = a.known }
+
+pub selecting_begins : (local : Local) (d : Direction) (w : Whole) (b : Bool) →
+    ((c : Connection) → (w.begun ≡ true → c.seen_by_right ≡ c.left) →
+    b ≡ true → (begins d c).seen_by_right ≡ (begins d c).left) → Selecting local w →
+    Selecting local (record w { begun = b; tap = packet_begins d w.tap })
+selecting_begins local d w b seen f = record {
+  x = f.x;
+  size = f.size;
+  r = f.r;
+  p = f.p;
+  c = begins d f.c;
+  at = mapped d w.tap.connections f.p f.c f.at;
+  asked = asked_begins d f.x f.c f.asked;
+  selected = f.selected;
+  more = f.more;
+  put = f.put;
+  seen = seen f.c f.seen;
+  class = course_class d w.tap ∙ f.class;
+  class_seen = seen_none d w.tap f.class f.class_seen;
+  unused = λ i e at same.
+      let (x, was, is) = after_map (begins d) w.tap.connections i e at in
+      f.unused i x was (ap (λ (h : Half). h.reference) (sym (ap (λ (y : Connection). y.right) is ∙ begun_right d x)) ∙ same);
+  others = λ i e at other.
+      let (x, was, is) = after_map (begins d) w.tap.connections i e at in
+      ap (λ (h : Half). is_refused h.phase) (ap (λ (y : Connection). y.right) is ∙ begun_right d x) ∙ f.others i x was other;
+  end = f.end;
+}
+
+pub selected_begins : (d : Direction) (w : Whole) (b : Bool) → Selected w → Selected (record w { begun = b; tap = packet_begins d w.tap })
+selected_begins d w b f = record {
+  p = f.p;
+  c = begins d f.c;
+  limit = f.limit;
+  at = mapped d w.tap.connections f.p f.c f.at;
+  up = ap (λ (h : Half). is_open h.phase) (begun_right d f.c) ∙ f.up;
+  there = ap (λ (h : Half). is_there h.phase) (begun_left d f.c) ∙ f.there;
+  class = course_class d w.tap ∙ f.class;
+  class_seen = seen_zero d w.tap f.class f.class_seen;
+  fits = subst (λ (o : Option ℕ). IfSome o (λ most. f.limit + 3 ≤ most)) (sym (begun_size d f.c)) f.fits;
+  others = λ i e at other.
+      let (x, was, is) = after_map (begins d) w.tap.connections i e at in
+      ap (λ (h : Half). is_refused h.phase) (ap (λ (y : Connection). y.right) is ∙ begun_right d x) ∙ f.others i x was other;
+  end = subst (λ (h : Half). IsInZero f.limit w.end h.begun w.put) (sym (begun_right d f.c)) f.end;
+}

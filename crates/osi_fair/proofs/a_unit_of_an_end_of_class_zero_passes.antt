@@ -1,0 +1,330 @@
+-- A unit passes of a called end that has selected class 0: the CC, or a DT. Each is right.
+-- For the law on a whole called end.
+use Rattle.std.proofs.Common.{◌≡◌, ◌∙◌, ◌≤◌, ◌+◌, ◌-◌, ◌^◌, ℕ, Bool, true, false, List, ◌∷◌, set, refl, sym, ap, subst, arith, length}
+use Rattle.std.proofs.Common.{option_map, IfSome, Option, Some, None, inl, inr, ◌⊎◌, if◌then◌else◌}
+use Rattle.std.specs.Prelude.{◌&&◌, ◌||◌, ◌==◌, not, min, position, slice_get}
+use Rattle.std.specs.List.{list_any, position_or_len}
+use Rattle.std.proofs.Math.Nat.{pow-le-pow_right}
+use Rattle.std.proofs.lemmas.Bool.{eq-eqb, eqb-true, le-leb}
+use Rattle.osi_tpdu.specs.Limits.{size_code}
+use Rattle.osi_tpdu.specs.Value.{Value, Connect, request, confirm, disconnect, disconnected, data0, data2, acknowledge, error}
+use Rattle.osi_class.specs.Limits.{longest_tsdu}
+use Rattle.osi_class.specs.Negotiation.{accept, keeps_flow_control, proposes, proposes_zero_alone, refuse, selected_by, selected_size}
+use Rattle.osi_class.specs.declared.terms.Class.{Class}
+use Rattle.osi_class.specs.declared.terms.Class.TheVariants.{Two, Zero}
+use Rattle.osi_class.specs.declared.terms.Local.{Local}
+use Rattle.osi_carrier.specs.Negotiation.{acceptance, unit_octets}
+use Rattle.osi_rules.specs.declared.connections.Connection.{Connection}
+use Rattle.osi_rules.specs.declared.courses.Course.{Course}
+use Rattle.osi_rules.specs.declared.directions.Direction.TheVariants.{Left, Right}
+use Rattle.osi_rules.specs.declared.findings.Finding.{Finding}
+use Rattle.osi_rules.specs.declared.findings.Finding.TheVariants.{Kept, NotJudged}
+use Rattle.osi_rules.specs.declared.halves.Half.{Half}
+use Rattle.osi_rules.specs.declared.halves.Phase.{Phase}
+use Rattle.osi_rules.specs.declared.halves.Phase.TheVariants.{Silent, Open, Refused, Closing, Closed}
+use Rattle.osi_rules.specs.declared.routes.Route.TheVariants.{Named}
+use Rattle.osi_rules.specs.Reaches.{is_applied, reach_of}
+use Rattle.osi_rules.specs.Rows.{data0_tests, fits_size}
+use Rattle.osi_rules.specs.Sides.{is_closed, is_closing, is_live, is_named, is_open, is_over, is_over_by, is_refused, is_silent, uses}
+use Rattle.osi_rules.specs.Traffic.{Outcome, at_found, at_place, begun_after, connection_after, course_after, found, found_on, is_stopped}
+use Rattle.osi_rules.specs.Traffic.{none_told, one_told, reached, route, route_in, routed, sent_on, silent_half, takes, uses_source}
+use Rattle.osi_fair.specs.Lines.{opened_half}
+use Rattle.osi_fair.specs.Wholes.{Whole}
+use Rattle.osi_fair.proofs.a_right_unit_is_not_blamed.{first_there, is_first}
+use Rattle.osi_fair.proofs.all_are_judged_unless_one_broke.{IsJudged}
+use Rattle.osi_fair.proofs.each_connection_of_a_called_end.{Asked}
+use Rattle.osi_fair.proofs.how_a_connection_opens.{zero_right}
+use Rattle.osi_fair.proofs.how_a_unit_of_right_passes.{and_false, any_none, conns_kept, course_kept, differ, finding_kept, is_both}
+use Rattle.osi_fair.proofs.how_a_unit_of_right_passes.{judged_so, name_so, route_confirm, unequal, use_so}
+use Rattle.osi_fair.proofs.what_a_called_end_does_in_class_zero.{IsInZero, row_next, row_puts}
+use Rattle.osi_fair.proofs.what_a_link_does.{begun_by}
+use Rattle.osi_fair.proofs.what_an_end_puts_in_class_zero.{PutsData}
+use Rattle.osi_fair.proofs.what_holds_of_a_line.{is_there}
+use Rattle.osi_fair.proofs.what_holds_of_one_item.{HoldsOfEach, first_true}
+use Rattle.osi_fair.proofs.what_is_right_passes_each_test.{is_right}
+use Rattle.osi_fair.proofs.what_keeps_names_apart.{AreApart}
+use Rattle.osi_fair.proofs.while_no_class_is_selected.{after_change, set_there}
+use Rattle.osi_fair.proofs.a_called_end_selects_class_zero.{Selected, Selecting}
+
+-- ---- small facts
+
+first_is : (u v : Value) (xs ys : List Value) → u ∷ xs ≡ v ∷ ys → u ≡ v
+first_is u v xs ys e = cc
+
+rest_is : (u v : Value) (xs ys : List Value) → u ∷ xs ≡ v ∷ ys → xs ≡ ys
+rest_is u v xs ys e = cc
+
+unlike : (q p : ℕ) → (q == p) ≡ false → q ≡ p → ⊥
+unlike q p h e = differ (q == p) (ap (λ (x : ℕ). x == p) e ∙ eq-eqb p p refl) h
+
+refused_over : (p k : Phase) → is_refused p ≡ true →
+    (is_refused p || (is_refused k || (is_closed p || (is_closing p && (is_closing k || is_closed k))))) ≡ true
+refused_over Refused k h = refl
+refused_over Silent k h = cc
+refused_over Open k h = cc
+refused_over Closing k h = cc
+refused_over Closed k h = cc
+
+there_not : (p : Phase) → is_there p ≡ true → is_refused p ≡ true → ⊥
+there_not Open h k = cc
+there_not Closing h k = cc
+there_not Closed h k = cc
+there_not Silent h k = cc
+there_not Refused h k = cc
+
+open_live : (p k mine : Phase) → is_open p ≡ true → is_there mine ≡ true → (is_refused k ≡ true → is_refused mine ≡ true) →
+    (is_refused p || (is_refused k || (is_closed p || (is_closing p && (is_closing k || is_closed k))))) ≡ false
+open_live Open Refused mine h there a = absurd (there_not mine there (a refl))
+open_live Open Silent mine h there a = refl
+open_live Open Open mine h there a = refl
+open_live Open Closing mine h there a = refl
+open_live Open Closed mine h there a = refl
+open_live Silent k mine h there a = cc
+open_live Refused k mine h there a = cc
+open_live Closing k mine h there a = cc
+open_live Closed k mine h there a = cc
+
+not_false : (b : Bool) → b ≡ false → not b ≡ true
+not_false true h = cc
+not_false false h = refl
+
+not_true : (b : Bool) → not b ≡ true → b ≡ true → ⊥
+not_true true h k = cc
+not_true false h k = cc
+
+and_not : (a b : Bool) → b ≡ false → (a && b) ≡ false
+and_not true b h = h
+and_not false b h = refl
+
+-- the unit of class 0 that fits
+fits_by : (size : Option ℕ) (limit octets : ℕ) → IfSome size (λ most. limit + 3 ≤ most) → octets ≤ limit → fits_size size
+    (octets + 3) ≡ true
+fits_by None limit octets h k = refl
+fits_by (Some most) limit octets h k = le-leb (octets + 3) most (omega arith)
+
+begun_so : (half : Half) (end : Bool) (octets : ℕ) → half.begun + octets ≤ longest_tsdu → begun_after half end octets ≡ begun_by
+    half.begun end octets
+begun_so half true octets h = refl
+begun_so half false octets h = omega arith
+
+zero_chosen : (a b z : Bool) (s size : Option ℕ) →
+    (if a then accept Two s else (if b then accept Zero s else (if z then refuse 0 else refuse 130))) ≡ accept Zero size → s ≡ size
+zero_chosen true b z s size e = absurd (cc e)
+zero_chosen false true z s size e = cc
+zero_chosen false false true s size e = absurd (cc e)
+zero_chosen false false false s size e = absurd (cc e)
+
+least : (a b : ℕ) → 7 ≤ a → 7 ≤ b → 7 ≤ min a b
+least a b h k = omega arith
+
+two_power : (n code : ℕ) → 7 ≤ n → (7 ≤ code) × (code ≤ 13) → 2 ^ 7 ≤ 2 ^ (min code n)
+two_power n code k h =
+    let up : 7 ≤ min code n = least code n h.0 k in pow-le-pow_right {n = 2} (omega arith) up
+
+fits_selected : (o : Option ℕ) (n : ℕ) → IfSome o (λ code. (7 ≤ code) × (code ≤ 13)) → 7 ≤ n →
+    IfSome (option_map (λ code. 2 ^ code) (option_map (λ code. min code n) o)) (λ most. (unit_octets (option_map (λ code. min code n) o) -
+    3) + 3 ≤ most)
+fits_selected None n h k = tt
+fits_selected (Some code) n h k =
+    let p : 2 ^ 7 ≤ 2 ^ (min code n) = two_power n code k h in omega arith
+
+fits_cc : (x : Connect) (local : Local) (size : Option ℕ) (c : Connection) → Asked x c → selected_by x local ≡ accept Zero size →
+    IfSome (option_map (λ code. 2 ^ code) size) (λ most. (unit_octets size - 3) + 3 ≤ most)
+fits_cc x local size c a e =
+    let same = zero_chosen (local.class2 && (proposes x 2 && keeps_flow_control x)) (local.class0 && proposes x 0) (proposes_zero_alone x)
+    (selected_size x local) size e in
+    subst (λ (o : Option ℕ). IfSome (option_map (λ code. 2 ^ code) o) (λ most. (unit_octets o - 3) + 3 ≤ most)) same
+    (fits_selected x.parameters.size (size_code local.size) a.range.parameters.size local.size.at_least)
+
+-- ---- a unit of the end passes
+
+module _ (local : Local) (w : Whole) (apart : AreApart w.tap.connections) (judged : HoldsOfEach IsJudged w.tap.connections)
+    (right : w.tap.course.right_stopped ≡ false) (u : Value) (rest : List Value) (begun : w.begun ≡ true) (put : w.put ≡ u ∷ rest) where
+  abbrev all : List Connection
+  all = w.tap.connections
+
+  abbrev passed : Whole
+  passed = record w { put = rest; begun = false; tap = (takes Right u w.tap).state }
+
+  abbrev IsFine : Type 0
+  IsFine = (takes Right u w.tap).told.finding ≡ Kept
+
+  name_first : (n p : ℕ) (c : Connection) → slice_get all p ≡ Some c → is_named Right n c ≡ true → position (is_named Right n) all ≡ Some p
+  name_first n p c at named =
+      let q = position_or_len (is_named Right n) all in
+      let first = is_first (is_named Right n) all p c at named in
+      let (e, there) = first_there (is_named Right n) all p q c first in
+      let so = first_true (is_named Right n) all q e first there in
+      let same : p ≡ q = apart.named_right n p q c e at there (judged p c at) (judged q e there) named so in
+      first ∙ ap (λ (i : ℕ). Some i) (sym same)
+
+  module _ (f : Selecting local w) where
+    abbrev cc_is : Value
+    cc_is = confirm f.x.source (acceptance Zero f.size f.x local f.r)
+
+    u_cc : u ≡ cc_is
+    u_cc = first_is u cc_is rest f.more (sym put ∙ f.put)
+
+    half : f.c.seen_by_right ≡ opened_half f.x.source f.x.credit
+    half = f.seen begun ∙ f.asked.left
+
+    cc_named : is_named Right f.x.source f.c ≡ true
+    cc_named = name_so (is_over Right f.c) (is_silent f.c.seen_by_right.phase) (f.c.seen_by_right.reference == f.x.source)
+        (ap (λ (b : Bool). f.c.is_judged && b) (ap (λ (x : Half). is_over_by x f.c.seen_by_right) f.asked.right
+        ∙ ap (λ (x : Half). is_over_by silent_half x) half) ∙ and_false f.c.is_judged)
+        (ap (λ (x : Half). is_silent x.phase) half)
+        (eq-eqb f.c.seen_by_right.reference f.x.source (ap (λ (x : Half). x.reference) half))
+
+    unused_so : list_any (λ (e : Connection). uses Right f.r e) all ≡ false
+    unused_so = any_none (λ (e : Connection). uses Right f.r e) all (λ i e there.
+        use_so (is_over Right e) (is_silent e.right.phase) (e.right.reference == f.r)
+        (unequal e.right.reference f.r (e.right.reference == f.r) refl (f.unused i e there)))
+
+    cc_kept : found_on Right w.tap f.c u ≡ Kept
+    cc_kept = ap (λ (v : Value). found_on Right w.tap f.c v) u_cc
+        ∙ judged_so f.c.is_judged (found Right w.tap.course (uses_source Right all cc_is) f.c cc_is) Kept (judged f.p f.c f.at)
+        (ap (λ (b : Bool). found Right w.tap.course b f.c cc_is) unused_so
+        ∙ zero_right local f.x f.size f.r f.c w.tap.course f.selected f.asked.offer f.asked.right f.class)
+
+    cc_route : route Right w.tap.course u ≡ Named f.x.source
+    cc_route = ap (λ (v : Value). route Right w.tap.course v) u_cc
+        ∙ route_confirm w.tap.course.class (is_stopped Left w.tap.course) f.x.source (acceptance Zero f.size f.x local f.r) (inl f.class)
+
+    cc_first : position (is_named Right f.x.source) all ≡ Some f.p
+    cc_first = name_first f.x.source f.p f.c f.at cc_named
+
+    abbrev cc_next : Connection
+    cc_next = sent_on Right cc_is f.c
+
+    cc_conns : (takes Right u w.tap).state.connections ≡ set all f.p cc_next
+    cc_conns = conns_kept u w.tap f.x.source f.p f.c right cc_route cc_first f.at cc_kept
+        ∙ ap (λ (v : Value). set all f.p (sent_on Right v f.c)) u_cc
+
+    cc_course : (takes Right u w.tap).state.course ≡ course_after Right f.c cc_is true w.tap.course
+    cc_course = course_kept u w.tap f.x.source f.p f.c right cc_route cc_first f.at cc_kept
+        ∙ ap (λ (v : Value). course_after Right f.c v true w.tap.course) u_cc
+
+    not_there : {A : Type 0} (i : ℕ) (e : Connection) → ((i ≡ f.p) × (e ≡ cc_next)) ⊎ ((i ≡ f.p → ⊥) × (slice_get all i ≡ Some e)) →
+        (i ≡ f.p → ⊥) → (slice_get all i ≡ Some e → A) → A
+    not_there i e (inl (same, so)) other k = absurd (other same)
+    not_there i e (inr (not_p, there)) other k = k there
+
+    pub selecting_passes : IsFine × Selected passed
+    selecting_passes = (
+      finding_kept u w.tap f.x.source f.p f.c right cc_route cc_first f.at cc_kept,
+      record {
+        p = f.p;
+        c = cc_next;
+        limit = unit_octets f.size - 3;
+        at = ap (λ (l : List Connection). slice_get l f.p) cc_conns ∙ set_there all f.p cc_next f.c f.at;
+        up = refl;
+        there = ap (λ (h : Half). is_there h.phase) f.asked.left;
+        class = ap (λ (k : Course). k.class) cc_course;
+        class_seen = inl (ap (λ (k : Course). k.class_seen) cc_course ∙ f.class_seen);
+        fits = fits_cc f.x local f.size f.c f.asked f.selected;
+        others = λ i e at other.
+            not_there i e (after_change all f.p i cc_next e (ap (λ (l : List Connection). slice_get l i) (sym cc_conns) ∙ at)) other
+            (λ there. f.others i e there other);
+        end = subst (λ (l : List Value). IsInZero (unit_octets f.size - 3) w.end cc_next.right.begun l)
+            (sym (rest_is u cc_is rest f.more (sym put ∙ f.put)))
+            (subst (λ (b : ℕ). IsInZero (unit_octets f.size - 3) w.end b f.more) (sym (ap (λ (h : Half). h.begun) f.asked.right)) f.end);
+      },
+    )
+
+  -- a DT of class 0
+  module _ (f : Selected w) where
+    live_at : is_live Right f.c ≡ true
+    live_at =
+        let s = apart.sound f.p f.c f.at (judged f.p f.c f.at) in
+        not_false (is_over Right f.c) (and_not f.c.is_judged (is_over_by f.c.right f.c.seen_by_right)
+        (open_live f.c.right.phase f.c.seen_by_right.phase f.c.left.phase f.up f.there s.right_knows.refused))
+
+    first_by : (q : ℕ) (e : Connection) (b : Bool) → (q == f.p) ≡ b → slice_get all q ≡ Some e → is_live Right e ≡ true → q ≡ f.p
+    first_by q e true h at live = eqb-true q f.p h
+    first_by q e false h at live = absurd (not_true (is_over Right e) live (is_both e.is_judged (is_over_by e.right e.seen_by_right)
+        (judged q e at) (refused_over e.right.phase e.seen_by_right.phase (f.others q e at (unlike q f.p h)))))
+
+    only_first : position (is_live Right) all ≡ Some f.p
+    only_first =
+        let q = position_or_len (is_live Right) all in
+        let first = is_first (is_live Right) all f.p f.c f.at live_at in
+        let (e, there) = first_there (is_live Right) all f.p q f.c first in
+        first ∙ ap (λ (i : ℕ). Some i) (first_by q e (q == f.p) refl there (first_true (is_live Right) all q e first there))
+
+    module _ (end : Bool) (user : List ℕ) (is : u ≡ data0 end user)
+        (puts : (length user ≤ f.limit) × (f.c.right.begun + length user ≤ longest_tsdu)
+        × PutsData f.limit (λ b. Unit {0}) (begun_by f.c.right.begun end (length user)) rest) where
+      dt_takes : takes Right (data0 end user) w.tap ≡ one_told Right f.p f.c (data0 end user) w.tap
+      dt_takes =
+          ap (λ (b : Bool). if b then none_told Right NotJudged w.tap
+          else routed Right (data0 end user) w.tap (route Right w.tap.course (data0 end user))) right
+          ∙ ap (λ (k : Option Class). routed Right (data0 end user) w.tap (route_in k Right (is_stopped Left w.tap.course)
+          (data0 end user)))
+          f.class
+          ∙ ap (λ (q : Option ℕ). at_place Right (data0 end user) w.tap q) only_first
+          ∙ ap (λ (o : Option Connection). at_found Right (data0 end user) w.tap f.p o) f.at
+
+      dt_kept : found_on Right w.tap f.c (data0 end user) ≡ Kept
+      dt_kept = judged_so f.c.is_judged (found Right w.tap.course false f.c (data0 end user)) Kept (judged f.p f.c f.at)
+          (is_right (data0_tests Right f.c (length user)) (
+            le-leb (f.c.right.begun + length user) longest_tsdu puts.1,
+            (fits_by f.c.size f.limit (length user) f.fits puts.0, tt),
+          ))
+
+      abbrev dt_next : Connection
+      dt_next = sent_on Right (data0 end user) f.c
+
+      dt_conns : (takes Right u w.tap).state.connections ≡ set all f.p dt_next
+      dt_conns = ap (λ (v : Value). (takes Right v w.tap).state.connections) is ∙ ap (λ (o : Outcome). o.state.connections) dt_takes
+          ∙ ap (λ (k : Finding). set all f.p (connection_after Right (data0 end user) (is_applied k) (reach_of w.tap.course.class k) f.c))
+          dt_kept
+
+      dt_course : (takes Right u w.tap).state.course ≡ w.tap.course
+      dt_course = ap (λ (v : Value). (takes Right v w.tap).state.course) is ∙ ap (λ (o : Outcome). o.state.course) dt_takes
+          ∙ ap (λ (k : Finding). reached Right (reach_of w.tap.course.class k) (course_after Right f.c (data0 end user) (is_applied k)
+          w.tap.course)) dt_kept
+
+      apart_of : {A : Type 0} (i : ℕ) (e : Connection) → ((i ≡ f.p) × (e ≡ dt_next)) ⊎ ((i ≡ f.p → ⊥) × (slice_get all i ≡ Some e)) →
+          (i ≡ f.p → ⊥) → (slice_get all i ≡ Some e → A) → A
+      apart_of i e (inl (same, so)) other k = absurd (other same)
+      apart_of i e (inr (not_p, there)) other k = k there
+
+      dt_passes : IsFine × Selected passed
+      dt_passes = (
+        ap (λ (v : Value). (takes Right v w.tap).told.finding) is ∙ ap (λ (o : Outcome). o.told.finding) dt_takes ∙ dt_kept,
+        record {
+          p = f.p;
+          c = dt_next;
+          limit = f.limit;
+          at = ap (λ (l : List Connection). slice_get l f.p) dt_conns ∙ set_there all f.p dt_next f.c f.at;
+          up = f.up;
+          there = f.there;
+          class = ap (λ (k : Course). k.class) dt_course ∙ f.class;
+          class_seen = subst (λ (k : Course). (k.class_seen ≡ None) ⊎ (k.class_seen ≡ Some Zero)) (sym dt_course) f.class_seen;
+          fits = f.fits;
+          others = λ i e at other.
+              apart_of i e (after_change all f.p i dt_next e (ap (λ (l : List Connection). slice_get l i) (sym dt_conns) ∙ at)) other
+              (λ there. f.others i e there other);
+          end = record {
+            caller = f.end.caller;
+            class = f.end.class;
+            row = row_next f.limit w.end f.c.right.begun dt_next.right.begun w.put rest
+                (λ e h. subst (λ (b : ℕ). PutsData f.limit e b rest) (sym (begun_so f.c.right end (length user) puts.1))
+                (subst (PutsData f.limit e f.c.right.begun) (put ∙ ap (λ (v : Value). v ∷ rest) is) h).2) f.end.row;
+          };
+        },
+      )
+
+    dt_by : (v : Value) → u ≡ v → PutsData f.limit (λ b. Unit {0}) f.c.right.begun (v ∷ rest) → IsFine × Selected passed
+    dt_by (data0 end user) e puts = dt_passes end user e puts
+    dt_by (request x) e puts = absurd puts
+    dt_by (confirm destination x) e puts = absurd puts
+    dt_by (disconnect destination source reason user) e puts = absurd puts
+    dt_by (disconnected destination source) e puts = absurd puts
+    dt_by (data2 destination number end user) e puts = absurd puts
+    dt_by (acknowledge credit destination number) e puts = absurd puts
+    dt_by (error destination cause) e puts = absurd puts
+
+    pub selected_passes : IsFine × Selected passed
+    selected_passes = dt_by u refl (subst (PutsData f.limit (λ b. Unit {0}) f.c.right.begun) put
+        (row_puts f.limit w.end f.c.right.begun w.put f.end.row))

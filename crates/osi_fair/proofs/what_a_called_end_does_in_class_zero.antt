@@ -1,0 +1,285 @@
+-- A called end that has selected class 0 takes a unit, or its user makes a call: it goes on with DTs alone, or ends.
+-- For the law on a whole called end.
+use Rattle.std.proofs.Common.{◌≡◌, ◌∙◌, ◌≤◌, ◌+◌, ℕ, Bool, true, false, List, [], ◌∷◌, ◌++◌, length, refl, sym, ap, subst, Option, Some}
+use Rattle.std.proofs.Common.{None, Result, Ok, Err, is_some, if◌then◌else◌, append_assoc}
+use Rattle.std.specs.Prelude.{◌==◌, not}
+use Rattle.std.specs.List.{AllByRecursion}
+use Rattle.std.proofs.lemmas.Bool.{eq-eqb, eqb-true}
+use Rattle.std.proofs.lemmas.List.{append-nil}
+use Rattle.osi_tpdu.specs.Value.{Value, request, confirm, disconnect, disconnected, data0, data2, acknowledge, error}
+use Rattle.osi_class.specs.Flow.{Flow}
+use Rattle.osi_class.specs.Joining.{Joining, joined}
+use Rattle.osi_class.specs.Limits.{longest_tsdu}
+use Rattle.osi_class.specs.Link.{Standing, taken, taken_by, with_joined, with_tsdu}
+use Rattle.osi_class.specs.declared.faults.LinkFault.{LinkFault}
+use Rattle.osi_class.specs.declared.terms.Class.{Class}
+use Rattle.osi_class.specs.declared.terms.Class.TheVariants.{Zero}
+use Rattle.osi_carrier.specs.Calls.{class_error, closed_on, closes as closes_in, link_of, open_link, or_else, room_error, sent, sent_all}
+use Rattle.osi_carrier.specs.Calls.{sent_on}
+use Rattle.osi_carrier.specs.Pump.{pumped, written_by}
+use Rattle.osi_carrier.specs.React.{breaks as breaks_in, handed_out, in_class, in_zero, leaves, react_by, taking, to_linked, to_only}
+unfoldable use Rattle.osi_carrier.specs.React.{react}
+use Rattle.osi_carrier.specs.Rows.{Rows, put, value_at}
+use Rattle.osi_carrier.specs.Runs.{UserCall, breaks, closes as closes_call, connects, sends, sends_all, user_does}
+use Rattle.osi_carrier.specs.State.{State, Connection as Live, asked, closing, ends as ends_as, linked}
+use Rattle.osi_carrier.specs.declared.ends.EndReason.{EndReason}
+use Rattle.osi_carrier.specs.declared.faults.OpenError.{OpenError}
+use Rattle.osi_carrier.specs.declared.faults.OpenError.TheVariants.{Ended, NotCaller}
+use Rattle.osi_fair.specs.Putting.{put_by, put_closing, put_for, put_in, put_in_zero, put_linked, put_only, put_sent, put_taking}
+use Rattle.osi_fair.specs.Putting.{put_together}
+use Rattle.osi_fair.specs.Wholes.{MayCall}
+use Rattle.osi_fair.proofs.what_a_link_does.{HaveRoom, room_more}
+use Rattle.osi_fair.proofs.what_an_end_puts_in_class_zero.{IsPlain, PutsData, drained_gives, drained_plain, puts_more, puts_still}
+
+abbrev pub anyhow : ℕ → Type 0
+anyhow b = Unit {0}
+
+-- ---- the end
+
+-- it has its one connection open, or has ended
+pub data Row (limit : ℕ) (s : State) (begun : ℕ) (units : List Value) : Type 0 where
+  talks : (r peer : ℕ) (link : Standing) → s.live ≡ (r, linked peer link) ∷ [] → IsPlain limit link →
+      PutsData limit (λ b. HaveRoom b link.ends.unsent) begun units → Row limit s begun units
+  over : is_some s.ended ≡ true → PutsData limit anyhow begun units → Row limit s begun units
+
+pub record IsInZero (limit : ℕ) (s : State) (begun : ℕ) (units : List Value) : Type 0 where
+  pub caller : s.is_caller ≡ false
+  pub class : s.class ≡ Some Zero
+  pub row : Row limit s begun units
+
+pub row_puts : (limit : ℕ) (s : State) (begun : ℕ) (units : List Value) → Row limit s begun units → PutsData limit anyhow begun units
+row_puts limit s begun units (talks r peer link live plain puts) =
+    puts_still limit (λ b. HaveRoom b link.ends.unsent) anyhow (λ b h. tt) begun units puts
+row_puts limit s begun units (over gone puts) = puts
+
+-- after some units have passed, whatever the tap knows then
+pub row_next : (limit : ℕ) (s : State) (a b : ℕ) (xs ys : List Value) → ((e : ℕ → Type 0) → PutsData limit e a xs → PutsData limit e b ys) →
+    Row limit s a xs → Row limit s b ys
+row_next limit s a b xs ys h (talks r peer link live plain puts) =
+    talks r peer link live plain (h (λ i. HaveRoom i link.ends.unsent) puts)
+row_next limit s a b xs ys h (over gone puts) = over gone (h anyhow puts)
+
+no_end : {A : Type 0} (o : Option EndReason) → is_some o ≡ true → o ≡ None → A
+no_end o h e = absurd (cc)
+
+no_result : {A : Type 0} (fault : LinkFault) (r : Result Standing LinkFault) (link : Standing) → r ≡ Err fault → r ≡ Ok link → A
+no_result fault r link e h = absurd (cc)
+
+same_link : (a b : Standing) → ◌≡◌ {A = Result Standing LinkFault} (Ok a) (Ok b) → a ≡ b
+same_link a b e = cc
+
+put_one : (r : ℕ) (x y : Live) → put r x ((r, y) ∷ []) ≡ (r, x) ∷ []
+put_one r x y = ap (λ (b : Bool). if◌then◌else◌ {A = Rows Live} b ((r, x) ∷ []) ((r, y) ∷ put r x [])) (eq-eqb r r refl)
+
+pair_so : (a p : ℕ) (l k : Standing) → linked a l ≡ linked p k → (a ≡ p) × (l ≡ k)
+pair_so a p l k e = (cc, cc)
+
+some_is : (x y : Live) → Some x ≡ Some y → x ≡ y
+some_is x y e = cc
+
+pair_is : (a b : ℕ × Standing) → Some a ≡ Some b → a ≡ b
+pair_is a b e = cc
+
+row_so : (y : Live) (i : ℕ) (l : Standing) (p : ℕ) (k : Standing) → Some y ≡ Some (linked i l) → link_of (Some (linked i l)) ≡ Some (p, k) →
+    y ≡ linked p k
+row_so y i l p k e h = some_is y (linked p k) (e ∙ ap (λ (x : ℕ × Standing). Some (linked x.0 x.1)) (pair_is (i, l) (p, k) h))
+
+none_so : {A : Type 0} (o : Option Live) → None ≡ o → (p : ℕ) (k : Standing) → link_of o ≡ Some (p, k) → A
+none_so o e p k h = absurd (cc (ap link_of e ∙ h))
+
+ended_not : (b : Bool) (o : Option Live) (p : ℕ) (k : Standing) → (if b then None else link_of o) ≡ Some (p, k) → link_of o ≡ Some (p, k)
+ended_not true o p k e = absurd (cc e)
+ended_not false o p k e = e
+
+open_not : {A : Type 0} (r p : ℕ) (k : Standing) (s : State) → is_some s.ended ≡ true → open_link r s ≡ Some (p, k) → A
+open_not r p k s gone e =
+    absurd (cc (sym (ap (λ (b : Bool). if◌then◌else◌ {A = Option (ℕ × Standing)} b None (link_of (value_at r s.live))) gone) ∙ e))
+
+-- ---- a unit is taken
+
+-- what a link of class 0 has after it
+record Takes (link after : Standing) : Type 0 where
+  flow : after.flow ≡ None
+  limit : after.ends.limit ≡ link.ends.limit
+  unsent : after.ends.unsent ≡ link.ends.unsent
+
+joined_so : (link after : Standing) (j : Result Joining LinkFault) → with_joined link.ends None j ≡ Ok after → Takes link after
+joined_so link after (Err fault) e = no_result fault (with_joined link.ends None (Err fault)) after refl e
+joined_so link after (Ok joining) e =
+    let is : record { ends = record link.ends { joining = joining }; flow = None } ≡ after = same_link _ after e in
+    record {
+      flow = ap (λ (s : Standing). s.flow) (sym is);
+      limit = ap (λ (s : Standing). s.ends.limit) (sym is);
+      unsent = ap (λ (s : Standing). s.ends.unsent) (sym is);
+    }
+
+takes_by : (link after : Standing) (u : Value) → taken_by link.ends None u ≡ Ok after → Takes link after
+takes_by link after (data0 end octets) e = joined_so link after (joined link.ends.joining end octets) e
+takes_by link after (request x) e = absurd (cc e)
+takes_by link after (confirm destination x) e = absurd (cc e)
+takes_by link after (disconnect destination source reason user) e = absurd (cc e)
+takes_by link after (disconnected destination source) e = absurd (cc e)
+takes_by link after (data2 destination number end user) e = absurd (cc e)
+takes_by link after (acknowledge credit destination number) e = absurd (cc e)
+takes_by link after (error destination cause) e = absurd (cc e)
+
+takes_plain : (limit : ℕ) (link after : Standing) (u : Value) → IsPlain limit link → taken link u ≡ Ok after → Takes link after
+takes_plain limit link after u plain e =
+    takes_by link after u (ap (λ (f : Option Flow). taken_by link.ends f u) (sym plain.flow) ∙ e)
+
+-- all that a link gives is put
+gives_so : (limit peer r : ℕ) (mid : Standing) (t : State) (begun : ℕ) (units : List Value) (old : Standing) → IsPlain limit mid →
+    ((b : ℕ) → HaveRoom b old.ends.unsent → HaveRoom b mid.ends.unsent) → t.live ≡ (r, linked peer (pumped mid)) ∷ [] →
+    PutsData limit (λ b. HaveRoom b old.ends.unsent) begun units → Row limit t begun (units ++ written_by peer mid)
+gives_so limit peer r mid t begun units old plain room live puts =
+    talks r peer (pumped mid) live (drained_plain limit mid plain)
+    (puts_more limit (λ b. HaveRoom b old.ends.unsent) (λ b. HaveRoom b (pumped mid).ends.unsent) (written_by peer mid)
+    (λ b h. (drained_gives peer limit b mid plain (room b h)).1) begun units puts)
+
+module _ (limit : ℕ) (s : State) (begun : ℕ) (units : List Value) (z : IsInZero limit s begun units) where
+  abbrev Goes : State → List Value → Type 0
+  Goes t more = IsInZero limit t begun (units ++ more)
+
+  -- it is as before
+  same_so : (t : State) (more : List Value) → t ≡ s → more ≡ [] → Goes t more
+  same_so t more is none = subst (λ (x : State). Goes x more) (sym is)
+      (subst (λ (l : List Value). Goes s l) (sym none) (subst (λ (l : List Value). IsInZero limit s begun l) (sym (append-nil units)) z))
+
+  -- it ends
+  ends_so : (t : State) (more : List Value) → more ≡ [] → t.is_caller ≡ s.is_caller → t.class ≡ s.class → is_some t.ended ≡ true →
+      Goes t more
+  ends_so t more none caller class gone = subst (λ (l : List Value). Goes t l) (sym none)
+      (subst (λ (l : List Value). IsInZero limit t begun l) (sym (append-nil units)) (record {
+        caller = caller ∙ z.caller;
+        class = class ∙ z.class;
+        row = over gone (row_puts limit s begun units z.row);
+      }))
+
+  -- the connection goes on
+  pumps_so : (t : State) (more : List Value) (r peer : ℕ) (old mid : Standing) → t.is_caller ≡ s.is_caller → t.class ≡ s.class →
+      IsPlain limit mid → ((b : ℕ) → HaveRoom b old.ends.unsent → HaveRoom b mid.ends.unsent) →
+      t.live ≡ (r, linked peer (pumped mid)) ∷ [] → PutsData limit (λ b. HaveRoom b old.ends.unsent) begun units →
+      more ≡ written_by peer mid → Goes t more
+  pumps_so t more r peer old mid caller class plain room live puts is = subst (λ (l : List Value). Goes t l) (sym is) (record {
+    caller = caller ∙ z.caller;
+    class = class ∙ z.class;
+    row = gives_so limit peer r mid t begun units old plain room live puts;
+  })
+
+  -- ---- it takes a unit
+
+  module _ (r peer : ℕ) (link : Standing) (live : s.live ≡ (r, linked peer link) ∷ []) (plain : IsPlain limit link)
+      (puts : PutsData limit (λ b. HaveRoom b link.ends.unsent) begun units) where
+    taking_goes : (u : Value) (result : Result Standing LinkFault) → taken link u ≡ result →
+        Goes (taking r peer result s) (put_taking r peer result s.class)
+    taking_goes u (Ok after) e =
+        let a = takes_plain limit link after u plain e in
+        pumps_so (taking r peer (Ok after) s) (put_taking r peer (Ok after) s.class) r peer link (handed_out after) refl refl
+        (record { flow = a.flow; size = a.limit ∙ plain.size }) (λ b h. subst (HaveRoom b) (sym a.unsent) h)
+        (ap (λ (l : Rows Live). put r (linked peer (pumped (handed_out after))) l) live
+        ∙ put_one r (linked peer (pumped (handed_out after))) (linked peer link)) puts refl
+    taking_goes u (Err fault) e =
+        subst (λ (k : Option Class). Goes (breaks_in r peer fault k s) (put_taking r peer (Err fault) k)) (sym z.class)
+        (ends_so (breaks_in r peer fault (Some Zero) s) [] refl refl refl refl)
+
+    linked_goes : (u : Value) → Goes (to_linked r peer link u s) (put_linked r peer link u s.class)
+    linked_goes (disconnect destination source reason user) =
+        subst (λ (k : Option Class). Goes (leaves r peer reason k s) (put_linked r peer link (disconnect destination source reason user) k))
+        (sym z.class) (ends_so (leaves r peer reason (Some Zero) s) [] refl refl refl refl)
+    linked_goes (request x) = taking_goes (request x) (taken link (request x)) refl
+    linked_goes (confirm destination x) = taking_goes (confirm destination x) (taken link (confirm destination x)) refl
+    linked_goes (disconnected destination source) = taking_goes (disconnected destination source)
+        (taken link (disconnected destination source)) refl
+    linked_goes (data0 end user) = taking_goes (data0 end user) (taken link (data0 end user)) refl
+    linked_goes (data2 destination number end user) =
+        taking_goes (data2 destination number end user) (taken link (data2 destination number end user)) refl
+    linked_goes (acknowledge credit destination number) =
+        taking_goes (acknowledge credit destination number) (taken link (acknowledge credit destination number)) refl
+    linked_goes (error destination cause) = taking_goes (error destination cause) (taken link (error destination cause)) refl
+
+  by_row : (u : Value) → s.ended ≡ None → Row limit s begun units → Goes (to_only s.live u s) (put_only s.live u s)
+  by_row u was (over gone puts) = no_end s.ended gone was
+  by_row u was (talks r peer link live plain puts) =
+      subst (λ (l : Rows Live). Goes (to_only l u s) (put_only l u s)) (sym live) (linked_goes r peer link live plain puts u)
+
+  in_zero_goes : (u : Value) → s.ended ≡ None → (b : Bool) → b ≡ false → Goes (in_zero b u s) (put_in_zero b u s)
+  in_zero_goes u was true e = absurd (cc e)
+  in_zero_goes u was false e = by_row u was z.row
+
+  by_end : (u : Value) (o : Option EndReason) → s.ended ≡ o → Goes (react_by (is_some o) u s) (if is_some o then [] else put_in s.class u s)
+  by_end u None e = subst (λ (k : Option Class). Goes (in_class k u s) (put_in k u s)) (sym z.class) (in_zero_goes u e s.is_caller z.caller)
+  by_end u (Some reason) e = same_so s [] refl refl
+
+  pub zero_takes : (u : Value) → Goes (react u s) (put_for u s)
+  unfolding react
+  zero_takes u = by_end u s.ended refl
+
+  -- ---- its user makes a call
+
+  closes_goes : (r reason : ℕ) (o : Option (ℕ × Standing)) → Goes (closed_on r reason o s) (put_closing r reason o s.class)
+  closes_goes r reason None = same_so s [] refl refl
+  closes_goes r reason (Some (peer, link)) =
+      subst (λ (k : Option Class). Goes (closes_in r peer reason k s) (put_closing r reason (Some (peer, link)) k)) (sym z.class)
+      (ends_so (closes_in r peer reason (Some Zero) s) [] refl refl refl refl)
+
+  breaks_goes : (reason : EndReason) (b : Bool) → Goes (if b then s else ends_as reason s) []
+  breaks_goes reason true = same_so s [] refl refl
+  breaks_goes reason false = ends_so (ends_as reason s) [] refl refl refl refl
+
+  may_not : {A : Type 0} (b : Bool) (o : Option OpenError) → b ≡ false → (if not b then Some NotCaller else o) ≡ None → A
+  may_not true o h e = absurd (cc h)
+  may_not false o h e = absurd (cc e)
+
+  -- a TSDU is sent
+  row_is : (q r : ℕ) (y : Live) (b : Bool) → (q == r) ≡ b → (o : Option Live) → (if b then Some y else None) ≡ o → (p : ℕ) (k : Standing) →
+      link_of o ≡ Some (p, k) → (q ≡ r) × (y ≡ linked p k)
+  row_is q r y true e None is p k h = absurd (cc is)
+  row_is q r y true e (Some asked) is p k h = absurd (cc h)
+  row_is q r y true e (Some (linked i l)) is p k h = (eqb-true q r e, row_so y i l p k is h)
+  row_is q r y true e (Some (closing i)) is p k h = absurd (cc h)
+  row_is q r y false e o is p k h = none_so o is p k h
+
+  sends_goes : (r : ℕ) (tsdu : List ℕ) (o : Option (ℕ × Standing)) → open_link r s ≡ o → length tsdu ≤ longest_tsdu → Row limit s begun
+      units →
+      Goes (sent_on r tsdu o s) (put_sent tsdu o)
+  sends_goes r tsdu None e short row = same_so s [] refl refl
+  sends_goes r tsdu (Some (p, k)) e short (over gone puts) = open_not r p k s gone e
+  sends_goes r tsdu (Some (p, k)) e short (talks q peer link live plain puts) =
+      let h = ended_not (is_some s.ended) (value_at r s.live) p k e in
+      let (same, row) = row_is q r (linked peer link) (q == r) refl (value_at r ((q, linked peer link) ∷ [])) refl p k
+      (ap (λ (l : Rows Live). link_of (value_at r l)) (sym live) ∙ h) in
+      let (peer_is, link_is) = pair_so peer p link k row in
+      pumps_so (sent_on r tsdu (Some (p, k)) s) (put_sent tsdu (Some (p, k))) r p link (with_tsdu k tsdu) refl refl
+      (record {
+        flow = ap (λ (x : Standing). x.flow) (sym link_is) ∙ plain.flow;
+        size = ap (λ (x : Standing). x.ends.limit) (sym link_is)
+            ∙ plain.size;
+      })
+      (λ b room. subst (λ (x : Standing). HaveRoom b (with_tsdu x tsdu).ends.unsent) link_is (room_more b link.ends.unsent tsdu room short))
+      (ap (λ (l : Rows Live). put r (linked p (pumped (with_tsdu k tsdu))) l) (live ∙ ap (λ (i : ℕ). (i, linked peer link) ∷ []) same)
+      ∙ put_one r (linked p (pumped (with_tsdu k tsdu))) (linked peer link)) puts refl
+
+pub zero_sends : (limit : ℕ) (s : State) (begun : ℕ) (units : List Value) (r : ℕ) (tsdu : List ℕ) → IsInZero limit s begun units →
+    length tsdu ≤ longest_tsdu → IsInZero limit (sent r tsdu s) begun (units ++ put_sent tsdu (open_link r s))
+zero_sends limit s begun units r tsdu z short = sends_goes limit s begun units z r tsdu (open_link r s) refl short z.row
+
+zero_all : (limit : ℕ) (s : State) (begun : ℕ) (units : List Value) (r : ℕ) (tsdus : List (List ℕ)) → IsInZero limit s begun units →
+    AllByRecursion (λ (tsdu : List ℕ). length tsdu ≤ longest_tsdu) tsdus →
+    IsInZero limit (sent_all r tsdus s) begun (units ++ put_together r tsdus s)
+zero_all limit s begun units r [] z short = subst (λ (l : List Value). IsInZero limit s begun l) (sym (append-nil units)) z
+zero_all limit s begun units r (tsdu ∷ tsdus) z (short, more) =
+    subst (λ (l : List Value). IsInZero limit (sent_all r tsdus (sent r tsdu s)) begun l)
+    (append_assoc units (put_sent tsdu (open_link r s)) (put_together r tsdus (sent r tsdu s)))
+    (zero_all limit (sent r tsdu s) begun (units ++ put_sent tsdu (open_link r s)) r tsdus (zero_sends limit s begun units r tsdu z short)
+    more)
+
+pub zero_calls : (limit : ℕ) (s : State) (begun : ℕ) (units : List Value) (call : UserCall) → IsInZero limit s begun units → MayCall call
+    s →
+    IsInZero limit (user_does call s) begun (units ++ put_by call s)
+zero_calls limit s begun units (connects calling called) z may =
+    may_not limit s begun units z s.is_caller (if is_some s.ended then Some Ended else or_else (class_error s.class s.live) (room_error s))
+    z.caller may
+zero_calls limit s begun units (sends r tsdu) z may = zero_sends limit s begun units r tsdu z may
+zero_calls limit s begun units (sends_all r tsdus) z may = zero_all limit s begun units r tsdus z may
+zero_calls limit s begun units (closes_call r reason) z may = closes_goes limit s begun units z r reason (open_link r s)
+zero_calls limit s begun units (breaks reason) z may = breaks_goes limit s begun units z reason (is_some s.ended)

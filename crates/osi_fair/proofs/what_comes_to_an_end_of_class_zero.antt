@@ -1,0 +1,380 @@
+-- A unit of the other side passes at the tap of a called end that has selected class 0: right has sent what it had.
+-- For the law on a whole called end.
+use Rattle.std.proofs.Common.{◌≡◌, ◌∙◌, ◌≤◌, ◌+◌, ◌-◌, ℕ, zero, suc, Bool, true, false, List, [], ◌∷◌, ◌++◌, set, refl, sym, ap, subst}
+use Rattle.std.proofs.Common.{drop, IfSome, Option, Some, None, inl, inr, ◌⊎◌, if◌then◌else◌, is_some}
+use Rattle.std.specs.Prelude.{◌&&◌, ◌||◌, ◌==◌, not, slice_get}
+use Rattle.std.specs.List.{list_all}
+use Rattle.std.proofs.lemmas.Bool.{eq-eqb, eqb-true}
+use Rattle.osi_tpdu.specs.Value.{Value, Connect, request, confirm, disconnect, disconnected, data0, data2, acknowledge, error}
+use Rattle.osi_class.specs.declared.terms.Class.{Class}
+use Rattle.osi_class.specs.declared.terms.Class.TheVariants.{Zero}
+use Rattle.osi_class.specs.declared.terms.Local.{Local}
+use Rattle.osi_rules.specs.declared.connections.Connection.{Connection}
+use Rattle.osi_rules.specs.declared.courses.Course.{Course}
+use Rattle.osi_rules.specs.declared.directions.Direction.TheVariants.{Left}
+use Rattle.osi_rules.specs.declared.findings.Finding.{Finding}
+use Rattle.osi_rules.specs.declared.findings.Finding.TheVariants.{Broke, Kept, NotJudged}
+use Rattle.osi_rules.specs.declared.findings.Reach.{Reach}
+use Rattle.osi_rules.specs.declared.findings.Reach.TheVariants as reach
+use Rattle.osi_rules.specs.declared.findings.Rule.TheVariants as rule
+use Rattle.osi_rules.specs.declared.halves.Half.{Half}
+use Rattle.osi_rules.specs.declared.halves.Phase.{Phase}
+use Rattle.osi_rules.specs.declared.halves.Phase.TheVariants.{Silent, Open, Refused, Closing, Closed}
+use Rattle.osi_rules.specs.Reaches.{is_applied, reach_of}
+use Rattle.osi_rules.specs.Rows.{Test, first_failed}
+use Rattle.osi_rules.specs.Sides.{is_named, is_open, is_over, is_over_by, is_refused, is_silent}
+use Rattle.osi_rules.specs.Traffic.{Outcome, State as Traffic, closing_phase, connection_after, course_after, found_on, half_after}
+use Rattle.osi_rules.specs.Traffic.{judged_on, one_told, reached, request_tests, sent_on, takes}
+use Rattle.osi_fair.specs.Lines.{opened_half}
+use Rattle.osi_fair.specs.Naming.{unit as passing}
+use Rattle.osi_fair.specs.Wholes.{Whole}
+use Rattle.osi_fair.proofs.all_are_judged_unless_one_broke.{IsJudged}
+use Rattle.osi_fair.proofs.each_connection_of_a_called_end.{Asked}
+use Rattle.osi_fair.proofs.how_a_unit_of_right_passes.{differ}
+use Rattle.osi_fair.proofs.left_selects_no_class.{left_class}
+use Rattle.osi_fair.proofs.what_a_called_end_does_in_class_zero.{IsInZero}
+use Rattle.osi_fair.proofs.what_comes_to_a_called_end.{open_over}
+use Rattle.osi_fair.proofs.what_holds_of_a_line.{is_there}
+use Rattle.osi_fair.proofs.what_holds_of_one_item.{HoldsOfEach}
+use Rattle.osi_fair.proofs.what_keeps_names_apart.{AreApart}
+use Rattle.osi_fair.proofs.what_lasts_at_the_tap.{lasts_passing}
+use Rattle.osi_fair.proofs.what_stays_of_each_connection.{right_then}
+use Rattle.osi_fair.proofs.which_unit_comes_to_a_called_end.{Came, IsCalm, asks_so, calm_before, came_so, for_one, lost, only}
+use Rattle.osi_fair.proofs.while_no_class_is_selected.{after_change, set_there}
+use Rattle.osi_fair.proofs.a_called_end_selects_class_zero.{Selected, Selecting}
+
+-- ---- small facts
+
+set_other : {X : Type 0} (xs : List X) (p i : ℕ) (x y : X) → (i ≡ p → ⊥) → slice_get xs i ≡ Some y → slice_get (set xs p x) i ≡ Some y
+set_other [] p i x y other h = absurd (cc)
+set_other (z ∷ xs) zero zero x y other h = absurd (other refl)
+set_other (z ∷ xs) zero (suc i) x y other h = h
+set_other (z ∷ xs) (suc p) zero x y other h = h
+set_other (z ∷ xs) (suc p) (suc i) x y other h = set_other xs p i x y (λ e. other (ap suc e)) h
+
+item_is : {X : Type 0} (x y : X) (o : Option X) → o ≡ Some x → o ≡ Some y → x ≡ y
+item_is x y o h k = cc
+
+unlike : (q p : ℕ) → (q == p) ≡ false → q ≡ p → ⊥
+unlike q p h e = differ (q == p) (ap (λ (x : ℕ). x == p) e ∙ eq-eqb p p refl) h
+
+named_not : (a b c : Bool) → (not a && (not b && c)) ≡ true → b ≡ false
+named_not false false c h = refl
+named_not false true c h = cc
+named_not true b c h = cc
+
+second_of : (a b : Bool) → (a && b) ≡ true → b ≡ true
+second_of true b h = h
+second_of false b h = cc
+
+all_first : (a b : Bool) → (a && b) ≡ true → a ≡ true
+all_first true b h = refl
+all_first false b h = cc
+
+all_there : (f : Connection → Bool) (cs : List Connection) (p : ℕ) (c : Connection) → list_all f cs ≡ true → slice_get cs p ≡ Some c →
+    f c ≡ true
+all_there f [] p c h at = absurd (cc)
+all_there f (x ∷ xs) zero c h at = ap f (sym (item_is x c (Some x) refl at)) ∙ all_first (f x) (list_all f xs) h
+all_there f (x ∷ xs) (suc p) c h at = all_there f xs p c (second_of (f x) (list_all f xs) h) at
+
+closing_there : (was : Bool) (half : Half) → was ≡ false → is_there (closing_phase was half).phase ≡ true
+closing_there true half h = cc
+closing_there false half h = refl
+
+there_started : (p : Phase) → is_there p ≡ true → is_silent p ≡ false
+there_started Open h = refl
+there_started Closing h = refl
+there_started Closed h = refl
+there_started Silent h = cc
+there_started Refused h = cc
+
+wrong_applied : {A : Type 0} (j a : Bool) → a ≡ false → is_applied (if j then first_failed ((a, Broke rule.WrongForm)
+    ∷ []) else NotJudged) ≡ true → A
+wrong_applied true true e h = absurd (cc e)
+wrong_applied true false e h = absurd (cc h)
+wrong_applied false a e h = absurd (cc h)
+
+cc_applied : {A : Type 0} (j : Bool) → is_applied (if j then Broke rule.WrongForm else NotJudged) ≡ true → A
+cc_applied true h = absurd (cc h)
+cc_applied false h = absurd (cc h)
+
+judged_left : (r : Reach) (c : Connection) → (judged_on r c).left ≡ c.left
+judged_left reach.Nothing c = refl
+judged_left reach.Connection c = refl
+judged_left reach.Side c = refl
+judged_left reach.Everything c = refl
+
+sent_left : (v : Value) (c : Connection) → (sent_on Left v c).left ≡ half_after v c.left
+sent_left (request x) c = refl
+sent_left (confirm destination x) c = refl
+sent_left (disconnect destination source reason user) c = refl
+sent_left (disconnected destination source) c = refl
+sent_left (data0 end user) c = refl
+sent_left (data2 destination number end user) c = refl
+sent_left (acknowledge credit destination number) c = refl
+sent_left (error destination cause) c = refl
+
+there_half : (s : Traffic) (c : Connection) (v : Value) → is_applied (found_on Left s c v) ≡ true → is_there c.left.phase ≡ true →
+    is_there (half_after v c.left).phase ≡ true
+there_half s c (request x) e h = h
+there_half s c (confirm destination x) e h = refl
+there_half s c (disconnect destination source reason user) e h =
+    closing_there (is_silent c.left.phase) c.left (there_started c.left.phase h)
+there_half s c (disconnected destination source) e h = refl
+there_half s c (data0 end user) e h = h
+there_half s c (data2 destination number end user) e h = h
+there_half s c (acknowledge credit destination number) e h = h
+there_half s c (error destination cause) e h = wrong_applied c.is_judged (is_silent c.left.phase) (there_started c.left.phase h) e
+
+size_sent : (v : Value) (c : Connection) → ((m : ℕ) (x : Connect) → v ≡ confirm m x → ⊥) → (sent_on Left v c).size ≡ c.size
+size_sent (request x) c none = refl
+size_sent (confirm destination x) c none = absurd (none destination x refl)
+size_sent (disconnect destination source reason user) c none = refl
+size_sent (disconnected destination source) c none = refl
+size_sent (data0 end user) c none = refl
+size_sent (data2 destination number end user) c none = refl
+size_sent (acknowledge credit destination number) c none = refl
+size_sent (error destination cause) c none = refl
+
+size_judged : (r : Reach) (c : Connection) → (judged_on r c).size ≡ c.size
+size_judged reach.Nothing c = refl
+size_judged reach.Connection c = refl
+size_judged reach.Side c = refl
+size_judged reach.Everything c = refl
+
+size_after : (s : Traffic) (c : Connection) (v : Value) (applied : Bool) (r : Reach) → is_applied (found_on Left s c v) ≡ applied →
+    (connection_after Left v applied r c).size ≡ c.size
+size_after s c v false r e = size_judged r c
+size_after s c v true r e = size_judged r (sent_on Left v c)
+    ∙ size_sent v c (λ m x is. cc_applied c.is_judged (ap (λ (u : Value). is_applied (found_on Left s c u)) (sym is) ∙ e))
+
+-- left has not refused it, whatever it sends
+there_after : (s : Traffic) (c : Connection) (v : Value) (applied : Bool) (r : Reach) → is_applied (found_on Left s c v) ≡ applied →
+    is_there c.left.phase ≡ true → is_there (connection_after Left v applied r c).left.phase ≡ true
+there_after s c v false r e h = ap (λ (x : Half). is_there x.phase) (judged_left r c) ∙ h
+there_after s c v true r e h =
+    ap (λ (x : Half). is_there x.phase) (judged_left r (sent_on Left v c) ∙ sent_left v c) ∙ there_half s c v e h
+
+cr_by : (seen all : Bool) (ts : List Test) → seen ≡ false → first_failed ((seen || all, Broke rule.Negotiating) ∷ ts) ≡ Kept → all ≡ true
+cr_by true all ts e h = cc
+cr_by false true ts e h = refl
+cr_by false false ts e h = cc
+
+-- ---- a unit of the other side passes
+
+reached_seen : (r : Reach) (c : Course) → (reached Left r c).class_seen ≡ c.class_seen
+reached_seen reach.Nothing c = refl
+reached_seen reach.Connection c = refl
+reached_seen reach.Side c = refl
+reached_seen reach.Everything c = refl
+
+after_seen : (c : Connection) (v : Value) (b : Bool) (course : Course) → (course_after Left c v b course).class_seen ≡ course.class_seen
+after_seen c (request x) b course = refl
+after_seen c (confirm destination x) true course = refl
+after_seen c (confirm destination x) false course = refl
+after_seen c (disconnect destination source reason user) b course = refl
+after_seen c (disconnected destination source) b course = refl
+after_seen c (data0 end user) b course = refl
+after_seen c (data2 destination number end user) b course = refl
+after_seen c (acknowledge credit destination number) b course = refl
+after_seen c (error destination cause) b course = refl
+
+module _ (w : Whole) (apart : AreApart w.tap.connections) (judged : HoldsOfEach IsJudged w.tap.connections) (v : Value)
+    (calm_after : IsCalm (takes Left v w.tap).state.course) where
+  abbrev cs : List Connection
+  cs = w.tap.connections
+
+  abbrev after : Whole
+  after = record w { tap = (takes Left v w.tap).state; coming = w.coming ++ v ∷ [] }
+
+  calm : IsCalm w.tap.course
+  calm = calm_before w.tap.course (takes Left v w.tap).state.course (lasts_passing (passing Left v) w.tap) calm_after
+
+  -- a connection that left has not refused, and right has neither, is not over for left
+  not_over : (p : ℕ) (c : Connection) → slice_get cs p ≡ Some c → is_there c.left.phase ≡ true → is_open c.right.phase ≡ true →
+      is_over Left c ≡ true → ⊥
+  not_over p c at there up h =
+      let s = apart.sound p c at (judged p c at) in
+      open_over c.left.phase c.seen_by_left.phase c.right.phase up there s.left_knows.refused s.left_knows.closing s.left_knows.closed
+      s.left_closed (second_of c.is_judged (is_over_by c.left c.seen_by_left) h)
+
+  asked_live : (x : Connect) (c : Connection) → Asked x c → is_over Left c ≡ true → ⊥
+  asked_live x c a h = differ (is_over_by c.left c.seen_by_left) (second_of c.is_judged (is_over_by c.left c.seen_by_left) h)
+      (ap (λ (k : Half). is_over_by k c.seen_by_left) a.left ∙ ap (λ (k : Half). is_over_by (opened_half x.source x.credit) k) a.known)
+
+  -- no other CR is right while one waits
+  cr_not : {A : Type 0} (x : Connect) → first_failed (request_tests w.tap x) ≡ Kept → w.tap.course.class_seen ≡ None →
+      (p : ℕ) (c : Connection) →
+      slice_get cs p ≡ Some c → (is_over Left c ≡ true → ⊥) → A
+  cr_not x kept none p c at live =
+      absurd (live (all_there (is_over Left) cs p c (cr_by (is_some w.tap.course.class_seen) (list_all (is_over Left) cs)
+      (drop 1 (request_tests w.tap x)) (ap is_some none) kept) at))
+
+  -- a unit for one connection
+  module _ (q : ℕ) (e : Connection) (at : slice_get cs q ≡ Some e) (is : takes Left v w.tap ≡ one_told Left q e v w.tap) where
+    abbrev found_so : Finding
+    found_so = found_on Left w.tap e v
+
+    abbrev far : Reach
+    far = reach_of w.tap.course.class_seen found_so
+
+    abbrev next : Connection
+    next = connection_after Left v (is_applied found_so) far e
+
+    conns : (takes Left v w.tap).state.connections ≡ set cs q next
+    conns = ap (λ (o : Outcome). o.state.connections) is
+
+    seen_same : (takes Left v w.tap).state.course.class_seen ≡ w.tap.course.class_seen
+    seen_same = ap (λ (o : Outcome). o.state.course.class_seen) is
+        ∙ reached_seen far (course_after Left e v (is_applied found_so) w.tap.course) ∙ after_seen e v (is_applied found_so) w.tap.course
+
+    next_right : next.right ≡ e.right
+    next_right = right_then v (is_applied found_so) far e
+
+    item : (i : ℕ) (y : Connection) → slice_get (takes Left v w.tap).state.connections i ≡ Some y →
+        ((i ≡ q) × (y ≡ next)) ⊎ ((i ≡ q → ⊥) × (slice_get cs i ≡ Some y))
+    item i y h = after_change cs q i next y (ap (λ (l : List Connection). slice_get l i) (sym conns) ∙ h)
+
+    -- what right has sent is as it was
+    was_right : (i : ℕ) (y : Connection) → ((i ≡ q) × (y ≡ next)) ⊎ ((i ≡ q → ⊥) × (slice_get cs i ≡ Some y)) →
+        (z : Connection) × (slice_get cs i ≡ Some z) × (y.right ≡ z.right)
+    was_right i y (inl (same, so)) = (e, ap (λ (j : ℕ). slice_get cs j) same ∙ at, ap (λ (z : Connection). z.right) so ∙ next_right)
+    was_right i y (inr (other, there)) = (y, there, refl)
+
+    selecting_one : (local : Local) (f : Selecting local w) → (q ≡ f.p → ⊥) → Selecting local after
+    selecting_one local f other = record {
+      x = f.x;
+      size = f.size;
+      r = f.r;
+      p = f.p;
+      c = f.c;
+      at = ap (λ (l : List Connection). slice_get l f.p) conns ∙ set_other cs q f.p next f.c (λ h. other (sym h)) f.at;
+      asked = f.asked;
+      selected = f.selected;
+      more = f.more;
+      put = f.put;
+      seen = f.seen;
+      class = left_class v w.tap ∙ f.class;
+      class_seen = seen_same ∙ f.class_seen;
+      unused = λ i y there same.
+          let (z, was, right) = was_right i y (item i y there) in f.unused i z was (ap (λ (h : Half). h.reference) (sym right) ∙ same);
+      others = λ i y there not_p.
+          let (z, was, right) = was_right i y (item i y there) in
+          ap (λ (h : Half). is_refused h.phase) right ∙ f.others i z was not_p;
+      end = f.end;
+    }
+
+    -- the connection of class 0
+    one_there : (f : Selected w) (b : Bool) → (f.p == q) ≡ b → (y : Connection) × (slice_get (takes Left v w.tap).state.connections
+        f.p ≡ Some y)
+        × (y.right ≡ f.c.right) × (y.size ≡ f.c.size) × (is_there y.left.phase ≡ true)
+    one_there f true h =
+        let same = eqb-true f.p q h in
+        let c_is : e ≡ f.c = item_is e f.c (slice_get cs q) at (ap (λ (j : ℕ). slice_get cs j) (sym same) ∙ f.at) in (
+          next,
+          ap (λ (l : List Connection). slice_get l f.p) conns ∙ ap (λ (j : ℕ). slice_get (set cs q next) j) same ∙ set_there cs q next e at,
+          next_right ∙ ap (λ (z : Connection). z.right) c_is,
+          size_after w.tap e v (is_applied found_so) far refl ∙ ap (λ (z : Connection). z.size) c_is,
+          there_after w.tap e v (is_applied found_so) far refl (subst (λ (z : Connection). is_there z.left.phase ≡ true) (sym c_is)
+              f.there),
+        )
+    one_there f false h = (
+      f.c,
+      ap (λ (l : List Connection). slice_get l f.p) conns ∙ set_other cs q f.p next f.c (unlike f.p q h) f.at,
+      refl,
+      refl,
+      f.there,
+    )
+
+    selected_one : Selected w → Selected after
+    selected_one f =
+        let (y, there, right, size, left) = one_there f (f.p == q) refl in
+        record {
+          p = f.p;
+          c = y;
+          limit = f.limit;
+          at = there;
+          up = ap (λ (h : Half). is_open h.phase) right ∙ f.up;
+          there = left;
+          class = left_class v w.tap ∙ f.class;
+          class_seen = subst (λ (k : Option Class). (k ≡ None) ⊎ (k ≡ Some Zero)) (sym seen_same) f.class_seen;
+          fits = subst (λ (o : Option ℕ). IfSome o (λ most. f.limit + 3 ≤ most)) (sym size) f.fits;
+          others = λ i z here not_p.
+              let (a, was, same) = was_right i z (item i z here) in
+              ap (λ (h : Half). is_refused h.phase) same ∙ f.others i a was not_p;
+          end = subst (λ (h : Half). IsInZero f.limit w.end h.begun w.put) (sym right) f.end;
+        }
+
+  -- a unit that changes nothing
+  selecting_same : (local : Local) → (takes Left v w.tap).state ≡ w.tap → Selecting local w → Selecting local after
+  selecting_same local same f = subst (λ (s : Traffic). Selecting local (record w { tap = s; coming = w.coming ++ v ∷ [] })) (sym same)
+      (record {
+        x = f.x;
+        size = f.size;
+        r = f.r;
+        p = f.p;
+        c = f.c;
+        at = f.at;
+        asked = f.asked;
+        selected = f.selected;
+        more = f.more;
+        put = f.put;
+        seen = f.seen;
+        class = f.class;
+        class_seen = f.class_seen;
+        unused = f.unused;
+        others = f.others;
+        end = f.end;
+      })
+
+  selected_same : (takes Left v w.tap).state ≡ w.tap → Selected w → Selected after
+  selected_same same f = subst (λ (s : Traffic). Selected (record w { tap = s; coming = w.coming ++ v ∷ [] })) (sym same) (record {
+    p = f.p;
+    c = f.c;
+    limit = f.limit;
+    at = f.at;
+    up = f.up;
+    there = f.there;
+    class = f.class;
+    class_seen = f.class_seen;
+    fits = f.fits;
+    others = f.others;
+    end = f.end;
+  })
+
+  -- left can't name the connection yet
+  waits_apart : (local : Local) (f : Selecting local w) (n q : ℕ) (e : Connection) → slice_get cs q ≡ Some e → is_named Left n e ≡ true →
+      q ≡ f.p → ⊥
+  waits_apart local f n q e at named same =
+      let c_is : e ≡ f.c = item_is e f.c (slice_get cs q) at (ap (λ (j : ℕ). slice_get cs j) same ∙ f.at) in
+      let started = (apart.sound q e at (judged q e at)).left_knows.there
+      (named_not (is_over Left e) (is_silent e.seen_by_left.phase) (e.seen_by_left.reference == n) named) in
+      differ (is_silent e.right.phase)
+      (ap (λ (z : Connection). is_silent z.right.phase) c_is ∙ ap (λ (h : Half). is_silent h.phase) f.asked.right) started
+
+  none_not : {A : Type 0} (k : Option Class) → k ≡ None → k ≡ Some Zero → A
+  none_not k e h = absurd (cc (sym e ∙ h))
+
+  selecting_by : (local : Local) (f : Selecting local w) → Came v w.tap (takes Left v w.tap) → Selecting local after
+  selecting_by local f (asks_so x e class kept is) = cr_not x kept f.class_seen f.p f.c f.at (asked_live f.x f.c f.asked)
+  selecting_by local f (for_one n q e dest at named is) = selecting_one q e at is local f (waits_apart local f n q e at named)
+  selecting_by local f (only q e at seen is) = none_not w.tap.course.class_seen f.class_seen seen
+  selecting_by local f (lost dc strays same) = selecting_same local same f
+
+  asks_zero : (f : Selected w) (x : Connect) → (w.tap.course.class_seen ≡ Some Zero → ⊥) →
+      first_failed (request_tests w.tap x) ≡ Kept → (w.tap.course.class_seen ≡ None) ⊎ (w.tap.course.class_seen ≡ Some Zero) →
+      Selected after
+  asks_zero f x class kept (inl none) = cr_not x kept none f.p f.c f.at (not_over f.p f.c f.at f.there f.up)
+  asks_zero f x class kept (inr seen) = absurd (class seen)
+
+  selected_by_came : (f : Selected w) → Came v w.tap (takes Left v w.tap) → Selected after
+  selected_by_came f (asks_so x e class kept is) = asks_zero f x class kept f.class_seen
+  selected_by_came f (for_one n q e dest at named is) = selected_one q e at is f
+  selected_by_came f (only q e at seen is) = selected_one q e at is f
+  selected_by_came f (lost dc strays same) = selected_same same f
+
+  pub selecting_comes : (local : Local) → Selecting local w → Selecting local after
+  selecting_comes local f = selecting_by local f (came_so v w.tap judged calm.left calm.firm calm.right calm_after)
+
+  pub selected_comes : Selected w → Selected after
+  selected_comes f = selected_by_came f (came_so v w.tap judged calm.left calm.firm calm.right calm_after)
