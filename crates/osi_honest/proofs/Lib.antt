@@ -11,3 +11,5 @@ pub mod reading
 pub mod sessions
 -- The transport of an end is not blamed, and so the end is not.
 pub mod transport
+-- What happens at one connection of an end, in either class and among others.
+pub mod courses

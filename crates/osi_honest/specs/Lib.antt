@@ -6,3 +6,4 @@ pub mod Reading
 pub mod Showing
 pub mod Openings
 pub mod Seeing
+pub mod Courses

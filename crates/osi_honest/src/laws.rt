@@ -1,9 +1,11 @@
 //! Laws of an end and its captures. Each function does nothing: its clauses are the laws.
 
-ghost use Rattle.std.specs.Prelude.{◌≡◌, ℕ, Bool, false, true, List, Option, None, Some, length, map};
+ghost use Rattle.std.specs.Prelude.{◌≡◌, ℕ, Bool, false, true, List, [], ◌++◌, Option, None, Some, length, map};
 ghost use Rattle.std.specs.List.{AllByRecursion};
 ghost use Rattle.osi_tpkt.specs.Stream.{Cuts, Ending};
-ghost use Rattle.osi_class.specs.Tsdus.{Part};
+ghost use Rattle.osi_class.specs.Link.{unit_of};
+ghost use Rattle.osi_class.specs.Runs.{parts_in, parts_out, tsdus_in, tsdus_out};
+ghost use Rattle.osi_class.specs.Tsdus.{Part, tsdus, uncut};
 ghost use Rattle.osi_class.specs.declared.terms.Local.{Local};
 ghost use Rattle.osi_judge.specs.Captures.{Capture, stream};
 ghost use Rattle.osi_judge.specs.Explaining.{IsExplained, Told};
@@ -20,8 +22,9 @@ ghost use Rattle.osi_session.specs.Standing.{seen_called, seen_calling};
 ghost use Rattle.osi_session.specs.declared.opening.Opening.{Opening};
 ghost use Rattle.osi_stack.specs.Calls.{calls_with, connects, terms_error};
 ghost use Rattle.osi_stack.specs.Messages.{AreShort};
-ghost use Rattle.osi_stack.specs.State.{Holding, fresh_end};
+ghost use Rattle.osi_stack.specs.State.{End, Holding, fresh_end};
 ghost use Rattle.osi_stack.specs.declared.connecting.Connect.{Connect};
+ghost use Rattle.osi_honest.specs.Courses.{ContinuesAlong, Course, Deeds, no_deeds, said_in, units_given};
 ghost use Rattle.osi_honest.specs.Openings.{Asks, AskingTurn, Idles, IdleTurn, Waits, WaitingTurn};
 ghost use Rattle.osi_honest.specs.Parts.{Carry, units_put};
 ghost use Rattle.osi_honest.specs.Reading.{IsReading};
@@ -206,3 +209,51 @@ pub fn an_honest_end_is_never_blamed()
     a_calling_end_is_not_blamed();
     the_transport_of_an_end_is_not_blamed();
 }
+
+/// What the session of one connection hands to its link, in either class and among any number of other connections. Take any
+/// run of an end of this library from its beginning, and any reference. Nothing is done at a connection before it is open. Then
+/// its session takes the TSDUs that its link hands out, in order, and no others. What is handed in is what the session sends, in
+/// order, each TSDU when it had taken so many ([`Course`]). In each turn the units that its link gives are put, in order, with
+/// the peer's reference; and the units that its link takes are among those of the packets that were used, in order
+/// ([`Continues`]).
+///
+/// [`Course`]: ../specs/Courses.antt
+/// [`Continues`]: ../specs/Courses.antt
+pub fn what_a_session_hands_to_its_link()
+    ensures begins { (is_caller : Bool) (local : Local) (r : ℕ) → Course is_caller r no_deeds (fresh_end is_caller local) }
+    ensures run { (is_caller : Bool) (local : Local) (r : ℕ) (begin end : Holding) (turns : List Turn) → IsFresh is_caller local begin →
+        Run begin turns end → ContinuesAlong is_caller r no_deeds begin turns end }
+{
+    few_octets_fit();
+    serial_digits();
+    what_closes_sends_nothing();
+}
+
+/// So what the session of a connection sent is explained by the TSDUs that it had taken by then, at a called and at a calling end,
+/// in either class (`called`, `caller`). A capture may show less of it, and more TSDUs of the other side may have passed before
+/// than were taken: what it shows is explained too (`called_shows`, `caller_shows`).
+pub fn what_a_connection_said_is_explained()
+    ensures called { (r : ℕ) (deeds : Deeds) (e : End) → Course false r deeds e →
+        IsExplained seen_called (tsdus_out deeds.calls) (map told_of (said_in 0 deeds.calls)) }
+    ensures caller { (r : ℕ) (deeds : Deeds) (e : End) → Course true r deeds e →
+        IsExplained seen_calling (tsdus_out deeds.calls) (map told_of (said_in 0 deeds.calls)) }
+    ensures called_shows { (r : ℕ) (deeds : Deeds) (e : End) (us : List (List ℕ)) (told : List Told) → Course false r deeds e →
+        AreSame us (tsdus_out deeds.calls) → Shows (length us) told (map told_of (said_in 0 deeds.calls)) →
+        IsExplained seen_called us told }
+    ensures caller_shows { (r : ℕ) (deeds : Deeds) (e : End) (us : List (List ℕ)) (told : List Told) → Course true r deeds e →
+        AreSame us (tsdus_out deeds.calls) → Shows (length us) told (map told_of (said_in 0 deeds.calls)) →
+        IsExplained seen_calling us told }
+{
+    an_honest_session_is_explained();
+}
+
+/// The units of a connection carry these TSDUs. What was put for it is what its link gave. It carries the TSDUs that were handed in,
+/// whole and in order, except for what the link has still to give (`put`). The units that the link took carry the TSDUs that it
+/// handed out, and perhaps the beginning of one more (`taken`).
+pub fn what_the_units_of_a_connection_carry()
+    ensures put { (is_caller : Bool) (r : ℕ) (deeds : Deeds) (e : End) → Course is_caller r deeds e →
+        (unsent : List (List ℕ)) × (peer : ℕ) × (deeds.put ≡ map (unit_of peer) (units_given deeds.calls))
+        × (tsdus (parts_out deeds.calls ++ uncut unsent) ≡ tsdus_in deeds.calls) }
+    ensures taken { (is_caller : Bool) (r : ℕ) (deeds : Deeds) (e : End) → Course is_caller r deeds e →
+        tsdus (parts_in deeds.calls) ≡ tsdus_out deeds.calls }
+{}

@@ -3,7 +3,8 @@
 //!
 //! Read it if you want to know why `osi judge` never blames an end of this library. It joins two crates that know nothing
 //! of each other: `osi_stack` says what an end is after octets and calls, and `osi_judge` which runs of a session explain
-//! what a side sent, and which packets have a place in class 0. It speaks of one connection of class 0.
+//! what a side sent, and which packets have a place in class 0. On captures it speaks of one connection of class 0; on
+//! connections, of class 2 too.
 //!
 //! - A `Turn` (`specs/Turns.antt`) is one thing that the owner of an end does, with the octets that the end used and those
 //!   that it put. A `Run` is turns one after the other.
@@ -21,6 +22,19 @@
 //!   what had passed before it, so the transport of an end is blamed nowhere either:
 //!   [`laws::the_transport_of_an_end_is_not_blamed`].
 //! - So the judge never says that this side broke the protocol first: [`laws::an_honest_end_is_never_blamed`].
+//!
+//! In class 2 many connections share the byte connection, and an end keeps data back until it has credit. So what a session sends
+//! is counted at the link of its connection:
+//!
+//! - The `Course` of a connection (`specs/Courses.antt`) is what was done there since it was opened (`Deeds`): the calls of its link
+//!   and the units that were put for it, with what its session took and sent by them. Every connection of an end has a course, in
+//!   either class, however many others there are, in any run of the end: [`laws::what_a_session_hands_to_its_link`].
+//! - So what such a session sent is explained by what it had taken: [`laws::what_a_connection_said_is_explained`].
+//! - The units that were put for it carry the TSDUs that were handed in, and those that its link took carry the TSDUs that it handed
+//!   out: [`laws::what_the_units_of_a_connection_carry`].
+//!
+//! What is not here: that what else is put is of other connections, or no data; and so, that the judge finds just these units for
+//! the connection in a capture.
 #![tactic(auto)]
 
 pub mod laws;

@@ -23,20 +23,20 @@ use Rattle.osi_honest.proofs.class_0.what_class_0_writes_of_a_tsdu.{all_written,
 
 -- ---- the line of a session
 
-record HasLine (r : ℕ) (session : Listener) (lines : Rows Line) : Type 0 where
-  line : Line
-  here : value_at r lines ≡ Some line
-  is : line.session ≡ Some session
+pub record HasLine (r : ℕ) (session : Listener) (lines : Rows Line) : Type 0 where
+  pub line : Line
+  pub here : value_at r lines ≡ Some line
+  pub is : line.session ≡ Some session
 
 line_in : (r : ℕ) (session : Listener) (lines : Rows Line) (o : Option Line) → value_at r lines ≡ o → session_in o ≡ Some session →
     HasLine r session lines
 line_in r session lines None e h = absurd (cc)
 line_in r session lines (Some line) e h = record { line = line; here = e; is = h }
 
-line_there : (r : ℕ) (session : Listener) (lines : Rows Line) → kept_at r lines ≡ Some session → HasLine r session lines
+pub line_there : (r : ℕ) (session : Listener) (lines : Rows Line) → kept_at r lines ≡ Some session → HasLine r session lines
 line_there r session lines h = line_in r session lines (value_at r lines) refl h
 
-moved_by : (r : ℕ) (session : Listener) (input : Input) (e : End) (h : HasLine r session e.lines) →
+pub moved_by : (r : ℕ) (session : Listener) (input : Input) (e : End) (h : HasLine r session e.lines) →
     to_session r input e ≡ record {
       carrier = answers r (limit_for session input) (react session input) e.carrier;
       lines = put r
@@ -46,7 +46,7 @@ moved_by r session input e h =
     ap (λ o. by_line r o input e) h.here
     ∙ ap (λ (o : Option Listener). record { carrier = carrier_by r o input e.carrier; lines = put r (line_by h.line o input) e.lines }) h.is
 
-kept_then : (r : ℕ) (session : Listener) (input : Input) (lines : Rows Line) (h : HasLine r session lines) →
+pub kept_then : (r : ℕ) (session : Listener) (input : Input) (lines : Rows Line) (h : HasLine r session lines) →
     kept_at r (put r (line_by h.line (Some session) input) lines) ≡ Some (after_input session input)
 kept_then r session input lines h = ap session_in (put_here r (line_by h.line (Some session) input) h.line lines h.here)
 
@@ -58,7 +58,7 @@ pub record IsProper (session : Listener) (input : Input) : Type 0 where
   pub short : AreShort (sends session input)
   pub silent : (react session input).closes ≡ true → sends session input ≡ []
 
-still_begun : (session : Listener) (input : Input) → is_wait_transport session.state.phase ≡ false →
+pub still_begun : (session : Listener) (input : Input) → is_wait_transport session.state.phase ≡ false →
     is_wait_transport (after_input session input).state.phase ≡ false
 still_begun session input w = by (is_wait_transport (after_input session input).state.phase) refl
   where

@@ -83,7 +83,7 @@ no_request c r session begun e t h =
 
 -- ---- a call of the session
 
-granted_proper : (r : ℕ) (call : SessionCall) (session : Listener) (c : Carrier) → IsGranted r call session c →
+pub granted_proper : (r : ℕ) (call : SessionCall) (session : Listener) (c : Carrier) → IsGranted r call session c →
     IsProper session (called call)
 granted_proper r call session c g = record {
   same = refl;

@@ -1,0 +1,290 @@
+-- A call of the user: what becomes of the course of one connection, whichever connection the call is for.
+-- For the course of a connection.
+use Rattle.std.proofs.Common.{◌≡◌, ◌≢◌, ◌∙◌, refl, sym, ap, subst, ℕ, ◌+◌, ◌==◌, ◌&&◌, Bool, true, false, if◌then◌else◌, not, nat_le}
+use Rattle.std.proofs.Common.{nat_lt, List, [], ◌∷◌, ◌++◌, length, Option, Some, None, is_some, option_map}
+use Rattle.std.proofs.lemmas.Bool.{eq-eqb, eqb-true}
+use Rattle.osi_tpdu.specs.Limits.{tsap_octets}
+use Rattle.osi_tpdu.specs.Value.{Value, request}
+use Rattle.osi_class.specs.Link.{Standing}
+use Rattle.osi_class.specs.Runs.{tsdus_out}
+use Rattle.osi_carrier.specs.Calls.{closed_on, closed_with, link_of, may_connect, open_link}
+use Rattle.osi_carrier.specs.Negotiation.{proposal}
+use Rattle.osi_carrier.specs.Rows.{value_at}
+use Rattle.osi_carrier.specs.State.{Connection, State as Carrier, asked}
+use Rattle.osi_carrier.specs.declared.ends.EndReason.{EndReason}
+use Rattle.osi_carrier.specs.declared.ends.EndReason.TheVariants.{Broken}
+use Rattle.osi_carrier.specs.declared.faults.OpenError.{OpenError}
+use Rattle.osi_carrier.specs.declared.faults.OpenError.TheVariants.{Ended, NotCaller}
+use Rattle.osi_carrier.proofs.references.rows_after_a_change.{push_other}
+use Rattle.osi_carrier.proofs.references.what_a_change_leaves_there.{push_here}
+use Rattle.osi_session.specs.Calls.{Call, HasSerial}
+use Rattle.osi_session.specs.Listening.{Listener, after_input, called}
+use Rattle.osi_judge.specs.Running.{sends}
+use Rattle.osi_stack.specs.Calls.{after_open, breaks, call_error, calls_with, connect_error, connects, has_given, terms_error}
+use Rattle.osi_stack.specs.Disconnecting.{awaits_transport, disconnect_error, disconnects}
+use Rattle.osi_stack.specs.Hearing.{ends}
+use Rattle.osi_stack.specs.Inputs.{IsAccepted}
+use Rattle.osi_stack.specs.Messages.{IsGranted, kept_at}
+use Rattle.osi_stack.specs.Moving.{to_session}
+use Rattle.osi_stack.specs.Rounds.{UserCall, user_does}
+use Rattle.osi_stack.specs.Rounds.UserCall.{breaking, calling, connecting, disconnecting}
+use Rattle.osi_stack.specs.State.{End, fresh_line, session_at, session_in}
+use Rattle.osi_stack.specs.declared.connecting.Connect.{Connect}
+use Rattle.osi_stack.specs.declared.connecting.ConnectError.{ConnectError}
+use Rattle.osi_stack.proofs.carried.packets_without_events.{both}
+use Rattle.osi_stack.proofs.carried.what_a_move_leaves.{says_is, used_live}
+use Rattle.osi_stack.proofs.given_up.the_invariant_stays.{disconnect_carrier, disconnect_is, given_other}
+use Rattle.osi_stack.proofs.sound.the_invariant_is_kept.{closed_given, open_none}
+use Rattle.osi_honest.specs.Courses.{Course, Deeds, Gone, IsOpen, IsShut, said_in}
+use Rattle.osi_honest.specs.Courses.Course.{awaited, is_gone, is_open, unknown}
+use Rattle.osi_honest.specs.Courses.Gone.{closed, never, over}
+use Rattle.osi_honest.specs.Talking.{History, said_after}
+use Rattle.osi_honest.specs.Talking as history
+use Rattle.osi_honest.specs.Turns.{HasSerialIn}
+use Rattle.osi_honest.proofs.class_0.a_session_of_class_0_puts_what_it_sends.{still_begun}
+use Rattle.osi_honest.proofs.class_0.what_a_call_does_in_class_0.{granted_proper}
+use Rattle.osi_honest.proofs.class_0.what_packets_do_in_class_0.{never_lasts}
+use Rattle.osi_honest.proofs.courses.steps_of_a_course.{Adds, Steps, adds_kept, adds_none, session_adds, step_none}
+use Rattle.osi_honest.proofs.courses.what_a_link_takes_and_is_handed.{Leaves, closed_leaves, closed_shut, link_shut}
+use Rattle.osi_honest.proofs.courses.what_a_unit_does_to_a_connection.{given_before, given_next, next_ungiven}
+use Rattle.osi_honest.proofs.courses.what_another_connection_leaves.{Beside, course_beside, course_over, gone_same, session_beside}
+use Rattle.osi_honest.proofs.courses.what_another_connection_leaves.{used_none}
+use Rattle.osi_honest.proofs.courses.what_its_own_session_does.{CanSpeak, session_speaks}
+
+-- no connection has two states
+two_states : {A : Type 0} (o x y : Option Connection) → o ≡ x → o ≡ y → (x ≡ y → A) → A
+two_states o x y a b differ = differ (sym a ∙ b)
+
+-- a reference is this one or another
+unequal : (q r : ℕ) → (r == q) ≡ false → r ≢ q
+unequal q r e same = both (r == q) (eq-eqb r q same) e
+
+module _ (is_caller : Bool) (r : ℕ) (moves : Deeds) (e : End) (lasts : e.carrier.ended ≡ None) where
+  abbrev Then : End → Type 0
+  Then new = Steps (Course is_caller r) moves e.carrier.outgoing new
+
+  -- a call for another connection
+  others_by : (new : End) (o : Option EndReason) → new.carrier.ended ≡ o → Adds e.carrier.outgoing new.carrier.outgoing →
+      (new.carrier.ended ≡ None → Beside r e new) → Course is_caller r moves e → Then new
+  others_by new None is adds b course =
+      step_none (Course is_caller r) moves e.carrier.outgoing new adds (course_beside is_caller r moves e new (b is) course)
+  others_by new (Some reason) is adds b course =
+      step_none (Course is_caller r) moves e.carrier.outgoing new adds
+      (is_gone (course_over is_caller r moves e new course (ap is_some is)))
+
+  others : (new : End) → Adds e.carrier.outgoing new.carrier.outgoing → (new.carrier.ended ≡ None → Beside r e new) →
+      Course is_caller r moves e → Then new
+  others new adds b course = others_by new new.carrier.ended refl adds b course
+
+  -- ---- a request
+
+  abbrev request_put : Connect → List Value
+  request_put c =
+      request (proposal e.carrier.local e.carrier.class (option_map tsap_octets c.calling_tsap) (option_map tsap_octets c.called_tsap)
+      (e.carrier.given + 1)) ∷ []
+
+  connect_adds : (c : Connect) → Adds e.carrier.outgoing (connects c e).carrier.outgoing
+  connect_adds c = (request_put c, refl)
+
+  caller_by : (b has_ended : Bool) (error : Option OpenError) →
+      (if not b then Some NotCaller else (if has_ended then Some Ended else error)) ≡ None → b ≡ true
+  caller_by true has_ended error h = refl
+  caller_by false has_ended error h = absurd (cc)
+
+  terms_by : (o : Option OpenError) (error : Option ConnectError) → after_open o error ≡ None → error ≡ None
+  terms_by None error h = h
+  terms_by (Some x) error h = absurd (cc)
+
+  -- a connection with the next reference is awaited
+  connects_next : (c : Connect) → connect_error c e ≡ None → r ≡ e.carrier.given + 1 → Course is_caller r moves e →
+      Course is_caller r moves (connects c e)
+  connects_next c allowed next (unknown none side free live lines) =
+      let may = open_none (may_connect e.carrier) (terms_error c) allowed in
+      let here : value_at r (connects c e).carrier.live ≡ Some asked =
+      ap (λ (n : ℕ). value_at r (e.carrier.live ++ (n, asked) ∷ [])) (sym next) ∙ push_here r asked e.carrier.live live in
+      let line : value_at r (e.lines ++ (e.carrier.given + 1, fresh_line (calls_with c)) ∷ []) ≡ Some (fresh_line (calls_with c)) =
+      ap (λ (n : ℕ). value_at r (e.lines ++ (n, fresh_line (calls_with c)) ∷ [])) (sym next)
+      ∙ push_here r (fresh_line (calls_with c)) e.lines lines in
+      awaited none c (terms_by (may_connect e.carrier) (terms_error c) allowed)
+      (sym side ∙ caller_by e.carrier.is_caller (is_some e.carrier.ended) _ may) lasts
+      (ap (λ (n : ℕ). nat_lt 0 n && nat_le n (e.carrier.given + 1)) next ∙ given_next e.carrier.given) here
+      (ap session_in
+      (used_live r (connects c e).carrier.live (e.lines ++ (e.carrier.given + 1, fresh_line (calls_with c)) ∷ []) (ap is_some here) ∙ line))
+  connects_next c allowed next (awaited none d terms side was given here kept) =
+      both (has_given r e.carrier) given (ap (λ (n : ℕ). has_given n e.carrier) next ∙ next_ungiven e.carrier.given)
+  connects_next c allowed next (is_open given o) =
+      both (has_given r e.carrier) given (ap (λ (n : ℕ). has_given n e.carrier) next ∙ next_ungiven e.carrier.given)
+  connects_next c allowed next (is_gone (closed at calls is session speaks given shut)) =
+      both (has_given r e.carrier) given (ap (λ (n : ℕ). has_given n e.carrier) next ∙ next_ungiven e.carrier.given)
+  connects_next c allowed next (is_gone (over at calls heard unheard is session speaks parts none ended)) =
+      absurd (never_lasts e.carrier.ended ended lasts)
+  connects_next c allowed next (is_gone (never none ended)) = absurd (never_lasts e.carrier.ended ended lasts)
+
+  connects_other : (c : Connect) → r ≢ e.carrier.given + 1 → Beside r e (connects c e)
+  connects_other c ne =
+      let live : value_at r (connects c e).carrier.live ≡ value_at r e.carrier.live =
+      push_other r (e.carrier.given + 1) asked e.carrier.live ne in
+      let lines : value_at r (e.lines ++ (e.carrier.given + 1, fresh_line (calls_with c)) ∷ []) ≡ value_at r e.lines =
+      push_other r (e.carrier.given + 1) (fresh_line (calls_with c)) e.lines ne in
+      record {
+        live = live;
+        given = ap (λ (b : Bool). nat_lt 0 r && b) (given_before r e.carrier.given ne);
+        side = refl;
+        ended = refl;
+        unlined = λ none. used_none r (connects c e).carrier.live (e.lines ++ (e.carrier.given + 1, fresh_line (calls_with c)) ∷ [])
+            (lines ∙ none);
+        kept = λ some. ap session_in
+            (used_live r (connects c e).carrier.live (e.lines ++ (e.carrier.given + 1, fresh_line (calls_with c)) ∷ [])
+            (ap is_some live ∙ some) ∙ lines);
+      }
+
+  connect_steps : (c : Connect) (b : Bool) → (r == e.carrier.given + 1) ≡ b → connect_error c e ≡ None → Course is_caller r moves e →
+      Then (connects c e)
+  connect_steps c true is allowed course =
+      step_none (Course is_caller r) moves e.carrier.outgoing (connects c e) (connect_adds c)
+      (connects_next c allowed (eqb-true r (e.carrier.given + 1) is) course)
+  connect_steps c false is allowed course =
+      others (connects c e) (connect_adds c) (λ still. connects_other c (unequal (e.carrier.given + 1) r is)) course
+
+  -- ---- a call of the session
+
+  unlinked : (x : Option Connection) → value_at r e.carrier.live ≡ x → link_of x ≡ None → open_link r e.carrier ≡ None
+  unlinked x here none =
+      ap (λ (b : Bool). if b then None else link_of (value_at r e.carrier.live)) (ap is_some lasts) ∙ ap link_of here ∙ none
+
+  open_speaks : (call : Call) (o : IsOpen is_caller r moves e) → has_given r e.carrier ≡ true → HasSerial call →
+      IsGranted r call o.session e.carrier → CanSpeak is_caller r moves o.session (called call) e
+  open_speaks call o given serial g = record {
+    peer = o.peer;
+    first = o.calls.first;
+    link = o.calls.link;
+    lasts = o.lasts;
+    given = given;
+    here = o.here;
+    fresh = o.calls.fresh;
+    along = o.calls.along;
+    handed = o.calls.handed;
+    put = o.calls.put;
+    kept = o.kept;
+    proper = granted_proper r call o.session e.carrier g;
+    begun = still_begun o.session (called call) o.begun;
+    begin = o.speaks.begin;
+    new = o.speaks.new;
+    history = subst (λ (b : Bool). History o.speaks.begin (tsdus_out moves.calls)
+        (said_in 0 moves.calls ++ said_after (length (tsdus_out moves.calls)) (sends o.session (called call))) b
+        (after_input o.session (called call)))
+        (sym g.closes) (history.calls (tsdus_out moves.calls) (said_in 0 moves.calls) false o.session call o.speaks.history serial);
+  }
+
+  own_call : (call : Call) → call_error r call e ≡ None → HasSerial call → Course is_caller r moves e → Then (to_session r (called call) e)
+  own_call call allowed serial (unknown none side free live lines) =
+      absurd (never_lasts (open_link r e.carrier) (says_is r call e allowed).granted.opened (unlinked None live refl))
+  own_call call allowed serial (awaited none c terms side was given here kept) =
+      absurd (never_lasts (open_link r e.carrier) (says_is r call e allowed).granted.opened (unlinked (Some asked) here refl))
+  own_call call allowed serial (is_gone (closed at calls is session speaks given shut)) =
+      absurd (never_lasts (open_link r e.carrier) (says_is r call e allowed).granted.opened (link_shut r e.carrier shut))
+  own_call call allowed serial (is_gone (over at calls heard unheard is session speaks parts none ended)) =
+      absurd (never_lasts e.carrier.ended ended lasts)
+  own_call call allowed serial (is_gone (never none ended)) = absurd (never_lasts e.carrier.ended ended lasts)
+  own_call call allowed serial (is_open given o) =
+      let says = says_is r call e allowed in
+      let there : kept_at r e.lines ≡ Some says.acts.session = ap session_in says.acts.here ∙ says.acts.is in
+      let one : Some says.acts.session ≡ Some o.session = sym there ∙ o.kept in
+      let same : says.acts.session ≡ o.session = cc in
+      session_speaks is_caller r moves o.session (called call) e
+      (open_speaks call o given serial (subst (λ (s : Listener). IsGranted r call s e.carrier) same says.granted))
+
+  call_steps : (q : ℕ) (call : Call) (b : Bool) → (r == q) ≡ b → call_error q call e ≡ None → HasSerial call →
+      Course is_caller r moves e → Then (to_session q (called call) e)
+  call_steps q call true is allowed serial course =
+      let same = eqb-true r q is in
+      subst (λ (n : ℕ). Then (to_session n (called call) e)) same
+      (own_call call (ap (λ (n : ℕ). call_error n call e) same ∙ allowed) serial course)
+  call_steps q call false is allowed serial course =
+      others (to_session q (called call) e) (session_adds q (called call) e)
+      (λ still. session_beside q r (unequal q r is) (called call) e still) course
+
+  -- ---- a connection is given up
+
+  disconnect_adds : (q : ℕ) → Adds e.carrier.outgoing (disconnects q e).carrier.outgoing
+  disconnect_adds q =
+      subst (λ (c : Carrier). Adds e.carrier.outgoing c.outgoing) (sym (disconnect_carrier q e))
+      ((adds_kept e.carrier.outgoing).carries.closes q e.carrier (adds_none e.carrier.outgoing))
+
+  waits_still : (b : Bool) (o : Option Listener) (c : Connect) → b ≡ true → o ≡ Some (calls_with c) →
+      awaits_transport (if b then o else None) ≡ true
+  waits_still true o c is here = ap awaits_transport here
+  waits_still false o c is here = absurd (cc)
+
+  refused_by : {E : Type 0} (known waiting : Bool) (a b : E) →
+      (if not known then Some a else (if waiting then Some b else None)) ≡ None → (known ≡ true) × (waiting ≡ false)
+  refused_by true false a b h = (refl, refl)
+  refused_by true true a b h = absurd (cc)
+  refused_by false waiting a b h = absurd (cc)
+
+  gone_given : Gone is_caller r moves e → Course is_caller r moves (disconnects r e)
+  gone_given (closed at calls is session speaks given shut) =
+      is_gone (gone_same is_caller r moves e (disconnects r e)
+      (disconnect_carrier r e ∙ ap (λ (o : Option (ℕ × Standing)). closed_on r 128 o e.carrier) (link_shut r e.carrier shut))
+      (closed at calls is session speaks given shut))
+  gone_given (over at calls heard unheard is session speaks parts none ended) = absurd (never_lasts e.carrier.ended ended lasts)
+  gone_given (never none ended) = absurd (never_lasts e.carrier.ended ended lasts)
+
+  own_given : (o : Option EndReason) → (disconnects r e).carrier.ended ≡ o → disconnect_error r e ≡ None → Course is_caller r moves e →
+      Course is_caller r moves (disconnects r e)
+  own_given (Some reason) ended allowed course = is_gone (course_over is_caller r moves e (disconnects r e) course (ap is_some ended))
+  own_given None still allowed (unknown none side free live lines) =
+      both (has_given r e.carrier) (refused_by (has_given r e.carrier) (awaits_transport (session_at r e)) _ _ allowed).0 free
+  own_given None still allowed (awaited none c terms side was given here kept) =
+      both (awaits_transport (session_at r e))
+      (waits_still (is_some (value_at r e.carrier.live)) (session_in (value_at r e.lines)) c (ap is_some here) kept)
+      (refused_by (has_given r e.carrier) (awaits_transport (session_at r e)) _ _ allowed).1
+  own_given None still allowed (is_open given o) =
+      let carrier = disconnect_carrier r e in
+      let shut = closed_shut r o.peer o.calls.link e.carrier lasts o.here (sym (ap (λ (c : Carrier). c.ended) carrier) ∙ still) in
+      is_gone (closed o.peer o.calls false o.session o.speaks
+      (ap (has_given r) carrier ∙ ap (λ (n : ℕ). nat_lt 0 r && nat_le r n) (closed_given r 128 (open_link r e.carrier) e.carrier) ∙ given)
+      (subst IsShut (sym (ap (λ (c : Carrier). value_at r c.live) carrier ∙ shut)) tt))
+  own_given None still allowed (is_gone g) = gone_given g
+
+  other_given : (q : ℕ) → r ≢ q → (disconnects q e).carrier.ended ≡ None → Beside r e (disconnects q e)
+  other_given q ne still =
+      let carrier = disconnect_carrier q e in
+      let l : Leaves r e.carrier (closed_with q 128 e.carrier) = closed_leaves q r ne (open_link q e.carrier) e.carrier refl in
+      let still_on : (closed_with q 128 e.carrier).ended ≡ None = sym (ap (λ (c : Carrier). c.ended) carrier) ∙ still in
+      let lines : value_at r (disconnects q e).lines ≡ value_at r e.lines =
+      ap (λ (x : End). value_at r x.lines) (disconnect_is q e still) ∙ given_other r q e.lines ne in
+      record {
+        live = ap (λ (c : Carrier). value_at r c.live) carrier ∙ l.live still_on;
+        given = ap (has_given r) carrier ∙ ap (λ (n : ℕ). nat_lt 0 r && nat_le r n) l.given;
+        side = ap (λ (c : Carrier). c.is_caller) carrier ∙ l.side;
+        ended = still ∙ sym lasts;
+        unlined = λ none. lines ∙ none;
+        kept = λ some. ap session_in lines;
+      }
+
+  given_steps : (q : ℕ) (b : Bool) → (r == q) ≡ b → disconnect_error q e ≡ None → Course is_caller r moves e → Then (disconnects q e)
+  given_steps q true is allowed course =
+      let same = eqb-true r q is in
+      subst (λ (n : ℕ). Then (disconnects n e)) same
+      (step_none (Course is_caller r) moves e.carrier.outgoing (disconnects r e) (disconnect_adds r)
+      (own_given (disconnects r e).carrier.ended refl (ap (λ (n : ℕ). disconnect_error n e) same ∙ allowed) course))
+  given_steps q false is allowed course =
+      others (disconnects q e) (disconnect_adds q) (λ still. other_given q (unequal q r is) still) course
+
+  -- ---- the byte connection breaks
+
+  break_is : breaks e ≡ ends Broken e
+  break_is = ap (λ (b : Bool). if b then e else ends Broken e) (ap is_some lasts)
+
+  break_steps : Course is_caller r moves e → Then (breaks e)
+  break_steps course =
+      subst Then (sym break_is)
+      (step_none (Course is_caller r) moves e.carrier.outgoing (ends Broken e) (adds_none e.carrier.outgoing)
+      (is_gone (course_over is_caller r moves e (ends Broken e) course refl)))
+
+  pub user_steps : (call : UserCall) → IsAccepted call e → HasSerialIn call → Course is_caller r moves e → Then (user_does call e)
+  user_steps (connecting c) allowed serial course = connect_steps c (r == e.carrier.given + 1) refl allowed course
+  user_steps (calling q call) allowed serial course = call_steps q call (r == q) refl allowed serial course
+  user_steps (disconnecting q) allowed serial course = given_steps q (r == q) refl allowed course
+  user_steps breaking allowed serial course = break_steps course

@@ -1,0 +1,324 @@
+-- What the link of a connection does as it takes a unit, and as its session hands in TSDUs; and what a session of another
+-- connection leaves of it.
+-- For the course of a connection.
+use Rattle.std.proofs.Common.{◌≡◌, ◌≢◌, ◌∙◌, refl, sym, ap, subst, ℕ, ◌+◌, Bool, true, false, if◌then◌else◌, nat_lt, List, [], ◌∷◌}
+use Rattle.std.proofs.Common.{◌++◌, length, drop, map, Option, Some, None, is_some, Result, Ok, Err, inl, inr, ◌⊎◌, append_assoc}
+use Rattle.std.proofs.lemmas.List.{append-nil, map-append}
+use Rattle.osi_tpdu.specs.Value.{Value, acknowledge, confirm, data0, data2, disconnect, disconnected, error, may_be_followed, request}
+use Rattle.osi_class.specs.Ends.{Ends}
+use Rattle.osi_class.specs.Flow.{Flow, Sender, acknowledged, is_awaited}
+use Rattle.osi_class.specs.Giving.{all_given}
+use Rattle.osi_class.specs.Joining.{Joining, joined, with_part}
+use Rattle.osi_class.specs.Limits.{longest_tsdu}
+use Rattle.osi_class.specs.Link.{Given, Standing, taken, taken_by, taken_flow, unit_of, with_joined, with_sender, with_tsdu}
+use Rattle.osi_class.specs.Runs.{Move, MovesAlong, hand_out, take_in, tsdus_in, tsdus_out}
+use Rattle.osi_class.specs.declared.faults.LinkFault.{LinkFault}
+use Rattle.osi_class.specs.declared.faults.LinkFault.TheVariants.{OutOfSequence, TsduTooLong}
+use Rattle.osi_class.specs.declared.terms.Class.{Class}
+use Rattle.osi_class.specs.declared.terms.Class.TheVariants.{Two, Zero}
+use Rattle.osi_class.proofs.giving.a_link_gives_finitely_many_units.{drained_leaves, drained_moves}
+use Rattle.osi_carrier.specs.Calls.{closed_on, closed_with, closes, link_of, open_link, send_all_error, sent, sent_all, sent_on}
+use Rattle.osi_carrier.specs.Pump.{pumped}
+use Rattle.osi_carrier.specs.React.{handed_out}
+use Rattle.osi_carrier.specs.Rows.{value_at}
+use Rattle.osi_carrier.specs.State.{Connection, State as Carrier, asked, closing, linked, packets}
+use Rattle.osi_carrier.specs.declared.faults.SendError.{SendError}
+use Rattle.osi_carrier.proofs.references.rows_after_a_change.{put_other}
+use Rattle.osi_carrier.proofs.references.what_a_change_leaves_there.{put_here}
+use Rattle.osi_stack.specs.Transport.{answers_by, sent_unless}
+use Rattle.osi_honest.specs.Courses.{IsShut, units_given, units_taken}
+use Rattle.osi_honest.proofs.class_0.what_class_0_writes_of_a_tsdu.{packets_joined}
+use Rattle.osi_honest.proofs.courses.what_calls_of_a_link_say.{HandsIn, given_more, gives, gives_none_in, gives_none_out, gives_units}
+use Rattle.osi_honest.proofs.courses.what_calls_of_a_link_say.{gives_untaken}
+use Rattle.osi_honest.proofs.courses.what_calls_of_a_link_say.{hands_more, hands_none, hands_one, one_in}
+
+-- ---- a link takes a unit
+
+-- it has no whole TSDU, or one, and then no unit follows
+abbrev pub HasFew : Value → List (List ℕ) → Type 0
+HasFew v whole = (whole ≡ []) ⊎ ((tsdu : List ℕ) × (whole ≡ tsdu ∷ []) × (may_be_followed v ≡ false))
+
+part_by : (v : Value) (e : Ends) (flow : Option Flow) (last : Bool) (octets : List ℕ) (after : Standing) (b : Bool) →
+    may_be_followed v ≡ false → e.joining.whole ≡ [] →
+    with_joined e flow (if b then Err TsduTooLong else Ok (with_part e.joining last octets)) ≡ Ok after → HasFew v after.ends.joining.whole
+part_by v e flow last octets after true alone none is = absurd (cc)
+part_by v e flow false octets after false alone none is =
+    let there : record { ends = record e { joining = with_part e.joining false octets }; flow = flow } ≡ after = cc in
+    inl (sym (ap (λ (s : Standing). s.ends.joining.whole) there) ∙ none)
+part_by v e flow true octets after false alone none is =
+    let there : record { ends = record e { joining = with_part e.joining true octets }; flow = flow } ≡ after = cc in
+    inr (
+      e.joining.begun ++ octets,
+      sym (ap (λ (s : Standing). s.ends.joining.whole) there)
+          ∙ ap (λ (l : List (List ℕ)). l ++ (e.joining.begun ++ octets) ∷ []) none,
+      alone,
+    )
+
+awaited_by : (v : Value) (e : Ends) (flow : Flow) (last : Bool) (octets : List ℕ) (after : Standing) (b : Bool) →
+    may_be_followed v ≡ false → e.joining.whole ≡ [] →
+    (if b then with_joined e (Some (taken_flow flow)) (joined e.joining last octets) else Err OutOfSequence) ≡ Ok after →
+    HasFew v after.ends.joining.whole
+awaited_by v e flow last octets after false alone none is = absurd (cc)
+awaited_by v e flow last octets after true alone none is =
+    part_by v e (Some (taken_flow flow)) last octets after (nat_lt longest_tsdu (length e.joining.begun + length octets)) alone none is
+
+sender_by : (v : Value) (e : Ends) (flow : Flow) (after : Standing) (o : Result Sender LinkFault) → e.joining.whole ≡ [] →
+    with_sender e flow o ≡ Ok after → HasFew v after.ends.joining.whole
+sender_by v e flow after (Err fault) none is = absurd (cc)
+sender_by v e flow after (Ok sender) none is =
+    let there : record { ends = e; flow = Some (record flow { sender = sender }) } ≡ after = cc in
+    inl (sym (ap (λ (s : Standing). s.ends.joining.whole) there) ∙ none)
+
+few_by : (e : Ends) (o : Option Flow) (v : Value) (after : Standing) → e.joining.whole ≡ [] → taken_by e o v ≡ Ok after →
+    HasFew v after.ends.joining.whole
+few_by e None (data0 last octets) after none is =
+    part_by (data0 last octets) e None last octets after (nat_lt longest_tsdu (length e.joining.begun + length octets)) refl none is
+few_by e None (request c) after none is = absurd (cc)
+few_by e None (confirm destination c) after none is = absurd (cc)
+few_by e None (disconnect destination source reason user) after none is = absurd (cc)
+few_by e None (disconnected destination source) after none is = absurd (cc)
+few_by e None (data2 destination number last octets) after none is = absurd (cc)
+few_by e None (acknowledge credit destination number) after none is = absurd (cc)
+few_by e None (error destination cause) after none is = absurd (cc)
+few_by e (Some flow) (data2 destination number last octets) after none is =
+    awaited_by (data2 destination number last octets) e flow last octets after (is_awaited flow.receiver number) refl none is
+few_by e (Some flow) (acknowledge credit destination number) after none is =
+    sender_by (acknowledge credit destination number) e flow after (acknowledged flow.sender number credit) none is
+few_by e (Some flow) (data0 last octets) after none is = absurd (cc)
+few_by e (Some flow) (request c) after none is = absurd (cc)
+few_by e (Some flow) (confirm destination c) after none is = absurd (cc)
+few_by e (Some flow) (disconnect destination source reason user) after none is = absurd (cc)
+few_by e (Some flow) (disconnected destination source) after none is = absurd (cc)
+few_by e (Some flow) (error destination cause) after none is = absurd (cc)
+
+pub has_few : (link after : Standing) (v : Value) → link.ends.joining.whole ≡ [] → taken link v ≡ Ok after →
+    HasFew v after.ends.joining.whole
+has_few link after v none is = few_by link.ends link.flow v after none is
+
+abbrev with_whole : Standing → List (List ℕ) → Standing
+with_whole link whole = record link { ends = record link.ends { joining = record link.ends.joining { whole = whole } } }
+
+-- The calls of a link as it takes a unit: it hands out the TSDU that became whole, and gives what may be given.
+pub record TakesIn (v : Value) (link after : Standing) (told : List (List ℕ)) : Type 0 where
+  pub moves : List Move
+  pub along : MovesAlong link moves (pumped (handed_out after))
+  pub into : tsdus_in moves ≡ []
+  pub out : tsdus_out moves ≡ told
+  pub given : units_given moves ≡ all_given (handed_out after)
+  pub took : units_taken moves ≡ v ∷ []
+  pub handed : (pumped (handed_out after)).ends.joining.whole ≡ []
+
+pub takes_in : (link after : Standing) (v : Value) (told : List (List ℕ)) → after.ends.joining.whole ≡ told →
+    HasFew v told → taken link v ≡ Ok after → TakesIn v link after told
+takes_in link after v told is (inl none) took =
+    let units = all_given (handed_out after) in
+    let whole : after.ends.joining.whole ≡ [] = is ∙ none in
+    let same : handed_out after ≡ after =
+    ap (λ (l : List (List ℕ)). with_whole after (drop 1 l)) whole ∙ ap (with_whole after) (sym whole) in
+    record {
+      moves = take_in v ∷ gives units;
+      along = (
+        after,
+        took,
+        subst (λ (s : Standing). MovesAlong s (gives units) (pumped (handed_out after))) same (drained_moves (handed_out after)),
+      );
+      into = gives_none_in units;
+      out = gives_none_out units ∙ sym none;
+      given = gives_units units;
+      took = ap (λ (l : List Value). v ∷ l) (gives_untaken units);
+      handed = ap (λ (j : Joining). j.whole) (drained_leaves (handed_out after)).1 ∙ ap (λ (l : List (List ℕ)). drop 1 l) whole;
+    }
+takes_in link after v told is (inr (tsdu, one, alone)) took =
+    let units = all_given (handed_out after) in
+    let whole : after.ends.joining.whole ≡ tsdu ∷ [] = is ∙ one in
+    let rest : drop 1 after.ends.joining.whole ≡ [] = ap (λ (l : List (List ℕ)). drop 1 l) whole in
+    let front : after.ends.joining.whole ≡ tsdu ∷ drop 1 after.ends.joining.whole =
+    whole ∙ ap (λ (l : List (List ℕ)). tsdu ∷ l) (sym rest) in
+    record {
+      moves = take_in v ∷ hand_out tsdu ∷ gives units;
+      along = (after, took, (handed_out after, ap (with_whole after) front, drained_moves (handed_out after)));
+      into = gives_none_in units;
+      out = ap (λ (l : List (List ℕ)). tsdu ∷ l) (gives_none_out units) ∙ sym one;
+      given = gives_units units;
+      took = ap (λ (l : List Value). v ∷ l) (gives_untaken units);
+      handed = ap (λ (j : Joining). j.whole) (drained_leaves (handed_out after)).1 ∙ rest;
+    }
+
+-- ---- the link of an open connection
+
+pub link_open : (r peer : ℕ) (link : Standing) (c : Carrier) → c.ended ≡ None → value_at r c.live ≡ Some (linked peer link) →
+    open_link r c ≡ Some (peer, link)
+link_open r peer link c lasts here =
+    ap (λ (b : Bool). if b then None else link_of (value_at r c.live)) (ap is_some lasts) ∙ ap link_of here
+
+unlinked_by : (b : Bool) (o : Option Connection) → IsShut o → (if b then None else link_of o) ≡ None
+unlinked_by true o shut = refl
+unlinked_by false None shut = refl
+unlinked_by false (Some asked) shut = absurd shut
+unlinked_by false (Some (linked peer link)) shut = absurd shut
+unlinked_by false (Some (closing peer)) shut = refl
+
+pub link_shut : (r : ℕ) (c : Carrier) → IsShut (value_at r c.live) → open_link r c ≡ None
+link_shut r c shut = unlinked_by (is_some c.ended) (value_at r c.live) shut
+
+-- what a session of a connection that is shut does to the carrier: nothing
+pub shut_answers : (r : ℕ) (closing : Bool) (tsdus : List (List ℕ)) (c : Carrier) → open_link r c ≡ None →
+    answers_by closing r tsdus c ≡ c
+shut_answers r true tsdus c none = ap (λ (o : Option (ℕ × Standing)). closed_on r 128 o c) none
+shut_answers r false tsdus c none = ap (λ (o : Option (ℕ × Standing)). sent_unless (send_all_error tsdus o) r tsdus c) none
+
+-- ---- its session hands in TSDUs
+
+-- nothing else of the carrier changes
+pub record IsSameBeside (old new : Carrier) : Type 0 where
+  pub given : new.given ≡ old.given
+  pub side : new.is_caller ≡ old.is_caller
+  pub ended : new.ended ≡ old.ended
+  pub events : new.events ≡ old.events
+
+pub record Sends (r peer : ℕ) (link : Standing) (tsdus : List (List ℕ)) (old new : Carrier) : Type 0 where
+  pub moves : List Move
+  pub after : Standing
+  pub hands : HandsIn link tsdus after moves
+  pub here : value_at r new.live ≡ Some (linked peer after)
+  pub outgoing : new.outgoing ≡ old.outgoing ++ packets (map (unit_of peer) (units_given moves))
+  pub same : IsSameBeside old new
+
+sends_none : (r peer : ℕ) (link : Standing) (c : Carrier) → value_at r c.live ≡ Some (linked peer link) → Sends r peer link [] c c
+sends_none r peer link c here = record {
+  moves = [];
+  after = link;
+  hands = hands_none link;
+  here = here;
+  outgoing = sym (append-nil c.outgoing);
+  same = record { given = refl; side = refl; ended = refl; events = refl };
+}
+
+sends_one : (r peer : ℕ) (link : Standing) (tsdu : List ℕ) (c : Carrier) → c.ended ≡ None → value_at r c.live ≡ Some (linked peer link) →
+    Sends r peer link (tsdu ∷ []) c (sent r tsdu c)
+sends_one r peer link tsdu c lasts here =
+    subst (λ (o : Option (ℕ × Standing)). Sends r peer link (tsdu ∷ []) c (sent_on r tsdu o c)) (sym (link_open r peer link c lasts here))
+    (record {
+      moves = one_in tsdu link;
+      after = pumped (with_tsdu link tsdu);
+      hands = hands_one link tsdu;
+      here = put_here r (linked peer (pumped (with_tsdu link tsdu))) (linked peer link) c.live here;
+      outgoing = ap (λ (units : List Given). c.outgoing ++ packets (map (unit_of peer) units))
+          (sym (gives_units (all_given (with_tsdu link tsdu))));
+      same = record { given = refl; side = refl; ended = refl; events = refl };
+    })
+
+sends_more : (r peer : ℕ) (link : Standing) (tsdus others : List (List ℕ)) (old mid new : Carrier) (a : Sends r peer link tsdus old mid) →
+    Sends r peer a.after others mid new → Sends r peer link (tsdus ++ others) old new
+sends_more r peer link tsdus others old mid new a b = record {
+  moves = a.moves ++ b.moves;
+  after = b.after;
+  hands = hands_more link a.after b.after tsdus others a.moves b.moves a.hands b.hands;
+  here = b.here;
+  outgoing = b.outgoing ∙ ap (λ (l : List ℕ). l ++ packets (map (unit_of peer) (units_given b.moves))) a.outgoing
+      ∙ append_assoc old.outgoing (packets (map (unit_of peer) (units_given a.moves))) (packets (map (unit_of peer) (units_given b.moves)))
+      ∙ ap (λ (l : List ℕ). old.outgoing ++ l)
+      (sym (packets_joined (map (unit_of peer) (units_given a.moves)) (map (unit_of peer) (units_given b.moves)))
+      ∙ ap packets (sym (map-append (unit_of peer) (units_given a.moves) (units_given b.moves)))
+      ∙ ap (λ (units : List Given). packets (map (unit_of peer) units)) (sym (given_more a.moves b.moves)));
+  same = record {
+    given = b.same.given ∙ a.same.given;
+    side = b.same.side ∙ a.same.side;
+    ended = b.same.ended ∙ a.same.ended;
+    events = b.same.events ∙ a.same.events;
+  };
+}
+
+pub sends_all : (r peer : ℕ) (link : Standing) (tsdus : List (List ℕ)) (c : Carrier) → c.ended ≡ None →
+    value_at r c.live ≡ Some (linked peer link) → Sends r peer link tsdus c (sent_all r tsdus c)
+sends_all r peer link [] c lasts here = sends_none r peer link c here
+sends_all r peer link (tsdu ∷ tsdus) c lasts here =
+    let one = sends_one r peer link tsdu c lasts here in
+    sends_more r peer link (tsdu ∷ []) tsdus c (sent r tsdu c) (sent_all r tsdus (sent r tsdu c)) one
+    (sends_all r peer one.after tsdus (sent r tsdu c) (one.same.ended ∙ lasts) one.here)
+
+-- ---- it closes its connection
+
+-- while the carrier lasts
+pub closed_shut : (r peer : ℕ) (link : Standing) (c : Carrier) → c.ended ≡ None → value_at r c.live ≡ Some (linked peer link) →
+    (closed_with r 128 c).ended ≡ None → value_at r (closed_with r 128 c).live ≡ Some (closing peer)
+closed_shut r peer link c lasts here = by c.class refl
+  where
+    is : closed_with r 128 c ≡ closes r peer 128 c.class c
+    is = ap (λ (o : Option (ℕ × Standing)). closed_on r 128 o c) (link_open r peer link c lasts here)
+
+    two : value_at r (closes r peer 128 (Some Two) c).live ≡ Some (closing peer)
+    two = put_here r (closing peer) (linked peer link) c.live here
+
+    by : (o : Option Class) → c.class ≡ o → (closed_with r 128 c).ended ≡ None → value_at r (closed_with r 128 c).live ≡ Some (closing peer)
+    by (Some Zero) e over = absurd (let none : (closes r peer 128 (Some Zero) c).ended ≡ None =
+        sym (ap (λ (x : Carrier). x.ended) (is ∙ ap (λ (k : Option Class). closes r peer 128 k c) e)) ∙ over in cc)
+    by (Some Two) e over =
+        ap (λ (x : Carrier). value_at r x.live) (is ∙ ap (λ (k : Option Class). closes r peer 128 k c) e) ∙ two
+    by None e over =
+        ap (λ (x : Carrier). value_at r x.live) (is ∙ ap (λ (k : Option Class). closes r peer 128 k c) e)
+        ∙ put_here r (closing peer) (linked peer link) c.live here
+
+-- ---- a session of another connection
+
+-- what it leaves of this one
+pub record Leaves (r : ℕ) (old new : Carrier) : Type 0 where
+  pub live : new.ended ≡ None → value_at r new.live ≡ value_at r old.live
+  pub given : new.given ≡ old.given
+  pub side : new.is_caller ≡ old.is_caller
+  pub events : new.events ≡ old.events
+  pub lasted : new.ended ≡ None → old.ended ≡ None
+
+pub leaves_all : (r : ℕ) (c : Carrier) → Leaves r c c
+leaves_all r c = record { live = λ h. refl; given = refl; side = refl; events = refl; lasted = λ h. h }
+
+leaves_then : (r : ℕ) (a b c : Carrier) → Leaves r a b → Leaves r b c → Leaves r a c
+leaves_then r a b c h k = record {
+  live = λ l. k.live l ∙ h.live (k.lasted l);
+  given = k.given ∙ h.given;
+  side = k.side ∙ h.side;
+  events = k.events ∙ h.events;
+  lasted = λ l. h.lasted (k.lasted l);
+}
+
+module _ (q r : ℕ) (ne : r ≢ q) where
+  sent_leaves : (tsdu : List ℕ) (o : Option (ℕ × Standing)) (c : Carrier) → Leaves r c (sent_on q tsdu o c)
+  sent_leaves tsdu None c = leaves_all r c
+  sent_leaves tsdu (Some (peer, link)) c = record {
+    live = λ h. put_other r q (linked peer (pumped (with_tsdu link tsdu))) c.live ne;
+    given = refl;
+    side = refl;
+    events = refl;
+    lasted = λ h. h;
+  }
+
+  all_leave : (o : Option SendError) (tsdus : List (List ℕ)) (c : Carrier) → Leaves r c (sent_unless o q tsdus c)
+  all_leave (Some e) tsdus c = leaves_all r c
+  all_leave None [] c = leaves_all r c
+  all_leave None (tsdu ∷ tsdus) c =
+      leaves_then r c (sent q tsdu c) (sent_unless None q tsdus (sent q tsdu c)) (sent_leaves tsdu (open_link q c) c)
+      (all_leave None tsdus (sent q tsdu c))
+
+  closes_leave : (peer : ℕ) (class : Option Class) (c : Carrier) → c.ended ≡ None → Leaves r c (closes q peer 128 class c)
+  closes_leave peer (Some Zero) c lasts = record { live = λ h. absurd (cc); given = refl; side = refl; events = refl; lasted = λ h. lasts }
+  closes_leave peer (Some Two) c lasts =
+      record { live = λ h. put_other r q (closing peer) c.live ne; given = refl; side = refl; events = refl; lasted = λ h. h }
+  closes_leave peer None c lasts =
+      record { live = λ h. put_other r q (closing peer) c.live ne; given = refl; side = refl; events = refl; lasted = λ h. h }
+
+  linked_lasts : (b : Bool) (o : Option Connection) (link : ℕ × Standing) → (if b then None else link_of o) ≡ Some link → b ≡ false
+  linked_lasts true o link e = absurd (cc)
+  linked_lasts false o link e = refl
+
+  pub closed_leaves : (o : Option (ℕ × Standing)) (c : Carrier) → open_link q c ≡ o → Leaves r c (closed_on q 128 o c)
+  closed_leaves None c e = leaves_all r c
+  closed_leaves (Some (peer, link)) c e =
+      closes_leave peer c.class c (none_of c.ended (linked_lasts (is_some c.ended) (value_at q c.live) (peer, link) e))
+    where
+      none_of : {A : Type 0} (o : Option A) → is_some o ≡ false → o ≡ None
+      none_of None h = refl
+      none_of (Some x) h = absurd (cc)
+
+  pub answers_leave : (closing : Bool) (tsdus : List (List ℕ)) (c : Carrier) → Leaves r c (answers_by closing q tsdus c)
+  answers_leave true tsdus c = closed_leaves (open_link q c) c refl
+  answers_leave false tsdus c = all_leave (send_all_error tsdus (open_link q c)) tsdus c

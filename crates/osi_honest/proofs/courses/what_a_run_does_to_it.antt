@@ -1,0 +1,197 @@
+-- Each turn of an end, and a run: what becomes of the course of one connection.
+-- For the laws of an end and its captures.
+use Rattle.std.proofs.Common.{◌≡◌, ◌∙◌, refl, sym, ap, subst, ℕ, ◌==◌, Bool, List, [], ◌∷◌, ◌++◌, take}
+use Rattle.std.proofs.Common.{None}
+use Rattle.std.proofs.lemmas.List.{append-nil, append_cancel_left}
+use Rattle.osi_tpkt.specs.Stream.{ArePackets}
+use Rattle.osi_class.specs.declared.terms.Local.{Local}
+use Rattle.osi_carrier.specs.Orderly.{IsOrderly}
+use Rattle.osi_carrier.specs.Rows.{Rows, value_at}
+use Rattle.osi_carrier.specs.State.{packets}
+use Rattle.osi_carrier.proofs.effects.a_unit_touches_one_connection.{orderly_fresh, orderly_same}
+use Rattle.osi_session.specs.Listening.{called}
+use Rattle.osi_stack.specs.Calls.{without_first}
+use Rattle.osi_stack.specs.Inputs.{IsAccepted}
+use Rattle.osi_stack.specs.Rounds.{UserCall, user_does}
+use Rattle.osi_stack.specs.Rounds.UserCall.{breaking, calling, connecting, disconnecting}
+use Rattle.osi_stack.specs.Runs.{Call, Calls, carried_in, put_back, used_in}
+use Rattle.osi_stack.specs.Runs.Call.{carrying, feeding, telling}
+use Rattle.osi_stack.specs.State.{End, Holding, Line, fresh_end}
+use Rattle.osi_stack.proofs.carried.all_events_are_handled.{breaks_attended, connect_attended, feeds_attended, session_attended}
+use Rattle.osi_stack.proofs.carried.what_a_move_leaves.{first_keep, kept_first}
+use Rattle.osi_stack.proofs.given_up.the_invariant_stays.{disconnect_attended, disconnect_orderly}
+use Rattle.osi_stack.proofs.sound.the_invariant_between_calls.{breaks_orderly, connect_orderly, session_orderly}
+use Rattle.osi_honest.specs.Courses.{Continues, ContinuesAlong, Course, Deeds, no_deeds, then_did}
+use Rattle.osi_honest.specs.Courses.Course.{unknown}
+use Rattle.osi_honest.specs.Courses.IsWithin.{none as none_within}
+use Rattle.osi_honest.specs.Turns.{Act, Acts, Run, Takes, Turn, carried_by, used_by}
+use Rattle.osi_honest.specs.Turns.Act.{serving, using}
+use Rattle.osi_honest.proofs.courses.steps_of_a_course.{Steps}
+use Rattle.osi_honest.proofs.courses.what_a_call_does_to_it.{user_steps}
+use Rattle.osi_honest.proofs.courses.what_a_packet_does_to_it.{Between, FeedSteps, feeds_steps, orderly_kept}
+use Rattle.osi_honest.proofs.courses.what_a_unit_does_to_a_connection.{none_given}
+use Rattle.osi_honest.proofs.courses.what_another_connection_leaves.{Beside, course_beside, none_before, none_behind}
+use Rattle.osi_honest.proofs.courses.what_calls_of_a_link_say.{then_none}
+use Rattle.osi_honest.proofs.courses.what_sessions_hear_of_it.{Known}
+use Rattle.osi_honest.proofs.keeping.what_a_unit_keeps_a_turn_keeps.{kept_feeds}
+
+-- ---- between two turns
+
+call_between : (call : Call) (old new : Holding) → Between old.end → Calls old call new → Between new.end
+call_between (feeding piece fed) old new b c = record {
+  orderly = kept_feeds IsOrderly orderly_kept piece fed old new b.orderly c;
+  attended = feeds_attended old new piece fed c b.attended;
+}
+call_between (telling shown) old new b c =
+    subst (λ (x : Holding). Between x.end) (sym c.1) (record { orderly = b.orderly; attended = b.attended })
+call_between (carrying octets) old new b c =
+    let was : Between (put_back octets new.end) = subst (λ (x : Holding). Between x.end) c b in
+    record {
+      orderly = orderly_same (put_back octets new.end).carrier new.end.carrier.outgoing new.end.carrier.events was.orderly;
+      attended = was.attended;
+    }
+
+user_between : (call : UserCall) (e : End) → IsAccepted call e → Between e → Between (user_does call e)
+user_between (connecting c) e allowed b =
+    record { orderly = connect_orderly c e allowed b.orderly; attended = connect_attended c e b.attended }
+user_between (calling q call) e allowed b =
+    record { orderly = session_orderly q (called call) e b.orderly; attended = session_attended q (called call) e b.attended }
+user_between (disconnecting q) e allowed b =
+    record { orderly = disconnect_orderly q e b.orderly; attended = disconnect_attended q e b.attended }
+user_between breaking e allowed b = record { orderly = breaks_orderly e b.orderly; attended = breaks_attended e b.attended }
+
+act_between : (act : Act) (old new : Holding) → Between old.end → Acts old act new → Between new.end
+act_between (serving call) old new b acts = call_between call old new b acts
+act_between (using call) old new b acts =
+    subst (λ (x : Holding). Between x.end) (sym acts.3) (user_between call old.end acts.1 b)
+
+pub fresh_between : (is_caller : Bool) (local : Local) → Between (fresh_end is_caller local)
+fresh_between is_caller local = record { orderly = orderly_fresh is_caller local; attended = λ lasts. refl }
+
+-- ---- indications and octets are fetched
+
+first_unlined : (r : ℕ) (lines : Rows Line) → value_at r lines ≡ None → value_at r (without_first lines) ≡ None
+first_unlined r [] h = refl
+first_unlined r ((p, y) ∷ lines) h =
+    let k = none_behind r p y lines (p == r) refl h in
+    first_keep (λ (l : Rows Line). value_at r l ≡ None) p y lines
+    (none_before r p y (without_first lines) k.1 (first_unlined r lines k.0))
+    (λ left. none_before r p (record y { waiting = left }) lines k.1 k.0)
+
+told_beside : (r : ℕ) (e : End) → Beside r e (record e { lines = without_first e.lines })
+told_beside r e = record {
+  live = refl;
+  given = refl;
+  side = refl;
+  ended = refl;
+  unlined = λ none. first_unlined r e.lines none;
+  kept = λ some. kept_first r e.lines;
+}
+
+carried_beside : (r : ℕ) (octets : List ℕ) (e : End) → Beside r (put_back octets e) e
+carried_beside r octets e =
+    record { live = refl; given = refl; side = refl; ended = refl; unlined = λ none. none; kept = λ some. refl }
+
+-- ---- a turn
+
+module _ (known : Known) (is_caller : Bool) (r : ℕ) (moves : Deeds) where
+  -- nothing was used
+  as_turn : (turn : Turn) (old new : Holding) → turn.used ≡ [] → new.held.octets ≡ old.held.octets →
+      Steps (Course is_caller r) moves old.end.carrier.outgoing new.end →
+      new.end.carrier.outgoing ≡ old.end.carrier.outgoing ++ turn.put → Continues is_caller r moves old turn new
+  as_turn turn old new none same s is = record {
+    more = s.more;
+    course = s.there;
+    units = s.units;
+    written = append_cancel_left old.end.carrier.outgoing turn.put (packets s.units) (sym is ∙ s.written);
+    within = s.within;
+    used = [];
+    rest = old.held.octets ++ turn.used;
+    cut = refl;
+    held = λ lasts. ap (λ (l : List ℕ). old.held.octets ++ l) none ∙ append-nil old.held.octets ∙ sym same;
+    taken = s.taken;
+  }
+
+  -- a piece was fed
+  fed_turn : (turn : Turn) (octets : List ℕ) (old new : Holding) → turn.used ≡ octets → FeedSteps known is_caller r moves octets old new →
+      new.end.carrier.outgoing ≡ old.end.carrier.outgoing ++ turn.put → Continues is_caller r moves old turn new
+  fed_turn turn octets old new used f is = record {
+    more = f.steps.more;
+    course = f.steps.there;
+    units = f.steps.units;
+    written = append_cancel_left old.end.carrier.outgoing turn.put (packets f.steps.units) (sym is ∙ f.steps.written);
+    within = f.steps.within;
+    used = f.used;
+    rest = f.rest;
+    cut = subst (λ (l : List ℕ). ArePackets f.used (old.held.octets ++ l) f.rest) (sym used) f.cut;
+    held = f.held;
+    taken = f.steps.taken;
+  }
+
+  -- nothing was used or put
+  quiet_turn : (turn : Turn) (old new : Holding) → turn.used ≡ [] → turn.put ≡ [] → new.held.octets ≡ old.held.octets →
+      Course is_caller r moves new.end → Continues is_caller r moves old turn new
+  quiet_turn turn old new none nothing same course = record {
+    more = no_deeds;
+    course = subst (λ (d : Deeds). Course is_caller r d new.end) (sym (then_none moves)) course;
+    units = [];
+    written = nothing;
+    within = none_within [];
+    used = [];
+    rest = old.held.octets ++ turn.used;
+    cut = refl;
+    held = λ lasts. ap (λ (l : List ℕ). old.held.octets ++ l) none ∙ append-nil old.held.octets ∙ sym same;
+    taken = none_within [];
+  }
+
+  nothing_put : (old new put : List ℕ) → new ≡ old ++ put → new ≡ old → put ≡ []
+  nothing_put old new put is same = append_cancel_left old put [] (sym is ∙ same ∙ sym (append-nil old))
+
+  serving_turn : (turn : Turn) (call : Call) (old new : Holding) → turn.used ≡ used_in call → Between old.end →
+      Course is_caller r moves old.end → Calls old call new →
+      carried_in call ++ new.end.carrier.outgoing ≡ old.end.carrier.outgoing ++ turn.put → Continues is_caller r moves old turn new
+  serving_turn turn (feeding piece fed) old new used b course c is =
+      fed_turn turn (take fed.used piece) old new used (feeds_steps known is_caller r moves piece fed old new b course c) is
+  serving_turn turn (telling shown) old new used b course c is =
+      quiet_turn turn old new used
+      (nothing_put old.end.carrier.outgoing new.end.carrier.outgoing turn.put is (ap (λ (x : Holding). x.end.carrier.outgoing) c.1))
+      (ap (λ (x : Holding). x.held.octets) c.1)
+      (subst (λ (x : Holding). Course is_caller r moves x.end) (sym c.1)
+      (course_beside is_caller r moves old.end (record old.end { lines = without_first old.end.lines }) (told_beside r old.end) course))
+  serving_turn turn (carrying octets) old new used b course c is =
+      quiet_turn turn old new used
+      (nothing_put old.end.carrier.outgoing (octets ++ new.end.carrier.outgoing) turn.put is
+      (sym (ap (λ (x : Holding). x.end.carrier.outgoing) c)))
+      (sym (ap (λ (x : Holding). x.held.octets) c))
+      (course_beside is_caller r moves (put_back octets new.end) new.end (carried_beside r octets new.end)
+      (subst (λ (x : Holding). Course is_caller r moves x.end) c course))
+
+  act_turn : (turn : Turn) (act : Act) (old new : Holding) → turn.used ≡ used_by act → Between old.end → Course is_caller r moves old.end →
+      Acts old act new → carried_by act ++ new.end.carrier.outgoing ≡ old.end.carrier.outgoing ++ turn.put →
+      Continues is_caller r moves old turn new
+  act_turn turn (serving call) old new used b course acts is = serving_turn turn call old new used b course acts is
+  act_turn turn (using call) old new used b course acts is =
+      as_turn turn old new used (ap (λ (x : Holding). x.held.octets) acts.3)
+      (subst (λ (x : Holding). Steps (Course is_caller r) moves old.end.carrier.outgoing x.end) (sym acts.3)
+      (user_steps is_caller r moves old.end acts.0 call acts.1 acts.2 course)) is
+
+  pub turn_continues : (turn : Turn) (old new : Holding) → Between old.end → Course is_caller r moves old.end → Takes old turn new →
+      Continues is_caller r moves old turn new
+  turn_continues turn old new b course takes = act_turn turn takes.act old new takes.used b course takes.acts takes.put
+
+-- ---- a run
+
+pub run_continues : Known → (is_caller : Bool) (r : ℕ) (moves : Deeds) (turns : List Turn) (old new : Holding) → Between old.end →
+    Course is_caller r moves old.end → Run old turns new → ContinuesAlong is_caller r moves old turns new
+run_continues known is_caller r moves [] old new b course run = run
+run_continues known is_caller r moves (turn ∷ turns) old new b course run =
+    let on = turn_continues known is_caller r moves turn old run.0 b course run.1 in (
+      run.0,
+      run.1,
+      on,
+      run_continues known is_caller r (then_did moves on.more) turns run.0 new (act_between run.1.act old run.0 b run.1.acts) on.course
+          run.2,
+    )
+
+pub fresh_course : (is_caller : Bool) (local : Local) (r : ℕ) → Course is_caller r no_deeds (fresh_end is_caller local)
+fresh_course is_caller local r = unknown refl refl (none_given r) refl refl

@@ -1,0 +1,167 @@
+-- What happens at another connection leaves the course of this one; and at the end of the carrier the course is over.
+-- For the course of a connection.
+use Rattle.std.proofs.Common.{◌≡◌, ◌≢◌, ◌∙◌, refl, sym, ap, subst, ℕ, ◌==◌, ◌&&◌, Bool, true, false, if◌then◌else◌, nat_le, nat_lt}
+use Rattle.std.proofs.Common.{[], ◌∷◌, ◌++◌, Option, Some, None, is_some, IsSome}
+use Rattle.std.proofs.lemmas.List.{append-nil}
+use Rattle.osi_message.specs.Parting.{tsdus_sent}
+use Rattle.osi_carrier.specs.Rows.{Rows, value_at}
+use Rattle.osi_carrier.specs.State.{Connection, State as Carrier}
+use Rattle.osi_carrier.proofs.references.rows_after_a_change.{push_other, put_other}
+use Rattle.osi_session.specs.Listening.{Input, Listener, react}
+use Rattle.osi_stack.specs.Calls.{has_given}
+use Rattle.osi_stack.specs.Messages.{kept_at}
+use Rattle.osi_stack.specs.Moving.{by_line, carrier_by, limit_for, line_by, to_session}
+use Rattle.osi_stack.specs.State.{End, Line, fresh_line, joins, session_in, used_lines}
+use Rattle.osi_stack.proofs.carried.what_a_move_leaves.{used_keep, used_live}
+use Rattle.osi_honest.specs.Courses.{Course, Deeds, Gone, IsOpen, IsShut}
+use Rattle.osi_honest.specs.Courses.Course.{awaited, is_gone, is_open, unknown}
+use Rattle.osi_honest.specs.Courses.Gone.{closed, never, over}
+use Rattle.osi_honest.proofs.courses.what_a_link_takes_and_is_handed.{Leaves, answers_leave, leaves_all, link_shut, shut_answers}
+
+-- ---- an end that leaves the connection as it is
+
+pub record Beside (r : ℕ) (old new : End) : Type 0 where
+  pub live : value_at r new.carrier.live ≡ value_at r old.carrier.live
+  pub given : has_given r new.carrier ≡ has_given r old.carrier
+  pub side : new.carrier.is_caller ≡ old.carrier.is_caller
+  pub ended : new.carrier.ended ≡ old.carrier.ended
+  pub unlined : value_at r old.lines ≡ None → value_at r new.lines ≡ None
+  pub kept : IsSome (value_at r old.carrier.live) → kept_at r new.lines ≡ kept_at r old.lines
+
+some_there : {X : Type 0} (o : Option X) (x : X) → o ≡ Some x → IsSome o
+some_there o x e = ap is_some e
+
+module _ (is_caller : Bool) (r : ℕ) (moves : Deeds) (old new : End) where
+  pub gone_beside : Beside r old new → Gone is_caller r moves old → Gone is_caller r moves new
+  gone_beside b (closed peer calls is session speaks given shut) =
+      closed peer calls is session speaks (b.given ∙ given) (subst IsShut (sym b.live) shut)
+  gone_beside b (over peer calls heard unheard is session speaks parts none was_over) =
+      over peer calls heard unheard is session speaks parts none (subst IsSome (sym b.ended) was_over)
+  gone_beside b (never none was_over) = never none (subst IsSome (sym b.ended) was_over)
+
+  pub open_beside : Beside r old new → IsOpen is_caller r moves old → IsOpen is_caller r moves new
+  open_beside b o = record {
+    peer = o.peer;
+    calls = o.calls;
+    session = o.session;
+    lasts = b.ended ∙ o.lasts;
+    here = b.live ∙ o.here;
+    kept = b.kept (some_there (value_at r old.carrier.live) _ o.here) ∙ o.kept;
+    speaks = o.speaks;
+    begun = o.begun;
+  }
+
+  pub course_beside : Beside r old new → Course is_caller r moves old → Course is_caller r moves new
+  course_beside b (unknown none side given live lines) =
+      unknown none (b.side ∙ side) (b.given ∙ given) (b.live ∙ live) (b.unlined lines)
+  course_beside b (awaited none c terms side lasts given here kept) =
+      awaited none c terms side (b.ended ∙ lasts) (b.given ∙ given) (b.live ∙ here)
+      (b.kept (some_there (value_at r old.carrier.live) _ here) ∙ kept)
+  course_beside b (is_open given o) = is_open (b.given ∙ given) (open_beside b o)
+  course_beside b (is_gone g) = is_gone (gone_beside b g)
+
+  -- ---- the end of the carrier
+
+  pub open_over : IsOpen is_caller r moves old → IsSome new.carrier.ended → Gone is_caller r moves new
+  open_over o ended = over o.peer o.calls moves.calls [] false o.session o.speaks (sym (append-nil moves.calls)) refl ended
+
+  pub gone_over : Gone is_caller r moves old → IsSome new.carrier.ended → Gone is_caller r moves new
+  gone_over (closed peer calls is session speaks given shut) ended =
+      over peer calls moves.calls [] is session speaks (sym (append-nil moves.calls)) refl ended
+  gone_over (over peer calls heard unheard is session speaks parts none was_over) ended =
+      over peer calls heard unheard is session speaks parts none ended
+  gone_over (never none was_over) ended = never none ended
+
+  pub course_over : Course is_caller r moves old → IsSome new.carrier.ended → Gone is_caller r moves new
+  course_over (unknown none side given live lines) ended = never none ended
+  course_over (awaited none c terms side lasts given here kept) ended = never none ended
+  course_over (is_open given o) ended = open_over o ended
+  course_over (is_gone g) ended = gone_over g ended
+
+  -- ---- the carrier alone counts once the connection is gone
+
+  pub gone_same : new.carrier ≡ old.carrier → Gone is_caller r moves old → Gone is_caller r moves new
+  gone_same same (closed peer calls is session speaks given shut) =
+      closed peer calls is session speaks (ap (has_given r) same ∙ given)
+      (subst IsShut (sym (ap (λ (c : Carrier). value_at r c.live) same)) shut)
+  gone_same same (over peer calls heard unheard is session speaks parts none ended) =
+      over peer calls heard unheard is session speaks parts none (subst (λ (c : Carrier). IsSome c.ended) (sym same) ended)
+  gone_same same (never none ended) = never none (subst (λ (c : Carrier). IsSome c.ended) (sym same) ended)
+
+-- ---- lines
+
+pub none_behind : (r p : ℕ) (y : Line) (lines : Rows Line) (b : Bool) → (p == r) ≡ b →
+    (if b then Some y else value_at r lines) ≡ None → (value_at r lines ≡ None) × (b ≡ false)
+none_behind r p y lines true e h = absurd (cc)
+none_behind r p y lines false e h = (h, refl)
+
+pub none_before : (r p : ℕ) (y : Line) (lines : Rows Line) → (p == r) ≡ false → value_at r lines ≡ None → value_at r ((p, y) ∷ lines) ≡ None
+none_before r p y lines e h = ap (λ (b : Bool). if b then Some y else value_at r lines) e ∙ h
+
+pub used_none : (r : ℕ) (live : Rows Connection) (lines : Rows Line) → value_at r lines ≡ None → value_at r (used_lines live lines) ≡ None
+used_none r live [] h = refl
+used_none r live ((p, y) ∷ lines) h =
+    let k = none_behind r p y lines (p == r) refl h in
+    let more = used_none r live lines k.0 in
+    used_keep (λ (l : Rows Line). value_at r l ≡ None) live (p, y) lines more
+    (λ used. none_before r p y (used_lines live lines) k.1 more)
+
+-- a new session of another connection
+pub joins_beside : (q r : ℕ) (session : Listener) (e : End) → r ≢ q → Beside r e (joins q session e)
+joins_beside q r session e ne = record {
+  live = refl;
+  given = refl;
+  side = refl;
+  ended = refl;
+  unlined = λ none. used_none r e.carrier.live (e.lines ++ (q, fresh_line session) ∷ [])
+      (push_other r q (fresh_line session) e.lines ne ∙ none);
+  kept = λ some. ap session_in
+      (used_live r e.carrier.live (e.lines ++ (q, fresh_line session) ∷ []) some ∙ push_other r q (fresh_line session) e.lines ne);
+}
+
+-- ---- the session of another connection makes a move
+
+module _ (q r : ℕ) (ne : r ≢ q) where
+  carrier_leaves : (o : Option Listener) (input : Input) (c : Carrier) → Leaves r c (carrier_by q o input c)
+  carrier_leaves None input c = leaves_all r c
+  carrier_leaves (Some session) input c =
+      answers_leave q r ne (react session input).closes (tsdus_sent (limit_for session input) (react session input).reply) c
+
+  line_leaves : (o : Option Line) (input : Input) (e : End) → Leaves r e.carrier (by_line q o input e).carrier
+  line_leaves None input e = leaves_all r e.carrier
+  line_leaves (Some line) input e = carrier_leaves line.session input e.carrier
+
+  line_other : (o : Option Line) (input : Input) (e : End) → value_at r (by_line q o input e).lines ≡ value_at r e.lines
+  line_other None input e = refl
+  line_other (Some line) input e = put_other r q (line_by line line.session input) e.lines ne
+
+  pub session_leaves : (input : Input) (e : End) → Leaves r e.carrier (to_session q input e).carrier
+  session_leaves input e = line_leaves (value_at q e.lines) input e
+
+  pub session_beside : (input : Input) (e : End) → (to_session q input e).carrier.ended ≡ None → Beside r e (to_session q input e)
+  session_beside input e lasts =
+      let l = session_leaves input e in
+      let lines = line_other (value_at q e.lines) input e in
+      record {
+        live = l.live lasts;
+        given = ap (λ (n : ℕ). nat_lt 0 r && nat_le r n) l.given;
+        side = l.side;
+        ended = lasts ∙ sym (l.lasted lasts);
+        unlined = λ none. lines ∙ none;
+        kept = λ some. ap session_in lines;
+      }
+
+-- ---- the session of a connection that is shut
+
+shut_by : (r : ℕ) (o : Option Listener) (input : Input) (c : Carrier) → IsShut (value_at r c.live) → carrier_by r o input c ≡ c
+shut_by r None input c shut = refl
+shut_by r (Some session) input c shut =
+    shut_answers r (react session input).closes (tsdus_sent (limit_for session input) (react session input).reply) c (link_shut r c shut)
+
+shut_line : (r : ℕ) (o : Option Line) (input : Input) (e : End) → IsShut (value_at r e.carrier.live) →
+    (by_line r o input e).carrier ≡ e.carrier
+shut_line r None input e shut = refl
+shut_line r (Some line) input e shut = shut_by r line.session input e.carrier shut
+
+pub shut_session : (r : ℕ) (input : Input) (e : End) → IsShut (value_at r e.carrier.live) → (to_session r input e).carrier ≡ e.carrier
+shut_session r input e shut = shut_line r (value_at r e.lines) input e shut

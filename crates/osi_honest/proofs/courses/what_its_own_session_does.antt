@@ -1,0 +1,160 @@
+-- The session of an open connection makes a move: what it sends is handed in at its link, or the connection is closed.
+-- For the course of a connection.
+use Rattle.std.proofs.Common.{◌≡◌, ◌∙◌, refl, sym, ap, subst, ℕ, ◌+◌, ◌&&◌, Bool, true, false, List, [], ◌++◌, length, map, Option}
+use Rattle.std.proofs.Common.{Some, None, is_some, nat_le, nat_lt, arith}
+use Rattle.std.proofs.lemmas.List.{append-nil}
+use Rattle.osi_class.specs.Between.{IsFresh}
+use Rattle.osi_class.specs.Joining.{Joining}
+use Rattle.osi_class.specs.Link.{Standing, unit_of}
+use Rattle.osi_class.specs.Runs.{Move, MovesAlong, tsdus_out}
+use Rattle.osi_carrier.specs.Calls.{closed_with, open_link, sent_all}
+use Rattle.osi_carrier.specs.Rows.{value_at}
+use Rattle.osi_carrier.specs.State.{State as Carrier, linked}
+use Rattle.osi_carrier.specs.declared.ends.EndReason.{EndReason}
+use Rattle.osi_message.specs.Parting.{tsdus_sent}
+use Rattle.osi_session.specs.Listening.{Input, Listener, after_input, react}
+use Rattle.osi_session.specs.Phases.{is_wait_transport}
+use Rattle.osi_judge.specs.Running.{sends}
+use Rattle.osi_stack.specs.Calls.{has_given}
+use Rattle.osi_stack.specs.Messages.{kept_at}
+use Rattle.osi_stack.specs.Moving.{limit_for, to_session}
+use Rattle.osi_stack.specs.State.{End}
+use Rattle.osi_stack.specs.Transport.{answers_by, hands}
+use Rattle.osi_stack.proofs.called.tsdus_that_are_handed_together.{handed}
+use Rattle.osi_stack.proofs.sound.the_invariant_is_kept.{closed_given}
+use Rattle.osi_honest.specs.Courses.{AreCalls, Course, Deeds, Gone, IsNew, IsShut, Speaks, said_in, units_given}
+use Rattle.osi_honest.specs.Courses.Course.{is_gone, is_open}
+use Rattle.osi_honest.specs.Courses.Gone.{closed, over}
+use Rattle.osi_honest.specs.Talking.{History, Said, said_after}
+use Rattle.osi_honest.proofs.class_0.a_session_of_class_0_puts_what_it_sends.{HasLine, IsProper, kept_then, line_there, moved_by}
+use Rattle.osi_honest.proofs.courses.steps_of_a_course.{Steps, session_adds, step_none, step_own}
+use Rattle.osi_honest.proofs.courses.what_a_link_takes_and_is_handed.{Sends, closed_shut, sends_all}
+use Rattle.osi_honest.proofs.courses.what_calls_of_a_link_say.{along_more, out_more, put_more, said_more}
+
+-- The connection is open, and this would be said by its session with an input.
+pub record CanSpeak (is_caller : Bool) (r : ℕ) (moves : Deeds) (session : Listener) (input : Input) (e : End) : Type 0 where
+  pub peer : ℕ
+  pub first : Standing
+  pub link : Standing
+  pub lasts : e.carrier.ended ≡ None
+  pub given : has_given r e.carrier ≡ true
+  pub here : value_at r e.carrier.live ≡ Some (linked peer link)
+  pub fresh : IsFresh first
+  pub along : MovesAlong first moves.calls link
+  pub handed : link.ends.joining.whole ≡ []
+  pub put : moves.put ≡ map (unit_of peer) (units_given moves.calls)
+  pub kept : kept_at r e.lines ≡ Some session
+  pub proper : IsProper session input
+  pub begun : is_wait_transport (after_input session input).state.phase ≡ false
+  pub begin : Listener
+  pub new : IsNew is_caller begin
+  pub history : History begin (tsdus_out moves.calls)
+      (said_in 0 moves.calls ++ said_after (length (tsdus_out moves.calls)) (sends session input))
+      (react session input).closes (after_input session input)
+
+module _ (is_caller : Bool) (r : ℕ) (moves : Deeds) (session : Listener) (input : Input) (e : End)
+    (t : CanSpeak is_caller r moves session input e) where
+  abbrev there : End
+  there = to_session r input e
+
+  -- it closes its connection, and sends nothing
+  nothing_said : (react session input).closes ≡ true →
+      said_in 0 moves.calls ++ said_after (length (tsdus_out moves.calls)) (sends session input) ≡ said_in 0 moves.calls
+  nothing_said closes =
+      ap (λ (l : List (List ℕ)). said_in 0 moves.calls ++ said_after (length (tsdus_out moves.calls)) l) (t.proper.silent closes)
+      ∙ append-nil (said_in 0 moves.calls)
+
+  closed_is : (react session input).closes ≡ true → HasLine r session e.lines → there.carrier ≡ closed_with r 128 e.carrier
+  closed_is closes h =
+      ap (λ (x : End). x.carrier) (moved_by r session input e h)
+      ∙ ap (λ (b : Bool). answers_by b r (tsdus_sent (limit_for session input) (react session input).reply) e.carrier) closes
+
+  these_calls : AreCalls t.peer moves
+  these_calls = record { first = t.first; link = t.link; fresh = t.fresh; along = t.along; handed = t.handed; put = t.put }
+
+  closes_by : (o : Option EndReason) → there.carrier.ended ≡ o → (react session input).closes ≡ true → HasLine r session e.lines →
+      Gone is_caller r moves there
+  closes_by (Some reason) ended closes h =
+      over t.peer these_calls moves.calls [] (react session input).closes (after_input session input)
+      (record {
+        begin = t.begin;
+        new = t.new;
+        history = subst (λ (l : List Said). History t.begin (tsdus_out moves.calls) l (react session input).closes
+            (after_input session input)) (nothing_said closes) t.history;
+      }) (sym (append-nil moves.calls)) refl (ap is_some ended)
+  closes_by None lasts closes h =
+      let is = closed_is closes h in
+      let shut = closed_shut r t.peer t.link e.carrier t.lasts t.here (sym (ap (λ (c : Carrier). c.ended) is) ∙ lasts) in
+      closed t.peer these_calls (react session input).closes (after_input session input)
+      (record {
+        begin = t.begin;
+        new = t.new;
+        history = subst (λ (l : List Said). History t.begin (tsdus_out moves.calls) l (react session input).closes
+            (after_input session input)) (nothing_said closes) t.history;
+      })
+      (ap (has_given r) is ∙ ap (λ (n : ℕ). nat_lt 0 r && nat_le r n) (closed_given r 128 (open_link r e.carrier) e.carrier) ∙ t.given)
+      (subst IsShut (sym (ap (λ (c : Carrier). value_at r c.live) is ∙ shut)) tt)
+
+  -- it sends these TSDUs
+  said_then : (more : List Move) → tsdus_out more ≡ [] → ((n : ℕ) → said_in n more ≡ said_after n (sends session input)) →
+      (react session input).closes ≡ false → Speaks is_caller (moves.calls ++ more) false (after_input session input)
+  said_then more none said closes =
+      let took : tsdus_out (moves.calls ++ more) ≡ tsdus_out moves.calls =
+      out_more moves.calls more ∙ ap (λ (l : List (List ℕ)). tsdus_out moves.calls ++ l) none ∙ append-nil (tsdus_out moves.calls) in
+      let all : said_in 0 (moves.calls ++ more)
+      ≡ said_in 0 moves.calls ++ said_after (length (tsdus_out moves.calls)) (sends session input) =
+      said_more 0 moves.calls more ∙ ap (λ (l : List Said). said_in 0 moves.calls ++ l) (said (0 + length (tsdus_out moves.calls)))
+      ∙ ap (λ (n : ℕ). said_in 0 moves.calls ++ said_after n (sends session input))
+      (let same : 0 + length (tsdus_out moves.calls) ≡ length (tsdus_out moves.calls) = omega arith in same) in
+      record {
+        begin = t.begin;
+        new = t.new;
+        history = subst (λ (b : Bool). History t.begin (tsdus_out (moves.calls ++ more)) (said_in 0 (moves.calls ++ more)) b
+            (after_input session input))
+            closes
+            (subst (λ (l : List Said). History t.begin (tsdus_out (moves.calls ++ more)) l (react session input).closes
+            (after_input session input))
+            (sym all)
+            (subst (λ (l : List (List ℕ)). History t.begin l
+            (said_in 0 moves.calls ++ said_after (length (tsdus_out moves.calls)) (sends session input)) (react session input).closes
+            (after_input session input)) (sym took) t.history));
+      }
+
+  sent_is : (react session input).closes ≡ false → HasLine r session e.lines → there.carrier ≡ sent_all r (sends session input) e.carrier
+  sent_is closes h =
+      ap (λ (x : End). x.carrier) (moved_by r session input e h)
+      ∙ ap (λ (b : Bool). answers_by b r (tsdus_sent (limit_for session input) (react session input).reply) e.carrier) closes
+      ∙ ap (λ (l : List (List ℕ)). hands r l e.carrier) t.proper.same
+      ∙ handed r (sends session input) e.carrier t.proper.short
+
+  speaks_by : (b : Bool) → (react session input).closes ≡ b → HasLine r session e.lines →
+      Steps (Course is_caller r) moves e.carrier.outgoing there
+  speaks_by true closes h =
+      step_none (Course is_caller r) moves e.carrier.outgoing there (session_adds r input e)
+      (is_gone (closes_by there.carrier.ended refl closes h))
+  speaks_by false closes h =
+      let is = sent_is closes h in
+      let s : Sends r t.peer t.link (sends session input) e.carrier there.carrier =
+      subst (Sends r t.peer t.link (sends session input) e.carrier) (sym is)
+      (sends_all r t.peer t.link (sends session input) e.carrier t.lasts t.here) in
+      step_own [] (Course is_caller r) moves s.moves e.carrier.outgoing there t.peer s.hands.taken s.outgoing
+      (is_open (ap (λ (n : ℕ). nat_lt 0 r && nat_le r n) s.same.given ∙ t.given) (record {
+        peer = t.peer;
+        calls = record {
+          first = t.first;
+          link = s.after;
+          fresh = t.fresh;
+          along = along_more moves.calls s.moves t.first t.link s.after t.along s.hands.along;
+          handed = ap (λ (j : Joining). j.whole) s.hands.joining ∙ t.handed;
+          put = put_more t.peer moves.calls s.moves moves.put t.put;
+        };
+        session = after_input session input;
+        lasts = s.same.ended ∙ t.lasts;
+        here = s.here;
+        kept = ap (λ (x : End). kept_at r x.lines) (moved_by r session input e h) ∙ kept_then r session input e.lines h;
+        speaks = said_then s.moves s.hands.out s.hands.said closes;
+        begun = t.begun;
+      }))
+
+  pub session_speaks : Steps (Course is_caller r) moves e.carrier.outgoing there
+  session_speaks = speaks_by (react session input).closes refl (line_there r session e.lines t.kept)

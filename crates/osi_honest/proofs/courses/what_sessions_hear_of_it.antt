@@ -1,0 +1,325 @@
+-- The events of a packet are handled: what becomes of the course of one connection, and that what its session sends is handed in.
+-- For the course of a connection.
+use Rattle.std.proofs.Common.{◌≡◌, ◌≢◌, ◌∙◌, refl, sym, ap, subst, ℕ, zero, suc, ◌+◌, ◌==◌, Bool, true, false, List, []}
+use Rattle.std.proofs.Common.{◌∷◌, ◌++◌, length, map, Option, Some, None, is_some, inl, inr, length-append}
+use Rattle.std.proofs.lemmas.Bool.{eq-eqb, eqb-true}
+use Rattle.std.proofs.lemmas.List.{append-nil}
+use Rattle.osi_class.specs.Link.{unit_of}
+use Rattle.osi_class.specs.Runs.{MovesAlong, tsdus_out}
+use Rattle.osi_carrier.specs.Happenings.{Happening, opened, tsdu}
+use Rattle.osi_carrier.specs.Happenings as told
+use Rattle.osi_carrier.specs.Orderly.{told_of}
+use Rattle.osi_carrier.specs.Rows.{value_at}
+use Rattle.osi_carrier.specs.State.{State as Carrier}
+use Rattle.osi_carrier.specs.declared.ends.EndReason.{EndReason}
+use Rattle.osi_carrier.proofs.references.what_a_change_leaves_there.{push_here}
+use Rattle.osi_session.specs.Listening.{Input, Listener, after_input, came, react}
+use Rattle.osi_session.specs.Listening.{opened as linked_up}
+use Rattle.osi_session.specs.Listening.{broken, refused}
+use Rattle.osi_session.specs.Sessions.{awaits}
+use Rattle.osi_judge.specs.Running.{sends}
+use Rattle.osi_stack.specs.Calls.{calls_with, terms_error}
+use Rattle.osi_stack.specs.Hearing.{attends, concludes, hears, hears_all, hears_next, hears_times, opens, with_events}
+use Rattle.osi_stack.specs.Messages.{kept_at}
+use Rattle.osi_stack.specs.Moving.{to_session}
+use Rattle.osi_stack.specs.State.{End, Line, fresh_line, joins, session_in}
+use Rattle.osi_stack.specs.declared.connecting.Connect.{Connect}
+use Rattle.osi_stack.proofs.carried.events_one_after_the_other.{concluded_carrier, times_quiet}
+use Rattle.osi_stack.proofs.carried.open_connections_stay_open.{first_is, rest_is}
+use Rattle.osi_stack.proofs.carried.what_a_move_leaves.{used_live}
+use Rattle.osi_stack.proofs.carried.what_sessions_leave_of_the_carrier.{hears_keep}
+use Rattle.osi_stack.proofs.sound.the_invariant_is_kept.{concludes_lasting}
+use Rattle.osi_honest.specs.Courses.{Course, Deeds, Gone, IsNew, IsShut, no_deeds, said_in, units_given}
+use Rattle.osi_honest.specs.Courses.Course.{is_gone, is_open}
+use Rattle.osi_honest.specs.Courses.Gone.{closed, never, over}
+use Rattle.osi_honest.specs.Talking.{History, Said, said_after}
+use Rattle.osi_honest.specs.Talking as history
+use Rattle.osi_honest.proofs.class_0.a_session_of_class_0_puts_what_it_sends.{still_begun}
+use Rattle.osi_honest.proofs.class_0.what_a_packet_does_in_class_0.{AllProper}
+use Rattle.osi_honest.proofs.class_0.what_packets_do_in_class_0.{never_lasts}
+use Rattle.osi_honest.proofs.courses.steps_of_a_course.{Adds, Steps, adds_none, session_adds, step_as, step_none, step_then}
+use Rattle.osi_honest.proofs.courses.what_another_connection_leaves.{Beside, course_over, gone_beside, gone_over, gone_same}
+use Rattle.osi_honest.proofs.courses.what_another_connection_leaves.{joins_beside, session_beside, shut_session}
+use Rattle.osi_honest.proofs.courses.what_calls_of_a_link_say.{none_said, out_more, said_more}
+use Rattle.osi_honest.proofs.courses.what_its_own_session_does.{CanSpeak, session_speaks}
+use Rattle.osi_honest.proofs.courses.what_units_do_to_a_course.{Now, request_new, unsaid}
+use Rattle.osi_honest.proofs.courses.what_waits_to_be_heard.{HasCome, JustOpened, Waits, waits_as, waits_beside}
+use Rattle.osi_honest.proofs.courses.what_waits_to_be_heard.{waits_none, waits_over}
+use Rattle.osi_honest.proofs.courses.what_waits_to_be_heard.Waits.{answered, away, called, came as has_come, still}
+use Rattle.osi_honest.proofs.opening.how_a_caller_opens.{CanBegin}
+
+-- ---- an event of another connection
+
+abbrev LeavesIt : ℕ → End → End → Type 0
+LeavesIt r old new = Adds old.carrier.outgoing new.carrier.outgoing × (new.carrier.ended ≡ None → Beside r old new)
+
+session_leaves_it : (q r : ℕ) (input : Input) (e : End) → r ≢ q → LeavesIt r e (to_session q input e)
+session_leaves_it q r input e ne = (session_adds q input e, λ lasts. session_beside q r ne input e lasts)
+
+opened_leaves_it : (q r : ℕ) (o : Option Line) (e : End) → r ≢ q → LeavesIt r e (opens q o e)
+opened_leaves_it q r None e ne = (adds_none e.carrier.outgoing, λ lasts. joins_beside q r awaits e ne)
+opened_leaves_it q r (Some line) e ne = session_leaves_it q r linked_up e ne
+
+hears_elsewhere : (r : ℕ) (x : Happening) (e : End) → r ≢ told_of x → LeavesIt r e (hears x e)
+hears_elsewhere r (told.opened q) e ne = opened_leaves_it q r (value_at q e.lines) e ne
+hears_elsewhere r (told.refused q reason) e ne = session_leaves_it q r (refused reason) e ne
+hears_elsewhere r (told.tsdu q octets) e ne = session_leaves_it q r (came octets) e ne
+hears_elsewhere r (told.closed q reason) e ne = session_leaves_it q r broken e ne
+hears_elsewhere r (told.faulted q fault) e ne = session_leaves_it q r broken e ne
+
+-- ---- a connection that is gone hears nothing that matters
+
+opened_same : (r : ℕ) (o : Option Line) (e : End) → IsShut (value_at r e.carrier.live) → (opens r o e).carrier ≡ e.carrier
+opened_same r None e shut = refl
+opened_same r (Some line) e shut = shut_session r linked_up e shut
+
+hears_same : (x : Happening) (e : End) → IsShut (value_at (told_of x) e.carrier.live) → (hears x e).carrier ≡ e.carrier
+hears_same (told.opened q) e shut = opened_same q (value_at q e.lines) e shut
+hears_same (told.refused q reason) e shut = shut_session q (refused reason) e shut
+hears_same (told.tsdu q octets) e shut = shut_session q (came octets) e shut
+hears_same (told.closed q reason) e shut = shut_session q broken e shut
+hears_same (told.faulted q fault) e shut = shut_session q broken e shut
+
+opened_adds : (q : ℕ) (o : Option Line) (e : End) → Adds e.carrier.outgoing (opens q o e).carrier.outgoing
+opened_adds q None e = adds_none e.carrier.outgoing
+opened_adds q (Some line) e = session_adds q linked_up e
+
+hears_adds : (x : Happening) (e : End) → Adds e.carrier.outgoing (hears x e).carrier.outgoing
+hears_adds (told.opened q) e = opened_adds q (value_at q e.lines) e
+hears_adds (told.refused q reason) e = session_adds q (refused reason) e
+hears_adds (told.tsdu q octets) e = session_adds q (came octets) e
+hears_adds (told.closed q reason) e = session_adds q broken e
+hears_adds (told.faulted q fault) e = session_adds q broken e
+
+module _ (is_caller : Bool) (r : ℕ) (moves : Deeds) (x : Happening) (e : End) where
+  shut_hears : (b : Bool) → (r == told_of x) ≡ b → (hears x e).carrier.ended ≡ None → (closed_so : Bool) (session : Listener) →
+      Gone is_caller r moves e → IsShut (value_at r e.carrier.live) → Gone is_caller r moves (hears x e)
+  shut_hears true is lasts closed_so session g shut =
+      gone_same is_caller r moves e (hears x e)
+      (hears_same x e (subst (λ (n : ℕ). IsShut (value_at n e.carrier.live)) (eqb-true r (told_of x) is) shut)) g
+  shut_hears false is lasts closed_so session g shut =
+      gone_beside is_caller r moves e (hears x e)
+      ((hears_elsewhere r x e (λ same. let both : true ≡ false = sym (eq-eqb r (told_of x) same) ∙ is in absurd (cc))).1 lasts) g
+
+  gone_hears_by : (o : Option EndReason) → (hears x e).carrier.ended ≡ o → Gone is_caller r moves e → Gone is_caller r moves (hears x e)
+  gone_hears_by (Some reason) ended g = gone_over is_caller r moves e (hears x e) g (ap is_some ended)
+  gone_hears_by None lasts (closed at calls is session speaks given shut) =
+      shut_hears (r == told_of x) refl lasts is session (closed at calls is session speaks given shut) shut
+  gone_hears_by None lasts (over at calls heard unheard is session speaks parts none ended) =
+      absurd (never_lasts e.carrier.ended ended ((hears_keep x e).lasts lasts))
+  gone_hears_by None lasts (never none ended) = absurd (never_lasts e.carrier.ended ended ((hears_keep x e).lasts lasts))
+
+  gone_hears : Gone is_caller r moves e → Gone is_caller r moves (hears x e)
+  gone_hears g = gone_hears_by (hears x e).carrier.ended refl g
+
+-- ---- an event of this connection
+
+-- nothing was put for it yet
+none_put : (peer : ℕ) (moves : Deeds) → moves ≡ no_deeds → moves.put ≡ map (unit_of peer) (units_given moves.calls)
+none_put peer moves none = subst (λ (d : Deeds). d.put ≡ map (unit_of peer) (units_given d.calls)) (sym none) refl
+
+-- it was opened at a called end: a session begins
+called_hears : (is_caller : Bool) (r : ℕ) (moves : Deeds) (e : End) → is_caller ≡ false → value_at r e.lines ≡ None →
+    JustOpened r moves e → Course is_caller r moves (joins r awaits e)
+called_hears is_caller r moves e side none just =
+    is_open just.given (record {
+      peer = just.peer;
+      calls = record {
+        first = just.first;
+        link = just.first;
+        fresh = just.fresh;
+        along = subst (λ (d : Deeds). MovesAlong just.first d.calls just.first) (sym just.none) refl;
+        handed = just.fresh.2;
+        put = none_put just.peer moves just.none;
+      };
+      session = awaits;
+      lasts = just.lasts;
+      here = just.here;
+      kept = ap session_in
+          (used_live r e.carrier.live (e.lines ++ (r, fresh_line awaits) ∷ []) (ap is_some just.here)
+          ∙ push_here r (fresh_line awaits) e.lines none);
+      speaks = unsaid is_caller moves awaits just.none (subst (λ (b : Bool). IsNew b awaits) (sym side) refl);
+      begun = refl;
+    })
+
+-- it was opened at a calling end: its session sends its CN
+answered_speaks : (is_caller : Bool) (r : ℕ) (moves : Deeds) (e : End) (c : Connect) → is_caller ≡ true → terms_error c ≡ None →
+    CanBegin (calls_with c) → kept_at r e.lines ≡ Some (calls_with c) → JustOpened r moves e →
+    CanSpeak is_caller r moves (calls_with c) linked_up e
+answered_speaks is_caller r moves e c side terms can kept just = record {
+  peer = just.peer;
+  first = just.first;
+  link = just.first;
+  lasts = just.lasts;
+  given = just.given;
+  here = just.here;
+  fresh = just.fresh;
+  along = subst (λ (d : Deeds). MovesAlong just.first d.calls just.first) (sym just.none) refl;
+  handed = just.fresh.2;
+  put = none_put just.peer moves just.none;
+  kept = kept;
+  proper = can.proper;
+  begun = can.then_begun;
+  begin = calls_with c;
+  new = request_new is_caller c side terms;
+  history = subst (λ (d : Deeds). History (calls_with c) (tsdus_out d.calls)
+      (said_in 0 d.calls ++ said_after (length (tsdus_out d.calls)) (sends (calls_with c) linked_up))
+      (react (calls_with c) linked_up).closes
+      (after_input (calls_with c) linked_up)) (sym just.none)
+      (subst (λ (b : Bool). History (calls_with c) [] (said_after 0 (sends (calls_with c) linked_up)) b
+      (after_input (calls_with c) linked_up))
+      (sym can.stays) (history.connects [] [] (calls_with c) history.begins));
+}
+
+-- its link handed out a TSDU: its session takes it
+come_speaks : AllProper → (is_caller : Bool) (r : ℕ) (octets : List ℕ) (moves : Deeds) (e : End) →
+    (h : HasCome is_caller r octets moves e) → CanSpeak is_caller r moves h.session (came octets) e
+come_speaks proper is_caller r octets moves e h =
+    let outs : tsdus_out moves.calls ≡ tsdus_out h.before ++ octets ∷ [] =
+    ap tsdus_out h.parts ∙ out_more h.before h.now ∙ ap (λ (l : List (List ℕ)). tsdus_out h.before ++ l) h.out in
+    let said : said_in 0 moves.calls ≡ said_in 0 h.before =
+    ap (said_in 0) h.parts ∙ said_more 0 h.before h.now
+    ∙ ap (λ (l : List Said). said_in 0 h.before ++ l) (none_said (0 + length (tsdus_out h.before)) h.now h.into)
+    ∙ append-nil (said_in 0 h.before) in
+    let count : length (tsdus_out moves.calls) ≡ length (tsdus_out h.before) + 1 =
+    ap length outs ∙ length-append (tsdus_out h.before) (octets ∷ []) in
+    let all : said_in 0 moves.calls ++ said_after (length (tsdus_out moves.calls)) (sends h.session (came octets))
+    ≡ said_in 0 h.before ++ said_after (length (tsdus_out h.before) + 1) (sends h.session (came octets)) =
+    ap (λ (l : List Said). l ++ said_after (length (tsdus_out moves.calls)) (sends h.session (came octets))) said
+    ∙ ap (λ (n : ℕ). said_in 0 h.before ++ said_after n (sends h.session (came octets))) count in
+    record {
+      peer = h.peer;
+      first = h.first;
+      link = h.link;
+      lasts = h.lasts;
+      given = h.given;
+      here = h.here;
+      fresh = h.fresh;
+      along = h.along;
+      handed = h.handed;
+      put = h.put;
+      kept = h.kept;
+      proper = proper h.session octets;
+      begun = still_begun h.session (came octets) h.begun;
+      begin = h.speaks.begin;
+      new = h.speaks.new;
+      history = subst (λ (l : List (List ℕ)). History h.speaks.begin l
+          (said_in 0 moves.calls ++ said_after (length (tsdus_out moves.calls)) (sends h.session (came octets)))
+          (react h.session (came octets)).closes
+          (after_input h.session (came octets))) (sym outs)
+          (subst (λ (l : List Said). History h.speaks.begin (tsdus_out h.before ++ octets ∷ []) l (react h.session (came octets)).closes
+          (after_input h.session (came octets))) (sym all)
+          (history.takes (tsdus_out h.before) (said_in 0 h.before) h.session octets h.speaks.history h.begun));
+    }
+
+-- ---- one event after the other
+
+-- all that is known of sessions
+pub record Known : Type 0 where
+  pub proper : AllProper
+  pub can : (c : Connect) → terms_error c ≡ None → CanBegin (calls_with c)
+
+opened_of : (r : ℕ) (o : Option Line) (session : Listener) (e : End) → session_in o ≡ Some session → opens r o e ≡ to_session r linked_up e
+opened_of r None session e h = absurd (cc)
+opened_of r (Some line) session e h = refl
+
+opened_new : (r : ℕ) (e : End) → value_at r e.lines ≡ None → hears (opened r) e ≡ joins r awaits e
+opened_new r e none = ap (λ (o : Option Line). opens r o e) none
+
+module _ (known : Known) (is_caller : Bool) (r : ℕ) where
+  -- one event of this connection that was due; no other is
+  own_heard : (x : Happening) (rest : List Happening) (moves : Deeds) (e : End) →
+      Steps (Course is_caller r) moves e.carrier.outgoing (hears x e) → ((ms : Deeds) → Course is_caller r ms (hears x e) →
+      Waits is_caller r rest ms (hears x e)) → Steps (Waits is_caller r rest) moves e.carrier.outgoing (hears x e)
+  own_heard x rest moves e s next =
+      step_as [] (Course is_caller r) (Waits is_caller r rest) moves e.carrier.outgoing (hears x e) (hears x e) s refl next
+
+  elsewhere_by : (x : Happening) (rest : List Happening) (moves : Deeds) (e : End) (o : Option EndReason) → r ≢ told_of x →
+      (hears x e).carrier.ended ≡ o → Waits is_caller r (x ∷ rest) moves e →
+      Steps (Waits is_caller r rest) moves e.carrier.outgoing (hears x e)
+  elsewhere_by x rest moves e (Some reason) ne ended w =
+      step_none (Waits is_caller r rest) moves e.carrier.outgoing (hears x e) (hears_adds x e)
+      (away (waits_over is_caller r moves e (hears x e) (x ∷ rest) w (ap is_some ended)))
+  elsewhere_by x rest moves e None ne lasts w =
+      step_none (Waits is_caller r rest) moves e.carrier.outgoing (hears x e) (hears_adds x e)
+      (waits_beside is_caller r moves e (hears x e) x rest (λ same. ne (sym same)) ((hears_elsewhere r x e ne).1 lasts) w)
+
+  elsewhere : (x : Happening) (rest : List Happening) (moves : Deeds) (e : End) → told_of x ≢ r →
+      Waits is_caller r (x ∷ rest) moves e → Steps (Waits is_caller r rest) moves e.carrier.outgoing (hears x e)
+  elsewhere x rest moves e ne w = elsewhere_by x rest moves e (hears x e).carrier.ended (λ same. ne (sym same)) refl w
+
+  one_heard : (x : Happening) (rest : List Happening) (moves : Deeds) (e : End) → Waits is_caller r (x ∷ rest) moves e →
+      Steps (Waits is_caller r rest) moves e.carrier.outgoing (hears x e)
+  one_heard x rest moves e (still none course) = elsewhere x rest moves e none.0 (still none course)
+  one_heard x rest moves e (away g) =
+      step_none (Waits is_caller r rest) moves e.carrier.outgoing (hears x e) (hears_adds x e) (away (gone_hears is_caller r moves x e g))
+  one_heard x rest moves e (called (inl due) side none just) = elsewhere x rest moves e due.0 (called (inl due) side none just)
+  one_heard x rest moves e (called (inr due) side none just) =
+      let is : hears x e ≡ joins r awaits e = ap (λ (y : Happening). hears y e) due.0 ∙ opened_new r e none in
+      own_heard x rest moves e
+      (step_none (Course is_caller r) moves e.carrier.outgoing (hears x e) (hears_adds x e)
+      (subst (Course is_caller r moves) (sym is) (called_hears is_caller r moves e side none just))) (λ ms course. still due.1 course)
+  one_heard x rest moves e (answered (inl due) side c terms kept just) =
+      elsewhere x rest moves e due.0 (answered (inl due) side c terms kept just)
+  one_heard x rest moves e (answered (inr due) side c terms kept just) =
+      let is : hears x e ≡ to_session r linked_up e =
+      ap (λ (y : Happening). hears y e) due.0 ∙ opened_of r (value_at r e.lines) (calls_with c) e kept in
+      own_heard x rest moves e
+      (subst (Steps (Course is_caller r) moves e.carrier.outgoing) (sym is)
+      (session_speaks is_caller r moves (calls_with c) linked_up e
+      (answered_speaks is_caller r moves e c side terms (known.can c terms) kept just))) (λ ms course. still due.1 course)
+  one_heard x rest moves e (has_come octets (inl due) h) = elsewhere x rest moves e due.0 (has_come octets (inl due) h)
+  one_heard x rest moves e (has_come octets (inr due) h) =
+      let is : hears x e ≡ to_session r (came octets) e = ap (λ (y : Happening). hears y e) due.0 in
+      own_heard x rest moves e
+      (subst (Steps (Course is_caller r) moves e.carrier.outgoing) (sym is)
+      (session_speaks is_caller r moves h.session (came octets) e (come_speaks known.proper is_caller r octets moves e h)))
+      (λ ms course. still due.1 course)
+
+  untold_beside : (events : List Happening) (e : End) → Beside r e (with_events events e)
+  untold_beside events e =
+      record { live = refl; given = refl; side = refl; ended = refl; unlined = λ none. none; kept = λ some. refl }
+
+  -- so many of the events
+  pub times_heard : (n : ℕ) (events : List Happening) (moves : Deeds) (e : End) → e.carrier.events ≡ events →
+      Waits is_caller r events moves e → Steps (Now is_caller r) moves e.carrier.outgoing (hears_times n e)
+  times_heard zero events moves e is w =
+      step_none (Now is_caller r) moves e.carrier.outgoing e (adds_none e.carrier.outgoing)
+      (subst (λ (l : List Happening). Waits is_caller r l moves e) (sym is) w)
+  times_heard (suc n) [] moves e is w =
+      subst (Steps (Now is_caller r) moves e.carrier.outgoing) (sym (times_quiet (suc n) e is))
+      (step_none (Now is_caller r) moves e.carrier.outgoing e (adds_none e.carrier.outgoing)
+      (subst (λ (l : List Happening). Waits is_caller r l moves e) (sym is) w))
+  times_heard (suc n) (x ∷ rest) moves e is w =
+      let mid = hears_next e in
+      let one : Steps (Waits is_caller r rest) moves e.carrier.outgoing mid =
+      subst (Steps (Waits is_caller r rest) moves e.carrier.outgoing) (sym (first_is x rest e is))
+      (one_heard x rest moves (with_events rest e)
+      (waits_as is_caller r moves e (with_events rest e) (x ∷ rest) (untold_beside rest e) w)) in
+      step_then [] [] (Waits is_caller r rest) (Now is_caller r) moves e.carrier.outgoing mid (hears_times n mid) one
+      (λ after v. times_heard n rest after mid (rest_is x rest e is) v)
+
+  none_left : (events : List Happening) (e : End) → e.carrier.events ≡ events → (hears_times (length events) e).carrier.events ≡ []
+  none_left [] e is = is
+  none_left (x ∷ rest) e is = none_left rest (hears_next e) (rest_is x rest e is)
+
+  all_heard : (moves : Deeds) (e : End) → Now is_caller r moves e → Steps (Course is_caller r) moves e.carrier.outgoing (hears_all e)
+  all_heard moves e w =
+      step_as [] (Now is_caller r) (Course is_caller r) moves e.carrier.outgoing (hears_all e) (hears_all e)
+      (times_heard (length e.carrier.events) e.carrier.events moves e refl w) refl
+      (λ after v. waits_none is_caller r after (hears_all e)
+      (subst (λ (l : List Happening). Waits is_caller r l after (hears_all e)) (none_left e.carrier.events e refl) v))
+
+  -- and if the carrier has ended, all sessions are lost
+  concluded_by : (o : Option EndReason) (moves : Deeds) (e : End) → e.carrier.ended ≡ o → Course is_caller r moves e →
+      Course is_caller r moves (concludes e)
+  concluded_by None moves e lasts course = subst (Course is_caller r moves) (sym (concludes_lasting e.carrier.ended e lasts)) course
+  concluded_by (Some reason) moves e ended course =
+      is_gone (gone_same is_caller r moves e (concludes e) (concluded_carrier e)
+      (course_over is_caller r moves e e course (ap is_some ended)))
+
+  pub attended : (moves : Deeds) (e : End) → Now is_caller r moves e → Steps (Course is_caller r) moves e.carrier.outgoing (attends e)
+  attended moves e w =
+      step_as [] (Course is_caller r) (Course is_caller r) moves e.carrier.outgoing (hears_all e) (attends e) (all_heard moves e w)
+      (ap (λ (c : Carrier). c.outgoing) (concluded_carrier (hears_all e)))
+      (λ after course. concluded_by (hears_all e).carrier.ended after (hears_all e) refl course)

@@ -1,0 +1,370 @@
+-- Units that arrive, one after the other: what becomes of the course of one connection, before the sessions hear of it.
+-- For the course of a connection.
+use Rattle.std.proofs.Common.{◌≡◌, ◌∙◌, refl, sym, ap, subst, ℕ, ◌+◌, Bool, true, false, List, [], ◌∷◌, ◌++◌, length, map, take, Option}
+use Rattle.std.proofs.Common.{Some, None, is_some, IsSome, IsTrue, Ok, inl, inr}
+use Rattle.std.proofs.lemmas.List.{append-nil}
+use Rattle.osi_tpdu.specs.Packet.{AreUnits}
+use Rattle.osi_tpdu.specs.Value.{Value, may_be_followed}
+use Rattle.osi_class.specs.Between.{IsFresh}
+use Rattle.osi_class.specs.Ends.{fresh_ends}
+use Rattle.osi_class.specs.Link.{Given, Standing, taken, unit_of, zero_standing}
+use Rattle.osi_class.specs.Runs.{Move, tsdus_in, tsdus_out}
+use Rattle.osi_carrier.specs.Happenings.{opened, tsdu}
+use Rattle.osi_carrier.specs.Orderly.{IsOrderly}
+use Rattle.osi_carrier.specs.Pump.{pumped}
+use Rattle.osi_carrier.specs.React.{handed_out, react, reacts, settles}
+use Rattle.osi_carrier.specs.Rows.{value_at}
+use Rattle.osi_carrier.specs.State.{Connection, State as Carrier, asked, linked, packets}
+use Rattle.osi_carrier.specs.declared.ends.EndReason.{EndReason}
+use Rattle.osi_carrier.proofs.effects.a_unit_touches_one_connection.{orderly_unit}
+use Rattle.osi_carrier.proofs.effects.units_one_after_the_other.{react_over}
+use Rattle.osi_carrier.proofs.references.what_a_change_leaves_there.{put_here}
+use Rattle.osi_session.specs.Listening.{Listener}
+use Rattle.osi_stack.specs.Calls.{calls_with, has_given, terms_error}
+use Rattle.osi_stack.specs.Hearing.{with_carrier}
+use Rattle.osi_stack.specs.State.{End}
+use Rattle.osi_stack.specs.declared.connecting.Connect.{Connect}
+use Rattle.osi_stack.proofs.carried.packets_without_events.{both}
+use Rattle.osi_stack.proofs.opening.connections_that_units_open.{along_units}
+use Rattle.osi_honest.specs.Courses.{AreCalls, Course, Deeds, Gone, IsNew, IsOpen, IsShut, Speaks, no_deeds, said_in, then_did}
+use Rattle.osi_honest.specs.Courses.Course.{awaited, is_gone, is_open, unknown}
+use Rattle.osi_honest.specs.Courses.Gone.{closed, never, over}
+use Rattle.osi_honest.specs.Talking.{History, Said}
+use Rattle.osi_honest.specs.Talking as history
+use Rattle.osi_honest.proofs.class_0.what_packets_do_in_class_0.{never_lasts}
+use Rattle.osi_honest.proofs.courses.steps_of_a_course.{Adds, StepsBy, adds_kept, adds_none, done_by, step_as, step_idle}
+use Rattle.osi_honest.proofs.courses.steps_of_a_course.{step_own}
+use Rattle.osi_honest.proofs.courses.steps_of_a_course.{step_then}
+use Rattle.osi_honest.proofs.courses.what_a_link_takes_and_is_handed.{HasFew, has_few, takes_in}
+use Rattle.osi_honest.proofs.courses.what_a_unit_does_to_a_connection.{Acts, NoneOf, none_more, unit_acts}
+use Rattle.osi_honest.proofs.courses.what_a_unit_does_to_a_connection.Acts.{answers_it, joins, leaves_it, rests, takes}
+use Rattle.osi_honest.proofs.courses.what_a_unit_does_to_a_connection.Acts.{over as carrier_over}
+use Rattle.osi_honest.proofs.courses.what_another_connection_leaves.{Beside, course_beside, course_over, gone_beside, gone_over}
+use Rattle.osi_honest.proofs.courses.what_calls_of_a_link_say.{along_more, none_said, out_more, put_more, said_more}
+use Rattle.osi_honest.proofs.courses.what_waits_to_be_heard.{Due, JustOpened, Waits, due_last}
+use Rattle.osi_honest.proofs.courses.what_waits_to_be_heard.Waits.{answered, away, called, came, still}
+
+-- ---- no event of this connection waits
+
+pub data Calm (is_caller : Bool) (r : ℕ) (moves : Deeds) (e : End) : Type 0 where
+  is_still : NoneOf r e.carrier.events → Course is_caller r moves e → Calm is_caller r moves e
+  is_away : Gone is_caller r moves e → Calm is_caller r moves e
+
+-- one may wait
+abbrev pub Now : Bool → ℕ → Deeds → End → Type 0
+Now is_caller r moves e = Waits is_caller r e.carrier.events moves e
+
+-- as after a unit: none waits if others may follow the unit in its packet
+abbrev pub After : Bool → ℕ → Value → Deeds → End → Type 0
+After is_caller r v moves e = Now is_caller r moves e × (may_be_followed v ≡ true → Calm is_caller r moves e)
+
+pub calm_now : (is_caller : Bool) (r : ℕ) (moves : Deeds) (e : End) → Calm is_caller r moves e → Now is_caller r moves e
+calm_now is_caller r moves e (is_still none course) = still none course
+calm_now is_caller r moves e (is_away g) = away g
+
+pub calm_over : (is_caller : Bool) (r : ℕ) (moves : Deeds) (old new : End) → Calm is_caller r moves old → IsSome new.carrier.ended →
+    Gone is_caller r moves new
+calm_over is_caller r moves old new (is_still none course) ended = course_over is_caller r moves old new course ended
+calm_over is_caller r moves old new (is_away g) ended = gone_over is_caller r moves old new g ended
+
+calm_after : (is_caller : Bool) (r : ℕ) (v : Value) (moves : Deeds) (e : End) → Calm is_caller r moves e → After is_caller r v moves e
+calm_after is_caller r v moves e calm = (calm_now is_caller r moves e calm, λ followed. calm)
+
+-- if no unit may follow, one may wait
+last_after : (is_caller : Bool) (r : ℕ) (v : Value) (moves : Deeds) (e : End) → may_be_followed v ≡ false → Now is_caller r moves e →
+    After is_caller r v moves e
+last_after is_caller r v moves e alone now = (now, λ followed. absurd (let both : true ≡ false = sym followed ∙ alone in cc))
+
+-- ---- what was said before stays so
+
+more_said : (is_caller : Bool) (moves more : List Move) (is_closed : Bool) (session : Listener) → tsdus_out more ≡ [] → tsdus_in more ≡ [] →
+    Speaks is_caller moves is_closed session → Speaks is_caller (moves ++ more) is_closed session
+more_said is_caller moves more is_closed session none into s = record {
+  begin = s.begin;
+  new = s.new;
+  history = subst (λ (l : List (List ℕ)). History s.begin l (said_in 0 (moves ++ more)) is_closed session)
+      (sym (out_more moves more ∙ ap (λ (l : List (List ℕ)). tsdus_out moves ++ l) none ∙ append-nil (tsdus_out moves)))
+      (subst (λ (l : List Said). History s.begin (tsdus_out moves) l is_closed session)
+      (sym (said_more 0 moves more ∙ ap (λ (l : List Said). said_in 0 moves ++ l) (none_said (0 + length (tsdus_out moves)) more into)
+      ∙ append-nil (said_in 0 moves)))
+      s.history);
+}
+
+-- no call was made yet
+pub no_calls : (peer : ℕ) (moves : Deeds) → moves ≡ no_deeds → AreCalls peer moves
+no_calls peer moves none =
+    let fresh : Standing = zero_standing (fresh_ends 0) in
+    subst (AreCalls peer) (sym none)
+    (record { first = fresh; link = fresh; fresh = (refl, refl, refl); along = refl; handed = refl; put = refl })
+
+-- nothing was said yet
+pub unsaid : (is_caller : Bool) (moves : Deeds) (begin : Listener) → moves ≡ no_deeds → IsNew is_caller begin →
+    Speaks is_caller moves.calls false begin
+unsaid is_caller moves begin none is_new =
+    subst (λ (d : Deeds). Speaks is_caller d.calls false begin) (sym none)
+    (record { begin = begin; new = is_new; history = history.begins })
+
+pub request_new : (is_caller : Bool) (c : Connect) → is_caller ≡ true → terms_error c ≡ None → IsNew is_caller (calls_with c)
+request_new is_caller c side terms = subst (λ (b : Bool). IsNew b (calls_with c)) (sym side) (c, terms, refl)
+
+-- ---- one unit
+
+module _ (is_caller : Bool) (r : ℕ) (moves : Deeds) (v : Value) (e : End) (h : IsOrderly e.carrier) where
+  abbrev new : End
+  new = with_carrier (react v e.carrier) e
+
+  abbrev Then : Type 0
+  Then = StepsBy (v ∷ []) (After is_caller r v) moves e.carrier.outgoing new
+
+  adds : Adds e.carrier.outgoing new.carrier.outgoing
+  adds = (adds_kept e.carrier.outgoing).reacts_to v e.carrier (adds_none e.carrier.outgoing)
+
+  as_calm : Calm is_caller r moves new → Then
+  as_calm calm = step_idle (v ∷ []) (After is_caller r v) moves e.carrier.outgoing new adds (calm_after is_caller r v moves new calm)
+
+  as_last : may_be_followed v ≡ false → Now is_caller r moves new → Then
+  as_last alone now =
+      step_idle (v ∷ []) (After is_caller r v) moves e.carrier.outgoing new adds (last_after is_caller r v moves new alone now)
+
+  module _ (lasts : new.carrier.ended ≡ None) (lasted : e.carrier.ended ≡ None) where
+    beside : value_at r new.carrier.live ≡ value_at r e.carrier.live → has_given r new.carrier ≡ has_given r e.carrier → Beside r e new
+    beside live given = record {
+      live = live;
+      given = given;
+      side = (along_units (v ∷ []) e.carrier h).side;
+      ended = lasts ∙ sym lasted;
+      unlined = λ none. none;
+      kept = λ some. refl;
+    }
+
+    -- ---- its link takes the unit
+
+    took : has_given r e.carrier ≡ true → (o : IsOpen is_caller r moves e) → (after : Standing) → taken o.calls.link v ≡ Ok after →
+        react v e.carrier ≡ settles r o.peer after e.carrier → NoneOf r e.carrier.events → HasFew v after.ends.joining.whole → Then
+    took given o after is then_is none (inl nothing) =
+        let t = takes_in o.calls.link after v [] nothing (inl refl) is in
+        let events : new.carrier.events ≡ e.carrier.events =
+        ap (λ (c : Carrier). c.events) then_is ∙ ap (λ (l : List (List ℕ)). e.carrier.events ++ map (tsdu r) (take 1 l)) nothing
+        ∙ append-nil e.carrier.events in
+        step_own (v ∷ []) (After is_caller r v) moves t.moves e.carrier.outgoing new o.peer t.took
+        (ap (λ (c : Carrier). c.outgoing) then_is
+        ∙ ap (λ (units : List Given). e.carrier.outgoing ++ packets (map (unit_of o.peer) units)) (sym t.given))
+        (calm_after is_caller r v (then_did moves (done_by o.peer t.moves)) new (is_still (subst (NoneOf r) (sym events) none)
+        (is_open (ap (has_given r) then_is ∙ given) (record {
+          peer = o.peer;
+          calls = record {
+            first = o.calls.first;
+            link = pumped (handed_out after);
+            fresh = o.calls.fresh;
+            along = along_more moves.calls t.moves o.calls.first o.calls.link (pumped (handed_out after)) o.calls.along t.along;
+            handed = t.handed;
+            put = put_more o.peer moves.calls t.moves moves.put o.calls.put;
+          };
+          session = o.session;
+          lasts = lasts;
+          here = ap (λ (c : Carrier). value_at r c.live) then_is
+              ∙ put_here r (linked o.peer (pumped (handed_out after))) (linked o.peer o.calls.link) e.carrier.live o.here;
+          kept = o.kept;
+          speaks = more_said is_caller moves.calls t.moves false o.session t.out t.into o.speaks;
+          begun = o.begun;
+        }))))
+    took given o after is then_is none (inr (octets, one, alone)) =
+        let t = takes_in o.calls.link after v (octets ∷ []) one (inr (octets, refl, alone)) is in
+        let events : new.carrier.events ≡ e.carrier.events ++ tsdu r octets ∷ [] =
+        ap (λ (c : Carrier). c.events) then_is ∙ ap (λ (l : List (List ℕ)). e.carrier.events ++ map (tsdu r) (take 1 l)) one in
+        step_own (v ∷ []) (After is_caller r v) moves t.moves e.carrier.outgoing new o.peer t.took
+        (ap (λ (c : Carrier). c.outgoing) then_is
+        ∙ ap (λ (units : List Given). e.carrier.outgoing ++ packets (map (unit_of o.peer) units)) (sym t.given))
+        (last_after is_caller r v (then_did moves (done_by o.peer t.moves)) new alone
+        (came octets (subst (Due r (tsdu r octets)) (sym events) (due_last r (tsdu r octets) e.carrier.events none)) (record {
+          peer = o.peer;
+          first = o.calls.first;
+          link = pumped (handed_out after);
+          session = o.session;
+          before = moves.calls;
+          now = t.moves;
+          parts = refl;
+          into = t.into;
+          out = t.out;
+          lasts = lasts;
+          given = ap (has_given r) then_is ∙ given;
+          here = ap (λ (c : Carrier). value_at r c.live) then_is
+              ∙ put_here r (linked o.peer (pumped (handed_out after))) (linked o.peer o.calls.link) e.carrier.live o.here;
+          fresh = o.calls.fresh;
+          along = along_more moves.calls t.moves o.calls.first o.calls.link (pumped (handed_out after)) o.calls.along t.along;
+          handed = t.handed;
+          put = put_more o.peer moves.calls t.moves moves.put o.calls.put;
+          kept = o.kept;
+          speaks = o.speaks;
+          begun = o.begun;
+        })))
+
+    -- ---- by what may happen
+
+    -- no connection has two states
+    two_states : {A : Type 0} (x y : Option Connection) → value_at r e.carrier.live ≡ x → value_at r e.carrier.live ≡ y → (x ≡ y → A) → A
+    two_states x y a b differ = differ (sym a ∙ b)
+
+    takes_open : has_given r e.carrier ≡ true → (o : IsOpen is_caller r moves e) → (peer : ℕ) (link after : Standing) →
+        value_at r e.carrier.live ≡ Some (linked peer link) → taken link v ≡ Ok after →
+        react v e.carrier ≡ settles r peer after e.carrier → NoneOf r e.carrier.events → Then
+    takes_open given o peer link after here is then_is none =
+        let one : Some (linked peer link) ≡ Some (linked o.peer o.calls.link) = sym here ∙ o.here in
+        let peers : peer ≡ o.peer = cc in
+        let links : link ≡ o.calls.link = cc in
+        let took_it : taken o.calls.link v ≡ Ok after = ap (λ (l : Standing). taken l v) (sym links) ∙ is in
+        took given o after took_it (then_is ∙ ap (λ (p : ℕ). settles r p after e.carrier) peers) none
+        (has_few o.calls.link after v o.calls.handed took_it)
+
+    opens_now : may_be_followed v ≡ false → has_given r new.carrier ≡ true → (peer : ℕ) (first : Standing) → IsFresh first →
+        moves ≡ no_deeds →
+        value_at r new.carrier.live ≡ Some (linked peer first) → JustOpened r moves new
+    opens_now alone given peer first fresh none here =
+        record { none = none; peer = peer; first = first; lasts = lasts; given = given; here = here; fresh = fresh }
+
+    module _ (none : NoneOf r e.carrier.events) where
+      joins_now : Course is_caller r moves e → e.carrier.is_caller ≡ false → may_be_followed v ≡ false → has_given r e.carrier ≡ false →
+          has_given r new.carrier ≡ true → (peer : ℕ) (first : Standing) → IsFresh first →
+          (value_at r e.carrier.live ≡ None → value_at r new.carrier.live ≡ Some (linked peer first)) →
+          new.carrier.events ≡ e.carrier.events ++ opened r ∷ [] → Then
+      joins_now (unknown no_moves side ungiven live lines) called_end alone free given peer first fresh here events =
+          as_last alone
+          (called (subst (Due r (opened r)) (sym events) (due_last r (opened r) e.carrier.events none)) (sym side ∙ called_end)
+          lines
+          (opens_now alone given peer first fresh no_moves (here live)))
+      joins_now (awaited no_moves c terms side lasts given live kept) called_end alone free then_given peer first fresh here events =
+          both (has_given r e.carrier) given free
+      joins_now (is_open given o) called_end alone free then_given peer first fresh here events = both (has_given r e.carrier) given free
+      joins_now (is_gone (closed at calls is session speaks given shut)) called_end alone free then_given peer first fresh here events =
+          both (has_given r e.carrier) given free
+      joins_now (is_gone (over at calls heard unheard is session speaks parts into ended)) called_end alone free then_given peer first
+          fresh here events =
+          absurd (never_lasts e.carrier.ended ended lasted)
+      joins_now (is_gone (never no_moves ended)) called_end alone free then_given peer first fresh here events =
+          absurd (never_lasts e.carrier.ended ended lasted)
+
+      answers_now : Course is_caller r moves e → may_be_followed v ≡ false → value_at r e.carrier.live ≡ Some asked →
+          has_given r new.carrier ≡ has_given r e.carrier → (peer : ℕ) (first : Standing) → IsFresh first →
+          value_at r new.carrier.live ≡ Some (linked peer first) → new.carrier.events ≡ e.carrier.events ++ opened r ∷ [] → Then
+      answers_now (unknown no_moves side ungiven live lines) alone was same peer first fresh here events =
+          two_states (Some asked) None was live (λ no. absurd (cc))
+      answers_now (awaited no_moves c terms side lasts given live kept) alone was same peer first fresh here events =
+          as_last alone (answered (subst (Due r (opened r)) (sym events) (due_last r (opened r) e.carrier.events none)) side c terms kept
+          (opens_now alone (same ∙ given) peer first fresh no_moves here))
+      answers_now (is_open given o) alone was same peer first fresh here events =
+          two_states (Some asked) (Some (linked o.peer o.calls.link)) was o.here (λ no. absurd (cc))
+      answers_now (is_gone (closed at calls is session speaks given shut)) alone was same peer first fresh here events =
+          absurd (subst IsShut was shut)
+      answers_now (is_gone (over at calls heard unheard is session speaks parts into ended)) alone was same peer first fresh here events =
+          absurd (never_lasts e.carrier.ended ended lasted)
+      answers_now (is_gone (never no_moves ended)) alone was same peer first fresh here events =
+          absurd (never_lasts e.carrier.ended ended lasted)
+
+      takes_now : Course is_caller r moves e → (peer : ℕ) (link after : Standing) → value_at r e.carrier.live ≡ Some (linked peer link) →
+          taken link v ≡ Ok after → react v e.carrier ≡ settles r peer after e.carrier → Then
+      takes_now (unknown no_moves side ungiven live lines) peer link after here is then_is =
+          two_states (Some (linked peer link)) None here live (λ no. absurd (cc))
+      takes_now (awaited no_moves c terms side lasts given live kept) peer link after here is then_is =
+          two_states (Some (linked peer link)) (Some asked) here live (λ no. absurd (cc))
+      takes_now (is_open given o) peer link after here is then_is = takes_open given o peer link after here is then_is none
+      takes_now (is_gone (closed at calls is_closed session speaks given shut)) peer link after here is then_is =
+          absurd (subst IsShut here shut)
+      takes_now (is_gone (over at calls heard unheard is_closed session speaks parts into ended)) peer link after here is then_is =
+          absurd (never_lasts e.carrier.ended ended lasted)
+      takes_now (is_gone (never no_moves ended)) peer link after here is then_is = absurd (never_lasts e.carrier.ended ended lasted)
+
+      leaves_now : Course is_caller r moves e → (x : Connection) → value_at r e.carrier.live ≡ Some x →
+          has_given r new.carrier ≡ has_given r e.carrier → IsShut (value_at r new.carrier.live) → Gone is_caller r moves new
+      leaves_now (unknown no_moves side ungiven live lines) x here same then_shut =
+          two_states (Some x) None here live (λ no. absurd (cc))
+      leaves_now (awaited no_moves c terms side lasts given live kept) x here same then_shut =
+          closed 0 (no_calls 0 moves no_moves) false (calls_with c)
+          (unsaid is_caller moves (calls_with c) no_moves (request_new is_caller c side terms)) (same ∙ given) then_shut
+      leaves_now (is_open given o) x here same then_shut = closed o.peer o.calls false o.session o.speaks (same ∙ given) then_shut
+      leaves_now (is_gone (closed at calls is session speaks given shut)) x here same then_shut =
+          closed at calls is session speaks (same ∙ given) then_shut
+      leaves_now (is_gone (over at calls heard unheard is session speaks parts into ended)) x here same then_shut =
+          absurd (never_lasts e.carrier.ended ended lasted)
+      leaves_now (is_gone (never no_moves ended)) x here same then_shut = absurd (never_lasts e.carrier.ended ended lasted)
+
+      on_still : Course is_caller r moves e → Acts r v e.carrier (react v e.carrier) → Then
+      on_still course (carrier_over ended) = absurd (never_lasts new.carrier.ended ended lasts)
+      on_still course (rests live given told events others) =
+          as_calm (is_still (subst (NoneOf r) (sym events) (none_more r e.carrier.events told none others))
+          (course_beside is_caller r moves e new (beside live given) course))
+      on_still course (joins called_end alone free given peer first fresh here events) =
+          joins_now course called_end alone free given peer first fresh here events
+      on_still course (answers_it alone was same peer first fresh here events) =
+          answers_now course alone was same peer first fresh here events
+      on_still course (takes peer link after here is then_is) = takes_now course peer link after here is then_is
+      on_still course (leaves_it x here same shut) = as_calm (is_away (leaves_now course x here same shut))
+
+    on_away : Gone is_caller r moves e → Acts r v e.carrier (react v e.carrier) → Then
+    on_away (over at calls heard unheard is session speaks parts into ended) act = absurd (never_lasts e.carrier.ended ended lasted)
+    on_away (never no_moves ended) act = absurd (never_lasts e.carrier.ended ended lasted)
+    on_away (closed at calls is session speaks given shut) (carrier_over ended) = absurd (never_lasts new.carrier.ended ended lasts)
+    on_away (closed at calls is session speaks given shut) (rests live same told events others) =
+        as_calm (is_away (gone_beside is_caller r moves e new (beside live same) (closed at calls is session speaks given shut)))
+    on_away (closed at calls is session speaks given shut) (joins called_end alone free then_given peer first fresh here events) =
+        both (has_given r e.carrier) given free
+    on_away (closed at calls is session speaks given shut) (answers_it alone was same peer first fresh here events) =
+        absurd (subst IsShut was shut)
+    on_away (closed at calls is session speaks given shut) (takes peer link after here is_ok then_is) = absurd (subst IsShut here shut)
+    on_away (closed at calls is session speaks given shut) (leaves_it x here same then_shut) =
+        as_calm (is_away (closed at calls is session speaks (same ∙ given) then_shut))
+
+    on_calm : Calm is_caller r moves e → Acts r v e.carrier (react v e.carrier) → Then
+    on_calm (is_still none course) act = on_still none course act
+    on_calm (is_away g) act = on_away g act
+
+  -- ---- any unit
+
+  lasted_by : (o : Option EndReason) → e.carrier.ended ≡ o → new.carrier.ended ≡ None → e.carrier.ended ≡ None
+  lasted_by None is lasts = is
+  lasted_by (Some reason) is lasts = sym (ap (λ (c : Carrier). c.ended) (react_over v e.carrier (ap is_some is))) ∙ lasts
+
+  unit_by : (o : Option EndReason) → new.carrier.ended ≡ o → Calm is_caller r moves e → Then
+  unit_by (Some reason) ended calm = as_calm (is_away (calm_over is_caller r moves e new calm (ap is_some ended)))
+  unit_by None lasts calm =
+      let lasted = lasted_by e.carrier.ended refl lasts in
+      on_calm lasts lasted calm (unit_acts r v e.carrier h lasted lasts)
+
+  pub unit_steps : Calm is_caller r moves e → Then
+  unit_steps calm = unit_by new.carrier.ended refl calm
+
+-- ---- the units of a packet
+
+followed_is : (b : Bool) → IsTrue b → b ≡ true
+followed_is b h = h
+
+module _ (is_caller : Bool) (r : ℕ) where
+  pub units_step : (units : List Value) (u : List ℕ) → AreUnits units u → (moves : Deeds) (e : End) → IsOrderly e.carrier →
+      Calm is_caller r moves e → StepsBy units (Now is_caller r) moves e.carrier.outgoing (with_carrier (reacts units e.carrier) e)
+  units_step [] u us moves e h calm = absurd us
+  units_step (v ∷ []) u us moves e h calm =
+      let s = unit_steps is_caller r moves v e h calm in
+      step_as (v ∷ []) (After is_caller r v) (Now is_caller r) moves e.carrier.outgoing (with_carrier (react v e.carrier) e)
+      (with_carrier (react v e.carrier) e) s refl (λ after t. t.0)
+  units_step (v ∷ w ∷ vs) u us moves e h calm =
+      let mid = with_carrier (react v e.carrier) e in
+      step_then (v ∷ []) (w ∷ vs) (After is_caller r v) (Now is_caller r) moves e.carrier.outgoing mid
+      (with_carrier (reacts (v ∷ w ∷ vs) e.carrier) e) (unit_steps is_caller r moves v e h calm)
+      (λ after t. units_step (w ∷ vs) us.2 us.5 after mid (orderly_unit v e.carrier h) (t.1 (followed_is (may_be_followed v) us.0)))
+
+  -- units before others
+  pub leads_step : (done : List Value) (next : Value) (more : List Value) (u : List ℕ) → AreUnits (done ++ (next ∷ more)) u →
+      (moves : Deeds) (e : End) → IsOrderly e.carrier → Calm is_caller r moves e →
+      StepsBy done (Calm is_caller r) moves e.carrier.outgoing (with_carrier (reacts done e.carrier) e)
+  leads_step [] next more u us moves e h calm =
+      step_idle [] (Calm is_caller r) moves e.carrier.outgoing e (adds_none e.carrier.outgoing) calm
+  leads_step (v ∷ []) next more u us moves e h calm =
+      let mid = with_carrier (react v e.carrier) e in
+      step_as (v ∷ []) (After is_caller r v) (Calm is_caller r) moves e.carrier.outgoing mid mid
+      (unit_steps is_caller r moves v e h calm) refl
+      (λ after t. t.1 (followed_is (may_be_followed v) us.0))
+  leads_step (v ∷ w ∷ done) next more u us moves e h calm =
+      let mid = with_carrier (react v e.carrier) e in
+      step_then (v ∷ []) (w ∷ done) (After is_caller r v) (Calm is_caller r) moves e.carrier.outgoing mid
+      (with_carrier (reacts (v ∷ w ∷ done) e.carrier) e) (unit_steps is_caller r moves v e h calm)
+      (λ after t. leads_step (w ∷ done) next more us.2 us.5 after mid (orderly_unit v e.carrier h)
+      (t.1 (followed_is (may_be_followed v) us.0)))

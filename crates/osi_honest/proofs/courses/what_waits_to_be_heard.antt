@@ -1,0 +1,161 @@
+-- The course of a connection while events of its carrier wait to be handled: at most one of them is of this connection.
+-- For the course of a connection.
+use Rattle.std.proofs.Common.{◌≡◌, ◌≢◌, ◌∙◌, refl, ap, ℕ, Bool, true, false, List, [], ◌∷◌, ◌++◌, Option, Some, None, is_some, map}
+use Rattle.std.proofs.Common.{IsSome, inl, inr, ◌⊎◌}
+use Rattle.osi_class.specs.Between.{IsFresh}
+use Rattle.osi_class.specs.Link.{Standing, unit_of}
+use Rattle.osi_class.specs.Runs.{Move, MovesAlong, tsdus_in, tsdus_out}
+use Rattle.osi_carrier.specs.Happenings.{Happening, opened, tsdu}
+use Rattle.osi_carrier.specs.Orderly.{told_of}
+use Rattle.osi_carrier.specs.Rows.{value_at}
+use Rattle.osi_carrier.specs.State.{linked}
+use Rattle.osi_session.specs.Listening.{Listener}
+use Rattle.osi_session.specs.Phases.{is_wait_transport}
+use Rattle.osi_stack.specs.Calls.{calls_with, has_given, terms_error}
+use Rattle.osi_stack.specs.Messages.{kept_at}
+use Rattle.osi_stack.specs.State.{End}
+use Rattle.osi_stack.specs.declared.connecting.Connect.{Connect}
+use Rattle.osi_honest.specs.Courses.{Course, Deeds, Gone, Speaks, no_deeds, units_given}
+use Rattle.osi_honest.specs.Courses.Course.{is_gone}
+use Rattle.osi_honest.specs.Courses.Gone.{never, over}
+use Rattle.osi_honest.proofs.courses.what_a_unit_does_to_a_connection.{NoneOf}
+use Rattle.osi_honest.proofs.courses.what_another_connection_leaves.{Beside, course_beside, course_over, gone_beside, gone_over}
+
+-- ---- one event that is due
+
+-- this event is among these, and no other of its connection
+abbrev pub Due : ℕ → Happening → List Happening → Type 0
+Due r event [] = ⊥
+Due r event (x ∷ events) = ((told_of x ≢ r) × Due r event events) ⊎ ((x ≡ event) × NoneOf r events)
+
+pub due_last : (r : ℕ) (event : Happening) (events : List Happening) → NoneOf r events → Due r event (events ++ event ∷ [])
+due_last r event [] none = inr (refl, tt)
+due_last r event (x ∷ events) none = inl (none.0, due_last r event events none.1)
+
+-- ---- a connection that was opened just now
+
+-- no call of its link was made; at a called end it has no session yet
+pub record JustOpened (r : ℕ) (moves : Deeds) (e : End) : Type 0 where
+  pub none : moves ≡ no_deeds
+  pub peer : ℕ
+  pub first : Standing
+  pub lasts : e.carrier.ended ≡ None
+  pub given : has_given r e.carrier ≡ true
+  pub here : value_at r e.carrier.live ≡ Some (linked peer first)
+  pub fresh : IsFresh first
+
+-- ---- a connection whose link handed out a TSDU just now
+
+pub record HasCome (is_caller : Bool) (r : ℕ) (octets : List ℕ) (moves : Deeds) (e : End) : Type 0 where
+  pub peer : ℕ
+  pub first : Standing
+  pub link : Standing
+  pub session : Listener
+  pub before : List Move
+  pub now : List Move
+  pub parts : moves.calls ≡ before ++ now
+  pub into : tsdus_in now ≡ []
+  pub out : tsdus_out now ≡ octets ∷ []
+  pub lasts : e.carrier.ended ≡ None
+  pub given : has_given r e.carrier ≡ true
+  pub here : value_at r e.carrier.live ≡ Some (linked peer link)
+  pub fresh : IsFresh first
+  pub along : MovesAlong first moves.calls link
+  pub put : moves.put ≡ map (unit_of peer) (units_given moves.calls)
+  pub handed : link.ends.joining.whole ≡ []
+  pub kept : kept_at r e.lines ≡ Some session
+  pub speaks : Speaks is_caller before false session
+  pub begun : is_wait_transport session.state.phase ≡ false
+
+-- ---- while events wait
+
+pub data Waits (is_caller : Bool) (r : ℕ) (events : List Happening) (moves : Deeds) (e : End) : Type 0 where
+  still : NoneOf r events → Course is_caller r moves e → Waits is_caller r events moves e
+  away : Gone is_caller r moves e → Waits is_caller r events moves e
+  called : Due r (opened r) events → is_caller ≡ false → value_at r e.lines ≡ None → JustOpened r moves e →
+      Waits is_caller r events moves e
+  answered : Due r (opened r) events → is_caller ≡ true → (c : Connect) → terms_error c ≡ None → kept_at r e.lines ≡ Some (calls_with c) →
+      JustOpened r moves e → Waits is_caller r events moves e
+  came : (octets : List ℕ) → Due r (tsdu r octets) events → HasCome is_caller r octets moves e → Waits is_caller r events moves e
+
+some_linked : {X : Type 0} (o : Option X) (x : X) → o ≡ Some x → IsSome o
+some_linked o x e = ap is_some e
+
+module _ (is_caller : Bool) (r : ℕ) (moves : Deeds) (old new : End) where
+  just_beside : Beside r old new → JustOpened r moves old → JustOpened r moves new
+  just_beside b j = record {
+    none = j.none;
+    peer = j.peer;
+    first = j.first;
+    lasts = b.ended ∙ j.lasts;
+    given = b.given ∙ j.given;
+    here = b.live ∙ j.here;
+    fresh = j.fresh;
+  }
+
+  come_beside : (octets : List ℕ) → Beside r old new → HasCome is_caller r octets moves old → HasCome is_caller r octets moves new
+  come_beside octets b h = record {
+    peer = h.peer;
+    first = h.first;
+    link = h.link;
+    session = h.session;
+    before = h.before;
+    now = h.now;
+    parts = h.parts;
+    into = h.into;
+    out = h.out;
+    lasts = b.ended ∙ h.lasts;
+    given = b.given ∙ h.given;
+    here = b.live ∙ h.here;
+    fresh = h.fresh;
+    along = h.along;
+    put = h.put;
+    handed = h.handed;
+    kept = b.kept (some_linked (value_at r old.carrier.live) _ h.here) ∙ h.kept;
+    speaks = h.speaks;
+    begun = h.begun;
+  }
+
+  -- the same events wait at another end that left the connection as it is
+  pub waits_as : (events : List Happening) → Beside r old new → Waits is_caller r events moves old → Waits is_caller r events moves new
+  waits_as events b (still none course) = still none (course_beside is_caller r moves old new b course)
+  waits_as events b (away g) = away (gone_beside is_caller r moves old new b g)
+  waits_as events b (called due side none just) = called due side (b.unlined none) (just_beside b just)
+  waits_as events b (answered due side c terms kept just) =
+      answered due side c terms (b.kept (some_linked (value_at r old.carrier.live) _ just.here) ∙ kept) (just_beside b just)
+  waits_as events b (came octets due h) = came octets due (come_beside octets b h)
+
+  -- the first of the events is of another connection, and so is what it does
+  due_later : (event x : Happening) (rest : List Happening) → told_of x ≢ r → told_of event ≡ r → Due r event (x ∷ rest) → Due r event rest
+  due_later event x rest ne is (inl d) = d.1
+  due_later event x rest ne is (inr d) = absurd (ne (ap told_of d.0 ∙ is))
+
+  pub waits_beside : (x : Happening) (rest : List Happening) → told_of x ≢ r → Beside r old new → Waits is_caller r (x ∷ rest) moves old →
+      Waits is_caller r rest moves new
+  waits_beside x rest ne b (still none course) = still none.1 (course_beside is_caller r moves old new b course)
+  waits_beside x rest ne b (away g) = away (gone_beside is_caller r moves old new b g)
+  waits_beside x rest ne b (called due side none just) =
+      called (due_later (opened r) x rest ne refl due) side (b.unlined none) (just_beside b just)
+  waits_beside x rest ne b (answered due side c terms kept just) =
+      answered (due_later (opened r) x rest ne refl due) side c terms
+      (b.kept (some_linked (value_at r old.carrier.live) _ just.here) ∙ kept) (just_beside b just)
+  waits_beside x rest ne b (came octets due h) = came octets (due_later (tsdu r octets) x rest ne refl due) (come_beside octets b h)
+
+  -- the carrier ends
+  pub waits_over : (events : List Happening) → Waits is_caller r events moves old → IsSome new.carrier.ended → Gone is_caller r moves new
+  waits_over events (still none course) ended = course_over is_caller r moves old new course ended
+  waits_over events (away g) ended = gone_over is_caller r moves old new g ended
+  waits_over events (called due side none just) ended = never just.none ended
+  waits_over events (answered due side c terms kept just) ended = never just.none ended
+  waits_over events (came octets due h) ended =
+      over h.peer (record { first = h.first; link = h.link; fresh = h.fresh; along = h.along; handed = h.handed; put = h.put })
+      h.before h.now false h.session
+      h.speaks h.parts h.into ended
+
+-- no event waits
+pub waits_none : (is_caller : Bool) (r : ℕ) (moves : Deeds) (e : End) → Waits is_caller r [] moves e → Course is_caller r moves e
+waits_none is_caller r moves e (still none course) = course
+waits_none is_caller r moves e (away g) = is_gone g
+waits_none is_caller r moves e (called due side none just) = absurd due
+waits_none is_caller r moves e (answered due side c terms kept just) = absurd due
+waits_none is_caller r moves e (came octets due h) = absurd due

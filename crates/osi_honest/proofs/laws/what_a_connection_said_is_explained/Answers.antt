@@ -1,0 +1,26 @@
+use Rattle.std.proofs.Common.{false, map, true}
+use Rattle.osi_class.specs.Runs.{tsdus_out}
+use Rattle.osi_honest.specs.Courses.{said_in}
+use Rattle.osi_honest.specs.Talking.{told_of}
+use Rattle.osi_honest.proofs.courses.what_was_said_is_explained.{called_explained, caller_explained, course_said, shown_said}
+use Rattle.osi_honest.proofs.laws.what_a_connection_said_is_explained.Goals as goal
+
+pub returns-clause-called : goal.returns-clause-called
+returns-clause-called c = λ r moves e course.
+    called_explained c.an_honest_session_is_explained.ensures.called (tsdus_out moves.calls) (map told_of (said_in 0 moves.calls))
+    (course_said false r moves e course)
+
+pub returns-clause-caller : goal.returns-clause-caller
+returns-clause-caller c = λ r moves e course.
+    caller_explained c.an_honest_session_is_explained.ensures.caller (tsdus_out moves.calls) (map told_of (said_in 0 moves.calls))
+    (course_said true r moves e course)
+
+pub returns-clause-called_shows : goal.returns-clause-called_shows
+returns-clause-called_shows c = λ r moves e us told course same shows.
+    called_explained c.an_honest_session_is_explained.ensures.called us told
+    (shown_said false (tsdus_out moves.calls) us told (map told_of (said_in 0 moves.calls)) same shows (course_said false r moves e course))
+
+pub returns-clause-caller_shows : goal.returns-clause-caller_shows
+returns-clause-caller_shows c = λ r moves e us told course same shows.
+    caller_explained c.an_honest_session_is_explained.ensures.caller us told
+    (shown_said true (tsdus_out moves.calls) us told (map told_of (said_in 0 moves.calls)) same shows (course_said true r moves e course))

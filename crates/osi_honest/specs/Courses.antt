@@ -1,0 +1,156 @@
+-- The course of one connection of an end, of either class and among any number of others: the calls of its link, and what its
+-- session took and sent by them.
+use Rattle.std.specs.Prelude.{◌≡◌, ◌+◌, ℕ, Bool, true, false, List, [], ◌∷◌, ◌++◌, map, Option, Some, None, IsSome, Result, Ok, Err}
+use Rattle.std.specs.List.{flat_map}
+use Rattle.osi_tpkt.specs.Stream.{ArePackets}
+use Rattle.osi_tpdu.specs.Packet.{units_of}
+use Rattle.osi_tpdu.specs.Value.{Value}
+use Rattle.osi_tpdu.specs.declared.faults.TpduFault.{TpduFault}
+use Rattle.osi_class.specs.Between.{IsFresh, given_by}
+use Rattle.osi_class.specs.Link.{Given, Standing, unit_of}
+use Rattle.osi_class.specs.Runs.{Move, MovesAlong, give_out, hand_in, hand_out, take_in, tsdus_in, tsdus_out}
+use Rattle.osi_carrier.specs.Rows.{value_at}
+use Rattle.osi_carrier.specs.State.{Connection, asked, closing, linked, packets}
+use Rattle.osi_session.specs.Listening.{Listener}
+use Rattle.osi_session.specs.Phases.{is_wait_transport}
+use Rattle.osi_session.specs.Sessions.{awaits}
+use Rattle.osi_stack.specs.Calls.{calls_with, has_given, terms_error}
+use Rattle.osi_stack.specs.Messages.{kept_at}
+use Rattle.osi_stack.specs.State.{End, Holding}
+use Rattle.osi_stack.specs.declared.connecting.Connect.{Connect}
+use Rattle.osi_honest.specs.Talking.{History, Said}
+use Rattle.osi_honest.specs.Turns.{Takes, Turn}
+
+-- ---- the calls of a link
+
+-- the TSDUs that were handed in, each with how many TSDUs had been handed out by then
+abbrev pub said_in : (taken : ℕ) → List Move → List Said
+said_in taken [] = []
+said_in taken (hand_in tsdu ∷ moves) = record { octets = tsdu; taken = taken } ∷ said_in taken moves
+said_in taken (hand_out tsdu ∷ moves) = said_in (taken + 1) moves
+said_in taken (give_out unit ∷ moves) = said_in taken moves
+said_in taken (take_in unit ∷ moves) = said_in taken moves
+
+-- the units that were given
+abbrev pub units_given : List Move → List Given
+units_given moves = flat_map given_by moves
+
+-- and those that were taken
+abbrev pub taken_in : Move → List Value
+taken_in (take_in unit) = unit ∷ []
+taken_in move = []
+
+abbrev pub units_taken : List Move → List Value
+units_taken moves = flat_map taken_in moves
+
+-- What was done at a connection: the calls of its link, and the units that were put for it.
+pub record Deeds : Type 0 where
+  pub calls : List Move
+  pub put : List Value
+
+abbrev pub no_deeds : Deeds
+no_deeds = record { calls = []; put = [] }
+
+-- and then more
+abbrev pub then_did : Deeds → Deeds → Deeds
+then_did some more = record { calls = some.calls ++ more.calls; put = some.put ++ more.put }
+
+-- ---- the session
+
+-- At a called end a session begins by awaiting a CN, at a calling end with the CN of a request.
+abbrev pub IsNew : (is_caller : Bool) → Listener → Type 0
+IsNew false l = l ≡ awaits
+IsNew true l = (c : Connect) × (terms_error c ≡ None) × (l ≡ calls_with c)
+
+-- A session took the TSDUs that its link handed out, and sent those that were handed in: each when it had taken so many.
+pub record Speaks (is_caller : Bool) (moves : List Move) (closed : Bool) (session : Listener) : Type 0 where
+  pub begin : Listener
+  pub new : IsNew is_caller begin
+  pub history : History begin (tsdus_out moves) (said_in 0 moves) closed session
+
+-- ---- the connection
+
+-- These calls were made of a fresh link, and all TSDUs that became whole were handed out. All units that the link gave were
+-- put, with the reference that the peer gave the connection.
+pub record AreCalls (peer : ℕ) (deeds : Deeds) : Type 0 where
+  pub first : Standing
+  pub link : Standing
+  pub fresh : IsFresh first
+  pub along : MovesAlong first deeds.calls link
+  pub handed : link.ends.joining.whole ≡ []
+  pub put : deeds.put ≡ map (unit_of peer) (units_given deeds.calls)
+
+-- The connection is open: its link is what these calls made of it, and its session spoke by them.
+pub record IsOpen (is_caller : Bool) (r : ℕ) (deeds : Deeds) (e : End) : Type 0 where
+  pub peer : ℕ
+  pub calls : AreCalls peer deeds
+  pub session : Listener
+  pub lasts : e.carrier.ended ≡ None
+  pub here : value_at r e.carrier.live ≡ Some (linked peer calls.link)
+  pub kept : kept_at r e.lines ≡ Some session
+  pub speaks : Speaks is_caller deeds.calls false session
+  pub begun : is_wait_transport session.state.phase ≡ false
+
+-- not open, and not waiting for its CC
+abbrev pub IsShut : Option Connection → Type 0
+IsShut None = Unit {0}
+IsShut (Some asked) = ⊥
+IsShut (Some (linked peer link)) = ⊥
+IsShut (Some (closing peer)) = Unit {0}
+
+-- It was closed or refused, and never opens again; or the end is over. Then the last TSDUs that the link handed out may not
+-- have been taken; but whatever was handed in was sent.
+pub data Gone (is_caller : Bool) (r : ℕ) (deeds : Deeds) (e : End) : Type 0 where
+  closed : (peer : ℕ) → AreCalls peer deeds → (closed : Bool) (session : Listener) →
+      Speaks is_caller deeds.calls closed session → has_given r e.carrier ≡ true →
+      IsShut (value_at r e.carrier.live) → Gone is_caller r deeds e
+  over : (peer : ℕ) → AreCalls peer deeds → (heard unheard : List Move) (closed : Bool) (session : Listener) →
+      Speaks is_caller heard closed session →
+      deeds.calls ≡ heard ++ unheard → tsdus_in unheard ≡ [] → IsSome e.carrier.ended → Gone is_caller r deeds e
+  never : deeds ≡ no_deeds → IsSome e.carrier.ended → Gone is_caller r deeds e
+
+-- The reference was not given yet; or the connection was requested and its CC is awaited; or it is open; or it is gone.
+pub data Course (is_caller : Bool) (r : ℕ) (deeds : Deeds) (e : End) : Type 0 where
+  unknown : deeds ≡ no_deeds → e.carrier.is_caller ≡ is_caller → has_given r e.carrier ≡ false → value_at r e.carrier.live ≡ None →
+      value_at r e.lines ≡ None → Course is_caller r deeds e
+  awaited : deeds ≡ no_deeds → (c : Connect) → terms_error c ≡ None → is_caller ≡ true → e.carrier.ended ≡ None →
+      has_given r e.carrier ≡ true → value_at r e.carrier.live ≡ Some asked → kept_at r e.lines ≡ Some (calls_with c) →
+      Course is_caller r deeds e
+  is_open : has_given r e.carrier ≡ true → IsOpen is_caller r deeds e → Course is_caller r deeds e
+  is_gone : Gone is_caller r deeds e → Course is_caller r deeds e
+
+-- ---- a turn
+
+-- these units stand among those, in order
+pub data IsWithin : List Value → List Value → Type 0 where
+  none : (all : List Value) → IsWithin [] all
+  here : (unit : Value) (units all : List Value) → IsWithin units all → IsWithin (unit ∷ units) (unit ∷ all)
+  later : (unit : Value) (units all : List Value) → IsWithin units all → IsWithin units (unit ∷ all)
+
+-- the units of these packets that can be read
+abbrev pub units_read : Result (List Value) TpduFault → List Value
+units_read (Ok units) = units
+units_read (Err fault) = []
+
+abbrev pub units_in : List (List ℕ) → List Value
+units_in packets = flat_map (λ packet. units_read (units_of packet)) packets
+
+-- More is done at the connection. What was put for it stands among all that was put, in order; and what its link took, among
+-- the units of the packets in the octets that were used.
+pub record Continues (is_caller : Bool) (r : ℕ) (deeds : Deeds) (old : Holding) (turn : Turn) (new : Holding) : Type 0 where
+  pub more : Deeds
+  pub course : Course is_caller r (then_did deeds more) new.end
+  pub units : List Value
+  pub written : turn.put ≡ packets units
+  pub within : IsWithin more.put units
+  pub used : List (List ℕ)
+  pub rest : List ℕ
+  pub cut : ArePackets used (old.held.octets ++ turn.used) rest
+  pub held : new.end.carrier.ended ≡ None → rest ≡ new.held.octets
+  pub taken : IsWithin (units_taken more.calls) (units_in used)
+
+-- the same of turns one after the other
+abbrev pub ContinuesAlong : Bool → ℕ → Deeds → Holding → List Turn → Holding → Type 0
+ContinuesAlong is_caller r deeds old [] new = new ≡ old
+ContinuesAlong is_caller r deeds old (turn ∷ turns) new = (mid : Holding) × Takes old turn mid
+    × (on : Continues is_caller r deeds old turn mid) × ContinuesAlong is_caller r (then_did deeds on.more) mid turns new
