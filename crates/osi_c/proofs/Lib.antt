@@ -1,7 +1,11 @@
 pub mod a_connection_is_the_one_named
 pub mod a_slot_holds_a_box
 pub mod a_watch_is_boxed
+pub mod a_tap_watch_is_boxed
 pub mod verdicts_are_fetched_in_turn
 pub mod octets_are_followed_by_zeros
 pub mod a_piece_passes_turn_by_turn
+pub mod a_piece_passes_to_a_tap
+pub mod a_note_is_of_what_passed
+pub mod what_is_fetched_of_a_tap
 pub mod what_is_told_is_by_facts

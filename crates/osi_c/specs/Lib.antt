@@ -2,6 +2,8 @@ pub mod Owned
 pub mod OwnedWatch
 pub mod Lent
 pub mod LentJudge
+pub mod OwnedTap
+pub mod LentTap
 pub mod Codes
 pub mod Arguments
 pub mod Traced
@@ -13,3 +15,8 @@ pub mod Watched
 pub mod Ruled
 pub mod Verdicts
 pub mod Watching
+pub mod Subjects
+pub mod Notes
+pub mod NoteCodes
+pub mod TapFed
+pub mod TapWatching

@@ -1,6 +1,7 @@
 //! A value on the heap as C keeps it.
 
 mod loose;
+pub(crate) mod tap;
 pub(crate) mod watch;
 
 ghost use Rattle.std.specs.Prelude.{Option};

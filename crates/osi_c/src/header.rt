@@ -199,6 +199,32 @@ pub(crate) const RULE_WRONG_FORM: u32 = 62;
 
 pub(crate) const RULE_TSDU_TOO_LONG: u32 = 63;
 
+pub(crate) const RULE_LIMIT: u32 = 70;
+
+pub(crate) const RULE_TOO_MANY_CONNECTIONS: u32 = 71;
+
+pub(crate) const RULE_ONE_CONNECTION: u32 = 80;
+
+pub(crate) const RULE_NEGOTIATING: u32 = 81;
+
+pub(crate) const RULE_REFERENCE_IN_USE: u32 = 82;
+
+pub(crate) const RULE_UNKNOWN_REFERENCE: u32 = 83;
+
+pub(crate) const RULE_BAD_ANSWER: u32 = 84;
+
+pub(crate) const RULE_LARGER_SIZE: u32 = 85;
+
+pub(crate) const RULE_CLOSED: u32 = 86;
+
+pub(crate) const RULE_OUT_OF_SEQUENCE: u32 = 87;
+
+pub(crate) const RULE_NO_CREDIT: u32 = 88;
+
+pub(crate) const RULE_SIZE_EXCEEDED: u32 = 89;
+
+pub(crate) const RULE_CREDIT_REDUCED: u32 = 90;
+
 // What that side sent.
 pub(crate) const SAID_CN: u32 = 1;
 
@@ -243,3 +269,13 @@ pub(crate) const SAID_TPDU: u32 = 20;
 pub(crate) const SAID_TRANSPORT_DT: u32 = 21;
 
 pub(crate) const SAID_TRANSPORT_DR: u32 = 22;
+
+pub(crate) const SAID_TRANSPORT_CR: u32 = 23;
+
+pub(crate) const SAID_TRANSPORT_CC: u32 = 24;
+
+pub(crate) const SAID_TRANSPORT_DC: u32 = 25;
+
+pub(crate) const SAID_TRANSPORT_AK: u32 = 26;
+
+pub(crate) const SAID_TRANSPORT_ER: u32 = 27;

@@ -1,9 +1,10 @@
-//! One end of a byte connection, and the judge of one that passes, for C: the functions that `include/osi.h` declares.
+//! One end of a byte connection, and the judge and the watch of one that passes, for C: the functions that
+//! `include/osi.h` declares.
 //!
-//! Each function is a call of [`osi_stack::Stack`] or [`osi_judge::Judge`], and its contract says what that call's
-//! contract says, in the numbers of C. `OsiEnd` and `OsiJudge` are the slots that a C program holds. Every argument is
-//! allowed except a pointer to nothing: numbers that are out of range give `BAD_ARGUMENT`, and an empty slot gives
-//! `CLOSED`.
+//! Each function is a call of [`osi_stack::Stack`], [`osi_judge::Judge`] or [`osi_tap::Tap`], and its contract says what
+//! that call's contract says, in the numbers of C. `OsiEnd`, `OsiJudge` and `OsiWatch` are the slots that a C program
+//! holds. Every argument is allowed except a pointer to nothing: numbers that are out of range give `BAD_ARGUMENT`, and
+//! an empty slot gives `CLOSED`.
 //!
 //! A C caller has a few duties that no contract can check (true lengths, one thread at a time): docs/GUIDE.md lists
 //! them. Three functions of the header are small C functions around these, in `bindings/c/edges.c`.
@@ -19,10 +20,17 @@ mod header;
 mod indications;
 mod judges;
 mod judging;
+mod note_codes;
+mod notes;
 mod rules;
 mod slots;
 mod standings;
 mod streams;
+mod subjects;
+mod tap_feeding;
+mod tap_slots;
+mod tap_watches;
+mod tap_watching;
 mod telling;
 mod traces;
 mod tracing;

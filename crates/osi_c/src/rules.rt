@@ -86,7 +86,7 @@ pub(crate) fn rule_code(rule: Rule) -> u32
     }
 }
 
-fn packet_code(fault: TpktFault) -> u32
+pub(crate) fn packet_code(fault: TpktFault) -> u32
     ensures { result ≡ packet_code fault }
 {
     match fault {
@@ -96,7 +96,7 @@ fn packet_code(fault: TpktFault) -> u32
     }
 }
 
-fn unit_code(fault: TpduFault) -> u32
+pub(crate) fn unit_code(fault: TpduFault) -> u32
     ensures { result ≡ unit_code fault }
 {
     match fault {

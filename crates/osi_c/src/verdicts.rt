@@ -75,7 +75,7 @@ pub(crate) fn side_by(number: u32) -> Option<Direction>
     }
 }
 
-fn side_code(side: Direction) -> u32
+pub(crate) fn side_code(side: Direction) -> u32
     ensures { side_of result ≡ Some side }
 {
     match side {
@@ -250,7 +250,7 @@ fn offset_in(told: &Told) -> u64
 }
 
 /// The number of a reference: 0 if there is none.
-fn reference_code(reference: Option<u16>) -> u16
+pub(crate) fn reference_code(reference: Option<u16>) -> u16
     ensures { result ≡ reference_code reference }
 {
     match reference {

@@ -26,9 +26,11 @@ use Rattle.osi_tap.specs.declared.marks.Mark.{Mark}
 use Rattle.osi_tap.specs.declared.marks.Marks.{Marks}
 use Rattle.osi_tap.specs.Blaming.{IsToBlame, SomeIs, SomeoneIs}
 use Rattle.osi_tap.specs.Connections.{Joined, Sessions, count, numbered, has_number, asked, asked_at, placed, changed, packet_begins}
-use Rattle.osi_tap.specs.Connections.{all_begin, adds, meant, taken, taken_at, source_of}
+use Rattle.osi_tap.specs.Connections.{all_begin, adds, adds_if, meant, taken, taken_at, source_of}
 use Rattle.osi_tap.specs.Courses.{Course, way_of, cause_of, marks_of, marked, moved, reached, changes, breaks, halts, first_marked}
 use Rattle.osi_tap.specs.Courses.{noted_by, unit_passes, units_pass, unread, unread_mark, unread_moment, packet_by}
+use Rattle.osi_tap.specs.Rooms.{fits, spent}
+use Rattle.osi_tap.specs.declared.rooms.Room.{Room}
 use Rattle.osi_tap.specs.Streams.{Front, partial, faulty, whole, front_of, Streamed, counted, gathered}
 use Rattle.osi_tap.specs.Tapping.{State, stream_of, with_stream, looked_at, begun, octet_passes, begin, after, comes_to}
 use Rattle.osi_tap.proofs.a_piece_comes_to_what_its_octets_do.{looks}
@@ -138,7 +140,7 @@ placed_having n i j s (Some over) e =
 
 asked_own : (i calling : ℕ) (s : Sessions) → IsOwn s → IsOwn (asked_at i calling s)
 asked_own i calling s h =
-    let j = asked (offset_of (count s)) calling in
+    let j = asked (offset_of (count s)) calling s.room in
     let o = slice_get s.live i in
     more_own s (placed i j s o) j.number refl (placed_count i j s o) (λ n. placed_having n i j s o refl) h
 
@@ -159,9 +161,14 @@ changed_own i f s number h =
     let o = slice_get s.live i in
     same_own s (changed i f s o) (changed_count i f s o) (λ n. changed_having n i f s o number refl) h
 
+added_number : (b : Bool) (room : Room) (d : Direction) (at : ℕ) (end : Bool) (octets : List ℕ) (j : Joined)
+    → (adds_if b room d at end octets j).number ≡ j.number
+added_number true room Left at end octets j = refl
+added_number true room Right at end octets j = refl
+added_number false room d at end octets j = refl
+
 adds_number : (d : Direction) (at : ℕ) (end : Bool) (octets : List ℕ) (j : Joined) → (adds d at end octets j).number ≡ j.number
-adds_number Left at end octets j = refl
-adds_number Right at end octets j = refl
+adds_number d at end octets j = added_number (fits j.room (length octets)) (spent j.room (length octets)) d at end octets j
 
 meant_number : (d : Direction) (at : ℕ) (v : Value) (m : Meaning) (j : Joined) → (meant d at v m j).number ≡ j.number
 meant_number d at v meaning.Opens j = refl

@@ -9,7 +9,8 @@ use Rattle.std.specs.Option.{option_map, option_or}
 use Rattle.osi_tap.specs.Courses.{number_of}
 use Rattle.std.specs.Prelude.{slice_get}
 use Rattle.osi_tap.specs.declared.connections.Connection.{Connection}
-use Rattle.osi_tap.specs.Connections.{Joined, Sessions, changed, placed, has_number, numbered}
+use Rattle.osi_tap.specs.declared.rooms.Room.{Room}
+use Rattle.osi_tap.specs.Connections.{Joined, Sessions, asked, changed, placed, has_number, numbered}
 use Rattle.osi_tap.specs.Holding.{HoldsJoined, HoldsFound, HoldAll}
 
 pub all_length : (cs : List Connection) (js : List Joined) → HoldAll cs js → length cs ≡ length js
@@ -85,6 +86,23 @@ one_replaced cs ds s i c d j lt holds live done =
     subst (λ (o : Option Joined). HoldAll (set cs i d) (placed i j s o).live × HoldAll (ds ++ get_or cs i c ∷ [])
     (placed i j s o).done) (sym r.there)
     (r.next d j holds, all_more ds s.done (get_or cs i c) r.joined done r.holds)
+
+-- how much is judged of each stays
+
+pub room_changed : (i : ℕ) (f : Joined → Joined) (s : Sessions) (o : Option Joined) (room : Room) → room ≡ s.room
+    → room ≡ (changed i f s o).room
+room_changed i f s None room e = e
+room_changed i f s (Some j) room e = e
+
+pub room_placed : (i : ℕ) (j : Joined) (s : Sessions) (o : Option Joined) (room : Room) → room ≡ s.room → room ≡ (placed i j s o).room
+room_placed i j s None room e = e
+room_placed i j s (Some over) room e = e
+
+-- what is judged of one that is requested is what is judged of each
+pub asked_so : (c : Connection) (n m calling : ℕ) (room judged : Room) → n ≡ m → room ≡ judged → HoldsJoined c (asked n calling room)
+    → HoldsJoined c (asked m calling judged)
+asked_so c n m calling room judged e is h =
+    subst (λ (r : Room). HoldsJoined c (asked m calling r)) is (subst (λ (i : ℕ). HoldsJoined c (asked i calling room)) e h)
 
 -- ---- a packet begins for each in turn
 

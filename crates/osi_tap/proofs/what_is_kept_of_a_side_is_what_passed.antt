@@ -20,7 +20,7 @@ use Rattle.osi_judge.specs.declared.directions.Direction.{Direction}
 use Rattle.osi_judge.specs.declared.directions.Direction.TheVariants.{Left, Right}
 use Rattle.osi_tap.specs.declared.connections.Connection.{Connection}
 use Rattle.osi_tap.specs.declared.lines.Line.{Line}
-use Rattle.osi_tap.specs.Connections.{Joined, adds, spoken}
+use Rattle.osi_tap.specs.Connections.{Joined, adds_all, spoken}
 use Rattle.osi_tap.specs.Holding.{lined, line_in, HoldsJoined, IsHeard}
 use Rattle.osi_tap.specs.Lines.{Begun, Spoken, told, told_of, octets_of, heard, begun_octets, begun_before, before, added, begins}
 use Rattle.osi_tap.specs.Lines.{silent, Said, place_in}
@@ -319,14 +319,22 @@ place_at Right c j h = h.sides.that.place
 
 pub left_added : (d : Direction) (c : Connection) (own other : Line) (j : Joined) (at : ℕ) (end : Bool) (octets : List ℕ) → d ≡ Left
     → HoldsJoined c j → HoldsBoth seen_calling seen_called (lined own) (lined other) (added at end octets j.left) j.right
-    → HoldsJoined (record c { left = own; right = other }) (adds d at end octets j)
+    → HoldsJoined (record c { left = own; right = other }) (adds_all d at end octets j)
 left_added d c own other j at end octets e h k =
-    subst (λ (z : Direction). HoldsJoined (record c { left = own; right = other }) (adds z at end octets j)) (sym e)
-    (record { number = h.number; calling = h.calling; called = h.called; class = h.class; closed = h.closed; sides = k })
+    subst (λ (z : Direction). HoldsJoined (record c { left = own; right = other }) (adds_all z at end octets j)) (sym e)
+    (record { number = h.number; calling = h.calling; called = h.called; class = h.class; closed = h.closed; room = h.room; sides = k })
 
 pub right_added : (d : Direction) (c : Connection) (own other : Line) (j : Joined) (at : ℕ) (end : Bool) (octets : List ℕ) → d ≡ Right
     → HoldsJoined c j → HoldsBoth seen_called seen_calling (lined own) (lined other) (added at end octets j.right) j.left
-    → HoldsJoined (record c { left = other; right = own }) (adds d at end octets j)
+    → HoldsJoined (record c { left = other; right = own }) (adds_all d at end octets j)
 right_added d c own other j at end octets e h k =
-    subst (λ (z : Direction). HoldsJoined (record c { left = other; right = own }) (adds z at end octets j)) (sym e)
-    (record { number = h.number; calling = h.calling; called = h.called; class = h.class; closed = h.closed; sides = flipped k })
+    subst (λ (z : Direction). HoldsJoined (record c { left = other; right = own }) (adds_all z at end octets j)) (sym e)
+    (record {
+      number = h.number;
+      calling = h.calling;
+      called = h.called;
+      class = h.class;
+      closed = h.closed;
+      room = h.room;
+      sides = flipped k;
+    })

@@ -15,11 +15,13 @@ use Rattle.osi_rules.specs.declared.findings.Meaning.{Meaning}
 use Rattle.osi_rules.specs.declared.findings.Meaning.TheVariants as meaning
 use Rattle.osi_tap.specs.declared.connections.Connection.{Connection}
 use Rattle.osi_tap.specs.Blaming.{IsToBlame, NobodyIs, NobodyElseIs, SomeIs, SomeoneIs}
-use Rattle.osi_tap.specs.Connections.{Joined, Sessions, asked_at, placed, changed, packet_begins, all_begin, adds, meant, spoken}
+use Rattle.osi_tap.specs.Connections.{Joined, Sessions, asked_at, placed, changed, packet_begins, all_begin, adds, adds_if, meant, spoken}
 use Rattle.osi_tap.specs.Connections.{taken_at, source_of}
 use Rattle.osi_tap.specs.Holding.{line_in, HoldsJoined, HoldAll}
 use Rattle.osi_tap.proofs.each_connection_is_kept.{all_length, none_there}
 use Rattle.osi_tap.specs.Lines.{told, heard}
+use Rattle.osi_tap.specs.Rooms.{fits, spent}
+use Rattle.osi_tap.specs.declared.rooms.Room.{Room}
 use Rattle.osi_tap.proofs.what_is_kept_of_a_side_is_what_passed.{told_more}
 use Rattle.osi_tap.proofs.who_is_to_blame.{found_of, broken, blame_stays, one_asked}
 
@@ -65,15 +67,20 @@ no_more : (d : Direction) (j i : Joined) → told (spoken d i) ≡ told (spoken 
 no_more d j i says hears number =
     record { more = []; says = says ∙ sym (append-nil (told (spoken d j))); hears = hears; number = number }
 
-added : (d : Direction) (at : ℕ) (end : Bool) (octets : List ℕ) (j : Joined) → Adds d j (adds d at end octets j)
-added Left at true octets j = record { more = _; says = told_more j.left at octets; hears = refl; number = refl }
-added Right at true octets j = record { more = _; says = told_more j.right at octets; hears = refl; number = refl }
-added Left at false octets j = no_more Left j (adds Left at false octets j) refl refl refl
-added Right at false octets j = no_more Right j (adds Right at false octets j) refl refl refl
-
 same_spoken : (d : Direction) (j i : Joined) → i.left ≡ j.left → i.right ≡ j.right → i.number ≡ j.number → Adds d j i
 same_spoken Left j i l r n = no_more Left j i (ap told l) (ap heard r) n
 same_spoken Right j i l r n = no_more Right j i (ap told r) (ap heard l) n
+
+added_if : (b : Bool) (room : Room) (d : Direction) (at : ℕ) (end : Bool) (octets : List ℕ) (j : Joined)
+    → Adds d j (adds_if b room d at end octets j)
+added_if true room Left at true octets j = record { more = _; says = told_more j.left at octets; hears = refl; number = refl }
+added_if true room Right at true octets j = record { more = _; says = told_more j.right at octets; hears = refl; number = refl }
+added_if true room Left at false octets j = no_more Left j _ refl refl refl
+added_if true room Right at false octets j = no_more Right j _ refl refl refl
+added_if false room d at end octets j = same_spoken d j _ refl refl refl
+
+added : (d : Direction) (at : ℕ) (end : Bool) (octets : List ℕ) (j : Joined) → Adds d j (adds d at end octets j)
+added d at end octets j = added_if (fits j.room (length octets)) (spent j.room (length octets)) d at end octets j
 
 adds_by : (d : Direction) (at : ℕ) (v : Value) (m : Meaning) (j : Joined) → Adds d j (meant d at v m j)
 adds_by d at v meaning.Opens j = same_spoken d j _ refl refl refl

@@ -19,6 +19,7 @@ use Rattle.osi_judge.proofs.told.a_side_strays_at_one_place.{Strays, never_stray
 use Rattle.osi_tap.specs.declared.connections.Connection.{Connection}
 use Rattle.osi_tap.specs.Blaming.{IsFoundOf, IsBlameless, IsToBlame, AreBlameless, AreBlamelessBut, NobodyIs, NobodyElse, NobodyElseIs}
 use Rattle.osi_tap.specs.Blaming.{Blames}
+use Rattle.osi_tap.specs.declared.rooms.Room.{Room}
 use Rattle.osi_tap.specs.Connections.{Joined, Sessions, asked, asked_at, placed, changed, packet_begins, all_begin}
 use Rattle.osi_tap.specs.Holding.{line_in, HoldsJoined, HoldAll}
 use Rattle.osi_tap.proofs.each_connection_is_kept.{element, all_length, none_there}
@@ -159,13 +160,13 @@ unfolding kept
 one_session begin zero = omega arith
 one_session begin (suc n) = omega arith
 
-begin_blameless : (d : Direction) (number calling : ℕ) → IsBlameless d (asked number calling)
-begin_blameless Left number calling = record {
+begin_blameless : (d : Direction) (number calling : ℕ) (room : Room) → IsBlameless d (asked number calling room)
+begin_blameless Left number calling room = record {
   finding = Kept;
   found = record { found = (done 0 (begin_of Left), refl); room = one_session (begin_of Left) };
   none = refl;
 }
-begin_blameless Right number calling = record {
+begin_blameless Right number calling room = record {
   finding = Kept;
   found = record { found = (done 0 (begin_of Right), refl); room = one_session (begin_of Right) };
   none = refl;
@@ -200,8 +201,8 @@ placed_at i j s (Some over) e b h = record {
 pub one_asked : (d : Direction) (i calling : ℕ) (s : Sessions) → NobodyIs s → NobodyElseIs d i (asked_at i calling s)
 one_asked d i calling s h =
     else_is d i (asked_at i calling s) (placed_at i _ s (slice_get s.live i) refl (
-      begin_blameless Left _ calling,
-      begin_blameless Right _ calling,
+      begin_blameless Left _ calling s.room,
+      begin_blameless Right _ calling s.room,
     ) h)
 
 -- ---- a packet begins

@@ -10,16 +10,20 @@ use Rattle.osi_judge.specs.declared.directions.Direction.{Direction}
 use Rattle.osi_judge.specs.declared.directions.Direction.TheVariants.{Left, Right}
 use Rattle.osi_rules.specs.declared.findings.Meaning.{Meaning}
 use Rattle.osi_rules.specs.declared.findings.Meaning.TheVariants as meaning
+use Rattle.osi_tap.specs.declared.rooms.Room.{Room}
+use Rattle.osi_tap.specs.declared.rooms.Room.TheVariants.{All}
 use Rattle.osi_tap.specs.Lines.{Spoken, silent, begins, added}
+use Rattle.osi_tap.specs.Rooms.{fits, spent}
 
 -- a connection: its number in the order of the CRs, the references of both sides, the class that its CC selects, whether it is
--- refused or closed, and both sides
+-- refused or closed, how much more of it is judged, and both sides
 pub record Joined : Type 0 where
   pub number : ℕ
   pub calling : ℕ
   pub called : Option ℕ
   pub class : Option Class
   pub closed : Bool
+  pub room : Room
   pub left : Spoken
   pub right : Spoken
 
@@ -32,13 +36,14 @@ abbrev pub reference_of : Direction → Joined → Option ℕ
 reference_of Left j = Some j.calling
 reference_of Right j = j.called
 
--- those that have a place, by their places, and those whose place was given to another
+-- those that have a place, by their places, and those whose place was given to another; and how much is judged of each
 pub record Sessions : Type 0 where
   pub live : List Joined
   pub done : List Joined
+  pub room : Room
 
 abbrev pub none : Sessions
-none = record { live = []; done = [] }
+none = record { live = []; done = []; room = All }
 
 -- how many were requested
 abbrev pub count : Sessions → ℕ
@@ -52,9 +57,17 @@ abbrev pub numbered : ℕ → Sessions → Option Joined
 numbered number s = find (has_number number) (s.live ++ s.done)
 
 -- a CR with this reference
-abbrev pub asked : (number calling : ℕ) → Joined
-asked number calling =
-    record { number = number; calling = calling; called = None; class = None; closed = false; left = silent; right = silent }
+abbrev pub asked : (number calling : ℕ) → Room → Joined
+asked number calling room = record {
+  number = number;
+  calling = calling;
+  called = None;
+  class = None;
+  closed = false;
+  room = room;
+  left = silent;
+  right = silent;
+}
 
 -- a packet of a side begins
 abbrev pub packet_begins : Direction → Joined → Joined
@@ -72,10 +85,18 @@ opened called class j = record j { called = Some called; class = Some class }
 abbrev pub shut : Joined → Joined
 shut j = record j { closed = true }
 
--- a DT of a side, in the packet at this offset
+-- a DT of a side that is judged, in the packet at this offset
+abbrev pub adds_all : Direction → (at : ℕ) (end : Bool) → List ℕ → Joined → Joined
+adds_all Left at end octets j = record j { left = added at end octets j.left }
+adds_all Right at end octets j = record j { right = added at end octets j.right }
+
+-- a DT, if there is room for it
+abbrev pub adds_if : (fits : Bool) → Room → Direction → (at : ℕ) (end : Bool) → List ℕ → Joined → Joined
+adds_if true room d at end octets j = record (adds_all d at end octets j) { room = room }
+adds_if false room d at end octets j = record j { room = room }
+
 abbrev pub adds : Direction → (at : ℕ) (end : Bool) → List ℕ → Joined → Joined
-adds Left at end octets j = record j { left = added at end octets j.left }
-adds Right at end octets j = record j { right = added at end octets j.right }
+adds d at end octets j = adds_if (fits j.room (length octets)) (spent j.room (length octets)) d at end octets j
 
 -- ---- what a unit says
 
@@ -98,7 +119,7 @@ user_of v = []
 -- a connection is requested, and gets this place: that of one that is over, or a new one
 abbrev pub placed : (place : ℕ) → Joined → Sessions → Option Joined → Sessions
 placed place j s None = record s { live = s.live ++ j ∷ [] }
-placed place j s (Some over) = record { live = slice_set s.live place j; done = s.done ++ over ∷ [] }
+placed place j s (Some over) = record s { live = slice_set s.live place j; done = s.done ++ over ∷ [] }
 
 -- what the unit means for its connection, if it does not ask for one
 abbrev pub meant : Direction → (at : ℕ) → Value → Meaning → Joined → Joined
@@ -112,7 +133,7 @@ changed place f s None = s
 changed place f s (Some j) = record s { live = slice_set s.live place (f j) }
 
 abbrev pub asked_at : (place calling : ℕ) → Sessions → Sessions
-asked_at place calling s = placed place (asked (offset_of (count s)) calling) s (slice_get s.live place)
+asked_at place calling s = placed place (asked (offset_of (count s)) calling s.room) s (slice_get s.live place)
 
 abbrev pub taken_at : Direction → (at : ℕ) → Value → Meaning → (place : ℕ) → Sessions → Sessions
 taken_at d at v meaning.Asks place s = asked_at place (source_of v) s

@@ -22,6 +22,7 @@ use Rattle.osi_tap.specs.declared.marks.Mark.{Mark}
 use Rattle.osi_tap.specs.declared.marks.Marks.{Marks}
 use Rattle.osi_tap.specs.declared.marks.UnitKind.{UnitKind}
 use Rattle.osi_tap.specs.declared.marks.UnitKind.TheVariants as kind
+use Rattle.osi_tap.specs.declared.rooms.Room.{Room}
 use Rattle.osi_tap.specs.Connections.{Joined, Sessions, none, all_begin, taken}
 
 -- what passed at one moment, a unit or octets that can't be read: the side that sent it, the offset of the packet in its direction,
@@ -47,6 +48,10 @@ unmarked = record { broke = None; halted = None }
 
 abbrev pub fresh : Course
 fresh = record { traffic = traffic.fresh; sessions = none; left = unmarked; right = unmarked; first = None; past = [] }
+
+-- of each connection so much is judged
+abbrev pub fresh_within : Room → Course
+fresh_within room = record fresh { sessions = record none { room = room } }
 
 -- a direction as `osi_rules` names it
 abbrev pub way_of : Direction → Way

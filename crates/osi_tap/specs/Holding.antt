@@ -104,6 +104,7 @@ pub record HoldsJoined (c : Connection) (j : Joined) : Type 0 where
   pub called : c.called ≡ j.called
   pub class : c.class ≡ j.class
   pub closed : c.closed ≡ j.closed
+  pub room : c.room ≡ j.room
   pub sides : HoldsBoth seen_calling seen_called (lined c.left) (lined c.right) j.left j.right
 
 abbrev pub line_in : Direction → Connection → Lined
@@ -147,6 +148,7 @@ HoldsFound (Some c) None = ⊥
 pub record HoldsSessions (k : Kept) (s : Sessions) : Type 0 where
   pub live : HoldAll k.live.items s.live
   pub done : HoldAll k.done.items s.done
+  pub room : k.room ≡ s.room
 
 -- the break that is told as the first: if this is the first of transport, then this one, unless a session broke before it
 abbrev pub IsFirst : (told first : Option First) → Type 0

@@ -1,5 +1,7 @@
 pub mod Lines
+pub mod Rooms
 pub mod Connections
+pub mod Bounds
 pub mod Courses
 pub mod Blaming
 pub mod Streams

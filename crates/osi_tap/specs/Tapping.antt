@@ -4,7 +4,8 @@ use Rattle.osi_judge.specs.Captures.{Capture, Passed, of}
 use Rattle.osi_judge.specs.declared.directions.Direction.{Direction}
 use Rattle.osi_judge.specs.declared.directions.Direction.TheVariants.{Left, Right}
 use Rattle.osi_tap.specs.declared.marks.Cause.TheVariants.{BadPacket}
-use Rattle.osi_tap.specs.Courses.{Course, fresh, packet_begins, packet_passes, unread}
+use Rattle.osi_tap.specs.declared.rooms.Room.{Room}
+use Rattle.osi_tap.specs.Courses.{Course, fresh, fresh_within, packet_begins, packet_passes, unread}
 use Rattle.osi_tap.specs.Streams.{Front, partial, faulty, whole, front_of, Streamed, untouched, counted, gathered, advanced, ended}
 
 -- both directions, and what has passed
@@ -15,6 +16,10 @@ pub record State : Type 0 where
 
 abbrev pub begin : State
 begin = record { left = untouched; right = untouched; course = fresh }
+
+-- of each connection so much is judged
+abbrev pub begin_within : Room → State
+begin_within room = record begin { course = fresh_within room }
 
 abbrev pub stream_of : Direction → State → Streamed
 stream_of Left s = s.left

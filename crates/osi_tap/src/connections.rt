@@ -8,10 +8,12 @@ ghost use Rattle.osi_judge.specs.Outlines.{outlines};
 ghost use Rattle.osi_judge.specs.Stops.{broke_session};
 ghost use Rattle.osi_judge.specs.Tapping.{begin_of};
 ghost use Rattle.osi_tap.specs.Lines.{told, heard};
-ghost use Rattle.osi_tap.specs.Connections.{Joined, asked, packet_begins, opened, shut, adds, spoken, reference_of};
+ghost use Rattle.osi_tap.specs.Connections.{Joined, asked, packet_begins, opened, shut, adds, adds_all, spoken, reference_of};
+ghost use Rattle.osi_tap.specs.Rooms.{is_over};
 ghost use Rattle.osi_tap.specs.Holding.{lined, line_in, HoldsJoined, IsHeard, IsPlace};
 
 use crate::lines::{Line, add, hand_over_both};
+use crate::rooms::Room;
 use osi_class::Class;
 use osi_judge::{Direction, Finding, Side};
 use std::alloc::{AllocError, Global};
@@ -24,14 +26,20 @@ pub struct Connection {
     pub(crate) called: Option<u16>,
     pub(crate) class: Option<Class>,
     pub(crate) closed: bool,
+    pub(crate) room: Room,
     pub(crate) left: Line,
     pub(crate) right: Line,
 }
 
 impl Connection {
-    /// A connection that a CR with this reference requests.
-    pub(crate) fn new(alloc: Global, number: usize, calling: u16) -> Result<Connection, AllocError>
-        ensures { IfOk result (λ c. HoldsJoined c (asked number calling)) }
+    /// A connection that a CR with this reference requests, of which so much is judged.
+    pub(crate) fn new(
+        alloc: Global,
+        number: usize,
+        calling: u16,
+        room: Room,
+    ) -> Result<Connection, AllocError>
+        ensures { IfOk result (λ c. HoldsJoined c (asked number calling room)) }
     {
         let left = Side::caller(alloc)?;
         let right = Side::called(alloc)?;
@@ -41,6 +49,7 @@ impl Connection {
             called: None,
             class: None,
             closed: false,
+            room,
             left: Line::new(alloc, left),
             right: Line::new(alloc, right),
         })
@@ -75,7 +84,7 @@ impl Connection {
         self.closed = true;
     }
 
-    /// A DT of a side passes, in the packet at this offset. `Err` changes nothing.
+    /// A DT of a side passes, in the packet at this offset: it is judged if there is room for it. `Err` changes nothing.
     pub(crate) fn add(
         &mut self,
         direction: Direction,
@@ -87,6 +96,30 @@ impl Connection {
         ensures err { OnErr result ((j : Joined) → HoldsJoined self.old j → HoldsJoined self.new j) }
         ensures own { OnErr result ((line_in direction self.new).side.finding ≡ (line_in direction self.old).side.finding) }
         ensures other { (line_in (other direction) self.new).side.finding ≡ (line_in (other direction) self.old).side.finding }
+    {
+        let room = self.room.spent(octets.len());
+        if !self.room.fits(octets.len()) {
+            self.room = room;
+            return Ok(());
+        }
+        self.add_all(direction, at, end, octets)?;
+        self.room = room;
+        Ok(())
+    }
+
+    /// A DT of a side passes, for which there is room. `Err` changes nothing.
+    fn add_all(
+        &mut self,
+        direction: Direction,
+        at: u64,
+        end: bool,
+        octets: &[u8],
+    ) -> Result<(), AllocError>
+        ensures ok { OnOk result ((j : Joined) → HoldsJoined self.old j → HoldsJoined self.new (adds_all direction at end octets.now j)) }
+        ensures err { OnErr result ((j : Joined) → HoldsJoined self.old j → HoldsJoined self.new j) }
+        ensures own { OnErr result ((line_in direction self.new).side.finding ≡ (line_in direction self.old).side.finding) }
+        ensures other { (line_in (other direction) self.new).side.finding ≡ (line_in (other direction) self.old).side.finding }
+        ensures room { self.new.room ≡ self.old.room }
     {
         match direction {
             Direction::Left => add(&mut self.left, &mut self.right, at, end, octets),
@@ -141,6 +174,14 @@ impl Connection {
         ensures { (j : Joined) → HoldsJoined self.now j → result ≡ j.closed }
     {
         self.closed
+    }
+
+    /// Whether more passed on it than is judged of a connection ([`crate::Tap::within`]): then what both sides sent after that is
+    /// not judged, and what was found of them is of what they had sent before.
+    pub fn is_over(&self) -> bool
+        ensures { (j : Joined) → HoldsJoined self.now j → result ≡ is_over j.room }
+    {
+        self.room.is_over()
     }
 
     /// The session of a side. Once [`crate::Tap::settle`] has said `Ok`, it has heard all that the other side said.

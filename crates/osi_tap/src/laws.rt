@@ -9,12 +9,14 @@ ghost use Rattle.osi_tap.specs.declared.marks.First.{First};
 ghost use Rattle.osi_tap.specs.declared.marks.Layer.{Layer};
 ghost use Rattle.osi_tap.specs.Blaming.{IsFirstOf, IsMarkOf, NobodyIs, SomeoneIs};
 ghost use Rattle.osi_tap.specs.declared.connections.Connection.{Connection};
-ghost use Rattle.osi_tap.specs.Connections.{Joined, spoken};
+ghost use Rattle.osi_tap.specs.Bounds.{IsWithin};
+ghost use Rattle.osi_tap.specs.Connections.{Joined, numbered, spoken};
 ghost use Rattle.osi_tap.specs.Courses.{Moment};
 ghost use Rattle.osi_tap.specs.Holding.{line_in, streamed, HoldsJoined, IsHeard};
 ghost use Rattle.osi_tap.specs.Lines.{begun_octets, heard};
 ghost use Rattle.osi_tap.specs.Standing.{pick, HoldsState, IsFed, IsJudged, IsPart, first_in};
-ghost use Rattle.osi_tap.specs.Tapping.{State, stream_of, octets_pass, after, comes_to, GoesOn};
+ghost use Rattle.osi_tap.specs.Tapping.{State, stream_of, octets_pass, after, begin_within, comes_to, GoesOn};
+ghost use Rattle.osi_tap.specs.declared.rooms.Room.TheVariants.{Octets};
 ghost use Rattle.osi_tap.specs.declared.tap.Tap.{Tap};
 
 /// It doesn't matter in which pieces a capture passes. What comes to pass after a capture continues from what the part
@@ -62,4 +64,11 @@ pub fn no_more_is_kept_than_passed()
     ensures octets { (d : Side) (c : Connection) (j : Joined) → HoldsJoined c j → IsHeard c
         → kept_in (once (line_in (other d) c).side.heard) + length (line_in d c).begun
         ≤ kept_in (heard (spoken d j)) + length (begun_octets (spoken d j).begun) }
+{}
+
+/// What is judged of a connection of a tap that has a bound for each ([`crate::Tap::within`]), and so what is kept of it, is no more
+/// than the bound, whatever passes: of both sides the TSDUs, each with seven octets more, and the unfinished ones.
+pub fn a_connection_is_judged_within_its_bound()
+    ensures { (capture : Capture) (most number : ℕ) (j : Joined)
+        → numbered number (after capture (begin_within (Octets most))).course.sessions ≡ Some j → IsWithin most j }
 {}

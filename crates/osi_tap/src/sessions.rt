@@ -13,6 +13,7 @@ ghost use Rattle.osi_tap.specs.Blaming.{Blames, NobodyElse, NobodyElseIs, Nobody
 ghost use Rattle.osi_tap.specs.Holding.{line_in, AllHeard, AreHeard, FoundHeard, HoldAll, HoldsFound, HoldsJoined, HoldsSessions};
 
 use crate::connections::Connection;
+use crate::rooms::Room;
 use osi_class::Class;
 use osi_judge::Direction;
 use osi_rules::{Meaning, Told};
@@ -26,6 +27,8 @@ pub(crate) struct Sessions {
     alloc: Global,
     pub(crate) live: Vec<Connection>,
     pub(crate) done: Vec<Connection>,
+    /// How much is judged of each.
+    pub(crate) room: Room,
 }
 
 /// The reference of the sender of a CR or CC.
@@ -136,13 +139,15 @@ fn hand_over_each(live: &mut Vec<Connection>) -> Result<(), AllocError>
 }
 
 impl Sessions {
-    pub(crate) fn new(alloc: Global) -> Sessions
-        ensures { HoldsSessions result none }
+    /// There is none, and of each so much will be judged.
+    pub(crate) fn new(alloc: Global, room: Room) -> Sessions
+        ensures { HoldsSessions result (record none { room = room }) }
     {
         Sessions {
             alloc,
             live: Vec::new(alloc),
             done: Vec::new(alloc),
+            room,
         }
     }
 
@@ -203,7 +208,7 @@ impl Sessions {
         ensures err { OnErr result ((s : Passed) → HoldsSessions self.old s → HoldsSessions self.new s) }
     {
         let number = self.count();
-        let connection = Connection::new(self.alloc, number, calling)?;
+        let connection = Connection::new(self.alloc, number, calling, self.room)?;
         if place >= count_of(&self.live) {
             return self.ask_new(connection);
         }

@@ -12,10 +12,12 @@ ghost use Rattle.osi_tap.specs.Owing.{HoldsAll};
 ghost use Rattle.osi_tap.specs.Standing.{due_if, pick, HoldsBy, HoldsDue, HoldsNow, HoldsOpen, HoldsStream, HoldsState};
 ghost use Rattle.osi_tap.specs.Standing.{HoldsWhole, IsJudged, IsSettled, first_in};
 ghost use Rattle.osi_tap.specs.Streams.{front_of, needs_none, used_of, reading_of};
-ghost use Rattle.osi_tap.specs.Tapping.{State, begin, after, looked_at, stream_of};
+ghost use Rattle.osi_tap.specs.declared.rooms.Room.TheVariants.{Octets};
+ghost use Rattle.osi_tap.specs.Tapping.{State, begin, begin_within, after, looked_at, stream_of};
 
 use crate::connections::Connection;
 use crate::marks::{Cause, First, Mark};
+use crate::rooms::Room;
 use crate::streams::{Shape, Stream, look};
 use crate::watch::{Watch, pass_packet};
 use osi_judge::{Direction, Reading};
@@ -109,10 +111,25 @@ impl Tap {
     pub fn new(alloc: Global) -> Tap
         ensures { HoldsState result begin }
     {
+        Tap::with_room(alloc, Room::All)
+    }
+
+    /// Nothing has passed, and of each connection no more will be judged than DTs that count `most` together: each counts the
+    /// octets of its user data, and 48 more. So what is kept of a connection is bounded. After that it is not judged any further
+    /// ([`Connection::is_over`]); its transport is.
+    pub fn within(alloc: Global, most: usize) -> Tap
+        ensures { HoldsState result (begin_within (Octets most)) }
+    {
+        Tap::with_room(alloc, Room::Octets(most))
+    }
+
+    fn with_room(alloc: Global, room: Room) -> Tap
+        ensures { HoldsState result (begin_within room) }
+    {
         Tap {
             left: Stream::new(alloc),
             right: Stream::new(alloc),
-            watch: Watch::new(alloc),
+            watch: Watch::new(alloc, room),
             due: None,
         }
     }

@@ -5,13 +5,14 @@ ghost use Rattle.osi_tpdu.specs.Units.{units_left};
 ghost use Rattle.osi_tpdu.specs.Value.{Value};
 ghost use Rattle.osi_tpdu.specs.View.{value};
 ghost use Rattle.osi_tap.specs.Connections.{Sessions as Passed};
-ghost use Rattle.osi_tap.specs.Courses.{Course, fresh, way_of, cause_of, packet_begins, number_at, noted, marked, first_marked};
+ghost use Rattle.osi_tap.specs.Courses.{Course, fresh_within, way_of, cause_of, packet_begins, number_at, noted, marked, first_marked};
 ghost use Rattle.osi_tap.specs.Courses.{reached, changes, breaks, unread, unit_passes, marks_of, mark_of, moment_of, first_by, first_after};
 ghost use Rattle.osi_tap.specs.Blaming.{BlamesBy, IsSessionOf, IsToldOf, NobodyElse};
 ghost use Rattle.osi_tap.specs.Holding.{AllHeard, HoldsCourse, HoldsPassed, HoldsSessions, IsDue, IsTold, unit_due};
 ghost use Rattle.osi_tap.specs.Owing.{HoldsAll, Owes, OwesLast, OwesUnits};
 
 use crate::marks::{Cause, First, Layer, Mark, Marks, UnitKind, first_by, first_if};
+use crate::rooms::Room;
 use crate::sessions::Sessions;
 use osi_judge::Direction;
 use osi_rules::{Direction as Way, Finding, Reach, Told, Traffic};
@@ -125,13 +126,13 @@ pub(crate) fn pass_packet(
 }
 
 impl Watch {
-    /// Nothing has passed.
-    pub(crate) fn new(alloc: Global) -> Watch
-        ensures { HoldsAll result fresh }
+    /// Nothing has passed, and of each connection so much will be judged.
+    pub(crate) fn new(alloc: Global, room: Room) -> Watch
+        ensures { HoldsAll result (fresh_within room) }
     {
         Watch {
             traffic: Traffic::new(alloc),
-            sessions: Sessions::new(alloc),
+            sessions: Sessions::new(alloc, room),
             left: Marks::new(),
             right: Marks::new(),
             first: None,

@@ -9,6 +9,7 @@ returns-clause-holds c j h = record {
   called = h.called;
   class = h.class;
   closed = h.closed;
+  room = h.room;
   sides = c.hand_over_both.ensures.holds seen_calling seen_called j.left j.right h.sides;
 }
 

@@ -3,7 +3,7 @@ use Rattle.std.specs.Prelude.{slice_get}
 use Rattle.osi_tap.specs.declared.connections.Connection.{Connection}
 use Rattle.osi_tap.specs.Connections.{placed}
 use Rattle.osi_tap.specs.Holding.{HoldAll}
-use Rattle.osi_tap.proofs.each_connection_is_kept.{one_more}
+use Rattle.osi_tap.proofs.each_connection_is_kept.{one_more, room_placed}
 use Rattle.osi_tap.proofs.sessions.Sessions.ask_new.Goals as goal
 
 pub returns-clause-ok : goal.returns-clause-ok
@@ -13,4 +13,5 @@ returns-clause-ok c s j place h hj le =
       live = subst (λ (l : List Connection). HoldAll l (placed place j s (slice_get s.live place)).live)
           (sym c.in_ok-push.ensures.items) r.0;
       done = r.1;
+      room = room_placed place j s (slice_get s.live place) c.args.self.now.room h.room;
     }

@@ -3,7 +3,7 @@ use Rattle.std.specs.Prelude.{slice_get}
 use Rattle.osi_tap.specs.declared.connections.Connection.{Connection}
 use Rattle.osi_tap.specs.Connections.{placed}
 use Rattle.osi_tap.specs.Holding.{HoldAll}
-use Rattle.osi_tap.proofs.each_connection_is_kept.{one_replaced}
+use Rattle.osi_tap.proofs.each_connection_is_kept.{one_replaced, room_placed}
 use Rattle.osi_tap.proofs.sessions.Sessions.ask_over.Goals as goal
 
 pub returns-clause-ok : goal.returns-clause-ok
@@ -17,4 +17,5 @@ returns-clause-ok c s j h hj =
       live = subst (λ (x : Connection). HoldAll (set live c.args.place x) (placed c.args.place j s (slice_get s.live c.args.place)).live)
           (sym c.replace-over.ensures.after) r.0;
       done = subst (λ (l : List Connection). HoldAll l (placed c.args.place j s (slice_get s.live c.args.place)).done) (sym moved) r.1;
+      room = room_placed c.args.place j s (slice_get s.live c.args.place) c.args.self.now.room h.room;
     }

@@ -1,11 +1,12 @@
 use Rattle.std.proofs.Common.{◌<◌, ◌≤◌, ◌∙◌, length, ap, subst, sym, arith}
 use Rattle.osi_judge.specs.Captures.{other}
 use Rattle.osi_tpdu.specs.View.{value}
+use Rattle.std.specs.Prelude.{slice_get}
 use Rattle.osi_tap.specs.declared.connections.Connection.{Connection}
 use Rattle.osi_tap.specs.Connections.{meant}
 use Rattle.osi_tap.specs.Holding.{line_in, HoldsJoined}
 use Rattle.osi_tap.proofs.what_holds_of_a_result.{on_ok, on_ok_both, on_err, any_ok}
-use Rattle.osi_tap.proofs.each_connection_is_kept.{none_changed, one_changed, one_kept}
+use Rattle.osi_tap.proofs.each_connection_is_kept.{none_changed, one_changed, one_kept, room_changed}
 use Rattle.osi_tap.proofs.who_is_to_blame.{none_changes, one_changes}
 use Rattle.osi_tap.proofs.who_broke_first_stays_to_blame.{still_none, still_one}
 use Rattle.osi_tap.proofs.sessions.Sessions.take_at.Goals as goal
@@ -16,7 +17,12 @@ returns-then-place-count_of-clause-ok c s h =
     let le : length c.args.self.now.live.items ≤ c.args.place = omega arith in
     let r = none_changed c.args.self.now.live.items c.args.self.now.done.items s c.args.place
     (meant c.args.direction c.args.at (value c.args.unit.now) c.args.meaning) le h.live h.done in
-    record { live = r.0; done = r.1 }
+    record {
+      live = r.0;
+      done = r.1;
+      room = room_changed c.args.place (meant c.args.direction c.args.at (value c.args.unit.now) c.args.meaning) s
+          (slice_get s.live c.args.place) c.args.self.now.room h.room;
+    }
 
 pub returns-clause-ok : goal.returns-clause-ok
 returns-clause-ok c =
@@ -26,7 +32,12 @@ returns-clause-ok c =
     let r = one_changed c.args.self.now.live.items c.args.self.now.done.items s c.args.place c.index_mut.result.now c.mean.new.connection
     (meant c.args.direction c.args.at (value c.args.unit.now) c.args.meaning) lt
     (λ j hj. k j (subst (λ (x : Connection). HoldsJoined x j) (sym c.index_mut.ensures.value) hj)) h.live h.done in
-    record { live = r.0; done = r.1 })
+    record {
+      live = r.0;
+      done = r.1;
+      room = room_changed c.args.place (meant c.args.direction c.args.at (value c.args.unit.now) c.args.meaning) s
+          (slice_get s.live c.args.place) c.args.self.now.room h.room;
+    })
 
 pub returns-clause-err : goal.returns-clause-err
 returns-clause-err c =
@@ -37,6 +48,7 @@ returns-clause-err c =
       live = one_kept c.args.self.now.live.items s.live c.args.place c.index_mut.result.now c.mean.new.connection lt
           (λ j hj. k j (subst (λ (x : Connection). HoldsJoined x j) (sym c.index_mut.ensures.value) hj)) h.live;
       done = h.done;
+      room = h.room;
     })
 
 pub returns-then-place-count_of-clause-still : goal.returns-then-place-count_of-clause-still

@@ -1,7 +1,7 @@
 use Rattle.osi_session.specs.Standing.{seen_calling, seen_called}
 use Rattle.osi_tap.proofs.what_holds_of_a_result.{on_ok, on_err}
 use Rattle.osi_tap.proofs.what_is_kept_of_a_side_is_what_passed.{flipped, left_added, right_added}
-use Rattle.osi_tap.proofs.connections.Connection.add.Goals as goal
+use Rattle.osi_tap.proofs.connections.Connection.add_all.Goals as goal
 
 pub returns-in-Left-clause-ok : goal.returns-in-Left-clause-ok
 returns-in-Left-clause-ok c =
@@ -16,6 +16,7 @@ returns-in-Left-clause-err c = on_err c.add.result c.add.ensures.err (λ k j h. 
   called = h.called;
   class = h.class;
   closed = h.closed;
+  room = h.room;
   sides = k seen_calling seen_called j.left j.right h.sides;
 })
 
@@ -32,5 +33,6 @@ returns-in-Right-clause-err c = on_err c.add-in-Right.result c.add-in-Right.ensu
   called = h.called;
   class = h.class;
   closed = h.closed;
+  room = h.room;
   sides = flipped (k seen_called seen_calling j.right j.left (flipped h.sides));
 })

@@ -1,0 +1,54 @@
+-- What C is told of a side of a connection is by what was found of what passed on it, and its references are those that passed.
+-- For the functions of `notes` and `note_codes`.
+use Rattle.std.proofs.Common.{◌≡◌, ◌∙◌, refl, ℕ, Bool, Option, Some, None}
+use Rattle.osi_judge.specs.declared.directions.Direction.{Direction}
+use Rattle.osi_judge.specs.declared.findings.Finding.{Finding}
+use Rattle.osi_judge.specs.declared.rules.Break.{Break}
+use Rattle.osi_judge.specs.Captures.{other}
+use Rattle.osi_judge.specs.Judging.{Watched}
+use Rattle.osi_tap.specs.declared.connections.Connection.{Connection}
+use Rattle.osi_tap.specs.Connections.{Joined, spoken}
+use Rattle.osi_tap.specs.Holding.{line_in, HoldsFound, HoldsJoined, IsHeard, IsPlace}
+use Rattle.osi_tap.specs.Rooms.{is_over}
+use Rattle.osi_dispute.specs.Reports.{is_dropped}
+use Rattle.osi_dispute.proofs.a_report_says_what_a_tap_holds.{session_at}
+use Rattle.osi_c.specs.NoteCodes.{named_in}
+use Rattle.osi_c.specs.Notes.{note_of_found, note_unless, IsNoteOf, IsNoteAt}
+use Rattle.osi_c.specs.declared.note_codes.References.{References}
+use Rattle.osi_c.specs.declared.notes.Note.{Note}
+use Rattle.osi_c.specs.declared.notes.Note.TheVariants.{Nothing}
+
+-- the note that is made of what was found of both sides
+pub note_is : (d : Direction) (c : Connection) (j : Joined) (f g : Finding) (o : ℕ) (b : Break) (dropped over : Bool) (n m : Note)
+    → HoldsJoined c j → IsHeard c → f ≡ (line_in d c).side.finding → g ≡ (line_in (other d) c).side.finding
+    → b ≡ (line_in d c).side.by → IsPlace (line_in d c).side.finding (spoken d j).said o → over ≡ is_over j.room
+    → dropped ≡ is_dropped f g → m ≡ note_of_found over f o b → n ≡ note_unless dropped m → IsNoteOf d j n
+note_is d c j f g o b dropped over n m h k own beside by place passed drops found is = record {
+  own = (line_in d c).side;
+  beside = (line_in (other d) c).side;
+  of_own = session_at d c j h k;
+  of_beside = session_at (other d) c j h k;
+  offset = o;
+  place = place;
+  tells = is ∙ (λ i. note_unless (drops i) (found i))
+      ∙ (λ i. note_unless (is_dropped (own i) (beside i)) (note_of_found (passed i) (own i) o (by i)));
+}
+
+-- of the connection that has a number, or of none
+pub note_held : (d : Direction) (o : Option Joined) (c : Connection) (n : Note) → HoldsFound (Some c) o
+    → ((j : Joined) → HoldsJoined c j → IsNoteOf d j n) → IsNoteAt d o n
+note_held d None c n h k = absurd h
+note_held d (Some j) c n h k = k j h
+
+pub note_missing : (d : Direction) (o : Option Joined) → HoldsFound None o → IsNoteAt d o Nothing
+note_missing d None h = refl
+note_missing d (Some j) h = absurd h
+
+pub names_held : (o : Option Joined) (c : Connection) (r : References) → HoldsFound (Some c) o
+    → ((j : Joined) → HoldsJoined c j → r ≡ named_in (Some j)) → r ≡ named_in o
+names_held None c r h k = absurd h
+names_held (Some j) c r h k = k j h
+
+pub names_missing : (o : Option Joined) → HoldsFound None o → named_in None ≡ named_in o
+names_missing None h = refl
+names_missing (Some j) h = absurd h

@@ -1,0 +1,27 @@
+use Rattle.std.proofs.Common.{◌≡◌, ◌∙◌, sym, ap, Some, None}
+use Rattle.osi_tap.specs.Standing.{first_in}
+use Rattle.osi_c.specs.Subjects.{leading}
+use Rattle.osi_c.specs.TapWatching.{IsDue}
+use Rattle.osi_c.specs.declared.subjects.Subject.{Subject}
+use Rattle.osi_c.specs.declared.tap_watching.Due.{Due}
+use Rattle.osi_c.proofs.what_is_fetched_of_a_tap.{no_leading, none_if_leading, both_some, some_as}
+use Rattle.osi_c.proofs.tap_watching.leading_due.Goals as goal
+
+pub returns-in-None-clause-none : goal.returns-in-None-clause-none
+returns-in-None-clause-none c =
+    no_leading c.args.tap.now c.args.told.now None (c.in-None.ensures ∙ ap leading c.first.ensures.value) tt
+
+pub returns-in-Some-clause-some : goal.returns-in-Some-clause-some
+returns-in-Some-clause-some c =
+    let leads = sym (c.in-Some.ensures ∙ ap leading c.first.ensures.value) in
+    both_some c.due_of.result (λ (d : Due). leading (first_in c.args.tap.now) ≡ Some d.subject)
+    (λ (d : Due). IsDue c.args.tap.now c.args.told.now d.subject d.note)
+    (some_as c.due_of.result (λ (d : Due). d.subject ≡ c.in-Some.subject)
+    (λ (d : Due). leading (first_in c.args.tap.now) ≡ Some d.subject)
+    (λ d e. leads ∙ ap (λ (k : Subject). Some k) (sym e)) c.due_of.ensures.of_it)
+    c.due_of.ensures.some
+
+pub returns-in-Some-clause-none : goal.returns-in-Some-clause-none
+returns-in-Some-clause-none c =
+    none_if_leading c.due_of.result c.args.tap.now c.args.told.now c.in-Some.subject (c.in-Some.ensures ∙ ap leading c.first.ensures.value)
+    c.due_of.ensures.none

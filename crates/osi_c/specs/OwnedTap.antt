@@ -1,0 +1,19 @@
+-- What a handle owns.
+use mir.Syntax.{Ty}
+use base.Fml.{Fml, ftrue}
+use denote.RawPtr.{Ptr}
+use Rattle.std.specs.declared.option.Option.{Option}
+use Rattle.std.specs.declared.option.Option.TheVariants.{None, Some}
+use Rattle.std.specs.contracts.impls.GlobalAllocator.TheImpl.{ghosts}
+use Rattle.std.specs.Box.Ownership.{box_owns}
+use Rattle.osi_c.specs.contracts.tap_watches.TapWatch.{the_row}
+use Rattle.osi_c.specs.declared.tap_watches.TapWatch.{TapWatch}
+
+-- the right to free a block of the C library
+abbrev pub block : Ty → Ptr → Fml
+block = ghosts.dealloc_token (record { memory = record { seal = tt } })
+
+-- null, or the box at p with this value
+abbrev pub may_own : Ptr → Option TapWatch → Fml
+may_own p None = ftrue
+may_own p (Some x) = box_owns block the_row p x
