@@ -60,3 +60,4 @@ pub mod the_end_is_judged_as_the_other_side_is
 pub mod a_plain_calling_end_is_fair
 pub mod a_whole_end_ends
 pub mod a_packet_is_events
+pub mod a_piece_is_events
