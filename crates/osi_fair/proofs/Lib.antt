@@ -60,6 +60,7 @@ pub mod the_end_is_judged_as_the_other_side_is
 pub mod a_plain_calling_end_is_fair
 pub mod a_whole_end_ends
 pub mod a_packet_is_events
+pub mod a_piece_is_events
 pub mod units_by_their_place
 pub mod what_is_live_at_a_called_end
 pub mod each_connection_of_a_called_end

@@ -17,7 +17,7 @@ use Rattle.osi_carrier.specs.Calls.{class_error, closed_on, closed_with, closes 
 use Rattle.osi_carrier.specs.Calls.{room_error, sent, sent_all, sent_on}
 use Rattle.osi_carrier.specs.Orderly.{IsOrderly}
 use Rattle.osi_carrier.specs.Pump.{pumped}
-use Rattle.osi_carrier.specs.Rows.{put, value_at}
+use Rattle.osi_carrier.specs.Rows.{value_at}
 use Rattle.osi_carrier.specs.Runs.{UserCall, breaks, closes as closes_call, connects, sends, sends_all, user_does}
 use Rattle.osi_carrier.specs.State.{State, Connection as Live, asked, closing, ends as ends_as, linked}
 use Rattle.osi_carrier.specs.declared.ends.EndReason.{EndReason}

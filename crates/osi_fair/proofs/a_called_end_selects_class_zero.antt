@@ -15,7 +15,7 @@ use Rattle.osi_rules.specs.declared.directions.Direction.{Direction}
 use Rattle.osi_rules.specs.declared.directions.Direction.TheVariants.{Left, Right}
 use Rattle.osi_rules.specs.declared.halves.Half.{Half}
 use Rattle.osi_rules.specs.Sides.{begins, is_open, is_refused}
-use Rattle.osi_rules.specs.Traffic.{State as Traffic, packet_begins, takes}
+use Rattle.osi_rules.specs.Traffic.{State as Traffic, packet_begins}
 use Rattle.osi_fair.specs.Putting.{put_by, put_for}
 use Rattle.osi_fair.specs.Wholes.{MayCall, Whole}
 use Rattle.osi_fair.proofs.each_connection_of_a_called_end.{Asked}

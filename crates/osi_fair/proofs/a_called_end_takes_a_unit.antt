@@ -8,7 +8,7 @@ use Rattle.std.proofs.lemmas.Bool.{eq-eqb, eqb-true, ltb-false, ltb-true}
 use Rattle.std.proofs.lemmas.List.{append-nil}
 use Rattle.osi_tpdu.specs.Value.{Value, Connect, request, confirm, disconnect, disconnected, data0, data2, acknowledge, error}
 use Rattle.osi_tpdu.specs.Value.{destination_of}
-use Rattle.osi_class.specs.Link.{Standing, taken}
+use Rattle.osi_class.specs.Link.{Standing}
 use Rattle.osi_class.specs.Negotiation.{Selection, accept, refuse, selected_by}
 use Rattle.osi_class.specs.declared.terms.Class.{Class}
 use Rattle.osi_class.specs.declared.terms.Class.TheVariants.{Two, Zero}
@@ -18,7 +18,7 @@ use Rattle.osi_carrier.specs.Orderly.{AreUpTo, IsOrderly, RiseFrom}
 use Rattle.osi_carrier.specs.React.{accepts, answers as answers_by, answers_request, before_class, denies, has_peer, in_class, in_two}
 use Rattle.osi_carrier.specs.React.{is_full, react_by, to_closing, to_connection, to_unknown}
 unfoldable use Rattle.osi_carrier.specs.React.{react}
-use Rattle.osi_carrier.specs.Rows.{Rows, put, value_at}
+use Rattle.osi_carrier.specs.Rows.{Rows, value_at}
 use Rattle.osi_carrier.specs.State.{State, Connection as Live, asked, closing, fails, linked}
 use Rattle.osi_carrier.specs.declared.ends.CarrierFault.TheVariants.{UnexpectedUnit}
 use Rattle.osi_carrier.specs.declared.ends.EndReason.{EndReason}

@@ -1,7 +1,8 @@
--- What a carrier does with a packet, with or without enough memory, and what its user does, is events of its whole end.
+-- What a carrier does with a packet, with or without enough memory, or with several, and what its user does, is events of its whole end.
 -- For the law of that name.
-use Rattle.std.proofs.Common.{◌≡◌, ◌∙◌, ℕ, List, [], ◌∷◌, ◌++◌, refl, sym, ap, subst, append_assoc}
-use Rattle.std.proofs.Common.{Option, None, Result, Ok, Err, inl, inr, ◌⊎◌, is_some, if◌then◌else◌}
+use Rattle.std.proofs.Common.{◌≡◌, ◌∙◌, ℕ, Bool, true, false, List, [], ◌∷◌, ◌++◌, refl, sym, ap, subst, append_assoc}
+use Rattle.std.proofs.Common.{Option, Some, None, Result, Ok, Err, inl, inr, ◌⊎◌, is_some, if◌then◌else◌}
+use Rattle.std.specs.Prelude.{◌||◌}
 use Rattle.std.proofs.lemmas.List.{append-nil}
 use Rattle.std.proofs.lemmas.Grind.{flat_map-append}
 use Rattle.osi_tpkt.specs.Packet.{packet_of}
@@ -10,7 +11,8 @@ use Rattle.osi_tpdu.specs.Value.{Value}
 use Rattle.osi_tpdu.specs.Writing.{written}
 use Rattle.osi_tpdu.specs.declared.faults.TpduFault.{TpduFault}
 use Rattle.osi_carrier.specs.Calls.{ended_by}
-use Rattle.osi_carrier.specs.Packets.{Acts, ActsBy, RunsOut}
+use Rattle.osi_carrier.specs.Packets.{Acts, ActsBy, RunsOut, TakesPackets, acts_by, stops, waits}
+unfoldable use Rattle.osi_carrier.specs.Packets.{after_packet}
 use Rattle.osi_carrier.specs.React.{react, reacts}
 use Rattle.osi_carrier.specs.Runs.{UserCall, breaks, user_does}
 use Rattle.osi_carrier.specs.State.{State, ends, fails, packets}
@@ -18,12 +20,24 @@ use Rattle.osi_carrier.specs.declared.ends.CarrierFault.TheVariants.{Tpdu}
 use Rattle.osi_carrier.specs.declared.ends.EndReason.{EndReason}
 use Rattle.osi_carrier.specs.declared.ends.EndReason.TheVariants.{Fault, NoMemory}
 use Rattle.osi_rules.specs.declared.directions.Direction.{Direction}
+use Rattle.osi_fair.specs.Pieces.{units_by, units_in}
 use Rattle.osi_fair.specs.Putting.{put_by, put_for}
 use Rattle.osi_fair.specs.Wholes.{Becomes, Event, HappenAlong, MayCall, Whole, arrives, calls}
 use Rattle.osi_fair.proofs.what_a_carrier_puts.{call_writes, unit_writes}
 
 packets_join : (xs ys : List Value) → packets (xs ++ ys) ≡ packets xs ++ packets ys
 packets_join xs ys = flat_map-append (λ (unit : Value). packet_of (written unit)) xs ys
+
+none_of : (o : Option EndReason) → is_some o ≡ false → o ≡ None
+none_of None e = refl
+none_of (Some x) e = absurd (cc e)
+
+first_not : (a b : Bool) → (a || b) ≡ false → a ≡ false
+first_not true b h = cc
+first_not false b h = refl
+
+pub not_over : (s : State) → stops s ≡ false → s.ended ≡ None
+not_over s h = none_of s.ended (first_not (is_some s.ended) (waits s) h)
 
 module _ (d : Direction) where
   -- ---- what happens twice, one after the other
@@ -32,7 +46,7 @@ module _ (d : Direction) where
   happen_join [] ys a b c e h = subst (λ (w : Whole). HappenAlong d w ys c) e h
   happen_join (x ∷ xs) ys a b c (mid, first, more) h = (mid, first, happen_join xs ys mid b c more h)
 
-  becomes_then : (w : Whole) (mid new : State) (a : Becomes d w mid) →
+  pub becomes_then : (w : Whole) (mid new : State) (a : Becomes d w mid) →
       Becomes d (record w { end = mid; put = w.put ++ a.put; coming = a.coming }) new → Becomes d w new
   becomes_then w mid new a b = record {
     events = a.events ++ b.events;
@@ -47,7 +61,7 @@ module _ (d : Direction) where
         ∙ ap (λ (l : List ℕ). w.end.outgoing ++ l) (sym (packets_join a.put b.put));
   }
 
-  becomes_same : (w : Whole) → Becomes d w w.end
+  pub becomes_same : (w : Whole) → Becomes d w w.end
   becomes_same w = record {
     events = [];
     put = [];
@@ -94,13 +108,14 @@ module _ (d : Direction) where
   ended_so : (reason : EndReason) (s : State) → s.ended ≡ None → ended_by reason s ≡ ends reason s
   ended_so reason s lasts = ap (λ (o : Option EndReason). if is_some o then s else ends reason s) lasts
 
-  becomes_over : (reason : EndReason) (w : Whole) → w.end.ended ≡ None → Becomes d w (ends reason w.end)
+  pub becomes_over : (reason : EndReason) (w : Whole) → w.end.ended ≡ None → Becomes d w (ends reason w.end)
   becomes_over reason w lasts =
       subst (λ (s : State). Becomes d w s) (ended_so reason w.end lasts) (becomes_by_call (breaks reason) w tt)
 
   -- ---- a packet
 
-  runs_out : (units later : List Value) (w : Whole) (new : State) → w.coming ≡ units ++ later → RunsOut w.end units new → Becomes d w new
+  pub runs_out : (units later : List Value) (w : Whole) (new : State) → w.coming ≡ units ++ later → RunsOut w.end units new →
+      Becomes d w new
   runs_out units later w new e r =
       let (first, rest) = all_units r.done ((r.next ∷ r.more) ++ later) w
       (e ∙ ap (λ (l : List Value). l ++ later) r.all ∙ append_assoc r.done (r.next ∷ r.more) later) in
@@ -123,3 +138,39 @@ module _ (d : Direction) where
   becomes_by_fault octets fault w new h read lasts =
       let is : new ≡ fails (Tpdu fault) w.end = subst (λ (r : Result (List Value) TpduFault). ActsBy r w.end new) read h in
       subst (λ (s : State). Becomes d w s) (sym is) (becomes_over (Fault (Tpdu fault)) w lasts)
+
+  -- ---- packets one after the other
+
+  over_so : (reason : EndReason) (w : Whole) → w.end.ended ≡ None → (b : Becomes d w (ends reason w.end)) × (b.coming ≡ w.coming)
+  over_so reason w lasts = (
+    record {
+      events = calls (breaks reason) ∷ [];
+      put = [];
+      coming = w.coming;
+      along = (
+        record w { end = user_does (breaks reason) w.end; put = w.put ++ put_by (breaks reason) w.end },
+        (tt, refl),
+        ap (λ (s : State). record w { end = s; put = w.put ++ [] }) (sym (ended_so reason w.end lasts)),
+      );
+      outgoing = sym (append-nil w.end.outgoing);
+    },
+    refl,
+  )
+
+  packet_so : (r : Result (List Value) TpduFault) (later : List Value) (w : Whole) → w.end.ended ≡ None →
+      w.coming ≡ units_by r ++ later → (b : Becomes d w (acts_by r w.end)) × (b.coming ≡ later)
+  packet_so (Ok units) later w lasts e = all_units units later w e
+  packet_so (Err fault) later w lasts e = let (b, same) = over_so (Fault (Tpdu fault)) w lasts in (b, same ∙ e)
+
+  -- each but the first comes to an end that has not ended
+  pub takes_all : (units : List (List ℕ)) (later : List Value) (new : State) (w : Whole) → TakesPackets w.end units new →
+      w.coming ≡ units_in units ++ later → (b : Becomes d w new) × (b.coming ≡ later)
+  unfolding becomes_same becomes_then after_packet
+  takes_all [] later new w e come =
+      subst (λ (s : State). (b : Becomes d w s) × (b.coming ≡ later)) (sym e) (becomes_same w, come)
+  takes_all (p ∷ ps) later new w (quiet, more) come =
+      let (first, rest) = packet_so (units_of p) (units_in ps ++ later) w (not_over w.end quiet)
+      (come ∙ append_assoc (units_by (units_of p)) (units_in ps) later) in
+      let mid : Whole = record w { end = after_packet w.end p; put = w.put ++ first.put; coming = first.coming } in
+      let (others, done) = takes_all ps later new mid more rest in
+      (becomes_then w (after_packet w.end p) new first others, done)

@@ -1,8 +1,8 @@
 -- A unit of a whole called end passes: a CC, a DR that refuses a CR, or a unit of an open connection. Each is right.
 -- For the law on a whole called end.
 use Rattle.std.proofs.Common.{◌≡◌, ◌∙◌, ◌≤◌, ◌<◌, ℕ, Bool, true, false, List, [], ◌∷◌, ◌++◌, set, refl, sym, ap, subst, arith, Option}
-use Rattle.std.proofs.Common.{Some, None, drop, inl, inr, ◌⊎◌, if◌then◌else◌, is_some}
-use Rattle.std.specs.Prelude.{◌&&◌, ◌||◌, ◌==◌, not, position, slice_get}
+use Rattle.std.proofs.Common.{Some, None, drop, inl, inr, ◌⊎◌, is_some}
+use Rattle.std.specs.Prelude.{◌&&◌, ◌||◌, ◌==◌, position, slice_get}
 use Rattle.std.specs.List.{AllByRecursion, list_any, position_or_len}
 use Rattle.std.proofs.lemmas.Bool.{eq-eqb}
 use Rattle.osi_tpdu.specs.Value.{Value, Connect, confirm, disconnect, error, destination_of}
@@ -20,7 +20,7 @@ use Rattle.osi_rules.specs.declared.findings.Finding.TheVariants.{Broke, Kept, N
 use Rattle.osi_rules.specs.declared.findings.Reach.TheVariants as reach
 use Rattle.osi_rules.specs.declared.findings.Rule.TheVariants as rule
 use Rattle.osi_rules.specs.declared.halves.Half.{Half}
-use Rattle.osi_rules.specs.declared.halves.Phase.TheVariants.{Refused, Closed}
+use Rattle.osi_rules.specs.declared.halves.Phase.TheVariants.{Refused}
 use Rattle.osi_rules.specs.declared.routes.Route.TheVariants.{Named}
 use Rattle.osi_rules.specs.Rows.{first_failed, confirm_tests}
 use Rattle.osi_rules.specs.Sides.{is_named, is_open, is_over, is_over_by, is_refused, is_silent, other, uses}

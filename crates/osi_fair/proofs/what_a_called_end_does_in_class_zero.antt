@@ -1,6 +1,6 @@
 -- A called end that has selected class 0 takes a unit, or its user makes a call: it goes on with DTs alone, or ends.
 -- For the law on a whole called end.
-use Rattle.std.proofs.Common.{◌≡◌, ◌∙◌, ◌≤◌, ◌+◌, ℕ, Bool, true, false, List, [], ◌∷◌, ◌++◌, length, refl, sym, ap, subst, Option, Some}
+use Rattle.std.proofs.Common.{◌≡◌, ◌∙◌, ◌≤◌, ℕ, Bool, true, false, List, [], ◌∷◌, ◌++◌, length, refl, sym, ap, subst, Option, Some}
 use Rattle.std.proofs.Common.{None, Result, Ok, Err, is_some, if◌then◌else◌, append_assoc}
 use Rattle.std.specs.Prelude.{◌==◌, not}
 use Rattle.std.specs.List.{AllByRecursion}

@@ -1,6 +1,6 @@
 -- What a called end does to its lines: it takes a unit or makes a call on an open connection, takes a unit for a connection that is
 -- not open, or ends. For the law on a whole called end.
-use Rattle.std.proofs.Common.{◌≡◌, ◌≢◌, ◌∙◌, ◌≤◌, ◌+◌, ℕ, Bool, true, false, List, [], ◌∷◌, ◌++◌, refl, sym, ap, subst, Option, Some}
+use Rattle.std.proofs.Common.{◌≡◌, ◌≢◌, ◌∙◌, ◌≤◌, ℕ, Bool, true, false, List, [], ◌∷◌, ◌++◌, refl, sym, ap, subst, Option, Some}
 use Rattle.std.proofs.Common.{None, is_some}
 use Rattle.std.specs.Prelude.{◌&&◌, ◌==◌, slice_get}
 use Rattle.std.specs.List.{AllByRecursion}
@@ -12,7 +12,7 @@ use Rattle.osi_class.specs.declared.terms.Class.TheVariants.{Two}
 use Rattle.osi_class.specs.declared.terms.Local.{Local}
 use Rattle.osi_carrier.specs.Negotiation.{acceptance, opened_link}
 use Rattle.osi_carrier.specs.Rows.{value_at}
-use Rattle.osi_carrier.specs.State.{State, Connection as Live, asked, linked}
+use Rattle.osi_carrier.specs.State.{State, Connection as Live, linked}
 use Rattle.osi_rules.specs.declared.connections.Connection.{Connection}
 use Rattle.osi_rules.specs.declared.directions.Direction.TheVariants.{Right}
 use Rattle.osi_fair.specs.Following.{Follows, link_now}

@@ -1,6 +1,6 @@
 -- What a called end has after it has taken a unit: its class, its references, and which of its connections are live.
 -- For the law on a whole called end.
-use Rattle.std.proofs.Common.{◌≤◌, ◌+◌, ℕ, List, [], ◌∷◌, arith, ◌≡◌, ◌∙◌, Bool, true, false, ◌++◌, map, refl, sym, ap, subst, Option}
+use Rattle.std.proofs.Common.{◌≤◌, ℕ, List, [], ◌∷◌, arith, ◌≡◌, ◌∙◌, Bool, true, false, ◌++◌, map, refl, sym, ap, subst, Option}
 use Rattle.std.proofs.Common.{Some, None, Result, Ok, Err, ◌⊎◌, is_some}
 use Rattle.std.specs.Prelude.{◌==◌}
 use Rattle.std.specs.List.{AllByRecursion}
@@ -25,7 +25,7 @@ use Rattle.osi_carrier.specs.State.{State, Connection as Live, asked, closing, l
 use Rattle.osi_carrier.specs.declared.ends.EndReason.{EndReason}
 use Rattle.osi_carrier.proofs.references.rows_after_a_change.{push_other, put_other, without_other}
 use Rattle.osi_carrier.proofs.references.what_a_change_leaves_there.{found as row_here, push_here, put_here, without_here}
-use Rattle.osi_fair.proofs.each_connection_of_a_called_end.{AreAbove, refuses}
+use Rattle.osi_fair.proofs.each_connection_of_a_called_end.{AreAbove}
 use Rattle.osi_fair.specs.Following.{Follows, link_now}
 use Rattle.osi_fair.specs.Lines.{closes as closes_with}
 use Rattle.osi_fair.specs.Putting.{put_at, put_for, put_linked, put_taking}

@@ -2,7 +2,7 @@
 -- For the law on a whole called end.
 use Rattle.std.proofs.Common.{◌≡◌, ◌∙◌, ◌≤◌, ℕ, zero, suc, Bool, true, false, List, [], ◌∷◌, ◌++◌, length, set, refl, sym, ap, subst}
 use Rattle.std.proofs.Common.{arith, Option, Some, None, inl, inr, ◌⊎◌, if◌then◌else◌}
-use Rattle.std.specs.Prelude.{◌&&◌, ◌||◌, ◌==◌, not, position, slice_get}
+use Rattle.std.specs.Prelude.{◌&&◌, ◌||◌, ◌==◌, position, slice_get}
 use Rattle.std.specs.List.{AllByRecursion}
 use Rattle.std.proofs.lemmas.Bool.{eq-eqb, eqb-true}
 use Rattle.std.proofs.lemmas.List.{append-nil}
@@ -28,7 +28,7 @@ use Rattle.osi_fair.proofs.a_right_unit_is_not_blamed.{first_there}
 use Rattle.osi_fair.proofs.all_are_judged_unless_one_broke.{IsJudged}
 use Rattle.osi_fair.proofs.what_a_called_end_closes_is_to_pass.{run_holds}
 use Rattle.osi_fair.proofs.each_connection_of_a_called_end.{AreStrays, Asked, Called, IsFor, IsUnlinked, Running, Stand, Untagged}
-use Rattle.osi_fair.proofs.each_connection_of_a_called_end.{answers, comes, over, past, refuses, runs}
+use Rattle.osi_fair.proofs.each_connection_of_a_called_end.{answers, comes, past, refuses, runs}
 use Rattle.osi_fair.proofs.units_by_their_place.{Placed, at_first, at_join, at_other, first_at, units_at, values, values_join}
 use Rattle.osi_fair.proofs.what_holds_of_a_line.{is_there}
 use Rattle.osi_fair.proofs.what_holds_of_one_item.{HoldsOfEach, after_add, first_true}

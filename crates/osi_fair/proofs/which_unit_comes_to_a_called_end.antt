@@ -23,7 +23,7 @@ use Rattle.osi_rules.specs.Traffic.{Outcome, State as Traffic, asks_by, asks_kep
 use Rattle.osi_rules.specs.Traffic.{has_place, is_not_judged, is_stopped, none_told, one_told, reached, request_tests, route, route_in}
 use Rattle.osi_rules.specs.Traffic.{routed, takes, unnamed, unnamed_by, unnamed_told}
 use Rattle.osi_fair.proofs.all_are_judged_unless_one_broke.{IsJudged}
-use Rattle.osi_fair.proofs.each_connection_of_a_called_end.{IsDc, answers}
+use Rattle.osi_fair.proofs.each_connection_of_a_called_end.{IsDc}
 use Rattle.osi_fair.proofs.what_holds_of_one_item.{HoldsOfEach, first_true}
 use Rattle.osi_fair.proofs.what_lasts_at_the_tap.{Lasts}
 

@@ -5,3 +5,4 @@ pub mod Naming
 pub mod Asking
 pub mod Putting
 pub mod Wholes
+pub mod Pieces

@@ -5,7 +5,7 @@ ghost use Rattle.std.specs.List.{AllByRecursion, list_all, list_any};
 ghost use Rattle.osi_carrier.specs.Calls.{closed_with, fresh_state, open_link, sent, sent_all};
 ghost use Rattle.osi_carrier.specs.Negotiation.{acceptance, agreed_size, opened_link, proposal};
 ghost use Rattle.osi_carrier.specs.Orderly.{IsOrderly};
-ghost use Rattle.osi_carrier.specs.Packets.{Acts as Takes};
+ghost use Rattle.osi_carrier.specs.Packets.{Acts as Takes, Carrying, Feeds};
 ghost use Rattle.osi_carrier.specs.React.{react};
 ghost use Rattle.osi_carrier.specs.Rows.{value_at};
 ghost use Rattle.osi_carrier.specs.Runs.{Act as Done, UserCall, user_does};
@@ -19,6 +19,7 @@ ghost use Rattle.osi_class.specs.declared.terms.Local.{Local};
 ghost use Rattle.osi_fair.specs.Asking.{all_asked, all_written};
 ghost use Rattle.osi_fair.specs.Naming.{HoldsOfOne, Passing, all_passed, passes};
 ghost use Rattle.osi_fair.specs.Following.{Follows, IsAtPlace, JustCloses};
+ghost use Rattle.osi_tpkt.specs.declared.cutting.Fed.{Fed};
 ghost use Rattle.osi_tpdu.specs.Limits.{window_units};
 ghost use Rattle.osi_tpdu.specs.Packet.{units_of};
 ghost use Rattle.osi_tpdu.specs.declared.faults.TpduFault.{TpduFault};
@@ -33,6 +34,7 @@ ghost use Rattle.osi_rules.specs.declared.halves.Half.{Half};
 ghost use Rattle.osi_fair.specs.Later.{IsLater, knows};
 ghost use Rattle.osi_fair.specs.Lines.{Act, Acts, ActsAlong, IsFair, IsOpened, IsRight, Line, PassesNone, after_finding, answering_line, finding_of};
 ghost use Rattle.osi_fair.specs.Lines.{opened_half, opened_line, passes_own};
+ghost use Rattle.osi_fair.specs.Pieces.{IsFed};
 ghost use Rattle.osi_fair.specs.Putting.{put_by, put_closing, put_for, put_sent, put_together};
 ghost use Rattle.osi_fair.specs.Wholes.{Becomes, Event, HappenAlong, MayCall, Whole, begin};
 
@@ -297,11 +299,15 @@ pub fn a_called_end_is_fair()
 
 /// What a carrier does with a packet, with or without enough memory, is events of its whole end: the units of the packet arrive
 /// (`packet`), or it can't be read, and the carrier ends (`fault`); and so is a call of its user (`call`). What these events
-/// put is what the carrier writes. So the laws on whole ends speak of every run of a carrier.
+/// put is what the carrier writes. It is so too as the carrier is fed a piece of its stream, however that is cut and with or
+/// without enough memory: the units arrive that the packets have which the piece completes, or the carrier ends (`piece`, over
+/// `specs/Pieces`). So the laws on whole ends speak of every run of a carrier.
 pub fn a_packet_is_events()
     ensures packet { (d : Direction) (octets : List ℕ) (units later : List Value) (w : Whole) (new : State) → Takes w.end octets new →
         units_of octets ≡ Ok units → w.coming ≡ units ++ later → Becomes d w new }
     ensures fault { (d : Direction) (octets : List ℕ) (fault : TpduFault) (w : Whole) (new : State) → Takes w.end octets new →
         units_of octets ≡ Err fault → w.end.ended ≡ None → Becomes d w new }
     ensures call { (d : Direction) (call : UserCall) (w : Whole) → MayCall call w.end → Becomes d w (user_does call w.end) }
+    ensures piece { (d : Direction) (old : Carrying) (piece : List ℕ) (new : Carrying) (fed : Fed) → Feeds old piece fed new →
+        IsFed d old piece new }
 {}

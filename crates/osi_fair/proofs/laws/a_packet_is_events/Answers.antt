@@ -1,4 +1,5 @@
 use Rattle.osi_fair.proofs.a_packet_is_events.{becomes_by_call, becomes_by_fault, becomes_by_packet}
+use Rattle.osi_fair.proofs.a_piece_is_events.{fed_so}
 use Rattle.osi_fair.proofs.laws.a_packet_is_events.Goals as goal
 
 pub returns-clause-packet : goal.returns-clause-packet
@@ -9,3 +10,6 @@ returns-clause-fault c = becomes_by_fault
 
 pub returns-clause-call : goal.returns-clause-call
 returns-clause-call c = becomes_by_call
+
+pub returns-clause-piece : goal.returns-clause-piece
+returns-clause-piece c = fed_so
