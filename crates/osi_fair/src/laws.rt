@@ -300,8 +300,8 @@ pub fn a_called_end_is_fair()
 /// What a carrier does with a packet, with or without enough memory, is events of its whole end: the units of the packet arrive
 /// (`packet`), or it can't be read, and the carrier ends (`fault`); and so is a call of its user (`call`). What these events
 /// put is what the carrier writes. It is so too as the carrier is fed a piece of its stream, however that is cut and with or
-/// without enough memory: the units arrive that the packets have which the piece completes, or the carrier ends (`piece`, over
-/// `specs/Pieces`). So the laws on whole ends speak of every run of a carrier.
+/// without enough memory: the units arrive that the packets have which the piece completes, or the carrier ends; unless it ends,
+/// it holds the rest for the next piece (`piece`, over `specs/Pieces`). So the laws on whole ends speak of every run of a carrier.
 pub fn a_packet_is_events()
     ensures packet { (d : Direction) (octets : List ℕ) (units later : List Value) (w : Whole) (new : State) → Takes w.end octets new →
         units_of octets ≡ Ok units → w.coming ≡ units ++ later → Becomes d w new }
@@ -309,5 +309,5 @@ pub fn a_packet_is_events()
         units_of octets ≡ Err fault → w.end.ended ≡ None → Becomes d w new }
     ensures call { (d : Direction) (call : UserCall) (w : Whole) → MayCall call w.end → Becomes d w (user_does call w.end) }
     ensures piece { (d : Direction) (old : Carrying) (piece : List ℕ) (new : Carrying) (fed : Fed) → Feeds old piece fed new →
-        IsFed d old piece new }
+        IsFed d old piece fed.used new }
 {}
