@@ -84,6 +84,7 @@ impl Begun {
     /// Takes a part of the TSDU as [`Begun::join`] does, and then hands out the first of the complete ones. If none of
     /// them waits, a TSDU of one part is not queued.
     #[inline(always)]
+    #[tactic(auto, using(crate::proofs::bounds::what_a_queue_hands_out::popped, crate::proofs::bounds::what_a_queue_hands_out::none_popped))]
     pub fn join_out(
         &mut self,
         last: bool,
@@ -94,29 +95,17 @@ impl Begun {
         ensures none { IfOk result (λ tsdu. IfNone tsdu (whole.new.items ≡ [])) }
         ensures refused { OnErr result (TakesUnit result (part_needs_memory last octets.now) (joined (joining self.old (map (λ v. v.items) whole.old.items)) last octets.now) (joining self.old (map (λ v. v.items) whole.old.items)) (joining self.new (map (λ v. v.items) whole.new.items))) }
     {
-        if !last || !self.octets.is_empty() || !whole.is_empty() || octets.len() > LONGEST_TSDU {
-            return self.join_behind(last, octets, whole);
+        let room = LONGEST_TSDU - self.octets.len();
+        if octets.len() > room {
+            return Err(LinkFault::TsduTooLong);
         }
-        match Vec::from_slice(self.alloc, octets) {
-            Ok(tsdu) => Ok(Some(tsdu)),
-            Err(_) => Err(LinkFault::OutOfMemory),
+        if last && self.octets.is_empty() && whole.is_empty() {
+            return match Vec::from_slice(self.alloc, octets) {
+                Ok(tsdu) => Ok(Some(tsdu)),
+                Err(_) => Err(LinkFault::OutOfMemory),
+            };
         }
-    }
-
-    /// The same with a part of a TSDU of several, or behind TSDUs that wait.
-    #[inline(never)]
-    #[tactic(auto, using(crate::proofs::bounds::what_a_queue_hands_out::popped, crate::proofs::bounds::what_a_queue_hands_out::none_popped))]
-    fn join_behind(
-        &mut self,
-        last: bool,
-        octets: &[u8],
-        whole: &mut Queue<Vec<u8>>,
-    ) -> Result<Option<Vec<u8>>, LinkFault>
-        ensures taken { IfOk result (λ tsdu. joined (joining self.old (map (λ v. v.items) whole.old.items)) last octets.now ≡ Ok (before_handing (option_map (λ v. v.items) tsdu) (joining self.new (map (λ v. v.items) whole.new.items)))) }
-        ensures none { IfOk result (λ tsdu. IfNone tsdu (whole.new.items ≡ [])) }
-        ensures refused { OnErr result (TakesUnit result (part_needs_memory last octets.now) (joined (joining self.old (map (λ v. v.items) whole.old.items)) last octets.now) (joining self.old (map (λ v. v.items) whole.old.items)) (joining self.new (map (λ v. v.items) whole.new.items))) }
-    {
-        self.join(last, octets, whole)?;
+        self.take_part(last, octets, whole)?;
         Ok(whole.pop())
     }
 
