@@ -6,9 +6,12 @@ use Rattle.osi_tpkt.specs.Stream.{ArePackets}
 use Rattle.osi_tpdu.specs.Packet.{units_of}
 use Rattle.osi_tpdu.specs.Value.{Value}
 use Rattle.osi_tpdu.specs.declared.faults.TpduFault.{TpduFault}
-use Rattle.osi_class.specs.Between.{IsFresh, given_by}
+use Rattle.osi_class.specs.Between.{given_by}
 use Rattle.osi_class.specs.Link.{Given, Standing, unit_of}
 use Rattle.osi_class.specs.Runs.{Move, MovesAlong, give_out, hand_in, hand_out, take_in, tsdus_in, tsdus_out}
+use Rattle.osi_class.specs.declared.terms.Class.{Class}
+use Rattle.osi_class.specs.declared.terms.Local.{Local}
+use Rattle.osi_carrier.specs.Negotiation.{opened_link}
 use Rattle.osi_carrier.specs.Rows.{value_at}
 use Rattle.osi_carrier.specs.State.{Connection, asked, closing, linked, packets}
 use Rattle.osi_session.specs.Listening.{Listener}
@@ -70,12 +73,20 @@ pub record Speaks (is_caller : Bool) (moves : List Move) (closed : Bool) (sessio
 
 -- ---- the connection
 
+-- a link as it is when its connection is opened: nothing was sent or taken, and numbers begin at 0
+pub record IsFreshLink (link : Standing) : Type 0 where
+  pub class : Class
+  pub size : Option ℕ
+  pub local : Local
+  pub credit : ℕ
+  pub is : link ≡ opened_link class size local credit
+
 -- These calls were made of a fresh link, and all TSDUs that became whole were handed out. All units that the link gave were
 -- put, with the reference that the peer gave the connection.
 pub record AreCalls (peer : ℕ) (deeds : Deeds) : Type 0 where
   pub first : Standing
   pub link : Standing
-  pub fresh : IsFresh first
+  pub fresh : IsFreshLink first
   pub along : MovesAlong first deeds.calls link
   pub handed : link.ends.joining.whole ≡ []
   pub put : deeds.put ≡ map (unit_of peer) (units_given deeds.calls)

@@ -9,12 +9,12 @@ use Rattle.std.proofs.lemmas.Bool.Decides.{nat_tests}
 use Rattle.std.proofs.lemmas.List.{append-nil}
 use Rattle.osi_tpdu.specs.Value.{Connect, Value, acknowledge, confirm, data0, data2, disconnect, disconnected, error, may_be_followed}
 use Rattle.osi_tpdu.specs.Value.{request}
-use Rattle.osi_class.specs.Between.{IsFresh}
 use Rattle.osi_class.specs.Link.{Standing, taken}
 use Rattle.osi_class.specs.Negotiation.{Selection, accept, refuse, selected_by}
 use Rattle.osi_class.specs.declared.faults.LinkFault.{LinkFault}
 use Rattle.osi_class.specs.declared.terms.Class.{Class}
 use Rattle.osi_class.specs.declared.terms.Class.TheVariants.{Two, Zero}
+use Rattle.osi_class.specs.declared.terms.Local.{Local}
 use Rattle.osi_carrier.specs.Happenings.{Happening, opened}
 use Rattle.osi_carrier.specs.Negotiation.{agreed_size, confirmed, opened_link}
 use Rattle.osi_carrier.specs.Orderly.{IsOrderly, RiseFrom, connection_by, connection_of, only_of, told_of}
@@ -27,6 +27,7 @@ use Rattle.osi_carrier.proofs.effects.a_unit_touches_one_connection.{How, change
 use Rattle.osi_carrier.proofs.effects.units_one_after_the_other.{react_quiet}
 use Rattle.osi_carrier.proofs.references.what_a_change_leaves_there.{push_here, put_here, without_here}
 use Rattle.osi_stack.specs.Calls.{has_given}
+use Rattle.osi_honest.specs.Courses.{IsFreshLink}
 use Rattle.osi_honest.specs.Courses.{IsShut}
 
 -- ---- events
@@ -57,6 +58,11 @@ none_given r = grind (arith, nat_tests)
 pub given_before : (r n : ℕ) → r ≢ n + 1 → nat_le r (n + 1) ≡ nat_le r n
 given_before r n ne = grind (arith, nat_tests)
 
+-- ---- a link as it is opened
+
+fresh_link : (class : Class) (size : Option ℕ) (local : Local) (credit : ℕ) → IsFreshLink (opened_link class size local credit)
+fresh_link class size local credit = record { class = class; size = size; local = local; credit = credit; is = refl }
+
 -- ---- what may happen
 
 pub data Acts (r : ℕ) (v : Value) (old new : Carrier) : Type 0 where
@@ -67,11 +73,11 @@ pub data Acts (r : ℕ) (v : Value) (old new : Carrier) : Type 0 where
       new.events ≡ old.events ++ told → NoneOf r told → Acts r v old new
   -- a CR is accepted at a called end, and this is the next reference
   joins : old.is_caller ≡ false → may_be_followed v ≡ false → has_given r old ≡ false → has_given r new ≡ true → (peer : ℕ)
-      (first : Standing) → IsFresh first → (value_at r old.live ≡ None → value_at r new.live ≡ Some (linked peer first)) →
+      (first : Standing) → IsFreshLink first → (value_at r old.live ≡ None → value_at r new.live ≡ Some (linked peer first)) →
       new.events ≡ old.events ++ opened r ∷ [] → Acts r v old new
   -- its CC arrives
   answers_it : may_be_followed v ≡ false → value_at r old.live ≡ Some asked → has_given r new ≡ has_given r old → (peer : ℕ)
-      (first : Standing) → IsFresh first → value_at r new.live ≡ Some (linked peer first) → new.events ≡ old.events ++ opened r ∷ [] →
+      (first : Standing) → IsFreshLink first → value_at r new.live ≡ Some (linked peer first) → new.events ≡ old.events ++ opened r ∷ [] →
       Acts r v old new
   -- its link takes the unit
   takes : (peer : ℕ) (link after : Standing) → value_at r old.live ≡ Some (linked peer link) → taken link v ≡ Ok after →
@@ -108,10 +114,12 @@ module _ (s : Carrier) (rise : RiseFrom 0 s.live) where
   acts_accepts : (class : Class) (size : Option ℕ) (c : Connect) → s.is_caller ≡ false →
       Acts (s.given + 1) (request c) s (answers c (accept class size) None s)
   acts_accepts Zero size c called =
-      joins called refl (next_ungiven s.given) (given_next s.given) c.source (opened_link Zero size s.local c.credit) (refl, refl, refl)
+      joins called refl (next_ungiven s.given) (given_next s.given) c.source (opened_link Zero size s.local c.credit)
+      (fresh_link Zero size s.local c.credit)
       (λ none. push_here (s.given + 1) (linked c.source (opened_link Zero size s.local c.credit)) s.live none) refl
   acts_accepts Two size c called =
-      joins called refl (next_ungiven s.given) (given_next s.given) c.source (opened_link Two size s.local c.credit) (refl, refl, refl)
+      joins called refl (next_ungiven s.given) (given_next s.given) c.source (opened_link Two size s.local c.credit)
+      (fresh_link Two size s.local c.credit)
       (λ none. push_here (s.given + 1) (linked c.source (opened_link Two size s.local c.credit)) s.live none) refl
 
   acts_selected : (c : Connect) (selection : Selection) (held : Option Class) → s.is_caller ≡ false →
@@ -148,10 +156,12 @@ module _ (s : Carrier) (rise : RiseFrom 0 s.live) where
   acts_opens r destination c None here = over refl
   acts_opens r destination c (Some Zero) here =
       let first = opened_link Zero (agreed_size c.parameters.size s.local) s.local c.credit in
-      answers_it refl here refl c.source first (refl, refl, refl) (put_here r (linked c.source first) asked s.live here) refl
+      answers_it refl here refl c.source first (fresh_link Zero (agreed_size c.parameters.size s.local) s.local c.credit)
+      (put_here r (linked c.source first) asked s.live here) refl
   acts_opens r destination c (Some Two) here =
       let first = opened_link Two (agreed_size c.parameters.size s.local) s.local c.credit in
-      answers_it refl here refl c.source first (refl, refl, refl) (put_here r (linked c.source first) asked s.live here) refl
+      answers_it refl here refl c.source first (fresh_link Two (agreed_size c.parameters.size s.local) s.local c.credit)
+      (put_here r (linked c.source first) asked s.live here) refl
 
   dropped : (r : ℕ) (v : Value) (x : Connection) (t : Carrier) → value_at r s.live ≡ Some x → t.live ≡ without r s.live →
       t.given ≡ s.given →

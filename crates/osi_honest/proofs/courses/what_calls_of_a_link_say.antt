@@ -1,16 +1,21 @@
 -- Calls of a link one after the other: what they hand in and out and give, and all that is given for TSDUs that are handed in.
 -- For the course of a connection.
 use Rattle.std.proofs.Common.{◌≡◌, ◌∙◌, refl, sym, ap, subst, ℕ, suc, ◌+◌, List, [], ◌∷◌, ◌++◌, length, map, append_assoc}
-use Rattle.std.proofs.Common.{arith}
+use Rattle.std.proofs.Common.{Option, arith}
 use Rattle.std.proofs.lemmas.Grind.{flat_map-append}
 use Rattle.std.proofs.lemmas.List.{append-nil, map-append}
 use Rattle.osi_tpdu.specs.Value.{Value}
-use Rattle.osi_class.specs.Between.{given_by}
+use Rattle.osi_class.specs.Between.{IsFresh, given_by}
 use Rattle.osi_class.specs.Giving.{all_given}
 use Rattle.osi_class.specs.Link.{Given, Standing, unit_of, with_tsdu}
 use Rattle.osi_class.specs.Runs.{Move, MovesAlong, give_out, hand_in, hand_out, take_in, tsdu_out, tsdus_in, tsdus_out}
 use Rattle.osi_class.proofs.giving.a_link_gives_finitely_many_units.{drained_leaves, drained_moves}
+use Rattle.osi_class.specs.declared.terms.Class.{Class}
+use Rattle.osi_class.specs.declared.terms.Class.TheVariants.{Two, Zero}
+use Rattle.osi_class.specs.declared.terms.Local.{Local}
+use Rattle.osi_carrier.specs.Negotiation.{opened_link}
 use Rattle.osi_carrier.specs.Pump.{pumped}
+use Rattle.osi_honest.specs.Courses.{IsFreshLink}
 use Rattle.osi_honest.specs.Courses.{Deeds, IsWithin, no_deeds, said_in, taken_in, then_did, units_given, units_taken}
 use Rattle.osi_honest.specs.Courses.IsWithin.{here, later, none}
 use Rattle.osi_honest.specs.Talking.{Said, said_after}
@@ -87,6 +92,15 @@ then_none deeds = λ i. record { calls = append-nil deeds.calls i; put = append-
 
 pub then_joined : (a b c : Deeds) → then_did (then_did a b) c ≡ then_did a (then_did b c)
 then_joined a b c = λ i. record { calls = append_assoc a.calls b.calls c.calls i; put = append_assoc a.put b.put c.put i }
+
+-- ---- a link as it is opened
+
+opened_fresh : (class : Class) (size : Option ℕ) (local : Local) (credit : ℕ) → IsFresh (opened_link class size local credit)
+opened_fresh Zero size local credit = (refl, refl, refl)
+opened_fresh Two size local credit = (refl, refl, refl)
+
+pub fresh_of : (link : Standing) → IsFreshLink link → IsFresh link
+fresh_of link f = subst IsFresh (sym f.is) (opened_fresh f.class f.size f.local f.credit)
 
 -- ---- units that stand among others
 

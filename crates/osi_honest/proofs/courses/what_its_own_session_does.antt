@@ -3,7 +3,6 @@
 use Rattle.std.proofs.Common.{◌≡◌, ◌∙◌, refl, sym, ap, subst, ℕ, ◌+◌, ◌&&◌, Bool, true, false, List, [], ◌++◌, length, map, Option}
 use Rattle.std.proofs.Common.{Some, None, is_some, nat_le, nat_lt, arith}
 use Rattle.std.proofs.lemmas.List.{append-nil}
-use Rattle.osi_class.specs.Between.{IsFresh}
 use Rattle.osi_class.specs.Joining.{Joining}
 use Rattle.osi_class.specs.Link.{Standing, unit_of}
 use Rattle.osi_class.specs.Runs.{Move, MovesAlong, tsdus_out}
@@ -22,6 +21,7 @@ use Rattle.osi_stack.specs.State.{End}
 use Rattle.osi_stack.specs.Transport.{answers_by, hands}
 use Rattle.osi_stack.proofs.called.tsdus_that_are_handed_together.{handed}
 use Rattle.osi_stack.proofs.sound.the_invariant_is_kept.{closed_given}
+use Rattle.osi_honest.specs.Courses.{IsFreshLink}
 use Rattle.osi_honest.specs.Courses.{AreCalls, Course, Deeds, Gone, IsNew, IsShut, Speaks, said_in, units_given}
 use Rattle.osi_honest.specs.Courses.Course.{is_gone, is_open}
 use Rattle.osi_honest.specs.Courses.Gone.{closed, over}
@@ -39,7 +39,7 @@ pub record CanSpeak (is_caller : Bool) (r : ℕ) (moves : Deeds) (session : List
   pub lasts : e.carrier.ended ≡ None
   pub given : has_given r e.carrier ≡ true
   pub here : value_at r e.carrier.live ≡ Some (linked peer link)
-  pub fresh : IsFresh first
+  pub fresh : IsFreshLink first
   pub along : MovesAlong first moves.calls link
   pub handed : link.ends.joining.whole ≡ []
   pub put : moves.put ≡ map (unit_of peer) (units_given moves.calls)

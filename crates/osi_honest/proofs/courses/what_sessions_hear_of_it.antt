@@ -40,7 +40,7 @@ use Rattle.osi_honest.proofs.class_0.what_packets_do_in_class_0.{never_lasts}
 use Rattle.osi_honest.proofs.courses.steps_of_a_course.{Adds, Steps, adds_none, session_adds, step_as, step_none, step_then}
 use Rattle.osi_honest.proofs.courses.what_another_connection_leaves.{Beside, course_over, gone_beside, gone_over, gone_same}
 use Rattle.osi_honest.proofs.courses.what_another_connection_leaves.{joins_beside, session_beside, shut_session}
-use Rattle.osi_honest.proofs.courses.what_calls_of_a_link_say.{none_said, out_more, said_more}
+use Rattle.osi_honest.proofs.courses.what_calls_of_a_link_say.{fresh_of, none_said, out_more, said_more}
 use Rattle.osi_honest.proofs.courses.what_its_own_session_does.{CanSpeak, session_speaks}
 use Rattle.osi_honest.proofs.courses.what_units_do_to_a_course.{Now, request_new, unsaid}
 use Rattle.osi_honest.proofs.courses.what_waits_to_be_heard.{HasCome, JustOpened, Waits, waits_as, waits_beside}
@@ -129,7 +129,7 @@ called_hears is_caller r moves e side none just =
         link = just.first;
         fresh = just.fresh;
         along = subst (λ (d : Deeds). MovesAlong just.first d.calls just.first) (sym just.none) refl;
-        handed = just.fresh.2;
+        handed = (fresh_of just.first just.fresh).2;
         put = none_put just.peer moves just.none;
       };
       session = awaits;
@@ -155,7 +155,7 @@ answered_speaks is_caller r moves e c side terms can kept just = record {
   here = just.here;
   fresh = just.fresh;
   along = subst (λ (d : Deeds). MovesAlong just.first d.calls just.first) (sym just.none) refl;
-  handed = just.fresh.2;
+  handed = (fresh_of just.first just.fresh).2;
   put = none_put just.peer moves just.none;
   kept = kept;
   proper = can.proper;

@@ -5,11 +5,12 @@ use Rattle.std.proofs.Common.{Some, None, is_some, IsSome, IsTrue, Ok, inl, inr}
 use Rattle.std.proofs.lemmas.List.{append-nil}
 use Rattle.osi_tpdu.specs.Packet.{AreUnits}
 use Rattle.osi_tpdu.specs.Value.{Value, may_be_followed}
-use Rattle.osi_class.specs.Between.{IsFresh}
-use Rattle.osi_class.specs.Ends.{fresh_ends}
-use Rattle.osi_class.specs.Link.{Given, Standing, taken, unit_of, zero_standing}
+use Rattle.osi_class.specs.Link.{Given, Standing, taken, unit_of}
 use Rattle.osi_class.specs.Runs.{Move, tsdus_in, tsdus_out}
 use Rattle.osi_carrier.specs.Happenings.{opened, tsdu}
+use Rattle.osi_class.specs.declared.terms.Class.TheVariants.{Zero}
+use Rattle.osi_class.specs.declared.terms.Local.{Local}
+use Rattle.osi_carrier.specs.Negotiation.{opened_link}
 use Rattle.osi_carrier.specs.Orderly.{IsOrderly}
 use Rattle.osi_carrier.specs.Pump.{pumped}
 use Rattle.osi_carrier.specs.React.{handed_out, react, reacts, settles}
@@ -26,6 +27,7 @@ use Rattle.osi_stack.specs.State.{End}
 use Rattle.osi_stack.specs.declared.connecting.Connect.{Connect}
 use Rattle.osi_stack.proofs.carried.packets_without_events.{both}
 use Rattle.osi_stack.proofs.opening.connections_that_units_open.{along_units}
+use Rattle.osi_honest.specs.Courses.{IsFreshLink}
 use Rattle.osi_honest.specs.Courses.{AreCalls, Course, Deeds, Gone, IsNew, IsOpen, IsShut, Speaks, no_deeds, said_in, then_did}
 use Rattle.osi_honest.specs.Courses.Course.{awaited, is_gone, is_open, unknown}
 use Rattle.osi_honest.specs.Courses.Gone.{closed, never, over}
@@ -91,11 +93,18 @@ more_said is_caller moves more is_closed session none into s = record {
 }
 
 -- no call was made yet
-pub no_calls : (peer : ℕ) (moves : Deeds) → moves ≡ no_deeds → AreCalls peer moves
-no_calls peer moves none =
-    let fresh : Standing = zero_standing (fresh_ends 0) in
+pub no_calls : (peer : ℕ) (local : Local) (moves : Deeds) → moves ≡ no_deeds → AreCalls peer moves
+no_calls peer local moves none =
+    let link : Standing = opened_link Zero None local 0 in
     subst (AreCalls peer) (sym none)
-    (record { first = fresh; link = fresh; fresh = (refl, refl, refl); along = refl; handed = refl; put = refl })
+    (record {
+      first = link;
+      link = link;
+      fresh = record { class = Zero; size = None; local = local; credit = 0; is = refl };
+      along = refl;
+      handed = refl;
+      put = refl;
+    })
 
 -- nothing was said yet
 pub unsaid : (is_caller : Bool) (moves : Deeds) (begin : Listener) → moves ≡ no_deeds → IsNew is_caller begin →
@@ -216,7 +225,7 @@ module _ (is_caller : Bool) (r : ℕ) (moves : Deeds) (v : Value) (e : End) (h :
         took given o after took_it (then_is ∙ ap (λ (p : ℕ). settles r p after e.carrier) peers) none
         (has_few o.calls.link after v o.calls.handed took_it)
 
-    opens_now : may_be_followed v ≡ false → has_given r new.carrier ≡ true → (peer : ℕ) (first : Standing) → IsFresh first →
+    opens_now : may_be_followed v ≡ false → has_given r new.carrier ≡ true → (peer : ℕ) (first : Standing) → IsFreshLink first →
         moves ≡ no_deeds →
         value_at r new.carrier.live ≡ Some (linked peer first) → JustOpened r moves new
     opens_now alone given peer first fresh none here =
@@ -224,7 +233,7 @@ module _ (is_caller : Bool) (r : ℕ) (moves : Deeds) (v : Value) (e : End) (h :
 
     module _ (none : NoneOf r e.carrier.events) where
       joins_now : Course is_caller r moves e → e.carrier.is_caller ≡ false → may_be_followed v ≡ false → has_given r e.carrier ≡ false →
-          has_given r new.carrier ≡ true → (peer : ℕ) (first : Standing) → IsFresh first →
+          has_given r new.carrier ≡ true → (peer : ℕ) (first : Standing) → IsFreshLink first →
           (value_at r e.carrier.live ≡ None → value_at r new.carrier.live ≡ Some (linked peer first)) →
           new.carrier.events ≡ e.carrier.events ++ opened r ∷ [] → Then
       joins_now (unknown no_moves side ungiven live lines) called_end alone free given peer first fresh here events =
@@ -244,7 +253,7 @@ module _ (is_caller : Bool) (r : ℕ) (moves : Deeds) (v : Value) (e : End) (h :
           absurd (never_lasts e.carrier.ended ended lasted)
 
       answers_now : Course is_caller r moves e → may_be_followed v ≡ false → value_at r e.carrier.live ≡ Some asked →
-          has_given r new.carrier ≡ has_given r e.carrier → (peer : ℕ) (first : Standing) → IsFresh first →
+          has_given r new.carrier ≡ has_given r e.carrier → (peer : ℕ) (first : Standing) → IsFreshLink first →
           value_at r new.carrier.live ≡ Some (linked peer first) → new.carrier.events ≡ e.carrier.events ++ opened r ∷ [] → Then
       answers_now (unknown no_moves side ungiven live lines) alone was same peer first fresh here events =
           two_states (Some asked) None was live (λ no. absurd (cc))
@@ -278,7 +287,7 @@ module _ (is_caller : Bool) (r : ℕ) (moves : Deeds) (v : Value) (e : End) (h :
       leaves_now (unknown no_moves side ungiven live lines) x here same then_shut =
           two_states (Some x) None here live (λ no. absurd (cc))
       leaves_now (awaited no_moves c terms side lasts given live kept) x here same then_shut =
-          closed 0 (no_calls 0 moves no_moves) false (calls_with c)
+          closed 0 (no_calls 0 e.carrier.local moves no_moves) false (calls_with c)
           (unsaid is_caller moves (calls_with c) no_moves (request_new is_caller c side terms)) (same ∙ given) then_shut
       leaves_now (is_open given o) x here same then_shut = closed o.peer o.calls false o.session o.speaks (same ∙ given) then_shut
       leaves_now (is_gone (closed at calls is session speaks given shut)) x here same then_shut =

@@ -2,7 +2,6 @@
 -- For the course of a connection.
 use Rattle.std.proofs.Common.{◌≡◌, ◌≢◌, ◌∙◌, refl, ap, ℕ, Bool, true, false, List, [], ◌∷◌, ◌++◌, Option, Some, None, is_some, map}
 use Rattle.std.proofs.Common.{IsSome, inl, inr, ◌⊎◌}
-use Rattle.osi_class.specs.Between.{IsFresh}
 use Rattle.osi_class.specs.Link.{Standing, unit_of}
 use Rattle.osi_class.specs.Runs.{Move, MovesAlong, tsdus_in, tsdus_out}
 use Rattle.osi_carrier.specs.Happenings.{Happening, opened, tsdu}
@@ -15,6 +14,7 @@ use Rattle.osi_stack.specs.Calls.{calls_with, has_given, terms_error}
 use Rattle.osi_stack.specs.Messages.{kept_at}
 use Rattle.osi_stack.specs.State.{End}
 use Rattle.osi_stack.specs.declared.connecting.Connect.{Connect}
+use Rattle.osi_honest.specs.Courses.{IsFreshLink}
 use Rattle.osi_honest.specs.Courses.{Course, Deeds, Gone, Speaks, no_deeds, units_given}
 use Rattle.osi_honest.specs.Courses.Course.{is_gone}
 use Rattle.osi_honest.specs.Courses.Gone.{never, over}
@@ -42,7 +42,7 @@ pub record JustOpened (r : ℕ) (moves : Deeds) (e : End) : Type 0 where
   pub lasts : e.carrier.ended ≡ None
   pub given : has_given r e.carrier ≡ true
   pub here : value_at r e.carrier.live ≡ Some (linked peer first)
-  pub fresh : IsFresh first
+  pub fresh : IsFreshLink first
 
 -- ---- a connection whose link handed out a TSDU just now
 
@@ -59,7 +59,7 @@ pub record HasCome (is_caller : Bool) (r : ℕ) (octets : List ℕ) (moves : Dee
   pub lasts : e.carrier.ended ≡ None
   pub given : has_given r e.carrier ≡ true
   pub here : value_at r e.carrier.live ≡ Some (linked peer link)
-  pub fresh : IsFresh first
+  pub fresh : IsFreshLink first
   pub along : MovesAlong first moves.calls link
   pub put : moves.put ≡ map (unit_of peer) (units_given moves.calls)
   pub handed : link.ends.joining.whole ≡ []

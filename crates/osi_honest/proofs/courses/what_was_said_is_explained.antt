@@ -22,7 +22,7 @@ use Rattle.osi_honest.specs.Courses.Course.{awaited, is_gone, is_open, unknown}
 use Rattle.osi_honest.specs.Courses.Gone.{closed, never, over}
 use Rattle.osi_honest.specs.Showing.{AreSame, Shows}
 use Rattle.osi_honest.specs.Talking.{Said, told_of}
-use Rattle.osi_honest.proofs.courses.what_calls_of_a_link_say.{none_said, out_more, said_more}
+use Rattle.osi_honest.proofs.courses.what_calls_of_a_link_say.{fresh_of, none_said, out_more, said_more}
 use Rattle.osi_honest.proofs.courses.what_units_do_to_a_course.{no_calls}
 use Rattle.osi_honest.proofs.opening.the_session_of_a_request_is_a_caller.{opens_so}
 use Rattle.osi_honest.proofs.sessions.a_history_is_a_run.{history_runs}
@@ -105,23 +105,23 @@ caller_explained law us told (something begin (c, terms, is) sent) =
 -- ---- the units of the link
 
 course_calls : (is_caller : Bool) (r : ℕ) (moves : Deeds) (e : End) → Course is_caller r moves e → (peer : ℕ) × AreCalls peer moves
-course_calls is_caller r moves e (unknown none side free live lines) = (0, no_calls 0 moves none)
-course_calls is_caller r moves e (awaited none c terms side lasts given here kept) = (0, no_calls 0 moves none)
+course_calls is_caller r moves e (unknown none side free live lines) = (0, no_calls 0 e.carrier.local moves none)
+course_calls is_caller r moves e (awaited none c terms side lasts given here kept) = (0, no_calls 0 e.carrier.local moves none)
 course_calls is_caller r moves e (is_open given o) = (o.peer, o.calls)
 course_calls is_caller r moves e (is_gone (closed at calls is_closed session s given shut)) = (at, calls)
 course_calls is_caller r moves e (is_gone (over at calls heard unheard is_closed session s parts into ended)) = (at, calls)
-course_calls is_caller r moves e (is_gone (never none ended)) = (0, no_calls 0 moves none)
+course_calls is_caller r moves e (is_gone (never none ended)) = (0, no_calls 0 e.carrier.local moves none)
 
 pub units_put : (is_caller : Bool) (r : ℕ) (moves : Deeds) (e : End) → Course is_caller r moves e →
     (unsent : List (List ℕ)) × (peer : ℕ) × (moves.put ≡ map (unit_of peer) (units_given moves.calls))
     × (tsdus (parts_out moves.calls ++ uncut unsent) ≡ tsdus_in moves.calls)
 units_put is_caller r moves e course =
     let c = course_calls is_caller r moves e course in
-    (c.1.link.ends.unsent, c.0, c.1.put, all_sent c.1.first c.1.link moves.calls c.1.along c.1.fresh.0)
+    (c.1.link.ends.unsent, c.0, c.1.put, all_sent c.1.first c.1.link moves.calls c.1.along (fresh_of c.1.first c.1.fresh).0)
 
 pub units_came : (is_caller : Bool) (r : ℕ) (moves : Deeds) (e : End) → Course is_caller r moves e →
     tsdus (parts_in moves.calls) ≡ tsdus_out moves.calls
 units_came is_caller r moves e course =
     let calls = (course_calls is_caller r moves e course).1 in
-    all_taken calls.first calls.link moves.calls calls.along calls.fresh.2 calls.fresh.1
+    all_taken calls.first calls.link moves.calls calls.along (fresh_of calls.first calls.fresh).2 (fresh_of calls.first calls.fresh).1
     ∙ ap (λ (l : List (List ℕ)). tsdus_out moves.calls ++ l) calls.handed ∙ append-nil (tsdus_out moves.calls)
