@@ -25,6 +25,8 @@ struct alignments {
     struct { char c; osi_counters at; } osi_counters;
     struct { char c; osi_judge at; } osi_judge;
     struct { char c; osi_verdict at; } osi_verdict;
+    struct { char c; osi_watch at; } osi_watch;
+    struct { char c; osi_watch_verdict at; } osi_watch_verdict;
 };
 
 #define ALIGNMENT(type) (offsetof(struct alignments, type.at) - offsetof(struct alignments, type))
@@ -135,6 +137,19 @@ static void judging(void)
     FIELD(osi_verdict, rule);
     FIELD(osi_verdict, said);
     FIELD(osi_verdict, reference);
+    STRUCT(osi_watch);
+    FIELD(osi_watch, full);
+    FIELD(osi_watch, inner);
+    STRUCT(osi_watch_verdict);
+    FIELD(osi_watch_verdict, offset);
+    FIELD(osi_watch_verdict, connection);
+    FIELD(osi_watch_verdict, kind);
+    FIELD(osi_watch_verdict, side);
+    FIELD(osi_watch_verdict, by);
+    FIELD(osi_watch_verdict, rule);
+    FIELD(osi_watch_verdict, said);
+    FIELD(osi_watch_verdict, left);
+    FIELD(osi_watch_verdict, right);
 }
 
 static void verdicts(void)
@@ -185,6 +200,18 @@ static void verdicts(void)
     VALUE(OSI_RULE_WRONG_FORM);
     VALUE(OSI_RULE_TSDU_TOO_LONG);
     VALUE(OSI_RULE_LIMIT);
+    VALUE(OSI_RULE_TOO_MANY_CONNECTIONS);
+    VALUE(OSI_RULE_ONE_CONNECTION);
+    VALUE(OSI_RULE_NEGOTIATING);
+    VALUE(OSI_RULE_REFERENCE_IN_USE);
+    VALUE(OSI_RULE_UNKNOWN_REFERENCE);
+    VALUE(OSI_RULE_BAD_ANSWER);
+    VALUE(OSI_RULE_LARGER_SIZE);
+    VALUE(OSI_RULE_CLOSED);
+    VALUE(OSI_RULE_OUT_OF_SEQUENCE);
+    VALUE(OSI_RULE_NO_CREDIT);
+    VALUE(OSI_RULE_SIZE_EXCEEDED);
+    VALUE(OSI_RULE_CREDIT_REDUCED);
     VALUE(OSI_SAID_NOTHING);
     VALUE(OSI_SAID_CN);
     VALUE(OSI_SAID_AC);
@@ -208,6 +235,11 @@ static void verdicts(void)
     VALUE(OSI_SAID_TPDU);
     VALUE(OSI_SAID_TRANSPORT_DT);
     VALUE(OSI_SAID_TRANSPORT_DR);
+    VALUE(OSI_SAID_TRANSPORT_CR);
+    VALUE(OSI_SAID_TRANSPORT_CC);
+    VALUE(OSI_SAID_TRANSPORT_DC);
+    VALUE(OSI_SAID_TRANSPORT_AK);
+    VALUE(OSI_SAID_TRANSPORT_ER);
 }
 
 static void trace(void)

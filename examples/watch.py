@@ -4,12 +4,15 @@
     examples/watch.py -i eth0        a live tap: tshark captures, which needs the right to do so
     examples/watch.py -r run.pcap    a capture, read as if it passed now
 
-tshark gives the TCP segments one by one. A break stays a break whatever passes later, so it is printed at once, and the stream is
-watched no further. That both sides kept the protocol is printed when TCP has closed the stream, or at the end. There are two ways:
+tshark gives the TCP segments one by one. A break stays a break whatever passes later, so it is printed at once, and a stream of one
+connection of class 0 is watched no further. That both sides kept the protocol is printed when TCP has closed the
+stream, or at the end. There are two ways:
 
-    --by library    (if the package osi_session is there) each octet is fed once, to a Judge of the library; a break is printed
-                    with the segment that shows it, and a stream takes at most 1 MiB. It is judged up to 196,608 octets and
-                    4,096 TSDUs of both sides together.
+    --by library    (if the package osi_session is there) each octet is fed once, to a Judge and to a Watch of the library; a break
+                    is printed with the segment that shows it. The Judge judges one connection of class 0, up to 196,608 octets
+                    and 4,096 TSDUs of both sides together. If there is another connection, or one of class 2, the Watch judges
+                    all of them, each up to that much, and a stream is watched on after a break. Each connection takes at most
+                    1 MiB, and the Judge another.
     --by program    (else) `osi judge` judges everything that has passed of a stream, at most once in --every seconds, and less
                     often if that takes long. It is judged up to 8,000,000 octets, which are kept.
 
@@ -49,6 +52,8 @@ except ImportError:
 # In addition to what a segment has: it acknowledges octets that the capture doesn't have; it closes its direction; it resets.
 CLOSING = ("tcp.analysis.ack_lost_segment", "tcp.flags.fin", "tcp.flags.reset")
 LONGEST = 8_000_000
+# Why a Judge judges no further, if a Watch does: there is a connection of class 2, or more than one.
+WIDE = ("OTHER_CLASS", "MORE_CONNECTIONS")
 # How many octets wait for a missing segment before it counts as lost.
 MOST_WAITING = 262_144
 
@@ -70,6 +75,10 @@ class Watched:
         elif self.octets > LONGEST:
             self.why_not = f"it has more than {LONGEST:,} octets"
 
+    def news(self):
+        """Lines on the stream that are certain, if it is watched on after them."""
+        return []
+
     def is_over(self):
         """Whether nothing more will pass."""
         return self.closed == set(self.stream.ends)
@@ -88,11 +97,12 @@ class Watched:
 
 class Fed(Watched):
     """A stream of which each octet is fed to a judge of the library, and kept no longer. If a segment is missing, what passes waits
-    until it comes. Left is the side that sends first."""
+    until it comes. Left is the side that sends first. A Judge judges one connection of class 0, and a Watch all others."""
 
     def __init__(self, stream):
         super().__init__(stream)
         self.judge, self.left, self.begin, self.heard, self.found = osi_session.Judge(), None, None, set(), None
+        self.watch, self.is_wide, self.lines, self.has_news = osi_session.Watch(), False, [], False
 
     def take(self, segment, has_gap, closes):
         super().take(segment, has_gap, closes)
@@ -120,8 +130,35 @@ class Fed(Watched):
                 self.found = "not judged: begins in the middle", False
                 return
         side = osi_session.TapSide(source != self.left)
-        for told in self.judge.feed(side, piece.octets):
+        self.lines += [self.event(told, piece) for told in self.watch.feed(side, piece.octets)]
+        for told in () if self.is_wide else self.judge.feed(side, piece.octets):
+            if told.rule.name in WIDE:
+                self.is_wide = True
+                self.judge.close()
+                break
             self.found = self.found or self.line(told, piece)
+
+    def event(self, told, piece):
+        """The line of a verdict of the Watch that became certain with these octets."""
+        side, kind = told.side.name.lower(), told.kind
+        on = "" if told.connection is None else f"connection {told.connection} ({told.left or '?'}, {told.right or '?'}): "
+        if kind in (osi_session.VerdictKind.BROKE, osi_session.VerdictKind.LEAVES):
+            did = "broke the protocol" if kind is osi_session.VerdictKind.BROKE else "left the profile"
+            said = f"{side} {did}, in its packet {told.offset}: {told.said.name} {told.rule.name}"
+        elif kind is osi_session.VerdictKind.TOO_MANY:
+            said = f"{side} is judged no further: too many sessions explain it"
+        elif told.rule is osi_session.Rule.LIMIT:
+            said = f"{side} is judged no further: more passed than is judged of a connection"
+        else:
+            said = f"{side} is judged no further after packet {told.offset} of {told.by.name.lower()}: {told.said.name} {told.rule.name}"
+        return f"frame {piece.frame}, {piece.time - self.begin:.6f} seconds: {on}{said}"
+
+    def news(self):
+        if not self.is_wide:
+            return []
+        lines, self.lines = self.lines, []
+        self.has_news = self.has_news or bool(lines)
+        return lines
 
     def line(self, told, piece):
         """The line of a verdict that became certain with these octets."""
@@ -139,6 +176,8 @@ class Fed(Watched):
             return f"not judged: lost segments: {self.lost()} octets or more are not in the capture", False
         if self.left is None:
             return "not judged: begins in the middle", False
+        if self.is_wide:
+            return None if self.has_news else "both kept the protocol", not self.has_news
         said = verdicts.printed(self.judge.text())
         why = said.last["why"]
         return f"not judged: {why}" if why else said.rows[-1], why is None
@@ -147,6 +186,7 @@ class Fed(Watched):
         found = (f"not judged: {self.why_not}", False) if self.why_not else self.found or (self.at_the_end() if is_end else None)
         if found:
             self.judge.close()
+            self.watch.close()
         return found
 
 
@@ -176,9 +216,12 @@ class Watch:
             if not (watched.is_fresh or is_end):
                 continue
             watched.is_fresh = False
+            for line in watched.news():
+                print(f"{self.name_of(watched)}: {line}", flush=True)
             found = watched.verdict(self.judge, is_end or watched.is_over())
             if found:
-                print(f"{self.name_of(watched)}: {found[0]}", flush=True)
+                if found[0]:
+                    print(f"{self.name_of(watched)}: {found[0]}", flush=True)
                 self.told[number] = found[1]
                 del self.watched[number]
 

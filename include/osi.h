@@ -664,6 +664,19 @@ typedef struct osi_judge {
 #define OSI_RULE_WRONG_FORM 62u             /* a DR that refuses no CR */
 #define OSI_RULE_TSDU_TOO_LONG 63u          /* more than 1,048,576 octets */
 #define OSI_RULE_LIMIT 70u                  /* no break: more passed than a judge keeps */
+#define OSI_RULE_TOO_MANY_CONNECTIONS 71u   /* no break: more than 128 connections at once */
+/* 80 to 90: rules of transport (X.224), which only an osi_watch tells. */
+#define OSI_RULE_ONE_CONNECTION 80u         /* a CR in class 0, which has one connection */
+#define OSI_RULE_NEGOTIATING 81u            /* a CR while another is unanswered and the class is not known */
+#define OSI_RULE_REFERENCE_IN_USE 82u       /* a reference that its sender has given another connection */
+#define OSI_RULE_UNKNOWN_REFERENCE 83u      /* a unit for a reference of no connection */
+#define OSI_RULE_BAD_ANSWER 84u             /* a CC that selects what its CR does not offer */
+#define OSI_RULE_LARGER_SIZE 85u            /* a CC with a larger TPDU size than its CR */
+#define OSI_RULE_CLOSED 86u                 /* a unit on a connection that its sender has closed */
+#define OSI_RULE_OUT_OF_SEQUENCE 87u        /* a DT or an AK with a wrong number */
+#define OSI_RULE_NO_CREDIT 88u              /* a DT that the window does not allow */
+#define OSI_RULE_SIZE_EXCEEDED 89u          /* a DT that is longer than the size that was selected */
+#define OSI_RULE_CREDIT_REDUCED 90u         /* an AK that moves the edge of the window down */
 
 /* What the side sent: a session unit by its name in X.225, or what could not be read. */
 #define OSI_SAID_NOTHING 0u
@@ -689,6 +702,11 @@ typedef struct osi_judge {
 #define OSI_SAID_TPDU 20u         /* a transport unit */
 #define OSI_SAID_TRANSPORT_DT 21u /* a DT of the transport, by which a TSDU is too long */
 #define OSI_SAID_TRANSPORT_DR 22u /* a DR of the transport */
+#define OSI_SAID_TRANSPORT_CR 23u /* a CR of the transport */
+#define OSI_SAID_TRANSPORT_CC 24u /* a CC of the transport */
+#define OSI_SAID_TRANSPORT_DC 25u /* a DC of the transport */
+#define OSI_SAID_TRANSPORT_AK 26u /* an AK of the transport */
+#define OSI_SAID_TRANSPORT_ER 27u /* an ER of the transport */
 
 /* A verdict on a side. */
 typedef struct osi_verdict {
@@ -733,6 +751,83 @@ uint32_t osi_judge_write(osi_judge *judge) OSI_LOOK;
 /* Lends the text that was written last, its lines each with a line feed; no octets if there is none. It is
  * valid until the next call with this judge. */
 void osi_judge_text(osi_judge *judge, osi_octets *text);
+
+/* ---- watching all connections of a byte connection -------------------------------------------------------
+ * An osi_watch judges both classes of transport and any number of connections on one byte connection: the
+ * transport of each side, and the session of each side of each connection (docs/JUDGING.md). Each verdict
+ * names its connection and its side.
+ *
+ *     osi_watch watch = OSI_WATCH;
+ *     osi_watch_verdict verdict;
+ *     size_t used;
+ *     if (osi_watch_new(&watch))
+ *         return 1;                             // OSI_NO_MEMORY
+ *     while (next_piece(&side, &piece, &length)) {
+ *         if (osi_watch_feed(&watch, side, piece, length, &used))
+ *             return 1;                         // OSI_NO_MEMORY: feed the rest again
+ *         while (osi_watch_next(&watch, &verdict) == OSI_OK)
+ *             printf("%u: %s\n", verdict.side, osi_rule_name(verdict.rule));
+ *     }
+ *     osi_watch_free(&watch);
+ *
+ * What the caller owes is what he owes to an osi_judge. */
+
+/* A slot that holds the watch of a byte connection, or none. */
+typedef struct osi_watch {
+    bool full;
+    struct {
+        void *at;
+    } inner;
+} osi_watch;
+
+/* An empty slot. Each slot begins as this. */
+#ifdef __cplusplus
+#define OSI_WATCH { false, { nullptr } }
+#else
+#define OSI_WATCH { false, { NULL } }
+#endif
+
+/* In place of the number of a connection: the verdict is of no single one. */
+#define OSI_NO_CONNECTION UINT64_MAX
+
+/* A verdict on a side of a byte connection. */
+typedef struct osi_watch_verdict {
+    uint64_t offset;     /* of the packet, in the direction of `by`, from 0; a TSDU has that of its last packet */
+    uint64_t connection; /* its number in the order of the CRs, from 0; or OSI_NO_CONNECTION */
+    uint32_t kind;       /* OSI_VERDICT_* */
+    uint32_t side;       /* OSI_LEFT or OSI_RIGHT */
+    uint32_t by;         /* the side that sent the packet: the other one may, if nothing more of both is judged */
+    uint32_t rule;       /* OSI_RULE_*, or a code of a call */
+    uint32_t said;       /* OSI_SAID_* */
+    uint16_t left;       /* the reference that left gave the connection; 0 if it gave none */
+    uint16_t right;      /* the same of right */
+} osi_watch_verdict;
+
+/* Makes a watch of a byte connection on which nothing has passed. OSI_OK, OSI_IN_USE, OSI_NO_MEMORY. */
+uint32_t osi_watch_new(osi_watch *watch) OSI_LOOK;
+
+/* Frees the watch that the slot holds, if any. */
+void osi_watch_free(osi_watch *watch);
+
+/* Feeds octets of a side, as osi_judge_feed does: OSI_OK, or the first that applies of OSI_BAD_ARGUMENT (no
+ * side), OSI_SLOT_EMPTY and OSI_NO_MEMORY. After OSI_NO_MEMORY the first *used octets have passed: feed the
+ * others again when there is memory. After the other two none has.
+ *
+ * Of each connection a watch keeps the TSDUs that passed, in at most 1 MiB. A DT counts the octets of its
+ * user data and 48 more, and 196,608 are judged. What passes on the connection after that is not judged, and
+ * the verdict on a side that was kept until then is OSI_VERDICT_NOT_JUDGED with OSI_RULE_LIMIT. What is kept
+ * of a connection stays until osi_watch_free, also if the connection is over. */
+uint32_t osi_watch_feed(osi_watch *watch, uint32_t side, const uint8_t *piece, size_t length, size_t *used) OSI_LOOK;
+
+/* Writes a verdict that is certain to *verdict: OSI_OK. If there is none the struct is all 0: OSI_NOTHING; or
+ * OSI_SLOT_EMPTY, OSI_NO_MEMORY (make the call again when there is memory). Each verdict is given once, and
+ * none is OSI_VERDICT_KEPT. That on the break that passed first comes before the others. There is at most
+ * one of each of these:
+ *
+ *   the session of a side of a connection: it broke the protocol, left the profile, or is judged no further;
+ *   the transport of a side: where it first broke a rule or left the profile;
+ *   a side of which nothing more is judged, OSI_VERDICT_NOT_JUDGED: the packet after which that is so. */
+uint32_t osi_watch_next(osi_watch *watch, osi_watch_verdict *verdict) OSI_LOOK;
 
 /* ---- names ------------------------------------------------------------------------------------------- */
 

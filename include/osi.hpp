@@ -645,6 +645,18 @@ enum class rule : std::uint32_t {
     wrong_form = OSI_RULE_WRONG_FORM,
     tsdu_too_long = OSI_RULE_TSDU_TOO_LONG,
     limit = OSI_RULE_LIMIT,                       /* no break: more passed than a judge keeps */
+    too_many_connections = OSI_RULE_TOO_MANY_CONNECTIONS, /* no break: more than 128 connections at once */
+    one_connection = OSI_RULE_ONE_CONNECTION,     /* this one and the others: rules of transport, of a watch alone */
+    negotiating = OSI_RULE_NEGOTIATING,
+    reference_in_use = OSI_RULE_REFERENCE_IN_USE,
+    unknown_reference = OSI_RULE_UNKNOWN_REFERENCE,
+    bad_answer = OSI_RULE_BAD_ANSWER,
+    larger_size = OSI_RULE_LARGER_SIZE,
+    closed = OSI_RULE_CLOSED,
+    out_of_sequence = OSI_RULE_OUT_OF_SEQUENCE,
+    no_credit = OSI_RULE_NO_CREDIT,
+    size_exceeded = OSI_RULE_SIZE_EXCEEDED,
+    credit_reduced = OSI_RULE_CREDIT_REDUCED,
 };
 
 /* What a side sent, by its name in X.225, or what could not be read. */
@@ -672,6 +684,11 @@ enum class said : std::uint32_t {
     tpdu = OSI_SAID_TPDU,                 /* a transport unit */
     transport_dt = OSI_SAID_TRANSPORT_DT, /* a DT of the transport, by which a TSDU is too long */
     transport_dr = OSI_SAID_TRANSPORT_DR, /* a DR of the transport */
+    transport_cr = OSI_SAID_TRANSPORT_CR,
+    transport_cc = OSI_SAID_TRANSPORT_CC,
+    transport_dc = OSI_SAID_TRANSPORT_DC,
+    transport_ak = OSI_SAID_TRANSPORT_AK,
+    transport_er = OSI_SAID_TRANSPORT_ER,
 };
 
 /* A verdict on a side. */
@@ -682,6 +699,19 @@ struct verdict {
     osi::rule rule = osi::rule::none;
     std::uint64_t offset = 0;     /* of the packet in its direction, from 0; a TSDU has that of its last packet */
     osi::reference reference = 0; /* the reference that this side gave the connection; 0 if it gave none so far */
+};
+
+/* A verdict on a side of a byte connection. */
+struct watch_verdict {
+    tap_side side = tap_side::left;
+    verdict_kind kind = verdict_kind::none;
+    osi::said said = osi::said::nothing;
+    osi::rule rule = osi::rule::none;
+    std::uint64_t offset = 0;                /* of the packet, in the direction of `by`, from 0 */
+    tap_side by = tap_side::left;            /* the side that sent the packet */
+    std::optional<std::uint64_t> connection; /* its number in the order of the CRs; none if it is of no single one */
+    osi::reference left = 0;                 /* the reference that left gave the connection; 0 if it gave none */
+    osi::reference right = 0;                /* the same of right */
 };
 
 /* The name of a number in osi.h, such as "OSI_BAD_STATE", and the version of the library. */
@@ -1195,6 +1225,99 @@ private:
     }
 
     std::unique_ptr<osi_judge, freed> slot_;
+};
+
+/* ---- the watch of a byte connection with all its connections ---------------------------------------- */
+
+/* Watches a byte connection of either class with any number of connections on it. It judges the transport of
+ * each side, and the session of each side of each connection. You can move a watch, but not copy it. One that
+ * was moved from, or default-made, holds none: its calls answer code::slot_empty.
+ *
+ *     osi::watch watch = *osi::watch::make();          // empty if memory ran out
+ *     (void)watch.feed_all(osi::tap_side::left, piece, [](const osi::watch_verdict &said) {
+ *         std::cout << osi::name(said.rule) << '\n';
+ *     });
+ */
+class watch {
+public:
+    /* Holds no watch. */
+    watch() noexcept = default;
+
+    /* The watch of a byte connection on which nothing has passed: ok, no_memory. */
+    static result<watch> make() noexcept
+    {
+        result<watch> answer;
+        answer.value.slot_.reset(new (std::nothrow) osi_watch OSI_WATCH);
+        answer.code = answer.value ? static_cast<osi::code>(osi_watch_new(answer.value.slot_.get())) : code::no_memory;
+        if (!answer)
+            answer.value.reset();
+        return answer;
+    }
+
+    /* Whether it holds a watch. */
+    explicit operator bool() const noexcept { return slot_ != nullptr; }
+
+    /* Frees the watch. */
+    void reset() noexcept { slot_.reset(); }
+
+    /* Feeds octets of a side, in the order in which they passed the tap, and answers how many passed: all of them
+     * if the code is ok. ok, slot_empty, no_memory (the first ones have passed: feed the others again). */
+    result<std::size_t> feed(tap_side side, octets piece) noexcept
+    {
+        result<std::size_t> answer;
+        answer.code = call(osi_watch_feed, detail::bits(side), piece.data(), piece.size(), &answer.value);
+        return answer;
+    }
+
+    /* The same, and passes each verdict that is certain to on_verdict(const watch_verdict &). */
+    template <class OnVerdict>
+    result<std::size_t> feed_all(tap_side side, octets piece, OnVerdict &&on_verdict)
+    {
+        result<std::size_t> answer = feed(side, piece);
+        result<watch_verdict> certain = next();
+        for (; certain; certain = next())
+            on_verdict(*certain);
+        if (answer && certain.code != code::nothing)
+            answer.code = certain.code;
+        return answer;
+    }
+
+    /* A verdict that is certain, each once, and never `kept`: ok, nothing (there is none), slot_empty, no_memory. */
+    result<watch_verdict> next() noexcept
+    {
+        osi_watch_verdict shown;
+        result<watch_verdict> answer;
+        answer.code = call(osi_watch_next, &shown);
+        if (answer)
+            answer.value = verdict_of(shown);
+        return answer;
+    }
+
+private:
+    struct freed {
+        void operator()(osi_watch *slot) const noexcept
+        {
+            osi_watch_free(slot);
+            delete slot;
+        }
+    };
+
+    static watch_verdict verdict_of(const osi_watch_verdict &v) noexcept
+    {
+        watch_verdict shown{static_cast<tap_side>(v.side), static_cast<verdict_kind>(v.kind), static_cast<osi::said>(v.said),
+                            static_cast<osi::rule>(v.rule), v.offset, static_cast<tap_side>(v.by), std::nullopt, v.left, v.right};
+        if (v.connection != OSI_NO_CONNECTION)
+            shown.connection = v.connection;
+        return shown;
+    }
+
+    template <class Function, class... Arguments>
+    code call(Function function, Arguments... arguments) noexcept
+    {
+        return slot_ ? static_cast<code>(function(slot_.get(), arguments...)) : code::slot_empty;
+    }
+
+    std::unique_ptr<osi_watch, freed> slot_;
 };
 
 } // namespace osi

@@ -172,6 +172,18 @@ const char *osi_rule_name(uint32_t rule)
         NAME(OSI_RULE_WRONG_FORM);
         NAME(OSI_RULE_TSDU_TOO_LONG);
         NAME(OSI_RULE_LIMIT);
+        NAME(OSI_RULE_TOO_MANY_CONNECTIONS);
+        NAME(OSI_RULE_ONE_CONNECTION);
+        NAME(OSI_RULE_NEGOTIATING);
+        NAME(OSI_RULE_REFERENCE_IN_USE);
+        NAME(OSI_RULE_UNKNOWN_REFERENCE);
+        NAME(OSI_RULE_BAD_ANSWER);
+        NAME(OSI_RULE_LARGER_SIZE);
+        NAME(OSI_RULE_CLOSED);
+        NAME(OSI_RULE_OUT_OF_SEQUENCE);
+        NAME(OSI_RULE_NO_CREDIT);
+        NAME(OSI_RULE_SIZE_EXCEEDED);
+        NAME(OSI_RULE_CREDIT_REDUCED);
     }
     return unknown;
 }
@@ -202,6 +214,11 @@ const char *osi_said_name(uint32_t said)
         NAME(OSI_SAID_TPDU);
         NAME(OSI_SAID_TRANSPORT_DT);
         NAME(OSI_SAID_TRANSPORT_DR);
+        NAME(OSI_SAID_TRANSPORT_CR);
+        NAME(OSI_SAID_TRANSPORT_CC);
+        NAME(OSI_SAID_TRANSPORT_DC);
+        NAME(OSI_SAID_TRANSPORT_AK);
+        NAME(OSI_SAID_TRANSPORT_ER);
     }
     return unknown;
 }

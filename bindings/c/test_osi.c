@@ -558,6 +558,187 @@ static void a_judge_takes_little_memory(void)
 }
 #endif
 
+/* ---- all connections of a byte connection are watched */
+
+/* Two connections of class 2, each with its CR, CC, CN and AC; the references are at [8] of a CR, at [6] and [8] of a CC,
+ * and at [6] of the others. */
+static uint8_t cr2[] = {3, 0, 0, 17, 12, 0xE4, 0, 0, 0, 1, 0x20, 0xC0, 1, 10, 0xC6, 1, 0};
+static uint8_t cc2[] = {3, 0, 0, 17, 12, 0xD4, 0, 1, 0, 2, 0x20, 0xC0, 1, 10, 0xC6, 1, 0};
+static uint8_t cn2[] = {3, 0, 0, 29, 4, 0xF0, 0, 2, 0x80, 13, 18, 5, 12, 19, 1, 1, 22, 1, 2, 23, 1, '1', 26, 1, 0, 20, 2, 0, 0xB9};
+static uint8_t dt2[] = {3, 0, 0, 17, 4, 0xF0, 0, 3, 0x81, 1, 0, 1, 0, 'd', 'a', 't', 'a'};
+
+/* Feeds octets of a side, of which all have to pass. */
+static void see(osi_watch *watch, uint32_t side, const uint8_t *octets, size_t length)
+{
+    size_t used = 0;
+    CHECK_QUIETLY(osi_watch_feed(watch, side, octets, length, &used) == OSI_OK && used == length);
+}
+
+/* A connection of class 2 that left calls by this reference, and right by the next. */
+static void open_on(osi_watch *watch, uint8_t left)
+{
+    cr2[9] = cc2[7] = left;
+    cc2[9] = left + 1;
+    see(watch, OSI_LEFT, cr2, sizeof cr2);
+    see(watch, OSI_RIGHT, cc2, sizeof cc2);
+    cn2[7] = left + 1;
+    cn2[9] = 13;
+    see(watch, OSI_LEFT, cn2, sizeof cn2);
+    cn2[7] = left;
+    cn2[9] = 14;
+    see(watch, OSI_RIGHT, cn2, sizeof cn2);
+}
+
+static bool has_none(osi_watch *watch)
+{
+    osi_watch_verdict verdict;
+    return osi_watch_next(watch, &verdict) == OSI_NOTHING && verdict.kind == OSI_VERDICT_NONE && verdict.connection == 0;
+}
+
+/* On the second connection right sends data without the token: its session breaks the protocol there, and the first connection
+ * goes on. */
+static void a_break_is_told_of_its_connection(void)
+{
+    osi_watch watch = OSI_WATCH;
+    osi_watch_verdict verdict;
+    CHECK(osi_watch_new(&watch) == OSI_OK);
+    open_on(&watch, 1);
+    open_on(&watch, 3);
+    CHECK(has_none(&watch));
+    dt2[7] = 3;
+    for (size_t i = 0; i < sizeof dt2; i++) {
+        CHECK_QUIETLY(has_none(&watch));
+        see(&watch, OSI_RIGHT, dt2 + i, 1);
+    }
+    CHECK(osi_watch_next(&watch, &verdict) == OSI_OK);
+    CHECK(verdict.connection == 1 && verdict.left == 3 && verdict.right == 4 && verdict.side == OSI_RIGHT && verdict.by == OSI_RIGHT);
+    CHECK(verdict.kind == OSI_VERDICT_BROKE && verdict.rule == OSI_RULE_TOKEN_NOT_HELD && verdict.said == OSI_SAID_DT);
+    CHECK(verdict.offset == 92 && has_none(&watch));
+    dt2[7] = 2;
+    see(&watch, OSI_LEFT, dt2, sizeof dt2);
+    CHECK(has_none(&watch));
+    osi_watch_free(&watch);
+    CHECK(!watch.full);
+}
+
+/* Right gives a reference twice: its transport broke a rule, and after that nothing more of either side is judged. */
+static void a_break_of_transport_is_told(void)
+{
+    osi_watch watch = OSI_WATCH;
+    osi_watch_verdict verdict;
+    CHECK(osi_watch_new(&watch) == OSI_OK);
+    open_on(&watch, 1);
+    cr2[9] = cc2[7] = 3;
+    cc2[9] = 2;
+    see(&watch, OSI_LEFT, cr2, sizeof cr2);
+    see(&watch, OSI_RIGHT, cc2, sizeof cc2);
+    CHECK(osi_watch_next(&watch, &verdict) == OSI_OK && verdict.kind == OSI_VERDICT_BROKE && verdict.side == OSI_RIGHT);
+    CHECK(verdict.rule == OSI_RULE_REFERENCE_IN_USE && verdict.said == OSI_SAID_TRANSPORT_CC && verdict.offset == 46);
+    for (uint32_t side = OSI_LEFT; side <= OSI_RIGHT; side++) {
+        CHECK(osi_watch_next(&watch, &verdict) == OSI_OK && verdict.side == side && verdict.by == OSI_RIGHT);
+        CHECK(verdict.kind == OSI_VERDICT_NOT_JUDGED && verdict.rule == OSI_RULE_REFERENCE_IN_USE && verdict.offset == 46);
+    }
+    CHECK(has_none(&watch));
+    osi_watch_free(&watch);
+}
+
+/* More passes on the first connection than is judged of one: that is said once of each of its sides, and the second is judged on. */
+static void more_than_is_judged_of_a_connection_passes(void)
+{
+    osi_watch watch = OSI_WATCH;
+    osi_watch_verdict verdict;
+    CHECK(osi_watch_new(&watch) == OSI_OK);
+    open_on(&watch, 1);
+    open_on(&watch, 3);
+    uint8_t ak[] = {3, 0, 0, 9, 4, 0x6F, 0, 1, 0};
+    dt2[7] = 2;
+    int sent = 0;
+    do {
+        dt2[8] = 0x80 | ((1 + sent++) & 127);
+        see(&watch, OSI_LEFT, dt2, sizeof dt2);
+        ak[8] = (uint8_t)((1 + sent) & 127);
+        see(&watch, OSI_RIGHT, ak, sizeof ak);
+    } while (osi_watch_next(&watch, &verdict) == OSI_NOTHING && sent < 5000);
+    /* CN, AC and DTs count 20 and 8 octets of user data, each with 48 more. */
+    CHECK(sent == (196608 - 2 * (20 + 48)) / (8 + 48) + 1);
+    for (uint32_t side = OSI_LEFT; side <= OSI_RIGHT; side++) {
+        CHECK(verdict.side == side && verdict.kind == OSI_VERDICT_NOT_JUDGED && verdict.rule == OSI_RULE_LIMIT);
+        CHECK(verdict.connection == 0 && verdict.left == 1 && verdict.right == 2);
+        CHECK(osi_watch_next(&watch, &verdict) == (side == OSI_LEFT ? OSI_OK : OSI_NOTHING));
+    }
+    dt2[7] = 3;
+    dt2[8] = 0x81;
+    see(&watch, OSI_RIGHT, dt2, sizeof dt2);
+    CHECK(osi_watch_next(&watch, &verdict) == OSI_OK && verdict.connection == 1 && verdict.kind == OSI_VERDICT_BROKE);
+    osi_watch_free(&watch);
+}
+
+/* A capture that begins in the middle of a connection is not judged; and slots that hold no watch, or hold one already. */
+static void watches_that_are_refused(void)
+{
+    osi_watch watch = OSI_WATCH;
+    osi_watch_verdict verdict;
+    size_t used = 1;
+    CHECK(osi_watch_feed(&watch, OSI_LEFT, cr, sizeof cr, &used) == OSI_SLOT_EMPTY && used == 0);
+    CHECK(osi_watch_next(&watch, &verdict) == OSI_SLOT_EMPTY && verdict.kind == OSI_VERDICT_NONE);
+    osi_watch_free(&watch);
+    CHECK(osi_watch_new(&watch) == OSI_OK && osi_watch_new(&watch) == OSI_IN_USE);
+    CHECK(osi_watch_feed(&watch, 2, cr, sizeof cr, &used) == OSI_BAD_ARGUMENT && used == 0);
+    CHECK(osi_watch_feed(&watch, OSI_LEFT, OSI_NO_DATA, &used) == OSI_OK && used == 0);
+    see(&watch, OSI_LEFT, dt, sizeof dt);
+    for (uint32_t side = OSI_LEFT; side <= OSI_RIGHT; side++) {
+        CHECK(osi_watch_next(&watch, &verdict) == OSI_OK && verdict.side == side && verdict.kind == OSI_VERDICT_NOT_JUDGED);
+        CHECK(verdict.rule == OSI_RULE_NO_OPENING && verdict.by == OSI_LEFT && verdict.connection == OSI_NO_CONNECTION);
+    }
+    CHECK(has_none(&watch));
+    osi_watch_free(&watch);
+    osi_watch_free(&watch);
+}
+
+#ifdef KNOWS_WHAT_IS_ALLOCATED
+/* How much memory a connection takes if data passes on it until it is judged no more, in TSDUs of this length that differ. */
+static size_t taken_on_a_connection(size_t length)
+{
+    static uint8_t data[8196], large_cr[sizeof cr], large_cc[sizeof cc];
+    const size_t before = allocated();
+    osi_watch watch = OSI_WATCH;
+    osi_watch_verdict verdict;
+    memcpy(large_cr, cr, sizeof cr);
+    memcpy(large_cc, cc, sizeof cc);
+    large_cr[13] = large_cc[13] = 13; /* TPDUs of 8,192 octets */
+    memcpy(data, dt, sizeof dt);
+    data[2] = (uint8_t)(length >> 8);
+    data[3] = (uint8_t)(length & 255);
+    CHECK(osi_watch_new(&watch) == OSI_OK);
+    see(&watch, OSI_LEFT, large_cr, sizeof large_cr);
+    see(&watch, OSI_RIGHT, large_cc, sizeof large_cc);
+    cn[7] = 13;
+    see(&watch, OSI_LEFT, cn, sizeof cn);
+    cn[7] = 14;
+    see(&watch, OSI_RIGHT, cn, sizeof cn);
+    do {
+        data[length - 1]++;
+        see(&watch, OSI_LEFT, data, length);
+    } while (osi_watch_next(&watch, &verdict) == OSI_NOTHING);
+    CHECK(verdict.kind == OSI_VERDICT_NOT_JUDGED && verdict.rule == OSI_RULE_LIMIT);
+    const size_t taken = allocated() - before;
+    osi_watch_free(&watch);
+    return taken;
+}
+
+/* Whatever the lengths of its TSDUs, a connection takes at most 1 MiB. */
+static void a_connection_takes_little_memory(void)
+{
+    static const size_t lengths[] = {12, 13, 19, 24, 40, 48, 100, 1000, 8196};
+    for (size_t i = 0; i < sizeof lengths / sizeof *lengths; i++)
+        CHECK(taken_on_a_connection(lengths[i]) <= 1048576);
+}
+#else
+static void a_connection_takes_little_memory(void)
+{
+}
+#endif
+
 /* What is not a side, and slots that hold no judge or hold one already. */
 static void judges_that_are_refused(void)
 {
@@ -614,6 +795,11 @@ int main(void)
     more_than_a_judge_keeps_passes(true);
     more_than_a_judge_keeps_passes(false);
     a_judge_takes_little_memory();
+    a_break_is_told_of_its_connection();
+    a_break_of_transport_is_told();
+    more_than_is_judged_of_a_connection_passes();
+    watches_that_are_refused();
+    a_connection_takes_little_memory();
     judges_that_are_refused();
     names();
     printf("%u passed, %u failed\n", passed, failed);

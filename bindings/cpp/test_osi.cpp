@@ -654,6 +654,31 @@ static void a_connection_is_judged()
     no_slot = false;
 }
 
+/* All connections of a byte connection are watched; a break before the class is known ends the judgement of both sides. */
+static void a_byte_connection_is_watched()
+{
+    static_assert(!std::is_copy_constructible_v<osi::watch> && std::is_nothrow_move_constructible_v<osi::watch>);
+    const std::array<std::uint8_t, 14> cr = {3, 0, 0, 14, 9, 0xE0, 0, 0, 0, 1, 0, 0xC0, 1, 10};
+    std::vector<osi::watch_verdict> told;
+    const auto keep = [&](const osi::watch_verdict &verdict) { told.push_back(verdict); };
+    osi::watch empty;
+    CHECK(!empty && empty.feed(osi::tap_side::left, cr).code == code::slot_empty && empty.next().code == code::slot_empty);
+    auto made = osi::watch::make();
+    CHECK(made && *made);
+    osi::watch watch = std::move(*made);
+    CHECK(*watch.feed_all(osi::tap_side::left, cr, keep) == cr.size() && told.empty() && watch.next().code == code::nothing);
+    CHECK(*watch.feed_all(osi::tap_side::right, "HTTP/1.1 400", keep) == 12 && told.size() == 3);
+    CHECK(told[0].side == osi::tap_side::right && told[0].kind == osi::verdict_kind::broke && !told[0].connection);
+    CHECK(told[1].side == osi::tap_side::left && told[1].kind == osi::verdict_kind::not_judged && told[1].by == osi::tap_side::right);
+    CHECK(told[2].side == osi::tap_side::right && told[2].rule == osi::rule::bad_version && told[2].said == osi::said::tpkt);
+    watch.reset();
+    CHECK(!watch);
+    no_slot = true;
+    if (is_refused())
+        CHECK(osi::watch::make().code == code::no_memory);
+    no_slot = false;
+}
+
 int main()
 {
     octets_are_views();
@@ -683,6 +708,7 @@ int main()
     codes_have_texts();
     numbers_have_names();
     a_connection_is_judged();
+    a_byte_connection_is_watched();
     std::printf("%d passed, %d failed\n", passed, failed);
     return failed == 0 ? 0 : 1;
 }

@@ -191,6 +191,31 @@ class ByLibrary(unittest.TestCase):
         self.assertEqual(self.printed(rows.row("left", much)), f"{NAME}: {said}\n")
 
 
+    def test_connections_of_class_2_are_watched_on_after_a_break(self):
+        """Two connections of class 2; on the second, right sends data without the token."""
+        rows, told = Rows(), ""
+        for left in (1, 3):
+            right = left + 1
+            for side, octets in (("left", f"030000110ce40000000{left:x}20c0010ac60100"),
+                                 ("right", f"030000110cd4000{left:x}000{right:x}20c0010ac60100"),
+                                 ("left", f"0300001d04f0000{right:x}800d12050c1301011601021701311a0100140200b9"),
+                                 ("right", f"0300001d04f0000{left:x}800e12050c1301011601021701311a0100140200b9")):
+                told += self.printed(rows.row(side, bytes.fromhex(octets)))
+        self.assertEqual(told, "")
+        told = self.printed(rows.row("right", bytes.fromhex("0300001104f00003810100010064617461")))
+        said = "connection 1 (3, 4): right broke the protocol, in its packet 92: DT TOKEN_NOT_HELD"
+        self.assertEqual(told, f"{NAME}: frame 9, 1.000000 seconds: {said}\n")
+        self.assertEqual(self.printed(rows.row("left", bytes.fromhex("0300001104f00002810100010064617461")), is_end=True), "")
+        self.assertEqual(self.watching.status(), 1)
+
+    def test_that_both_kept_the_protocol_in_class_2_is_told_at_the_end(self):
+        rows = Rows()
+        opening = [("left", "030000110ce40000000120c0010ac60100"), ("right", "030000110cd40001000220c0010ac60100")]
+        self.assertEqual(self.printed(*(rows.row(side, bytes.fromhex(octets)) for side, octets in opening)), "")
+        self.assertEqual(self.printed(rows.row("left", reset="1")), f"{NAME}: both kept the protocol\n")
+        self.assertEqual(self.watching.status(), 0)
+
+
 @unittest.skipUnless(shutil.which("tshark"), "tshark is not installed")
 class Captures(unittest.TestCase):
     """The program, over captures that tshark reads; `osi` is not run."""

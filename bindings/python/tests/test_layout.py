@@ -146,10 +146,10 @@ class Names(unittest.TestCase):
             return set(re.findall(r"\w+", file.read()))
 
     def test_here(self):
-        self.assertEqual(functions(), set(_library.FUNCTIONS) | set(_library.JUDGES) | set(_library.TEXTS))
+        self.assertEqual(functions(), set(_library.FUNCTIONS) | set(_library.JUDGES) | set(_library.WATCHES) | set(_library.TEXTS))
 
     def test_in_the_library(self):
-        for name in (*_library.FUNCTIONS, *_library.JUDGES, *_library.TEXTS):
+        for name in (*_library.FUNCTIONS, *_library.JUDGES, *_library.WATCHES, *_library.TEXTS):
             self.assertTrue(hasattr(_library.library(), name), name)
 
     def test_each_number_has_its_name(self):

@@ -151,8 +151,34 @@ pub struct osi_verdict {
     pub reference: u16,
 }
 
+/// A slot that holds the watch of a byte connection, or none.
+#[repr(C)]
+pub struct osi_watch {
+    pub full: bool,
+    pub inner: osi_end_inner,
+}
+
+/// `OSI_WATCH`.
+pub const OSI_WATCH: osi_watch = osi_watch { full: false, inner: osi_end_inner { at: std::ptr::null_mut() } };
+
+#[repr(C)]
+#[derive(Clone, Copy, Default)]
+pub struct osi_watch_verdict {
+    pub offset: u64,
+    pub connection: u64,
+    pub kind: u32,
+    pub side: u32,
+    pub by: u32,
+    pub rule: u32,
+    pub said: u32,
+    pub left: u16,
+    pub right: u16,
+}
+
+pub const OSI_NO_CONNECTION: u64 = u64::MAX;
 pub const OSI_OK: u32 = 0;
 pub const OSI_NO_MEMORY: u32 = 3;
+pub const OSI_NOTHING: u32 = 5;
 pub const OSI_END_NONE: u32 = 0;
 
 /// A call of a user with user data alone.
@@ -265,6 +291,16 @@ extern "C" {
     pub fn osi_judge_verdict(judge: *mut osi_judge, side: u32, verdict: *mut osi_verdict) -> u32;
     pub fn osi_judge_write(judge: *mut osi_judge) -> u32;
     pub fn osi_judge_text(judge: *mut osi_judge, text: *mut osi_octets);
+    pub fn osi_watch_new(watch: *mut osi_watch) -> u32;
+    pub fn osi_watch_free(watch: *mut osi_watch);
+    pub fn osi_watch_feed(
+        watch: *mut osi_watch,
+        side: u32,
+        piece: *const u8,
+        length: usize,
+        used: *mut usize,
+    ) -> u32;
+    pub fn osi_watch_next(watch: *mut osi_watch, verdict: *mut osi_watch_verdict) -> u32;
     pub fn osi_version() -> *const c_char;
 }
 

@@ -113,6 +113,30 @@ pub enum Rule {
     TsduTooLong = 63,
     /// No break: more passed than a judge keeps.
     Limit = 70,
+    /// No break: there are more than 128 connections at once.
+    TooManyConnections = 71,
+    /// A CR in class 0, which has one connection.
+    OneConnection = 80,
+    /// A CR while another one is unanswered and the class is not known.
+    Negotiating = 81,
+    /// A CR or CC with a reference that its sender has given another connection.
+    ReferenceInUse = 82,
+    /// A unit for a reference of no connection.
+    UnknownReference = 83,
+    /// A CC that selects what its CR does not offer.
+    BadAnswer = 84,
+    /// A CC with a larger TPDU size than its CR.
+    LargerSize = 85,
+    /// A unit on a connection that its sender has closed.
+    Closed = 86,
+    /// A DT or an AK with a wrong number.
+    OutOfSequence = 87,
+    /// A DT that the window does not allow.
+    NoCredit = 88,
+    /// A DT that is longer than the size that the CC selects.
+    SizeExceeded = 89,
+    /// An AK that moves the upper edge of the window down.
+    CreditReduced = 90,
 }
 
 /// What a side sent: a session unit by its name in X.225, or what could not be read.
@@ -165,6 +189,16 @@ pub enum Said {
     TransportDt = 21,
     /// A DR of the transport.
     TransportDr = 22,
+    /// A CR of the transport.
+    TransportCr = 23,
+    /// A CC of the transport.
+    TransportCc = 24,
+    /// A DC of the transport.
+    TransportDc = 25,
+    /// An AK of the transport.
+    TransportAk = 26,
+    /// An ER of the transport.
+    TransportEr = 27,
 }
 
 pub(crate) const KINDS: [VerdictKind; 6] = [
@@ -215,6 +249,18 @@ pub(crate) const RULES: &[Rule] = &[
     Rule::WrongForm,
     Rule::TsduTooLong,
     Rule::Limit,
+    Rule::TooManyConnections,
+    Rule::OneConnection,
+    Rule::Negotiating,
+    Rule::ReferenceInUse,
+    Rule::UnknownReference,
+    Rule::BadAnswer,
+    Rule::LargerSize,
+    Rule::Closed,
+    Rule::OutOfSequence,
+    Rule::NoCredit,
+    Rule::SizeExceeded,
+    Rule::CreditReduced,
 ];
 
 pub(crate) const SAID: &[Said] = &[
@@ -241,6 +287,11 @@ pub(crate) const SAID: &[Said] = &[
     Said::Tpdu,
     Said::TransportDt,
     Said::TransportDr,
+    Said::TransportCr,
+    Said::TransportCc,
+    Said::TransportDc,
+    Said::TransportAk,
+    Said::TransportEr,
 ];
 
 /// A verdict on a side of a connection.
@@ -260,13 +311,33 @@ pub struct Verdict {
     pub reference: Option<u16>,
 }
 
+pub(crate) fn side_of(number: u32) -> TapSide {
+    if number == TapSide::Right as u32 {
+        TapSide::Right
+    } else {
+        TapSide::Left
+    }
+}
+
+pub(crate) fn kind_of(number: u32) -> VerdictKind {
+    KINDS.into_iter().find(|kind| *kind as u32 == number).unwrap_or(VerdictKind::None)
+}
+
+pub(crate) fn said_of(number: u32) -> Said {
+    SAID.iter().copied().find(|said| *said as u32 == number).unwrap_or(Said::Nothing)
+}
+
+pub(crate) fn rule_of(number: u32) -> Rule {
+    RULES.iter().copied().find(|rule| *rule as u32 == number).unwrap_or(Rule::None)
+}
+
 impl Verdict {
     fn of(shown: &ffi::osi_verdict) -> Self {
         Verdict {
-            side: if shown.side == TapSide::Right as u32 { TapSide::Right } else { TapSide::Left },
-            kind: KINDS.into_iter().find(|kind| *kind as u32 == shown.kind).unwrap_or(VerdictKind::None),
-            said: SAID.iter().copied().find(|said| *said as u32 == shown.said).unwrap_or(Said::Nothing),
-            rule: RULES.iter().copied().find(|rule| *rule as u32 == shown.rule).unwrap_or(Rule::None),
+            side: side_of(shown.side),
+            kind: kind_of(shown.kind),
+            said: said_of(shown.said),
+            rule: rule_of(shown.rule),
             offset: shown.offset,
             reference: (shown.reference != 0).then_some(shown.reference),
         }

@@ -1,6 +1,6 @@
 //! A judge is fed a connection between two other programs, piece by piece.
 
-use osi_session::{Error, Judge, Rule, Said, TapSide, Verdict, VerdictKind};
+use osi_session::{Error, Judge, Rule, Said, TapSide, Verdict, VerdictKind, Watch};
 
 const CR: &[u8] = &[3, 0, 0, 14, 9, 0xE0, 0, 0, 0, 1, 0, 0xC0, 1, 10];
 const CC: &[u8] = &[3, 0, 0, 14, 9, 0xD0, 0, 1, 0, 2, 0, 0xC0, 1, 10];
@@ -70,4 +70,26 @@ fn a_judge_goes_to_another_thread() {
         Ok::<_, Error>(judge.next_verdict())
     });
     assert_eq!(told.join().unwrap().unwrap().unwrap().rule, Rule::BadVersion);
+}
+
+/// A connection of class 2 whose called side sends data without the token.
+#[test]
+fn a_watch_tells_the_connection() {
+    const CR: &[u8] = &[3, 0, 0, 17, 12, 0xE4, 0, 0, 0, 1, 0x20, 0xC0, 1, 10, 0xC6, 1, 0];
+    const CC: &[u8] = &[3, 0, 0, 17, 12, 0xD4, 0, 1, 0, 2, 0x20, 0xC0, 1, 10, 0xC6, 1, 0];
+    let unit = |to: u8, number: u8, rest: &[u8]| {
+        [&[3, 0, 0, 9 + rest.len() as u8, 4, 0xF0, 0, to, 0x80 | number][..], rest].concat()
+    };
+    let mut watch = Watch::new().unwrap();
+    watch.feed(TapSide::Left, CR).unwrap();
+    watch.feed(TapSide::Right, CC).unwrap();
+    watch.feed(TapSide::Left, &unit(2, 0, &CN[7..])).unwrap();
+    watch.feed(TapSide::Right, &unit(1, 0, &AC[7..])).unwrap();
+    assert_eq!(watch.next_verdict(), Ok(None));
+    watch.feed(TapSide::Right, &unit(1, 1, &DT[7..])).unwrap();
+    let told = watch.next_verdict().unwrap().unwrap();
+    assert_eq!((told.side, told.kind, told.rule), (TapSide::Right, VerdictKind::Broke, Rule::TokenNotHeld));
+    assert_eq!((told.connection, told.left, told.right, told.offset), (Some(0), Some(1), Some(2), 46));
+    assert_eq!(told.to_string(), "connection 0 Right Broke Right packet 46: Dt TokenNotHeld");
+    assert_eq!(watch.next_verdict(), Ok(None));
 }

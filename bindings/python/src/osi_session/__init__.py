@@ -10,7 +10,8 @@ Send the octets of ``end.outgoing()`` to the peer, and pass the number that you 
 Pass the octets that you received to ``end.feed_all(piece)``, which yields the indications.
 ``osi_session.aio`` does both over asyncio.
 
-``Judge`` watches a connection between two other programs, and says which side broke the protocol first.
+``Judge`` watches a connection between two other programs, and says which side broke the protocol first. ``Watch``
+does the same for a byte connection with any number of connections, of either class.
 
 The package calls the shared library libosi-session.so of the same project over ctypes. It takes the library
 from the folder that OSI_SESSION_DIR names (or the file OSI_SESSION_LIBRARY), else the one in this package, if
@@ -72,6 +73,7 @@ from ._values import (
     Tally,
     Terms,
 )
+from ._watch import Watch, WatchVerdict
 
 __all__ = [
     "Aborted",
@@ -127,5 +129,7 @@ __all__ = [
     "Units",
     "Verdict",
     "VerdictKind",
+    "Watch",
+    "WatchVerdict",
     "library_version",
 ]

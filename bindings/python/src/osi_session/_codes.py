@@ -371,6 +371,30 @@ class Rule(IntEnum):
     """A TSDU of more than 1,048,576 octets."""
     LIMIT = 70
     """No break: more passed than a judge keeps."""
+    TOO_MANY_CONNECTIONS = 71
+    """No break: there are more than 128 connections at once."""
+    ONE_CONNECTION = 80
+    """A CR in class 0, which has one connection."""
+    NEGOTIATING = 81
+    """A CR while another one is unanswered and the class is not known."""
+    REFERENCE_IN_USE = 82
+    """A CR or CC with a reference that its sender has given another connection."""
+    UNKNOWN_REFERENCE = 83
+    """A unit for a reference of no connection."""
+    BAD_ANSWER = 84
+    """A CC that selects what its CR does not offer."""
+    LARGER_SIZE = 85
+    """A CC with a larger TPDU size than its CR."""
+    CLOSED = 86
+    """A unit on a connection that its sender has closed."""
+    OUT_OF_SEQUENCE = 87
+    """A DT or an AK with a wrong number."""
+    NO_CREDIT = 88
+    """A DT that the window does not allow."""
+    SIZE_EXCEEDED = 89
+    """A DT that is longer than the size that the CC selects."""
+    CREDIT_REDUCED = 90
+    """An AK that moves the upper edge of the window down."""
 
 
 class Said(IntEnum):
@@ -421,3 +445,13 @@ class Said(IntEnum):
     """A DT of the transport, by which a TSDU is too long."""
     TRANSPORT_DR = 22
     """A DR of the transport."""
+    TRANSPORT_CR = 23
+    """A CR of the transport."""
+    TRANSPORT_CC = 24
+    """A CC of the transport."""
+    TRANSPORT_DC = 25
+    """A DC of the transport."""
+    TRANSPORT_AK = 26
+    """An AK of the transport."""
+    TRANSPORT_ER = 27
+    """An ER of the transport."""

@@ -29,6 +29,12 @@ class JudgeSlot(ctypes.Structure):
     _fields_ = [("full", c_bool), ("inner", Inner)]
 
 
+class WatchSlot(ctypes.Structure):
+    """osi_watch: a slot that holds the watch of a byte connection, or none. It begins as zeros, which is OSI_WATCH."""
+
+    _fields_ = [("full", c_bool), ("inner", Inner)]
+
+
 class Octets(ctypes.Structure):
     _fields_ = [("at", c_void_p), ("length", c_size_t)]
 
@@ -131,6 +137,23 @@ class VerdictOfC(ctypes.Structure):
     ]
 
 
+class WatchVerdictOfC(ctypes.Structure):
+    _fields_ = [
+        ("offset", c_uint64),
+        ("connection", c_uint64),
+        ("kind", c_uint32),
+        ("side", c_uint32),
+        ("by", c_uint32),
+        ("rule", c_uint32),
+        ("said", c_uint32),
+        ("left", c_uint16),
+        ("right", c_uint16),
+    ]
+
+
+# OSI_NO_CONNECTION
+NO_CONNECTION = 2**64 - 1
+
 STRUCTS = {
     "osi_end": Slot,
     "osi_octets": Octets,
@@ -147,6 +170,8 @@ STRUCTS = {
     "osi_counters": CountersOfC,
     "osi_judge": JudgeSlot,
     "osi_verdict": VerdictOfC,
+    "osi_watch": WatchSlot,
+    "osi_watch_verdict": WatchVerdictOfC,
 }
 
 _DATA = [c_void_p, c_size_t]
@@ -211,6 +236,13 @@ JUDGES: Dict[str, Tuple[List[Any], Any]] = {
     "osi_judge_write": ([], c_uint32),
     "osi_judge_text": ([POINTER(Octets)], None),
 }
+# The same for the functions that take the slot of a watch.
+WATCHES: Dict[str, Tuple[List[Any], Any]] = {
+    "osi_watch_new": ([], c_uint32),
+    "osi_watch_free": ([], None),
+    "osi_watch_feed": ([c_uint32, *_DATA, POINTER(c_size_t)], c_uint32),
+    "osi_watch_next": ([POINTER(WatchVerdictOfC)], c_uint32),
+}
 # The argument of each function that needs no slot and returns a text.
 TEXTS: Dict[str, List[Any]] = {
     "osi_version": [],
@@ -268,7 +300,7 @@ def load() -> ctypes.CDLL:
         except OSError as error:
             tried.append(str(error))
             continue
-        for slot, functions in ((Slot, FUNCTIONS), (JudgeSlot, JUDGES)):
+        for slot, functions in ((Slot, FUNCTIONS), (JudgeSlot, JUDGES), (WatchSlot, WATCHES)):
             for name, (takes, answers) in functions.items():
                 function = getattr(library, name)
                 function.argtypes = [POINTER(slot), *takes]

@@ -1,0 +1,64 @@
+"""A watch is fed all connections of a byte connection, piece by piece."""
+import copy
+import pickle
+import unittest
+
+from osi_session import Code, Rule, Said, SessionError, TapSide, VerdictKind, Watch, WatchVerdict
+
+CR = bytes.fromhex("030000110ce40000000120c0010ac60100")
+CC = bytes.fromhex("030000110cd40001000220c0010ac60100")
+CN = bytes.fromhex("0300001d04f00002800d12050c1301011601021701311a0100140200b9")
+AC = bytes.fromhex("0300001d04f00001800e12050c1301011601021701311a0100140200b9")
+DT = bytes.fromhex("0300001104f00001810100010064617461")
+OPENING = ((TapSide.LEFT, CR), (TapSide.RIGHT, CC), (TapSide.LEFT, CN), (TapSide.RIGHT, AC))
+
+
+def opened() -> Watch:
+    watch = Watch()
+    for side, octets in OPENING:
+        watch.feed(side, octets)
+    return watch
+
+
+class Watches(unittest.TestCase):
+    def test_a_break_is_told_of_its_connection_and_once(self):
+        watch = opened()
+        for place in range(len(DT) - 1):
+            self.assertEqual(list(watch.feed(TapSide.RIGHT, DT[place : place + 1])), [])
+        told = WatchVerdict(TapSide.RIGHT, VerdictKind.BROKE, Said.DT, Rule.TOKEN_NOT_HELD, 46, TapSide.RIGHT, 0, 1, 2)
+        self.assertEqual(list(watch.feed(TapSide.RIGHT, DT[-1:])), [told])
+        self.assertEqual(str(told), "connection 0 RIGHT BROKE packet 46: DT TOKEN_NOT_HELD")
+        self.assertEqual(list(watch.verdicts()), [])
+
+    def test_a_break_before_the_class_is_known_ends_the_judgement_of_both_sides(self):
+        watch = Watch()
+        watch.feed(TapSide.LEFT, CR)
+        told = [str(one) for one in watch.feed(TapSide.RIGHT, b"HTTP/1.1 400 Bad Request")]
+        self.assertEqual(told, ["RIGHT BROKE packet 0: TPKT BAD_VERSION", "LEFT NOT_JUDGED RIGHT packet 0: TPKT BAD_VERSION",
+                                "RIGHT NOT_JUDGED packet 0: TPKT BAD_VERSION"])
+
+    def test_a_capture_that_begins_in_the_middle_is_not_judged(self):
+        told = list(Watch().feed(TapSide.LEFT, DT))
+        self.assertEqual([(one.side, one.kind, one.rule, one.connection) for one in told],
+                         [(side, VerdictKind.NOT_JUDGED, Rule.NO_OPENING, None) for side in TapSide])
+
+    def test_a_watch_that_was_closed(self):
+        watch = opened()
+        watch.close()
+        self.assertTrue(watch.closed)
+        for call in (lambda: watch.feed(TapSide.LEFT, DT), lambda: list(watch.verdicts())):
+            with self.assertRaises(SessionError) as raised:
+                call()
+            self.assertEqual(raised.exception.code, Code.SLOT_EMPTY)
+
+    def test_a_watch_is_not_copied(self):
+        for way in (copy.copy, copy.deepcopy, pickle.dumps):
+            self.assertRaises(TypeError, way, Watch())
+
+    def test_what_is_no_side_and_what_are_no_octets(self):
+        self.assertRaises(ValueError, Watch().feed, 2, DT)
+        self.assertRaises(TypeError, Watch().feed, TapSide.LEFT, "text")
+
+
+if __name__ == "__main__":
+    unittest.main()
