@@ -1,7 +1,7 @@
 -- What a carrier does with a piece of its stream is events of its whole end, as it takes the packets that the piece completes.
 -- For the law on packets.
 use Rattle.std.proofs.Common.{◌≡◌, ◌∙◌, ℕ, Bool, true, false, List, [], ◌∷◌, ◌++◌, length, take, refl, sym, ap, subst, append_assoc}
-use Rattle.std.proofs.Common.{Option, Some, None, Ok, inl, inr, ◌⊎◌, if◌then◌else◌, is_some, arith}
+use Rattle.std.proofs.Common.{Option, Some, None, inl, inr, ◌⊎◌, if◌then◌else◌, is_some, arith}
 use Rattle.std.specs.Prelude.{◌||◌}
 use Rattle.std.proofs.lemmas.List.{append-nil, take_all}
 use Rattle.osi_tpkt.specs.Stream.{ArePackets}
