@@ -27,7 +27,8 @@ pub(crate) fn ends_asked(alloc: Global, script: &str) -> io::Result<(Local, Loca
     Err(unreadable())
 }
 
-fn ends_read(alloc: Global, asked: &str) -> io::Result<(Local, Local)> {
+/// The configuration of the two ends that this line has to ask for.
+pub(crate) fn ends_read(alloc: Global, asked: &str) -> io::Result<(Local, Local)> {
     let line = Line::read(alloc, asked.as_bytes())?;
     match ends_in(&line) {
         Some(ends) => Ok(ends),

@@ -12,29 +12,38 @@
 //! - `long`: scripts and transcripts with abbreviations, which files after `octets` may have too;
 //! - `together`: scripts whose events are given in one list;
 //! - `texts`: files with the text of each fault and error;
-//! - `judge`: captures of both sides, compared with what is found of each.
+//! - `judge`: captures of both sides, compared with what is found of each;
+//! - `seen`: scripts as after `each-way`, which are seen at four taps; no end may be blamed for what passes there;
+//! - `runs`: files of many such scripts, which are run as they are written;
+//! - `fed`: ends that are fed octets, as after `octets`; no end may be blamed for what it sends.
 #![tactic(auto)]
 
 mod again;
 mod asked;
+mod blame;
 mod calls;
 mod damaged;
 mod digits;
 mod disputes;
+mod fed;
 mod long;
 mod octets;
+mod seen;
 mod texts;
 mod together;
 mod ways;
 
 use again::{Replay, replayed};
+use blame::Blame;
 use damaged::runs_of;
 use digits::octets_in;
 use disputes::disputed;
+use fed::judge_ends;
 use long::written_out;
 use octets::played;
 use osi_listing::list;
 use osi_transcript::{Transcript, transcribe};
+use seen::{judge_each_way, judge_runs};
 use std::alloc::{AllocError, Global};
 use std::rt::{Env, Files};
 use std::{env, fs, io};
@@ -58,6 +67,9 @@ enum Kind {
     Together,
     Texts,
     Judge,
+    Seen,
+    Runs,
+    Fed,
 }
 
 impl Kind {
@@ -74,6 +86,9 @@ impl Kind {
             "together" => Some(Kind::Together),
             "texts" => Some(Kind::Texts),
             "judge" => Some(Kind::Judge),
+            "seen" => Some(Kind::Seen),
+            "runs" => Some(Kind::Runs),
+            "fed" => Some(Kind::Fed),
             _ => None,
         }
     }
@@ -81,11 +96,13 @@ impl Kind {
     /// The kind of the file that is run.
     fn given(self) -> &'static str {
         match self {
-            Kind::Pair | Kind::EachWay | Kind::Again | Kind::Long | Kind::Together => "script",
-            Kind::Octets => "octets",
+            Kind::Pair | Kind::EachWay | Kind::Again | Kind::Long | Kind::Together | Kind::Seen =>
+                "script",
+            Kind::Octets | Kind::Fed => "octets",
             Kind::Show | Kind::Damaged => "hex",
             Kind::Texts => "texts",
             Kind::Judge => "disputes",
+            Kind::Runs => "scripts",
         }
     }
 
@@ -94,7 +111,14 @@ impl Kind {
         match self {
             Kind::Pair | Kind::EachWay | Kind::Again | Kind::Long => Some("transcript"),
             Kind::Show => Some("listing"),
-            Kind::Octets | Kind::Damaged | Kind::Together | Kind::Texts | Kind::Judge => None,
+            Kind::Octets
+            | Kind::Damaged
+            | Kind::Together
+            | Kind::Texts
+            | Kind::Judge
+            | Kind::Seen
+            | Kind::Runs
+            | Kind::Fed => None,
         }
     }
 }
@@ -146,6 +170,9 @@ fn judged_alone(alloc: Global, kind: Kind, given: &str) -> io::Result<String> {
         Kind::Damaged => judged_damage(alloc, given),
         Kind::Together => judged_together(alloc, given),
         Kind::Judge => judged_disputes(alloc, given),
+        Kind::Seen => judged_seen(alloc, given),
+        Kind::Runs => judged_runs(alloc, given),
+        Kind::Fed => judged_ends(alloc, given),
         _ => judged_texts(alloc, given),
     }
 }
@@ -278,6 +305,37 @@ fn said_of_both(alloc: Global, came: &Together) -> io::Result<String> {
 fn judged_disputes(alloc: Global, wanted: &str) -> io::Result<String> {
     let came = disputed(alloc, wanted)?;
     compared(alloc, came.as_slice(), wanted, 0)
+}
+
+fn judged_seen(alloc: Global, script: &str) -> io::Result<String> {
+    let mut blame = Blame::new(alloc);
+    judge_each_way(alloc, &mut blame, script)?;
+    said_of_blame(alloc, &blame)
+}
+
+fn judged_runs(alloc: Global, scripts: &str) -> io::Result<String> {
+    let mut blame = Blame::new(alloc);
+    judge_runs(alloc, &mut blame, scripts)?;
+    said_of_blame(alloc, &blame)
+}
+
+fn judged_ends(alloc: Global, text: &str) -> io::Result<String> {
+    let wanted = written_out(alloc, text)?;
+    judged_fed(alloc, wanted.as_str())
+}
+
+fn judged_fed(alloc: Global, wanted: &str) -> io::Result<String> {
+    let mut blame = Blame::new(alloc);
+    judge_ends(alloc, &mut blame, wanted)?;
+    said_of_blame(alloc, &blame)
+}
+
+fn said_of_blame(alloc: Global, blame: &Blame) -> io::Result<String> {
+    if !blame.found.is_empty() {
+        return another(alloc, blame.found.as_slice(), 1);
+    }
+    let captures = blame.captures;
+    Ok(format!(in alloc; "{captures} captures, no end is blamed")?)
 }
 
 fn judged_texts(alloc: Global, wanted: &str) -> io::Result<String> {

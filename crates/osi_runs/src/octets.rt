@@ -303,7 +303,7 @@ fn sends(side: Side) -> &'static str {
 }
 
 /// Adds octets in digits, after a label.
-fn push_digits(
+pub(crate) fn push_digits(
     alloc: Global,
     out: &mut Vec<u8>,
     said: &str,
