@@ -72,6 +72,8 @@ const DATA_2: &[u8] = &[4, 0xf0, 0, 7, 0x82, 5];
 const DATA_3: &[u8] = &[4, 0xf0, 0, 7, 0x83, 5];
 /// An AK of right for number 0, with a credit of 2.
 const ACK_1: &[u8] = &[4, 0x62, 0, 1, 1];
+/// An AK of right that acknowledges nothing.
+const ACK_0: &[u8] = &[4, 0x62, 0, 1, 0];
 /// A DR of left, and the DC of right that answers it.
 const CLOSE: &[u8] = &[6, 0x80, 0, 7, 0, 1, 128];
 
@@ -134,6 +136,33 @@ const CLOSING: [Step; 7] = [
     Step::Sends(RIGHT, CLOSED, KEPT),
     Step::Sends(LEFT, REQUEST, KEPT),
     Step::Sends(RIGHT, CLOSED, Finding::Broke(Rule::NothingToAnswer)),
+];
+
+/// The DC of another connection: it answers a DR only if one has closed nothing.
+const CLOSED_ELSEWHERE: &[u8] = &[5, 0xc0, 0, 1, 0, 9];
+
+/// A DC has the reference of its sender.
+const OTHER_SOURCE: [Step; 5] = [
+    Step::Sends(LEFT, REQUEST, KEPT),
+    Step::Sends(RIGHT, CONFIRM, KEPT),
+    Step::Sends(LEFT, CLOSE, KEPT),
+    Step::Sends(
+        RIGHT,
+        CLOSED_ELSEWHERE,
+        Finding::Broke(Rule::NothingToAnswer),
+    ),
+    Step::Sends(RIGHT, CLOSED, UNSEEN),
+];
+
+/// After a DR that closed nothing a DC may have another reference, and the connection waits for its own.
+const STRAY: [Step; 7] = [
+    Step::Sends(LEFT, REQUEST, KEPT),
+    Step::Sends(RIGHT, CONFIRM, KEPT),
+    Step::Sends(LEFT, CLOSE, KEPT),
+    Step::Sends(LEFT, CLOSE, Finding::Broke(Rule::Closed)),
+    Step::Sends(RIGHT, CLOSED_ELSEWHERE, UNSEEN),
+    Step::Sends(RIGHT, ACK_0, KEPT),
+    Step::Sends(RIGHT, CLOSED, KEPT),
 ];
 
 const IN_USE: [Step; 4] = [
@@ -212,12 +241,14 @@ const CLASS_0: [Step; 6] = [
 
 const CALLED_ASKS: [Step; 1] = [Step::Sends(RIGHT, REQUEST, Finding::Broke(Rule::UnexpectedUnit))];
 
-const ROWS: [&[Step]; 15] = [
+const ROWS: [&[Step]; 17] = [
     &CREDIT,
     &NUMBERS,
     &EARLY,
     &REDUCED,
     &CLOSING,
+    &OTHER_SOURCE,
+    &STRAY,
     &IN_USE,
     &NEGOTIATING,
     &TOO_EARLY,
