@@ -89,17 +89,19 @@ static void shown(struct gateway *g, const osi_indication *i)
     }
 }
 
-/* Sends messages while only a few octets wait for the socket or for the peer's credit. */
+/* Sends messages while only a few octets wait for the socket, and none for the peer's credit. */
 static void send_bulk(struct gateway *g)
 {
     struct plan *plan = g->user;
     const uint16_t r = plan->connection;
-    while (plan->ready && plan->said < plan->bulk && gateway_waiting(g) < MOST_WAITING) {
+    while (plan->ready && plan->said < plan->bulk && gateway_may_send(g)) {
         if (osi_data(&g->end, r, plan->data, plan->size) != OSI_OK)
             return;
-        plan->last = osi_next_serial(&g->end, r);
         const bool is_point = ++plan->said == plan->bulk || (plan->points > 0 && plan->said % plan->points == 0);
-        if (is_point && osi_minor(&g->end, r, 1, OSI_NO_DATA) != OSI_OK)
+        if (!is_point)
+            continue;
+        plan->last = osi_next_serial(&g->end, r);
+        if (osi_minor(&g->end, r, 1, OSI_NO_DATA) != OSI_OK)
             return;
     }
     g->has_more = plan->ready && plan->said < plan->bulk;
@@ -162,9 +164,9 @@ int main(int count, char **words)
     if (plan.data == NULL || !gateway_open(&g, socket, true, count, words))
         return 2;
     bool asked = ask(&g);
-    while (asked && turn(&g))
-        if (plan.bulk > 0)
-            send_bulk(&g);
+    if (plan.bulk > 0)
+        g.more = send_bulk;
+    while (asked && turn(&g)) {}
     gateway_close(&g);
     if (g.log != NULL && g.log != stdout)
         fclose(g.log);

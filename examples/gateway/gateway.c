@@ -130,9 +130,9 @@ static size_t outgoing_length(struct gateway *g)
     return octets.length;
 }
 
-size_t gateway_waiting(struct gateway *g)
+bool gateway_may_send(struct gateway *g)
 {
-    return outgoing_length(g) + osi_backlog(&g->end);
+    return outgoing_length(g) < MOST_WAITING && osi_backlog(&g->end) == 0;
 }
 
 bool gateway_may_answer(struct gateway *g, uint16_t reference)
@@ -273,9 +273,15 @@ static long long deadline(const struct gateway *g)
 int gateway_timeout(struct gateway *g)
 {
     const long long left = deadline(g) - now_in_milliseconds() + 1;
-    if (g->has_more && gateway_waiting(g) < MOST_WAITING)
+    if (g->has_more && gateway_may_send(g))
         return 0;
     return left > 0 ? (int)left : 0;
+}
+
+static void make_more_calls(struct gateway *g)
+{
+    if (g->socket >= 0 && g->more != NULL)
+        g->more(g);
 }
 
 bool gateway_turn(struct gateway *g, short found)
@@ -285,8 +291,10 @@ bool gateway_turn(struct gateway *g, short found)
         g->moved = now;
     if (found & (POLLIN | POLLERR | POLLHUP))
         receive(g);
+    make_more_calls(g);
     if (g->socket >= 0 && osi_wants_write(&g->end))
         transmit(g);
+    make_more_calls(g);
     if (g->socket >= 0 && osi_is_over(&g->end))
         close_socket(g);
     if (g->socket >= 0 && now > deadline(g))

@@ -7,7 +7,7 @@
 #include <stdbool.h>
 #include <stdio.h>
 
-/* A side makes no more calls while this many octets are unsent: outgoing ones, and those that wait for credit. */
+/* A side makes no more calls while this many octets are outgoing. */
 #define MOST_WAITING 262144u
 /* It reads no more while this many octets are outgoing, because it answers what it reads. This bound is above that of calls:
  * otherwise two sides that both write much would stop reading, and wait for each other for ever. */
@@ -28,9 +28,11 @@ struct gateway {
     long long began, moved; /* when it began, and when it last read or wrote octets, in milliseconds */
     bool was_heard;        /* the peer sent something */
     bool was_shown;        /* the user has received an indication */
-    bool has_more;         /* the user makes more calls as soon as few octets are unsent */
+    bool has_more;         /* the user makes more calls as soon as gateway_may_send */
     /* Called with each indication, which is lent until this function calls the end. */
     void (*shown)(struct gateway *, const osi_indication *);
+    /* Called to make more calls, after what came was taken and after octets were written; NULL for none. */
+    void (*more)(struct gateway *);
     void *user;
 };
 
@@ -55,8 +57,9 @@ int gateway_timeout(struct gateway *g);
  * calls gave. False once there is nothing left to do, because this side or the other has closed the byte connection. */
 bool gateway_turn(struct gateway *g, short found);
 
-/* How many octets are unsent: outgoing ones, and those that wait for the peer's credit. */
-size_t gateway_waiting(struct gateway *g);
+/* Whether a side may make more calls: few octets are outgoing, and none wait for the peer's credit. Those would be copied, to be
+ * kept until it comes. */
+bool gateway_may_send(struct gateway *g);
 
 /* Whether a connection may be answered. If its peer keeps asking and gives no credit for the answers, it is given up. */
 bool gateway_may_answer(struct gateway *g, uint16_t reference);
