@@ -77,9 +77,9 @@ impl Question<'_> {
         ensures { result ≡ rule_for (unsaid self.now) standing.now }
     {
         match self {
-            Question::Unit(unit, octets) => match standing.breach(unit, *octets) {
-                None => None,
-                Some(breach) => Some(Rule::Breach(breach)),
+            Question::Unit(unit, octets) => match standing.say(unit, *octets) {
+                Ok(_) => None,
+                Err(breach) => Some(Rule::Breach(breach)),
             },
             Question::Fault(fault) => Some(Rule::Fault(*fault)),
         }

@@ -1,6 +1,6 @@
 -- Why a side may not send a word: the first rule that the word breaks, in the order in which the rules are tested.
-use Rattle.std.specs.Prelude.{ℕ, ◌+◌, Bool, not, ◌&&◌, ◌||◌, ◌==◌, if◌then◌else◌, nat_le, nat_lt, List, [], ◌∷◌, length, Option, Some}
-use Rattle.std.specs.Prelude.{None, unwrap_or, is_none, Ok, Err}
+use Rattle.std.specs.Prelude.{ℕ, ◌+◌, Bool, true, false, not, ◌&&◌, ◌||◌, ◌==◌, if◌then◌else◌, nat_le, nat_lt, List, [], ◌∷◌, length, Option, Some}
+use Rattle.std.specs.Prelude.{None, unwrap_or, is_none, Result, Ok, Err}
 use Rattle.osi_spdu.specs.declared.fields.TsduMaximumSize.{TsduMaximumSize}
 use Rattle.osi_spdu.specs.declared.settings.TokenSetting.{TokenSetting}
 use Rattle.osi_spdu.specs.Sizes.{are_sizes}
@@ -12,7 +12,6 @@ use Rattle.osi_message.specs.Tokens as token
 use Rattle.osi_message.specs.Words.{Word, says, part}
 use Rattle.osi_session.specs.declared.breaches.Breach.{Breach}
 use Rattle.osi_session.specs.declared.breaches.Breach.TheVariants as breach
-use Rattle.osi_session.specs.declared.faults.CallError.{CallError}
 use Rattle.osi_session.specs.declared.faults.CallError.TheVariants as error
 use Rattle.osi_session.specs.declared.selected.FunctionalUnits.{FunctionalUnits}
 use Rattle.osi_session.specs.declared.state.State.{State}
@@ -55,6 +54,11 @@ in_length b = (b, breach.Call error.TooLong)
 
 abbrev pub numbered : Bool → Rule
 numbered b = (b, breach.Call error.BadNumber)
+
+-- the rule that is told, if one is broken
+abbrev pub broken_in : {A : Type 0} → Result A Breach → Option Breach
+broken_in (Ok a) = None
+broken_in (Err b) = Some b
 
 -- ---- a message
 
@@ -105,6 +109,25 @@ message_breach s (NF octets) = call_breach s (ReleaseRefuse octets)
 -- a protocol error is only sent in answer to a bad unit (X.225 section 8.3.9)
 message_breach s (AB bits octets) = then_rule (call_breach s (Abort octets)) (not (names bits 4), breach.NoFault)
 message_breach s AA = Some breach.NothingToAnswer
+
+-- the call that sends such a message decides on it alone
+abbrev pub is_by_call : Meaning → Bool
+is_by_call (RF reason octets) = true
+is_by_call (DT octets) = true
+is_by_call (GT tokens) = true
+is_by_call (PT tokens octets) = true
+is_by_call (MIA n octets) = true
+is_by_call (DN octets) = true
+is_by_call (NF octets) = true
+is_by_call m = false
+
+-- its number has to be that of the session
+abbrev pub is_at_number : Meaning → Bool
+is_at_number (MIP confirm n octets) = true
+is_at_number (MAP n octets) = true
+is_at_number (MAA n octets) = true
+is_at_number (RA n sides octets) = true
+is_at_number m = false
 
 -- ---- a word
 

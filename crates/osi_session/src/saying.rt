@@ -1,10 +1,13 @@
-//! What a side may send: what the calls of this library send, and what a session of another make may send as well.
+//! What a side may send: what the calls of this library send, and what a session of another make may send as well. If it may
+//! not send a message, the first rule is told that it breaks, in the order of the tests.
 
 ghost use Rattle.osi_spdu.specs.Fields.{unit_bits};
-ghost use Rattle.std.specs.Prelude.{◌≡◌, ◌==◌, true, is_ok, option_map};
+ghost use Rattle.std.specs.Prelude.{◌≡◌, ◌==◌, ◌+◌, true, is_ok, option_map};
 ghost use Rattle.osi_message.specs.Meanings.{meant_by, RS, RA, AB, MAA};
 ghost use Rattle.osi_message.specs.Tokens.{each};
 ghost use Rattle.osi_session.specs.Allowed.{has_right};
+ghost use Rattle.osi_session.specs.Breaches.{then_rule, numbered, call_breach, connect_breach, accept_breach, finish_breach};
+ghost use Rattle.osi_session.specs.Breaches.{broken_in, data_breach, is_at_number, is_by_call, message_breach};
 ghost use Rattle.osi_session.specs.Calls.{called_by};
 ghost use Rattle.osi_session.specs.Respond.{agreed_base, has_terms};
 ghost use Rattle.osi_session.specs.Sound.{IsSound};
@@ -40,7 +43,8 @@ impl State {
 #[tactic(auto, using(crate::proofs::sent::what_a_side_may_send::over_refuses))]
 fn calling(state: &State, request: &Request) -> Result<State, Breach>
     requires { IsSound state.now }
-    ensures { Leaves result (calling state.now (called_by request.now)) }
+    ensures left { Leaves result (calling state.now (called_by request.now)) }
+    ensures rule { broken_in result ≡ call_breach state.now (called_by request.now) }
 {
     if state.phase.is_over() {
         return Err(Breach::Call(CallError::Ended));
@@ -68,7 +72,8 @@ fn connect(
     sizes: TsduMaximumSize,
     user_data: &[u8],
 ) -> Result<State, Breach>
-    ensures { Leaves result (connecting state.now (unit_bits requirements) (option_map (λ s. s.number) serial) wishes sizes user_data.now) }
+    ensures left { Leaves result (connecting state.now (unit_bits requirements) (option_map (λ s. s.number) serial) wishes sizes user_data.now) }
+    ensures rule { broken_in result ≡ connect_breach state.now sizes user_data.now }
 {
     if !state.phase.is_wait_transport() {
         return Err(Breach::Call(CallError::BadState));
@@ -114,7 +119,8 @@ fn accept(
     sizes: TsduMaximumSize,
     user_data: &[u8],
 ) -> Result<State, Breach>
-    ensures { Leaves result (accepting_in units state.now version_2 (option_map (λ s. s.number) serial) answer sizes user_data.now) }
+    ensures left { Leaves result (accepting_in units state.now version_2 (option_map (λ s. s.number) serial) answer sizes user_data.now) }
+    ensures rule { broken_in result ≡ accept_breach units state.now version_2 answer sizes user_data.now }
 {
     if !state.phase.is_answering() {
         return Err(Breach::Call(CallError::BadState));
@@ -145,7 +151,8 @@ fn accept(
 
 /// FN, of a side that has all available tokens; with duplex, of either side.
 fn finish(state: &State, user_data: &[u8]) -> Result<State, Breach>
-    ensures { Leaves result (finishing state.now user_data.now) }
+    ensures left { Leaves result (finishing state.now user_data.now) }
+    ensures rule { broken_in result ≡ finish_breach state.now user_data.now }
 {
     if state.phase.is_over() {
         return Err(Breach::Call(CallError::Ended));
@@ -168,7 +175,8 @@ fn finish(state: &State, user_data: &[u8]) -> Result<State, Breach>
 /// A point, or a confirmation, whose number has to be the session's own.
 fn numbered(state: &State, number: u32, own: u32, request: &Request) -> Result<State, Breach>
     requires { IsSound state.now }
-    ensures { Leaves result (where_is (number == own) (calling state.now (called_by request.now))) }
+    ensures left { Leaves result (where_is (number == own) (calling state.now (called_by request.now))) }
+    ensures rule { broken_in result ≡ then_rule (call_breach state.now (called_by request.now)) (numbered (number == own)) }
 {
     let left = calling(state, request)?;
     if number != own {
@@ -186,7 +194,8 @@ fn restart(
     user_data: &[u8],
 ) -> Result<State, Breach>
     requires { IsSound state.now }
-    ensures { Leaves result (said_message state.now (RS kind number.number wishes user_data.now)) }
+    ensures left { Leaves result (said_message state.now (RS kind number.number wishes user_data.now)) }
+    ensures rule { broken_in result ≡ message_breach state.now (RS kind number.number wishes user_data.now) }
 {
     let number = number.number;
     let request = Request::Restart {
@@ -202,6 +211,7 @@ fn restart(
 }
 
 /// RA, with sides that the wishes allow.
+#[tactic(auto, using(crate::proofs::sent::what_a_side_may_send::none_where))]
 fn restart_ack(
     state: &State,
     number: Serial,
@@ -209,7 +219,8 @@ fn restart_ack(
     user_data: &[u8],
 ) -> Result<State, Breach>
     requires { IsSound state.now }
-    ensures { Leaves result (said_message state.now (RA number.number answer user_data.now)) }
+    ensures left { Leaves result (said_message state.now (RA number.number answer user_data.now)) }
+    ensures rule { broken_in result ≡ message_breach state.now (RA number.number answer user_data.now) }
 {
     let sides = Sides::stated(state.units, answer);
     let request = Request::RestartConfirm { sides, user_data };
@@ -226,7 +237,8 @@ fn restart_ack(
 /// AB, of a user or of a provider that gives up. A protocol error is only sent in answer to a bad unit.
 fn abort(state: &State, bits: u8, user_data: &[u8]) -> Result<State, Breach>
     requires { IsSound state.now }
-    ensures { Leaves result (said_message state.now (AB bits user_data.now)) }
+    ensures left { Leaves result (said_message state.now (AB bits user_data.now)) }
+    ensures rule { broken_in result ≡ message_breach state.now (AB bits user_data.now) }
 {
     let request = Request::Abort { user_data };
     let left = calling(state, &request)?;
@@ -239,7 +251,8 @@ fn abort(state: &State, bits: u8, user_data: &[u8]) -> Result<State, Breach>
 /// MAA: its number is that of the major point that is due, V(M) - 1.
 fn major_ack(state: &State, number: Serial, user_data: &[u8]) -> Result<State, Breach>
     requires { IsSound state.now }
-    ensures { Leaves result (said_message state.now (MAA number.number user_data.now)) }
+    ensures left { Leaves result (said_message state.now (MAA number.number user_data.now)) }
+    ensures rule { broken_in result ≡ message_breach state.now (MAA number.number user_data.now) }
 {
     let request = Request::MajorConfirm { user_data };
     numbered(state, number.number + 1, state.numbers.next, &request)
@@ -248,7 +261,8 @@ fn major_ack(state: &State, number: Serial, user_data: &[u8]) -> Result<State, B
 /// The state after a message that opens a connection or names functional units.
 fn said_opening(state: &State, message: &Message) -> Result<State, Breach>
     requires { has_terms (meant_by message.now) ≡ true }
-    ensures { Leaves result (said_message state.now (meant_by message.now)) }
+    ensures left { Leaves result (said_message state.now (meant_by message.now)) }
+    ensures rule { broken_in result ≡ message_breach state.now (meant_by message.now) }
 {
     match *message {
         Message::Connect {
@@ -274,63 +288,93 @@ fn said_opening(state: &State, message: &Message) -> Result<State, Breach>
     }
 }
 
-/// The state after a message that may be sent.
-pub(crate) fn said_message(state: &State, message: &Message) -> Result<State, Breach>
-    requires { IsSound state.now }
-    ensures { Leaves result (said_message state.now (meant_by message.now)) }
+/// The state after a message on which the call that sends it decides alone.
+fn said_by_call(state: &State, message: &Message) -> Result<State, Breach>
+    requires sound { IsSound state.now }
+    requires call { is_by_call (meant_by message.now) ≡ true }
+    ensures left { Leaves result (said_message state.now (meant_by message.now)) }
+    ensures rule { broken_in result ≡ message_breach state.now (meant_by message.now) }
 {
-    let next = state.numbers.next;
     match *message {
-        Message::Connect { .. } | Message::Accept { .. } => said_opening(state, message),
-        Message::Refuse { user_data, .. } => calling(
-            state,
-            &Request::Refuse {
-                refusal: Refusal::with(user_data),
-            },
-        ),
+        Message::Refuse { user_data, .. } => {
+            let refusal = Refusal::with(user_data);
+            calling(state, &Request::Refuse { refusal })
+        }
         Message::Data { user_data } => calling(state, &Request::Data { user_data }),
-        Message::Give { tokens } => calling(
-            state,
-            &Request::Give {
-                tokens: tokens.set(),
-            },
-        ),
+        Message::Give { tokens } => {
+            let tokens = tokens.set();
+            calling(state, &Request::Give { tokens })
+        }
         Message::Please { tokens, user_data } => {
             let tokens = tokens.set();
             calling(state, &Request::Please { tokens, user_data })
         }
+        Message::MinorAck { number, user_data } => {
+            let number = number.number;
+            calling(state, &Request::MinorConfirm { number, user_data })
+        }
+        Message::Disconnect { user_data } => calling(state, &Request::ReleaseAccept { user_data }),
+        Message::NotFinished { user_data } => calling(state, &Request::ReleaseRefuse { user_data }),
+        _ => Err(Breach::NothingToAnswer),
+    }
+}
+
+/// The state after a message with the serial number of a point, or of the restart that it confirms.
+fn said_with_number(state: &State, message: &Message) -> Result<State, Breach>
+    requires sound { IsSound state.now }
+    requires number { is_at_number (meant_by message.now) ≡ true }
+    ensures left { Leaves result (said_message state.now (meant_by message.now)) }
+    ensures rule { broken_in result ≡ message_breach state.now (meant_by message.now) }
+{
+    let next = state.numbers.next;
+    match *message {
         Message::MinorPoint {
             confirm,
             number,
             user_data,
-        } => numbered(
-            state,
-            number.number,
-            next,
-            &Request::Minor { confirm, user_data },
-        ),
-        Message::MinorAck { number, user_data } => {
-            let number = number.number;
-            calling(state, &Request::MinorConfirm { number, user_data })
+        } => {
+            let request = Request::Minor { confirm, user_data };
+            numbered(state, number.number, next, &request)
         }
         Message::MajorPoint { number, user_data } => {
             numbered(state, number.number, next, &Request::Major { user_data })
         }
         Message::MajorAck { number, user_data } => major_ack(state, number, user_data),
+        Message::RestartAck {
+            number,
+            sides,
+            user_data,
+        } => restart_ack(state, number, sides, user_data),
+        _ => Err(Breach::NothingToAnswer),
+    }
+}
+
+/// The state after a message that may be sent.
+pub(crate) fn said_message(state: &State, message: &Message) -> Result<State, Breach>
+    requires { IsSound state.now }
+    ensures left { Leaves result (said_message state.now (meant_by message.now)) }
+    ensures rule { broken_in result ≡ message_breach state.now (meant_by message.now) }
+{
+    match *message {
+        Message::Connect { .. } | Message::Accept { .. } => said_opening(state, message),
+        Message::Refuse { .. }
+        | Message::Data { .. }
+        | Message::Give { .. }
+        | Message::Please { .. }
+        | Message::MinorAck { .. }
+        | Message::Disconnect { .. }
+        | Message::NotFinished { .. } => said_by_call(state, message),
+        Message::MinorPoint { .. }
+        | Message::MajorPoint { .. }
+        | Message::MajorAck { .. }
+        | Message::RestartAck { .. } => said_with_number(state, message),
         Message::Restart {
             kind,
             number,
             wishes,
             user_data,
         } => restart(state, kind, number, wishes, user_data),
-        Message::RestartAck {
-            number,
-            sides,
-            user_data,
-        } => restart_ack(state, number, sides, user_data),
         Message::Finish { user_data } => finish(state, user_data),
-        Message::Disconnect { user_data } => calling(state, &Request::ReleaseAccept { user_data }),
-        Message::NotFinished { user_data } => calling(state, &Request::ReleaseRefuse { user_data }),
         Message::Abort {
             transport_disconnect,
             user_data,
@@ -347,9 +391,10 @@ pub(crate) fn is_in_size(state: &State, tsdu_octets: usize) -> bool
     limit == 0 || tsdu_octets <= limit as usize
 }
 
-/// Whether this many octets of data may be sent.
-pub(crate) fn may_send(state: &State, octets: usize) -> Result<(), Breach>
-    ensures { is_ok result ≡ may_send state.now octets }
+/// Whether this many octets of one Data may be sent, after so many that were sent.
+pub(crate) fn may_send(state: &State, sent: usize, octets: usize) -> Result<(), Breach>
+    ensures kept { is_ok result ≡ may_send state.now (sent + octets) }
+    ensures rule { broken_in result ≡ data_breach state.now (sent + octets) }
 {
     if state.phase.is_over() {
         return Err(Breach::Call(CallError::Ended));
@@ -360,10 +405,10 @@ pub(crate) fn may_send(state: &State, octets: usize) -> Result<(), Breach>
     if !state.rights().data_token {
         return Err(Breach::Call(CallError::TokenNotHeld));
     }
-    if octets == 0 {
+    if sent == 0 && octets == 0 {
         return Err(Breach::Call(CallError::Empty));
     }
-    if octets > MOST_DATA {
+    if sent > MOST_DATA || octets > MOST_DATA - sent {
         return Err(Breach::Call(CallError::TooLong));
     }
     Ok(())

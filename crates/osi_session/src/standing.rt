@@ -1,10 +1,9 @@
 //! One side of a session as an observer sees it.
 
-mod breaking;
-
 ghost use Rattle.std.specs.Prelude.{◌≡◌, ◌≢◌, [], MatchBool, ◌+◌, ◌||◌, true, false, not, is_none, unwrap_or, IfOk, IfSome, IfNone};
 ghost use Rattle.osi_message.specs.Reading.{word};
 ghost use Rattle.osi_session.specs.Standing.{Seen, seen_called, seen_calling, listens, Takes, after_count, answers, answers_word, goes, said, said_within, parting, SaysAs};
+ghost use Rattle.osi_session.specs.Breaches.{breach_of, broken_in, part_breach, word_breach};
 ghost use Rattle.osi_session.specs.Joining.{begins_anew};
 ghost use Rattle.osi_session.specs.Sound.{IsSound};
 ghost use Rattle.osi_session.specs.Steps.{reply_of, word_by};
@@ -16,7 +15,7 @@ ghost use Rattle.osi_message.specs.Words.{says};
 ghost use Rattle.osi_spdu.specs.Units.{said_by};
 
 use crate::breaches::Breach;
-use crate::counting::{behind_part, count_tsdu, total};
+use crate::counting::{behind_part, count_tsdu};
 use crate::faults::CallError;
 use crate::hearing::begins_anew;
 use crate::numbers::Numbers;
@@ -234,11 +233,12 @@ impl Standing {
         }
     }
 
-    /// A unit that this side sends, in a TSDU of this many octets: the side afterwards, or why no session in this
-    /// state sends it.
-    #[tactic(auto, unfolding(crate::specs::Standing::said))]
+    /// A unit that this side sends, in a TSDU of this many octets: the side afterwards; or why no session in this
+    /// state sends it, which is the first rule that it breaks.
+    #[tactic(auto, unfolding(crate::specs::Standing::said, crate::specs::Breaches::breach_of))]
     pub fn say(&self, unit: &Spdu, tsdu_octets: usize) -> Result<Standing, Breach>
-        ensures { SaysAs result (said self.now (word (said_by unit.now)) tsdu_octets) }
+        ensures left { SaysAs result (said self.now (word (said_by unit.now)) tsdu_octets) }
+        ensures rule { broken_in result ≡ breach_of self.now (word (said_by unit.now)) tsdu_octets }
     {
         if self.closed {
             return Err(Breach::Call(CallError::Ended));
@@ -251,7 +251,8 @@ impl Standing {
     }
 
     fn say_word(&self, word: Word) -> Result<Standing, Breach>
-        ensures { SaysAs result (said_within self.now (word_by word.entry)) }
+        ensures left { SaysAs result (said_within self.now (word_by word.entry)) }
+        ensures rule { broken_in result ≡ word_breach self.now (word_by word.entry) }
     {
         match word {
             Word::Says(message) => self.say_message(&message),
@@ -260,9 +261,10 @@ impl Standing {
     }
 
     /// A message. Within an unfinished SSDU, a message that may not occur within one is a breach.
-    #[tactic(auto, using(crate::proofs::sent::what_a_side_may_send::message_sound))]
+    #[tactic(auto, using(crate::proofs::sent::what_a_side_may_send::message_sound, crate::proofs::sent::what_a_side_may_send::not_said))]
     fn say_message(&self, message: &Message) -> Result<Standing, Breach>
-        ensures { SaysAs result (said_within self.now (says (meant_by message.now))) }
+        ensures left { SaysAs result (said_within self.now (says (meant_by message.now))) }
+        ensures rule { broken_in result ≡ word_breach self.now (says (meant_by message.now)) }
     {
         if has_no_effect(message) {
             return Ok(*self);
@@ -286,17 +288,16 @@ impl Standing {
 
     /// A part of one Data, with this many octets.
     fn say_part(&self, place: Place, octets: usize) -> Result<Standing, Breach>
-        ensures { SaysAs result (parting self.now place (unwrap_or self.now.sent 0 + octets)) }
+        ensures left { SaysAs result (parting self.now place (unwrap_or self.now.sent 0 + octets)) }
+        ensures rule { broken_in result ≡ part_breach self.now place (unwrap_or self.now.sent 0 + octets) }
     {
-        let Some(total) = total(self.sent, octets) else {
-            return Err(Breach::Call(CallError::TooLong));
-        };
-        may_send(&self.state, total)?;
+        let sent = self.sent.unwrap_or(0);
+        may_send(&self.state, sent, octets)?;
         if !stands_in_place(self.sent, place) || limit_of(&self.state) == 0 {
             return Err(Breach::BadEnclosure);
         }
         Ok(Standing {
-            sent: behind_part(place, total),
+            sent: behind_part(place, sent + octets),
             ..*self
         })
     }

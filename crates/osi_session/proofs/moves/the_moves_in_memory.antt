@@ -1,6 +1,6 @@
 -- The moves of a session in memory.
 use Rattle.std.proofs.Common.{◌≡◌, ◌∙◌, refl, sym, ap, subst, ℕ, ◌≤◌, ◌<◌, true, false, ◌&&◌, if◌then◌else◌, is_some, List, [], ◌∷◌, ◌++◌}
-use Rattle.std.proofs.Common.{length, map, Option, Some, None, option_map, Result, Ok, Err}
+use Rattle.std.proofs.Common.{length, Option, Some, None, Result, Ok, Err}
 use Rattle.osi_message.specs.declared.plain.PlainUnit.{PlainUnit}
 use Rattle.osi_session.specs.declared.expected.Expected.{Expected}
 use Rattle.osi_session.specs.declared.hearing.Joined.{Joined}
@@ -8,13 +8,13 @@ use Rattle.osi_session.specs.declared.taken.Taken.{Taken}
 use Rattle.osi_session.specs.Expecting.{Meets, Tries, met_by}
 use Rattle.osi_session.specs.Listening.{rests}
 use Rattle.osi_session.specs.Shown.{Data}
-use Rattle.osi_session.proofs.Vocabulary.{append-nil, SpduFault, Meaning, IsNumberedWord, AreNumberedWords, said_at, Place, First, Middle}
-use Rattle.osi_session.proofs.Vocabulary.{Last, Word, Words, part, in_one, Indication, Reactions, Heard, State, Taker, Hearing, kept_in}
+use Rattle.osi_session.proofs.Vocabulary.{SpduFault, Meaning, IsNumberedWord, AreNumberedWords, said_at, Place, First, Middle}
+use Rattle.osi_session.proofs.Vocabulary.{Last, Word, Words, part, Indication, Reactions, Heard, State, Taker, Hearing, kept_in}
 use Rattle.osi_session.proofs.Vocabulary.{joined_octets, is_last, word_verdict, heard, respond_word, respond_tsdu, respond_came, Listener}
 use Rattle.osi_session.proofs.Vocabulary.{Move, in_state, moved, taker_of, is_wait_transport, may_hold, Outcome, nothing, shows, fine}
-use Rattle.osi_session.proofs.Vocabulary.{shown_by, Takes, takes_memory, IsSound, hearing_of, hearing_of_all, outcome_of, outcome_of_all}
-use Rattle.osi_session.proofs.Vocabulary.{shown_list, takes_room, told_of, plain_said, plain_word, came, react, respond_fault}
-use Rattle.osi_session.proofs.tsdu.the_effect_of_a_word.{kept_held, part_dropped, fine_holds, first_is, middle_is, last_is, early_takes}
+use Rattle.osi_session.proofs.Vocabulary.{Takes, takes_memory, IsSound, hearing_of, hearing_of_all, outcome_of, outcome_of_all}
+use Rattle.osi_session.proofs.Vocabulary.{shown_list, takes_room, plain_said, plain_word, came, react}
+use Rattle.osi_session.proofs.tsdu.the_effect_of_a_word.{kept_held, fine_holds, first_is, middle_is, last_is, early_takes}
 use Rattle.osi_session.proofs.tsdu.what_is_joined.{InPhase, Few, words_in_phase, words_few, octets_in_phase, octets_few, fault_in_phase}
 use Rattle.osi_session.proofs.tsdu.what_is_joined.{fault_few}
 use Rattle.osi_session.proofs.tsdu.what_the_words_of_a_tsdu_preserve.{words_sound, words_begun, octets_sound, octets_begun, fault_sound}

@@ -2,14 +2,13 @@
 use Rattle.std.proofs.Common.{◌≡◌, refl, sym, ◌∙◌, ap, subst, ℕ, Bool, true, false, not, ◌||◌, List, [], ◌∷◌, ◌++◌, None, Result, Ok, Err}
 use Rattle.std.proofs.Common.{if◌then◌else◌, arith}
 use Rattle.std.proofs.lemmas.List.Folds.{list_any-append}
-use Rattle.osi_spdu.specs.declared.kinds.Kind.TheVariants as kind
 use Rattle.osi_session.specs.Moves as whole
-use Rattle.osi_session.proofs.Vocabulary.{list_any, SpduFault, Kind, Zero, Two, category_of, Known, Meaning, RF, DN, AB, AA, meaning_by}
-use Rattle.osi_session.proofs.Vocabulary.{said_at, Word, Words, State, is_wait_transport, is_aborting, is_ended, is_over, Call, Answer}
+use Rattle.osi_session.proofs.Vocabulary.{list_any, SpduFault, Kind, Zero, Two, category_of, Known, Meaning, AB, AA, meaning_by}
+use Rattle.osi_session.proofs.Vocabulary.{said_at, Word, Words, State, is_aborting, is_ended, is_over, Call, Answer}
 use Rattle.osi_session.proofs.Vocabulary.{allowed, may_close, may_close_word, closes_alone, Taker, Hearing, word_verdict, respond_word}
-use Rattle.osi_session.proofs.Vocabulary.{respond_words, heard_then, is_restart_word, acting_words, respond_tsdu, Input, called, taken}
-use Rattle.osi_session.proofs.Vocabulary.{unread, opened, refused, broken, came_as, came, Listener, Move, taker_of, rests, answered, begun}
-use Rattle.osi_session.proofs.Vocabulary.{denied, react, listening, in_words, Outcome, becomes, reply_for, closes_for, in_aborting}
+use Rattle.osi_session.proofs.Vocabulary.{respond_words, heard_then, is_restart_word, acting_words, respond_tsdu, Input, called}
+use Rattle.osi_session.proofs.Vocabulary.{came_as, came, Listener, Move, taker_of, answered}
+use Rattle.osi_session.proofs.Vocabulary.{react, listening, in_words, Outcome, becomes, reply_for, closes_for, in_aborting}
 use Rattle.osi_session.proofs.Vocabulary.{in_ended, respond_unit, Verdict, over, dropped, faulty, fine, verdict, enacted, is_faulty}
 use Rattle.osi_session.proofs.Vocabulary.{respond_fault}
 use Rattle.osi_session.proofs.tables.units_that_are_alone.{StandsAlone, stands_alone, alone_in_octets}

@@ -4,10 +4,10 @@ use Rattle.osi_session.specs.declared.sides.Sides.{Sides}
 use Rattle.osi_session.specs.Sides.{side_for, is_asker, settle, stated, of_asker, of_answerer}
 use Rattle.osi_session.proofs.Vocabulary.{or_left, or_right, and_parts, Answering, RestartDue, Ended, State, Tokens, FunctionalUnits, Token}
 use Rattle.osi_session.proofs.Vocabulary.{data_token, minor, major, release, has, set_of, each, no_token, is_within, without, united}
-use Rattle.osi_session.proofs.Vocabulary.{functional_units, both_units, available, restarted_at, without_tokens, Call, Accept, Refuse, Data}
-use Rattle.osi_session.proofs.Vocabulary.{Give, Please, Minor, MinorConfirm, Major, MajorConfirm, Restart, RestartConfirm, Release}
-use Rattle.osi_session.proofs.Vocabulary.{ReleaseAccept, ReleaseRefuse, Abort, Meaning, CN, AC, RF, DT, GT, PT, MIP, MIA, MAP, MAA, RS, RA}
-use Rattle.osi_session.proofs.Vocabulary.{FN, DN, NF, AB, AA, Step, after, allowed, is_acceptable, stands, becomes, bad, respond_unit}
+use Rattle.osi_session.proofs.Vocabulary.{functional_units, both_units, available, restarted_at, without_tokens, Call, Accept, Refuse}
+use Rattle.osi_session.proofs.Vocabulary.{Give, Restart, RestartConfirm}
+use Rattle.osi_session.proofs.Vocabulary.{ReleaseAccept, Abort, Meaning, CN, AC, RF, GT, RS, RA}
+use Rattle.osi_session.proofs.Vocabulary.{DN, AB, Step, after, allowed, is_acceptable, stands, becomes, bad, respond_unit}
 use Rattle.osi_session.proofs.Vocabulary.{UnitFault, to_asker, to_answerer, call_gives, unit_gives, call_holds, unit_holds}
 use Rattle.osi_session.proofs.tables.what_an_accepted_call_has_passed.{passed}
 use Rattle.osi_session.proofs.tables.the_outcomes_of_each_input.{unit_cases}

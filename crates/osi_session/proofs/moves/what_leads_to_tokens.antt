@@ -2,9 +2,9 @@
 use Rattle.std.proofs.Common.{inl, inr, ◌≡◌, refl, sym, subst, Bool, true, false, ◌||◌, List, [], ◌∷◌, if◌then◌else◌, arith}
 use Rattle.osi_session.proofs.Vocabulary.{list_any, cases_Bool, or_left, or_right, Phase, Ready, MajorAsked, MajorDue, Releasing}
 use Rattle.osi_session.proofs.Vocabulary.{ReleaseDue, State, is_ready, is_major_asked, is_major_due, is_releasing, is_release_due, may_hold}
-use Rattle.osi_session.proofs.Vocabulary.{Call, Accept, Refuse, Data, Give, Please, Minor, MinorConfirm, Major, MajorConfirm, Restart}
-use Rattle.osi_session.proofs.Vocabulary.{RestartConfirm, Release, ReleaseAccept, ReleaseRefuse, Abort, Meaning, CN, AC, RF, DT, GT, PT}
-use Rattle.osi_session.proofs.Vocabulary.{MIP, MIA, MAP, MAA, RS, RA, FN, DN, NF, AB, AA, Word, Words, as_message, Step, may_call, after}
+use Rattle.osi_session.proofs.Vocabulary.{Call, Accept, Refuse, Major, MajorConfirm, Restart}
+use Rattle.osi_session.proofs.Vocabulary.{RestartConfirm, Release, ReleaseAccept, ReleaseRefuse, Abort, Meaning, CN, AC, RF}
+use Rattle.osi_session.proofs.Vocabulary.{MAP, MAA, RS, RA, FN, DN, NF, AB, Word, Words, as_message, Step, may_call, after}
 use Rattle.osi_session.proofs.Vocabulary.{is_expected, is_acceptable, stands, becomes, respond_unit, is_faulty, Taker, Hearing}
 use Rattle.osi_session.proofs.Vocabulary.{word_verdict, respond_word, respond_words, acting_words, Input, called, taken, unread, opened}
 use Rattle.osi_session.proofs.Vocabulary.{refused, broken, Listener, taker_of, after_input, after_inputs, some_word, call_opens, unit_opens}

@@ -4,9 +4,9 @@ use Rattle.std.proofs.Common.{Ok, Option, Some, None, if◌then◌else◌, arith
 use Rattle.osi_spdu.specs.declared.fields.ResyncType.{ResyncType}
 use Rattle.osi_session.proofs.Vocabulary.{AllByRecursion, list_any, leb-true, and_parts, UnitFault, TokenSetting, State, Numbers}
 use Rattle.osi_session.proofs.Vocabulary.{point_sent, point_taken, minor_confirmed, major_confirmed, is_wait_cn, is_aborting, is_ended}
-use Rattle.osi_session.proofs.Vocabulary.{IsSound, AreOrdered, Call, Accept, Refuse, Data, Give, Please, Minor, MinorConfirm, Major}
-use Rattle.osi_session.proofs.Vocabulary.{MajorConfirm, Restart, RestartConfirm, Release, ReleaseAccept, ReleaseRefuse, Abort, Meaning, CN}
-use Rattle.osi_session.proofs.Vocabulary.{AC, RF, DT, GT, PT, MIP, MIA, MAP, MAA, RS, RA, FN, DN, NF, AB, AA, IsNumberedWord, Word, Words}
+use Rattle.osi_session.proofs.Vocabulary.{IsSound, AreOrdered, Call, Accept, Minor, MinorConfirm, Major}
+use Rattle.osi_session.proofs.Vocabulary.{MajorConfirm, Restart, Meaning, CN}
+use Rattle.osi_session.proofs.Vocabulary.{AC, MIP, MIA, MAP, MAA, RS, IsNumberedWord, Word, Words}
 use Rattle.osi_session.proofs.Vocabulary.{as_message, MinorConfirmed, BadUnit, Step, needs, after, allowed, AllHold, Outcome, si}
 use Rattle.osi_session.proofs.Vocabulary.{conditions, first_fault, is_expected, drops, is_acceptable, stands, becomes, bad, judged}
 use Rattle.osi_session.proofs.Vocabulary.{take_expected, respond_unit, is_faulty, AllMet, Taker, Hearing, word_verdict, respond_word}

@@ -4,8 +4,8 @@ use Rattle.osi_session.proofs.Vocabulary.{leb-true, ltb-true, and_parts, TokenSe
 use Rattle.osi_session.proofs.Vocabulary.{Releasing, Restarting, Aborting, Ended, State, Numbers, FunctionalUnits, Tokens, functional_units}
 use Rattle.osi_session.proofs.Vocabulary.{has_points, point_sent, minor_confirmed, major_confirmed, restarted_at, in_major, is_restart_due}
 use Rattle.osi_session.proofs.Vocabulary.{may_hold, may_give, may_ask, is_ready, is_major_due, may_confirm_minor, is_wait_transport}
-use Rattle.osi_session.proofs.Vocabulary.{without_tokens, IsSound, AreOrdered, Call, Accept, Refuse, Data, Give, Please, Minor}
-use Rattle.osi_session.proofs.Vocabulary.{MinorConfirm, Major, MajorConfirm, Restart, RestartConfirm, Release, ReleaseAccept, ReleaseRefuse}
+use Rattle.osi_session.proofs.Vocabulary.{without_tokens, IsSound, AreOrdered, Call, Accept, Data, Give, Please, Minor}
+use Rattle.osi_session.proofs.Vocabulary.{MinorConfirm, Major, MajorConfirm, Restart, RestartConfirm, Release, ReleaseRefuse}
 use Rattle.osi_session.proofs.Vocabulary.{Abort, HasSerial, Step, opened_with, is_confirmable, is_restartable, last_number, needs, may_call}
 use Rattle.osi_session.proofs.Vocabulary.{after, allowed, AllHold}
 use Rattle.osi_session.proofs.tables.what_an_accepted_call_has_passed.{passed}

@@ -1,7 +1,7 @@
 -- No unit goes back to awaiting the transport connection.
 use Rattle.std.proofs.Common.{◌≡◌, Bool, true, false, not, Option, Some, None, if◌then◌else◌, arith}
-use Rattle.osi_session.proofs.Vocabulary.{UnitFault, State, is_wait_transport, is_aborting, is_ended, Meaning, CN, AC, RF, DT, GT, PT, MIP}
-use Rattle.osi_session.proofs.Vocabulary.{MIA, MAP, MAA, RS, RA, FN, DN, NF, AB, AA, Outcome, si, conditions, first_fault, is_expected}
+use Rattle.osi_session.proofs.Vocabulary.{UnitFault, State, is_wait_transport, is_aborting, is_ended, Meaning, CN, DT, GT, PT, MIP}
+use Rattle.osi_session.proofs.Vocabulary.{MIA, RS, AB, AA, Outcome, si, conditions, first_fault, is_expected}
 use Rattle.osi_session.proofs.Vocabulary.{is_acceptable, stands, becomes, judged, take_expected, in_aborting, in_ended, drops, respond_unit}
 
 abbrev pub Begins : State → State → Type 0

@@ -1,5 +1,5 @@
 -- The numbers stay in order, however they change.
-use Rattle.std.proofs.Common.{ℕ, ◌+◌, ◌≤◌, ◌<◌, Bool, true, false, nat_lt, arith, if◌then◌else◌}
+use Rattle.std.proofs.Common.{ℕ, ◌+◌, ◌≤◌, ◌<◌, Bool, true, false, arith, if◌then◌else◌}
 use Rattle.osi_session.proofs.Vocabulary.{Numbers, from_base, point_sent, point_taken, minor_confirmed, major_confirmed, restarted_at}
 use Rattle.osi_session.proofs.Vocabulary.{lower, AreOrdered}
 

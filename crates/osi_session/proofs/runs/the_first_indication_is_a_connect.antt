@@ -1,18 +1,17 @@
 -- The first indication of a side that awaits a CN is a Connect, and only a CN leads to it.
 use Rattle.std.proofs.Common.{◌⊎◌, inl, inr, ◌≡◌, refl, sym, ◌∙◌, ap, subst, ℕ, Bool, true, false, not, List, [], ◌∷◌, ◌++◌, Option, Some}
 use Rattle.std.proofs.Common.{None, Result, Ok, Err, if◌then◌else◌, arith}
-use Rattle.osi_spdu.specs.declared.kinds.Kind.TheVariants as kind
 use Rattle.osi_session.specs.Shown.{Restart}
-use Rattle.osi_session.proofs.Vocabulary.{list_any, SpduFault, Kind, Zero, Two, category_of, Known, Meaning, CN, AB, RS, AA, meaning_by}
-use Rattle.osi_session.proofs.Vocabulary.{names, said_at, Word, Words, UnitFault, Unexpected, Spelling, Phase, WaitCn, Aborting, Ended}
-use Rattle.osi_session.proofs.Vocabulary.{State, Answer, allowed, unit_asks, asks_first, asks_for_connection, is_taken, is_wait_transport}
+use Rattle.osi_session.proofs.Vocabulary.{list_any, SpduFault, Kind, Zero, Two, category_of, Known, Meaning, CN, AB, RS, meaning_by}
+use Rattle.osi_session.proofs.Vocabulary.{names, said_at, Word, Words, UnitFault, Unexpected, Spelling, Phase, WaitCn}
+use Rattle.osi_session.proofs.Vocabulary.{State, Answer, unit_asks, asks_first, asks_for_connection, is_taken, is_wait_transport}
 use Rattle.osi_session.proofs.Vocabulary.{is_wait_cn, is_aborting, is_ended, is_over, may_abort, shows_loss, Taker, Hearing, word_verdict}
 use Rattle.osi_session.proofs.Vocabulary.{respond_word, respond_words, heard_then, acting_words, respond_tsdu, Input, called, taken, unread}
-use Rattle.osi_session.proofs.Vocabulary.{opened, refused, broken, came, came_as, Listener, Move, taker_of, answered, begun, denied, rests}
-use Rattle.osi_session.proofs.Vocabulary.{react, after_input, Shown, Lost, BadUnit, Aborted, PeerAbort, is_connect, shows_connect, Outcome}
+use Rattle.osi_session.proofs.Vocabulary.{opened, refused, broken, came, came_as, Listener, Move, taker_of, answered}
+use Rattle.osi_session.proofs.Vocabulary.{react, after_input, Shown, BadUnit, Aborted, PeerAbort, is_connect, shows_connect, Outcome}
 use Rattle.osi_session.proofs.Vocabulary.{si, conditions, first_fault, is_expected, drops, stands, nothing, good, bad, judged}
-use Rattle.osi_session.proofs.Vocabulary.{take_expected, shown_for, in_aborting, in_ended, respond_unit, is_acceptable, Verdict, over}
-use Rattle.osi_session.proofs.Vocabulary.{dropped, faulty, fine, verdict, enacted, is_faulty, respond_fault}
+use Rattle.osi_session.proofs.Vocabulary.{take_expected, shown_for, in_aborting, in_ended, respond_unit, is_acceptable, Verdict}
+use Rattle.osi_session.proofs.Vocabulary.{verdict, enacted, is_faulty, respond_fault}
 use Rattle.osi_session.proofs.tables.units_that_are_alone.{StandsAlone, passes, stands_alone, alone_in_octets}
 use Rattle.osi_session.proofs.tsdu.the_answer_to_a_tsdu.{accepted_callable, stays_over}
 use Rattle.osi_session.proofs.moves.what_closes_the_connection.{neither, not_true, acting_none}

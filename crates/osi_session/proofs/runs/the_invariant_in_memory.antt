@@ -1,16 +1,15 @@
 -- The invariant of a session in memory.
-use Rattle.std.proofs.Common.{◌≡◌, ◌∙◌, refl, sym, ap, subst, ℕ, if◌then◌else◌, ◌<◌, ◌≤◌, Bool, true, false, Some, Ok, arith}
+use Rattle.std.proofs.Common.{◌≡◌, ◌∙◌, refl, ap, ℕ, if◌then◌else◌, ◌<◌, ◌≤◌, Bool, true, false, Some, Ok, arith}
 use Rattle.osi_session.specs.declared.requests.Request.{Request}
 use Rattle.osi_session.specs.declared.requests.Request.TheVariants as request
-use Rattle.osi_session.proofs.Vocabulary.{unit_bits, are_sizes, State, is_wait_transport, in_major, is_restart_due, IsSound, AreOrdered}
-use Rattle.osi_session.proofs.Vocabulary.{HasSerial, called_by, Step, allowed, Opening, Numbers, from_base, no_token, functional_units}
-use Rattle.osi_session.proofs.Vocabulary.{has_points, Units, Words, units_numbered, Meaning, Taker, Hearing, respond_tsdu, tsdu_at}
+use Rattle.osi_session.proofs.Vocabulary.{unit_bits, are_sizes, State, is_wait_transport, in_major, is_restart_due, IsSound}
+use Rattle.osi_session.proofs.Vocabulary.{HasSerial, called_by, Step, allowed, Opening, from_base, no_token, functional_units}
+use Rattle.osi_session.proofs.Vocabulary.{has_points, Meaning, tsdu_at}
 use Rattle.osi_session.proofs.Vocabulary.{said_by_units, in_one, words_of, is_second, spelled, written, asked_for, awaiting, asking, lone}
 use Rattle.osi_session.proofs.Vocabulary.{lone_of, unit_in}
 use Rattle.osi_session.proofs.runs.calls_keep_the_invariant.{call_sound, call_begun}
 use Rattle.osi_session.proofs.values.what_sizes_are_agreed.{user_sizes}
 use Rattle.osi_session.proofs.runs.numbers_stay_in_order.{from_ordered}
-use Rattle.osi_session.proofs.tsdu.what_the_words_of_a_tsdu_preserve.{words_sound, words_begun}
 
 -- the number of an Accept in memory is one that a point may have, and its sizes are such
 pub request_small : (r : Request) → HasSerial (called_by r)

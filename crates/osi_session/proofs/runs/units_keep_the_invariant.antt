@@ -5,7 +5,7 @@ use Rattle.osi_session.proofs.Vocabulary.{leb-true, ltb-true, and_parts, TokenSe
 use Rattle.osi_session.proofs.Vocabulary.{Ended, UnitFault, State, are_sizes, functional_units, both_units, has_points, has_data}
 use Rattle.osi_session.proofs.Vocabulary.{point_taken, minor_confirmed, major_confirmed, restarted_at, in_major, is_restart_due, may_hold}
 use Rattle.osi_session.proofs.Vocabulary.{may_ask, is_ready, is_wait_cn, is_major_asked, is_aborting, is_ended, takes_minor_ack}
-use Rattle.osi_session.proofs.Vocabulary.{without_tokens, IsSound, Meaning, CN, AC, RF, DT, GT, PT, MIP, MIA, MAP, MAA, RS, RA, FN, DN, NF}
+use Rattle.osi_session.proofs.Vocabulary.{without_tokens, IsSound, Meaning, CN, AC, DT, GT, PT, MIP, MIA, MAP, MAA, RS, RA, FN, NF}
 use Rattle.osi_session.proofs.Vocabulary.{AB, AA, IsSmall, IsNumbered, Outcome, Condition, si, conditions, first_fault, is_expected}
 use Rattle.osi_session.proofs.Vocabulary.{is_acceptable, is_acknowledgeable, stands, becomes, judged, take_expected, in_aborting, in_ended}
 use Rattle.osi_session.proofs.Vocabulary.{drops, respond_unit, AllMet}

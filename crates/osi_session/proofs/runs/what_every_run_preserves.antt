@@ -1,9 +1,9 @@
 -- What every run of a session preserves.
 use Rattle.std.proofs.Common.{◌≡◌, refl, sym, subst, ℕ, true, false, ◌||◌, List, [], ◌∷◌, map, Err, arith}
 use Rattle.osi_session.specs.declared.faults.CallError.TheVariants as error
-use Rattle.osi_session.proofs.Vocabulary.{unit_bits, AllByRecursion, Phase, Connecting, Aborting, Ended, Numbers, State, from_base}
+use Rattle.osi_session.proofs.Vocabulary.{AllByRecursion, Phase, Connecting, Aborting, Ended, Numbers, State, from_base}
 use Rattle.osi_session.proofs.Vocabulary.{is_wait_transport, is_wait_cn, is_aborting, is_ended, is_over, is_restart_due, in_major, IsSound}
-use Rattle.osi_session.proofs.Vocabulary.{AreOrdered, Call, Meaning, allowed, respond_unit, Opening, functional_units, has_points, awaiting}
+use Rattle.osi_session.proofs.Vocabulary.{AreOrdered, Call, Meaning, allowed, respond_unit, Opening, awaiting}
 use Rattle.osi_session.proofs.Vocabulary.{asking, Input, called, taken, unread, opened, refused, broken, Listener, taker_of, react}
 use Rattle.osi_session.proofs.Vocabulary.{after_input, after_inputs, HasNumbers, HasNumbersInWords, IsFresh, listening, in_words, Taker}
 use Rattle.osi_session.proofs.Vocabulary.{respond_word, respond_tsdu, Said, AreNumbered, AreNumberedWords, Word, Words, says}

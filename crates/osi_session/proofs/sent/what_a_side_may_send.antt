@@ -2,6 +2,7 @@
 use Rattle.std.proofs.Common.{◌≡◌, ◌∙◌, refl, sym, ap, subst, ℕ, ◌+◌, zero, suc, Bool, true, false, not, ◌&&◌, ◌||◌, ◌==◌, is_none}
 use Rattle.std.proofs.Common.{if◌then◌else◌, nat_le, List, [], ◌∷◌, length, Option, Some, None, Ok, Err, option_map, arith}
 use Rattle.osi_session.specs.Counting.{taker_with, CountsCame}
+use Rattle.osi_session.specs.Breaches.{message_breach, word_breach}
 use Rattle.osi_session.specs.Calls.{refusal_with}
 use Rattle.osi_session.specs.Standing.{Seen, goes, said_within, Count, left_by, calling, fits_user_data, connecting, accepting_in, where_is}
 use Rattle.osi_session.specs.Standing.{said_message, seen_calling}
@@ -155,6 +156,36 @@ said_by_message s x v n m a b w e f g h k l =
     let q : (is_none s.sent || not (begins_anew m)) ≡ true = un_not (is_none s.sent || not (begins_anew m)) (sym g ∙ h) in
     let r : said_message s.state m ≡ Some n = ap (λ (y : State). said_message y m) (sym w) ∙ k in
     rw (p, q, r) (ap Some (sym l))
+  where
+    un_not : (y : Bool) → not y ≡ false → y ≡ true
+    un_not true z = refl
+    un_not false z = absurd (cc)
+
+-- ---- a message that may not be sent
+
+pub none_where : (b : Bool) (o : Option State) → o ≡ None → where_is b o ≡ None
+none_where true o h = h
+none_where false o h = refl
+
+none_if : (b : Bool) (s : Seen) (o : Option State) → o ≡ None → (if b then option_map (goes s) o else None) ≡ None
+none_if true s o h = ap (option_map (goes s)) h
+none_if false s o h = refl
+
+pub not_said : (s : Seen) (v : State) (m : Meaning) (a : Bool) → v ≡ s.state → a ≡ has_no_effect m → a ≡ false → said_message v m ≡ None →
+    said_within s (says m) ≡ None
+not_said s v m a w e f k =
+    let p : has_no_effect m ≡ false = sym e ∙ f in
+    let r : said_message s.state m ≡ None = ap (λ (y : State). said_message y m) (sym w) ∙ k in
+    rw p (none_if (is_none s.sent || not (begins_anew m)) s (said_message s.state m) r)
+
+-- and one that breaks no rule
+pub breaks_none : (s : Seen) (v : State) (m : Meaning) (a b : Bool) → v ≡ s.state → a ≡ has_no_effect m → a ≡ false →
+    b ≡ not (is_none s.sent || not (begins_anew m)) → b ≡ false → None ≡ message_breach v m → None ≡ word_breach s (says m)
+breaks_none s v m a b w e f g h k =
+    let p : has_no_effect m ≡ false = sym e ∙ f in
+    let q : (is_none s.sent || not (begins_anew m)) ≡ true = un_not (is_none s.sent || not (begins_anew m)) (sym g ∙ h) in
+    let r : message_breach s.state m ≡ None = sym (k ∙ ap (λ (y : State). message_breach y m) w) in
+    rw (p, q, r) refl
   where
     un_not : (y : Bool) → not y ≡ false → y ≡ true
     un_not true z = refl

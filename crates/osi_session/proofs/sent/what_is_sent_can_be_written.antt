@@ -2,10 +2,10 @@
 use Rattle.std.proofs.Common.{◌≡◌, refl, sym, subst, ℕ, ◌<◌, Bool, true, false, not, ◌&&◌, nat_le, nat_lt, List, [], ◌∷◌, length, Option}
 use Rattle.std.proofs.Common.{Some, None, Ok, if◌then◌else◌, arith}
 use Rattle.osi_spdu.specs.declared.selectors.Selector.{Selector}
-use Rattle.osi_session.proofs.Vocabulary.{unit_bits, are_sizes, leb-true, ltb-true, and_parts, UnitFault, Opening, State, functional_units}
-use Rattle.osi_session.proofs.Vocabulary.{has_points, has_data, is_aborting, is_ended, Call, Accept, Refuse, Data, Give, Please, Minor}
-use Rattle.osi_session.proofs.Vocabulary.{MinorConfirm, Major, MajorConfirm, Restart, RestartConfirm, Release, ReleaseAccept, ReleaseRefuse}
-use Rattle.osi_session.proofs.Vocabulary.{Abort, HasSerial, Meaning, CN, RF, AB, AA, selector_octets, IsSmall, IsNumbered, Said, asked_for}
+use Rattle.osi_session.proofs.Vocabulary.{are_sizes, leb-true, ltb-true, and_parts, UnitFault, Opening, State, functional_units}
+use Rattle.osi_session.proofs.Vocabulary.{has_points, has_data, is_aborting, is_ended, Call, Accept, Minor}
+use Rattle.osi_session.proofs.Vocabulary.{MinorConfirm, Major, MajorConfirm, Restart, RestartConfirm}
+use Rattle.osi_session.proofs.Vocabulary.{HasSerial, Meaning, CN, RF, AB, AA, selector_octets, IsSmall, IsNumbered, Said, asked_for}
 use Rattle.osi_session.proofs.Vocabulary.{IsSound, Step, last_number, needs, may_call, sends, allowed, AllHold, Outcome, si, conditions}
 use Rattle.osi_session.proofs.Vocabulary.{first_fault, is_expected, drops, reply_for, first_reply, judged, take_expected, in_aborting}
 use Rattle.osi_session.proofs.Vocabulary.{in_ended, respond_unit, is_faulty, verdict, respond_all, acting, respond, user_data_of, IsAddress}

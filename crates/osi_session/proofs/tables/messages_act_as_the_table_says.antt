@@ -3,13 +3,13 @@ use Rattle.std.proofs.Common.{◌≡◌, refl, sym, ◌∙◌, ap, ℕ, Bool, tr
 use Rattle.std.proofs.Common.{Some, None, Ok, Err, inl, inr, arith}
 use Rattle.osi_session.specs.Moves as whole
 use Rattle.osi_session.proofs.Vocabulary.{list_any, cases_Bool, append-nil, State, Phase, UnitFault, Unexpected, BadEnclosure, Answer}
-use Rattle.osi_session.proofs.Vocabulary.{allowed, is_over, is_aborting, is_wait_transport, Outcome, nothing, Condition, si, conditions}
-use Rattle.osi_session.proofs.Vocabulary.{first_fault, is_expected, drops, bad, is_resynchronize, first_reply, Verdict, over, dropped}
-use Rattle.osi_session.proofs.Vocabulary.{faulty, fine, by_fault, verdict, is_faulty, enacted, respond_unit, respond_all, acting, respond}
-use Rattle.osi_session.proofs.Vocabulary.{and_then, Meaning, GT, no_token, Said, alone, behind, words_of, is_second, Word, Words, says}
-use Rattle.osi_session.proofs.Vocabulary.{as_message, Taker, drops_parts, kept_in, word_verdict, joined_by, good_word, Hearing, heard}
+use Rattle.osi_session.proofs.Vocabulary.{is_over, is_aborting, Outcome, nothing, Condition, si, conditions}
+use Rattle.osi_session.proofs.Vocabulary.{first_fault, is_expected, drops, is_resynchronize, first_reply, Verdict, over, dropped}
+use Rattle.osi_session.proofs.Vocabulary.{faulty, by_fault, verdict, is_faulty, enacted, respond_unit, respond_all, acting, respond}
+use Rattle.osi_session.proofs.Vocabulary.{and_then, Meaning, GT, no_token, Said, words_of, Word, Words, says}
+use Rattle.osi_session.proofs.Vocabulary.{Taker, drops_parts, kept_in, word_verdict, Hearing, heard}
 use Rattle.osi_session.proofs.Vocabulary.{enacted_word, respond_word, respond_words, heard_then, idle, is_restart_word, acting_words}
-use Rattle.osi_session.proofs.Vocabulary.{respond_tsdu, Listener, Move, react, after_input, after_inputs, taken, answered, begun, denied}
+use Rattle.osi_session.proofs.Vocabulary.{respond_tsdu, Listener, Move, react, after_input, after_inputs, taken, answered}
 use Rattle.osi_session.proofs.Vocabulary.{rests, listening, standing_of, in_words, is_apart, joins}
 use Rattle.osi_session.proofs.tables.the_verdict_on_a_unit.{enacts, empty_item}
 

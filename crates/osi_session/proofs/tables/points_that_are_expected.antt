@@ -9,17 +9,17 @@ use Rattle.osi_session.specs.declared.plans.SentPoint.TheVariants as point
 use Rattle.osi_session.specs.Shown.{Data, Minor}
 use Rattle.osi_session.proofs.Vocabulary.{and_from, and_parts, AllHold, Answer, Test, after, fits_limit, most_of, most_user_data, octets_of}
 use Rattle.osi_session.proofs.Vocabulary.{sends, all_hold, advanced, after_input, call_for, has_next, in_state, may_advance, may_call}
-use Rattle.osi_session.proofs.Vocabulary.{needs, SpduFault, Meaning, DT, MIP, MIA, GT, tsdus_of, said_at, no_token, Words, says, Indication}
+use Rattle.osi_session.proofs.Vocabulary.{needs, SpduFault, Meaning, DT, MIP, MIA, GT, tsdus_of, no_token, Words, says, Indication}
 use Rattle.osi_session.proofs.Vocabulary.{Numbers, Phase, Ready, Releasing, State, Step, allowed, Call, HasSerial, Taker, heard}
 use Rattle.osi_session.proofs.Vocabulary.{joined_octets, kept_in, respond_came, Listener, called, react, came_as, taker_of, point_taken}
 use Rattle.osi_session.proofs.Vocabulary.{minor_confirmed, is_ready, takes_data, respond_unit, shows, take_expected, in_numbers, only_shows}
 use Rattle.osi_session.proofs.Vocabulary.{PlansPoint, limit_of, Shown, MinorConfirmed, shown_by, IsSound, IsNumberedWord, Word}
 use Rattle.osi_session.proofs.Vocabulary.{respond_word, moved}
-use Rattle.osi_session.proofs.moves.the_move_of_each_input.{came_is, call_errs, call_next, call_passes, call_sends, call_leaves}
+use Rattle.osi_session.proofs.moves.the_move_of_each_input.{came_is, call_errs, call_next, call_passes, call_sends}
 use Rattle.osi_session.proofs.tables.what_an_accepted_call_has_passed.{accepted, passed}
 use Rattle.osi_session.proofs.sent.what_is_sent_can_be_written.{call_sendable}
-use Rattle.osi_session.proofs.moves.the_moves_in_memory.{holds, leaves_as, leaves_octets, stays_in, leaves_word}
-use Rattle.osi_session.proofs.runs.calls_keep_the_invariant.{after_sound, call_sound}
+use Rattle.osi_session.proofs.moves.the_moves_in_memory.{holds, leaves_as, stays_in, leaves_word}
+use Rattle.osi_session.proofs.runs.calls_keep_the_invariant.{after_sound}
 use Rattle.osi_session.proofs.tables.messages_act_as_the_table_says.{kept_none, plain_word, word_behind}
 
 data_in : (s : State) (octets : List ℕ) (p : Phase) → s.phase ≡ p → takes_data p ≡ true → s.held.data_token ≡ false →

@@ -1,7 +1,7 @@
 -- The outcomes of each input.
 use Rattle.std.proofs.Common.{◌≡◌, refl, ℕ, Bool, true, false, not, Option, Some, None, Ok, Err, if◌then◌else◌, arith}
 use Rattle.osi_session.proofs.Vocabulary.{SpduFault, Connecting, Aborting, Ended, UnitFault, State, is_wait_transport, is_aborting}
-use Rattle.osi_session.proofs.Vocabulary.{is_ended, is_over, without_tokens, Call, Meaning, AB, AA, Words, Step, Answer, allowed, Outcome}
+use Rattle.osi_session.proofs.Vocabulary.{is_ended, is_over, without_tokens, Call, Meaning, AB, Words, Step, Answer, allowed, Outcome}
 use Rattle.osi_session.proofs.Vocabulary.{si, conditions, first_fault, is_expected, drops, becomes, judged, take_expected, in_aborting}
 use Rattle.osi_session.proofs.Vocabulary.{in_ended, respond_unit, AllMet, respond_fault, respond_tsdu, called, taken, unread, opened}
 use Rattle.osi_session.proofs.Vocabulary.{refused, broken, Listener, Move, taker_of, answered, react, after_input}

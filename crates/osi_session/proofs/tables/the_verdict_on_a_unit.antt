@@ -1,12 +1,12 @@
 -- The verdict on a unit, and on a token item that names no token.
-use Rattle.std.proofs.Common.{inl, inr, ◌≡◌, refl, sym, ◌∙◌, ap, subst, Bool, true, false, not, ◌&&◌, ◌||◌, List, [], ◌∷◌, ◌++◌, Option}
+use Rattle.std.proofs.Common.{◌≡◌, refl, sym, ◌∙◌, ap, subst, Bool, true, false, not, ◌&&◌, ◌||◌, List, [], ◌∷◌, ◌++◌, Option}
 use Rattle.std.proofs.Common.{Some, None, if◌then◌else◌, arith}
 use Rattle.osi_session.proofs.Vocabulary.{cases_Bool, append-nil, Aborting, UnitFault, Unexpected, State, no_token, is_empty, is_aborting}
-use Rattle.osi_session.proofs.Vocabulary.{is_ended, is_over, without_tokens, Meaning, CN, GT, PT, AB, AA, list_any, alone, behind}
-use Rattle.osi_session.proofs.Vocabulary.{functional_units, has_data, are_sizes, is_second, said_of, Outcome, Condition, si, conditions}
-use Rattle.osi_session.proofs.Vocabulary.{first_fault, is_expected, drops, nothing, bad, judged, take_expected, in_aborting, in_ended}
+use Rattle.osi_session.proofs.Vocabulary.{is_ended, is_over, without_tokens, Meaning, CN, GT, AB, list_any, alone, behind}
+use Rattle.osi_session.proofs.Vocabulary.{functional_units, has_data, are_sizes, said_of, Outcome, Condition, si, conditions}
+use Rattle.osi_session.proofs.Vocabulary.{first_fault, drops, nothing, bad, judged, take_expected, in_aborting, in_ended}
 use Rattle.osi_session.proofs.Vocabulary.{has_no_effect, is_token_item, is_resynchronize, reply_for, first_reply, replies_abort}
-use Rattle.osi_session.proofs.Vocabulary.{respond_unit, and_then, Verdict, over, dropped, faulty, fine, by_fault, verdict, enacted}
+use Rattle.osi_session.proofs.Vocabulary.{respond_unit, and_then, Verdict, dropped, faulty, fine, by_fault, verdict, enacted}
 use Rattle.osi_session.proofs.Vocabulary.{is_faulty, AllMet, IsGood, respond_all, acting, respond}
 use Rattle.osi_session.proofs.tables.what_is_true_of_each_phase.{implied, every_is}
 

@@ -1,11 +1,11 @@
 -- Units that are alone in a TSDU: those of category 1 (X.225 section 6.3.7).
-use Rattle.std.proofs.Common.{◌≡◌, refl, subst, ℕ, Bool, true, false, not, ◌||◌, List, [], ◌∷◌, ap, Option, Some, None, Result, Ok, Err}
+use Rattle.std.proofs.Common.{◌≡◌, refl, subst, ℕ, Bool, true, false, not, ◌||◌, List, [], ◌∷◌, Option, Some, None, Result, Ok, Err}
 use Rattle.std.proofs.Common.{arith}
 use Rattle.osi_spdu.specs.declared.kinds.Category.{Category}
 use Rattle.osi_spdu.specs.Spelling.{AreBehind}
 use Rattle.osi_spdu.proofs.basics.the_steps_of_reading.{bind_ok, ok_is}
 use Rattle.osi_spdu.proofs.tsdu.units_and_tsdus_are_read.{behind_stands}
-use Rattle.osi_session.proofs.Vocabulary.{list_any, SpduFault, Kind, Zero, One, Two, category_of, Known, Contents, Units, Placed, unit_at}
+use Rattle.osi_session.proofs.Vocabulary.{list_any, SpduFault, Kind, Zero, Two, category_of, Known, Contents, Units, Placed, unit_at}
 use Rattle.osi_session.proofs.Vocabulary.{contents_of, behind_at, ended, continued, tsdu_at, Meaning, DT, Place, meaning_by, meaning}
 use Rattle.osi_session.proofs.Vocabulary.{place_of, word_at, word, said_by_units, said_if_read, said_at, Word, Words, as_message}
 

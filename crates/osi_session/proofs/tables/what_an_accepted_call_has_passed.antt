@@ -3,8 +3,8 @@ use Rattle.std.proofs.Common.{◌≡◌, refl, sym, ap, Bool, true, false, not, 
 use Rattle.osi_session.specs.declared.faults.CallError.TheVariants as error
 use Rattle.osi_session.proofs.Vocabulary.{and_parts, CallError, State, Phase, is_over, is_ready, is_answering, is_major_due, is_restart_due}
 use Rattle.osi_session.proofs.Vocabulary.{is_release_due, may_give, may_ask, may_confirm_minor, may_restart, may_abort, Call, Accept}
-use Rattle.osi_session.proofs.Vocabulary.{Refuse, Data, Give, Please, Minor, MinorConfirm, Major, MajorConfirm, Restart, RestartConfirm}
-use Rattle.osi_session.proofs.Vocabulary.{Release, ReleaseAccept, ReleaseRefuse, Abort, fits_limit, Test, Step, Answer, first_error, needs}
+use Rattle.osi_session.proofs.Vocabulary.{Refuse, Give, Please, MinorConfirm, MajorConfirm, Restart, RestartConfirm}
+use Rattle.osi_session.proofs.Vocabulary.{ReleaseAccept, ReleaseRefuse, Abort, fits_limit, Test, Step, Answer, first_error, needs}
 use Rattle.osi_session.proofs.Vocabulary.{may_call, octets_of, most_of, after, sends, met, sized, allowed, AllHold, Passed}
 use Rattle.osi_session.proofs.tables.what_is_true_of_each_phase.{excluded}
 

@@ -1,5 +1,5 @@
 -- What is true of each phase.
-use Rattle.std.proofs.Common.{◌≡◌, refl, Bool, true, false, not, ◌||◌, arith}
+use Rattle.std.proofs.Common.{◌≡◌, Bool, true, false, not, ◌||◌, arith}
 use Rattle.osi_session.proofs.Vocabulary.{and_parts, Phase, WaitTransport, WaitCn, Connecting, Answering, Ready, MajorAsked, MajorDue}
 use Rattle.osi_session.proofs.Vocabulary.{Releasing, ReleaseDue, Restarting, RestartDue, Aborting, Ended, every_phase}
 

@@ -1,15 +1,12 @@
 -- What is refused for which reason: a CN that cannot be accepted is answered by RF with the reason that comes
 -- first, and a part that is out of its place is a bad enclosure, however long it is.
-use Rattle.std.proofs.Common.{◌≡◌, ◌∙◌, refl, ℕ, true, false, List, [], ◌∷◌, ◌++◌, length, nat_le, not, ◌||◌, if◌then◌else◌, Option, Some}
-use Rattle.std.proofs.Common.{None}
+use Rattle.std.proofs.Common.{◌≡◌, ◌∙◌, refl, ℕ, true, false, List, [], Option, Some}
 use Rattle.osi_spdu.specs.declared.fields.TsduMaximumSize.{TsduMaximumSize}
 use Rattle.osi_spdu.specs.declared.settings.TokenSetting.{TokenSetting}
 use Rattle.osi_session.specs.declared.phases.Phase.TheVariants.{WaitCn, Ready, Releasing}
-use Rattle.osi_session.specs.Phases.{is_restarting}
-use Rattle.osi_session.proofs.Vocabulary.{Phase, UnitFault, Unexpected, TokenHeld, BadEnclosure, DataTooLong, State, Taker, Place, Meaning}
-use Rattle.osi_session.proofs.Vocabulary.{CN, RF, DT, part, is_wait_cn, takes_data, is_over, has_data, functional_units, respond_unit}
-use Rattle.osi_session.proofs.Vocabulary.{take_expected, si, most_data, joined_octets, is_in_place, word_verdict, over, dropped, faulty}
-use Rattle.osi_session.proofs.Vocabulary.{fine}
+use Rattle.osi_session.proofs.Vocabulary.{Phase, BadEnclosure, State, Taker, Place}
+use Rattle.osi_session.proofs.Vocabulary.{CN, RF, DT, part, is_wait_cn, takes_data, has_data, functional_units, respond_unit}
+use Rattle.osi_session.proofs.Vocabulary.{take_expected, si, is_in_place, word_verdict, faulty}
 use Rattle.osi_session.proofs.tsdu.the_verdict_while_joining.{part_verdict}
 
 version_at : (s : State) (requirements : ℕ) (serial : Option ℕ) (wishes : TokenSetting) (from to : Option (List ℕ))

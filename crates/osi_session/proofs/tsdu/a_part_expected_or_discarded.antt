@@ -1,6 +1,6 @@
 -- A part if data is expected, and if it is discarded.
-use Rattle.std.proofs.Common.{◌≡◌, refl, sym, ◌∙◌, ap, ℕ, Bool, true, false, not, ◌||◌, ◌⊎◌, if◌then◌else◌, nat_le, List, ◌++◌, length}
-use Rattle.std.proofs.Common.{Option, Some, None, inl, inr, arith}
+use Rattle.std.proofs.Common.{◌≡◌, refl, sym, ◌∙◌, ap, ℕ, Bool, true, false, not, ◌⊎◌, if◌then◌else◌, nat_le, List, ◌++◌, length}
+use Rattle.std.proofs.Common.{Option, Some, None, arith}
 use Rattle.osi_session.proofs.Vocabulary.{State, Unexpected, TokenHeld, is_restarting, is_over, is_aborting, takes_data, most_data, nothing}
 use Rattle.osi_session.proofs.Vocabulary.{si, over, dropped, faulty, fine, by_fault, verdict, is_faulty, Place, DT, says, part}
 use Rattle.osi_session.proofs.Vocabulary.{joined_octets, is_in_place, word_verdict, heard, respond_word, discards, IsNoFault}

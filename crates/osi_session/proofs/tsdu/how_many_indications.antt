@@ -1,14 +1,13 @@
 -- How many indications a TSDU has.
-use Rattle.std.proofs.Common.{◌≡◌, refl, ap, sym, subst, ℕ, suc, ◌+◌, ◌≤◌, Bool, true, false, List, [], ◌∷◌, ◌++◌, length, map, None}
+use Rattle.std.proofs.Common.{sym, subst, ℕ, ◌+◌, ◌≤◌, Bool, true, false, List, [], ◌∷◌, ◌++◌, length}
 use Rattle.std.proofs.Common.{if◌then◌else◌, arith}
-use Rattle.osi_session.proofs.Vocabulary.{list_any, length-append, State, is_aborting, is_wait_cn, Meaning, CN, AC, RF, DT, GT, PT, MIP}
-use Rattle.osi_session.proofs.Vocabulary.{MIA, MAP, MAA, RS, RA, FN, DN, NF, AB, AA, Said, Word, Words, says, Taker, Hearing, word_verdict}
+use Rattle.osi_session.proofs.Vocabulary.{list_any, length-append, State, is_wait_cn, Meaning, CN}
+use Rattle.osi_session.proofs.Vocabulary.{RS, AB, AA, Word, Words, Taker, Hearing, word_verdict}
 use Rattle.osi_session.proofs.Vocabulary.{respond_word, respond_words, is_restart_word, acting_words, respond_tsdu, Shown, Outcome}
-use Rattle.osi_session.proofs.Vocabulary.{is_acceptable, stands, shown_for, in_aborting, in_ended, respond_unit, Verdict, over, dropped}
-use Rattle.osi_session.proofs.Vocabulary.{faulty, fine, verdict, enacted, is_faulty, respond}
+use Rattle.osi_session.proofs.Vocabulary.{is_acceptable, stands, shown_for, in_aborting, in_ended, respond_unit, Verdict}
+use Rattle.osi_session.proofs.Vocabulary.{faulty, verdict, enacted, is_faulty}
 use Rattle.osi_session.proofs.tables.the_verdict_on_a_unit.{enacts}
 use Rattle.osi_session.proofs.tables.a_word_acts_as_its_message.{word_does}
-use Rattle.osi_session.proofs.tables.messages_act_as_the_table_says.{plain_tsdu}
 
 abbrev AtMost : ℕ → List Shown → Type 0
 AtMost n shown = length shown ≤ n

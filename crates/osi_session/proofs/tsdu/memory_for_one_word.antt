@@ -1,11 +1,11 @@
 -- If memory is needed for one word, it is needed for all: a word that indicates and sends nothing joins no less.
 use Rattle.std.proofs.Common.{◌≡◌, ◌∙◌, refl, sym, ap, subst, ℕ, ◌≤◌, ◌<◌, Bool, true, false, not, ◌&&◌, ◌||◌, if◌then◌else◌, nat_lt, List}
-use Rattle.std.proofs.Common.{[], ◌∷◌, ◌++◌, length, Option, Some, None, inl, inr, arith}
+use Rattle.std.proofs.Common.{[], ◌∷◌, ◌++◌, length, Option, Some, None, arith}
 use Rattle.osi_session.proofs.Vocabulary.{is_none, cases_Bool, and_parts, ltb-true, lt-ltb, length-append, are_sizes, UnitFault, Unexpected}
 use Rattle.osi_session.proofs.Vocabulary.{State, is_over, may_hold, nothing, becomes, good, bad, stands, is_nil, is_silent, first_reply}
 use Rattle.osi_session.proofs.Vocabulary.{Verdict, over, dropped, faulty, fine, by_fault, first_fault, is_faulty, drops, is_expected, si}
-use Rattle.osi_session.proofs.Vocabulary.{Shown, functional_units, has_data, Meaning, CN, AC, RF, DT, GT, PT, MIP, MIA, MAP, MAA, RS, RA}
-use Rattle.osi_session.proofs.Vocabulary.{FN, DN, NF, AB, AA, First, Middle, Last, Word, Words, says, part, as_message, Taker, Hearing}
+use Rattle.osi_session.proofs.Vocabulary.{Shown, functional_units, has_data, Meaning, CN, DT, PT, RS}
+use Rattle.osi_session.proofs.Vocabulary.{AB, AA, First, Middle, Last, Word, Words, says, part, as_message, Taker, Hearing}
 use Rattle.osi_session.proofs.Vocabulary.{joined_octets, kept_in, word_conditions, word_verdict, heard, heard_then, respond_word}
 use Rattle.osi_session.proofs.Vocabulary.{respond_words, takes_room}
 use Rattle.osi_session.proofs.tsdu.the_effect_of_a_word.{fine_holds, first_is, middle_is, last_is, kept_held}

@@ -1,16 +1,16 @@
 -- The parts of one Data, with calls of their taker between, and the whole Data after the calls alone.
-use Rattle.std.proofs.Common.{◌≡◌, refl, sym, ◌∙◌, ap, subst, ℕ, ◌≤◌, Bool, true, false, not, ◌&&◌, ◌||◌, ◌⊎◌, List, [], ◌∷◌, ◌++◌, length}
+use Rattle.std.proofs.Common.{◌≡◌, refl, sym, ◌∙◌, ap, subst, ℕ, ◌≤◌, true, false, not, ◌&&◌, ◌⊎◌, List, [], ◌∷◌, ◌++◌, length}
 use Rattle.std.proofs.Common.{map, Option, Some, None, Result, Ok, Err, inl, inr, arith}
 use Rattle.osi_session.proofs.Vocabulary.{cases_Bool, and_parts, length-append, SpduFault, State, Phase, is_answering, is_major_due}
-use Rattle.osi_session.proofs.Vocabulary.{is_restarting, is_restart_due, is_release_due, is_over, takes_data, most_data, Step, Answer}
-use Rattle.osi_session.proofs.Vocabulary.{allowed, needs, may_call, after, has_right, AllHold, Call, Accept, Refuse, Data, Give, Please}
-use Rattle.osi_session.proofs.Vocabulary.{Minor, MinorConfirm, Major, MajorConfirm, Restart, RestartConfirm, Release, ReleaseAccept}
-use Rattle.osi_session.proofs.Vocabulary.{ReleaseRefuse, Abort, available, FunctionalUnits, Tokens, Place, First, Middle, Last, Meaning, DT}
-use Rattle.osi_session.proofs.Vocabulary.{GT, said_at, IsSendable, words_of, no_token, without, has, Words, says, part, part_octets}
+use Rattle.osi_session.proofs.Vocabulary.{is_restart_due, is_release_due, takes_data, most_data, Step, Answer}
+use Rattle.osi_session.proofs.Vocabulary.{allowed, needs, may_call, after, has_right, AllHold, Call, Accept, Data, Give, Please}
+use Rattle.osi_session.proofs.Vocabulary.{Minor, MinorConfirm, Major, MajorConfirm, RestartConfirm, Release}
+use Rattle.osi_session.proofs.Vocabulary.{ReleaseRefuse, available, FunctionalUnits, Tokens, Place, First, Middle, Last, Meaning, DT}
+use Rattle.osi_session.proofs.Vocabulary.{GT, said_at, IsSendable, words_of, no_token, without, Words, says, part, part_octets}
 use Rattle.osi_session.proofs.Vocabulary.{written, user_data_of, drops_parts, kept_in, respond_word, discards, IsNoFault, Input, called}
 use Rattle.osi_session.proofs.Vocabulary.{taken, came, came_as, Listener, Move, rests, moved, answered, react, after_input, after_inputs}
 use Rattle.osi_session.proofs.Vocabulary.{Act, comes, calls, part_comes, act_in_words, act_in_octets, calls_in, AreParts, AreAlike}
-use Rattle.osi_session.proofs.Vocabulary.{AreSilent, IsOfProfile, has_profile, HasProfile}
+use Rattle.osi_session.proofs.Vocabulary.{AreSilent, IsOfProfile, HasProfile}
 use Rattle.osi_session.proofs.tables.what_is_true_of_each_phase.{implied, excluded}
 use Rattle.osi_session.proofs.tables.what_an_accepted_call_has_passed.{passed}
 use Rattle.osi_message.specs.Tokens as token

@@ -2,12 +2,12 @@
 -- accepted.
 use Rattle.std.proofs.Common.{◌⊎◌, inl, inr, ◌≡◌, refl, sym, ◌∙◌, ap, subst, ℕ, Bool, true, false, not, ◌&&◌, ◌||◌, List, [], ◌∷◌, Option}
 use Rattle.std.proofs.Common.{Some, None, unwrap_or, Result, Ok, Err, if◌then◌else◌, arith}
-use Rattle.osi_session.proofs.Vocabulary.{list_any, SpduFault, TokenSetting, TsduMaximumSize, are_sizes, Meaning, CN, RF, DN, AB, AA}
+use Rattle.osi_session.proofs.Vocabulary.{list_any, SpduFault, TokenSetting, TsduMaximumSize, are_sizes, Meaning, CN, RF, AB, AA}
 use Rattle.osi_session.proofs.Vocabulary.{said_at, Word, Words, as_message, UnitFault, Spelling, Unexpected, Phase, WaitTransport}
-use Rattle.osi_session.proofs.Vocabulary.{Answering, Ended, State, is_wait_transport, is_wait_cn, is_connecting, is_answering, is_ready}
-use Rattle.osi_session.proofs.Vocabulary.{is_major_due, is_releasing, is_release_due, is_restart_due, is_aborting, is_ended, is_over}
-use Rattle.osi_session.proofs.Vocabulary.{may_give, may_ask, may_confirm_minor, may_restart, may_abort, Call, Accept, Refuse, Data, Give}
-use Rattle.osi_session.proofs.Vocabulary.{Please, Minor, MinorConfirm, Major, MajorConfirm, Restart, RestartConfirm, Release, ReleaseAccept}
+use Rattle.osi_session.proofs.Vocabulary.{Answering, Ended, State, is_wait_transport, is_wait_cn, is_answering, is_ready}
+use Rattle.osi_session.proofs.Vocabulary.{is_major_due, is_release_due, is_restart_due, is_aborting, is_ended, is_over}
+use Rattle.osi_session.proofs.Vocabulary.{may_give, may_ask, may_confirm_minor, may_restart, may_abort, Call, Accept, Refuse, Give}
+use Rattle.osi_session.proofs.Vocabulary.{Please, MinorConfirm, MajorConfirm, Restart, RestartConfirm, ReleaseAccept}
 use Rattle.osi_session.proofs.Vocabulary.{ReleaseRefuse, Abort, Step, may_call, allowed, may_close, may_close_word, closes_alone, is_answer}
 use Rattle.osi_session.proofs.Vocabulary.{awaits_close, Taker, Hearing, word_verdict, respond_word, respond_words, heard_then, acting_words}
 use Rattle.osi_session.proofs.Vocabulary.{respond_tsdu, respond_came, Input, called, taken, unread, opened, refused, broken, is_opened}

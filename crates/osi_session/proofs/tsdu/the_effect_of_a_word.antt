@@ -4,11 +4,11 @@ use Rattle.std.proofs.Common.{List, [], ◌∷◌, ◌++◌, length, Option, Som
 use Rattle.osi_session.specs.declared.joining.PartVerdict.TheVariants as is
 use Rattle.osi_session.specs.Shown.{Data}
 use Rattle.osi_session.proofs.Vocabulary.{lt-ltb, length-append, append-nil, State, UnitFault, Heard, Unexpected, TokenHeld, BadEnclosure}
-use Rattle.osi_session.proofs.Vocabulary.{DataTooLong, most_data, is_over, is_aborting, is_restarting, takes_data, may_hold, Phase, nothing}
+use Rattle.osi_session.proofs.Vocabulary.{DataTooLong, most_data, is_over, is_restarting, takes_data, may_hold, Phase, nothing}
 use Rattle.osi_session.proofs.Vocabulary.{shows, bad, Verdict, over, dropped, faulty, fine, is_faulty, enacted, is_silent, is_nil, si}
 use Rattle.osi_session.proofs.Vocabulary.{replies_abort, Taker, Hearing, joined_octets, kept_in, is_in_place, word_verdict, joined_by}
 use Rattle.osi_session.proofs.Vocabulary.{good_word, heard, enacted_word, respond_word, told_of, hearing_of, takes_room, outcome_of}
-use Rattle.osi_session.proofs.Vocabulary.{Meaning, DT, Place, First, Middle, Last, Word, says, part, as_message}
+use Rattle.osi_session.proofs.Vocabulary.{Meaning, DT, Place, First, Middle, Last, Word, says, part}
 use Rattle.osi_session.proofs.tsdu.the_verdict_while_joining.{part_verdict}
 use Rattle.osi_session.proofs.tables.what_is_true_of_each_phase.{implied}
 use Rattle.osi_session.proofs.tables.the_verdict_on_a_unit.{enacted_reply, good_reply}

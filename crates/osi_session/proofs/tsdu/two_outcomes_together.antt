@@ -1,6 +1,6 @@
 -- If one of two outcomes shows or sends something, both together do.
-use Rattle.std.proofs.Common.{◌≡◌, refl, Bool, true, false, ◌&&◌, List, [], ◌∷◌, ◌++◌, Option, Some, None}
-use Rattle.osi_session.proofs.Vocabulary.{is_none, Shown, Meaning, Outcome, is_nil, is_silent, first_reply, and_then}
+use Rattle.std.proofs.Common.{◌≡◌, refl, false, ◌&&◌, List, [], ◌∷◌, Option, Some, None}
+use Rattle.osi_session.proofs.Vocabulary.{is_none, Shown, Meaning, is_nil}
 
 pub loud_reply : (shown : List Shown) (reply : Option Meaning) → is_none reply ≡ false → (is_nil shown && is_none reply) ≡ false
 loud_reply shown None h = absurd (cc)

@@ -1,7 +1,6 @@
 -- Two states with the same parts are the same.
 use Rattle.std.proofs.Common.{◌≡◌, ◌≢◌, ◌∙◌, ◌==◌, ◌&&◌, ℕ, refl, sym, ap, Bool, true, false, MatchBool, if◌then◌else◌, arith}
 use Rattle.osi_spdu.specs.declared.settings.Wish.{Wish}
-use Rattle.osi_spdu.specs.declared.settings.Wish.TheVariants.{Asker, Answerer, Choice}
 use Rattle.osi_session.specs.Same.{same_bit, same_wish, place_of, same_setting, same_tokens, same_units, same_numbers, same_sizes}
 use Rattle.osi_session.specs.Same.{same_state}
 use Rattle.osi_session.proofs.Vocabulary.{and_parts, and_from, eqb-true, eq-eqb, TokenSetting, TsduMaximumSize, Tokens, Phase}

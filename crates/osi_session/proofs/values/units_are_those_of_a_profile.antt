@@ -2,9 +2,9 @@
 use Rattle.std.proofs.Common.{◌≡◌, refl, sym, ◌∙◌, ap, subst, ℕ, ◌==◌, Bool, true, false, not, ◌&&◌, ◌||◌, List, [], ◌∷◌, Ok, if◌then◌else◌}
 use Rattle.std.proofs.Common.{arith}
 use Rattle.std.proofs.lemmas.Nat.{and_assoc, and_le_r}
-use Rattle.osi_session.proofs.Vocabulary.{unit_bits, eqb-true, and_parts, bit_and, names, Meaning, CN, AC, RF, DT, GT, PT, MIP, MIA, MAP}
-use Rattle.osi_session.proofs.Vocabulary.{MAA, RS, RA, FN, DN, NF, AB, AA, Word, are_sizes, Opening, FunctionalUnits, State, Step, may_call}
-use Rattle.osi_session.proofs.Vocabulary.{needs, after, allowed, AllHold, Call, Accept, Refuse, Data, Give, Please, Minor, MinorConfirm}
+use Rattle.osi_session.proofs.Vocabulary.{unit_bits, eqb-true, and_parts, bit_and, names, Meaning, CN, AC, RF, MAP}
+use Rattle.osi_session.proofs.Vocabulary.{MAA, RS, RA, FN, DN, NF, AB, Word, are_sizes, Opening, FunctionalUnits, State, Step, may_call}
+use Rattle.osi_session.proofs.Vocabulary.{needs, after, allowed, AllHold, Call, Accept, Refuse}
 use Rattle.osi_session.proofs.Vocabulary.{Major, MajorConfirm, Restart, RestartConfirm, Release, ReleaseAccept, ReleaseRefuse, Abort, Taker}
 use Rattle.osi_session.proofs.Vocabulary.{respond_word, Input, called, taken, unread, opened, refused, broken, Listener, taker_of}
 use Rattle.osi_session.proofs.Vocabulary.{after_input, after_inputs, IsOfProfile, has_profile, HasProfile, is_wait_transport, is_connecting}

@@ -4,7 +4,7 @@ use Rattle.std.proofs.Common.{if◌then◌else◌}
 use Rattle.osi_spdu.specs.declared.sizes.TsduSizes.{TsduSizes}
 use Rattle.osi_session.specs.Sizes.{answered}
 use Rattle.osi_session.proofs.Vocabulary.{and_parts, and_from, TsduMaximumSize, named_by, are_sizes, is_size, Meaning, written, State, Step}
-use Rattle.osi_session.proofs.Vocabulary.{sends, allowed, Call, Accept, Refuse, Data, smaller, smaller_sizes, answered_sizes, limit_of}
+use Rattle.osi_session.proofs.Vocabulary.{sends, allowed, Call, smaller, smaller_sizes, answered_sizes, limit_of}
 use Rattle.osi_session.proofs.Vocabulary.{is_bounded, fits_limit}
 use Rattle.osi_session.proofs.tables.what_an_accepted_call_has_passed.{passed}
 

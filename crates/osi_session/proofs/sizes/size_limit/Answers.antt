@@ -1,4 +1,3 @@
-use Rattle.std.proofs.Common.{◌≡◌, true, false, sym, ◌∙◌}
 use Rattle.osi_session.proofs.sent.what_an_accepted_call_sends.{limit_sized}
 use Rattle.osi_session.proofs.sizes.size_limit.Goals as goal
 

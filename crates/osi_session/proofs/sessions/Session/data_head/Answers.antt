@@ -1,7 +1,7 @@
-use Rattle.std.proofs.Common.{◌≡◌, true, List, ℕ, ◌∷◌, [], ◌++◌, ◌∙◌, ap, sym}
+use Rattle.std.proofs.Common.{◌≡◌, true, List, ℕ, ◌∷◌, [], ◌∙◌, ap, sym}
 use Rattle.osi_message.proofs.the_tsdus_of_a_message.{sent_whole}
 use Rattle.osi_message.specs.Parting.{is_whole}
-use Rattle.osi_session.proofs.Vocabulary.{DT, Data, limit_of}
+use Rattle.osi_session.proofs.Vocabulary.{DT, Data}
 use Rattle.osi_session.proofs.tables.what_an_accepted_call_does.{accepts, rests_by}
 use Rattle.osi_session.proofs.sessions.Session.data_head.Goals as goal
 

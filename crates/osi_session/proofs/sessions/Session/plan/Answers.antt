@@ -1,5 +1,5 @@
 use Rattle.std.proofs.Common.{◌∙◌, ℕ, ap, sym, refl}
-use Rattle.osi_session.proofs.Vocabulary.{Listener, tsdus_of, tsdus_sent, called_by, step_of}
+use Rattle.osi_session.proofs.Vocabulary.{Listener, tsdus_of, called_by, step_of}
 use Rattle.osi_spdu.specs.Sizes.{size_of}
 use Rattle.osi_session.proofs.tables.what_the_table_of_calls_answers.{sent_short}
 use Rattle.osi_session.proofs.moves.the_move_of_each_input.{plan_of}

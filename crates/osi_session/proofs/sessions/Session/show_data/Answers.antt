@@ -1,4 +1,4 @@
-use Rattle.std.proofs.Common.{◌≡◌, ◌∙◌, ap, subst, sym, refl, ℕ, List, drop}
+use Rattle.std.proofs.Common.{◌≡◌, ◌∙◌, ap, subst, sym, ℕ, List, drop}
 use Rattle.osi_session.specs.declared.indications.Indication.TheVariants as indication
 use Rattle.osi_session.specs.Shown.{Data}
 use Rattle.osi_session.proofs.Vocabulary.{option_and_then, DT, said_at, came, react, Listener, only_shows, unit_in}

@@ -1,12 +1,18 @@
 use Rattle.std.proofs.Common.{ap}
 use Rattle.osi_session.specs.Standing.{Seen}
-use Rattle.osi_session.proofs.sent.what_a_side_may_send.{said_by_message}
+use Rattle.osi_session.proofs.sent.what_a_side_may_send.{breaks_none, said_by_message}
 use Rattle.osi_session.proofs.Vocabulary.{meant_by}
 use Rattle.osi_session.proofs.standing.Standing.say_message.Goals as goal
 
-pub returns : goal.returns
-returns c =
+pub returns-clause-left : goal.returns-clause-left
+returns-clause-left c =
     said_by_message c.args.self.now c.goes.result c.self.inside.state c.in_ok-next.next (meant_by c.args.message.now) c.has_no_effect.result
     c.is_misplaced.result
     (ap (λ (s : Seen). s.state) c.self.view_is) c.has_no_effect.ensures c.if-has_no_effect.false c.is_misplaced.ensures
-    c.if-is_misplaced.false c.in_ok-next.ensures c.goes.ensures
+    c.if-is_misplaced.false c.in_ok-next.ensures.left c.goes.ensures
+
+pub returns-clause-rule : goal.returns-clause-rule
+returns-clause-rule c =
+    breaks_none c.args.self.now c.self.inside.state (meant_by c.args.message.now) c.has_no_effect.result c.is_misplaced.result
+    (ap (λ (s : Seen). s.state) c.self.view_is) c.has_no_effect.ensures c.if-has_no_effect.false c.is_misplaced.ensures
+    c.if-is_misplaced.false c.in_ok-next.ensures.rule
