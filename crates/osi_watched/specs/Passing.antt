@@ -1,0 +1,26 @@
+-- How a capture of an end is steps of the end and of the tap.
+use Rattle.std.specs.Prelude.{◌≡◌, ◌⊎◌, ℕ, List, ◌++◌}
+use Rattle.osi_judge.specs.Captures.{Capture, other}
+use Rattle.osi_judge.specs.declared.directions.Direction.{Direction}
+use Rattle.osi_stack.specs.State.{Holding}
+use Rattle.osi_tap.specs.declared.marks.Cause.{Cause}
+use Rattle.osi_tap.specs.Courses.{Course, unread}
+use Rattle.osi_tap.specs.Tapping.{comes_to}
+use Rattle.osi_watched.specs.Joint.{Joint, Step, StepsAlong, begin}
+
+-- of this capture a part comes to this, and then what the other side sends can't be read
+pub record TurnsBad (d : Direction) (capture : Capture) (c : Course) : Type 0 where
+  pub front : Capture
+  pub back : Capture
+  pub parts : capture ≡ front ++ back
+  pub at : ℕ
+  pub cause : Cause
+  pub unreadable : (comes_to front).course ≡ unread (other d) at cause c
+
+-- What the capture comes to is what some steps of the end and the tap come to; or these are all until the other side sends what
+-- can't be read.
+pub record ComesBySteps (d : Direction) (capture : Capture) (first : Holding) : Type 0 where
+  pub steps : List Step
+  pub last : Joint
+  pub along : StepsAlong d (begin first) steps last
+  pub all : ((comes_to capture).course ≡ last.course) ⊎ TurnsBad d capture last.course
