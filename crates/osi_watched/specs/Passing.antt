@@ -1,11 +1,11 @@
 -- How a capture of an end is steps of the end and of the tap.
-use Rattle.std.specs.Prelude.{◌≡◌, ◌⊎◌, ◌<◌, ℕ, List, ◌++◌}
+use Rattle.std.specs.Prelude.{◌≡◌, ◌⊎◌, ◌<◌, ℕ, true, List, ◌++◌}
 use Rattle.std.specs.List.{AllByRecursion}
 use Rattle.osi_judge.specs.Captures.{Capture, Passed, of, other}
 use Rattle.osi_judge.specs.declared.directions.Direction.{Direction}
 use Rattle.osi_stack.specs.State.{Holding}
 use Rattle.osi_tap.specs.declared.marks.Cause.{Cause}
-use Rattle.osi_tap.specs.Courses.{Course, unread}
+use Rattle.osi_tap.specs.Courses.{Course, is_break, unread}
 use Rattle.osi_tap.specs.Tapping.{comes_to}
 use Rattle.osi_watched.specs.Joint.{Joint, Step, StepsAlong, begin}
 
@@ -24,6 +24,7 @@ pub record TurnsBad (d : Direction) (capture : Capture) (c : Course) : Type 0 wh
   pub at : ℕ
   pub cause : Cause
   pub unreadable : (comes_to front).course ≡ unread (other d) at cause c
+  pub bad : is_break cause ≡ true
 
 -- What the capture comes to is what some steps of the end and the tap come to; or these are all until the other side sends what
 -- can't be read.
