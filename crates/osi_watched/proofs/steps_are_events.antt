@@ -1,6 +1,6 @@
 -- Steps of an end and of a tap are events of a whole end.
 -- For the first break of transport.
-use Rattle.std.proofs.Common.{◌≡◌, ◌≢◌, ◌∙◌, ℕ, Bool, true, false, List, [], ◌∷◌, ◌++◌, map, Option, Some, None, is_some, Result, Ok, Err}
+use Rattle.std.proofs.Common.{◌≡◌, ◌≢◌, ◌∙◌, ℕ, Bool, true, false, List, [], ◌∷◌, ◌++◌, map, Option, Some, None, is_some, Ok}
 use Rattle.std.proofs.Common.{refl, sym, ap, subst, append_assoc}
 use Rattle.std.specs.List.{AllByRecursion}
 use Rattle.std.proofs.lemmas.List.{append-nil, append_cancel_left}
@@ -8,7 +8,6 @@ use Rattle.osi_tpkt.specs.Octets.{IsOctets}
 use Rattle.osi_tpdu.specs.Packet.{units_of}
 use Rattle.osi_tpdu.specs.Value.{Value}
 use Rattle.osi_tpdu.specs.Writing.{Fits, written}
-use Rattle.osi_tpdu.specs.declared.faults.TpduFault.{TpduFault}
 use Rattle.osi_tpdu.proofs.the_units_of_a_packet.{units_fit, units_found}
 use Rattle.osi_carrier.specs.State.{State as Carrier, packets}
 use Rattle.osi_carrier.specs.declared.ends.EndReason.{EndReason}
@@ -35,10 +34,10 @@ use Rattle.osi_stack.specs.State.{End, Holding}
 use Rattle.osi_tap.specs.declared.marks.Cause.{Cause}
 use Rattle.osi_tap.specs.declared.marks.Mark.{Mark}
 use Rattle.osi_tap.specs.declared.marks.Marks.{Marks}
-use Rattle.osi_tap.specs.Courses.{Course, breaks, cause_of, changes, first_marked, halts, marked, noted_by, packet_begins, reached, unit_passes}
+use Rattle.osi_tap.specs.Courses.{Course, breaks, cause_of, changes, first_marked, halts, noted_by, packet_begins, reached, unit_passes}
 use Rattle.osi_tap.specs.Courses.{kind_of, number_at, units_pass, way_of}
 use Rattle.osi_watched.specs.Joint.{Joint, Step, Steps, TakesTurn, begin, begins_other, begins_own, passes_other, passes_own, turns}
-use Rattle.osi_watched.proofs.a_carrier_does_events.{Came, HasCome, IsLike, came_asking, came_tracked, none_come}
+use Rattle.osi_watched.proofs.a_carrier_does_events.{Came, IsLike, came_asking, came_tracked, none_come}
 use Rattle.osi_watched.proofs.what_a_carrier_puts_can_be_written.{all_more}
 use Rattle.osi_watched.proofs.what_is_put_is_what_is_written.{AreFirst, StartsWith, are_first, none_written, same_written, starts_with}
 use Rattle.osi_watched.proofs.what_is_put_is_what_is_written.{written_join}

@@ -1,9 +1,8 @@
 -- The first break of transport at a tap is never of the side of an end, if no unit of a whole end is a break as long as the other
 -- side is judged.
 -- For the law on the first break.
-use Rattle.std.proofs.Common.{◌≡◌, ◌≢◌, ◌∙◌, ℕ, Bool, true, false, List, [], ◌∷◌, ◌++◌, Option, Some, None, inl, inr, ◌⊎◌}
+use Rattle.std.proofs.Common.{◌≡◌, ◌∙◌, ℕ, Bool, true, false, List, [], ◌∷◌, Option, Some, None, inl, inr, ◌⊎◌}
 use Rattle.std.proofs.Common.{refl, sym, ap, subst}
-use Rattle.osi_tpkt.specs.Octets.{IsOctets}
 use Rattle.osi_tpdu.specs.Value.{Value}
 use Rattle.osi_class.specs.declared.terms.Local.{Local}
 use Rattle.osi_judge.specs.Captures.{Capture, other}
@@ -23,7 +22,7 @@ use Rattle.osi_tap.specs.declared.marks.First.{First}
 use Rattle.osi_tap.specs.Courses.{Course, packet_begins, unit_passes, units_pass, unread, way_of}
 use Rattle.osi_tap.specs.Tapping as tapping
 use Rattle.osi_tap.specs.Tapping.{after, comes_to}
-use Rattle.osi_watched.specs.Joint.{Joint, Step, Steps, StepsAlong, TakesTurn, begin, begins_other, begins_own, passes_other, passes_own, turns}
+use Rattle.osi_watched.specs.Joint.{Joint, Step, Steps, StepsAlong, begin, begins_other, begins_own, passes_other, passes_own, turns}
 use Rattle.osi_watched.specs.Passing.{ComesBySteps, TurnsBad}
 use Rattle.osi_watched.proofs.steps_are_events.{IsFollowed, begin_followed, own_first, step_followed}
 use Rattle.osi_watched.proofs.what_a_unit_leaves_at_a_tap.{IsCalm, IsJudged, IsOver, Leaves, begins_calm, begins_over, unit_first, unit_leaves}

@@ -6,8 +6,8 @@ use Rattle.std.specs.Prelude.{IfSome}
 use Rattle.std.specs.List.{AllByRecursion}
 use Rattle.osi_tpkt.specs.Octets.{IsOctets}
 use Rattle.osi_tpdu.specs.Limits.{size_code, tsap_octets}
-use Rattle.osi_tpdu.specs.Value.{Connect, HasFieldsInRange, IsConnect, Value, acknowledge, confirm, data0, data2, disconnect, disconnected}
-use Rattle.osi_tpdu.specs.Value.{destination_of, error, request}
+use Rattle.osi_tpdu.specs.Value.{Connect, HasFieldsInRange, IsConnect, Value, confirm, data0, disconnect, disconnected}
+use Rattle.osi_tpdu.specs.Value.{error, request}
 use Rattle.osi_tpdu.specs.declared.tsaps.Tsap.{Tsap}
 use Rattle.osi_class.specs.Link.{Standing, taken, with_tsdu}
 use Rattle.osi_class.specs.Negotiation.{accept, keeps_flow_control, proposes, proposes_zero_alone, refuse, selected_by, selected_size}
@@ -15,22 +15,22 @@ use Rattle.osi_class.specs.declared.faults.LinkFault.{LinkFault}
 use Rattle.osi_class.specs.declared.terms.Class.{Class}
 use Rattle.osi_class.specs.declared.terms.Class.TheVariants.{Two, Zero}
 use Rattle.osi_class.specs.declared.terms.Local.{Local}
-use Rattle.osi_carrier.specs.Calls.{asks, closed_on, closes as closes_in, closed_with, link_of, open_link, sent, sent_all, sent_on}
-use Rattle.osi_carrier.specs.Negotiation.{acceptance, agreed_size, confirmed, opened_link, proposal, proposes_two}
+use Rattle.osi_carrier.specs.Calls.{closed_on, closes as closes_in, closed_with, link_of, open_link, sent, sent_all, sent_on}
+use Rattle.osi_carrier.specs.Negotiation.{acceptance, agreed_size, confirmed, opened_link, proposes_two}
 use Rattle.osi_carrier.specs.Orderly.{connection_by}
 use Rattle.osi_carrier.specs.Pump.{pumped, written_by}
 use Rattle.osi_carrier.specs.React.{accepts, answers, before_class, breaks as breaks_in, denies, handed_out, has_peer, in_class, in_two}
-use Rattle.osi_carrier.specs.React.{in_zero, is_full, leaves, opens, pumps, react_by, settles, taking, to_asked, to_closing, to_connection}
+use Rattle.osi_carrier.specs.React.{in_zero, is_full, leaves, opens, pumps, react_by, taking, to_asked, to_closing, to_connection}
 use Rattle.osi_carrier.specs.React.{to_linked, to_only, to_reference, to_unknown}
 unfoldable use Rattle.osi_carrier.specs.React.{react}
-use Rattle.osi_carrier.specs.Rows.{Rows, put, value_at}
+use Rattle.osi_carrier.specs.Rows.{Rows, value_at}
 use Rattle.osi_carrier.specs.Runs.{connects, user_does}
 use Rattle.osi_carrier.specs.State.{Connection, State, asked, closing, ends, linked}
 use Rattle.osi_carrier.specs.declared.ends.EndReason.{EndReason}
-use Rattle.osi_fair.specs.Putting.{put_at, put_before, put_by, put_closed, put_closing, put_for, put_for_request, put_for_selection}
+use Rattle.osi_fair.specs.Putting.{put_at, put_before, put_by, put_closed, put_closing, put_for, put_for_selection}
 use Rattle.osi_fair.specs.Putting.{put_in, put_in_two, put_in_zero, put_leaving, put_linked, put_only, put_sent, put_taking, put_to}
 use Rattle.osi_fair.specs.Putting.{put_together, put_unknown, refusal}
-use Rattle.osi_honest.proofs.keeping.what_holds_of_each_connection_stays.{AllRows, row_at, row_more, row_put, row_without}
+use Rattle.osi_honest.proofs.keeping.what_holds_of_each_connection_stays.{row_at, row_more, row_put, row_without}
 use Rattle.osi_honest.proofs.reading.all_that_an_end_puts_can_be_read.{AreNumbered, cr_by}
 use Rattle.osi_honest.proofs.reading.what_a_link_gives_can_be_written.{IsNumbered, gives_written, taken_numbered}
 use Rattle.osi_honest.proofs.reading.what_is_written_is_read_again.{CanBeWritten, IsPlain}
@@ -98,7 +98,7 @@ module _ (s : State) (p : AreNumbered s.live) where
   accepted class size c h range = (
     (cc_plain class size c s.local (s.given + 1) h range, tt),
     row_more IsNumberedRow (s.given + 1) (linked c.source (opened_link class size s.local c.credit)) s.live p
-    (link_opens class size s.local c.credit),
+        (link_opens class size s.local c.credit),
   )
 
   denied : (reason peer : ℕ) → Fine (refusal reason peer) (denies reason peer s)
@@ -141,7 +141,7 @@ module _ (s : State) (p : AreNumbered s.live) where
   by_opens r c (Some class) = (
     tt,
     row_put IsNumberedRow r (linked c.source (opened_link class (agreed_size c.parameters.size s.local) s.local c.credit)) s.live p
-    (link_opens class (agreed_size c.parameters.size s.local) s.local c.credit),
+        (link_opens class (agreed_size c.parameters.size s.local) s.local c.credit),
   )
 
   by_asked : (r : ℕ) (unit : Value) → Fine [] (to_asked r unit s)

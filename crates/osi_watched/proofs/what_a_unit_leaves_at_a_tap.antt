@@ -268,12 +268,15 @@ unit_over d at v c none over =
     (moved (moment_of d at v x.told (taken d at v x.told.meaning x.told.place c.sessions)) (record c { traffic = x.state }))).first ≡ None)
     × IsOver (noted_by d at v x.told (cause_of x.told.finding)
     (moved (moment_of d at v x.told (taken d at v x.told.meaning x.told.place c.sessions)) (record c { traffic = x.state }))))
-    (sym told) (none, record {
-      left = over.left;
-      right = over.right;
-      left_halts = over.left_halts;
-      right_halts = over.right_halts;
-    })
+    (sym told) (
+      none,
+      record {
+        left = over.left;
+        right = over.right;
+        left_halts = over.left_halts;
+        right_halts = over.right_halts;
+      },
+    )
 
 -- the first break stays the first
 kept_first : (m : Mark) (r : Reach) (c : Course) (f : First) → c.first ≡ Some f → (marked m r c).first ≡ Some f
@@ -353,8 +356,7 @@ goes_so side.Right c j = ap is_some j.right_goes
 pub unread_breaks : (d : Side) (at : ℕ) (k : Cause) (c : Course) → is_break k ≡ true → c.first ≡ None → IsJudged c →
     (f : First) × ((unread d at k c).first ≡ Some f) × (f.direction ≡ d)
 unread_breaks d at k c bad none judged =
-    let is : unread d at k c ≡ unread_if false d at k c = ap (λ (b : Bool). unread_if b d at k c) (goes_so d c judged) in
-    (
+    let is : unread d at k c ≡ unread_if false d at k c = ap (λ (b : Bool). unread_if b d at k c) (goes_so d c judged) in (
       first_of (unread_mark d at k),
       ap (λ (x : Course). x.first) is ∙ breaks_first (unread_mark d at k) (traffic.refused_reach (way_of d) c.traffic) _ bad none,
       refl,

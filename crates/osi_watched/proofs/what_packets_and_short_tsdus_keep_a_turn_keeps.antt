@@ -47,7 +47,7 @@ use Rattle.osi_stack.proofs.carried.what_each_step_preserves.{events_heard}
 use Rattle.osi_stack.specs.Messages.{AreShort}
 use Rattle.osi_stack.specs.Moving.{by_line, carrier_by, to_session}
 use Rattle.osi_stack.specs.State.{Line}
-use Rattle.osi_stack.specs.Transport.{answers_by, hands, sent_unless}
+use Rattle.osi_stack.specs.Transport.{answers_by, sent_unless}
 use Rattle.osi_honest.specs.Talking as history
 use Rattle.osi_honest.specs.Turns.{Act, Acts, Takes, Turn, carried_by, used_by}
 use Rattle.osi_honest.specs.Turns.Act.{serving, using}

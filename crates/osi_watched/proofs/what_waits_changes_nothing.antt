@@ -1,8 +1,7 @@
 -- What a carrier does doesn't depend on the events that it has still to report, and the octets that it has still to send.
 -- For what a turn of an end does to its carrier.
-use Rattle.std.proofs.Common.{◌≡◌, ◌∙◌, ℕ, List, [], ◌∷◌, ◌++◌, Result, Ok, sym, ap, subst}
+use Rattle.std.proofs.Common.{◌≡◌, ◌∙◌, ℕ, List, [], ◌∷◌, ◌++◌, Result, sym, ap, subst}
 use Rattle.std.proofs.lemmas.List.{append-nil, append_cancel_left}
-use Rattle.osi_tpdu.specs.Packet.{units_of}
 use Rattle.osi_tpdu.specs.Value.{Value}
 use Rattle.osi_tpdu.specs.Writing.{Fits, written}
 use Rattle.osi_tpdu.specs.declared.faults.TpduFault.{TpduFault}
