@@ -34,7 +34,8 @@ use Rattle.osi_fair.proofs.what_a_carrier_puts.{call_writes, unit_writes}
 use Rattle.osi_honest.proofs.class_0.what_class_0_writes_of_a_tsdu.{packets_joined}
 use Rattle.osi_honest.proofs.reading.all_that_an_end_puts_can_be_read.{AreNumbered}
 use Rattle.osi_honest.proofs.reading.what_is_written_is_read_again.{CanBeWritten}
-use Rattle.osi_watched.proofs.what_a_carrier_puts_can_be_written.{Fine, all_more, asks_fine, closed_fine, over_fine, together_fine, unit_fine}
+use Rattle.osi_watched.proofs.what_a_carrier_puts_can_be_written.{Fine, all_more, asks_fine, closed_fine, over_fine, together_fine}
+use Rattle.osi_watched.proofs.what_a_carrier_puts_can_be_written.{unit_fine}
 use Rattle.osi_watched.proofs.what_packets_and_short_tsdus_keep_a_turn_keeps.{AsksToo, IsTracked}
 use Rattle.osi_watched.proofs.what_waits_changes_nothing.{IsApart, bare, call_apart, done_alike, unit_apart, written_alike}
 

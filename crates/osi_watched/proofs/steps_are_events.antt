@@ -64,7 +64,13 @@ noted_traffic : (d : Direction) (at : ℕ) (v : Value) (told : Told) (o : Option
     (noted_by d at v told o c).traffic ≡ c.traffic
 noted_traffic d at v told None c = refl
 noted_traffic d at v told (Some cause) c =
-    let m : Mark = record { direction = d; offset = at; unit = Some (kind_of v); connection = number_at told.place c.sessions; cause = cause } in
+    let m : Mark = record {
+      direction = d;
+      offset = at;
+      unit = Some (kind_of v);
+      connection = number_at told.place c.sessions;
+      cause = cause;
+    } in
     reached_traffic m told.reach (changes d (breaks m) (first_marked m c)) ∙ changes_traffic d (breaks m) (first_marked m c)
 
 unit_traffic : (d : Direction) (at : ℕ) (v : Value) (c : Course) → (unit_passes d at v c).traffic ≡ (takes (way_of d) v c.traffic).state
@@ -128,7 +134,8 @@ module _ (d : Direction) (first : Whole) where
         (new.holding.end.carrier.ended ≡ None → later ≡ units_in new.coming) → IsFollowed d first new
     done later now then_is =
         let h = track.holds later now in
-        let same : turn.put ≡ packets h.put = append_cancel_left carrier.outgoing turn.put (packets h.put) (sym track.outgoing ∙ h.written) in
+        let same : turn.put ≡ packets h.put =
+        append_cancel_left carrier.outgoing turn.put (packets h.put) (sym track.outgoing ∙ h.written) in
         let alike : map written h.put ≡ map written t.units = same_written h.put t.units (sym same ∙ t.written) in
         record {
           whole = record f.whole { end = h.end; put = f.whole.put ++ h.put; coming = h.coming };
@@ -280,7 +287,8 @@ module _ (d : Direction) (first : Whole) where
   step_followed proper (passes_own at unit) old new (read, octets, put, begun, is) f =
       passes_own_so old new at unit (read, octets, put) begun is f
   step_followed proper begins_other old new is f = begins_other_so old new is f
-  step_followed proper (passes_other at packet units) old new (octets, read, is) f = passes_other_so old new at packet units octets read is f
+  step_followed proper (passes_other at packet units) old new (octets, read, is) f =
+      passes_other_so old new at packet units octets read is f
 
 -- ---- at the beginning
 

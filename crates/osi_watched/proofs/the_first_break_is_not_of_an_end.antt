@@ -25,8 +25,8 @@ use Rattle.osi_tap.specs.Tapping.{after, comes_to}
 use Rattle.osi_watched.specs.Joint.{Joint, Step, Steps, StepsAlong, begin, begins_other, begins_own, passes_other, passes_own, turns}
 use Rattle.osi_watched.specs.Passing.{ComesBySteps, TurnsBad}
 use Rattle.osi_watched.proofs.steps_are_events.{IsFollowed, begin_followed, own_first, step_followed}
-use Rattle.osi_watched.proofs.what_a_unit_leaves_at_a_tap.{IsCalm, IsJudged, IsOver, Leaves, begins_calm, begins_over, unit_first, unit_leaves}
-use Rattle.osi_watched.proofs.what_a_unit_leaves_at_a_tap.{unit_over, unread_breaks, unread_first, unread_over}
+use Rattle.osi_watched.proofs.what_a_unit_leaves_at_a_tap.{IsCalm, IsJudged, IsOver, Leaves, begins_calm, begins_over, unit_first}
+use Rattle.osi_watched.proofs.what_a_unit_leaves_at_a_tap.{unit_leaves, unit_over, unread_breaks, unread_first, unread_over}
 use Rattle.osi_watched.proofs.what_passes_keeps_a_claim.{IsClaim, after_join, after_kept}
 
 -- this is no break
@@ -49,7 +49,8 @@ IsFairFrom d first = (events : List Event) (w : Whole) (unit : Value) (rest : Li
 abbrev pub IsNotFirst : Direction → Course → Type 0
 IsNotFirst d c = IsCalm c ⊎ ((f : First) × (c.first ≡ Some f) × (f.direction ≡ other d))
 
-no_break_so : (d : Direction) (at : ℕ) (v : Value) (c : Course) (f : Finding) (new : Course) → IsNoBreak f → Leaves d at v c f new → IsCalm new
+no_break_so : (d : Direction) (at : ℕ) (v : Value) (c : Course) (f : Finding) (new : Course) → IsNoBreak f → Leaves d at v c f new →
+    IsCalm new
 no_break_so d at v c Kept new none leaves = leaves
 no_break_so d at v c NotJudged new none leaves = leaves
 no_break_so d at v c TooMany new none leaves = leaves

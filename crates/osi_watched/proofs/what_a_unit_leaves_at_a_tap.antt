@@ -221,7 +221,8 @@ module _ (d : Side) (at : ℕ) (v : Value) (c : Course) where
       (record {
         none = marked_first (mark cause.TooMany) reach.Everything mid ∙ ap (first_by (mark cause.TooMany)) calm.none;
         how = inr (record {
-          left = ap (λ (t : State). t.course.left_stopped) (changes_stops d (breaks (mark cause.TooMany)) (first_marked (mark cause.TooMany) mid))
+          left = ap (λ (t : State). t.course.left_stopped)
+              (changes_stops d (breaks (mark cause.TooMany)) (first_marked (mark cause.TooMany) mid))
               ∙ says_so reach.Everything is Left;
           right = ap (λ (t : State). t.course.right_stopped)
               (changes_stops d (breaks (mark cause.TooMany)) (first_marked (mark cause.TooMany) mid))

@@ -9,7 +9,8 @@ use Rattle.osi_watched.proofs.laws.the_transport_of_an_end_is_never_blamed_first
 pub returns-clause-called : goal.returns-clause-called
 returns-clause-called c = λ local begin capture fresh comes.
     let law : SpduLaws = record { room = c.few_octets_fit.ensures; digits = c.serial_digits.ensures } in
-    first_other Right (all_proper law c.what_closes_sends_nothing.ensures.octets) false local begin capture fresh (called_is_fair local) comes
+    first_other Right (all_proper law c.what_closes_sends_nothing.ensures.octets) false local begin capture fresh
+    (called_is_fair local) comes
 
 pub returns-clause-calling : goal.returns-clause-calling
 returns-clause-calling c = λ local begin capture zero two fresh comes.
