@@ -1,8 +1,10 @@
 -- An end of this library and a tap anywhere between it and the other side, packet by packet.
 use Rattle.std.specs.Prelude.{◌≡◌, ◌≢◌, ℕ, Bool, true, false, List, [], ◌∷◌, ◌++◌, None, Ok}
+use Rattle.osi_tpkt.specs.Octets.{IsOctets}
 use Rattle.osi_tpkt.specs.Stream.{ArePackets}
 use Rattle.osi_tpdu.specs.Packet.{units_of}
 use Rattle.osi_tpdu.specs.Value.{Value}
+use Rattle.osi_tpdu.specs.Writing.{written}
 use Rattle.osi_carrier.specs.State.{packets}
 use Rattle.osi_judge.specs.declared.directions.Direction.{Direction}
 use Rattle.osi_judge.specs.Captures.{other}
@@ -46,18 +48,22 @@ pub record TakesTurn (turn : Turn) (old new : Joint) : Type 0 where
   pub rest : List ℕ
   pub cut : old.holding.end.carrier.ended ≡ None → ArePackets used (old.holding.held.octets ++ turn.used) rest
   pub held : new.holding.end.carrier.ended ≡ None → rest ≡ new.holding.held.octets
+  -- an end that is over left no packet in them
+  pub all : old.holding.end.carrier.ended ≡ None → new.holding.end.carrier.ended ≢ None →
+      (more : List (List ℕ)) (last : List ℕ) → ArePackets more rest last → more ≡ []
   pub begun : new.begun ≡ old.begun
   pub course : new.course ≡ old.course
 
--- the effect of each, at an end that sends in this direction
+-- The effect of each, at an end that sends in this direction. What passes is octets, and is read as these units.
 abbrev pub Steps : Direction → Step → Joint → Joint → Type 0
 Steps d (turns turn) old new = TakesTurn turn old new
 Steps d begins_own old new = (old.put ≢ []) × (old.begun ≡ false)
     × (new ≡ record old { begun = true; course = packet_begins d old.course })
-Steps d (passes_own at unit) old new = (old.put ≡ unit ∷ new.put) × (old.begun ≡ true)
+Steps d (passes_own at unit) old new = (units_of (written unit) ≡ Ok (unit ∷ [])) × IsOctets (written unit)
+    × (old.put ≡ unit ∷ new.put) × (old.begun ≡ true)
     × (new ≡ record old { put = new.put; begun = false; course = units_pass d at (unit ∷ []) old.course })
 Steps d begins_other old new = new ≡ record old { course = packet_begins (other d) old.course }
-Steps d (passes_other at packet units) old new = (units_of packet ≡ Ok units)
+Steps d (passes_other at packet units) old new = IsOctets packet × (units_of packet ≡ Ok units)
     × (new ≡ record old { course = units_pass (other d) at units old.course; coming = old.coming ++ packet ∷ [] })
 
 -- one after the other

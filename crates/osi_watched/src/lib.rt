@@ -6,6 +6,8 @@
 //!
 //! - A `Joint` (`specs/Joint`) is an end and a tap anywhere between it and the other side, with the units between them. A
 //!   `Step` is what happens to both, packet by packet.
+//! - A capture of an end is such steps, up to what the other side sends and nobody can read:
+//!   [`laws::a_capture_of_an_end_is_steps`].
 #![tactic(auto)]
 
 pub mod laws;
