@@ -64,7 +64,7 @@ idle_closed r reason c over = ap (λ (o : Option (ℕ × Standing)). closed_on r
 ended_so : (reason : EndReason) (c : State) → is_some c.ended ≡ false → ended_by reason c ≡ ends reason c
 ended_so reason c lasts = ap (λ (b : Bool). if b then c else ends reason c) lasts
 
-none_of : (o : Option EndReason) → is_some o ≡ false → o ≡ None
+pub none_of : (o : Option EndReason) → is_some o ≡ false → o ≡ None
 none_of None e = refl
 none_of (Some x) e = absurd (cc e)
 
@@ -94,11 +94,18 @@ pub record HasCome (d : Direction) (w : Whole) (out : List ℕ) (later : List Va
   pub can : AllByRecursion CanBeWritten put
   pub links : AreNumbered end.live
 
-module _ (d : Direction) (w : Whole) (out : List ℕ) where
-  happen_join : (xs ys : List Event) (a b c : Whole) → HappenAlong d a xs b → HappenAlong d b ys c → HappenAlong d a (xs ++ ys) c
-  happen_join [] ys a b c e h = subst (λ (x : Whole). HappenAlong d x ys c) e h
-  happen_join (x ∷ xs) ys a b c (mid, first, more) h = (mid, first, happen_join xs ys mid b c more h)
+pub happen_join : (d : Direction) (xs ys : List Event) (a b c : Whole) → HappenAlong d a xs b → HappenAlong d b ys c →
+    HappenAlong d a (xs ++ ys) c
+happen_join d [] ys a b c e h = subst (λ (x : Whole). HappenAlong d x ys c) e h
+happen_join d (x ∷ xs) ys a b c (mid, first, more) h = (mid, first, happen_join d xs ys mid b c more h)
 
+pub units_join : (us vs : List (List ℕ)) → units_in (us ++ vs) ≡ units_in us ++ units_in vs
+units_join [] vs = refl
+units_join (u ∷ us) vs =
+    ap (λ (l : List Value). units_by (units_of u) ++ l) (units_join us vs)
+    ∙ sym (append_assoc (units_by (units_of u)) (units_in us) (units_in vs))
+
+module _ (d : Direction) (w : Whole) (out : List ℕ) where
   -- the carrier is over, and wrote nothing more
   rests : (later after : List Value) (c e : State) (h : HasCome d w out later c) → is_some h.end.ended ≡ true → is_some e.ended ≡ true →
       e.outgoing ≡ c.outgoing → HasCome d w out after e
@@ -130,7 +137,7 @@ module _ (d : Direction) (w : Whole) (out : List ℕ) where
         coming = coming;
         along = subst (λ (l : List Value). HappenAlong d w (h.events ++ event ∷ []) (record w { end = f h.end; put = l; coming = coming }))
             (append_assoc w.put h.put units)
-            (happen_join h.events (event ∷ []) w (record w { end = h.end; put = w.put ++ h.put; coming = h.coming })
+            (happen_join d h.events (event ∷ []) w (record w { end = h.end; put = w.put ++ h.put; coming = h.coming })
             (record w { end = f h.end; put = (w.put ++ h.put) ++ units; coming = coming }) h.along
             (record w { end = f h.end; put = (w.put ++ h.put) ++ units; coming = coming }, happens, refl));
         written = written_alike f apart h.end c (packets units) (h.like.lasts lasts) writes
@@ -210,12 +217,6 @@ module _ (d : Direction) (w : Whole) (out : List ℕ) where
   -- If the units of these packets are the next that have come, events have made this of it.
   abbrev pub Came : List (List ℕ) → State → Type 0
   Came us c = (later : List Value) → (w.end.ended ≡ None → w.coming ≡ units_in us ++ later) → HasCome d w out later c
-
-  units_join : (us vs : List (List ℕ)) → units_in (us ++ vs) ≡ units_in us ++ units_in vs
-  units_join [] vs = refl
-  units_join (u ∷ us) vs =
-      ap (λ (l : List Value). units_by (units_of u) ++ l) (units_join us vs)
-      ∙ sym (append_assoc (units_by (units_of u)) (units_in us) (units_in vs))
 
   one_more : (us : List (List ℕ)) (u : List ℕ) (later : List Value) →
       units_in (us ++ u ∷ []) ++ later ≡ units_in us ++ (units_by (units_of u) ++ later)

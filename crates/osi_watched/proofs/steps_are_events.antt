@@ -33,11 +33,12 @@ use Rattle.osi_honest.proofs.reading.what_is_written_is_read_again.{CanBeWritten
 use Rattle.osi_stack.specs.State.{End, Holding}
 use Rattle.osi_tap.specs.declared.marks.Cause.{Cause}
 use Rattle.osi_tap.specs.declared.marks.Mark.{Mark}
-use Rattle.osi_tap.specs.declared.marks.Marks.{Marks}
 use Rattle.osi_tap.specs.Courses.{Course, breaks, cause_of, changes, first_marked, halts, noted_by, packet_begins, reached, unit_passes}
 use Rattle.osi_tap.specs.Courses.{kind_of, number_at, units_pass, way_of}
 use Rattle.osi_watched.specs.Joint.{Joint, Step, Steps, TakesTurn, begin, begins_other, begins_own, passes_other, passes_own, turns}
-use Rattle.osi_watched.proofs.a_carrier_does_events.{Came, IsLike, came_asking, came_tracked, none_come}
+use Rattle.osi_watched.proofs.a_carrier_does_events.{Came, IsLike, came_asking, came_tracked, happen_join, none_come, none_of}
+use Rattle.osi_watched.proofs.a_carrier_does_events.{units_join}
+use Rattle.osi_watched.proofs.what_a_unit_leaves_at_a_tap.{changes_traffic}
 use Rattle.osi_watched.proofs.what_a_carrier_puts_can_be_written.{all_more}
 use Rattle.osi_watched.proofs.what_is_put_is_what_is_written.{AreFirst, StartsWith, are_first, none_written, same_written, starts_with}
 use Rattle.osi_watched.proofs.what_is_put_is_what_is_written.{written_join}
@@ -49,10 +50,6 @@ use Rattle.osi_watched.proofs.what_packets_and_short_tsdus_keep_a_turn_keeps.{Tr
 turned : (d : Direction) → way_of (other d) ≡ sides.other (way_of d)
 turned Left = refl
 turned Right = refl
-
-changes_traffic : (d : Direction) (f : Marks → Marks) (c : Course) → (changes d f c).traffic ≡ c.traffic
-changes_traffic Left f c = refl
-changes_traffic Right f c = refl
 
 reached_traffic : (m : Mark) (r : Reach) (c : Course) → (reached m r c).traffic ≡ c.traffic
 reached_traffic m reach.Nothing c = refl
@@ -93,23 +90,9 @@ pub record IsFollowed (d : Direction) (first : Whole) (j : Joint) : Type 0 where
   pub can : AllByRecursion CanBeWritten whole.put
   pub links : AreNumbered whole.end.live
 
-happen_join : (d : Way) (xs ys : List Event) (a b c : Whole) → HappenAlong d a xs b → HappenAlong d b ys c → HappenAlong d a (xs ++ ys) c
-happen_join d [] ys a b c e h = subst (λ (x : Whole). HappenAlong d x ys c) e h
-happen_join d (x ∷ xs) ys a b c (mid, one, more) h = (mid, one, happen_join d xs ys mid b c more h)
-
 over_none : {A : Type 0} (o : Option EndReason) → is_some o ≡ true → o ≡ None → A
 over_none None h e = absurd (cc h)
 over_none (Some x) h e = absurd (cc e)
-
-none_of : (o : Option EndReason) → is_some o ≡ false → o ≡ None
-none_of None e = refl
-none_of (Some x) e = absurd (cc e)
-
-units_join : (us vs : List (List ℕ)) → units_in (us ++ vs) ≡ units_in us ++ units_in vs
-units_join [] vs = refl
-units_join (u ∷ us) vs =
-    ap (λ (l : List Value). units_by (units_of u) ++ l) (units_join us vs)
-    ∙ sym (append_assoc (units_by (units_of u)) (units_in us) (units_in vs))
 
 -- units of the other side pass
 record Passed (d : Direction) (at : ℕ) (units : List Value) (w : Whole) (c : Course) : Type 0 where

@@ -173,9 +173,9 @@ some_earlier : (o : Option Mark) (m : Mark) → is_some (earlier o m) ≡ true
 some_earlier None m = refl
 some_earlier (Some k) m = refl
 
-changes_stops : (d : Side) (f : Marks → Marks) (c : Course) → (changes d f c).traffic ≡ c.traffic
-changes_stops side.Left f c = refl
-changes_stops side.Right f c = refl
+pub changes_traffic : (d : Side) (f : Marks → Marks) (c : Course) → (changes d f c).traffic ≡ c.traffic
+changes_traffic side.Left f c = refl
+changes_traffic side.Right f c = refl
 
 -- ---- a unit
 
@@ -222,10 +222,10 @@ module _ (d : Side) (at : ℕ) (v : Value) (c : Course) where
         none = marked_first (mark cause.TooMany) reach.Everything mid ∙ ap (first_by (mark cause.TooMany)) calm.none;
         how = inr (record {
           left = ap (λ (t : State). t.course.left_stopped)
-              (changes_stops d (breaks (mark cause.TooMany)) (first_marked (mark cause.TooMany) mid))
+              (changes_traffic d (breaks (mark cause.TooMany)) (first_marked (mark cause.TooMany) mid))
               ∙ says_so reach.Everything is Left;
           right = ap (λ (t : State). t.course.right_stopped)
-              (changes_stops d (breaks (mark cause.TooMany)) (first_marked (mark cause.TooMany) mid))
+              (changes_traffic d (breaks (mark cause.TooMany)) (first_marked (mark cause.TooMany) mid))
               ∙ says_so reach.Everything is Right;
           left_halts = some_earlier (changes d (breaks (mark cause.TooMany)) (first_marked (mark cause.TooMany) mid)).left.halted
               (mark cause.TooMany);

@@ -1,32 +1,56 @@
 //! Laws of an end and of a tap on its byte connection. Each function does nothing: its clauses are the laws.
 
-ghost use Rattle.std.specs.Prelude.{◌≡◌, false, true, Some};
+ghost use Rattle.std.specs.Prelude.{◌≡◌, Bool, false, true, List, Some};
 ghost use Rattle.osi_class.specs.declared.terms.Local.{Local};
 ghost use Rattle.osi_judge.specs.Captures.{Capture};
 ghost use Rattle.osi_judge.specs.declared.directions.Direction.{Direction};
 ghost use Rattle.osi_stack.specs.State.{Holding};
+ghost use Rattle.osi_honest.specs.Seeing.{IsFresh, IsSeen};
+ghost use Rattle.osi_honest.specs.Turns.{Run, Turn};
 ghost use Rattle.osi_tap.specs.declared.marks.First.{First};
 ghost use Rattle.osi_tap.specs.Tapping.{comes_to};
-ghost use Rattle.osi_honest.specs.Seeing.{IsFresh};
-ghost use Rattle.osi_watched.specs.Passing.{ComesBySteps};
+ghost use Rattle.osi_watched.specs.Passing.{AreOctets, ComesBySteps};
 
+use osi_honest::laws::what_a_session_hands_to_its_link;
 use osi_session::laws::what_closes_sends_nothing;
 use osi_spdu::laws::{few_octets_fit, serial_digits};
 
-/// The transport of an end is never blamed first. Take a capture that is steps of an end of this library, which began fresh, and of a
-/// tap anywhere between it and the other side ([`ComesBySteps`]): any pieces of whatever octets arrive, any calls of its user, any
-/// shortage of memory, any number of connections. If a break of transport was told as the first, it is of the other side: of a
-/// calling end that offers class 2 alone (`calling`), and of any called end (`called`).
+/// A capture of an end is steps of the end and of the tap. Take any run of an end of this library from its beginning, and any
+/// capture of it at a tap anywhere between the two sides ([`IsSeen`]). What the capture comes to is what these steps come to:
+/// turns of the end, and packets of either side that begin to pass and pass, one after the other. Each unit passes after it was
+/// put, in order, and each packet of the other side that the end uses has passed before. Or what the other side sends can't be
+/// read: then the steps are all that happened until then ([`ComesBySteps`]).
 ///
+/// [`IsSeen`]: ../../osi_honest/specs/Seeing.antt
 /// [`ComesBySteps`]: ../specs/Passing.antt
-pub fn the_transport_of_an_end_is_never_blamed_first()
-    ensures called { (local : Local) (begin : Holding) (capture : Capture) → IsFresh false local begin →
-        ComesBySteps Direction.Right capture begin → (f : First) → (comes_to capture).course.first ≡ Some f → f.direction ≡ Direction.Left }
-    ensures calling { (local : Local) (begin : Holding) (capture : Capture) → local.class0 ≡ false → local.class2 ≡ true →
-        IsFresh true local begin → ComesBySteps Direction.Left capture begin →
-        (f : First) → (comes_to capture).course.first ≡ Some f → f.direction ≡ Direction.Right }
+pub fn a_capture_of_an_end_is_steps()
+    ensures { (d : Direction) (is_caller : Bool) (local : Local) (begin end : Holding) (turns : List Turn) (capture : Capture) →
+        IsFresh is_caller local begin → Run begin turns end → AreOctets capture → IsSeen d turns capture →
+        ComesBySteps d capture begin }
 {
     few_octets_fit();
     serial_digits();
     what_closes_sends_nothing();
+    what_a_session_hands_to_its_link();
+}
+
+/// The transport of an end is never blamed first. Take any run of an end of this library from its beginning: any pieces of whatever
+/// octets arrive, any calls of its user, any shortage of memory, any number of connections. Take any capture of it, at a tap anywhere
+/// between it and the other side ([`IsSeen`]). If the tap tells of a first break of transport, it is of the other side: at a tap
+/// on a called end (`called`), and on a calling end that offers class 2 alone (`calling`).
+///
+/// [`IsSeen`]: ../../osi_honest/specs/Seeing.antt
+pub fn the_transport_of_an_end_is_never_blamed_first()
+    ensures called { (local : Local) (begin end : Holding) (turns : List Turn) (capture : Capture) (f : First) →
+        IsFresh false local begin → Run begin turns end → AreOctets capture → IsSeen Direction.Right turns capture →
+        (comes_to capture).course.first ≡ Some f → f.direction ≡ Direction.Left }
+    ensures calling { (local : Local) (begin end : Holding) (turns : List Turn) (capture : Capture) (f : First) →
+        local.class0 ≡ false → local.class2 ≡ true →
+        IsFresh true local begin → Run begin turns end → AreOctets capture → IsSeen Direction.Left turns capture →
+        (comes_to capture).course.first ≡ Some f → f.direction ≡ Direction.Right }
+{
+    few_octets_fit();
+    serial_digits();
+    what_closes_sends_nothing();
+    a_capture_of_an_end_is_steps();
 }

@@ -7,13 +7,14 @@ use Rattle.osi_watched.proofs.the_first_break_is_not_of_an_end.{first_other}
 use Rattle.osi_watched.proofs.laws.the_transport_of_an_end_is_never_blamed_first.Goals as goal
 
 pub returns-clause-called : goal.returns-clause-called
-returns-clause-called c = λ local begin capture fresh comes.
+returns-clause-called c = λ local begin end turns capture f fresh run octets seen.
     let law : SpduLaws = record { room = c.few_octets_fit.ensures; digits = c.serial_digits.ensures } in
-    first_other Right (all_proper law c.what_closes_sends_nothing.ensures.octets) false local begin capture fresh
-    (called_is_fair local) comes
+    first_other Right (all_proper law c.what_closes_sends_nothing.ensures.octets) false local begin capture fresh (called_is_fair local)
+    (c.a_capture_of_an_end_is_steps.ensures Right false local begin end turns capture fresh run octets seen) f
 
 pub returns-clause-calling : goal.returns-clause-calling
-returns-clause-calling c = λ local begin capture zero two fresh comes.
+returns-clause-calling c = λ local begin end turns capture f zero two fresh run octets seen.
     let law : SpduLaws = record { room = c.few_octets_fit.ensures; digits = c.serial_digits.ensures } in
     first_other Left (all_proper law c.what_closes_sends_nothing.ensures.octets) true local begin capture fresh
-    (calling_is_fair local zero two) comes
+    (calling_is_fair local zero two)
+    (c.a_capture_of_an_end_is_steps.ensures Left true local begin end turns capture fresh run octets seen) f
