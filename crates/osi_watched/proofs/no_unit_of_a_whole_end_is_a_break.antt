@@ -7,7 +7,7 @@ use Rattle.osi_rules.specs.declared.findings.Finding.{Finding}
 use Rattle.osi_rules.specs.declared.findings.Finding.TheVariants.{Kept, NotJudged, TooMany}
 use Rattle.osi_fair.specs.Wholes.{begin}
 use Rattle.osi_fair.proofs.a_called_end_is_fair.{called_fair}
-use Rattle.osi_fair.proofs.a_plain_calling_end_is_fair.{plain_fair}
+use Rattle.osi_fair.proofs.a_calling_end_is_fair.{calling_fair}
 use Rattle.osi_watched.proofs.the_first_break_is_not_of_an_end.{IsFairFrom, IsNoBreak}
 
 right_or_not_judged : {A : Type 0} (f : Finding) → (f ≡ Kept) ⊎ ((f ≡ NotJudged) × A) → IsNoBreak f
@@ -23,7 +23,6 @@ pub called_is_fair : (local : Local) → IsFairFrom Right (begin false local)
 called_is_fair local = λ events w unit rest along begun put judged firm.
     right_or_not_judged _ (called_fair local events w unit rest along begun put judged firm)
 
--- of an end that offers class 2 alone
-pub calling_is_fair : (local : Local) → local.class0 ≡ false → local.class2 ≡ true → IsFairFrom Left (begin true local)
-calling_is_fair local zero two = λ events w unit rest along begun put judged firm.
-    right_or_too_many _ (plain_fair local events w unit rest zero two along begun put judged firm)
+pub calling_is_fair : (local : Local) → IsFairFrom Left (begin true local)
+calling_is_fair local = λ events w unit rest along begun put judged firm.
+    right_or_too_many _ (calling_fair local events w unit rest along begun put judged firm)

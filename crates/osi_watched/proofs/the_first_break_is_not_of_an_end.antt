@@ -196,3 +196,12 @@ module _ (d : Direction) where
       by : ((comes_to capture).course ≡ comes.last.course) ⊎ TurnsBad d capture comes.last.course → IsOfOther (comes_to capture).course
       by (inl is) = subst IsOfOther (sym is) (of_other comes.last.course last)
       by (inr bad) = bad_so capture comes.last.course bad last
+
+-- if it is neither of left nor of right, there is none
+none_by : (o : Option First) → ((f : First) → o ≡ Some f → f.direction ≡ Right) → ((f : First) → o ≡ Some f → f.direction ≡ Left) →
+    o ≡ None
+none_by None left right = refl
+none_by (Some f) left right = let no : Right ≡ Left = sym (left f refl) ∙ right f refl in absurd (cc)
+
+pub neither_first : (c : Course) → IsOfOther Left c → IsOfOther Right c → c.first ≡ None
+neither_first c left right = none_by c.first left right

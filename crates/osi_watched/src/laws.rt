@@ -1,6 +1,6 @@
 //! Laws of an end and of a tap on its byte connection. Each function does nothing: its clauses are the laws.
 
-ghost use Rattle.std.specs.Prelude.{◌≡◌, Bool, false, true, List, Some};
+ghost use Rattle.std.specs.Prelude.{◌≡◌, Bool, false, true, List, None, Some};
 ghost use Rattle.osi_class.specs.declared.terms.Local.{Local};
 ghost use Rattle.osi_judge.specs.Captures.{Capture};
 ghost use Rattle.osi_judge.specs.declared.directions.Direction.{Direction};
@@ -36,8 +36,9 @@ pub fn a_capture_of_an_end_is_steps()
 
 /// The transport of an end is never blamed first. Take any run of an end of this library from its beginning: any pieces of whatever
 /// octets arrive, any calls of its user, any shortage of memory, any number of connections. Take any capture of it, at a tap anywhere
-/// between it and the other side ([`IsSeen`]). If the tap tells of a first break of transport, it is of the other side: at a tap
-/// on a called end (`called`), and on a calling end that offers class 2 alone (`calling`).
+/// between it and the other side ([`IsSeen`]). If a break of transport passed the tap, the first of them is of the other side, be the
+/// end the called one (`called`) or the calling one (`calling`), and whatever classes it offers. If both ends are of this library,
+/// no break of transport passed (`both`).
 ///
 /// [`IsSeen`]: ../../osi_honest/specs/Seeing.antt
 pub fn the_transport_of_an_end_is_never_blamed_first()
@@ -45,9 +46,12 @@ pub fn the_transport_of_an_end_is_never_blamed_first()
         IsFresh false local begin → Run begin turns end → AreOctets capture → IsSeen Direction.Right turns capture →
         (comes_to capture).course.first ≡ Some f → f.direction ≡ Direction.Left }
     ensures calling { (local : Local) (begin end : Holding) (turns : List Turn) (capture : Capture) (f : First) →
-        local.class0 ≡ false → local.class2 ≡ true →
         IsFresh true local begin → Run begin turns end → AreOctets capture → IsSeen Direction.Left turns capture →
         (comes_to capture).course.first ≡ Some f → f.direction ≡ Direction.Right }
+    ensures both { (mine theirs : Local) (begin end called_begin called_end : Holding) (turns called_turns : List Turn)
+        (capture : Capture) → AreOctets capture → IsFresh true mine begin → Run begin turns end → IsSeen Direction.Left turns capture →
+        IsFresh false theirs called_begin → Run called_begin called_turns called_end → IsSeen Direction.Right called_turns capture →
+        (comes_to capture).course.first ≡ None }
 {
     few_octets_fit();
     serial_digits();
