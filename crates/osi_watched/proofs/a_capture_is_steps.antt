@@ -1,13 +1,12 @@
 -- A capture of an end is steps of the end and of the tap: octet by octet, with each turn of the end as late as can be.
 -- For the law that a capture of an end is steps.
-use Rattle.std.proofs.Common.{◌≡◌, ◌≢◌, ◌∙◌, refl, sym, ap, subst, ℕ, ◌+◌, ◌<◌, ◌≤◌, ◌⊎◌, inl, inr, Bool, true, false, List, [], ◌∷◌}
-use Rattle.std.proofs.Common.{◌++◌, length, Option, Some, None, is_some, IsSome, Result, Ok, Err, append_assoc, arith}
+use Rattle.std.proofs.Common.{◌≡◌, ◌≢◌, ◌∙◌, refl, sym, ap, subst, ℕ, ◌<◌, ◌≤◌, ◌⊎◌, inl, inr, Bool, true, false, List, [], ◌∷◌}
+use Rattle.std.proofs.Common.{◌++◌, length, Option, Some, None, is_some, Result, Ok, Err, append_assoc, arith}
 use Rattle.std.specs.List.{AllByRecursion}
 use Rattle.std.proofs.lemmas.List.{append-nil, length-append}
 use Rattle.osi_tpkt.specs.Octets.{IsOctets}
 use Rattle.osi_tpkt.specs.Packet.{packet_of}
 use Rattle.osi_tpkt.specs.Stream.{ArePackets, Ending, EndsAt}
-use Rattle.osi_tpkt.specs.declared.faults.TpktFault.{TpktFault}
 use Rattle.osi_tpkt.proofs.a_stream_is_cut_in_one_way.{end_no_packet, some_cut}
 use Rattle.osi_tpkt.proofs.lists_of_octets_stay_octets.{octets_append, octets_cons, octets_left, octets_nil, octets_right}
 use Rattle.osi_tpdu.specs.Packet.{units_of}

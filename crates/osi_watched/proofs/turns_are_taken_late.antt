@@ -1,10 +1,10 @@
 -- An end takes each of its turns as late as what the capture shows allows: just before the first octet passes that the turn put. By
 -- then all that it used has passed.
 -- For the law that a capture of an end is steps.
-use Rattle.std.proofs.Common.{◌≡◌, ◌∙◌, refl, sym, ap, subst, ℕ, zero, suc, ◌+◌, ◌<◌, ◌≤◌, ◌⊎◌, inl, inr, leb, true, false}
+use Rattle.std.proofs.Common.{◌≡◌, ◌∙◌, refl, sym, ap, ℕ, suc, ◌+◌, ◌<◌, ◌≤◌, inl, inr}
 use Rattle.std.proofs.Common.{List, [], ◌∷◌, ◌++◌, length, append_assoc, arith}
 use Rattle.std.proofs.lemmas.Bool.Decides.{leb_tells}
-use Rattle.std.proofs.lemmas.List.{append-nil, append_cancel_left, length-append}
+use Rattle.std.proofs.lemmas.List.{append_cancel_left, length-append}
 use Rattle.osi_judge.specs.declared.directions.Direction.{Direction}
 use Rattle.osi_judge.specs.declared.directions.Direction.TheVariants.{Left, Right}
 use Rattle.osi_judge.specs.Captures.{Capture, Passed, of, other, passed_before, stream}
@@ -45,24 +45,27 @@ record Sees (own theirs : List ℕ) (before : ℕ → ℕ) (turns : List Turn) (
 late_as : (n : ℕ) (before : ℕ → ℕ) (ahead used put less left begun : ℕ) (turns : List Turn) → used + less ≡ left + ahead → put ≡ begun →
     PassLate n before ahead used put turns → PassLate n before less left begun turns
 late_as n before ahead used put less left begun [] same start late = tt
-late_as n before ahead used put less left begun (turn ∷ turns) same start late =
-    (λ k low high shown. let all = late.0 k (omega arith) (omega arith) shown in omega arith,
-    late_as n before ahead (used + length turn.used) (put + length turn.put) less (left + length turn.used) (begun + length turn.put) turns
-    (omega arith) (omega arith) late.1)
+late_as n before ahead used put less left begun (turn ∷ turns) same start late = (
+  λ k low high shown. let all = late.0 k (omega arith) (omega arith) shown in omega arith,
+  late_as n before ahead (used + length turn.used) (put + length turn.put) less (left + length turn.used) (begun + length turn.put) turns
+      (omega arith) (omega arith) late.1,
+)
 
 late_next : (n m : ℕ) (before : ℕ → ℕ) (ahead used put begun : ℕ) (turns : List Turn) → n ≡ suc m → put ≡ suc begun →
     PassLate n before ahead used put turns → PassLate m (λ k. before (suc k)) ahead used begun turns
 late_next n m before ahead used put begun [] size start late = tt
-late_next n m before ahead used put begun (turn ∷ turns) size start late =
-    (λ k low high shown. late.0 (suc k) (omega arith) (omega arith) (omega arith),
-    late_next n m before ahead (used + length turn.used) (put + length turn.put) (begun + length turn.put) turns size (omega arith) late.1)
+late_next n m before ahead used put begun (turn ∷ turns) size start late = (
+  λ k low high shown. late.0 (suc k) (omega arith) (omega arith) (omega arith),
+  late_next n m before ahead (used + length turn.used) (put + length turn.put) (begun + length turn.put) turns size (omega arith) late.1,
+)
 
 late_more : (n : ℕ) (before now : ℕ → ℕ) (ahead more used put : ℕ) (turns : List Turn) → ((k : ℕ) → before k ≡ now k + 1) →
     more ≡ ahead + 1 → PassLate n before ahead used put turns → PassLate n now more used put turns
 late_more n before now ahead more used put [] one same late = tt
-late_more n before now ahead more used put (turn ∷ turns) one same late =
-    (λ k low high shown. let all = late.0 k low high shown in let count = one k in omega arith,
-    late_more n before now ahead more (used + length turn.used) (put + length turn.put) turns one same late.1)
+late_more n before now ahead more used put (turn ∷ turns) one same late = (
+  λ k low high shown. let all = late.0 k low high shown in let count = one k in omega arith,
+  late_more n before now ahead more (used + length turn.used) (put + length turn.put) turns one same late.1,
+)
 
 -- what is put from some turn on passes after all that was used by the end of this turn
 late_first : (n : ℕ) (before : ℕ → ℕ) (ahead used put : ℕ) (turn : Turn) (turns : List Turn) →
@@ -86,14 +89,16 @@ own_left : (x y : ℕ) (own theirs put ahead : List ℕ) (before : ℕ → ℕ) 
 own_left x y own theirs put ahead before turns s =
     let both : x ∷ (own ++ s.all.0) ≡ y ∷ (put ++ put_along turns) = s.all.1 in
     let first : y ≡ x = cc in
-    let rest : own ++ s.all.0 ≡ put ++ put_along turns = cc in
-    (first, record {
-      all = (s.all.0, rest);
-      coming = s.coming;
-      shown = s.shown;
-      used = s.used;
-      late = late_next (length (x ∷ own)) (length own) before (length ahead) 0 (length (y ∷ put)) (length put) turns refl refl s.late;
-    })
+    let rest : own ++ s.all.0 ≡ put ++ put_along turns = cc in (
+      first,
+      record {
+        all = (s.all.0, rest);
+        coming = s.coming;
+        shown = s.shown;
+        used = s.used;
+        late = late_next (length (x ∷ own)) (length own) before (length ahead) 0 (length (y ∷ put)) (length put) turns refl refl s.late;
+      },
+    )
 
 other_left : (x : ℕ) (own theirs put ahead : List ℕ) (before now : ℕ → ℕ) (turns : List Turn) → ((k : ℕ) → before k ≡ now k + 1) →
     Sees own (x ∷ theirs) before turns put ahead → Sees own theirs now turns put (ahead ++ x ∷ [])
@@ -123,15 +128,18 @@ turn_left x own theirs ahead before turn turns none s =
     (used_along turns ++ later)
     (sym (append_assoc turn.used (rest ++ theirs) s.shown.0)
     ∙ ap (λ (l : List ℕ). l ++ s.shown.0) (sym (append_assoc turn.used rest theirs) ∙ ap (λ (l : List ℕ). l ++ theirs) front.1)
-    ∙ s.shown.1 ∙ sym by_turn) in
-    (rest, sym front.1, record {
-      all = s.all;
-      coming = used_along turns ++ later;
-      shown = (s.shown.0, left);
-      used = (later, refl);
-      late = late_as (length (x ∷ own)) before (length ahead) (0 + length turn.used) (0 + length turn.put) (length rest) 0
-          (length turn.put) turns (omega arith) (omega arith) s.late.1;
-    })
+    ∙ s.shown.1 ∙ sym by_turn) in (
+      rest,
+      sym front.1,
+      record {
+        all = s.all;
+        coming = used_along turns ++ later;
+        shown = (s.shown.0, left);
+        used = (later, refl);
+        late = late_as (length (x ∷ own)) before (length ahead) (0 + length turn.used) (0 + length turn.put) (length rest) 0
+            (length turn.put) turns (omega arith) (omega arith) s.late.1;
+      },
+    )
 
 -- ---- the order
 
@@ -168,9 +176,10 @@ order Right (of Left x ∷ capture) turns put ahead s =
 late_all : (d : Direction) (capture : Capture) (used put : ℕ) (turns : List Turn) → PassAfter d capture used put turns →
     PassLate (length (stream d capture)) (passed_before d capture) 0 used put turns
 late_all d capture used put [] after = tt
-late_all d capture used put (turn ∷ turns) after =
-    (λ k low high shown. let all = after.0 k low high shown in omega arith,
-    late_all d capture (used + length turn.used) (put + length turn.put) turns after.1)
+late_all d capture used put (turn ∷ turns) after = (
+  λ k low high shown. let all = after.0 k low high shown in omega arith,
+  late_all d capture (used + length turn.used) (put + length turn.put) turns after.1,
+)
 
 pub seen_follows : (d : Direction) (turns : List Turn) (capture : Capture) → IsSeen d turns capture → Follows d [] [] capture turns
 seen_follows d turns capture seen = order d capture turns [] [] (record {

@@ -72,15 +72,18 @@ all_done is_caller r deeds [] old new run units is can = tt
 all_done is_caller r deeds (turn ∷ turns) old new run units is can =
     let on = run.2 in
     let p = parted on.units units (put_along turns) (ap (λ (l : List ℕ). l ++ put_along turns) (sym on.written) ∙ is) in
-    let k = can_front p.front p.back (subst (AllByRecursion CanBeWritten) p.parts can) in
-    (run.0, record {
-      takes = run.1;
-      units = p.front;
-      written = on.written ∙ p.same;
-      can = k.0;
-      used = on.used;
-      rest = on.rest;
-      cut = on.cut;
-      held = on.held;
-      over = λ over. (over_acts turn old run.0 over run.1).0;
-    }, all_done is_caller r (then_did deeds on.more) turns run.0 new run.3 p.back p.later k.1)
+    let k = can_front p.front p.back (subst (AllByRecursion CanBeWritten) p.parts can) in (
+      run.0,
+      record {
+        takes = run.1;
+        units = p.front;
+        written = on.written ∙ p.same;
+        can = k.0;
+        used = on.used;
+        rest = on.rest;
+        cut = on.cut;
+        held = on.held;
+        over = λ over. (over_acts turn old run.0 over run.1).0;
+      },
+      all_done is_caller r (then_did deeds on.more) turns run.0 new run.3 p.back p.later k.1,
+    )
